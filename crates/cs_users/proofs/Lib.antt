@@ -1,0 +1,4 @@
+pub mod Belonging
+pub mod Lines
+pub mod Named
+pub mod Texts

@@ -1,0 +1,6 @@
+pub mod Faults
+pub mod Rows
+pub mod Fields
+pub mod Members
+pub mod Reading
+pub mod Rights

@@ -1,0 +1,28 @@
+-- Rights: the union of what others, the owner and the group may do.
+use Rattle.std.specs.Prelude.{ℕ, ◌*◌, Bool, ◌&&◌, ◌||◌, ◌==◌, not, List, bit_and}
+use Rattle.cs_users.specs.Rows.{Row, none_name}
+use Rattle.cs_users.specs.Members.{same_name, is_member}
+use Rattle.cs_users.specs.declared.rights.Right.{Right}
+use Rattle.cs_users.specs.declared.rights.Right.TheVariants.{Read, Write, Execute}
+
+-- the bit of a right among those of others
+abbrev pub bit_of : Right → ℕ
+bit_of Read = 4
+bit_of Write = 2
+bit_of Execute = 1
+
+-- the mode has a bit of the mask
+abbrev pub has_bit : ℕ → ℕ → Bool
+has_bit mode mask = not (bit_and mode mask == 0)
+
+-- the user is the owner, and not `none`
+abbrev pub owns : List ℕ → List ℕ → Bool
+owns user owner = same_name user owner && not (same_name user none_name)
+
+-- the bit is set for others, or for the owner, or for the group
+abbrev pub allows : ℕ → Bool → Bool → ℕ → Bool
+allows mode owner member bit = has_bit mode bit || (owner && has_bit mode (bit * 64)) || (member && has_bit mode (bit * 8))
+
+-- the user has the right on a file of this owner, group and mode
+abbrev pub has_right : List Row → List ℕ → List ℕ → List ℕ → ℕ → Right → Bool
+has_right rows user owner group mode right = allows mode (owns user owner) (is_member rows user group) (bit_of right)

@@ -1,0 +1,58 @@
+//! Why bytes are no users file.
+ghost use Rattle.std.specs.Prelude.{◌≡◌, Some};
+ghost use Rattle.cs_users.specs.Faults.{fault_text};
+ghost use Rattle.cs_users.specs.declared.fault.UsersFault.TheVariants.{Memory};
+
+use std::alloc::{AllocError, AllocFailed};
+use std::fmt;
+
+/// The first thing that is wrong with bytes that were read as a users file, or want of memory to keep
+/// it. A line's number counts from 1, skipped lines among the rest.
+#[derive(Clone, Copy, Debug, PartialEq, Eq)]
+pub enum UsersFault {
+    /// Bytes that are no UTF-8, or a NUL.
+    NotText,
+    /// The line hasn't exactly four fields.
+    FieldCount(usize),
+    /// The line's name has no byte.
+    EmptyName(usize),
+    /// The line's name is longer than a user's name may be.
+    LongName(usize),
+    /// An earlier line has the line's name.
+    Twice(usize),
+    /// No memory to keep it; the file itself has no fault.
+    Memory,
+}
+
+impl fmt::Display for UsersFault {
+    ghost output = { λ fault. Some (fault_text fault) };
+
+    fn fmt<W: fmt::Write>(&self, f: &mut fmt::Formatter<W>) -> fmt::Result {
+        match self {
+            UsersFault::NotText => f.write_str("users: NotText"),
+            UsersFault::FieldCount(line) => write!(f, "users line {line}: FieldCount"),
+            UsersFault::EmptyName(line) => write!(f, "users line {line}: EmptyName"),
+            UsersFault::LongName(line) => write!(f, "users line {line}: LongName"),
+            UsersFault::Twice(line) => write!(f, "users line {line}: Twice"),
+            UsersFault::Memory => f.write_str("out of memory"),
+        }
+    }
+}
+
+impl std::error::Error for UsersFault {}
+
+impl From<AllocError> for UsersFault {
+    ghost from_gives = { λ _ fault. fault ≡ Memory };
+
+    fn from(_refused: AllocError) -> UsersFault {
+        UsersFault::Memory
+    }
+}
+
+impl<T: Drop> From<AllocFailed<T>> for UsersFault {
+    ghost from_gives = { λ _ fault. fault ≡ Memory };
+
+    fn from(_refused: AllocFailed<T>) -> UsersFault {
+        UsersFault::Memory
+    }
+}

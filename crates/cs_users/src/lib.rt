@@ -1,0 +1,16 @@
+//! The users file, users(6): who is known, who is a member of a group, who leads it, and the rights
+//! that they have on a file.
+#![tactic(auto)]
+
+pub mod fault;
+mod reading;
+pub mod rights;
+mod row;
+#[cfg(test)]
+mod tests;
+mod text;
+pub mod users;
+
+pub use fault::UsersFault;
+pub use rights::{Right, has_bit, has_right, owns};
+pub use users::Users;

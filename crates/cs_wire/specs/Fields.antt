@@ -1,0 +1,106 @@
+-- The fields of messages: what each holds, and its one spelling.
+use Rattle.std.specs.Prelude.{ℕ, ◌<◌, ◌≤◌, ◌+◌, ◌^◌, ◌≡◌, Bool, true, not, ◌&&◌, ◌==◌, nat_lt, if◌then◌else◌, Option, Some, None, List, [], ◌∷◌, ◌++◌, length}
+use Rattle.std.specs.List.{flat_map, list_any, AllByRecursion}
+use Rattle.std.specs.Int.{w8, w16, w32, w64, to_le_bytes}
+use Rattle.std.specs.Str.{is_utf8}
+
+infixr 20 ◌▸◌
+-- What stands in a message: a field, or fields in a row.
+pub data Shape : Type 0 where
+  -- no field
+  Nothing : Shape
+  -- a number of one byte, of two, four or eight, the low byte first
+  One : Shape
+  Two : Shape
+  Four : Shape
+  Eight : Shape
+  -- two bytes of length, and that many bytes of text
+  Text : Shape
+  -- four bytes of length, and that many bytes
+  Raw : Shape
+  -- a count of two bytes, at most 16, and that many
+  Several : Shape → Shape
+  -- two bytes of length, and an entry of that length
+  Boxed : Shape → Shape
+  -- one after the other
+  ◌▸◌ : Shape → Shape → Shape
+
+-- what such a field holds
+abbrev pub Value : Shape → Type 0
+Value Nothing = Unit {0}
+Value One = ℕ
+Value Two = ℕ
+Value Four = ℕ
+Value Eight = ℕ
+Value Text = List ℕ
+Value Raw = List ℕ
+Value (Several s) = List (Value s)
+Value (Boxed s) = Value s
+Value (s ▸ t) = Value s × Value t
+
+-- valid UTF-8 without NUL
+unfoldable pub is_text : List ℕ → Bool
+is_text bytes = is_utf8 bytes && not (list_any (λ b. b == 0) bytes)
+
+-- an entry: its length without these two bytes, and its fields
+abbrev pub entry : List ℕ → List ℕ
+entry fields = to_le_bytes w16 (length fields) ++ fields
+
+-- the bytes of a field that holds this
+unfoldable pub spelled : (s : Shape) → Value s → List ℕ
+spelled Nothing v = []
+spelled One v = to_le_bytes w8 v
+spelled Two v = to_le_bytes w16 v
+spelled Four v = to_le_bytes w32 v
+spelled Eight v = to_le_bytes w64 v
+spelled Text v = to_le_bytes w16 (length v) ++ v
+spelled Raw v = to_le_bytes w32 (length v) ++ v
+spelled (Several s) v = to_le_bytes w16 (length v) ++ flat_map (spelled s) v
+spelled (Boxed s) v = to_le_bytes w16 (length (entry (spelled s v))) ++ entry (spelled s v)
+spelled (s ▸ t) v = spelled s v.0 ++ spelled t v.1
+
+-- a field can hold this
+abbrev pub IsIn : (s : Shape) → Value s → Type 0
+IsIn Nothing v = Unit {0}
+IsIn One v = v < 2 ^ 8
+IsIn Two v = v < 2 ^ 16
+IsIn Four v = v < 2 ^ 32
+IsIn Eight v = v < 2 ^ 64
+IsIn Text v = (length v < 2 ^ 16) × (is_text v ≡ true)
+IsIn Raw v = length v < 2 ^ 32
+IsIn (Several s) v = (length v ≤ 16) × AllByRecursion (IsIn s) v
+IsIn (Boxed s) v = IsIn s v × (length (entry (spelled s v)) < 2 ^ 16)
+IsIn (s ▸ t) v = IsIn s v.0 × IsIn t v.1
+
+-- the sum, if both are there
+abbrev pub plus : Option ℕ → Option ℕ → Option ℕ
+plus (Some n) (Some m) = Some (n + m)
+plus (Some n) None = None
+plus None m = None
+
+-- the number, if the test holds
+abbrev pub provided : Bool → ℕ → Option ℕ
+provided holds n = if holds then Some n else None
+
+-- how many bytes a list's items take, if each can be spelled
+unfoldable pub sizes_of : {A : Type 0} → (A → Option ℕ) → List A → Option ℕ
+sizes_of size [] = Some 0
+sizes_of size (v ∷ vs) = plus (size v) (sizes_of size vs)
+
+-- an entry's size above its fields', if it is less than 65,536
+abbrev pub entry_size : Option ℕ → Option ℕ
+entry_size (Some n) = provided (nat_lt (n + 2) (2 ^ 16)) (n + 2)
+entry_size None = None
+
+-- how many bytes the field takes, if it can hold this
+unfoldable pub size_of : (s : Shape) → Value s → Option ℕ
+size_of Nothing v = Some 0
+size_of One v = provided (nat_lt v (2 ^ 8)) 1
+size_of Two v = provided (nat_lt v (2 ^ 16)) 2
+size_of Four v = provided (nat_lt v (2 ^ 32)) 4
+size_of Eight v = provided (nat_lt v (2 ^ 64)) 8
+size_of Text v = provided (nat_lt (length v) (2 ^ 16) && is_text v) (length v + 2)
+size_of Raw v = provided (nat_lt (length v) (2 ^ 32)) (length v + 4)
+size_of (Several s) v = if nat_lt 16 (length v) then None else plus (Some 2) (sizes_of (size_of s) v)
+size_of (Boxed s) v = plus (Some 2) (entry_size (size_of s v))
+size_of (s ▸ t) v = plus (size_of s v.0) (size_of t v.1)

@@ -1,0 +1,56 @@
+//! Why bytes are no message.
+
+ghost use Rattle.std.specs.Prelude.{◌≡◌};
+ghost use Rattle.cs_wire.specs.declared.fault.WireFault.TheVariants.{Memory};
+
+use std::alloc::{AllocError, AllocFailed};
+use std::fmt;
+
+/// What is wrong with the bytes of a message: the first fault, from the left.
+#[derive(Clone, Copy, Debug, PartialEq, Eq)]
+pub enum WireFault {
+    /// Fewer than 7 bytes, or a field that runs past the end.
+    Short,
+    /// The size is not the number of bytes, or a stat is not as long as its sizes say.
+    SizeLies,
+    /// The type is none of the table.
+    UnknownType,
+    /// A text is not UTF-8, or has a NUL.
+    BadText,
+    /// More than 16 names, or qids, in a walk.
+    TooManyNames,
+    /// Bytes stand after the last field.
+    Trailing,
+    /// The bytes are a message, and no memory is there to hold it.
+    Memory,
+}
+
+impl fmt::Display for WireFault {
+    fn fmt<W: fmt::Write>(&self, f: &mut fmt::Formatter<W>) -> fmt::Result {
+        match self {
+            WireFault::Short => write!(f, "a field runs past the end"),
+            WireFault::SizeLies => write!(f, "a size is not the length"),
+            WireFault::UnknownType => write!(f, "unknown message type"),
+            WireFault::BadText => write!(f, "a text is not UTF-8 without NUL"),
+            WireFault::TooManyNames => write!(f, "more than 16 names in a walk"),
+            WireFault::Trailing => write!(f, "bytes after the last field"),
+            WireFault::Memory => write!(f, "out of memory"),
+        }
+    }
+}
+
+impl From<AllocError> for WireFault {
+    ghost from_gives = { λ _ e. e ≡ Memory };
+
+    fn from(_e: AllocError) -> WireFault {
+        WireFault::Memory
+    }
+}
+
+impl<T: Drop> From<AllocFailed<T>> for WireFault {
+    ghost from_gives = { λ _ e. e ≡ Memory };
+
+    fn from(_e: AllocFailed<T>) -> WireFault {
+        WireFault::Memory
+    }
+}

@@ -1,0 +1,262 @@
+//! Which messages have a spelling, and how long it is. A private function gives the bytes that a field
+//! takes, and None where it can't hold the value.
+
+ghost use Rattle.std.specs.Prelude.{◌≡◌, ◌≤◌, ◌<◌, length, true, IfSome, Some, Option, map, ◌↔◌};
+ghost use Rattle.cs_wire.specs.Fields.{One, Two, Four, Eight, Text, Several, Raw, ◌▸◌, is_text, size_of, sizes_of, entry_size, plus};
+ghost use Rattle.cs_wire.specs.Messages.{names_of, qid_of, qid_shape, stat_of, stat_shape, t_view, r_view, Fits, spelling, IsEntry, stat_entry};
+ghost use Rattle.cs_wire.specs.Bodies.{request_size, reply_size};
+
+use crate::cursor::has_nul;
+use crate::message::{Qid, RBody, RMessage, Stat, TBody, TMessage};
+use cs_names::limits::{MESSAGE_BYTES, WALK_NAMES};
+
+#[tactic(auto, unfolding(crate::specs::Fields::size_of))]
+fn one(number: &u8) -> usize
+    ensures size { size_of One number.now ≡ Some result }
+    ensures small { result ≡ 1 }
+{
+    let _number = *number;
+    1
+}
+
+#[tactic(auto, unfolding(crate::specs::Fields::size_of))]
+fn two(number: &u16) -> usize
+    ensures size { size_of Two number.now ≡ Some result }
+    ensures small { result ≡ 2 }
+{
+    let _number = *number;
+    2
+}
+
+#[tactic(auto, unfolding(crate::specs::Fields::size_of))]
+fn four(number: &u32) -> usize
+    ensures size { size_of Four number.now ≡ Some result }
+    ensures small { result ≡ 4 }
+{
+    let _number = *number;
+    4
+}
+
+#[tactic(auto, unfolding(crate::specs::Fields::size_of))]
+fn eight(number: &u64) -> usize
+    ensures size { size_of Eight number.now ≡ Some result }
+    ensures small { result ≡ 8 }
+{
+    let _number = *number;
+    8
+}
+
+#[tactic(auto, unfolding(crate::specs::Fields::size_of))]
+fn qid(qid: &Qid) -> usize
+    ensures size { size_of qid_shape (qid_of qid.now) ≡ Some result }
+    ensures small { result ≡ 13 }
+{
+    one(&qid.kind) + four(&qid.vers) + eight(&qid.path)
+}
+
+fn is_legal(text: &str) -> bool
+    ensures { result ≡ is_text text.now }
+{
+    !has_nul(text.as_bytes())
+}
+
+#[tactic(auto, unfolding(crate::specs::Fields::size_of))]
+fn text(text: &str) -> Option<usize>
+    ensures size { result ≡ size_of Text text.now }
+    ensures small { IfSome result (λ size. size ≤ 65537) }
+{
+    if text.len() > 65_535 || !is_legal(text) {
+        return None;
+    }
+    Some(text.len() + 2)
+}
+
+#[tactic(auto, unfolding(crate::specs::Fields::size_of))]
+fn raw(bytes: &[u8]) -> Option<usize>
+    ensures size { result ≡ size_of Raw bytes.now }
+    ensures small { IfSome result (λ size. size ≤ 4294967299) }
+{
+    if bytes.len() > 4_294_967_295 {
+        return None;
+    }
+    Some(bytes.len() + 4)
+}
+
+fn all_texts(texts: &[String]) -> Option<usize>
+    requires { length texts.now ≤ 16 }
+    ensures size { result ≡ sizes_of (size_of Text) (names_of texts.now) }
+    ensures small { IfSome result (λ size. size ≤ 1048592) }
+{
+    let mut total = 0;
+    for name in texts {
+        total += text(name.as_str())?;
+    }
+    Some(total)
+}
+
+fn all_qids(qids: &[Qid]) -> usize
+    requires { length qids.now ≤ 16 }
+    ensures size { sizes_of (size_of qid_shape) (map qid_of qids.now) ≡ Some result }
+    ensures small { result ≤ 208 }
+{
+    let mut total = 0;
+    for item in qids {
+        total += qid(item);
+    }
+    total
+}
+
+#[tactic(auto, unfolding(crate::specs::Fields::size_of))]
+fn names(wname: &[String]) -> Option<usize>
+    ensures size { result ≡ size_of (Several Text) (names_of wname.now) }
+    ensures small { IfSome result (λ size. size ≤ 1048594) }
+{
+    if wname.len() > WALK_NAMES as usize {
+        return None;
+    }
+    Some(2 + all_texts(wname)?)
+}
+
+#[tactic(auto, unfolding(crate::specs::Fields::size_of))]
+fn qids(wqid: &[Qid]) -> Option<usize>
+    ensures size { result ≡ size_of (Several qid_shape) (map qid_of wqid.now) }
+    ensures small { IfSome result (λ size. size ≤ 210) }
+{
+    if wqid.len() > WALK_NAMES as usize {
+        return None;
+    }
+    Some(2 + all_qids(wqid))
+}
+
+#[tactic(auto, unfolding(crate::specs::Fields::size_of))]
+fn stat_fields(stat: &Stat) -> Option<usize>
+    ensures size { result ≡ size_of stat_shape (stat_of stat.now) }
+    ensures small { IfSome result (λ size. size ≤ 300000) }
+{
+    let numbers = two(&stat.kind) + four(&stat.dev) + qid(&stat.qid) + four(&stat.mode);
+    let times = four(&stat.atime) + four(&stat.mtime) + eight(&stat.length);
+    let name = text(stat.name.as_str())?;
+    let users = text(stat.uid.as_str())? + text(stat.gid.as_str())? + text(stat.muid.as_str())?;
+    Some(numbers + times + name + users)
+}
+
+fn entry(stat: &Stat) -> Option<usize>
+    ensures size { result ≡ entry_size (size_of stat_shape (stat_of stat.now)) }
+    ensures small { IfSome result (λ size. size < 65536) }
+{
+    let size = 2 + stat_fields(stat)?;
+    if size > 65_535 {
+        return None;
+    }
+    Some(size)
+}
+
+#[tactic(auto, unfolding(crate::specs::Fields::size_of))]
+fn of_request(body: &TBody) -> Option<usize>
+    ensures size { result ≡ request_size body.now }
+    ensures small { IfSome result (λ size. size ≤ 4294967299) }
+{
+    match body {
+        TBody::Version { msize, version } => Some(four(msize) + text(version.as_str())?),
+        TBody::Auth { afid, uname, aname } => {
+            Some(four(afid) + text(uname.as_str())? + text(aname.as_str())?)
+        }
+        TBody::Attach {
+            fid,
+            afid,
+            uname,
+            aname,
+        } => Some(four(fid) + four(afid) + text(uname.as_str())? + text(aname.as_str())?),
+        TBody::Flush { oldtag } => Some(two(oldtag)),
+        TBody::Walk { fid, newfid, wname } => Some(four(fid) + four(newfid) + names(wname)?),
+        TBody::Open { fid, mode } => Some(four(fid) + one(mode)),
+        TBody::Read { fid, offset, count } => Some(four(fid) + eight(offset) + four(count)),
+        TBody::Clunk { fid } | TBody::Stat { fid } => Some(four(fid)),
+    }
+}
+
+#[tactic(auto, unfolding(crate::specs::Fields::size_of))]
+fn of_reply(body: &RBody) -> Option<usize>
+    ensures size { result ≡ reply_size body.now }
+    ensures small { IfSome result (λ size. size ≤ 4294967299) }
+{
+    match body {
+        RBody::Version { msize, version } => Some(four(msize) + text(version.as_str())?),
+        RBody::Auth { aqid } => Some(qid(aqid)),
+        RBody::Attach { qid: root } => Some(qid(root)),
+        RBody::Error { ename } => text(ename.as_str()),
+        RBody::Flush | RBody::Clunk => Some(0),
+        RBody::Walk { wqid } => qids(wqid),
+        RBody::Open { qid: file, iounit } => Some(qid(file) + four(iounit)),
+        RBody::Read { data } => raw(data),
+        RBody::Stat { stat } => Some(2 + entry(stat)?),
+    }
+}
+
+#[tactic(auto, unfolding(crate::specs::Fields::size_of))]
+fn spelled(tag: &u16, fields: Option<usize>) -> Option<usize>
+    requires { IfSome fields (λ size. size ≤ 4294967299) }
+    ensures size { result ≡ plus (size_of (Four ▸ One ▸ Two) (0, (0, tag.now))) fields }
+{
+    Some(5 + two(tag) + fields?)
+}
+
+impl TMessage {
+    /// Whether it has a spelling, and one of at most 65,536 bytes: each text is shorter than 65,536
+    /// bytes and has no NUL, and a walk has at most 16 names.
+    pub fn fits(&self) -> bool
+        ensures { result ≡ true ↔ Fits (t_view self.now) }
+    {
+        match spelled(&self.tag, of_request(&self.body)) {
+            Some(length) => length <= MESSAGE_BYTES as usize,
+            None => false,
+        }
+    }
+
+    /// The bytes of its spelling.
+    pub fn spelled_length(&self) -> usize
+        requires { Fits (t_view self.now) }
+        ensures { result ≡ length (spelling (t_view self.now)) }
+    {
+        spelled(&self.tag, of_request(&self.body)).unwrap()
+    }
+}
+
+impl RMessage {
+    /// Whether it has a spelling, and one of at most 65,536 bytes: each text is shorter than 65,536
+    /// bytes and has no NUL, a walk has at most 16 qids, and a stat's entry is shorter than 65,536 bytes.
+    pub fn fits(&self) -> bool
+        ensures { result ≡ true ↔ Fits (r_view self.now) }
+    {
+        match spelled(&self.tag, of_reply(&self.body)) {
+            Some(length) => length <= MESSAGE_BYTES as usize,
+            None => false,
+        }
+    }
+
+    /// The bytes of its spelling.
+    pub fn spelled_length(&self) -> usize
+        requires { Fits (r_view self.now) }
+        ensures { result ≡ length (spelling (r_view self.now)) }
+    {
+        spelled(&self.tag, of_reply(&self.body)).unwrap()
+    }
+}
+
+impl Stat {
+    /// Whether it has an entry: each text is shorter than 65,536 bytes and has no NUL, and so is
+    /// the entry.
+    pub fn fits(&self) -> bool
+        ensures { result ≡ true ↔ IsEntry (stat_of self.now) }
+    {
+        entry(self).is_some()
+    }
+
+    /// The bytes of its entry, with the two of its size.
+    pub fn entry_length(&self) -> usize
+        requires { IsEntry (stat_of self.now) }
+        ensures { result ≡ length (stat_entry (stat_of self.now)) }
+    {
+        entry(self).unwrap()
+    }
+}

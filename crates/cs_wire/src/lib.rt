@@ -1,0 +1,23 @@
+//! The messages of 9P2000 as bytes: one grammar, which decoding and encoding both meet.
+#![tactic(auto)]
+
+mod cursor;
+mod display;
+mod fault;
+mod fitting;
+mod kind;
+mod message;
+mod reading;
+mod replies;
+mod requests;
+mod stat_reading;
+#[cfg(test)]
+mod tests;
+mod unchecked;
+mod writing;
+
+pub use fault::WireFault;
+pub use kind::{RKind, TKind};
+pub use message::{Qid, RBody, RMessage, Stat, TBody, TMessage};
+pub use reading::{decode, decode_r, one_spelling};
+pub use writing::{encode, encode_t};

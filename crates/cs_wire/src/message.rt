@@ -1,0 +1,132 @@
+//! The messages of 9P2000, as intro(5) lists them: a tag, and a body with the fields of its type.
+
+use std::borrow::CowStr;
+
+/// The server's own number of a file, as it knows it at one moment (intro(5)).
+#[derive(Clone, Copy, Debug, PartialEq, Eq)]
+pub struct Qid {
+    /// The high byte of the file's mode.
+    pub kind: u8,
+    /// Counts the changes of the file.
+    pub vers: u32,
+    /// The file's number.
+    pub path: u64,
+}
+
+/// What stat(5) tells of a file.
+#[derive(Debug, Drop)]
+pub struct Stat {
+    /// For the server's kernel; 0 in each stat that this server sends.
+    pub kind: u16,
+    /// For the server's kernel; 0 in each stat that this server sends.
+    pub dev: u32,
+    pub qid: Qid,
+    /// The permissions, and DMDIR and its kin above them.
+    pub mode: u32,
+    /// When it was last read, in seconds since 1970.
+    pub atime: u32,
+    /// When it was last changed, in seconds since 1970.
+    pub mtime: u32,
+    /// Bytes of the file, 0 for a directory.
+    pub length: u64,
+    pub name: String,
+    /// The owner.
+    pub uid: String,
+    /// The group.
+    pub gid: String,
+    /// The user who last changed the file.
+    pub muid: String,
+}
+
+/// What a client asks.
+#[derive(Debug, Drop)]
+pub struct TMessage {
+    /// The client's number for this request.
+    pub tag: u16,
+    pub body: TBody,
+}
+
+/// What a client asks, by its type.
+#[derive(Debug, Drop)]
+pub enum TBody {
+    /// Tversion 100, version(5).
+    Version {
+        msize: u32,
+        version: String,
+    },
+    /// Tauth 102, attach(5).
+    Auth {
+        afid: u32,
+        uname: String,
+        aname: String,
+    },
+    /// Tattach 104, attach(5).
+    Attach {
+        fid: u32,
+        afid: u32,
+        uname: String,
+        aname: String,
+    },
+    /// Tflush 108, flush(5).
+    Flush {
+        oldtag: u16,
+    },
+    /// Twalk 110, walk(5).
+    Walk {
+        fid: u32,
+        newfid: u32,
+        wname: Vec<String>,
+    },
+    /// Topen 112, open(5).
+    Open {
+        fid: u32,
+        mode: u8,
+    },
+    /// Tread 116, read(5).
+    Read {
+        fid: u32,
+        offset: u64,
+        count: u32,
+    },
+    /// Tclunk 120, clunk(5).
+    Clunk {
+        fid: u32,
+    },
+    /// Tstat 124, stat(5).
+    Stat {
+        fid: u32,
+    },
+}
+
+/// What the server answers.
+#[derive(Drop)]
+pub struct RMessage {
+    /// The tag of the request.
+    pub tag: u16,
+    pub body: RBody,
+}
+
+/// What the server answers, by its type.
+#[derive(Drop)]
+pub enum RBody {
+    /// Rversion 101, version(5).
+    Version { msize: u32, version: String },
+    /// Rauth 103, attach(5).
+    Auth { aqid: Qid },
+    /// Rattach 105, attach(5).
+    Attach { qid: Qid },
+    /// Rerror 107, error(5).
+    Error { ename: CowStr<'static> },
+    /// Rflush 109, flush(5).
+    Flush,
+    /// Rwalk 111, walk(5).
+    Walk { wqid: Vec<Qid> },
+    /// Ropen 113, open(5).
+    Open { qid: Qid, iounit: u32 },
+    /// Rread 117, read(5).
+    Read { data: Vec<u8> },
+    /// Rclunk 121, clunk(5).
+    Clunk,
+    /// Rstat 125, stat(5).
+    Stat { stat: Stat },
+}
