@@ -1,0 +1,4 @@
+pub mod Views
+pub mod Numbering
+pub mod Loop
+pub mod Starts

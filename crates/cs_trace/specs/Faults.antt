@@ -1,0 +1,28 @@
+-- What is said of a text that is no trace.
+use Rattle.std.specs.Prelude.{ℕ, List, ◌++◌, codes, decimal}
+use Rattle.cs_trace.specs.declared.fault.TraceFaultKind.{TraceFaultKind}
+use Rattle.cs_trace.specs.declared.fault.TraceFaultKind.TheVariants.{Syntax, UnknownOp, BadName, NoParent, NotDir, Exists, TooLarge, Memory}
+
+abbrev pub kind_text : TraceFaultKind → List ℕ
+kind_text Syntax = codes "Syntax"
+kind_text UnknownOp = codes "UnknownOp"
+kind_text BadName = codes "BadName"
+kind_text NoParent = codes "NoParent"
+kind_text NotDir = codes "NotDir"
+kind_text Exists = codes "Exists"
+kind_text TooLarge = codes "TooLarge"
+kind_text Memory = codes "out of memory"
+
+-- the line's number, and what is wrong there
+abbrev pub line_text : ℕ → List ℕ → List ℕ
+line_text line kind = codes "trace line " ++ (decimal line ++ (codes ": " ++ kind))
+
+abbrev pub fault_text : ℕ → TraceFaultKind → List ℕ
+fault_text line Syntax = line_text line (codes "Syntax")
+fault_text line UnknownOp = line_text line (codes "UnknownOp")
+fault_text line BadName = line_text line (codes "BadName")
+fault_text line NoParent = line_text line (codes "NoParent")
+fault_text line NotDir = line_text line (codes "NotDir")
+fault_text line Exists = line_text line (codes "Exists")
+fault_text line TooLarge = line_text line (codes "TooLarge")
+fault_text line Memory = codes "out of memory"

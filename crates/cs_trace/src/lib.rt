@@ -1,0 +1,13 @@
+//! The trace of a storage application: its header and the files that stand at its start.
+#![tactic(auto)]
+
+mod entries;
+mod entry;
+pub mod fault;
+mod line;
+pub mod start;
+#[cfg(test)]
+mod tests;
+
+pub use fault::{TraceFault, TraceFaultKind};
+pub use start::{StartTree, read_start};

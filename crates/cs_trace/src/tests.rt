@@ -1,0 +1,254 @@
+use crate::{StartTree, TraceFault, TraceFaultKind, read_start};
+use std::alloc::{AllocError, Global};
+use std::test::Fail;
+
+const HEADER: &str = r#"{"trace":1,"owner":"cat","group":"staff","mode":"775"}"#;
+
+const DIRECTORY: &str = r#"{"start":"dir","path":"/d","owner":"ann","group":"staff","mode":"755"}"#;
+
+const FILE: &str =
+    r#"{"start":"file","path":"/f","owner":"ann","group":"ann","mode":"644","bytes":"6869"}"#;
+
+/// The first exchange's trace, its lines out of the order of their paths.
+const SHUFFLED: &str = r#"{"trace":1,"owner":"cat","group":"staff","mode":"775"}
+{"start":"dir","path":"/p","owner":"ann","group":"staff","mode":"750"}
+{"start":"file","path":"/n","owner":"none","group":"none","mode":"600","bytes":""}
+{"start":"dir","path":"/d","owner":"ann","group":"staff","mode":"755"}
+{"bytes":"68656c6C6f","mode":"664","group":"staff","owner":"ann","path":"/f","start":"file"}
+{"start":"dir","path":"/d/s","owner":"ann","group":"ann","mode":"700"}
+{"start":"file","path":"/d/s/z","owner":"ann","group":"ann","mode":"644","bytes":""}
+"#;
+
+fn shown(alloc: Global, start: StartTree) -> Result<String, AllocError> {
+    let mut whole = String::new(alloc);
+    for (path, record) in start.records {
+        let (data, bytes) = record.into_parts();
+        let place = format!(in alloc; "{} {path}", data.number)?;
+        let owners = format!(in alloc; "{} {} {}", data.owner, data.group, data.muid)?;
+        let times = format!(in alloc; "{} {} {}", data.vers, data.atime, data.mtime)?;
+        let mode = data.mode;
+        let line = format!(in alloc; "{place} {owners} {times} {mode:x} {bytes:?}\n")?;
+        whole.push_str(line.as_str())?;
+    }
+    Ok(whole)
+}
+
+#[test]
+fn records_have_the_numbers_of_their_paths_in_order(rt: HostRuntime) -> Result<(), Fail> {
+    let start = read_start(rt.alloc(), SHUFFLED)?;
+    assert_eq!(rt;
+        shown(rt.alloc(), start)?.as_str(),
+        "\
+0 / cat staff cat 0 0 0 800001fd None
+1 /d ann staff ann 0 0 0 800001ed None
+2 /d/s ann ann ann 0 0 0 800001c0 None
+3 /d/s/z ann ann ann 0 0 0 1a4 Some([])
+4 /f ann staff ann 0 0 0 1b4 Some([104, 101, 108, 108, 111])
+5 /n none none none 0 0 0 180 Some([])
+6 /p ann staff ann 0 0 0 800001e8 None
+"
+    );
+    Ok(())
+}
+
+/// The fault of these lines, each ended by a carriage return and a line feed.
+fn fault_of(alloc: Global, lines: &[&str]) -> Result<Option<TraceFault>, AllocError> {
+    let mut text = String::new(alloc);
+    for line in lines {
+        text.push_str(line)?;
+        text.push_str("\r\n")?;
+    }
+    Ok(read_start(alloc, text.as_str()).err())
+}
+
+#[test]
+fn lines_of_blanks_are_skipped_and_counted(rt: HostRuntime) -> Result<(), Fail> {
+    let alloc = rt.alloc();
+    let missing = Some(TraceFault {
+        line: 1,
+        kind: TraceFaultKind::Syntax,
+    });
+    assert_eq!(rt; read_start(alloc, "").err(), missing);
+    assert_eq!(rt; fault_of(alloc, &["", " \t", ""])?, missing);
+    assert_eq!(rt;
+        fault_of(alloc, &["", HEADER, " ", DIRECTORY, FILE, ""])?,
+        None
+    );
+    let twice = fault_of(alloc, &["", HEADER, " \t", DIRECTORY, DIRECTORY])?;
+    let message = twice.ok_or("none")?.to_string(alloc)?;
+    assert_eq!(rt; message.as_str(), "trace line 5: Exists");
+    let want = TraceFault {
+        line: 5,
+        kind: TraceFaultKind::Memory,
+    };
+    assert_eq!(rt; want.to_string(alloc)?.as_str(), "out of memory");
+    Ok(())
+}
+
+#[test]
+fn a_first_line_that_is_no_header_of_this_version_is_syntax(rt: HostRuntime) -> Result<(), Fail> {
+    for line in [
+        DIRECTORY,
+        r#"{"op":"sync"}"#,
+        "{",
+        "\u{c}",
+        "1",
+        r#"{"trace":1.0,"owner":"cat","group":"staff","mode":"775"}"#,
+        r#"{"trace":2,"owner":"cat","group":"staff","mode":"775"}"#,
+        r#"{"trace":1,"owner":"cat","group":"staff"}"#,
+        r#"{"trace":1,"owner":"cat","group":"staff","mode":"775","start":"dir"}"#,
+        r#"{"trace":1,"owner":"cat","group":7,"mode":"775"}"#,
+        r#"{"trace":1,"owner":"","group":"staff","mode":"875"}"#,
+    ] {
+        let want = Some(TraceFault {
+            line: 1,
+            kind: TraceFaultKind::Syntax,
+        });
+        assert_eq!(rt; fault_of(rt.alloc(), &[line])?, want, "{line}");
+    }
+    Ok(())
+}
+
+#[test]
+fn the_last_of_two_equal_keys_counts(rt: HostRuntime) -> Result<(), Fail> {
+    let line =
+        r#"{"start":"link","start":"dir","path":"/d","owner":"ann","group":"staff","mode":"755"}"#;
+    assert_eq!(rt;
+        fault_of(rt.alloc(), &[HEADER, line, DIRECTORY])?,
+        Some(TraceFault {
+            line: 3,
+            kind: TraceFaultKind::Exists
+        })
+    );
+    Ok(())
+}
+
+#[test]
+fn each_fault_of_a_start_line(rt: HostRuntime) -> Result<(), Fail> {
+    for (line, kind) in [
+        (HEADER, TraceFaultKind::Syntax),
+        (
+            r#"{"start":"dir","path":"/x","owner":"ann","group":"ann","mode":"0755"}"#,
+            TraceFaultKind::Syntax,
+        ),
+        (
+            r#"{"start":"dir","path":"/x","owner":"ann","group":"ann","mode":"755","bytes":""}"#,
+            TraceFaultKind::Syntax,
+        ),
+        (
+            r#"{"start":"dir","path":"/","owner":"ann","mode":"755"}"#,
+            TraceFaultKind::Syntax,
+        ),
+        (
+            r#"{"start":"file","path":"/x","owner":"ann","group":"ann","mode":"644","bytes":"686"}"#,
+            TraceFaultKind::Syntax,
+        ),
+        (
+            r#"{"start":"file","path":"/x","owner":"ann","group":"ann","mode":"644","bytes":"6g"}"#,
+            TraceFaultKind::Syntax,
+        ),
+        (r#"{"start":"link","op":"creat"}"#, TraceFaultKind::Syntax),
+        (r#"{"op":1}"#, TraceFaultKind::Syntax),
+        (r#"{"start":null}"#, TraceFaultKind::Syntax),
+        (r#"{"start":"link"}"#, TraceFaultKind::UnknownOp),
+        (r#"{"op":"creat","path":7}"#, TraceFaultKind::UnknownOp),
+        (
+            r#"{"start":"dir","path":"/","owner":"ann","group":"ann","mode":"755"}"#,
+            TraceFaultKind::BadName,
+        ),
+        (
+            r#"{"start":"dir","path":"/q/../x","owner":"ann","group":"ann","mode":"755"}"#,
+            TraceFaultKind::BadName,
+        ),
+        (
+            r#"{"start":"dir","path":"/x","owner":"ann","group":"a\u0000","mode":"755"}"#,
+            TraceFaultKind::BadName,
+        ),
+        (
+            r#"{"start":"dir","path":"/q/x","owner":"ann","group":"ann","mode":"755"}"#,
+            TraceFaultKind::NoParent,
+        ),
+        (
+            r#"{"start":"dir","path":"/f/x/y","owner":"ann","group":"ann","mode":"755"}"#,
+            TraceFaultKind::NoParent,
+        ),
+        (
+            r#"{"start":"dir","path":"/f/x","owner":"ann","group":"ann","mode":"755"}"#,
+            TraceFaultKind::NotDir,
+        ),
+        (
+            r#"{"start":"dir","path":"/f","owner":"ann","group":"ann","mode":"755"}"#,
+            TraceFaultKind::Exists,
+        ),
+    ] {
+        let want = Some(TraceFault { line: 3, kind });
+        assert_eq!(rt;
+            fault_of(rt.alloc(), &[HEADER, FILE, line])?,
+            want,
+            "{line}"
+        );
+    }
+    Ok(())
+}
+
+fn push_directory(text: &mut String, path: &str) -> Result<(), AllocError> {
+    text.push_str("\n{\"start\":\"dir\",\"path\":\"")?;
+    text.push_str(path)?;
+    text.push_str("\",\"owner\":\"ann\",\"group\":\"ann\",\"mode\":\"755\"}")
+}
+
+/// A header and so many directories, each in the one before.
+fn deep(alloc: Global, count: usize) -> Result<String, AllocError> {
+    let mut text = String::from_str(alloc, HEADER)?;
+    let mut path = String::new(alloc);
+    for _ in 0..count {
+        path.push_str("/x")?;
+        push_directory(&mut text, path.as_str())?;
+    }
+    Ok(text)
+}
+
+/// A header and a file of so many bytes.
+fn file(alloc: Global, length: usize) -> Result<String, AllocError> {
+    let mut text = String::from_str(alloc, HEADER)?;
+    text.push_str(
+        "\n{\"start\":\"file\",\"path\":\"/f\",\"owner\":\"ann\",\"group\":\"ann\",\"mode\":\"644\",\"bytes\":\"",
+    )?;
+    for _ in 0..length {
+        text.push_str("00")?;
+    }
+    text.push_str("\"}")?;
+    Ok(text)
+}
+
+#[test]
+fn a_path_has_at_most_64_names(rt: HostRuntime) -> Result<(), Fail> {
+    let alloc = rt.alloc();
+    let start = read_start(alloc, deep(alloc, 64)?.as_str())?;
+    assert_eq!(rt; start.records.len(), 65);
+    let fault = read_start(alloc, deep(alloc, 65)?.as_str()).err();
+    assert_eq!(rt;
+        fault,
+        Some(TraceFault {
+            line: 66,
+            kind: TraceFaultKind::TooLarge
+        })
+    );
+    Ok(())
+}
+
+#[test]
+fn a_file_has_at_most_1048576_bytes(rt: HostRuntime) -> Result<(), Fail> {
+    let alloc = rt.alloc();
+    let start = read_start(alloc, file(alloc, 1_048_576)?.as_str())?;
+    assert_eq!(rt; start.records.len(), 2);
+    let fault = read_start(alloc, file(alloc, 1_048_577)?.as_str()).err();
+    assert_eq!(rt;
+        fault,
+        Some(TraceFault {
+            line: 2,
+            kind: TraceFaultKind::TooLarge
+        })
+    );
+    Ok(())
+}
