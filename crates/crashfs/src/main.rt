@@ -1,0 +1,95 @@
+//! `crashfs`: serves the states in which a crash may leave an application's files, over 9P2000.
+#![tactic(auto)]
+
+mod command_line;
+
+ghost use Rattle.std.specs.Prelude.{◌≡◌};
+
+use clap::error::ErrorKind;
+use command_line::{Ask, ask_of};
+use cs_serve::{Inputs, script_of};
+use std::fs;
+use std::io::{self, BufWriter};
+use std::process::ExitCode;
+use std::rt::{Env, Files};
+
+/// The status of a command that a fault ended.
+const FAULT: u8 = 1;
+
+/// The status of a command line that is refused.
+const REFUSED: u8 = 2;
+
+fn out_of_memory(rt: &impl Eprint) -> u8
+    ensures { result ≡ 1 }
+{
+    let _unheard = eprintln!(rt; "crashfs: out of memory");
+    FAULT
+}
+
+/// The file's bytes, or the status where it can't be read, which is told.
+fn read_file<R: Files + Eprint + AllocGlobal>(rt: &R, path: &str) -> Result<Vec<u8>, u8> {
+    match fs::read(rt, path) {
+        Ok(bytes) => Ok(bytes),
+        Err(error) if error.kind() == io::ErrorKind::OutOfMemory => Err(out_of_memory(rt)),
+        Err(_) => {
+            let _unheard = eprintln!(rt; "crashfs: {path}: cannot read");
+            Err(FAULT)
+        }
+    }
+}
+
+fn run_script<R: Files + Input + Print + Eprint + AllocGlobal>(
+    rt: &R,
+    users: &str,
+    trace: &str,
+) -> Result<u8, u8> {
+    let trace = read_file(rt, trace)?;
+    let users = read_file(rt, users)?;
+    let inputs = Inputs {
+        users: &users,
+        trace: &trace,
+    };
+    let Ok(mut out) = BufWriter::new(rt.alloc(), io::writer(rt)) else {
+        return Err(out_of_memory(rt));
+    };
+    let mut err = Vec::new(rt.alloc());
+    let status = script_of(rt.alloc(), &inputs, &mut rt.reader(), &mut out, &mut err);
+    if let Ok(text) = std::str::from_utf8(&err) {
+        let _unheard = eprint!(rt; "{text}");
+    }
+    Ok(status)
+}
+
+fn run<R: Files + Input + Print + Eprint + AllocGlobal>(rt: &R, words: &[&str]) -> u8 {
+    match ask_of(rt.alloc(), words) {
+        Ok(Ask::Script { users, trace }) => match run_script(rt, users, trace) {
+            Ok(status) | Err(status) => status,
+        },
+        Err(error) if error.kind() == ErrorKind::OutOfMemory => out_of_memory(rt),
+        Err(error) => {
+            let _unheard = error.print(rt);
+            if error.use_stderr() { REFUSED } else { 0 }
+        }
+    }
+}
+
+fn words_of<R: Env + AllocGlobal>(rt: &R) -> io::Result<Vec<String>> {
+    let mut words = Vec::new(rt.alloc());
+    for word in std::env::args(rt)? {
+        words.push(word)?;
+    }
+    Ok(words)
+}
+
+fn main(rt: HostRuntime) -> ExitCode {
+    let Ok(words) = words_of(&rt) else {
+        return ExitCode::from(out_of_memory(&rt));
+    };
+    let mut texts: Vec<&str> = Vec::new(rt.alloc());
+    for word in &words {
+        if texts.push(word.as_str()).is_err() {
+            return ExitCode::from(out_of_memory(&rt));
+        }
+    }
+    ExitCode::from(run(&rt, &texts))
+}

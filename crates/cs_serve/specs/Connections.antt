@@ -1,0 +1,11 @@
+-- What contracts see of a session.
+use Rattle.std.specs.Prelude.{ℕ, [], None}
+use Rattle.cs_serve.specs.declared.session.Session.{Session}
+use Rattle.cs_serve.specs.Requests.{Connection}
+
+abbrev pub connection_of : Session → Connection
+connection_of session = record { msize = session.msize; run = session.run; attaches = session.attaches; fids = session.fids.entries }
+
+-- no session, no run and no fid
+abbrev pub blank : Connection
+blank = record { msize = None; run = None; attaches = 0; fids = [] }

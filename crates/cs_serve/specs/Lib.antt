@@ -1,0 +1,11 @@
+pub mod Connections
+pub mod Effects
+pub mod Fids
+pub mod Receipts
+pub mod Refusals
+pub mod Requests
+pub mod Rules
+pub mod Sizes
+pub mod TreeNames
+pub mod Walks
+pub mod Worlds

@@ -1,0 +1,124 @@
+//! The commands of the program, after their files were read.
+ghost use Rattle.std.specs.Prelude.{◌≤◌};
+ghost use Rattle.cs_wire.specs.Messages.{Fits, r_view};
+
+use crate::fault::ProgramFault;
+use crate::first_world::FirstWorld;
+use crate::script::{Action, ScriptLine, read_script};
+use cs_trace::{TraceFaultKind, read_start};
+use cs_tree::PlainTree;
+use cs_users::{Users, UsersFault};
+use cs_wire::{RMessage, encode};
+use std::alloc::Global;
+use std::io::{ErrorKind, Read, Write};
+
+/// The bytes of the files that the command line named.
+#[derive(Clone, Copy, Debug)]
+pub struct Inputs<'a> {
+    pub users: &'a [u8],
+    pub trace: &'a [u8],
+}
+
+fn read_tree(alloc: Global, trace: &[u8]) -> Result<PlainTree, ProgramFault> {
+    let Ok(text) = std::str::from_utf8(trace) else {
+        return Err(ProgramFault::TraceNotText);
+    };
+    let start = match read_start(alloc, text) {
+        Ok(start) => start,
+        Err(fault) => {
+            if fault.kind == TraceFaultKind::Memory {
+                return Err(ProgramFault::Memory);
+            }
+            return Err(ProgramFault::Trace(fault));
+        }
+    };
+    PlainTree::from_records(alloc, start.records).map_err(|_| ProgramFault::Memory)
+}
+
+fn read_users(alloc: Global, users: &[u8]) -> Result<Users, ProgramFault> {
+    match Users::read(alloc, users) {
+        Ok(users) => Ok(users),
+        Err(UsersFault::Memory) => Err(ProgramFault::Memory),
+        Err(fault) => Err(ProgramFault::Users(fault)),
+    }
+}
+
+fn read_all<R: Read>(alloc: Global, input: &mut R) -> Result<Vec<u8>, ProgramFault> {
+    let mut bytes = Vec::new(alloc);
+    match input.read_to_end(&mut bytes) {
+        Ok(_) => Ok(bytes),
+        Err(error) if error.kind() == ErrorKind::OutOfMemory => Err(ProgramFault::Memory),
+        Err(_) => Err(ProgramFault::Input),
+    }
+}
+
+/// The reply's bytes as a line: the connection, which is 0, and lower case hexadecimal.
+fn write_reply<W: Write>(alloc: Global, reply: &RMessage, out: &mut W) -> Result<(), ProgramFault>
+    requires { Fits (r_view reply.now) }
+{
+    let mut bytes = Vec::new(alloc);
+    if encode(reply, &mut bytes).is_err() {
+        return Err(ProgramFault::Memory);
+    }
+    let Ok(digits) = hex::encode(alloc, bytes.as_slice()) else {
+        return Err(ProgramFault::Memory);
+    };
+    writeln!(out, "0 {digits}").map_err(|_| ProgramFault::Output)
+}
+
+fn run_line<W: Write>(
+    alloc: Global,
+    world: &mut FirstWorld<PlainTree>,
+    line: &ScriptLine,
+    out: &mut W,
+) -> Result<(), ProgramFault> {
+    match &line.action {
+        Action::Send(message) => {
+            let reply = world.message(alloc, 0, line.now, &message.bytes);
+            write_reply(alloc, &reply, out)
+        }
+        Action::HangUp => {
+            world.hang_up(0, line.now);
+            writeln!(out, "0 closed").map_err(|_| ProgramFault::Output)
+        }
+    }
+}
+
+fn run_script<R: Read, W: Write>(
+    alloc: Global,
+    inputs: &Inputs,
+    input: &mut R,
+    out: &mut W,
+) -> Result<(), ProgramFault> {
+    let tree = read_tree(alloc, inputs.trace)?;
+    let users = read_users(alloc, inputs.users)?;
+    let mut world = FirstWorld::new(alloc, tree, users);
+    let script = read_all(alloc, input)?;
+    let lines = read_script(alloc, &script)?;
+    for line in &lines {
+        run_line(alloc, &mut world, line, out)?;
+    }
+    out.flush().map_err(|_| ProgramFault::Output)
+}
+
+/// The command `script`: publishes the start tree, reads all of the input, checks every line, and then
+/// runs the lines one after the other, with a line of output for each. Its status: 0, or 1 where a
+/// fault ended it, which is told by one line on `err`; what was printed before stands.
+pub fn script_of<R: Read, W: Write, E: Write>(
+    alloc: Global,
+    inputs: &Inputs,
+    input: &mut R,
+    out: &mut W,
+    err: &mut E,
+) -> u8
+    ensures { result ≤ 1 }
+{
+    match run_script(alloc, inputs, input, out) {
+        Ok(()) => 0,
+        Err(fault) => {
+            let _printed = out.flush();
+            let _unheard = writeln!(err, "crashfs: {fault}");
+            1
+        }
+    }
+}

@@ -1,0 +1,191 @@
+//! A connection's session: its message size, its run and its fids (version(5), attach(5)).
+ghost use Rattle.std.specs.Option.{ForSome};
+ghost use Rattle.std.specs.Prelude.{◌≡◌, ◌<◌, ◌^◌, IfOk, MatchOption, MatchResult, None, Some, OnErr, OnOk, string_bytes};
+ghost use Rattle.cs_serve.specs.Refusals.{IsRefusal, first_of};
+ghost use Rattle.cs_serve.specs.Requests.{AttachEnds, VersionEnds, attach_table_rules, before_period, find_rules, has_no_room, is_spoken, no_fid, renewed, said_version};
+ghost use Rattle.cs_serve.specs.Sizes.{IsAgreed, IsQid, IsShown};
+ghost use Rattle.cs_serve.specs.TreeNames.{tree_name_in};
+
+use crate::fid::{Entry, Fid, User, Walked};
+use crate::fid_table::FidTable;
+use crate::refusal::Refusal;
+use crate::requests::NOFID;
+use crate::tree_name::TreeName;
+use crate::walk::qid_at;
+use cs_names::limits::{FIDS, LEAST_MESSAGE_SIZE, MESSAGE_BYTES, RUN_ATTACHES};
+use cs_names::{Pieces, RuleId, RunName};
+use cs_tree_model::TreeRead;
+use cs_users::Users;
+use cs_wire::Qid;
+use std::alloc::Global;
+
+/// What a connection keeps from one message to the next, and the run that its attaches found.
+#[derive(Drop)]
+pub struct Session {
+    /// The message size, where a session stands.
+    pub msize: Option<u32>,
+    /// The name of the run that the first granted find fixed.
+    pub run: Option<RunName>,
+    /// How often that run was found.
+    pub attaches: u32,
+    pub fids: FidTable,
+    ghost agreed: { ForSome msize IsAgreed },
+}
+
+/// What an attach asks for (attach(5)).
+#[derive(Drop)]
+pub struct AttachRequest {
+    pub fid: u32,
+    pub afid: u32,
+    pub uname: String,
+    pub aname: String,
+}
+
+/// The parts of the tree's name, where the connection's rules A1 to A3 let it.
+fn attachable<'a>(
+    fids: &FidTable,
+    fid: u32,
+    afid: u32,
+    aname: &'a [u8],
+) -> Result<TreeName<'a>, RuleId>
+    ensures { MatchResult result (λ name. (first_of (attach_table_rules fids.now.entries fid afid aname.now) ≡ None) × (tree_name_in aname.now ≡ Some (name.state.now, name.run.now))) (λ rule. first_of (attach_table_rules fids.now.entries fid afid aname.now) ≡ Some rule) }
+{
+    if fids.look(fid).is_some() || fid == NOFID || fids.len() >= FIDS {
+        return Err(RuleId::A1);
+    }
+    if afid != NOFID {
+        return Err(RuleId::A2);
+    }
+    TreeName::read(aname).ok_or(RuleId::A3)
+}
+
+/// Whether the run is another than the one that was found, or was found too often.
+fn has_no_room(run: &Option<RunName>, attaches: u32, name: &[u8]) -> bool
+    ensures { result ≡ has_no_room run.now attaches name.now }
+{
+    match run {
+        Some(found) if found.as_bytes() != name => true,
+        _ => attaches >= RUN_ATTACHES,
+    }
+}
+
+/// The first of the rules A4 and A5 that a find breaks.
+fn first_of_find(run: &Option<RunName>, attaches: u32, name: &TreeName) -> Option<RuleId>
+    ensures { result ≡ first_of (find_rules run.now attaches (Some (name.now.state.now, name.now.run.now))) }
+{
+    if !name.is_of_state_zero() {
+        return Some(RuleId::A4);
+    }
+    if has_no_room(run, attaches, name.run) {
+        return Some(RuleId::A5);
+    }
+    None
+}
+
+impl Session {
+    ghost use Rattle.cs_serve.specs.Connections.{blank, connection_of};
+
+    /// A connection with no session and no fid.
+    pub fn new(alloc: Global) -> Session
+        ensures { connection_of result ≡ blank }
+    {
+        Session {
+            msize: None,
+            run: None,
+            attaches: 0,
+            fids: FidTable::new(alloc),
+        }
+    }
+
+    /// Finds the run, and has the fid stand for the root of its tree (attach(5)). Where only the run's
+    /// rule A6 denies it, the run was found all the same; every other refusal leaves all as it was.
+    pub fn attach<T: TreeRead>(
+        &mut self,
+        alloc: Global,
+        tree: &T,
+        users: &Users,
+        request: AttachRequest,
+    ) -> Result<Qid, Refusal>
+        ensures ends { AttachEnds (T.tree tree.now) users.now (connection_of self.old) request.fid request.afid (string_bytes request.uname) (string_bytes request.aname) result (connection_of self.new) }
+        ensures fits { IfOk result IsQid }
+    {
+        let reserved = self.fids.reserve();
+        let aname = request.aname.as_bytes();
+        let name = match attachable(&self.fids, request.fid, request.afid, aname) {
+            Ok(name) => name,
+            Err(rule) => return Err(Refusal::Denied(rule)),
+        };
+        reserved?;
+        if let Some(rule) = first_of_find(&self.run, self.attaches, &name) {
+            return Err(Refusal::Denied(rule));
+        }
+        let Ok(run) = RunName::read(alloc, name.run) else {
+            return Err(Refusal::Memory);
+        };
+        self.run = Some(run);
+        self.attaches += 1;
+        if !users.knows(request.uname.as_bytes()) {
+            return Err(Refusal::Denied(RuleId::A6));
+        }
+        let root = Fid {
+            number: 0,
+            user: User::named(request.uname),
+            state: Walked,
+        };
+        self.fids.set(request.fid, Entry::Walked(root));
+        Ok(qid_at(tree, 0))
+    }
+
+    /// Begins a session, or none (version(5)): no fid is left. The reply's message size is the smaller
+    /// of the client's and ours, and its text is the version that we speak, or `unknown`. S4 ends the
+    /// session too; want of memory leaves all as it was.
+    pub fn version(
+        &mut self,
+        alloc: Global,
+        msize: u32,
+        text: &str,
+    ) -> Result<(u32, String), Refusal>
+        ensures ends { VersionEnds (connection_of self.old) msize text.now result (connection_of self.new) }
+        ensures fits { IfOk result (λ said. (said.0 < 2 ^ 32) × IsShown 7 (string_bytes said.1)) }
+    {
+        if msize < LEAST_MESSAGE_SIZE {
+            self.end();
+            return Err(Refusal::Denied(RuleId::S4));
+        }
+        let agreed = msize.min(MESSAGE_BYTES);
+        let spoken = is_spoken(text.as_bytes());
+        let said = String::from_str(alloc, version_text(spoken))?;
+        self.fids.clear();
+        self.msize = if spoken { Some(agreed) } else { None };
+        Ok((agreed, said))
+    }
+
+    /// Ends the session, and frees every fid (intro(5)).
+    pub fn end(&mut self)
+        ensures { connection_of self.new ≡ renewed None (connection_of self.old) }
+    {
+        self.fids.clear();
+        self.msize = None;
+    }
+}
+
+/// What the reply to a version names.
+fn version_text(spoken: bool) -> &'static str
+    ensures value { result.now ≡ said_version spoken }
+    ensures shown { IsShown 7 result.now }
+{
+    if spoken { "9P2000" } else { "unknown" }
+}
+
+/// Whether the text, up to its first period, is the version that this server speaks.
+fn is_spoken(text: &[u8]) -> bool
+    ensures { result ≡ is_spoken text.now }
+{
+    before_period(text) == b"9P2000".as_slice()
+}
+
+fn before_period(text: &[u8]) -> &[u8]
+    ensures { result.now ≡ before_period text.now }
+{
+    Pieces::of(text, b'.').next().unwrap_or(b"".as_slice())
+}
