@@ -82,8 +82,15 @@ fn words_of<R: Env + AllocGlobal>(rt: &R) -> io::Result<Vec<String>> {
 }
 
 fn main(rt: HostRuntime) -> ExitCode {
-    let Ok(words) = words_of(&rt) else {
-        return ExitCode::from(out_of_memory(&rt));
+    let words = match words_of(&rt) {
+        Ok(words) => words,
+        Err(error) if error.kind() == io::ErrorKind::OutOfMemory => {
+            return ExitCode::from(out_of_memory(&rt));
+        }
+        Err(_) => {
+            let _unheard = eprintln!(rt; "crashfs: the command line is no text");
+            return ExitCode::from(REFUSED);
+        }
     };
     let mut texts: Vec<&str> = Vec::new(rt.alloc());
     for word in &words {

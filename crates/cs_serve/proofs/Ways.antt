@@ -8,8 +8,8 @@ use Rattle.cs_names.specs.declared.rule_id.RuleId.TheVariants.{K6, K7, K8}
 use Rattle.cs_tree_model.specs.Tree.{Tree}
 use Rattle.cs_users.specs.Rows.{Row}
 use Rattle.cs_wire.specs.declared.message.Qid.{Qid}
-use Rattle.cs_serve.specs.Refusals.{first_of}
-use Rattle.cs_serve.specs.Rules.{element, element_rules, first_element, is_gone, next, stepped, walk_rules}
+use Rattle.cs_serve.specs.Refusals.{first_failing}
+use Rattle.cs_serve.specs.Rules.{element, element_rules, first_element, is_gone, next, stepped, walk_run_rules}
 use Rattle.cs_serve.specs.Walks.{Way, further, go_on, onto, stopped_first, way, qid_at}
 
 pub onto-append : (qs : List Qid) (q : Qid) (w : Way) → onto (qs ++ q ∷ []) w ≡ onto qs (further q w)
@@ -45,7 +45,7 @@ module _ (t : Tree) (us : List Row) (u : List ℕ) (n : ℕ) (names : List (Stri
   ends_at over done = sym (onto-end qs None n) ∙ ap (λ (l : List (String Global)). onto qs (way t us u n (map string_bytes l))) (sym (drop_all i names over)) ∙ done
 
 -- the last rule of an element fails where it leads nowhere
-last_fails : (a b c : Bool) → c ≡ true → first_of ((K6, a) ∷ (K7, b) ∷ (K8, c) ∷ []) ≡ None → ⊥
+last_fails : (a b c : Bool) → c ≡ true → first_failing ((K6, a) ∷ (K7, b) ∷ (K8, c) ∷ []) ≡ None → ⊥
 last_fails true b c e h = cc
 last_fails false true c e h = cc
 last_fails false false true e h = cc
@@ -59,13 +59,13 @@ first_by t n rest None (Some m) there = refl
 
 -- a walk is stopped at its first name by the first rule of it that fails
 pub stopped_first-way : (t : Tree) (us : List Row) (u : List ℕ) (n : ℕ) (names : List (List ℕ))
-    → stopped_first (way t us u n names) ≡ first_of (first_element t us u n names)
+    → stopped_first (way t us u n names) ≡ first_failing (first_element t us u n names)
 stopped_first-way t us u n [] = refl
 stopped_first-way t us u n (x ∷ xs) =
-    first_by t n (λ m. way t us u m xs) (first_of (element_rules t us u n x)) (next t n x) (last_fails _ _ (is_none (next t n x)))
+    first_by t n (λ m. way t us u m xs) (first_failing (element_rules t us u n x)) (next t n x) (last_fails _ _ (is_none (next t n x)))
 
 -- of a file that is there, a walk is refused where it is stopped at its first name
-pub first_of-walk_rules : (t : Tree) (us : List Row) (u v : List ℕ) (n : ℕ) (names : List (List ℕ)) (w : Way)
-    → is_gone t n ≡ false → v ≡ u → w ≡ way t us v n names → first_of (walk_rules t us u n names) ≡ stopped_first w
-first_of-walk_rules t us u v n names w there same e =
+pub first_failing-walk_run_rules : (t : Tree) (us : List Row) (u v : List ℕ) (n : ℕ) (names : List (List ℕ)) (w : Way)
+    → is_gone t n ≡ false → v ≡ u → w ≡ way t us v n names → first_failing (walk_run_rules t us u n names) ≡ stopped_first w
+first_failing-walk_run_rules t us u v n names w there same e =
     rw there (sym (stopped_first-way t us u n names) ∙ ap (λ (x : List ℕ). stopped_first (way t us x n names)) (sym same) ∙ ap stopped_first (sym e))

@@ -8,6 +8,7 @@ use Rattle.cs_serve.specs.declared.fid.Fid.{Fid}
 use Rattle.cs_serve.specs.declared.fid.Walked.{Walked}
 use Rattle.cs_serve.specs.declared.fid.Opened.{Opened}
 
+-- the entries by their fids, and for how many more there is room
 pub record Fids : Type 0 where
   pub entries : List (ℕ × Entry)
   pub room : ℕ

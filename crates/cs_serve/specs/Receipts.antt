@@ -14,8 +14,8 @@ use Rattle.cs_wire.specs.Messages.{Message, requests, replies, IsMessage, spelli
 use Rattle.cs_wire.specs.Reading.{message_of}
 use Rattle.cs_serve.specs.declared.refusal.Refusal.{Refusal}
 use Rattle.cs_serve.specs.declared.refusal.Refusal.TheVariants.{Denied, Memory}
-use Rattle.cs_serve.specs.Refusals.{Check, first_of, refusal_text}
-use Rattle.cs_serve.specs.Requests.{Connection}
+use Rattle.cs_serve.specs.Refusals.{Check, first_failing, refusal_text}
+use Rattle.cs_serve.specs.Connection.{Connection}
 use Rattle.cs_serve.specs.Effects.{Ends, effect_of}
 
 -- the tag of a message: its bytes 5 and 6
@@ -38,11 +38,11 @@ Decodes bytes (Err Memory) = IsOk (message_of requests bytes)
 -- how a message ends once the front lets it through
 pub data Receives (tree : Tree) (users : List Row) (c : Connection) (bytes : List ℕ) (outcome : Result RBody Refusal) (c' : Connection) : Type 0 where
   -- a rule of the front denies it
-  Barred : (rule : RuleId) → first_of (front_rules c.msize bytes) ≡ Some rule → outcome ≡ Err (Denied rule) → c' ≡ c → Receives tree users c bytes outcome c'
+  Barred : (rule : RuleId) → first_failing (front_rules c.msize bytes) ≡ Some rule → outcome ≡ Err (Denied rule) → c' ≡ c → Receives tree users c bytes outcome c'
   -- it is no message, or memory is wanting for it
-  Unread : (refusal : Refusal) → first_of (front_rules c.msize bytes) ≡ None → Decodes bytes (Err refusal) → outcome ≡ Err refusal → c' ≡ c → Receives tree users c bytes outcome c'
+  Unread : (refusal : Refusal) → first_failing (front_rules c.msize bytes) ≡ None → Decodes bytes (Err refusal) → outcome ≡ Err refusal → c' ≡ c → Receives tree users c bytes outcome c'
   -- it is a message, and ends as that message does
-  Asked : (message : TMessage) → first_of (front_rules c.msize bytes) ≡ None → Decodes bytes (Ok message) → Ends (effect_of tree users c (tag_in bytes) message.body) (tag_in bytes) c outcome c' → Receives tree users c bytes outcome c'
+  Asked : (message : TMessage) → first_failing (front_rules c.msize bytes) ≡ None → Decodes bytes (Ok message) → Ends (effect_of tree users c (tag_in bytes) message.body) (tag_in bytes) c outcome c' → Receives tree users c bytes outcome c'
 
 -- the reply that says it: what was granted, or an Rerror with the refusal's text
 abbrev pub said : ℕ → Result RBody Refusal → Message replies

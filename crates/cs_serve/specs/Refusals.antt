@@ -11,9 +11,9 @@ abbrev pub Check : Type 0
 Check = RuleId × Bool
 
 -- the first rule of the list that fails
-abbrev pub first_of : List Check → Option RuleId
-first_of [] = None
-first_of (c ∷ cs) = if c.1 then Some c.0 else first_of cs
+abbrev pub first_failing : List Check → Option RuleId
+first_failing [] = None
+first_failing (c ∷ cs) = if c.1 then Some c.0 else first_failing cs
 
 -- what a client is told of a refusal
 abbrev pub refusal_text : Refusal → List ℕ
@@ -28,9 +28,9 @@ pub record IsFirstToFail (checks : List Check) (rule : RuleId) : Type 0 where
   pub none_before : AllByRecursion (λ c. c.1 ≡ false) passed
 
 -- the first of some rules that fails, or else of others
-abbrev pub first_or : Option RuleId → Option RuleId → Option RuleId
-first_or None other = other
-first_or (Some rule) other = Some rule
+abbrev pub first_failing_or : Option RuleId → Option RuleId → Option RuleId
+first_failing_or None other = other
+first_failing_or (Some rule) other = Some rule
 
 -- a refusal that the rules allow: by the first of all that fails; or for want of memory, where none of those that come before the first growth fails
 abbrev pub IsRefusal : Option RuleId → Option RuleId → Refusal → Type 0

@@ -14,12 +14,13 @@ use Rattle.cs_users.specs.declared.rights.Right.TheVariants.{Read, Execute}
 use Rattle.cs_users.specs.Rows.{Row}
 use Rattle.cs_users.specs.Members.{same_name}
 use Rattle.cs_users.specs.Rights.{has_right}
-use Rattle.cs_serve.specs.Refusals.{Check, first_of}
+use Rattle.cs_serve.specs.Refusals.{Check, first_failing}
 
 -- what is known of the file of a number, if it is there
 abbrev pub file_at : Tree → ℕ → Option Metadata
 file_at t n = option_map metadata_of (record_numbered t n)
 
+-- no file has the number
 abbrev pub is_gone : Tree → ℕ → Bool
 is_gone t n = is_none (file_at t n)
 
@@ -27,10 +28,12 @@ is_gone t n = is_none (file_at t n)
 abbrev pub on_file : Tree → ℕ → (Metadata → Bool) → Bool
 on_file t n test = option_map_or test (file_at t n) false
 
+-- the mark of a directory
 abbrev pub is_directory_kind : Kind → Bool
 is_directory_kind Directory = true
 is_directory_kind (File length) = false
 
+-- the file is a directory
 abbrev pub is_directory : Metadata → Bool
 is_directory file = is_directory_kind file.kind
 
@@ -58,6 +61,7 @@ element_rules t us u n x =
     ∷ (K8, is_none (next t n x))
     ∷ []
 
+-- the rule that stops an element, or where it leads
 abbrev pub stepped : Option RuleId → Option ℕ → Result ℕ RuleId
 stepped (Some rule) m = Err rule
 stepped None None = Err K8
@@ -65,7 +69,7 @@ stepped None (Some m) = Ok m
 
 -- where an element leads, or the first rule that stops it
 abbrev pub element : Tree → List Row → List ℕ → ℕ → List ℕ → Result ℕ RuleId
-element t us u n x = stepped (first_of (element_rules t us u n x)) (next t n x)
+element t us u n x = stepped (first_failing (element_rules t us u n x)) (next t n x)
 
 -- the rules of a walk's first element, if it has one
 abbrev pub first_element : Tree → List Row → List ℕ → ℕ → List (List ℕ) → List Check
@@ -73,12 +77,12 @@ first_element t us u n [] = []
 first_element t us u n (x ∷ xs) = element_rules t us u n x
 
 -- a walk from the file of number n: it is refused by these rules alone
-abbrev pub walk_rules : Tree → List Row → List ℕ → ℕ → List (List ℕ) → List Check
-walk_rules t us u n names = (K5, is_gone t n) ∷ first_element t us u n names
+abbrev pub walk_run_rules : Tree → List Row → List ℕ → ℕ → List (List ℕ) → List Check
+walk_run_rules t us u n names = (K5, is_gone t n) ∷ first_element t us u n names
 
 -- an open of the file of number n
-abbrev pub open_rules : Tree → List Row → List ℕ → ℕ → ℕ → List Check
-open_rules t us u n mode =
+abbrev pub open_run_rules : Tree → List Row → List ℕ → ℕ → ℕ → List Check
+open_run_rules t us u n mode =
     (O4, is_gone t n)
     ∷ (O5, on_file t n is_directory)
     ∷ (O6, mode == 0 && lacks t us u Read n)
@@ -86,9 +90,9 @@ open_rules t us u n mode =
     ∷ []
 
 -- a read of the file of number n
-abbrev pub read_rules : Tree → ℕ → List Check
-read_rules t n = (G3, is_gone t n) ∷ []
+abbrev pub read_run_rules : Tree → ℕ → List Check
+read_run_rules t n = (G3, is_gone t n) ∷ []
 
 -- a stat of the file of number n
-abbrev pub stat_rules : Tree → ℕ → List Check
-stat_rules t n = (H2, is_gone t n) ∷ []
+abbrev pub stat_run_rules : Tree → ℕ → List Check
+stat_run_rules t n = (H2, is_gone t n) ∷ []

@@ -5,6 +5,7 @@ use Rattle.std.specs.List.{list_all}
 use Rattle.cs_names.specs.Legal.{is_run_name}
 use Rattle.cs_names.specs.Pieces.{pieces}
 
+-- a decimal digit
 abbrev pub is_digit : ℕ → Bool
 is_digit c = nat_le 48 c && nat_le c 57
 
@@ -24,5 +25,6 @@ name_of_pieces (state ∷ []) = None
 name_of_pieces (state ∷ run ∷ []) = if is_state_number state && is_run_name run then Some (state, run) else None
 name_of_pieces (state ∷ run ∷ other ∷ others) = None
 
+-- the two parts of a tree's name, if the bytes are one
 abbrev pub tree_name_in : List ℕ → Option (List ℕ × List ℕ)
 tree_name_in aname = name_of_pieces (pieces 47 aname)

@@ -23,6 +23,7 @@ pub record Way : Type 0 where
   pub stopped : Option RuleId
   pub last : ℕ
 
+-- what a walk in memory says
 abbrev pub way_of : Walk → Way
 way_of walk = record { qids = walk.qids.items; stopped = walk.stopped; last = walk.last }
 
@@ -40,6 +41,7 @@ abbrev pub way : Tree → List Row → List ℕ → ℕ → List (List ℕ) → 
 way t us u n [] = record { qids = []; stopped = None; last = n }
 way t us u n (x ∷ xs) = go_on (λ m. way t us u m xs) t n (element t us u n x)
 
+-- what stopped a walk that has no qid
 abbrev pub first_stop : List Qid → Option RuleId → Option RuleId
 first_stop [] stopped = stopped
 first_stop (qid ∷ qids) stopped = None

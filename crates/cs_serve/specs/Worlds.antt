@@ -2,8 +2,8 @@
 use Rattle.std.specs.Prelude.{List}
 use Rattle.cs_users.specs.Rows.{Row}
 use Rattle.cs_serve.specs.declared.first_world.FirstWorld.{FirstWorld}
-use Rattle.cs_serve.specs.Connections.{connection_of}
-use Rattle.cs_serve.specs.Requests.{Connection}
+use Rattle.cs_serve.specs.Sessions.{connection_of}
+use Rattle.cs_serve.specs.Connection.{Connection}
 
 -- the start tree, as its store
 abbrev pub tree_of : {T : Type 0} → FirstWorld T → T

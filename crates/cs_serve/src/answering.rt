@@ -1,6 +1,6 @@
 //! What a session answers to each message.
 ghost use Rattle.std.specs.Prelude.{List, ◌≤◌, length, IfOk};
-ghost use Rattle.cs_serve.specs.Connections.{connection_of};
+ghost use Rattle.cs_serve.specs.Sessions.{connection_of};
 ghost use Rattle.cs_serve.specs.Effects.{Ends, effect_of};
 ghost use Rattle.cs_serve.specs.Sizes.{FitsIn, room_of};
 ghost use Rattle.cs_tree_model.specs.Tree.{Tree};

@@ -1,8 +1,8 @@
 //! One connection over one start tree: state 0, and one run of it.
 ghost use Rattle.std.specs.Prelude.{ℕ, ◌≡◌, ◌≤◌, IfOk, length};
-ghost use Rattle.cs_serve.specs.Connections.{connection_of};
+ghost use Rattle.cs_serve.specs.Sessions.{connection_of};
 ghost use Rattle.cs_serve.specs.Receipts.{Decodes, Receives, front_rules, said, tag_in};
-ghost use Rattle.cs_serve.specs.Refusals.{first_of};
+ghost use Rattle.cs_serve.specs.Refusals.{first_failing};
 ghost use Rattle.cs_serve.specs.Sizes.{FitsIn, FitsWithin, room_of};
 ghost use Rattle.cs_wire.specs.Messages.{r_view};
 
@@ -30,9 +30,9 @@ fn tag_in(bytes: &[u8]) -> u16
 }
 
 /// The first of the rules S1 and S2 that a message breaks before it is decoded.
-fn first_of_front(msize: Option<u32>, bytes: &[u8]) -> Option<RuleId>
+fn first_failing_front(msize: Option<u32>, bytes: &[u8]) -> Option<RuleId>
     requires { 7 ≤ length bytes.now }
-    ensures { result ≡ first_of (front_rules msize bytes.now) }
+    ensures { result ≡ first_failing (front_rules msize bytes.now) }
 {
     match msize {
         None => {
@@ -72,7 +72,7 @@ fn receive<T: TreeRead>(
     ensures received { Receives (T.tree tree.now) users.now (connection_of session.old) bytes.now result (connection_of session.new) }
     ensures fits { IfOk result (FitsIn (room_of session.old.msize)) }
 {
-    if let Some(rule) = first_of_front(session.msize, bytes) {
+    if let Some(rule) = first_failing_front(session.msize, bytes) {
         return Err(Refusal::Denied(rule));
     }
     match decoded(alloc, bytes) {
@@ -108,9 +108,9 @@ pub struct FirstWorld<T: TreeRead + Drop> {
 
 impl<T: TreeRead + Drop> FirstWorld<T> {
     ghost use Rattle.std.specs.Prelude.{◌≡◌, ◌≤◌, length};
-    ghost use Rattle.cs_serve.specs.Connections.{blank, connection_of};
+    ghost use Rattle.cs_serve.specs.Sessions.{blank, connection_of};
     ghost use Rattle.cs_serve.specs.Receipts.{IsAnswered};
-    ghost use Rattle.cs_serve.specs.Requests.{renewed};
+    ghost use Rattle.cs_serve.specs.Versions.{renewed};
     ghost use Rattle.cs_serve.specs.Sizes.{FitsWithin, IsAgreed, room_of};
     ghost use Rattle.std.specs.Option.{ForSome};
     ghost use Rattle.cs_serve.specs.Worlds.{connection, tree_of, users_of};
@@ -130,7 +130,9 @@ impl<T: TreeRead + Drop> FirstWorld<T> {
     }
 
     /// Answers one message, of 7 bytes at least, of the connection 0 at that moment. The reply carries
-    /// the message's tag; the first rule that fails, or want of memory, is told by an Rerror.
+    /// the message's tag; the first rule that fails, or want of memory, is told by an Rerror (error(5)).
+    /// A refusal leaves the connection as it was, but for two: S4 ends the session and frees its fids,
+    /// and where an attach is denied by A6 its run was found all the same.
     pub fn message(&mut self, alloc: Global, conn: u32, _now: u32, bytes: &[u8]) -> RMessage
         requires connection { conn ≡ 0 }
         requires whole { 7 ≤ length bytes.now }

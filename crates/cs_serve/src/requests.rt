@@ -1,9 +1,13 @@
 //! What a connection's requests do on its fids and a tree, each after its rules.
 ghost use Rattle.std.specs.Prelude.{◌≡◌, ◌<◌, ◌≤◌, ◌-◌, length, map, string_bytes, IfOk, MatchResult, OnErr, OnOk, Option, None, Some};
 ghost use Rattle.cs_serve.specs.Fids.{fid_at, without};
-ghost use Rattle.cs_serve.specs.Refusals.{IsRefusal, first_of};
-ghost use Rattle.cs_serve.specs.Requests.{clunk_rules, first_of_open, first_of_read, first_of_walk, open_left, open_qid, open_table_rules, read_bytes, read_table_rules, walk_left, walk_qids, walk_table_rules, walked_in, opened_in};
-ghost use Rattle.cs_serve.specs.Rules.{open_rules, walk_rules};
+ghost use Rattle.cs_serve.specs.Refusals.{IsRefusal, first_failing};
+ghost use Rattle.cs_serve.specs.Connection.{walked_in, opened_in};
+ghost use Rattle.cs_serve.specs.FidWalks.{first_failing_walk, walk_left, walk_qids, walk_connection_rules};
+ghost use Rattle.cs_serve.specs.Opens.{first_failing_open, open_left, open_qid, open_connection_rules};
+ghost use Rattle.cs_serve.specs.Reads.{first_failing_read, read_bytes, read_connection_rules};
+ghost use Rattle.cs_serve.specs.Stats.{clunk_connection_rules};
+ghost use Rattle.cs_serve.specs.Rules.{open_run_rules, walk_run_rules};
 ghost use Rattle.cs_serve.specs.Sizes.{AreQids, IsQid};
 ghost use Rattle.cs_serve.specs.Walks.{way, way_of};
 
@@ -27,7 +31,7 @@ const READ_HEADER: u32 = 11;
 
 /// The fid of a walk, where the connection's rules K1 to K4 let it.
 fn walkable(fids: &FidTable, fid: u32, newfid: u32) -> Result<&Fid<Walked>, RuleId>
-    ensures { MatchResult result (λ f. (first_of (walk_table_rules fids.now.entries fid newfid) ≡ None) × (walked_in (fid_at fids.now.entries fid) ≡ Some f.now)) (λ rule. first_of (walk_table_rules fids.now.entries fid newfid) ≡ Some rule) }
+    ensures { MatchResult result (λ f. (first_failing (walk_connection_rules fids.now.entries fid newfid) ≡ None) × (walked_in (fid_at fids.now.entries fid) ≡ Some f.now)) (λ rule. first_failing (walk_connection_rules fids.now.entries fid newfid) ≡ Some rule) }
 {
     let walked = match fids.look(fid) {
         None => return Err(RuleId::K1),
@@ -54,7 +58,7 @@ fn walk_from<T: TreeRead>(
     walked: &Fid<Walked>,
     names: &[String],
 ) -> Result<Walk, Refusal>
-    ensures value { MatchResult result (λ walk. (first_of (walk_rules (T.tree tree.now) users.now walked.now.user walked.now.number (map string_bytes names.now)) ≡ None) × (way_of walk ≡ way (T.tree tree.now) users.now walked.now.user walked.now.number (map string_bytes names.now))) (IsRefusal None (first_of (walk_rules (T.tree tree.now) users.now walked.now.user walked.now.number (map string_bytes names.now)))) }
+    ensures value { MatchResult result (λ walk. (first_failing (walk_run_rules (T.tree tree.now) users.now walked.now.user walked.now.number (map string_bytes names.now)) ≡ None) × (way_of walk ≡ way (T.tree tree.now) users.now walked.now.user walked.now.number (map string_bytes names.now))) (IsRefusal None (first_failing (walk_run_rules (T.tree tree.now) users.now walked.now.user walked.now.number (map string_bytes names.now)))) }
     ensures qids { IfOk result (λ walk. AreQids (length names.now) walk.qids.items) }
 {
     if is_gone(tree, walked.number) {
@@ -79,7 +83,7 @@ pub fn walk<T: TreeRead>(
     newfid: u32,
     names: &[String],
 ) -> Result<Vec<Qid>, Refusal>
-    ensures granted { MatchResult result (λ qids. (first_of_walk (T.tree tree.now) users.now fids.old.entries fid newfid (map string_bytes names.now) ≡ None) × (qids.items ≡ walk_qids (T.tree tree.now) users.now fids.old.entries fid (map string_bytes names.now))) (λ refusal. IsRefusal (first_of (walk_table_rules fids.old.entries fid newfid)) (first_of_walk (T.tree tree.now) users.now fids.old.entries fid newfid (map string_bytes names.now)) refusal) }
+    ensures granted { MatchResult result (λ qids. (first_failing_walk (T.tree tree.now) users.now fids.old.entries fid newfid (map string_bytes names.now) ≡ None) × (qids.items ≡ walk_qids (T.tree tree.now) users.now fids.old.entries fid (map string_bytes names.now))) (λ refusal. IsRefusal (first_failing (walk_connection_rules fids.old.entries fid newfid)) (first_failing_walk (T.tree tree.now) users.now fids.old.entries fid newfid (map string_bytes names.now)) refusal) }
     ensures qids { IfOk result (λ qids. AreQids (length names.now) qids.items) }
     ensures left { OnOk result (fids.new.entries ≡ walk_left (T.tree tree.now) users.now fids.old.entries fid newfid (map string_bytes names.now)) }
     ensures unchanged { OnErr result (fids.new.entries ≡ fids.old.entries) }
@@ -105,7 +109,7 @@ pub fn walk<T: TreeRead>(
 
 /// The fid of an open, where the connection's rules O1 to O3 let it.
 fn openable(fids: &FidTable, fid: u32, mode: u8) -> Result<&Fid<Walked>, RuleId>
-    ensures { MatchResult result (λ f. (first_of (open_table_rules fids.now.entries fid mode) ≡ None) × (walked_in (fid_at fids.now.entries fid) ≡ Some f.now)) (λ rule. first_of (open_table_rules fids.now.entries fid mode) ≡ Some rule) }
+    ensures { MatchResult result (λ f. (first_failing (open_connection_rules fids.now.entries fid mode) ≡ None) × (walked_in (fid_at fids.now.entries fid) ≡ Some f.now)) (λ rule. first_failing (open_connection_rules fids.now.entries fid mode) ≡ Some rule) }
 {
     let walked = match fids.look(fid) {
         None => return Err(RuleId::O1),
@@ -119,13 +123,13 @@ fn openable(fids: &FidTable, fid: u32, mode: u8) -> Result<&Fid<Walked>, RuleId>
 }
 
 /// The first of the rules O4 to O8 that an open of the file breaks (open(5)).
-fn first_of_open<T: TreeRead>(
+fn first_failing_open<T: TreeRead>(
     tree: &T,
     users: &Users,
     walked: &Fid<Walked>,
     mode: u8,
 ) -> Option<RuleId>
-    ensures { result ≡ first_of (open_rules (T.tree tree.now) users.now walked.now.user walked.now.number mode) }
+    ensures { result ≡ first_failing (open_run_rules (T.tree tree.now) users.now walked.now.user walked.now.number mode) }
 {
     let Some(file) = tree.record(walked.number) else {
         return Some(RuleId::O4);
@@ -151,7 +155,7 @@ pub fn open<T: TreeRead>(
     fid: u32,
     mode: u8,
 ) -> Result<Qid, Refusal>
-    ensures granted { MatchResult result (λ qid. (first_of_open (T.tree tree.now) users.now fids.old.entries fid mode ≡ None) × (qid ≡ open_qid (T.tree tree.now) fids.old.entries fid)) (λ refusal. IsRefusal (first_of (open_table_rules fids.old.entries fid mode)) (first_of_open (T.tree tree.now) users.now fids.old.entries fid mode) refusal) }
+    ensures granted { MatchResult result (λ qid. (first_failing_open (T.tree tree.now) users.now fids.old.entries fid mode ≡ None) × (qid ≡ open_qid (T.tree tree.now) fids.old.entries fid)) (λ refusal. IsRefusal (first_failing (open_connection_rules fids.old.entries fid mode)) (first_failing_open (T.tree tree.now) users.now fids.old.entries fid mode) refusal) }
     ensures fits { IfOk result IsQid }
     ensures left { OnOk result (fids.new.entries ≡ open_left fids.old.entries fid mode) }
     ensures unchanged { OnErr result (fids.new.entries ≡ fids.old.entries) }
@@ -162,7 +166,7 @@ pub fn open<T: TreeRead>(
         Err(rule) => return Err(Refusal::Denied(rule)),
     };
     reserved?;
-    if let Some(rule) = first_of_open(tree, users, walked, mode) {
+    if let Some(rule) = first_failing_open(tree, users, walked, mode) {
         return Err(Refusal::Denied(rule));
     }
     let qid = qid_at(tree, walked.number);
@@ -174,7 +178,7 @@ pub fn open<T: TreeRead>(
 
 /// The fid of a read, where the connection's rules G1 and G2 let it.
 fn readable(fids: &FidTable, fid: u32) -> Result<&Fid<Opened>, RuleId>
-    ensures { MatchResult result (λ f. (first_of (read_table_rules fids.now.entries fid) ≡ None) × (opened_in (fid_at fids.now.entries fid) ≡ Some f.now)) (λ rule. first_of (read_table_rules fids.now.entries fid) ≡ Some rule) }
+    ensures { MatchResult result (λ f. (first_failing (read_connection_rules fids.now.entries fid) ≡ None) × (opened_in (fid_at fids.now.entries fid) ≡ Some f.now)) (λ rule. first_failing (read_connection_rules fids.now.entries fid) ≡ Some rule) }
 {
     let opened = match fids.look(fid) {
         None => return Err(RuleId::G1),
@@ -199,7 +203,7 @@ pub fn read<T: TreeRead>(
     msize: u32,
 ) -> Result<Vec<u8>, Refusal>
     ensures small { IfOk result (λ bytes. length bytes.items ≤ msize - 11) }
-    ensures value { MatchResult result (λ bytes. (first_of_read (T.tree tree.now) fids.now.entries fid ≡ None) × (bytes.items ≡ read_bytes (T.tree tree.now) fids.now.entries fid offset count msize)) (λ refusal. IsRefusal (first_of (read_table_rules fids.now.entries fid)) (first_of_read (T.tree tree.now) fids.now.entries fid) refusal) }
+    ensures value { MatchResult result (λ bytes. (first_failing_read (T.tree tree.now) fids.now.entries fid ≡ None) × (bytes.items ≡ read_bytes (T.tree tree.now) fids.now.entries fid offset count msize)) (λ refusal. IsRefusal (first_failing_read (T.tree tree.now) fids.now.entries fid) (first_failing_read (T.tree tree.now) fids.now.entries fid) refusal) }
 {
     let opened = match readable(fids, fid) {
         Ok(opened) => opened,
@@ -217,7 +221,7 @@ pub fn read<T: TreeRead>(
 
 /// Frees a fid (clunk(5)).
 pub fn clunk(fids: &mut FidTable, fid: u32) -> Result<(), RuleId>
-    ensures granted { MatchResult result (λ _. first_of (clunk_rules fids.old.entries fid) ≡ None) (λ rule. first_of (clunk_rules fids.old.entries fid) ≡ Some rule) }
+    ensures granted { MatchResult result (λ _. first_failing (clunk_connection_rules fids.old.entries fid) ≡ None) (λ rule. first_failing (clunk_connection_rules fids.old.entries fid) ≡ Some rule) }
     ensures left { OnOk result (fids.new.entries ≡ without fid fids.old.entries) }
     ensures unchanged { OnErr result (fids.new.entries ≡ fids.old.entries) }
 {

@@ -1,8 +1,10 @@
 //! A connection's session: its message size, its run and its fids (version(5), attach(5)).
 ghost use Rattle.std.specs.Option.{ForSome};
 ghost use Rattle.std.specs.Prelude.{◌≡◌, ◌<◌, ◌^◌, IfOk, MatchOption, MatchResult, None, Some, OnErr, OnOk, string_bytes};
-ghost use Rattle.cs_serve.specs.Refusals.{IsRefusal, first_of};
-ghost use Rattle.cs_serve.specs.Requests.{AttachEnds, VersionEnds, attach_table_rules, before_period, find_rules, has_no_room, is_spoken, no_fid, renewed, said_version};
+ghost use Rattle.cs_serve.specs.Refusals.{IsRefusal, first_failing};
+ghost use Rattle.cs_serve.specs.Attaches.{AttachEnds, attach_connection_rules, attach_registry_rules, has_no_room};
+ghost use Rattle.cs_serve.specs.Connection.{no_fid};
+ghost use Rattle.cs_serve.specs.Versions.{VersionEnds, before_period, is_spoken, renewed, said_version};
 ghost use Rattle.cs_serve.specs.Sizes.{IsAgreed, IsQid, IsShown};
 ghost use Rattle.cs_serve.specs.TreeNames.{tree_name_in};
 
@@ -48,7 +50,7 @@ fn attachable<'a>(
     afid: u32,
     aname: &'a [u8],
 ) -> Result<TreeName<'a>, RuleId>
-    ensures { MatchResult result (λ name. (first_of (attach_table_rules fids.now.entries fid afid aname.now) ≡ None) × (tree_name_in aname.now ≡ Some (name.state.now, name.run.now))) (λ rule. first_of (attach_table_rules fids.now.entries fid afid aname.now) ≡ Some rule) }
+    ensures { MatchResult result (λ name. (first_failing (attach_connection_rules fids.now.entries fid afid aname.now) ≡ None) × (tree_name_in aname.now ≡ Some (name.state.now, name.run.now))) (λ rule. first_failing (attach_connection_rules fids.now.entries fid afid aname.now) ≡ Some rule) }
 {
     if fids.look(fid).is_some() || fid == NOFID || fids.len() >= FIDS {
         return Err(RuleId::A1);
@@ -70,8 +72,8 @@ fn has_no_room(run: &Option<RunName>, attaches: u32, name: &[u8]) -> bool
 }
 
 /// The first of the rules A4 and A5 that a find breaks.
-fn first_of_find(run: &Option<RunName>, attaches: u32, name: &TreeName) -> Option<RuleId>
-    ensures { result ≡ first_of (find_rules run.now attaches (Some (name.now.state.now, name.now.run.now))) }
+fn first_failing_find(run: &Option<RunName>, attaches: u32, name: &TreeName) -> Option<RuleId>
+    ensures { result ≡ first_failing (attach_registry_rules run.now attaches (Some (name.now.state.now, name.now.run.now))) }
 {
     if !name.is_of_state_zero() {
         return Some(RuleId::A4);
@@ -83,7 +85,7 @@ fn first_of_find(run: &Option<RunName>, attaches: u32, name: &TreeName) -> Optio
 }
 
 impl Session {
-    ghost use Rattle.cs_serve.specs.Connections.{blank, connection_of};
+    ghost use Rattle.cs_serve.specs.Sessions.{blank, connection_of};
 
     /// A connection with no session and no fid.
     pub fn new(alloc: Global) -> Session
@@ -116,7 +118,7 @@ impl Session {
             Err(rule) => return Err(Refusal::Denied(rule)),
         };
         reserved?;
-        if let Some(rule) = first_of_find(&self.run, self.attaches, &name) {
+        if let Some(rule) = first_failing_find(&self.run, self.attaches, &name) {
             return Err(Refusal::Denied(rule));
         }
         let Ok(run) = RunName::read(alloc, name.run) else {

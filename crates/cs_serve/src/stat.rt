@@ -1,8 +1,9 @@
 //! What a stat tells of a file (stat(5)).
 ghost use Rattle.std.specs.Prelude.{◌≡◌, IfOk, MatchResult, Some, string_bytes};
 ghost use Rattle.cs_serve.specs.Fids.{fid_at};
-ghost use Rattle.cs_serve.specs.Refusals.{IsRefusal, first_of};
-ghost use Rattle.cs_serve.specs.Requests.{first_of_stat, last_name, number_in_entry, stat_in, stat_left, stat_of_file, stat_table_rules, told_length};
+ghost use Rattle.cs_serve.specs.Refusals.{IsRefusal, first_failing};
+ghost use Rattle.cs_serve.specs.Connection.{number_in_entry};
+ghost use Rattle.cs_serve.specs.Stats.{first_failing_stat, last_name, stat_in, stat_left, stat_of_file, told_length};
 ghost use Rattle.cs_serve.specs.Sizes.{IsQid, IsShown, IsStat, numbers_shape};
 ghost use Rattle.cs_wire.specs.Fields.{IsIn};
 ghost use Rattle.cs_wire.specs.Messages.{qid_of as qid_value, stat_of};
@@ -111,7 +112,7 @@ pub fn stat<T: TreeRead>(
     fid: u32,
 ) -> Result<Stat, Refusal>
     ensures fits { IfOk result (λ stat. IsStat 600 (stat_of stat)) }
-    ensures value { MatchResult result (λ stat. (first_of_stat (T.tree tree.now) fids.now.entries fid ≡ None) × (stat_left (T.tree tree.now) fids.now.entries fid ≡ Some (stat_of stat))) (λ refusal. IsRefusal (first_of (stat_table_rules fids.now.entries fid)) (first_of_stat (T.tree tree.now) fids.now.entries fid) refusal) }
+    ensures value { MatchResult result (λ stat. (first_failing_stat (T.tree tree.now) fids.now.entries fid ≡ None) × (stat_left (T.tree tree.now) fids.now.entries fid ≡ Some (stat_of stat))) (λ refusal. IsRefusal (first_failing_stat (T.tree tree.now) fids.now.entries fid) (first_failing_stat (T.tree tree.now) fids.now.entries fid) refusal) }
 {
     let Some(entry) = fids.look(fid) else {
         return Err(Refusal::Denied(RuleId::H1));
