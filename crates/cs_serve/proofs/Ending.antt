@@ -1,5 +1,5 @@
 -- How a message ends where it is refused.
-use Rattle.std.proofs.Common.{◌≡◌, ℕ, true, Result, Err, ◌∙◌, sym}
+use Rattle.std.proofs.Common.{◌≡◌, ℕ, true, Err, ◌∙◌, sym}
 use Rattle.cs_serve.specs.declared.refusal.Refusal.{Refusal}
 use Rattle.cs_serve.specs.declared.refusal.Refusal.TheVariants.{Denied, Memory}
 use Rattle.cs_serve.specs.Refusals.{IsRefusal}

@@ -1,10 +1,11 @@
 -- Each kind of reply fits the room of its session.
-use Rattle.std.proofs.Common.{◌≡◌, ℕ, zero, suc, ◌+◌, ◌-◌, ◌*◌, ◌≤◌, ◌<◌, ◌^◌, Bool, true, false, ◌&&◌, not, List, [], ◌∷◌, length, map, Option, refl, sym, ap, subst, ◌∙◌, arith, lit≤, lit<}
-use Rattle.std.specs.Prelude.{◌==◌, IsTrue, None, Some, String, string_bytes, max, unwrap_or, slice_index, nat_le, Vec}
+use Rattle.std.proofs.Common.{◌≡◌, ℕ, zero, suc, ◌+◌, ◌-◌, ◌≤◌, ◌<◌, ◌^◌, Bool, true, false, ◌&&◌, List, [], ◌∷◌, length, Option, refl, arith, lit≤, lit<}
+use Rattle.std.specs.Prelude.{◌==◌, None, Some, unwrap_or, slice_index, Vec}
 use Rattle.std.specs.Global.{Global}
+use Rattle.std.specs.Cow.{cow_str_bytes}
+use Rattle.std.specs.declared.borrow.CowStr.{CowStr}
 use Rattle.std.specs.Option.{ForSome}
 use Rattle.std.specs.List.{list_all, list_any}
-use Rattle.std.specs.Str.{IsAscii}
 use Rattle.std.proofs.lemmas.Bool.Decides.{nat_tests}
 use Rattle.std.proofs.lemmas.Str.{IsUtf8-from_ascii}
 use Rattle.std.proofs.lemmas.List.{length-map}
@@ -14,7 +15,7 @@ use Rattle.cs_wire.specs.declared.message.Qid.{Qid}
 use Rattle.cs_wire.specs.declared.message.Stat.{Stat}
 use Rattle.cs_wire.specs.declared.message.RBody.{RBody}
 use Rattle.cs_wire.specs.declared.message.RBody.TheVariants as r
-use Rattle.cs_wire.specs.Fields.{Nothing, Raw, spelled}
+use Rattle.cs_wire.specs.Fields.{spelled}
 use Rattle.cs_wire.specs.declared.message.TBody.{TBody}
 use Rattle.cs_wire.specs.declared.message.TBody.TheVariants as t
 use Rattle.cs_wire.specs.Bodies.{RequestFits}
@@ -74,10 +75,10 @@ fits-read m size bytes is low few = record {
   small = omega (arith, raw_length bytes.items, few, is);
 }
 
-pub fits-version : (m : Option ℕ) (n : ℕ) (v : String Global) → n < 2 ^ 32 → IsShown 7 (string_bytes v) → FitsIn (room_of m) (r.Version n v)
+pub fits-version : (m : Option ℕ) (n : ℕ) (v : CowStr Global) → n < 2 ^ 32 → IsShown 7 (cow_str_bytes v) → FitsIn (room_of m) (r.Version n v)
 fits-version m n v low shown = record {
-  fields = (low, shown_in 7 (string_bytes v) (lit< tt) shown);
-  small = omega (arith, version_length n (string_bytes v), shown.short);
+  fields = (low, shown_in 7 (cow_str_bytes v) (lit< tt) shown);
+  small = omega (arith, version_length n (cow_str_bytes v), shown.short);
 }
 
 pub fits-stat : (m : Option ℕ) (stat : Stat) → IsStat 600 (stat_of stat) → FitsIn (room_of m) (r.Stat stat)

@@ -1,17 +1,16 @@
 -- Names that a message can show.
-use Rattle.std.proofs.Common.{◌≡◌, ℕ, ◌+◌, ◌≤◌, ◌<◌, ◌^◌, Bool, true, false, ◌&&◌, ◌||◌, not, List, [], ◌∷◌, ◌++◌, length, refl, sym, ap, ◌∙◌, arith, lit≤, lit<, zero, suc}
+use Rattle.std.proofs.Common.{◌≡◌, ℕ, ◌+◌, ◌≤◌, ◌<◌, ◌^◌, Bool, true, false, ◌||◌, List, [], ◌∷◌, ◌++◌, length, refl, arith, lit≤, lit<, zero, suc}
 use Rattle.std.specs.Prelude.{◌==◌, nat_eq}
 use Rattle.std.specs.Int.{w16, to_le_bytes}
 use Rattle.std.specs.List.{list_any}
 use Rattle.std.specs.Cmp.Lexicographic.{pointwise}
-use Rattle.std.specs.Str.{is_utf8, IsUtf8, IsAscii}
+use Rattle.std.specs.Str.{IsUtf8, IsAscii}
 use Rattle.std.proofs.lemmas.Str.{is_utf8-from_IsUtf8, IsUtf8-from_ascii}
 use Rattle.std.proofs.lemmas.List.{length-append}
-use Rattle.cs_names.specs.Legal.{IsLegalName, IsUserName, is_forbidden, has_nul}
-use Rattle.cs_wire.specs.Fields.{Shape, One, Two, Four, Eight, Text, Boxed, Value, entry, is_text, spelled, IsIn, ◌▸◌}
+use Rattle.cs_names.specs.Legal.{IsLegalName, IsUserName}
+use Rattle.cs_wire.specs.Fields.{Text, Boxed, Value, entry, is_text, spelled, IsIn}
 use Rattle.cs_wire.specs.Messages.{qid_shape, stat_shape}
 use Rattle.cs_serve.specs.Sizes.{IsShown, IsStat, numbers_shape}
-use Rattle.cs_serve.proofs.Sizing.{text_length, qid_length}
 
 pub text_of : (bytes : List ℕ) → IsUtf8 bytes → list_any (λ b. b == 0) bytes ≡ false → is_text bytes ≡ true
 unfolding is_text

@@ -1,12 +1,11 @@
 -- How many bytes a reply's fields have.
-use Rattle.std.proofs.Common.{◌≡◌, ℕ, ◌+◌, ◌*◌, ◌≤◌, ◌<◌, ◌^◌, Bool, true, false, List, [], ◌∷◌, ◌++◌, length, map, refl, sym, ap, ◌∙◌, arith}
-use Rattle.std.specs.Int.{w8, w16, w32, w64, to_le_bytes}
+use Rattle.std.proofs.Common.{◌≡◌, ℕ, ◌+◌, ◌*◌, ◌≤◌, List, [], ◌∷◌, ◌++◌, length, map, refl, arith}
+use Rattle.std.specs.Int.{w16, w32, to_le_bytes}
 use Rattle.std.specs.List.{flat_map, AllByRecursion}
-use Rattle.std.proofs.lemmas.List.{length-append, length-map}
-use Rattle.std.proofs.lemmas.List.Concat.{flat_map-cons}
+use Rattle.std.proofs.lemmas.List.{length-append}
 use Rattle.cs_wire.specs.declared.message.Qid.{Qid}
-use Rattle.cs_wire.specs.Fields.{Shape, Text, Raw, Several, Boxed, Four, Value, entry, is_text, spelled, IsIn, ◌▸◌}
-use Rattle.cs_wire.specs.Messages.{qid_shape, stat_shape, qid_of}
+use Rattle.cs_wire.specs.Fields.{Text, Raw, Several, Four, Value, spelled, IsIn, ◌▸◌}
+use Rattle.cs_wire.specs.Messages.{qid_shape, qid_of}
 use Rattle.cs_serve.specs.Sizes.{IsQid, AreQids}
 
 pub qid_length : (q : Value qid_shape) → length (spelled qid_shape q) ≡ 13

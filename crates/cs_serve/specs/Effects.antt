@@ -1,6 +1,5 @@
 -- What each message of a session does: what it may be refused for, its reply, and the connection that it leaves.
-use Rattle.std.specs.Prelude.{◌≡◌, ℕ, map, string_bytes, unwrap_or, Bool, true, false, Option, None, Some, Result, Ok, Err, List, option_map, String}
-use Rattle.std.specs.Cow.{cow_str_bytes}
+use Rattle.std.specs.Prelude.{◌≡◌, ℕ, map, string_bytes, unwrap_or, Bool, true, false, Option, None, Some, Result, Ok, Err, List, option_map}
 use Rattle.cs_names.specs.declared.rule_id.RuleId.{RuleId}
 use Rattle.cs_names.specs.declared.rule_id.RuleId.TheVariants.{S3}
 use Rattle.cs_tree_model.specs.Tree.{Tree}
@@ -46,7 +45,7 @@ reply_of kind tag fields = Some (record { kind = kind; tag = tag; fields = field
 abbrev pub effect_of : Tree → List Row → Connection → ℕ → TBody → Effect
 effect_of tree users c tag (t.Version msize version) =
     record {
-      grows = true;
+      grows = false;
       before = first_failing (version_connection_rules msize);
       first = first_failing (version_connection_rules msize);
       reply = reply_of rk.Version tag (agreed msize, version_text (string_bytes version));

@@ -1,9 +1,8 @@
 -- A connection's fids: the list of its entries in the order in which they came, and the room for more.
-use Rattle.std.specs.Prelude.{◌≡◌, ℕ, ◌==◌, Bool, true, false, List, [], ◌∷◌, Option, Some, None, nat_eq}
+use Rattle.std.specs.Prelude.{ℕ, List, Option, nat_eq}
 use Rattle.std.specs.Map.{lookup, remove_entry}
 use Rattle.indexmap.specs.IndexMap.{insert_entry}
 use Rattle.cs_serve.specs.declared.fid.Entry.{Entry}
-use Rattle.cs_serve.specs.declared.fid.Entry.TheVariants as e
 use Rattle.cs_serve.specs.declared.fid.Fid.{Fid}
 use Rattle.cs_serve.specs.declared.fid.Walked.{Walked}
 use Rattle.cs_serve.specs.declared.fid.Opened.{Opened}

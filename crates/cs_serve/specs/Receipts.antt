@@ -1,5 +1,5 @@
 -- What a message's bytes come to: a rule of the session, want of memory, or what the message asks.
-use Rattle.std.specs.Prelude.{◌≡◌, ℕ, ◌==◌, not, ◌&&◌, Bool, false, List, [], ◌∷◌, length, nat_lt, is_none, Option, None, Some, Result, Ok, Err, IsOk, IsErr, slice_index, MatchOption}
+use Rattle.std.specs.Prelude.{◌≡◌, ℕ, ◌==◌, not, ◌&&◌, true, false, List, [], ◌∷◌, length, nat_lt, is_none, Option, None, Some, Result, Ok, Err, IsOk, IsErr, slice_index}
 use Rattle.std.specs.Option.{option_map_or}
 use Rattle.std.specs.Int.{w16, from_le_bytes}
 use Rattle.cs_names.specs.declared.rule_id.RuleId.{RuleId}
@@ -8,9 +8,8 @@ use Rattle.cs_tree_model.specs.Tree.{Tree}
 use Rattle.cs_users.specs.Rows.{Row}
 use Rattle.cs_wire.specs.declared.kind.RKind.TheVariants as rk
 use Rattle.cs_wire.specs.declared.message.TMessage.{TMessage}
-use Rattle.cs_wire.specs.declared.message.RMessage.{RMessage}
 use Rattle.cs_wire.specs.declared.message.RBody.{RBody}
-use Rattle.cs_wire.specs.Messages.{Message, requests, replies, IsMessage, spelling, t_view, r_view}
+use Rattle.cs_wire.specs.Messages.{Message, requests, replies, IsMessage, spelling, t_view, r_view, has_text_type}
 use Rattle.cs_wire.specs.Reading.{message_of}
 use Rattle.cs_serve.specs.declared.refusal.Refusal.{Refusal}
 use Rattle.cs_serve.specs.declared.refusal.Refusal.TheVariants.{Denied, Memory}
@@ -29,11 +28,11 @@ front_rules msize bytes =
     ∷ (S2, option_map_or (λ most. nat_lt most (length bytes)) msize false)
     ∷ []
 
--- what decoding comes to: the message that is spelled so; S2, where no message is; or want of memory, where one is
+-- what decoding comes to: the message that is spelled so; S2, where no message is; or want of memory, where one is that holds a text
 abbrev pub Decodes : List ℕ → Result TMessage Refusal → Type 0
 Decodes bytes (Ok message) = IsMessage (t_view message) × (bytes ≡ spelling (t_view message))
 Decodes bytes (Err (Denied rule)) = (rule ≡ S2) × IsErr (message_of requests bytes)
-Decodes bytes (Err Memory) = IsOk (message_of requests bytes)
+Decodes bytes (Err Memory) = IsOk (message_of requests bytes) × (has_text_type (slice_index bytes 4) ≡ true)
 
 -- how a message ends once the front lets it through
 pub data Receives (tree : Tree) (users : List Row) (c : Connection) (bytes : List ℕ) (outcome : Result RBody Refusal) (c' : Connection) : Type 0 where

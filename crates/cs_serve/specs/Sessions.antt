@@ -1,5 +1,5 @@
 -- What contracts see of a session.
-use Rattle.std.specs.Prelude.{ℕ, [], None}
+use Rattle.std.specs.Prelude.{[], None}
 use Rattle.cs_serve.specs.declared.session.Session.{Session}
 use Rattle.cs_serve.specs.Connection.{Connection}
 

@@ -1,5 +1,5 @@
 -- Replies that have a spelling, and of how many bytes.
-use Rattle.std.specs.Prelude.{◌≡◌, ℕ, ◌+◌, ◌≤◌, ◌<◌, true, List, length, max, Option, unwrap_or, Result}
+use Rattle.std.specs.Prelude.{◌≡◌, ℕ, ◌+◌, ◌≤◌, true, List, length, max, Option, unwrap_or}
 use Rattle.std.specs.List.{AllByRecursion}
 use Rattle.cs_wire.specs.declared.message.Qid.{Qid}
 use Rattle.cs_wire.specs.declared.message.RBody.{RBody}

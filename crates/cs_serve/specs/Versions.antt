@@ -1,11 +1,10 @@
 -- What a version comes to.
-use Rattle.std.specs.Prelude.{◌≡◌, ℕ, Bool, true, false, List, [], ◌∷◌, min, nat_lt, Option, None, Some, Result, Ok, Err, codes, if◌then◌else◌, String, string_bytes}
-use Rattle.std.specs.Global.{Global}
+use Rattle.std.specs.Prelude.{◌≡◌, ℕ, Bool, true, false, List, [], ◌∷◌, min, nat_lt, Option, None, Some, Result, Ok, Err, codes, if◌then◌else◌}
+use Rattle.std.specs.Borrow.{Bor}
+use Rattle.cs_names.specs.declared.rule_id.RuleId.{RuleId}
 use Rattle.cs_names.specs.declared.rule_id.RuleId.TheVariants.{S4}
 use Rattle.cs_names.specs.Pieces.{pieces}
 use Rattle.cs_users.specs.Members.{same_name}
-use Rattle.cs_serve.specs.declared.refusal.Refusal.{Refusal}
-use Rattle.cs_serve.specs.declared.refusal.Refusal.TheVariants.{Denied, Memory}
 use Rattle.cs_serve.specs.Refusals.{Check, first_failing}
 use Rattle.cs_serve.specs.Connection.{Connection}
 
@@ -48,8 +47,7 @@ abbrev pub session_of : ℕ → List ℕ → Option ℕ
 session_of msize text = if is_spoken text then Some (agreed msize) else None
 
 -- how a version ends: a new session or none, with no fid; S4 ends the session too
-abbrev pub VersionEnds : Connection → ℕ → List ℕ → Result (ℕ × String Global) Refusal → Connection → Type 0
+abbrev pub VersionEnds : Connection → ℕ → List ℕ → Result (ℕ × Bor (List ℕ)) RuleId → Connection → Type 0
 VersionEnds c msize text (Ok said) c' =
-    (first_failing (version_connection_rules msize) ≡ None) × (said.0 ≡ agreed msize) × (string_bytes said.1 ≡ version_text text) × (c' ≡ renewed (session_of msize text) c)
-VersionEnds c msize text (Err (Denied rule)) c' = (first_failing (version_connection_rules msize) ≡ Some rule) × (c' ≡ renewed None c)
-VersionEnds c msize text (Err Memory) c' = (first_failing (version_connection_rules msize) ≡ None) × (c' ≡ c)
+    (first_failing (version_connection_rules msize) ≡ None) × (said.0 ≡ agreed msize) × (said.1.now ≡ version_text text) × (c' ≡ renewed (session_of msize text) c)
+VersionEnds c msize text (Err rule) c' = (first_failing (version_connection_rules msize) ≡ Some rule) × (c' ≡ renewed None c)

@@ -16,21 +16,19 @@ use cs_tree_model::TreeRead;
 use cs_users::Users;
 use cs_wire::{RBody, TBody};
 use std::alloc::Global;
+use std::borrow::CowStr;
 
 impl Session {
-    fn answer_version(
-        &mut self,
-        alloc: Global,
-        tag: u16,
-        msize: u32,
-        version: String,
-    ) -> Result<RBody, Refusal>
+    fn answer_version(&mut self, tag: u16, msize: u32, version: String) -> Result<RBody, Refusal>
         ensures ends { (tree : Tree) (users : List Row) → Ends (effect_of tree users (connection_of self.old) tag (t.Version msize version)) tag (connection_of self.old) result (connection_of self.new) }
         ensures fits { IfOk result (FitsIn (room_of self.old.msize)) }
     {
-        match self.version(alloc, msize, version.as_str()) {
-            Ok((msize, version)) => Ok(RBody::Version { msize, version }),
-            Err(refusal) => Err(refusal),
+        match self.version(msize, version.as_str()) {
+            Ok((msize, version)) => Ok(RBody::Version {
+                msize,
+                version: CowStr::Borrowed(version),
+            }),
+            Err(rule) => Err(Refusal::Denied(rule)),
         }
     }
 
@@ -148,7 +146,7 @@ impl Session {
         ensures fits { IfOk result (FitsIn (room_of self.old.msize)) }
     {
         match body {
-            TBody::Version { msize, version } => self.answer_version(alloc, tag, msize, version),
+            TBody::Version { msize, version } => self.answer_version(tag, msize, version),
             TBody::Auth { .. } => Err(Refusal::Denied(RuleId::S3)),
             TBody::Attach {
                 fid,

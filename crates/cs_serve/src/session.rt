@@ -139,27 +139,21 @@ impl Session {
     }
 
     /// Begins a session, or none (version(5)): no fid is left. The reply's message size is the smaller
-    /// of the client's and ours, and its text is the version that we speak, or `unknown`. S4 ends the
-    /// session too; want of memory leaves all as it was.
-    pub fn version(
-        &mut self,
-        alloc: Global,
-        msize: u32,
-        text: &str,
-    ) -> Result<(u32, String), Refusal>
+    /// of the client's and ours, and its text is the version that we speak, or `unknown`. It takes no
+    /// memory; S4 ends the session too.
+    pub fn version(&mut self, msize: u32, text: &str) -> Result<(u32, &'static str), RuleId>
         ensures ends { VersionEnds (connection_of self.old) msize text.now result (connection_of self.new) }
-        ensures fits { IfOk result (λ said. (said.0 < 2 ^ 32) × IsShown 7 (string_bytes said.1)) }
+        ensures fits { IfOk result (λ said. (said.0 < 2 ^ 32) × IsShown 7 said.1.now) }
     {
         if msize < LEAST_MESSAGE_SIZE {
             self.end();
-            return Err(Refusal::Denied(RuleId::S4));
+            return Err(RuleId::S4);
         }
         let agreed = msize.min(MESSAGE_BYTES);
         let spoken = is_spoken(text.as_bytes());
-        let said = String::from_str(alloc, version_text(spoken))?;
         self.fids.clear();
         self.msize = if spoken { Some(agreed) } else { None };
-        Ok((agreed, said))
+        Ok((agreed, version_text(spoken)))
     }
 
     /// Ends the session, and frees every fid (intro(5)).

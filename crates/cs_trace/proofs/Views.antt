@@ -1,26 +1,14 @@
 -- A `BTreeMap` of paths as a finite map.
 use Rattle.std.proofs.Common.{◌≡◌, ◌≢◌, true, false, cond, List, [], ◌∷◌, length, Some, refl, sym, ap, ◌∙◌, arith, ⊎_elim}
 use Rattle.std.specs.Ordering.{eq_by_cmp, is_eq}
-use Rattle.std.specs.Cmp.{eq_by_cmp_equiv, tied_itself}
-use Rattle.std.specs.BTreeMap.{is_at}
+use Rattle.std.specs.Cmp.{tied_itself}
 use Rattle.std.specs.List.Sorted.{IsStrictlySortedBy}
-use Rattle.std.specs.Map.{lookup, keys_of}
-use Rattle.std.specs.FinMap.{FinMap, find, get, insert, empty, entries, len, from_entries, put, entries-insert, get-from_entries, get-insert, len-entries, len-empty, same_map}
+use Rattle.std.specs.Map.{keys_of}
+use Rattle.std.specs.FinMap.{FinMap, get, insert, empty, entries, len, from_entries, put, entries-insert, get-insert, len-entries, len-empty}
 use Rattle.cs_tree_model.specs.Tree.{Path, path_cmp}
-use Rattle.cs_tree_model.specs.Laws.Paths.{path_total, path_exact, path_cases}
+use Rattle.cs_tree_model.specs.Laws.Paths.{path_total, path_cases}
 
 module _ {X : Type 0} where
-  find_lookup : (es : List (Path × X)) (q : Path) → find path_cmp q es ≡ lookup (is_at (path_cmp q)) es
-  find_lookup [] q = refl
-  find_lookup (e ∷ es) q = ap (cond (is_at (path_cmp q) e.0) (Some e.1)) (find_lookup es q)
-
-  pub get_view : (es : List (Path × X)) (q : Path) → get (from_entries {R = path_cmp} es) q ≡ lookup (is_at (path_cmp q)) es
-  get_view es q = get-from_entries path_total es q ∙ find_lookup es q
-
-  pub insert_view : (es fs : List (Path × X)) (k : Path) (v : X) → ((q : Path) → lookup (is_at (path_cmp q)) fs ≡ cond (is_at (path_cmp k) q) (Some v) (lookup (is_at (path_cmp q)) es)) → from_entries {R = path_cmp} fs ≡ insert (from_entries es) k v
-  insert_view es fs k v h = same_map path_total path_exact _ _ (λ q. get_view fs q ∙ h q ∙ ap (λ b. cond b (Some v) (lookup (is_at (path_cmp q)) es)) ((eq_by_cmp_equiv path_total).symm k q)
-      ∙ sym (get-insert path_total (from_entries es) k v q ∙ ap (cond (eq_by_cmp path_cmp q k) (Some v)) (get_view es q)))
-
   no_length : (es : List (Path × X)) → length es ≡ 0 → es ≡ []
   no_length [] e = refl
   no_length (x ∷ es) e = absurd (omega arith)

@@ -263,7 +263,7 @@ fails_as e read h = h
 pub gives_fault : {K M : Type 0} (side : Side K) (view : M → Message side) (bytes : List ℕ) (e : WireFault) → checked side bytes ≡ Err e → Gives view (Err e) (message_of side bytes)
 gives_fault side view bytes e h = fails_as e (message_of side bytes) (is_fault side bytes e h)
 
-pub last_of_all : {K M : Type 0} (side : Side K) (bytes : List ℕ) (e : WireFault) → checked side bytes ≡ Err e → IsErrOf {T = M} (Err e) faults.Memory → IsOk (message_of side bytes)
-last_of_all side bytes e h memory =
+pub never_memory : {K M : Type 0} (side : Side K) (bytes : List ℕ) (e : WireFault) → checked side bytes ≡ Err e → IsErrOf {T = M} (Err e) faults.Memory → ⊥
+never_memory side bytes e h memory =
     let same : e ≡ faults.Memory = cc memory in
-    absurd (not_memory (checked side bytes) (plain_checked side bytes) (h ∙ ap (λ (f : WireFault). Err f) same))
+    not_memory (checked side bytes) (plain_checked side bytes) (h ∙ ap (λ (f : WireFault). Err f) same)

@@ -1,5 +1,5 @@
 -- The messages: the number of each type, its fields, and the one spelling of a message.
-use Rattle.std.specs.Prelude.{ℕ, ◌<◌, ◌≤◌, ◌+◌, ◌^◌, ◌==◌, if◌then◌else◌, Option, Some, None, List, ◌++◌, length, map}
+use Rattle.std.specs.Prelude.{ℕ, ◌<◌, ◌≤◌, ◌+◌, ◌^◌, ◌==◌, ◌||◌, Bool, if◌then◌else◌, Option, Some, None, List, ◌++◌, length, map}
 use Rattle.std.specs.Int.{w8, w16, w32, to_le_bytes}
 use Rattle.std.specs.Prelude.{String}
 use Rattle.std.specs.String.{string_bytes}
@@ -35,6 +35,10 @@ t_number tk.Stat = 124
 unfoldable pub t_kind_of : ℕ → Option TKind
 t_kind_of n =
     if n == 100 then Some tk.Version else if n == 102 then Some tk.Auth else if n == 104 then Some tk.Attach else if n == 108 then Some tk.Flush else if n == 110 then Some tk.Walk else if n == 112 then Some tk.Open else if n == 116 then Some tk.Read else if n == 120 then Some tk.Clunk else if n == 124 then Some tk.Stat else None
+
+-- the types of a client's message that hold a text: Tversion, Tauth, Tattach and Twalk
+abbrev pub has_text_type : ℕ → Bool
+has_text_type n = n == 100 || n == 102 || n == 104 || n == 110
 
 -- the number of a type of reply
 abbrev pub r_number : RKind → ℕ
@@ -168,7 +172,7 @@ with_request f (t.Stat fid) = f tk.Stat fid
 
 -- What a reply says, likewise.
 abbrev pub with_reply {ℓ} : {A : Type ℓ} → ((kind : RKind) → Value (r_layout kind) → A) → RBody → A
-with_reply f (r.Version msize version) = f rk.Version (msize, string_bytes version)
+with_reply f (r.Version msize version) = f rk.Version (msize, cow_str_bytes version)
 with_reply f (r.Auth aqid) = f rk.Auth (qid_of aqid)
 with_reply f (r.Attach qid) = f rk.Attach (qid_of qid)
 with_reply f (r.Error ename) = f rk.Error (cow_str_bytes ename)

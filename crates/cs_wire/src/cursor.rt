@@ -1,9 +1,10 @@
 //! What is left of a message's bytes: each call takes one field from the front.
 
-ghost use Rattle.std.specs.Prelude.{◌≡◌, ◌==◌, map, IfSome, IfNone, true, false};
+ghost use Rattle.std.specs.Prelude.{◌≡◌, ◌==◌, map, IfSome, IfNone, IfErr, true, false};
 ghost use Rattle.std.specs.Int.{w8, w16, w32, w64};
 ghost use Rattle.std.specs.String.{string_bytes};
 ghost use Rattle.std.specs.List.{list_any};
+ghost use Rattle.cs_wire.specs.declared.fault.WireFault.TheVariants.{Short};
 ghost use Rattle.cs_wire.specs.Fields.{is_text, Text};
 ghost use Rattle.cs_wire.specs.Messages.{qid_of, names_of, qid_shape};
 ghost use Rattle.cs_wire.specs.Reading.{front_at, number_at, raw_at, times_at, several_at, field_at};
@@ -40,7 +41,8 @@ pub(crate) fn as_text(bytes: &[u8]) -> Option<&str>
 impl<'a> Cursor<'a> {
     /// So many bytes.
     pub(crate) fn front(&mut self, count: usize) -> Result<&'a [u8], WireFault>
-        ensures { FindsFront (λ x. x.now) result self.new.rest.now (front_at count self.old.rest.now) }
+        ensures gives { FindsFront (λ x. x.now) result self.new.rest.now (front_at count self.old.rest.now) }
+        ensures short { IfErr result (λ e. e ≡ Short) }
     {
         if self.rest.len() < count {
             return Err(WireFault::Short);
@@ -52,7 +54,8 @@ impl<'a> Cursor<'a> {
 
     /// A number of one byte.
     pub(crate) fn one(&mut self) -> Result<u8, WireFault>
-        ensures { FindsFront (λ x. x) result self.new.rest.now (number_at w8 self.old.rest.now) }
+        ensures gives { FindsFront (λ x. x) result self.new.rest.now (number_at w8 self.old.rest.now) }
+        ensures short { IfErr result (λ e. e ≡ Short) }
     {
         let front = self.front(1)?;
         Ok(u8::from_le_bytes([front[0]]))
@@ -60,7 +63,8 @@ impl<'a> Cursor<'a> {
 
     /// A number of two bytes, the low one first.
     pub(crate) fn two(&mut self) -> Result<u16, WireFault>
-        ensures { FindsFront (λ x. x) result self.new.rest.now (number_at w16 self.old.rest.now) }
+        ensures gives { FindsFront (λ x. x) result self.new.rest.now (number_at w16 self.old.rest.now) }
+        ensures short { IfErr result (λ e. e ≡ Short) }
     {
         let front = self.front(2)?;
         Ok(u16::from_le_bytes([front[0], front[1]]))
@@ -68,7 +72,8 @@ impl<'a> Cursor<'a> {
 
     /// A number of four bytes, the low one first.
     pub(crate) fn four(&mut self) -> Result<u32, WireFault>
-        ensures { FindsFront (λ x. x) result self.new.rest.now (number_at w32 self.old.rest.now) }
+        ensures gives { FindsFront (λ x. x) result self.new.rest.now (number_at w32 self.old.rest.now) }
+        ensures short { IfErr result (λ e. e ≡ Short) }
     {
         let front = self.front(4)?;
         Ok(u32::from_le_bytes([front[0], front[1], front[2], front[3]]))
@@ -89,7 +94,8 @@ impl<'a> Cursor<'a> {
 
     /// A number of eight bytes, the low one first.
     pub(crate) fn eight(&mut self) -> Result<u64, WireFault>
-        ensures { FindsFront (λ x. x) result self.new.rest.now (number_at w64 self.old.rest.now) }
+        ensures gives { FindsFront (λ x. x) result self.new.rest.now (number_at w64 self.old.rest.now) }
+        ensures short { IfErr result (λ e. e ≡ Short) }
     {
         let front = self.front(8)?;
         Ok(u64::from_le_bytes([

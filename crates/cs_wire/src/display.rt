@@ -82,6 +82,7 @@ impl fmt::Display for RMessage {
         let tag = self.tag;
         match &self.body {
             RBody::Version { msize, version } => {
+                let version = version.as_str();
                 write!(f, "Rversion tag {tag} msize {msize} version {version:?}")
             }
             RBody::Auth { aqid } => write!(f, "Rauth tag {tag} aqid {aqid}"),

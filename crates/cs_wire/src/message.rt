@@ -23,7 +23,7 @@ pub struct Stat {
     pub qid: Qid,
     /// The permissions, and DMDIR and its kin above them.
     pub mode: u32,
-    /// When it was last read, in seconds since 1970.
+    /// When it was made, in seconds since 1970; a read does not change it.
     pub atime: u32,
     /// When it was last changed, in seconds since 1970.
     pub mtime: u32,
@@ -110,23 +110,41 @@ pub struct RMessage {
 #[derive(Drop)]
 pub enum RBody {
     /// Rversion 101, version(5).
-    Version { msize: u32, version: String },
+    Version {
+        msize: u32,
+        version: CowStr<'static>,
+    },
     /// Rauth 103, attach(5).
-    Auth { aqid: Qid },
+    Auth {
+        aqid: Qid,
+    },
     /// Rattach 105, attach(5).
-    Attach { qid: Qid },
+    Attach {
+        qid: Qid,
+    },
     /// Rerror 107, error(5).
-    Error { ename: CowStr<'static> },
+    Error {
+        ename: CowStr<'static>,
+    },
     /// Rflush 109, flush(5).
     Flush,
     /// Rwalk 111, walk(5).
-    Walk { wqid: Vec<Qid> },
+    Walk {
+        wqid: Vec<Qid>,
+    },
     /// Ropen 113, open(5).
-    Open { qid: Qid, iounit: u32 },
+    Open {
+        qid: Qid,
+        iounit: u32,
+    },
     /// Rread 117, read(5).
-    Read { data: Vec<u8> },
+    Read {
+        data: Vec<u8>,
+    },
     /// Rclunk 121, clunk(5).
     Clunk,
     /// Rstat 125, stat(5).
-    Stat { stat: Stat },
+    Stat {
+        stat: Stat,
+    },
 }

@@ -1,8 +1,8 @@
 //! Messages from bytes.
 
-ghost use Rattle.std.specs.Prelude.{◌≡◌, ◌++◌, ℕ, List, IfOk, IsOk, IsErrOf, Ok};
+ghost use Rattle.std.specs.Prelude.{◌≡◌, ◌++◌, ℕ, List, IfOk, IsOk, IsErrOf, Ok, slice_index, true};
 ghost use Rattle.cs_wire.specs.declared.fault.WireFault.TheVariants.{Memory};
-ghost use Rattle.cs_wire.specs.Messages.{t_view, r_view, requests, replies, Message, IsMessage, spelling};
+ghost use Rattle.cs_wire.specs.Messages.{t_view, r_view, requests, replies, Message, IsMessage, spelling, t_number, has_text_type};
 ghost use Rattle.cs_wire.specs.Reading.{message_at, message_of};
 ghost use Rattle.cs_wire.specs.Answers.{Gives, Takes};
 
@@ -15,7 +15,8 @@ use crate::{replies, requests};
 use std::alloc::Global;
 
 fn request(alloc: Global, kind: TKind, tag: u16, fields: &mut Cursor) -> Result<TMessage, WireFault>
-    ensures { Takes t_view result fields.new.rest.now (message_at requests kind tag fields.old.rest.now) }
+    ensures takes { Takes t_view result fields.new.rest.now (message_at requests kind tag fields.old.rest.now) }
+    ensures grows { IsErrOf result Memory → has_text_type (t_number kind) ≡ true }
 {
     match kind {
         TKind::Version => requests::version(alloc, tag, fields),
@@ -49,7 +50,8 @@ fn reply(alloc: Global, kind: RKind, tag: u16, fields: &mut Cursor) -> Result<RM
 
 #[tactic(auto, unfolding(crate::specs::Reading::message_of))]
 fn read_request(alloc: Global, bytes: &[u8]) -> Result<TMessage, WireFault>
-    ensures { Gives t_view result (message_of requests bytes.now) }
+    ensures gives { Gives t_view result (message_of requests bytes.now) }
+    ensures grows { IsErrOf result Memory → has_text_type (slice_index bytes.now 4) ≡ true }
 {
     let (number, tag, rest) = header(bytes)?;
     let Some(kind) = t_kind(number) else {
@@ -83,7 +85,8 @@ fn read_reply(alloc: Global, bytes: &[u8]) -> Result<RMessage, WireFault>
 ///
 /// Else the first fault, from the left: fewer than 7 bytes, a size that isn't their number, a type
 /// that isn't known, then the fields one after the other, then bytes that are left. It is
-/// `Memory` only where the bytes are a message.
+/// `Memory` only where the bytes are a message of a type that holds a text: Tversion, Tauth, Tattach
+/// or Twalk.
 pub fn decode(alloc: Global, bytes: &[u8]) -> Result<TMessage, WireFault>
     // What is read is spelled so.
     ensures found { IfOk result (λ m. IsMessage (t_view m) × (bytes.now ≡ spelling (t_view m))) }
@@ -93,12 +96,15 @@ pub fn decode(alloc: Global, bytes: &[u8]) -> Result<TMessage, WireFault>
     ensures exact { Gives t_view result (message_of requests bytes.now) }
     // Want of memory comes last.
     ensures memory { IsErrOf result Memory → IsOk (message_of requests bytes.now) }
+    // Only a message of a type that holds a text can want memory: the byte after its size says the type.
+    ensures grows { IsErrOf result Memory → has_text_type (slice_index bytes.now 4) ≡ true }
 {
     check_request(bytes)?;
     read_request(alloc, bytes)
 }
 
-/// The reply that the bytes spell, or the first fault, as `decode` has it.
+/// The reply that the bytes spell, or the first fault, as `decode` has it. It is `Memory` only where
+/// the bytes are a reply.
 pub fn decode_r(alloc: Global, bytes: &[u8]) -> Result<RMessage, WireFault>
     // What is read is spelled so.
     ensures found { IfOk result (λ m. IsMessage (r_view m) × (bytes.now ≡ spelling (r_view m))) }

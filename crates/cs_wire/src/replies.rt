@@ -19,7 +19,7 @@ pub(crate) fn version(alloc: Global, tag: u16, fields: &mut Cursor) -> Result<RM
 {
     let body = RBody::Version {
         msize: fields.four()?,
-        version: fields.text(alloc)?,
+        version: CowStr::Owned(fields.text(alloc)?),
     };
     Ok(RMessage { tag, body })
 }

@@ -1,6 +1,8 @@
 //! The fields of each type of client's message, read from the left.
 #![tactic(auto, unfolding(crate::specs::Reading::message_at, crate::specs::Reading::field_at))]
 
+ghost use Rattle.std.specs.Prelude.{◌≡◌, IfErr};
+ghost use Rattle.cs_wire.specs.declared.fault.WireFault.TheVariants.{Short};
 ghost use Rattle.cs_wire.specs.declared.kind.TKind.TheVariants as kinds;
 ghost use Rattle.cs_wire.specs.Messages.{t_view, requests};
 ghost use Rattle.cs_wire.specs.Reading.{message_at};
@@ -45,7 +47,8 @@ pub(crate) fn attach(alloc: Global, tag: u16, fields: &mut Cursor) -> Result<TMe
 }
 
 pub(crate) fn flush(tag: u16, fields: &mut Cursor) -> Result<TMessage, WireFault>
-    ensures { Takes t_view result fields.new.rest.now (message_at requests kinds.Flush tag fields.old.rest.now) }
+    ensures takes { Takes t_view result fields.new.rest.now (message_at requests kinds.Flush tag fields.old.rest.now) }
+    ensures short { IfErr result (λ e. e ≡ Short) }
 {
     let body = TBody::Flush {
         oldtag: fields.two()?,
@@ -65,7 +68,8 @@ pub(crate) fn walk(alloc: Global, tag: u16, fields: &mut Cursor) -> Result<TMess
 }
 
 pub(crate) fn open(tag: u16, fields: &mut Cursor) -> Result<TMessage, WireFault>
-    ensures { Takes t_view result fields.new.rest.now (message_at requests kinds.Open tag fields.old.rest.now) }
+    ensures takes { Takes t_view result fields.new.rest.now (message_at requests kinds.Open tag fields.old.rest.now) }
+    ensures short { IfErr result (λ e. e ≡ Short) }
 {
     let body = TBody::Open {
         fid: fields.four()?,
@@ -75,7 +79,8 @@ pub(crate) fn open(tag: u16, fields: &mut Cursor) -> Result<TMessage, WireFault>
 }
 
 pub(crate) fn read(tag: u16, fields: &mut Cursor) -> Result<TMessage, WireFault>
-    ensures { Takes t_view result fields.new.rest.now (message_at requests kinds.Read tag fields.old.rest.now) }
+    ensures takes { Takes t_view result fields.new.rest.now (message_at requests kinds.Read tag fields.old.rest.now) }
+    ensures short { IfErr result (λ e. e ≡ Short) }
 {
     let body = TBody::Read {
         fid: fields.four()?,
@@ -86,7 +91,8 @@ pub(crate) fn read(tag: u16, fields: &mut Cursor) -> Result<TMessage, WireFault>
 }
 
 pub(crate) fn clunk(tag: u16, fields: &mut Cursor) -> Result<TMessage, WireFault>
-    ensures { Takes t_view result fields.new.rest.now (message_at requests kinds.Clunk tag fields.old.rest.now) }
+    ensures takes { Takes t_view result fields.new.rest.now (message_at requests kinds.Clunk tag fields.old.rest.now) }
+    ensures short { IfErr result (λ e. e ≡ Short) }
 {
     let body = TBody::Clunk {
         fid: fields.four()?,
@@ -95,7 +101,8 @@ pub(crate) fn clunk(tag: u16, fields: &mut Cursor) -> Result<TMessage, WireFault
 }
 
 pub(crate) fn stat(tag: u16, fields: &mut Cursor) -> Result<TMessage, WireFault>
-    ensures { Takes t_view result fields.new.rest.now (message_at requests kinds.Stat tag fields.old.rest.now) }
+    ensures takes { Takes t_view result fields.new.rest.now (message_at requests kinds.Stat tag fields.old.rest.now) }
+    ensures short { IfErr result (λ e. e ≡ Short) }
 {
     let body = TBody::Stat {
         fid: fields.four()?,

@@ -1,6 +1,7 @@
 //! Messages as they stand on the wire, from outside.
 
 use super::*;
+use std::borrow::CowStr;
 use std::test::*;
 
 #[test]
@@ -171,6 +172,25 @@ fn the_first_fault_of_a_reply_is_told(rt: HostRuntime) {
     for (bytes, fault) in examples {
         assert!(rt; decode_r(rt.alloc(), bytes).err() == Some(fault), "{fault}");
     }
+}
+
+#[test]
+fn a_reply_to_version_can_have_a_constant_text(rt: HostRuntime) -> Result<(), Fail> {
+    let body = RBody::Version {
+        msize: 8192,
+        version: CowStr::Borrowed("9P2000"),
+    };
+    let message = RMessage { tag: 65535, body };
+    assert!(rt; message.fits());
+    if message.fits() {
+        let mut out = Vec::new(rt.alloc());
+        encode(&message, &mut out)?;
+        assert_eq!(rt;
+            out.as_slice(),
+            b"\x13\0\0\0e\xff\xff\0 \0\0\x06\09P2000".as_slice()
+        );
+    }
+    Ok(())
 }
 
 #[test]

@@ -1,5 +1,7 @@
 //! A first pass over a message's bytes, which finds the first fault and takes no memory.
 
+ghost use Rattle.std.specs.Prelude.{◌≡◌, IfOk, IsErrOf, slice_index};
+ghost use Rattle.cs_wire.specs.declared.fault.WireFault.TheVariants.{Memory};
 ghost use Rattle.cs_wire.specs.Fields.{Text};
 ghost use Rattle.cs_wire.specs.Messages.{t_layout, r_layout, qid_shape, stat_shape, requests, replies};
 ghost use Rattle.cs_wire.specs.Reading.{inside, header_at};
@@ -207,7 +209,9 @@ fn after_reply(kind: RKind, fields: Unchecked) -> Result<Unchecked, WireFault>
 /// Type, tag and the fields' bytes of what is as long as its size says.
 #[tactic(auto, unfolding(crate::specs::Reading::header_at))]
 pub(crate) fn header(bytes: &[u8]) -> Result<(u8, u16, &[u8]), WireFault>
-    ensures { Finds (λ x. (x.0, x.1, x.2.now)) result (header_at bytes.now) }
+    ensures gives { Finds (λ x. (x.0, x.1, x.2.now)) result (header_at bytes.now) }
+    ensures number { IfOk result (λ x. x.0 ≡ slice_index bytes.now 4) }
+    ensures plain { IsErrOf result Memory → ⊥ }
 {
     if bytes.len() < 7 {
         return Err(WireFault::Short);

@@ -1,5 +1,3 @@
-use Rattle.std.proofs.Common.{sym}
-use Rattle.cs_serve.specs.Sizes.{IsShown}
 use Rattle.cs_serve.proofs.Showing.{shown-name, shown-slash}
 use Rattle.cs_serve.proofs.stat.last_name.Goals as goal
 

@@ -1,4 +1,4 @@
-use Rattle.std.proofs.Common.{◌≡◌, ◌≤◌, drop, length}
+use Rattle.std.proofs.Common.{◌≡◌, drop}
 use Rattle.std.specs.Prelude.{map, string_bytes}
 use Rattle.cs_serve.specs.Sizes.{AreQids}
 use Rattle.cs_serve.specs.Walks.{way, onto}

@@ -4,7 +4,7 @@ use Rattle.cs_wire.specs.Messages.{replies, r_view}
 use Rattle.cs_wire.specs.Reading.{message_of}
 use Rattle.cs_wire.specs.Answers.{Gives}
 use Rattle.cs_wire.proofs.Messages.{is_found, message_again, replies_lawful}
-use Rattle.cs_wire.proofs.Checked.{is_message, gives_fault, last_of_all}
+use Rattle.cs_wire.proofs.Checked.{is_message, gives_fault, never_memory}
 use Rattle.cs_wire.proofs.reading.decode_r.Goals as goal
 
 pub returns-in_err-check_reply-clause-exact : goal.returns-in_err-check_reply-clause-exact
@@ -20,7 +20,7 @@ returns-in_err-check_reply-clause-only c = λ m fits e.
 pub returns-in_err-check_reply-clause-memory : goal.returns-in_err-check_reply-clause-memory
 returns-in_err-check_reply-clause-memory c =
     let p = err_from_is_err_and c.from_residual.result c.from_residual.ensures.1 in
-    rw (p.1, p.2) (last_of_all replies c.args.bytes.now c.in_err-check_reply.field-0.0 c.in_err-check_reply.ensures)
+    rw (p.1, p.2) (λ memory. absurd (never_memory replies c.args.bytes.now c.in_err-check_reply.field-0.0 c.in_err-check_reply.ensures memory))
 
 pub returns-clause-found : goal.returns-clause-found
 returns-clause-found c = is_found replies replies_lawful r_view c.args.bytes.now c.read_reply.result (λ i. omega (arith, c.type_inv.bytes i)) c.read_reply.ensures
