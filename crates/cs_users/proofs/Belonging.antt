@@ -21,8 +21,8 @@ contains_decides texts text =
     (λ a. (a.0, text, a.1, a.2, refl))
     (any_decides (λ t. same_name t text) (λ t. t ≡ text) (λ t. bytes_decides t text) texts)
 
-known_decides : (rows : List Row) (name : List ℕ) → Decides (is_known rows name) (IsKnown rows name)
-known_decides rows name = any_decides (λ row. same_name row.name name) (λ row. row.name ≡ name) (λ row. bytes_decides row.name name) rows
+pub is_known-decides : (rows : List Row) (name : List ℕ) → Decides (is_known rows name) (IsKnown rows name)
+is_known-decides rows name = any_decides (λ row. same_name row.name name) (λ row. row.name ≡ name) (λ row. bytes_decides row.name name) rows
 
 lists_decides : (rows : List Row) (group user : List ℕ) → Decides (lists rows group user) (Lists rows group user)
 lists_decides rows group user =
@@ -39,7 +39,7 @@ leader_decides rows group leader =
 both_decide : (rows : List Row) (user group : List ℕ)
     → Decides (is_known rows user && is_known rows group && not (same_name user none_name)) ((IsKnown rows user × IsKnown rows group) × (user ≢ none_name))
 both_decide rows user group =
-    Decides-and _ _ (Decides-and _ _ (known_decides rows user) (known_decides rows group)) (Decides-not _ (bytes_decides user none_name))
+    Decides-and _ _ (Decides-and _ _ (is_known-decides rows user) (is_known-decides rows group)) (Decides-not _ (bytes_decides user none_name))
 
 pub is_member-decides : (rows : List Row) (user group : List ℕ) → Decides (is_member rows user group) (IsMember rows user group)
 is_member-decides rows user group =

@@ -1,4 +1,6 @@
 pub mod Belonging
+pub mod Keys
 pub mod Lines
-pub mod Named
+pub mod Naming
+pub mod Places
 pub mod Texts

@@ -1,12 +1,13 @@
 -- The users file: lines `id:name:leader:members`, the members with commas between them.
-use Rattle.std.specs.Prelude.{ℕ, ◌+◌, Bool, true, false, ◌==◌, ◌&&◌, not, List, [], ◌∷◌, ◌++◌, length, nat_lt, Option, Some, None, Result, Ok, Err, if◌then◌else◌}
-use Rattle.std.specs.List.{list_any, filter_map}
+use Rattle.std.specs.Prelude.{◌≡◌, ℕ, ◌+◌, Bool, true, false, ◌==◌, List, [], ◌∷◌, ◌++◌, length, nat_lt, Option, Some, None, Result, Ok, Err, if◌then◌else◌}
+use Rattle.std.specs.List.{filter_map}
 use Rattle.std.specs.Option.{option_map_or}
-use Rattle.std.specs.Str.{is_utf8}
-use Rattle.cs_names.specs.Legal.{has_nul}
+use Rattle.std.specs.Str.{IsUtf8}
+use Rattle.cs_names.specs.Texts.{has_nul, is_text}
 use Rattle.cs_names.specs.Pieces.{pieces}
+use Rattle.cs_names.specs.declared.limits.TheConstants.{USER_NAME_BYTES}
 use Rattle.cs_users.specs.Rows.{Row}
-use Rattle.cs_users.specs.Members.{same_name}
+use Rattle.cs_users.specs.Members.{is_known, same_name}
 use Rattle.cs_users.specs.declared.fault.UsersFault.{UsersFault}
 use Rattle.cs_users.specs.declared.fault.UsersFault.TheVariants.{NotText, FieldCount, EmptyName, LongName, Twice}
 
@@ -36,32 +37,33 @@ rows_in lines = filter_map row_in lines
 abbrev pub names : List ℕ → List ℕ → Bool
 names name line = option_map_or (λ row. same_name row.name name) (row_in line) false
 
--- what is wrong with the name on the line of this number, which these lines precede
-abbrev pub fault_of_name : List (List ℕ) → ℕ → List ℕ → Option UsersFault
-fault_of_name before number name =
+-- what is wrong with the name on the line of this number, where an earlier line has it or none does
+abbrev pub fault_of_name : Bool → ℕ → List ℕ → Option UsersFault
+fault_of_name is_taken number name =
     if length name == 0 then Some (EmptyName number)
-    else (if nat_lt 64 (length name) then Some (LongName number)
-    else (if list_any (names name) before then Some (Twice number) else None))
+    else (if nat_lt USER_NAME_BYTES (length name) then Some (LongName number)
+    else (if is_taken then Some (Twice number) else None))
 
--- what is wrong with the line of this number
-abbrev pub fault_of_line : List (List ℕ) → ℕ → List ℕ → Option UsersFault
-fault_of_line before number line =
+-- what is wrong with the line of this number, which these rows precede
+abbrev pub fault_of_line : List Row → ℕ → List ℕ → Option UsersFault
+fault_of_line rows number line =
     if is_skipped line then None
-    else option_map_or (λ row. fault_of_name before number row.name) (row_in line) (Some (FieldCount number))
+    else option_map_or (λ row. fault_of_name (is_known rows row.name) number row.name) (row_in line) (Some (FieldCount number))
 
 -- the first of the faults, if there is one
 abbrev pub or_else : Option UsersFault → Option UsersFault → Option UsersFault
 or_else None later = later
 or_else (Some fault) later = Some fault
 
--- what is wrong with the first bad line, the lines counted from 1
+-- what is wrong with the first bad line, where the first list of lines precedes the second; lines are counted from 1
 abbrev pub first_fault : List (List ℕ) → List (List ℕ) → Option UsersFault
 first_fault before [] = None
-first_fault before (line ∷ lines) = or_else (fault_of_line before (length before + 1) line) (first_fault (before ++ line ∷ []) lines)
+first_fault before (line ∷ lines) = or_else (fault_of_line (rows_in before) (length before + 1) line) (first_fault (before ++ line ∷ []) lines)
 
 -- UTF-8 without NUL
-abbrev pub is_text : List ℕ → Bool
-is_text bytes = is_utf8 bytes && not (has_nul bytes)
+pub record IsText (bytes : List ℕ) : Type 0 where
+  pub utf8 : IsUtf8 bytes
+  pub no_nul : has_nul bytes ≡ false
 
 -- the rows of the lines, or the fault of the first bad one
 abbrev pub rows_or_fault : List (List ℕ) → Result (List Row) UsersFault

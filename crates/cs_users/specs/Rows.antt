@@ -1,5 +1,6 @@
 -- What a line of the users file says.
-use Rattle.std.specs.Prelude.{◌≢◌, ℕ, ◌<◌, ◌≤◌, List, [], ◌∷◌, length, All, AllPairs}
+use Rattle.std.specs.Prelude.{◌≢◌, ℕ, List, [], ◌∷◌, All, AllPairs}
+use Rattle.cs_names.specs.Legal.{IsUserName}
 
 -- a user or a group: its id, its name, its leader (empty where it has none) and its members
 pub record Row : Type 0 where
@@ -12,12 +13,7 @@ pub record Row : Type 0 where
 abbrev pub none_name : List ℕ
 none_name = 110 ∷ 111 ∷ 110 ∷ 101 ∷ []
 
--- the name has 1 to 64 bytes
-pub record IsNamed (row : Row) : Type 0 where
-  pub some : 0 < length row.name
-  pub short : length row.name ≤ 64
-
--- each row has a name of its own
+-- each row has a legal user name of its own
 pub record AreNamed (rows : List Row) : Type 0 where
-  pub each : All IsNamed rows
+  pub legal : All (λ row. IsUserName row.name) rows
   pub distinct : AllPairs (λ row later. row.name ≢ later.name) rows

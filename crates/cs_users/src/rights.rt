@@ -1,6 +1,6 @@
 //! What a user may do with a file.
-ghost use Rattle.std.specs.Prelude.{◌≡◌, ◌≤◌};
-ghost use Rattle.cs_users.specs.Rights.{allows, bit_of, has_bit, has_right, owns};
+ghost use Rattle.std.specs.Prelude.{◌≡◌, ◌≤◌, ◌↔◌, IsTrue};
+ghost use Rattle.cs_users.specs.Rights.{HasRight, Owns, bit_of, has_bit, has_right, owns};
 
 use crate::users::{Users, is_none};
 
@@ -38,24 +38,15 @@ pub fn has_bit(mode: u32, mask: u32) -> bool
 
 /// Whether the user owns a file of this owner: `none` owns nothing.
 pub fn owns(user: &[u8], owner: &[u8]) -> bool
-    ensures { result ≡ owns user.now owner.now }
+    ensures test { result ≡ owns user.now owner.now }
+    ensures owner { IsTrue result ↔ Owns user.now owner.now }
 {
     user == owner && !is_none(user)
 }
 
-/// Whether others, or the owner, or the group have the bit.
-fn allows(mode: u32, is_owner: bool, is_member: bool, bit: u32) -> bool
-    requires { bit ≤ 4 }
-    ensures { result ≡ allows mode is_owner is_member bit }
-{
-    has_bit(mode, bit)
-        || (is_owner && has_bit(mode, bit * 64))
-        || (is_member && has_bit(mode, bit * 8))
-}
-
 /// Whether the user has the right on a file of this owner, group and mode: by the bits of others, by
 /// the owner's where the user owns the file, or by the group's where the user is a member of its
-/// group. So `none` has others' bits alone.
+/// group. So `none` has others' bits alone. The group is asked for only where its bit decides.
 pub fn has_right(
     users: &Users,
     user: &[u8],
@@ -64,8 +55,11 @@ pub fn has_right(
     mode: u32,
     right: Right,
 ) -> bool
-    ensures { result ≡ has_right users.now user.now owner.now group.now mode right }
+    ensures test { result ≡ has_right users.now user.now owner.now group.now mode right }
+    ensures right { IsTrue result ↔ HasRight users.now user.now owner.now group.now mode right }
 {
-    let is_owner = owns(user, owner);
-    allows(mode, is_owner, users.is_member(user, group), right.bit())
+    let bit = right.bit();
+    has_bit(mode, bit)
+        || (has_bit(mode, bit * 64) && owns(user, owner))
+        || (has_bit(mode, bit * 8) && users.is_member(user, group))
 }

@@ -1,14 +1,14 @@
 //! A line of the users file, as it stands there and as it is kept.
-ghost use Rattle.std.specs.Prelude.{◌≡◌, ◌&&◌, [], IfOk};
+ghost use Rattle.std.specs.Prelude.{◌≡◌, IfOk};
 ghost use Rattle.std.specs.List.{list_any};
 ghost use Rattle.std.specs.Option.{option_map};
+ghost use Rattle.cs_names.specs.Legal.{IsUserName};
 ghost use Rattle.cs_names.specs.Pieces.{pieces};
 ghost use Rattle.cs_users.specs.Fields.{row_of};
 ghost use Rattle.cs_users.specs.Members.{same_name};
 ghost use Rattle.cs_users.specs.Reading.{is_skipped, row_in, row_of_fields};
 
-use crate::text::Text;
-use cs_names::Pieces;
+use cs_names::{NameFault, Pieces, UserName};
 use std::alloc::{AllocError, Global};
 use std::marker::Model;
 
@@ -21,21 +21,22 @@ pub(crate) struct Fields<'a> {
     members: &'a [u8],
 }
 
-/// A line that is kept.
+/// A line that is kept. The members stay one text, with their commas.
 #[derive(Debug, Drop)]
 pub(crate) struct Row {
-    id: Text,
-    name: Text,
-    leader: Text,
-    members: Vec<Text>,
+    id: Vec<u8>,
+    name: UserName,
+    leader: Vec<u8>,
+    members: Vec<u8>,
 }
 
 impl Model for Row {
+    ghost use Rattle.cs_names.specs.Pieces.{pieces};
     ghost use Rattle.cs_users.specs.Rows.{Row};
 
     ghost Value = { Row };
 
-    ghost view = { λ row. record { id = row.id; name = row.name; leader = row.leader; members = row.members.items } };
+    ghost view = { λ row. record { id = row.id.items; name = row.name; leader = row.leader.items; members = pieces 44 row.members.items } };
 }
 
 /// Whether the line is empty or begins with `#`.
@@ -72,50 +73,47 @@ pub(crate) fn fields_of(line: &[u8]) -> Option<Fields<'_>>
     split_fields(line)
 }
 
-/// Keeps the texts that have commas between them.
-fn keep_members(alloc: Global, text: &[u8]) -> Result<Vec<Text>, AllocError>
-    ensures { IfOk result (λ members. members.items ≡ pieces 44 text.now) }
+/// Keeps a name that is legal, so that nothing but memory can be wanting.
+fn keep_name(alloc: Global, name: &[u8]) -> Result<UserName, AllocError>
+    requires { IsUserName name.now }
+    ensures { IfOk result (λ kept. kept ≡ name.now) }
 {
-    let mut members = Vec::new(alloc);
-    for member in Pieces::of(text, b',') {
-        members.push(Text::new(alloc, member)?)?;
+    match UserName::read(alloc, name) {
+        Ok(name) => Ok(name),
+        Err(NameFault::Memory) => Err(AllocError),
+        Err(_) => unreachable!(),
     }
-    Ok(members)
-}
-
-fn has_text(texts: &[Text], bytes: &[u8]) -> bool
-    ensures { result ≡ list_any (λ text. same_name text bytes.now) texts.now }
-{
-    texts.iter().any(|text| text.is(bytes))
 }
 
 impl Row {
     pub(crate) fn keep(alloc: Global, fields: &Fields) -> Result<Row, AllocError>
+        requires { IsUserName fields.now.name.now }
         ensures { IfOk result (λ row. row ≡ row_of fields.now) }
     {
         Ok(Row {
-            id: Text::new(alloc, fields.id)?,
-            name: Text::new(alloc, fields.name)?,
-            leader: Text::new(alloc, fields.leader)?,
-            members: keep_members(alloc, fields.members)?,
+            id: Vec::from_slice(alloc, fields.id)?,
+            name: keep_name(alloc, fields.name)?,
+            leader: Vec::from_slice(alloc, fields.leader)?,
+            members: Vec::from_slice(alloc, fields.members)?,
         })
     }
 
-    pub(crate) fn is_named(&self, name: &[u8]) -> bool
-        ensures { result ≡ same_name self.now.name name.now }
+    pub(crate) fn name(&self) -> &[u8]
+        ensures value { result.now ≡ self.now.name }
+        ensures legal { IsUserName self.now.name }
     {
-        self.name.is(name)
+        self.name.as_bytes()
     }
 
     pub(crate) fn is_led_by(&self, leader: &[u8]) -> bool
         ensures { result ≡ same_name self.now.leader leader.now }
     {
-        self.leader.is(leader)
+        self.leader.as_slice() == leader
     }
 
     pub(crate) fn lists(&self, user: &[u8]) -> bool
         ensures { result ≡ list_any (λ member. same_name member user.now) self.now.members }
     {
-        has_text(&self.members, user)
+        Pieces::of(self.members.as_slice(), b',').any(|member| member == user)
     }
 }

@@ -1,4 +1,3 @@
-pub mod Checked
 pub mod Fields
 pub mod Loop
 pub mod Messages

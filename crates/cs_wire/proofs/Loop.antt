@@ -2,10 +2,8 @@
 use Rattle.std.proofs.Common.{◌≡◌, ℕ, suc, ◌-◌, ◌+◌, ◌≤◌, ◌<◌, List, [], ◌∷◌, ◌++◌, Result, Ok, Err, refl, sym, ap, ◌∙◌, append_assoc, arith}
 use Rattle.std.proofs.lemmas.List.{append-nil}
 use Rattle.cs_wire.specs.declared.fault.WireFault.{WireFault}
-use Rattle.cs_wire.specs.declared.fault.WireFault.TheVariants as faults
 use Rattle.cs_wire.specs.Reading.{◌>>=◌, times_at}
-use Rattle.cs_wire.specs.Checking.{after_times}
-use Rattle.cs_wire.specs.Answers.{Fails}
+use Rattle.cs_wire.specs.Answers.{IsFault}
 
 abbrev pub Reader : Type 0 → Type 0
 Reader A = List ℕ → Result (A × List ℕ) WireFault
@@ -34,18 +32,9 @@ fails_first {A} read front count i bytes e total lt h so_far =
     let one : with_front front (times_at read (count - i) bytes) ≡ Err e = rw (k, h) refl in
     sym so_far ∙ one
 
-pub ends : {A : Type 0} (read : Reader A) (e : WireFault) (front : List A) (count i : ℕ) (bytes : List ℕ) (total : Result (List A × List ℕ) WireFault) → i < count → Fails e (read bytes)
-    → with_front front (times_at read (count - i) bytes) ≡ total → Fails e total
-ends read faults.Memory front count i bytes total lt h so_far = tt
-ends read e front count i bytes total lt h so_far = fails_first read front count i bytes e total lt h so_far
-
-fails_as : {Y : Type 0} (e : WireFault) (read : Result Y WireFault) → read ≡ Err e → Fails e read
-fails_as faults.Memory read h = tt
-fails_as e read h = h
-
-pub ends_so : {A : Type 0} (read : Reader A) (e : WireFault) (front : List A) (count i : ℕ) (bytes : List ℕ) (total : Result (List A × List ℕ) WireFault) → i < count → read bytes ≡ Err e
-    → with_front front (times_at read (count - i) bytes) ≡ total → Fails e total
-ends_so read e front count i bytes total lt h so_far = fails_as e total (fails_first read front count i bytes e total lt h so_far)
+pub ends : {A : Type 0} (read : Reader A) (e : WireFault) (front : List A) (count i : ℕ) (bytes : List ℕ) (total : Result (List A × List ℕ) WireFault) → i < count → IsFault e (read bytes)
+    → with_front front (times_at read (count - i) bytes) ≡ total → IsFault e total
+ends read e front count i bytes total lt h so_far = (fails_first read front count i bytes e total lt h.0 so_far, h.1)
 
 pub is_done : {A : Type 0} (read : Reader A) (front : List A) (count i : ℕ) (bytes : List ℕ) (total : Result (List A × List ℕ) WireFault) → count ≤ i → with_front front (times_at read (count - i) bytes) ≡ total → total ≡ Ok (front, bytes)
 unfolding times_at
@@ -53,16 +42,3 @@ is_done {A} read front count i bytes total le so_far =
     let k : count - i ≡ 0 = omega arith in
     let one : with_front front (times_at read (count - i) bytes) ≡ Ok (front, bytes) = rw k (ap (λ (ns : List A). Ok (ns, bytes)) (append-nil front)) in
     sym so_far ∙ one
-
--- the same, where nothing is kept
-pub after_more : (step : List ℕ → Result (List ℕ) WireFault) (count i : ℕ) (bytes : List ℕ) → i < count → after_times step (count - i) bytes ≡ (step bytes >>= after_times step (count - (i + 1)))
-unfolding after_times
-after_more step count i bytes lt =
-    let k : count - i ≡ suc (count - (i + 1)) = omega arith in
-    rw k refl
-
-pub after_all : (step : List ℕ → Result (List ℕ) WireFault) (count i : ℕ) (bytes : List ℕ) → count ≤ i → after_times step (count - i) bytes ≡ Ok bytes
-unfolding after_times
-after_all step count i bytes le =
-    let k : count - i ≡ 0 = omega arith in
-    rw k refl

@@ -1,6 +1,6 @@
 -- What is read is spelled so, what is spelled so is read, and no spelling begins another.
 use Rattle.std.proofs.Common.{◌≡◌, ℕ, ◌+◌, ◌^◌, ◌<◌, Bool, true, false, cond, eqb, ltb, Option, Some, None, List, [], ◌++◌, length, take, drop, Result, Ok, Err, refl, sym, ap, subst, ◌∙◌, append_assoc, arith}
-use Rattle.std.specs.Prelude.{IfOk}
+use Rattle.std.specs.Prelude.{IfOk, IsOk, IsErrOf}
 use Rattle.std.specs.Int.{w8, w16, w32, to_le_bytes}
 use Rattle.std.proofs.lemmas.Bool.{le-ltb, eqb-true, eq-eqb}
 use Rattle.std.proofs.lemmas.List.{take_at, drop_at, length-append, append-nil}
@@ -12,8 +12,8 @@ use Rattle.cs_wire.specs.declared.kind.RKind.{RKind}
 use Rattle.cs_wire.specs.declared.kind.RKind.TheVariants as rk
 use Rattle.cs_wire.specs.Fields.{spelled}
 use Rattle.cs_wire.specs.Messages.{Side, Message, IsMessage, fields_of, FieldsFit, spelling, requests, replies, t_number, t_kind_of, r_number, r_kind_of}
-use Rattle.cs_wire.specs.Reading.{◌>>=◌, number_at, whole, field_at, header_at, known, message_at, message_of}
-use Rattle.cs_wire.specs.Answers.{Gives}
+use Rattle.cs_wire.specs.Reading.{◌>>=◌, number_at, whole, field_at, header_at, known, body_of, message_at, message_of}
+use Rattle.cs_wire.specs.Answers.{Decodes, Gives}
 use Rattle.cs_wire.proofs.Numbers.{IsBytes, bind_ok, guard_ok, test_ok, ok_is, whole_ok, Took-then, wide8, wide16, wide32, number_takes, number_again}
 use Rattle.cs_wire.proofs.Fields.{field_takes, field_again}
 
@@ -72,7 +72,7 @@ known_ok (Some x) k e = ap Some (ok_is x k e)
 known_ok None k e = absurd cc
 
 pub message_takes : {K : Type 0} (side : Side K) → IsSide side → (bytes : List ℕ) (m : Message side) → IsBytes bytes → message_of side bytes ≡ Ok m → IsMessage m × (bytes ≡ spelling m)
-unfolding message_of message_at spelling fields_of FieldsFit
+unfolding message_of body_of message_at spelling fields_of FieldsFit
 message_takes {K} side lawful bytes m fits e =
     let a = bind_ok (header_at bytes) (λ header. known (side.kind_of header.0) >>= λ kind. whole (message_at side kind header.1 header.2)) m e in
     let b = bind_ok (known (side.kind_of a.0.0)) (λ kind. whole (message_at side kind a.0.1 a.0.2)) m a.2 in
@@ -93,7 +93,7 @@ message_takes {K} side lawful bytes m fits e =
     subst (λ (v : Message side). IsMessage v × (bytes ≡ spelling v)) (ap (λ (p : Message side × List ℕ). p.0) same) (good, spells)
 
 pub message_again : {K : Type 0} (side : Side K) → IsSide side → (m : Message side) → IsMessage m → message_of side (spelling m) ≡ Ok m
-unfolding message_of message_at spelling fields_of FieldsFit
+unfolding message_of body_of message_at spelling fields_of FieldsFit
 message_again {K} side lawful m fits =
     let fields : List ℕ = spelled (side.layout m.kind) m.fields in
     let len = spelling_len m in
@@ -172,6 +172,20 @@ r_only n = chosen r_number n rk.Version (chosen r_number n rk.Auth (chosen r_num
 pub replies_lawful : IsSide replies
 replies_lawful = record { below = r_below; again = r_again; only = r_only }
 
-pub is_found : {K M : Type 0} (side : Side K) → IsSide side → (view : M → Message side) (bytes : List ℕ) (r : Result M WireFault) → IsBytes bytes → Gives view r (message_of side bytes) → IfOk r (λ v. IsMessage (view v) × (bytes ≡ spelling (view v)))
+-- ---- what a decoder answers
+
+pub is_found : {K M : Type 0} (side : Side K) → IsSide side → (view : M → Message side) (bytes : List ℕ) (r : Result M WireFault) → IsBytes bytes → Decodes view r (message_of side bytes) → IfOk r (λ v. IsMessage (view v) × (bytes ≡ spelling (view v)))
 is_found side lawful view bytes (Ok v) fits given = message_takes side lawful bytes (view v) fits given
 is_found side lawful view bytes (Err e) fits given = tt
+
+pub gives_so : {X Y : Type 0} (view : X → Y) (r : Result X WireFault) (read : Result Y WireFault) → Decodes view r read → Gives view r read
+gives_so view (Ok x) read given = given
+gives_so view (Err faults.Memory) read given = tt
+gives_so view (Err e) read given = given.0 (λ same. absurd cc)
+
+pub memory_last : {X Y : Type 0} (view : X → Y) (r : Result X WireFault) (read : Result Y WireFault) → Decodes view r read → IsErrOf r faults.Memory → IsOk read
+memory_last view (Ok x) read given memory = absurd cc
+memory_last view (Err e) read given memory = given.1 (cc memory)
+
+pub is_read : {K M : Type 0} (side : Side K) → IsSide side → (view : M → Message side) (bytes : List ℕ) (r : Result M WireFault) → Decodes view r (message_of side bytes) → (m : Message side) → IsMessage m → bytes ≡ spelling m → Gives view r (Ok m)
+is_read side lawful view bytes r given m fits spelled_so = subst (λ read. Gives view r read) (ap (message_of side) spelled_so ∙ message_again side lawful m fits) (gives_so view r (message_of side bytes) given)

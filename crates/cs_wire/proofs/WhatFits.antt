@@ -5,12 +5,12 @@ use Rattle.std.proofs.lemmas.Bool.{le-leb, leb-true}
 use Rattle.cs_wire.specs.declared.message.TMessage.{TMessage}
 use Rattle.cs_wire.specs.declared.message.TBody.{TBody}
 use Rattle.cs_wire.specs.declared.message.TBody.TheVariants as t
-use Rattle.cs_wire.specs.declared.message.Stat.{Stat}
+use Rattle.cs_wire.specs.declared.stat.StatRef.{StatRef}
 use Rattle.cs_wire.specs.declared.message.RMessage.{RMessage}
 use Rattle.cs_wire.specs.declared.message.RBody.{RBody}
 use Rattle.cs_wire.specs.declared.message.RBody.TheVariants as r
 use Rattle.cs_wire.specs.Fields.{One, Two, Four, Text, Boxed, ◌▸◌, Value, spelled, IsIn, plus, entry_size, size_of}
-use Rattle.cs_wire.specs.Messages.{Side, Message, stat_shape, stat_of, users_of, stat_entry, IsEntry, fields_of, FieldsFit, spelling, Fits, t_view, r_view}
+use Rattle.cs_wire.specs.Messages.{Side, Message, stat_shape, stat_in, users_in, stat_entry, IsEntry, fields_of, FieldsFit, spelling, Fits, t_view, r_view}
 use Rattle.cs_wire.specs.Bodies.{request_number, request_bytes, request_size, RequestFits, reply_number, reply_bytes, reply_size, ReplyFits}
 use Rattle.cs_wire.proofs.Sizes.{size_some, size_only, number_some, entry_len, plus_some, plus_parts}
 use Rattle.cs_wire.proofs.Messages.{spelling_len}
@@ -111,11 +111,11 @@ pub entry_size_is : (v : Value stat_shape) → length (stat_entry v) ≡ length 
 unfolding stat_entry
 entry_size_is v = entry_len (spelled stat_shape v)
 
-pub stat_len : (s : Stat) → length (spelled stat_shape (stat_of s)) ≡ 39 + length (spelled (Text ▸ Text ▸ Text ▸ Text) (users_of s))
+pub stat_len : (s : StatRef) → length (spelled stat_shape (stat_in s)) ≡ 39 + length (spelled (Text ▸ Text ▸ Text ▸ Text) (users_in s))
 unfolding spelled
 stat_len s = omega arith
 
-pub users_fit : (s : Stat) → IsEntry (stat_of s) → IsIn (Text ▸ Text ▸ Text ▸ Text) (users_of s)
+pub users_fit : (s : StatRef) → IsEntry (stat_in s) → IsIn (Text ▸ Text ▸ Text ▸ Text) (users_in s)
 unfolding IsEntry
 users_fit s fits = fits.0.1.1.1.1.1.1.1
 

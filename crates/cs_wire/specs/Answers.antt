@@ -1,17 +1,30 @@
 -- What calls that read answer.
-use Rattle.std.specs.Prelude.{◌≡◌, List, ℕ, Result, Ok, Err}
+use Rattle.std.specs.Prelude.{◌≡◌, ◌≢◌, List, ℕ, Result, Ok, Err, IsOk}
 use Rattle.cs_wire.specs.declared.fault.WireFault.{WireFault}
 use Rattle.cs_wire.specs.declared.fault.WireFault.TheVariants as faults
+
+-- the fault is the first one of reading, which is never want of memory
+abbrev pub IsFault : {Y : Type 0} → WireFault → Result Y WireFault → Type 0
+IsFault e read = (read ≡ Err e) × (e ≢ faults.Memory)
 
 -- what a call answered, seen by view, is what reading gives
 abbrev pub Finds : {X Y : Type 0} → (X → Y) → Result X WireFault → Result Y WireFault → Type 0
 Finds view (Ok x) read = read ≡ Ok (view x)
-Finds view (Err e) read = read ≡ Err e
+Finds view (Err e) read = IsFault e read
 
 -- likewise, where the call leaves this rest of the bytes
 abbrev pub FindsFront : {X Y : Type 0} → (X → Y) → Result X WireFault → List ℕ → Result (Y × List ℕ) WireFault → Type 0
 FindsFront view (Ok x) rest read = read ≡ Ok (view x, rest)
-FindsFront view (Err e) rest read = read ≡ Err e
+FindsFront view (Err e) rest read = IsFault e read
+
+-- the fault is the first one of reading; memory ran out only where reading finds none
+abbrev pub FailsLast : {Y : Type 0} → WireFault → Result Y WireFault → Type 0
+FailsLast e read = (e ≢ faults.Memory → read ≡ Err e) × (e ≡ faults.Memory → IsOk read)
+
+-- what a call answered, seen by view, is what reading gives, and want of memory comes last
+abbrev pub Decodes : {X Y : Type 0} → (X → Y) → Result X WireFault → Result Y WireFault → Type 0
+Decodes view (Ok x) read = read ≡ Ok (view x)
+Decodes view (Err e) read = FailsLast e read
 
 -- the fault is the first one of reading, unless memory ran out
 abbrev pub Fails : {Y : Type 0} → WireFault → Result Y WireFault → Type 0
@@ -22,8 +35,3 @@ Fails e read = read ≡ Err e
 abbrev pub Gives : {X Y : Type 0} → (X → Y) → Result X WireFault → Result Y WireFault → Type 0
 Gives view (Ok x) read = read ≡ Ok (view x)
 Gives view (Err e) read = Fails e read
-
--- likewise, where the call leaves this rest of the bytes
-abbrev pub Takes : {X Y : Type 0} → (X → Y) → Result X WireFault → List ℕ → Result (Y × List ℕ) WireFault → Type 0
-Takes view (Ok x) rest read = read ≡ Ok (view x, rest)
-Takes view (Err e) rest read = Fails e read

@@ -1,8 +1,9 @@
 -- The fields of messages: what each holds, and its one spelling.
-use Rattle.std.specs.Prelude.{ℕ, ◌<◌, ◌≤◌, ◌+◌, ◌^◌, ◌≡◌, Bool, true, not, ◌&&◌, ◌==◌, nat_lt, if◌then◌else◌, Option, Some, None, List, [], ◌∷◌, ◌++◌, length}
+use Rattle.std.specs.Prelude.{ℕ, ◌<◌, ◌≤◌, ◌+◌, ◌^◌, ◌≡◌, Bool, true, false, not, ◌&&◌, ◌||◌, ◌==◌, nat_lt, if◌then◌else◌, Option, Some, None, List, [], ◌∷◌, ◌++◌, length}
 use Rattle.std.specs.List.{flat_map, list_any, AllByRecursion}
 use Rattle.std.specs.Int.{w8, w16, w32, w64, to_le_bytes}
 use Rattle.std.specs.Str.{is_utf8}
+use Rattle.cs_names.specs.declared.limits.TheConstants.{WALK_NAMES}
 
 infixr 20 ◌▸◌
 -- What stands in a message: a field, or fields in a row.
@@ -18,7 +19,7 @@ pub data Shape : Type 0 where
   Text : Shape
   -- four bytes of length, and that many bytes
   Raw : Shape
-  -- a count of two bytes, at most 16, and that many
+  -- a count of two bytes, at most as many as a walk can have, and that many
   Several : Shape → Shape
   -- two bytes of length, and an entry of that length
   Boxed : Shape → Shape
@@ -37,6 +38,15 @@ Value Raw = List ℕ
 Value (Several s) = List (Value s)
 Value (Boxed s) = Value s
 Value (s ▸ t) = Value s × Value t
+
+-- what the field holds is bytes, or a list of values
+abbrev pub holds_bytes : Shape → Bool
+holds_bytes Text = true
+holds_bytes Raw = true
+holds_bytes (Several s) = true
+holds_bytes (Boxed s) = holds_bytes s
+holds_bytes (s ▸ t) = holds_bytes s || holds_bytes t
+holds_bytes number = false
 
 -- valid UTF-8 without NUL
 unfoldable pub is_text : List ℕ → Bool
@@ -68,7 +78,7 @@ IsIn Four v = v < 2 ^ 32
 IsIn Eight v = v < 2 ^ 64
 IsIn Text v = (length v < 2 ^ 16) × (is_text v ≡ true)
 IsIn Raw v = length v < 2 ^ 32
-IsIn (Several s) v = (length v ≤ 16) × AllByRecursion (IsIn s) v
+IsIn (Several s) v = (length v ≤ WALK_NAMES) × AllByRecursion (IsIn s) v
 IsIn (Boxed s) v = IsIn s v × (length (entry (spelled s v)) < 2 ^ 16)
 IsIn (s ▸ t) v = IsIn s v.0 × IsIn t v.1
 
@@ -101,6 +111,6 @@ size_of Four v = provided (nat_lt v (2 ^ 32)) 4
 size_of Eight v = provided (nat_lt v (2 ^ 64)) 8
 size_of Text v = provided (nat_lt (length v) (2 ^ 16) && is_text v) (length v + 2)
 size_of Raw v = provided (nat_lt (length v) (2 ^ 32)) (length v + 4)
-size_of (Several s) v = if nat_lt 16 (length v) then None else plus (Some 2) (sizes_of (size_of s) v)
+size_of (Several s) v = if nat_lt WALK_NAMES (length v) then None else plus (Some 2) (sizes_of (size_of s) v)
 size_of (Boxed s) v = plus (Some 2) (entry_size (size_of s v))
 size_of (s ▸ t) v = plus (size_of s v.0) (size_of t v.1)

@@ -1,6 +1,6 @@
 pub mod Answers
 pub mod Bodies
-pub mod Checking
+pub mod Few
 pub mod Fields
 pub mod Messages
 pub mod Reading

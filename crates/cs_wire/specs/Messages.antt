@@ -1,10 +1,13 @@
 -- The messages: the number of each type, its fields, and the one spelling of a message.
-use Rattle.std.specs.Prelude.{ℕ, ◌<◌, ◌≤◌, ◌+◌, ◌^◌, ◌==◌, ◌||◌, Bool, if◌then◌else◌, Option, Some, None, List, ◌++◌, length, map}
+use Rattle.std.specs.Prelude.{ℕ, ◌<◌, ◌≤◌, ◌+◌, ◌^◌, ◌==◌, Bool, false, if◌then◌else◌, Option, Some, None, List, ◌++◌, length, map}
 use Rattle.std.specs.Int.{w8, w16, w32, to_le_bytes}
 use Rattle.std.specs.Prelude.{String}
 use Rattle.std.specs.String.{string_bytes}
 use Rattle.std.specs.Cow.{cow_str_bytes}
 use Rattle.std.specs.Global.{Global}
+use Rattle.std.specs.Borrow.{Bor}
+use Rattle.std.specs.Option.{option_map_or}
+use Rattle.cs_names.specs.declared.limits.TheConstants.{MESSAGE_BYTES}
 use Rattle.cs_wire.specs.declared.kind.TKind.{TKind}
 use Rattle.cs_wire.specs.declared.kind.TKind.TheVariants as tk
 use Rattle.cs_wire.specs.declared.kind.RKind.{RKind}
@@ -17,7 +20,8 @@ use Rattle.cs_wire.specs.declared.message.RBody.{RBody}
 use Rattle.cs_wire.specs.declared.message.RBody.TheVariants as r
 use Rattle.cs_wire.specs.declared.message.Qid.{Qid}
 use Rattle.cs_wire.specs.declared.message.Stat.{Stat}
-use Rattle.cs_wire.specs.Fields.{Shape, Nothing, One, Two, Four, Eight, Text, Raw, Several, Boxed, ◌▸◌, Value, spelled, IsIn, entry}
+use Rattle.cs_wire.specs.declared.stat.StatRef.{StatRef}
+use Rattle.cs_wire.specs.Fields.{Shape, Nothing, One, Two, Four, Eight, Text, Raw, Several, Boxed, ◌▸◌, Value, spelled, IsIn, entry, holds_bytes}
 
 -- the number of a type of a client's message
 abbrev pub t_number : TKind → ℕ
@@ -35,10 +39,6 @@ t_number tk.Stat = 124
 unfoldable pub t_kind_of : ℕ → Option TKind
 t_kind_of n =
     if n == 100 then Some tk.Version else if n == 102 then Some tk.Auth else if n == 104 then Some tk.Attach else if n == 108 then Some tk.Flush else if n == 110 then Some tk.Walk else if n == 112 then Some tk.Open else if n == 116 then Some tk.Read else if n == 120 then Some tk.Clunk else if n == 124 then Some tk.Stat else None
-
--- the types of a client's message that hold a text: Tversion, Tauth, Tattach and Twalk
-abbrev pub has_text_type : ℕ → Bool
-has_text_type n = n == 100 || n == 102 || n == 104 || n == 110
 
 -- the number of a type of reply
 abbrev pub r_number : RKind → ℕ
@@ -105,6 +105,10 @@ requests = record { number = t_number; kind_of = t_kind_of; layout = t_layout }
 abbrev pub replies : Side RKind
 replies = record { number = r_number; kind_of = r_kind_of; layout = r_layout }
 
+-- a message of the type with that number has a field that takes memory where it is copied
+abbrev pub takes_memory : {Kind : Type 0} → Side Kind → ℕ → Bool
+takes_memory side n = option_map_or (λ kind. holds_bytes (side.layout kind)) (side.kind_of n) false
+
 -- A message without where it lies in memory: its type, its tag, and what its fields hold.
 pub record Message {Kind : Type 0} (side : Side Kind) : Type 0 where
   pub kind : Kind
@@ -129,26 +133,34 @@ pub record IsMessage {Kind : Type 0} {side : Side Kind} (m : Message side) : Typ
   pub fields_fit : FieldsFit m
   pub size_fits : length (spelling m) < 2 ^ 32
 
--- what has a spelling of at most 65,536 bytes
+-- what has a spelling that is no longer than a message may be
 pub record Fits {Kind : Type 0} {side : Side Kind} (m : Message side) : Type 0 where
   pub is_message : IsMessage m
-  pub is_small : length (spelling m) ≤ 65536
+  pub is_small : length (spelling m) ≤ MESSAGE_BYTES
 
 -- a qid as its three fields
 abbrev pub qid_of : Qid → Value qid_shape
 qid_of q = (q.kind, (q.vers, q.path))
 
--- the texts of a stat
-abbrev pub users_of : Stat → Value (Text ▸ Text ▸ Text ▸ Text)
-users_of s = (string_bytes s.name, (string_bytes s.uid, (string_bytes s.gid, string_bytes s.muid)))
-
 -- a stat as its fields
 abbrev pub stat_of : Stat → Value stat_shape
-stat_of s = (s.kind, (s.dev, (qid_of s.qid, (s.mode, (s.atime, (s.mtime, (s.length, users_of s)))))))
+stat_of s = (s.kind, (s.dev, (qid_of s.qid, (s.mode, (s.atime, (s.mtime, (s.length, (string_bytes s.name, (string_bytes s.uid, (string_bytes s.gid, string_bytes s.muid))))))))))
 
 -- texts without where they lie in memory
 abbrev pub names_of : List (String Global) → List (List ℕ)
 names_of names = map string_bytes names
+
+-- likewise, where the texts are borrowed
+abbrev pub texts_in : List (Bor (List ℕ)) → List (List ℕ)
+texts_in texts = map (λ text. text.now) texts
+
+-- the texts of a borrowed stat
+abbrev pub users_in : StatRef → Value (Text ▸ Text ▸ Text ▸ Text)
+users_in s = (s.name.now, (s.uid.now, (s.gid.now, s.muid.now)))
+
+-- a borrowed stat as its fields
+abbrev pub stat_in : StatRef → Value stat_shape
+stat_in s = (s.kind, (s.dev, (qid_of s.qid, (s.mode, (s.atime, (s.mtime, (s.length, users_in s)))))))
 
 -- The bytes of a stat entry (stat(5)): its size, which doesn't count itself, and its fields.
 unfoldable pub stat_entry : Value stat_shape → List ℕ

@@ -1,6 +1,7 @@
 -- Reading from left to right, with the first fault that is met.
 use Rattle.std.specs.Prelude.{ℕ, zero, suc, List, [], ◌∷◌, length, take, drop, Option, Some, None, Result, Ok, Err, nat_lt, ◌==◌, if◌then◌else◌}
 use Rattle.std.specs.Int.{Width, w8, w16, w32, w64, byte_len, from_le_bytes}
+use Rattle.cs_names.specs.declared.limits.TheConstants.{WALK_NAMES}
 use Rattle.cs_wire.specs.declared.fault.WireFault.{WireFault}
 use Rattle.cs_wire.specs.declared.fault.WireFault.TheVariants.{Short, SizeLies, UnknownType, BadText, TooManyNames, Trailing}
 use Rattle.cs_wire.specs.Fields.{Shape, Nothing, One, Two, Four, Eight, Text, Raw, Several, Boxed, ◌▸◌, Value, is_text}
@@ -47,7 +48,11 @@ times_at read (suc n) bytes = do
 unfoldable pub several_at : {A : Type 0} → (List ℕ → Result (A × List ℕ) WireFault) → List ℕ → Result (List A × List ℕ) WireFault
 several_at read bytes = do
   count ← number_at w16 bytes
-  if nat_lt 16 count.0 then Err TooManyNames else times_at read count.0 count.1
+  if nat_lt WALK_NAMES count.0 then Err TooManyNames else times_at read count.0 count.1
+
+-- that no byte is left
+abbrev pub end_at : List ℕ → Result (Unit {0}) WireFault
+end_at bytes = if length bytes == 0 then Ok tt else Err Trailing
 
 -- what was read, if no byte is left
 abbrev pub whole : {A : Type 0} → Result (A × List ℕ) WireFault → Result A WireFault
@@ -113,9 +118,14 @@ message_at side kind tag bytes = do
   fields ← field_at (side.layout kind) bytes
   Ok (record { kind = kind; tag = tag; fields = fields.0 }, fields.1)
 
+-- a message of the type with that number and that tag, whose fields are all of the bytes
+unfoldable pub body_of : {K : Type 0} → (side : Side K) → ℕ → ℕ → List ℕ → Result (Message side) WireFault
+body_of side number tag bytes = do
+  kind ← known (side.kind_of number)
+  whole (message_at side kind tag bytes)
+
 -- the message that all of the bytes are, or the first fault
 unfoldable pub message_of : {K : Type 0} → (side : Side K) → List ℕ → Result (Message side) WireFault
 message_of side bytes = do
   header ← header_at bytes
-  kind ← known (side.kind_of header.0)
-  whole (message_at side kind header.1 header.2)
+  body_of side header.0 header.1 header.2

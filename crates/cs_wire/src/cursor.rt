@@ -1,19 +1,19 @@
-//! What is left of a message's bytes: each call takes one field from the front.
+//! What is left of a message's bytes: each call takes one field from the front, and no memory.
 
-ghost use Rattle.std.specs.Prelude.{◌≡◌, ◌==◌, map, IfSome, IfNone, IfErr, true, false};
+ghost use Rattle.std.specs.Prelude.{◌≡◌, ◌≤◌, ◌==◌, map, IfSome, IfNone, true, false};
 ghost use Rattle.std.specs.Int.{w8, w16, w32, w64};
-ghost use Rattle.std.specs.String.{string_bytes};
 ghost use Rattle.std.specs.List.{list_any};
-ghost use Rattle.cs_wire.specs.declared.fault.WireFault.TheVariants.{Short};
+ghost use Rattle.cs_wire.specs.Few.{items_of};
 ghost use Rattle.cs_wire.specs.Fields.{is_text, Text};
-ghost use Rattle.cs_wire.specs.Messages.{qid_of, names_of, qid_shape};
-ghost use Rattle.cs_wire.specs.Reading.{front_at, number_at, raw_at, times_at, several_at, field_at};
-ghost use Rattle.cs_wire.specs.Answers.{FindsFront, Takes};
+ghost use Rattle.cs_wire.specs.Messages.{qid_of, qid_shape, stat_in, stat_shape, texts_in};
+ghost use Rattle.cs_wire.specs.Reading.{end_at, front_at, number_at, raw_at, times_at, several_at, sized_in, entry_in, boxed_at, field_at};
+ghost use Rattle.cs_wire.specs.Answers.{Finds, FindsFront};
 
 use crate::fault::WireFault;
+use crate::few::Few;
 use crate::message::Qid;
+use crate::stat::StatRef;
 use cs_names::limits::WALK_NAMES;
-use std::alloc::Global;
 
 /// The bytes that no field has taken so far.
 #[derive(Drop)]
@@ -28,7 +28,7 @@ pub(crate) fn has_nul(bytes: &[u8]) -> bool
 }
 
 /// Valid UTF-8 without NUL.
-pub(crate) fn as_text(bytes: &[u8]) -> Option<&str>
+fn as_text(bytes: &[u8]) -> Option<&str>
     ensures some { IfSome result (λ s. (s.now ≡ bytes.now) × (is_text bytes.now ≡ true)) }
     ensures none { IfNone result (is_text bytes.now ≡ false) }
 {
@@ -38,11 +38,37 @@ pub(crate) fn as_text(bytes: &[u8]) -> Option<&str>
     }
 }
 
+/// The stat whose size and fields fill the bytes.
+#[tactic(auto, unfolding(crate::specs::Reading::sized_in))]
+fn sized(bytes: &[u8]) -> Result<StatRef, WireFault>
+    ensures { Finds stat_in result (sized_in (field_at stat_shape) bytes.now) }
+{
+    let mut cursor = Cursor { rest: bytes };
+    let size = cursor.two()?;
+    if size as usize != cursor.rest.len() {
+        return Err(WireFault::SizeLies);
+    }
+    let stat = cursor.stat_fields()?;
+    if !cursor.rest.is_empty() {
+        return Err(WireFault::Trailing);
+    }
+    Ok(stat)
+}
+
+/// Likewise, where fields that end too early or too late say that the sizes lie.
+fn entry(bytes: &[u8]) -> Result<StatRef, WireFault>
+    ensures { Finds stat_in result (entry_in (field_at stat_shape) bytes.now) }
+{
+    match sized(bytes) {
+        Err(WireFault::Short | WireFault::Trailing) => Err(WireFault::SizeLies),
+        answer => answer,
+    }
+}
+
 impl<'a> Cursor<'a> {
     /// So many bytes.
     pub(crate) fn front(&mut self, count: usize) -> Result<&'a [u8], WireFault>
-        ensures gives { FindsFront (λ x. x.now) result self.new.rest.now (front_at count self.old.rest.now) }
-        ensures short { IfErr result (λ e. e ≡ Short) }
+        ensures { FindsFront (λ x. x.now) result self.new.rest.now (front_at count self.old.rest.now) }
     {
         if self.rest.len() < count {
             return Err(WireFault::Short);
@@ -52,10 +78,19 @@ impl<'a> Cursor<'a> {
         Ok(front)
     }
 
+    /// That no byte is left.
+    pub(crate) fn end(&self) -> Result<(), WireFault>
+        ensures { Finds (λ _. tt) result (end_at self.now.rest.now) }
+    {
+        if !self.rest.is_empty() {
+            return Err(WireFault::Trailing);
+        }
+        Ok(())
+    }
+
     /// A number of one byte.
     pub(crate) fn one(&mut self) -> Result<u8, WireFault>
-        ensures gives { FindsFront (λ x. x) result self.new.rest.now (number_at w8 self.old.rest.now) }
-        ensures short { IfErr result (λ e. e ≡ Short) }
+        ensures { FindsFront (λ x. x) result self.new.rest.now (number_at w8 self.old.rest.now) }
     {
         let front = self.front(1)?;
         Ok(u8::from_le_bytes([front[0]]))
@@ -63,8 +98,7 @@ impl<'a> Cursor<'a> {
 
     /// A number of two bytes, the low one first.
     pub(crate) fn two(&mut self) -> Result<u16, WireFault>
-        ensures gives { FindsFront (λ x. x) result self.new.rest.now (number_at w16 self.old.rest.now) }
-        ensures short { IfErr result (λ e. e ≡ Short) }
+        ensures { FindsFront (λ x. x) result self.new.rest.now (number_at w16 self.old.rest.now) }
     {
         let front = self.front(2)?;
         Ok(u16::from_le_bytes([front[0], front[1]]))
@@ -72,35 +106,33 @@ impl<'a> Cursor<'a> {
 
     /// A number of four bytes, the low one first.
     pub(crate) fn four(&mut self) -> Result<u32, WireFault>
-        ensures gives { FindsFront (λ x. x) result self.new.rest.now (number_at w32 self.old.rest.now) }
-        ensures short { IfErr result (λ e. e ≡ Short) }
+        ensures { FindsFront (λ x. x) result self.new.rest.now (number_at w32 self.old.rest.now) }
     {
         let front = self.front(4)?;
         Ok(u32::from_le_bytes([front[0], front[1], front[2], front[3]]))
     }
 
-    /// A text: its length in two bytes, and UTF-8 without NUL.
-    #[tactic(auto, unfolding(crate::specs::Reading::field_at, crate::specs::Reading::text_at))]
-    pub(crate) fn text(&mut self, alloc: Global) -> Result<String, WireFault>
-        ensures { Takes string_bytes result self.new.rest.now (field_at Text self.old.rest.now) }
-    {
-        let count = self.two()?;
-        let front = self.front(count as usize)?;
-        match as_text(front) {
-            None => Err(WireFault::BadText),
-            Some(text) => Ok(String::from_str(alloc, text)?),
-        }
-    }
-
     /// A number of eight bytes, the low one first.
     pub(crate) fn eight(&mut self) -> Result<u64, WireFault>
-        ensures gives { FindsFront (λ x. x) result self.new.rest.now (number_at w64 self.old.rest.now) }
-        ensures short { IfErr result (λ e. e ≡ Short) }
+        ensures { FindsFront (λ x. x) result self.new.rest.now (number_at w64 self.old.rest.now) }
     {
         let front = self.front(8)?;
         Ok(u64::from_le_bytes([
             front[0], front[1], front[2], front[3], front[4], front[5], front[6], front[7],
         ]))
+    }
+
+    /// A text: its length in two bytes, and UTF-8 without NUL.
+    #[tactic(auto, unfolding(crate::specs::Reading::field_at, crate::specs::Reading::text_at))]
+    pub(crate) fn text(&mut self) -> Result<&'a str, WireFault>
+        ensures { FindsFront (λ x. x.now) result self.new.rest.now (field_at Text self.old.rest.now) }
+    {
+        let count = self.two()?;
+        let front = self.front(count as usize)?;
+        match as_text(front) {
+            None => Err(WireFault::BadText),
+            Some(text) => Ok(text),
+        }
     }
 
     /// The 13 bytes of a qid.
@@ -117,57 +149,92 @@ impl<'a> Cursor<'a> {
 
     /// Bytes, after their count in four.
     #[tactic(auto, unfolding(crate::specs::Reading::raw_at))]
-    pub(crate) fn raw(&mut self, alloc: Global) -> Result<Vec<u8>, WireFault>
-        ensures { Takes (λ bytes. bytes.items) result self.new.rest.now (raw_at self.old.rest.now) }
+    pub(crate) fn data(&mut self) -> Result<&'a [u8], WireFault>
+        ensures { FindsFront (λ x. x.now) result self.new.rest.now (raw_at self.old.rest.now) }
     {
         let count = self.four()?;
-        let front = self.front(count as usize)?;
-        Ok(Vec::from_slice(alloc, front)?)
+        self.front(count as usize)
     }
 
-    fn times_text(&mut self, alloc: Global, count: u16) -> Result<Vec<String>, WireFault>
-        ensures { Takes (λ names. names_of names.items) result self.new.rest.now (times_at (field_at Text) count self.old.rest.now) }
+    fn times_text(&mut self, count: u16) -> Result<Few<&'a str>, WireFault>
+        requires { count ≤ WALK_NAMES }
+        ensures { FindsFront (λ names. texts_in (items_of names)) result self.new.rest.now (times_at (field_at Text) count self.old.rest.now) }
     {
-        let mut names = Vec::new(alloc);
+        let mut names = Few::new("");
         for _ in 0..count {
-            let name = self.text(alloc)?;
-            names.push(name)?;
+            let name = self.text()?;
+            names.push(name);
         }
         Ok(names)
     }
 
-    fn times_qid(&mut self, alloc: Global, count: u16) -> Result<Vec<Qid>, WireFault>
-        ensures { Takes (λ qids. map qid_of qids.items) result self.new.rest.now (times_at (field_at qid_shape) count self.old.rest.now) }
+    fn times_qid(&mut self, count: u16) -> Result<Few<Qid>, WireFault>
+        requires { count ≤ WALK_NAMES }
+        ensures { FindsFront (λ qids. map qid_of (items_of qids)) result self.new.rest.now (times_at (field_at qid_shape) count self.old.rest.now) }
     {
-        let mut qids = Vec::new(alloc);
+        let blank = Qid {
+            kind: 0,
+            vers: 0,
+            path: 0,
+        };
+        let mut qids = Few::new(blank);
         for _ in 0..count {
             let qid = self.qid()?;
-            qids.push(qid)?;
+            qids.push(qid);
         }
         Ok(qids)
     }
 
     /// The names of a walk, after their count in two bytes.
     #[tactic(auto, unfolding(crate::specs::Reading::several_at))]
-    pub(crate) fn names(&mut self, alloc: Global) -> Result<Vec<String>, WireFault>
-        ensures { Takes (λ names. names_of names.items) result self.new.rest.now (several_at (field_at Text) self.old.rest.now) }
+    pub(crate) fn names(&mut self) -> Result<Few<&'a str>, WireFault>
+        ensures { FindsFront (λ names. texts_in (items_of names)) result self.new.rest.now (several_at (field_at Text) self.old.rest.now) }
     {
         let count = self.two()?;
         if count > WALK_NAMES {
             return Err(WireFault::TooManyNames);
         }
-        self.times_text(alloc, count)
+        self.times_text(count)
     }
 
     /// The qids of a walk, after their count in two bytes.
     #[tactic(auto, unfolding(crate::specs::Reading::several_at))]
-    pub(crate) fn qids(&mut self, alloc: Global) -> Result<Vec<Qid>, WireFault>
-        ensures { Takes (λ qids. map qid_of qids.items) result self.new.rest.now (several_at (field_at qid_shape) self.old.rest.now) }
+    pub(crate) fn qids(&mut self) -> Result<Few<Qid>, WireFault>
+        ensures { FindsFront (λ qids. map qid_of (items_of qids)) result self.new.rest.now (several_at (field_at qid_shape) self.old.rest.now) }
     {
         let count = self.two()?;
         if count > WALK_NAMES {
             return Err(WireFault::TooManyNames);
         }
-        self.times_qid(alloc, count)
+        self.times_qid(count)
+    }
+
+    #[tactic(auto, unfolding(crate::specs::Reading::field_at))]
+    fn stat_fields(&mut self) -> Result<StatRef<'a>, WireFault>
+        ensures { FindsFront stat_in result self.new.rest.now (field_at stat_shape self.old.rest.now) }
+    {
+        Ok(StatRef {
+            kind: self.two()?,
+            dev: self.four()?,
+            qid: self.qid()?,
+            mode: self.four()?,
+            atime: self.four()?,
+            mtime: self.four()?,
+            length: self.eight()?,
+            name: self.text()?,
+            uid: self.text()?,
+            gid: self.text()?,
+            muid: self.text()?,
+        })
+    }
+
+    /// A stat: its length in two bytes, and an entry of that length.
+    #[tactic(auto, unfolding(crate::specs::Reading::boxed_at))]
+    pub(crate) fn stat(&mut self) -> Result<StatRef<'a>, WireFault>
+        ensures { FindsFront stat_in result self.new.rest.now (boxed_at (field_at stat_shape) self.old.rest.now) }
+    {
+        let count = self.two()?;
+        let front = self.front(count as usize)?;
+        entry(front)
     }
 }

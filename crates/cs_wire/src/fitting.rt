@@ -3,11 +3,13 @@
 
 ghost use Rattle.std.specs.Prelude.{◌≡◌, ◌≤◌, ◌<◌, length, true, IfSome, Some, Option, map, ◌↔◌};
 ghost use Rattle.cs_wire.specs.Fields.{One, Two, Four, Eight, Text, Several, Raw, ◌▸◌, is_text, size_of, sizes_of, entry_size, plus};
-ghost use Rattle.cs_wire.specs.Messages.{names_of, qid_of, qid_shape, stat_of, stat_shape, t_view, r_view, Fits, spelling, IsEntry, stat_entry};
+ghost use Rattle.cs_wire.specs.Messages.{names_of, qid_of, qid_shape, stat_in, stat_shape, t_view, r_view, Fits, spelling, IsEntry, stat_entry};
 ghost use Rattle.cs_wire.specs.Bodies.{request_size, reply_size};
 
 use crate::cursor::has_nul;
-use crate::message::{Qid, RBody, RMessage, Stat, TBody, TMessage};
+use crate::message::{Qid, RBody, RMessage, TBody, TMessage};
+use crate::stat::StatRef;
+use crate::table::{each_reply, each_request};
 use cs_names::limits::{MESSAGE_BYTES, WALK_NAMES};
 
 #[tactic(auto, unfolding(crate::specs::Fields::size_of))]
@@ -83,7 +85,7 @@ fn raw(bytes: &[u8]) -> Option<usize>
 }
 
 fn all_texts(texts: &[String]) -> Option<usize>
-    requires { length texts.now ≤ 16 }
+    requires { length texts.now ≤ WALK_NAMES }
     ensures size { result ≡ sizes_of (size_of Text) (names_of texts.now) }
     ensures small { IfSome result (λ size. size ≤ 1048592) }
 {
@@ -95,7 +97,7 @@ fn all_texts(texts: &[String]) -> Option<usize>
 }
 
 fn all_qids(qids: &[Qid]) -> usize
-    requires { length qids.now ≤ 16 }
+    requires { length qids.now ≤ WALK_NAMES }
     ensures size { sizes_of (size_of qid_shape) (map qid_of qids.now) ≡ Some result }
     ensures small { result ≤ 208 }
 {
@@ -129,19 +131,19 @@ fn qids(wqid: &[Qid]) -> Option<usize>
 }
 
 #[tactic(auto, unfolding(crate::specs::Fields::size_of))]
-fn stat_fields(stat: &Stat) -> Option<usize>
-    ensures size { result ≡ size_of stat_shape (stat_of stat.now) }
+fn stat_fields(stat: &StatRef) -> Option<usize>
+    ensures size { result ≡ size_of stat_shape (stat_in stat.now) }
     ensures small { IfSome result (λ size. size ≤ 300000) }
 {
     let numbers = two(&stat.kind) + four(&stat.dev) + qid(&stat.qid) + four(&stat.mode);
     let times = four(&stat.atime) + four(&stat.mtime) + eight(&stat.length);
-    let name = text(stat.name.as_str())?;
-    let users = text(stat.uid.as_str())? + text(stat.gid.as_str())? + text(stat.muid.as_str())?;
+    let name = text(stat.name)?;
+    let users = text(stat.uid)? + text(stat.gid)? + text(stat.muid)?;
     Some(numbers + times + name + users)
 }
 
-fn entry(stat: &Stat) -> Option<usize>
-    ensures size { result ≡ entry_size (size_of stat_shape (stat_of stat.now)) }
+fn entry(stat: &StatRef) -> Option<usize>
+    ensures size { result ≡ entry_size (size_of stat_shape (stat_in stat.now)) }
     ensures small { IfSome result (λ size. size < 65536) }
 {
     let size = 2 + stat_fields(stat)?;
@@ -151,51 +153,44 @@ fn entry(stat: &Stat) -> Option<usize>
     Some(size)
 }
 
+/// The bytes of a field; where it can't hold the value, the function ends with None.
+macro_rules! field_size {
+    (text $text:ident) => { text($text.as_str())? };
+    (names $names:ident) => { names($names)? };
+    (qids $qids:ident) => { qids($qids)? };
+    (data $bytes:ident) => { raw($bytes)? };
+    (stat $stat:ident) => { 2 + entry(&$stat.borrowed())? };
+    ($number:ident $value:ident) => { self::$number($value) };
+}
+
+macro_rules! size_of_body {
+    (($body:ident $bodies:ident)
+    $($name:ident $code:literal { $($field:ident: $holds:ident),* })*) => {
+        match $body {
+            $($bodies::$name { $($field),* } => Some(0 $(+ field_size!($holds $field))*),)*
+        }
+    };
+}
+
 #[tactic(auto, unfolding(crate::specs::Fields::size_of))]
 fn of_request(body: &TBody) -> Option<usize>
     ensures size { result ≡ request_size body.now }
-    ensures small { IfSome result (λ size. size ≤ 4294967299) }
+    ensures small { IfSome result (λ size. size ≤ 4295000000) }
 {
-    match body {
-        TBody::Version { msize, version } => Some(four(msize) + text(version.as_str())?),
-        TBody::Auth { afid, uname, aname } => {
-            Some(four(afid) + text(uname.as_str())? + text(aname.as_str())?)
-        }
-        TBody::Attach {
-            fid,
-            afid,
-            uname,
-            aname,
-        } => Some(four(fid) + four(afid) + text(uname.as_str())? + text(aname.as_str())?),
-        TBody::Flush { oldtag } => Some(two(oldtag)),
-        TBody::Walk { fid, newfid, wname } => Some(four(fid) + four(newfid) + names(wname)?),
-        TBody::Open { fid, mode } => Some(four(fid) + one(mode)),
-        TBody::Read { fid, offset, count } => Some(four(fid) + eight(offset) + four(count)),
-        TBody::Clunk { fid } | TBody::Stat { fid } => Some(four(fid)),
-    }
+    each_request!(size_of_body (body TBody))
 }
 
 #[tactic(auto, unfolding(crate::specs::Fields::size_of))]
 fn of_reply(body: &RBody) -> Option<usize>
     ensures size { result ≡ reply_size body.now }
-    ensures small { IfSome result (λ size. size ≤ 4294967299) }
+    ensures small { IfSome result (λ size. size ≤ 4295000000) }
 {
-    match body {
-        RBody::Version { msize, version } => Some(four(msize) + text(version.as_str())?),
-        RBody::Auth { aqid } => Some(qid(aqid)),
-        RBody::Attach { qid: root } => Some(qid(root)),
-        RBody::Error { ename } => text(ename.as_str()),
-        RBody::Flush | RBody::Clunk => Some(0),
-        RBody::Walk { wqid } => qids(wqid),
-        RBody::Open { qid: file, iounit } => Some(qid(file) + four(iounit)),
-        RBody::Read { data } => raw(data),
-        RBody::Stat { stat } => Some(2 + entry(stat)?),
-    }
+    each_reply!(size_of_body (body RBody))
 }
 
 #[tactic(auto, unfolding(crate::specs::Fields::size_of))]
 fn spelled(tag: &u16, fields: Option<usize>) -> Option<usize>
-    requires { IfSome fields (λ size. size ≤ 4294967299) }
+    requires { IfSome fields (λ size. size ≤ 4295000000) }
     ensures size { result ≡ plus (size_of (Four ▸ One ▸ Two) (0, (0, tag.now))) fields }
 {
     Some(5 + two(tag) + fields?)
@@ -243,19 +238,19 @@ impl RMessage {
     }
 }
 
-impl Stat {
+impl StatRef<'_> {
     /// Whether it has an entry: each text is shorter than 65,536 bytes and has no NUL, and so is
     /// the entry.
     pub fn fits(&self) -> bool
-        ensures { result ≡ true ↔ IsEntry (stat_of self.now) }
+        ensures { result ≡ true ↔ IsEntry (stat_in self.now) }
     {
         entry(self).is_some()
     }
 
     /// The bytes of its entry, with the two of its size.
     pub fn entry_length(&self) -> usize
-        requires { IsEntry (stat_of self.now) }
-        ensures { result ≡ length (stat_entry (stat_of self.now)) }
+        requires { IsEntry (stat_in self.now) }
+        ensures { result ≡ length (stat_entry (stat_in self.now)) }
     {
         entry(self).unwrap()
     }

@@ -4,20 +4,20 @@
 mod cursor;
 mod display;
 mod fault;
+mod few;
 mod fitting;
 mod kind;
 mod message;
 mod reading;
-mod replies;
-mod requests;
-mod stat_reading;
+mod stat;
+mod table;
 #[cfg(test)]
 mod tests;
-mod unchecked;
 mod writing;
 
 pub use fault::WireFault;
 pub use kind::{RKind, TKind};
 pub use message::{Qid, RBody, RMessage, Stat, TBody, TMessage};
 pub use reading::{decode, decode_r, one_spelling};
+pub use stat::StatRef;
 pub use writing::{encode, encode_t};

@@ -203,6 +203,7 @@ fn an_entry_is_what_a_reply_to_stat_holds(rt: HostRuntime) -> Result<(), Fail> {
     let RBody::Stat { stat } = reply.body else {
         return Err("the reply is Rstat".into());
     };
+    let stat = stat.borrowed();
     assert!(rt; stat.fits());
     if stat.fits() {
         let mut out = Vec::new(rt.alloc());

@@ -2,11 +2,13 @@
 
 ghost use Rattle.std.specs.Prelude.{◌≡◌, ◌≤◌, ◌+◌, ◌++◌, length, map, vec_len, vec_capacity, OnOk, OnErr, IsOk};
 ghost use Rattle.std.specs.List.{flat_map, AllByRecursion};
-ghost use Rattle.cs_wire.specs.Fields.{One, Two, Four, Eight, Text, ◌▸◌, IsIn, spelled};
-ghost use Rattle.cs_wire.specs.Messages.{names_of, qid_of, qid_shape, users_of, stat_of, stat_shape, stat_entry, IsEntry, t_view, r_view, Fits, spelling};
+ghost use Rattle.cs_wire.specs.Fields.{One, Two, Four, Eight, Text, Boxed, ◌▸◌, IsIn, spelled};
+ghost use Rattle.cs_wire.specs.Messages.{names_of, qid_of, qid_shape, users_in, stat_in, stat_shape, stat_entry, IsEntry, t_view, r_view, Fits, spelling};
 ghost use Rattle.cs_wire.specs.Bodies.{request_number, request_bytes, RequestFits, reply_number, reply_bytes, ReplyFits};
 
-use crate::message::{Qid, RBody, RMessage, Stat, TBody, TMessage};
+use crate::message::{Qid, RBody, RMessage, TBody, TMessage};
+use crate::stat::StatRef;
+use crate::table::{each_reply, each_request};
 use std::alloc::AllocError;
 
 /// Appends to what has the room, as each function here does.
@@ -107,21 +109,21 @@ fn put_qids(out: &mut Vec<u8>, qids: &[Qid])
 }
 
 #[tactic(auto, unfolding(crate::specs::Fields::spelled))]
-fn put_stat_texts(out: &mut Vec<u8>, stat: &Stat)
-    requires fits { IsIn (Text ▸ Text ▸ Text ▸ Text) (users_of stat.now) }
-    requires room { vec_len out.old + length (spelled (Text ▸ Text ▸ Text ▸ Text) (users_of stat.now)) ≤ vec_capacity out.old }
-    ensures { out.new.items ≡ out.old.items ++ spelled (Text ▸ Text ▸ Text ▸ Text) (users_of stat.now) }
+fn put_stat_texts(out: &mut Vec<u8>, stat: &StatRef)
+    requires fits { IsIn (Text ▸ Text ▸ Text ▸ Text) (users_in stat.now) }
+    requires room { vec_len out.old + length (spelled (Text ▸ Text ▸ Text ▸ Text) (users_in stat.now)) ≤ vec_capacity out.old }
+    ensures { out.new.items ≡ out.old.items ++ spelled (Text ▸ Text ▸ Text ▸ Text) (users_in stat.now) }
 {
-    put_text(out, stat.name.as_str());
-    put_text(out, stat.uid.as_str());
-    put_text(out, stat.gid.as_str());
-    put_text(out, stat.muid.as_str());
+    put_text(out, stat.name);
+    put_text(out, stat.uid);
+    put_text(out, stat.gid);
+    put_text(out, stat.muid);
 }
 
-fn put_stat_fields(out: &mut Vec<u8>, stat: &Stat)
-    requires fits { IsIn (Text ▸ Text ▸ Text ▸ Text) (users_of stat.now) }
-    requires room { vec_len out.old + (39 + length (spelled (Text ▸ Text ▸ Text ▸ Text) (users_of stat.now))) ≤ vec_capacity out.old }
-    ensures { out.new.items ≡ out.old.items ++ spelled stat_shape (stat_of stat.now) }
+fn put_stat_fields(out: &mut Vec<u8>, stat: &StatRef)
+    requires fits { IsIn (Text ▸ Text ▸ Text ▸ Text) (users_in stat.now) }
+    requires room { vec_len out.old + (39 + length (spelled (Text ▸ Text ▸ Text ▸ Text) (users_in stat.now))) ≤ vec_capacity out.old }
+    ensures { out.new.items ≡ out.old.items ++ spelled stat_shape (stat_in stat.now) }
 {
     put_two(out, stat.kind);
     put_four(out, stat.dev);
@@ -133,13 +135,53 @@ fn put_stat_fields(out: &mut Vec<u8>, stat: &Stat)
     put_stat_texts(out, stat);
 }
 
-fn put_entry(out: &mut Vec<u8>, stat: &Stat)
-    requires fits { IsEntry (stat_of stat.now) }
-    requires room { vec_len out.old + length (stat_entry (stat_of stat.now)) ≤ vec_capacity out.old }
-    ensures { out.new.items ≡ out.old.items ++ stat_entry (stat_of stat.now) }
+fn put_entry(out: &mut Vec<u8>, stat: &StatRef)
+    requires fits { IsEntry (stat_in stat.now) }
+    requires room { vec_len out.old + length (stat_entry (stat_in stat.now)) ≤ vec_capacity out.old }
+    ensures { out.new.items ≡ out.old.items ++ stat_entry (stat_in stat.now) }
 {
     put_two(out, (stat.entry_length() - 2) as u16);
     put_stat_fields(out, stat);
+}
+
+fn put_stat(out: &mut Vec<u8>, stat: &StatRef)
+    requires fits { IsIn (Boxed stat_shape) (stat_in stat.now) }
+    requires room { vec_len out.old + length (spelled (Boxed stat_shape) (stat_in stat.now)) ≤ vec_capacity out.old }
+    ensures { out.new.items ≡ out.old.items ++ spelled (Boxed stat_shape) (stat_in stat.now) }
+{
+    put_two(out, stat.entry_length() as u16);
+    put_entry(out, stat);
+}
+
+macro_rules! put_field {
+    ($out:ident one $number:ident) => { put_one($out, *$number) };
+    ($out:ident two $number:ident) => { put_two($out, *$number) };
+    ($out:ident four $number:ident) => { put_four($out, *$number) };
+    ($out:ident eight $number:ident) => { put_eight($out, *$number) };
+    ($out:ident qid $qid:ident) => { put_qid($out, $qid) };
+    ($out:ident text $text:ident) => { put_text($out, $text.as_str()) };
+    ($out:ident names $names:ident) => {
+        put_two($out, $names.len() as u16);
+        put_texts($out, $names)
+    };
+    ($out:ident qids $qids:ident) => {
+        put_two($out, $qids.len() as u16);
+        put_qids($out, $qids)
+    };
+    ($out:ident data $bytes:ident) => {
+        put_four($out, $bytes.len() as u32);
+        put($out, $bytes)
+    };
+    ($out:ident stat $stat:ident) => { put_stat($out, &$stat.borrowed()) };
+}
+
+macro_rules! put_body {
+    (($body:ident $bodies:ident $out:ident)
+    $($name:ident $code:literal { $($field:ident: $holds:ident),* })*) => {
+        match $body {
+            $($bodies::$name { $($field),* } => { $(put_field!($out $holds $field);)* })*
+        }
+    };
 }
 
 #[tactic(auto, unfolding(crate::specs::Fields::spelled))]
@@ -148,45 +190,7 @@ fn put_request(out: &mut Vec<u8>, body: &TBody)
     requires room { vec_len out.old + length (request_bytes body.now) ≤ vec_capacity out.old }
     ensures { out.new.items ≡ out.old.items ++ request_bytes body.now }
 {
-    match body {
-        TBody::Version { msize, version } => {
-            put_four(out, *msize);
-            put_text(out, version.as_str());
-        }
-        TBody::Auth { afid, uname, aname } => {
-            put_four(out, *afid);
-            put_text(out, uname.as_str());
-            put_text(out, aname.as_str());
-        }
-        TBody::Attach {
-            fid,
-            afid,
-            uname,
-            aname,
-        } => {
-            put_four(out, *fid);
-            put_four(out, *afid);
-            put_text(out, uname.as_str());
-            put_text(out, aname.as_str());
-        }
-        TBody::Flush { oldtag } => put_two(out, *oldtag),
-        TBody::Walk { fid, newfid, wname } => {
-            put_four(out, *fid);
-            put_four(out, *newfid);
-            put_two(out, wname.len() as u16);
-            put_texts(out, wname);
-        }
-        TBody::Open { fid, mode } => {
-            put_four(out, *fid);
-            put_one(out, *mode);
-        }
-        TBody::Read { fid, offset, count } => {
-            put_four(out, *fid);
-            put_eight(out, *offset);
-            put_four(out, *count);
-        }
-        TBody::Clunk { fid } | TBody::Stat { fid } => put_four(out, *fid),
-    }
+    each_request!(put_body (body TBody out))
 }
 
 #[tactic(auto, unfolding(crate::specs::Fields::spelled))]
@@ -195,65 +199,28 @@ fn put_reply(out: &mut Vec<u8>, body: &RBody)
     requires room { vec_len out.old + length (reply_bytes body.now) ≤ vec_capacity out.old }
     ensures { out.new.items ≡ out.old.items ++ reply_bytes body.now }
 {
-    match body {
-        RBody::Version { msize, version } => {
-            put_four(out, *msize);
-            put_text(out, version.as_str());
+    each_reply!(put_body (body RBody out))
+}
+
+macro_rules! number_of_body {
+    (($body:ident $bodies:ident)
+    $($name:ident $code:literal { $($field:ident: $holds:ident),* })*) => {
+        match $body {
+            $($bodies::$name { .. } => $code,)*
         }
-        RBody::Auth { aqid } => put_qid(out, aqid),
-        RBody::Attach { qid } => put_qid(out, qid),
-        RBody::Error { ename } => put_text(out, ename.as_str()),
-        RBody::Flush | RBody::Clunk => {}
-        RBody::Walk { wqid } => {
-            put_two(out, wqid.len() as u16);
-            put_qids(out, wqid);
-        }
-        RBody::Open { qid, iounit } => {
-            put_qid(out, qid);
-            put_four(out, *iounit);
-        }
-        RBody::Read { data } => {
-            put_four(out, data.len() as u32);
-            put(out, data);
-        }
-        RBody::Stat { stat } => {
-            put_two(out, stat.entry_length() as u16);
-            put_entry(out, stat);
-        }
-    }
+    };
 }
 
 fn request_kind(body: &TBody) -> u8
     ensures { result ≡ request_number body.now }
 {
-    match body {
-        TBody::Version { .. } => 100,
-        TBody::Auth { .. } => 102,
-        TBody::Attach { .. } => 104,
-        TBody::Flush { .. } => 108,
-        TBody::Walk { .. } => 110,
-        TBody::Open { .. } => 112,
-        TBody::Read { .. } => 116,
-        TBody::Clunk { .. } => 120,
-        TBody::Stat { .. } => 124,
-    }
+    each_request!(number_of_body (body TBody))
 }
 
 fn reply_kind(body: &RBody) -> u8
     ensures { result ≡ reply_number body.now }
 {
-    match body {
-        RBody::Version { .. } => 101,
-        RBody::Auth { .. } => 103,
-        RBody::Attach { .. } => 105,
-        RBody::Error { .. } => 107,
-        RBody::Flush => 109,
-        RBody::Walk { .. } => 111,
-        RBody::Open { .. } => 113,
-        RBody::Read { .. } => 117,
-        RBody::Clunk => 121,
-        RBody::Stat { .. } => 125,
-    }
+    each_reply!(number_of_body (body RBody))
 }
 
 /// The size, the type and the tag of a message.
@@ -297,13 +264,13 @@ pub fn encode_t(message: &TMessage, out: &mut Vec<u8>) -> Result<(), AllocError>
     Ok(())
 }
 
-impl Stat {
+impl StatRef<'_> {
     /// Appends the bytes of its entry (stat(5)). Where the room is there it takes no memory and
     /// succeeds. After an `Err` the bytes are as before.
     pub fn encode_entry(&self, out: &mut Vec<u8>) -> Result<(), AllocError>
-        requires { IsEntry (stat_of self.now) }
-        ensures ok { OnOk result (out.new.items ≡ out.old.items ++ stat_entry (stat_of self.now)) }
-        ensures room { vec_len out.old + length (stat_entry (stat_of self.now)) ≤ vec_capacity out.old → IsOk result }
+        requires { IsEntry (stat_in self.now) }
+        ensures ok { OnOk result (out.new.items ≡ out.old.items ++ stat_entry (stat_in self.now)) }
+        ensures room { vec_len out.old + length (stat_entry (stat_in self.now)) ≤ vec_capacity out.old → IsOk result }
         ensures err { OnErr result (out.new.items ≡ out.old.items) }
     {
         out.reserve(self.entry_length())?;

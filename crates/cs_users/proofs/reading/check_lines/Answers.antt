@@ -1,4 +1,4 @@
-use Rattle.std.proofs.Common.{arith, ◌+◌, ◌≤◌, length, sym}
+use Rattle.std.proofs.Common.{arith, ◌+◌, ◌≤◌, length, refl, sym}
 use Rattle.cs_names.specs.Pieces.{pieces}
 use Rattle.cs_users.proofs.Lines.{length-pieces, within_more, dropped_more, first_fault-more}
 use Rattle.cs_users.proofs.reading.check_lines.Goals as goal
@@ -17,5 +17,5 @@ pub loop-line-preserved : goal.loop-line-preserved
 loop-line-preserved c = record {
   within = within_more (pieces 10 c.args.text.now) _ _ c.loop-line.before _ c.loop-line.invariant.left c.in-Some.ensures.steps;
   left = dropped_more (pieces 10 c.args.text.now) _ _ c.loop-line.before _ c.loop-line.invariant.left c.in-Some.ensures.steps;
-  same = first_fault-more (pieces 10 c.args.text.now) _ _ c.loop-line.before _ _ c.loop-line.invariant.left c.in-Some.ensures.steps (sym c.in_ok-check_line.ensures) c.loop-line.invariant.same;
+  same = first_fault-more (pieces 10 c.args.text.now) _ _ c.loop-line.before _ _ _ c.loop-line.invariant.left c.in-Some.ensures.steps refl (sym c.in_ok-check_line.ensures) c.loop-line.invariant.same;
 }

@@ -1,6 +1,6 @@
 use Rattle.std.proofs.Common.{◌++◌}
 use Rattle.cs_wire.specs.Fields.{Two, Four, Eight, Text, ◌▸◌, spelled}
-use Rattle.cs_wire.specs.Messages.{qid_of, qid_shape, users_of}
+use Rattle.cs_wire.specs.Messages.{qid_of, qid_shape, users_in}
 use Rattle.cs_wire.proofs.Putting.{then_put}
 use Rattle.cs_wire.proofs.writing.put_stat_fields.Goals as goal
 
@@ -8,7 +8,7 @@ pub returns : goal.returns
 unfolding spelled
 returns c =
     let s = c.args.stat.now in
-    let a = spelled (Text ▸ Text ▸ Text ▸ Text) (users_of s) in
+    let a = spelled (Text ▸ Text ▸ Text ▸ Text) (users_in s) in
     let b = spelled Eight s.length ++ a in
     let d = spelled Four s.mtime ++ b in
     let e = spelled Four s.atime ++ d in

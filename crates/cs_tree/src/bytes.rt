@@ -1,0 +1,103 @@
+//! The bytes of a file.
+ghost use Rattle.std.specs.Prelude.{◌≡◌, ◌+◌, ◌++◌, ◌<◌, ◌≤◌, ◌^◌, IfOk, OnOk, OnErr, take, drop, length, replicate};
+ghost use Rattle.cs_tree_model.specs.Effects.{placed};
+
+use std::alloc::{AllocError, Global};
+use std::marker::Model;
+
+/// The bytes of a file, in one piece of memory.
+#[derive(Drop)]
+pub struct Bytes {
+    bytes: Vec<u8>,
+}
+
+impl Model for Bytes {
+    ghost use Rattle.std.specs.Prelude.{List, ℕ};
+
+    ghost Value = { List ℕ };
+
+    ghost view = { λ file. file.bytes.items };
+}
+
+impl Bytes {
+    pub fn of(bytes: Vec<u8>) -> Bytes
+        ensures { result ≡ bytes.items }
+    {
+        Bytes { bytes }
+    }
+
+    pub fn len(&self) -> u64
+        ensures { result ≡ length self.now }
+    {
+        self.bytes.len() as u64
+    }
+
+    /// At most `count` bytes from `offset` on.
+    pub fn part(&self, offset: u64, count: usize) -> &[u8]
+        ensures { result.now ≡ take count (drop offset self.now) }
+    {
+        part(&self.bytes, offset as usize, count)
+    }
+
+    /// Puts bytes over those at an offset, with zeros between the end and the offset. Takes memory
+    /// only where the file grows.
+    pub fn place(&mut self, offset: u64, bytes: &[u8]) -> Result<(), AllocError>
+        requires some { 0 < length bytes.now }
+        requires room { offset + length bytes.now < 2 ^ 63 }
+        ensures ok { OnOk result (self.new ≡ placed offset bytes.now self.old) }
+        ensures err { OnErr result (self.new ≡ self.old) }
+    {
+        place(&mut self.bytes, offset as usize, bytes)?;
+        Ok(())
+    }
+
+    /// The first bytes, so many, with zeros after the last one where there are fewer.
+    pub fn resized(&self, alloc: Global, length: u64) -> Result<Bytes, AllocError>
+        requires { length < 2 ^ 63 }
+        ensures { IfOk result (λ file. file ≡ take length (self.now ++ replicate length 0)) }
+    {
+        let bytes = resized(alloc, &self.bytes, length as usize)?;
+        Ok(Bytes { bytes })
+    }
+}
+
+fn part(bytes: &[u8], offset: usize, count: usize) -> &[u8]
+    ensures { result.now ≡ take count (drop offset bytes.now) }
+{
+    let start = bytes.len().min(offset);
+    let rest = &bytes[start..];
+    let end = rest.len().min(count);
+    &rest[..end]
+}
+
+fn place(content: &mut Vec<u8>, offset: usize, bytes: &[u8]) -> Result<(), AllocError>
+    requires some { 0 < length bytes.now }
+    requires room { offset + length bytes.now < 2 ^ 63 }
+    ensures ok { OnOk result (content.new.items ≡ placed offset bytes.now content.old.items) }
+    ensures err { OnErr result (content.new.items ≡ content.old.items) }
+{
+    let end = offset + bytes.len();
+    let length = content.len().max(end);
+    content.resize(length, 0)?;
+    overwrite(content, offset, bytes);
+    Ok(())
+}
+
+/// Puts bytes over others, which reach as far.
+fn overwrite(content: &mut [u8], offset: usize, bytes: &[u8])
+    requires { offset + length bytes.now ≤ length content.old }
+    ensures bytes { content.new ≡ take offset content.old ++ bytes.now ++ drop (offset + length bytes.now) content.old }
+    ensures length { length content.new ≡ length content.old }
+{
+    content[offset..offset + bytes.len()].copy_from_slice(bytes);
+}
+
+fn resized(alloc: Global, bytes: &[u8], length: usize) -> Result<Vec<u8>, AllocError>
+    ensures { IfOk result (λ v. v.items ≡ take length (bytes.now ++ replicate length 0)) }
+{
+    let kept = bytes.len().min(length);
+    let mut resized = Vec::with_capacity(alloc, length)?;
+    resized.extend_from_slice(&bytes[..kept])?;
+    resized.resize(length, 0)?;
+    Ok(resized)
+}

@@ -1,0 +1,74 @@
+//! What a store makes before it changes anything.
+ghost use Rattle.std.specs.Prelude.{◌≡◌, ◌≢◌, [], IfOk, IsErr};
+ghost use Rattle.cs_tree_model.specs.Effects.{new_content, new_record};
+ghost use Rattle.cs_tree_model.specs.Record.{is_marked};
+
+use cs_names::UserName;
+use cs_tree_model::{Content, Kind, New, Record, Stamp, is_directory_mode};
+use std::alloc::{AllocError, Global};
+
+/// The bytes in a memory of their own; no byte takes none.
+pub fn copied(alloc: Global, bytes: &[u8]) -> Result<Vec<u8>, AllocError>
+    ensures value { IfOk result (λ v. v.items ≡ bytes.now) }
+    ensures memory { IsErr result → bytes.now ≢ [] }
+{
+    if bytes.is_empty() {
+        return Ok(Vec::new(alloc));
+    }
+    Vec::from_slice(alloc, bytes)
+}
+
+/// The name again, if there is one.
+pub fn copied_name(name: &Option<UserName>) -> Result<Option<UserName>, AllocError>
+    ensures { IfOk result (λ again. again ≡ name.now) }
+{
+    match name {
+        Some(name) => Ok(Some(name.try_clone()?)),
+        None => Ok(None),
+    }
+}
+
+/// The record of a new file.
+pub fn new_record(
+    alloc: Global,
+    number: u64,
+    group: UserName,
+    new: New,
+    stamp: &Stamp,
+) -> Result<Record, AllocError>
+    ensures { IfOk result (λ file. file ≡ new_record number group new stamp.entry.now) }
+{
+    let owner = stamp.user.try_clone()?;
+    let muid = stamp.user.try_clone()?;
+    Ok(Record {
+        number,
+        vers: 0,
+        owner,
+        group,
+        mode: new.mode,
+        atime: stamp.now,
+        mtime: stamp.now,
+        muid,
+        content: new_content(alloc, new.mode),
+    })
+}
+
+fn new_content(alloc: Global, mode: u32) -> Content
+    ensures { result ≡ new_content mode }
+{
+    if is_directory_mode(mode) {
+        Content::directory()
+    } else {
+        Content::file(Vec::new(alloc))
+    }
+}
+
+/// Whether the mode says rightly what the record is: a directory or a file.
+pub fn is_marked(record: &Record) -> bool
+    ensures { result ≡ is_marked record.now }
+{
+    match record.content.kind() {
+        Kind::Directory => is_directory_mode(record.mode),
+        Kind::File { .. } => !is_directory_mode(record.mode),
+    }
+}

@@ -1,0 +1,199 @@
+//! The nodes by their numbers.
+ghost use Rattle.std.specs.Prelude.{◌≡◌, ◌≢◌, ◌+◌, ◌<◌, ◌^◌, ℕ, nat_eq, List, None, Some, OnOk, OnErr, IfOk, IfSome, IsSome, length, option_and_then, string_bytes, unwrap_or};
+ghost use Rattle.std.specs.Option.{option_map};
+ghost use Rattle.std.specs.HashMap.{get, spare};
+ghost use Rattle.cs_tree.specs.Node.{Alike, CanStampNode, IsNodeOf, IsRootTable, renamed, resized_bytes, step_at, with_at, with_attributes, with_bytes, with_child, with_name, with_stamp, with_write, without_child, without_node};
+
+use crate::bytes::Bytes;
+use crate::node::{Body, Node};
+use cs_names::{Name, UserName};
+use cs_tree_model::{Change, Record, Stamp};
+use std::alloc::{AllocError, Global};
+use std::collections::HashMap;
+use std::mem;
+
+/// The table of the root alone.
+pub fn root_table(alloc: Global, root: Record) -> Result<HashMap<u64, Node>, AllocError>
+    ensures { IfOk result (λ nodes. IsRootTable (get nat_eq nodes) root) }
+{
+    let mut nodes = HashMap::new(alloc);
+    nodes.insert(0, Node::of(alloc, 0, None, root))?;
+    Ok(nodes)
+}
+
+/// Enters a file into a directory.
+fn link(
+    nodes: &mut HashMap<u64, Node>,
+    directory: u64,
+    name: String,
+    number: u64,
+) -> Result<(), AllocError>
+    ensures ok { OnOk result (Alike (step_at (get nat_eq nodes.old) directory (λ d. with_child d (string_bytes name) number)) (get nat_eq nodes.new)) }
+    ensures err { OnErr result (Alike (get nat_eq nodes.old) (get nat_eq nodes.new)) }
+    ensures spare { spare nodes.new ≡ spare nodes.old }
+{
+    match nodes.get_mut(&directory) {
+        Some(node) => node.link(name, number),
+        None => Ok(()),
+    }
+}
+
+/// Puts a node into the table, which has room for it.
+fn put(nodes: &mut HashMap<u64, Node>, number: u64, node: Node)
+    requires { 0 < spare nodes.old }
+    ensures { Alike (with_at (get nat_eq nodes.old) number (Some node)) (get nat_eq nodes.new) }
+{
+    match nodes.insert(number, node) {
+        Ok(_) => {}
+        Err(_) => unreachable!(),
+    }
+}
+
+/// Puts a new node into the table and into its directory.
+pub fn grow(
+    nodes: &mut HashMap<u64, Node>,
+    directory: u64,
+    name: String,
+    number: u64,
+    node: Node,
+) -> Result<(), AllocError>
+    ensures ok { OnOk result (Alike (with_at (step_at (get nat_eq nodes.old) directory (λ d. with_child d (string_bytes name) number)) number (Some node)) (get nat_eq nodes.new)) }
+    ensures err { OnErr result (Alike (get nat_eq nodes.old) (get nat_eq nodes.new)) }
+{
+    nodes.reserve(1)?;
+    link(nodes, directory, name, number)?;
+    put(nodes, number, node);
+    Ok(())
+}
+
+/// Counts a change of a directory's entries.
+pub fn stamp_node(nodes: &mut HashMap<u64, Node>, number: u64, stamp: Stamp)
+    requires { CanStampNode (get nat_eq nodes.old) number }
+    ensures { Alike (step_at (get nat_eq nodes.old) number (λ d. with_stamp d stamp)) (get nat_eq nodes.new) }
+{
+    if let Some(node) = nodes.get_mut(&number) {
+        node.stamp(stamp);
+    }
+}
+
+/// Takes a name out of a directory, and stamps the directory.
+fn unlink(nodes: &mut HashMap<u64, Node>, directory: u64, name: &str, stamp: Stamp)
+    requires { CanStampNode (get nat_eq nodes.old) directory }
+    ensures { Alike (step_at (get nat_eq nodes.old) directory (λ d. with_stamp (without_child d name.now) stamp)) (get nat_eq nodes.new) }
+{
+    if let Some(node) = nodes.get_mut(&directory) {
+        node.unlink(name);
+        node.stamp(stamp);
+    }
+}
+
+/// Takes a file out of the table and out of its directory, which is stamped.
+pub fn take_out(nodes: &mut HashMap<u64, Node>, number: u64, stamp: Stamp)
+    requires named { IfSome (get nat_eq nodes.old number) (λ d. IsSome d.name) }
+    requires vers { IfSome (get nat_eq nodes.old number) (λ d. CanStampNode (get nat_eq nodes.old) d.parent) }
+    ensures { IfSome (get nat_eq nodes.old number) (λ d. Alike (without_node (get nat_eq nodes.old) number d stamp) (get nat_eq nodes.new)) }
+{
+    let Some(node) = nodes.remove(&number) else {
+        return;
+    };
+    if let Some(name) = &node.name {
+        unlink(nodes, node.parent, name.as_str(), stamp);
+    }
+}
+
+/// Puts bytes into a file.
+pub fn write(
+    nodes: &mut HashMap<u64, Node>,
+    number: u64,
+    offset: u64,
+    bytes: &[u8],
+    stamp: Stamp,
+) -> Result<(), AllocError>
+    requires vers { CanStampNode (get nat_eq nodes.old) number }
+    requires some { 0 < length bytes.now }
+    requires room { offset + length bytes.now < 2 ^ 63 }
+    ensures ok { OnOk result (Alike (step_at (get nat_eq nodes.old) number (λ d. with_write d offset bytes.now stamp)) (get nat_eq nodes.new)) }
+    ensures err { OnErr result (Alike (get nat_eq nodes.old) (get nat_eq nodes.new)) }
+{
+    match nodes.get_mut(&number) {
+        Some(node) => node.write(offset, bytes, stamp),
+        None => Ok(()),
+    }
+}
+
+/// Gives a file another name, and gives back the one that it had.
+fn set_name(nodes: &mut HashMap<u64, Node>, number: u64, name: Name) -> Option<Name>
+    ensures old { result ≡ option_and_then (λ d. d.name) (get nat_eq nodes.old number) }
+    ensures set { Alike (step_at (get nat_eq nodes.old) number (λ d. with_name d name)) (get nat_eq nodes.new) }
+{
+    match nodes.get_mut(&number) {
+        Some(node) => mem::replace(&mut node.name, Some(name)),
+        None => None,
+    }
+}
+
+/// Gives a file another name in its directory, which is stamped.
+pub fn rename(
+    nodes: &mut HashMap<u64, Node>,
+    number: u64,
+    name: &Name,
+    stamp: Stamp,
+) -> Result<(), AllocError>
+    requires named { IfSome (get nat_eq nodes.old number) (λ d. IsSome d.name) }
+    requires vers { IfSome (get nat_eq nodes.old number) (λ d. CanStampNode (get nat_eq nodes.old) d.parent) }
+    ensures ok { OnOk result (IfSome (get nat_eq nodes.old number) (λ d. Alike (renamed (get nat_eq nodes.old) number d name.now stamp) (get nat_eq nodes.new))) }
+    ensures err { OnErr result (Alike (get nat_eq nodes.old) (get nat_eq nodes.new)) }
+{
+    let directory = match nodes.get(&number) {
+        Some(node) => node.parent,
+        None => return Ok(()),
+    };
+    let key = name.as_string().clone()?;
+    let name = name.try_clone()?;
+    link(nodes, directory, key, number)?;
+    if let Some(old) = set_name(nodes, number, name) {
+        unlink(nodes, directory, old.as_str(), stamp);
+    }
+    Ok(())
+}
+
+/// The bytes of a file, so many as are asked; None where no length is asked, and of a directory.
+pub fn resized(
+    alloc: Global,
+    nodes: &HashMap<u64, Node>,
+    number: u64,
+    length: Option<u64>,
+) -> Result<Option<Bytes>, AllocError>
+    requires { IfSome length (λ n. n < 2 ^ 63) }
+    ensures { IfOk result (λ bytes. bytes ≡ resized_bytes (get nat_eq nodes.now) number length) }
+{
+    let Some(length) = length else {
+        return Ok(None);
+    };
+    let Some(node) = nodes.get(&number) else {
+        return Ok(None);
+    };
+    match &node.body {
+        Body::Directory(_) => Ok(None),
+        Body::File(bytes) => Ok(Some(bytes.resized(alloc, length)?)),
+    }
+}
+
+/// Gives a file the fields of a change but its name: `group` is the change's group, and `bytes` what
+/// the change's length makes of the bytes.
+pub fn change(
+    nodes: &mut HashMap<u64, Node>,
+    number: u64,
+    change: &Change,
+    group: Option<UserName>,
+    bytes: Option<Bytes>,
+    stamp: Stamp,
+)
+    requires { CanStampNode (get nat_eq nodes.old) number }
+    ensures { Alike (step_at (get nat_eq nodes.old) number (λ d. with_attributes (with_bytes d bytes stamp) change.now.mode group change.now.mtime)) (get nat_eq nodes.new) }
+{
+    if let Some(node) = nodes.get_mut(&number) {
+        node.set_bytes(bytes, stamp);
+        node.set_attributes(change.mode, group, change.mtime);
+    }
+}

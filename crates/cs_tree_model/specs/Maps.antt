@@ -1,0 +1,4 @@
+-- Laws of std's maps, which know nothing of trees.
+pub mod Views
+pub mod Changes
+pub mod Values

@@ -1,0 +1,63 @@
+//! The entries of a directory, one after the other.
+ghost use Rattle.std.specs.Prelude.{◌≡◌, None, Some, IfNone, IfSome, IsSome, string_bytes};
+ghost use Rattle.std.specs.BTreeMap.{get_by_text};
+ghost use Rattle.std.specs.Option.{option_copied};
+ghost use Rattle.cs_tree_model.specs.Nexts.{comes_before, IsEntry, IsEntryBelow};
+
+use cs_names::Name;
+use std::collections::BTreeMap;
+use std::ops::Bound;
+
+/// A file's name in its directory, lent by the store, and its number.
+#[derive(Clone, Copy, Debug)]
+pub struct Entry<'a> {
+    pub name: &'a Name,
+    pub number: u64,
+}
+
+/// The first entry of a map after a name, or of all.
+fn after<'a, X>(map: &'a BTreeMap<String, X>, last: Option<&Name>) -> Option<(&'a String, &'a X)>
+    ensures some { IfSome result (λ e. IsEntry (λ y. IsSome (get_by_text map.now y)) (option_copied last.entry) (Some (string_bytes e.0.now))) }
+    ensures value { IfSome result (λ e. get_by_text map.now (string_bytes e.0.now) ≡ Some e.1.now) }
+    ensures none { IfNone result (IsEntry (λ y. IsSome (get_by_text map.now y)) (option_copied last.entry) None) }
+{
+    match last {
+        Some(last) => {
+            let start = Bound::Excluded(last.as_string());
+            let (name, value) = map.range((start, Bound::Unbounded)).next()?;
+            Some((name, value))
+        }
+        None => {
+            let (first, value) = map.range(..).next()?;
+            Some((first, value))
+        }
+    }
+}
+
+/// Whether a name comes before the bound.
+fn is_before(bound: Option<&Name>, name: &str) -> bool
+    ensures { result ≡ comes_before (option_copied bound.entry) name.now }
+{
+    match bound {
+        Some(bound) => name < bound.as_str(),
+        None => true,
+    }
+}
+
+/// The first entry of a map after a name, or of all, if it comes before the bound. It takes no memory,
+/// and time logarithmic in the map.
+pub fn first_after<'a, X>(
+    map: &'a BTreeMap<String, X>,
+    last: Option<&Name>,
+    bound: Option<&Name>,
+) -> Option<(&'a String, &'a X)>
+    ensures some { IfSome result (λ e. IsEntryBelow (λ y. IsSome (get_by_text map.now y)) (option_copied last.entry) (option_copied bound.entry) (Some (string_bytes e.0.now))) }
+    ensures value { IfSome result (λ e. get_by_text map.now (string_bytes e.0.now) ≡ Some e.1.now) }
+    ensures none { IfNone result (IsEntryBelow (λ y. IsSome (get_by_text map.now y)) (option_copied last.entry) (option_copied bound.entry) None) }
+{
+    let (name, value) = after(map, last)?;
+    if !is_before(bound, name.as_str()) {
+        return None;
+    }
+    Some((name, value))
+}

@@ -1,7 +1,0 @@
-use Rattle.std.proofs.Common.{◌≡◌, ◌-◌}
-use Rattle.cs_wire.specs.Messages.{qid_shape}
-use Rattle.cs_wire.specs.Checking.{after, after_times}
-use Rattle.cs_wire.proofs.unchecked.Unchecked.times_qid.Given as goal
-
-abbrev pub invariant-loop : goal.invariant-loop
-invariant-loop l = after_times (after qid_shape) (l.count - l.counter) l.left.rest.now ≡ after_times (after qid_shape) l.count l.fn.self.rest.now

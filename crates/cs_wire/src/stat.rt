@@ -1,0 +1,65 @@
+//! A stat whose texts lie elsewhere.
+
+ghost use Rattle.std.specs.Prelude.{◌≡◌, IfOk};
+ghost use Rattle.cs_wire.specs.Messages.{stat_in, stat_of};
+
+use crate::message::{Qid, Stat};
+use std::alloc::{AllocError, Global};
+
+/// What stat(5) tells of a file, with texts that lie elsewhere.
+#[derive(Clone, Copy)]
+pub struct StatRef<'a> {
+    pub kind: u16,
+    pub dev: u32,
+    pub qid: Qid,
+    pub mode: u32,
+    pub atime: u32,
+    pub mtime: u32,
+    pub length: u64,
+    pub name: &'a str,
+    pub uid: &'a str,
+    pub gid: &'a str,
+    pub muid: &'a str,
+}
+
+impl StatRef<'_> {
+    /// A stat with texts of its own.
+    pub fn copied(&self, alloc: Global) -> Result<Stat, AllocError>
+        ensures { IfOk result (λ copy. stat_of copy ≡ stat_in self.now) }
+    {
+        Ok(Stat {
+            kind: self.kind,
+            dev: self.dev,
+            qid: self.qid,
+            mode: self.mode,
+            atime: self.atime,
+            mtime: self.mtime,
+            length: self.length,
+            name: String::from_str(alloc, self.name)?,
+            uid: String::from_str(alloc, self.uid)?,
+            gid: String::from_str(alloc, self.gid)?,
+            muid: String::from_str(alloc, self.muid)?,
+        })
+    }
+}
+
+impl Stat {
+    /// The same, with its texts borrowed.
+    pub fn borrowed(&self) -> StatRef<'_>
+        ensures { stat_in result ≡ stat_of self.now }
+    {
+        StatRef {
+            kind: self.kind,
+            dev: self.dev,
+            qid: self.qid,
+            mode: self.mode,
+            atime: self.atime,
+            mtime: self.mtime,
+            length: self.length,
+            name: self.name.as_str(),
+            uid: self.uid.as_str(),
+            gid: self.gid.as_str(),
+            muid: self.muid.as_str(),
+        }
+    }
+}
