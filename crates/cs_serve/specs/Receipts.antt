@@ -9,7 +9,7 @@ use Rattle.cs_users.specs.Rows.{Row}
 use Rattle.cs_wire.specs.declared.kind.RKind.TheVariants as rk
 use Rattle.cs_wire.specs.declared.message.TMessage.{TMessage}
 use Rattle.cs_wire.specs.declared.message.RBody.{RBody}
-use Rattle.cs_wire.specs.Messages.{Message, requests, replies, IsMessage, spelling, t_view, r_view, has_text_type}
+use Rattle.cs_wire.specs.Messages.{Message, requests, replies, IsMessage, spelling, t_view, r_view, takes_memory}
 use Rattle.cs_wire.specs.Reading.{message_of}
 use Rattle.cs_serve.specs.declared.refusal.Refusal.{Refusal}
 use Rattle.cs_serve.specs.declared.refusal.Refusal.TheVariants.{Denied, Memory}
@@ -32,7 +32,7 @@ front_rules msize bytes =
 abbrev pub Decodes : List ℕ → Result TMessage Refusal → Type 0
 Decodes bytes (Ok message) = IsMessage (t_view message) × (bytes ≡ spelling (t_view message))
 Decodes bytes (Err (Denied rule)) = (rule ≡ S2) × IsErr (message_of requests bytes)
-Decodes bytes (Err Memory) = IsOk (message_of requests bytes) × (has_text_type (slice_index bytes 4) ≡ true)
+Decodes bytes (Err Memory) = IsOk (message_of requests bytes) × (takes_memory requests (slice_index bytes 4) ≡ true)
 
 -- how a message ends once the front lets it through
 pub data Receives (tree : Tree) (users : List Row) (c : Connection) (bytes : List ℕ) (outcome : Result RBody Refusal) (c' : Connection) : Type 0 where

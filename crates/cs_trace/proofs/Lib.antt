@@ -1,4 +1,5 @@
+pub mod Spelled
+pub mod Lines
+pub mod Legal
+pub mod Sound
 pub mod Views
-pub mod Numbering
-pub mod Loop
-pub mod Starts

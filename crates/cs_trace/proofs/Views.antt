@@ -1,12 +1,55 @@
--- A `BTreeMap` of paths as a finite map.
-use Rattle.std.proofs.Common.{◌≡◌, ◌≢◌, true, false, cond, List, [], ◌∷◌, length, Some, refl, sym, ap, ◌∙◌, arith, ⊎_elim}
-use Rattle.std.specs.Ordering.{eq_by_cmp, is_eq}
-use Rattle.std.specs.Cmp.{tied_itself}
+-- A `BTreeMap` whose keys are lists of names, as a finite map of paths.
+use Rattle.std.proofs.Common.{◌≡◌, suc, Bool, List, [], ◌∷◌, Vec, cond, length, Some, refl, sym, ap, ◌∙◌, arith}
+use Rattle.std.specs.declared.cmp.Ordering.{Ordering}
+use Rattle.std.specs.declared.cmp.Ordering.TheVariants.{Less, Equal, Greater}
+use Rattle.std.specs.BTreeMap.{insert_entry, is_at}
+use Rattle.std.specs.List.{AllByRecursion}
 use Rattle.std.specs.List.Sorted.{IsStrictlySortedBy}
-use Rattle.std.specs.Map.{keys_of}
-use Rattle.std.specs.FinMap.{FinMap, get, insert, empty, entries, len, from_entries, put, entries-insert, get-insert, len-entries, len-empty}
-use Rattle.cs_tree_model.specs.Tree.{Path, path_cmp}
-use Rattle.cs_tree_model.specs.Laws.Paths.{path_total, path_cases}
+use Rattle.std.specs.Map.{keys_of, lookup}
+use Rattle.std.specs.Ordering.{eq_by_cmp, match_ordering}
+use Rattle.std.specs.FinMap.{get, insert, empty, entries, len, from_entries, put, find, entries-insert, get-insert, get-from_entries, len-entries, len-empty, same_map}
+use Rattle.std.specs.FinMap.Entries.{by_order, find-put}
+use Rattle.cs_tree_model.specs.Laws.Paths.{path_total, path_exact}
+use Rattle.cs_tree_model.specs.Maps.Views.{get_view}
+use Rattle.cs_tree_model.specs.Tree.{NameBytes, Path, path_cmp}
+use Rattle.cs_trace.specs.Keys.{by_path}
+
+-- lists of names as their paths are
+abbrev pub names_cmp : {Z : Type 0} → Vec NameBytes Z → Vec NameBytes Z → Ordering
+names_cmp k l = path_cmp k.items l.items
+
+module _ {X Z : Type 0} where
+  lookup-by_path : (test : Path → Bool) (es : List (Vec NameBytes Z × X)) → lookup (λ k. test k.items) es ≡ lookup test (by_path es)
+  lookup-by_path test [] = refl
+  lookup-by_path test (e ∷ es) = ap (cond (test e.0.items) (Some e.1)) (lookup-by_path test es)
+
+  pub get-by_path : (es : List (Vec NameBytes Z × X)) (q : Path) → lookup (λ k. is_at (path_cmp q) k.items) es ≡ get (from_entries {R = path_cmp} (by_path es)) q
+  get-by_path es q = lookup-by_path (is_at (path_cmp q)) es ∙ sym (get_view path_total path_exact (by_path es) q)
+
+  put_by : (o : Ordering) (k : Vec NameBytes Z) (v : X) (e : Vec NameBytes Z × X) (es : List (Vec NameBytes Z × X)) → by_path (insert_entry names_cmp es k v) ≡ put path_cmp k.items v (by_path es)
+      → by_path (match_ordering o ((k, v) ∷ e ∷ es) ((e.0, v) ∷ es) (e ∷ insert_entry names_cmp es k v))
+      ≡ by_order o ((k.items, v) ∷ by_path (e ∷ es)) ((e.0.items, v) ∷ by_path es) ((e.0.items, e.1) ∷ put path_cmp k.items v (by_path es))
+  put_by Less k v e es rest = refl
+  put_by Equal k v e es rest = refl
+  put_by Greater k v e es rest = ap (λ fs. (e.0.items, e.1) ∷ fs) rest
+
+  put-by_path : (es : List (Vec NameBytes Z × X)) (k : Vec NameBytes Z) (v : X) → by_path (insert_entry names_cmp es k v) ≡ put path_cmp k.items v (by_path es)
+  put-by_path [] k v = refl
+  put-by_path (e ∷ es) k v = put_by (path_cmp k.items e.0.items) k v e es (put-by_path es k v)
+
+  pub insert-by_path : (es : List (Vec NameBytes Z × X)) (k : Vec NameBytes Z) (v : X) → from_entries {R = path_cmp} (by_path (insert_entry names_cmp es k v)) ≡ insert (from_entries (by_path es)) k.items v
+  insert-by_path es k v = same_map path_total path_exact _ _ (λ q.
+      get-from_entries path_total _ q ∙ ap (find path_cmp q) (put-by_path es k v) ∙ find-put path_cmp path_total q k.items v (by_path es)
+      ∙ sym (get-insert path_total (from_entries (by_path es)) k.items v q ∙ ap (cond (eq_by_cmp path_cmp q k.items) (Some v)) (get-from_entries path_total (by_path es) q)))
+
+  below-by_path : (k : Vec NameBytes Z) (es : List (Vec NameBytes Z × X)) → AllByRecursion (λ l. names_cmp k l ≡ Less) (keys_of es) → AllByRecursion (λ p. path_cmp k.items p ≡ Less) (keys_of (by_path es))
+  below-by_path k [] all = all
+  below-by_path k (e ∷ es) all = (all.0, below-by_path k es all.1)
+
+  sorted-by_path : (es : List (Vec NameBytes Z × X)) → IsStrictlySortedBy names_cmp (keys_of es) → IsStrictlySortedBy path_cmp (keys_of (by_path es))
+  unfolding IsStrictlySortedBy
+  sorted-by_path [] sorted = sorted
+  sorted-by_path (e ∷ es) sorted = (below-by_path e.0 es sorted.0, sorted-by_path es sorted.1)
 
 module _ {X : Type 0} where
   no_length : (es : List (Path × X)) → length es ≡ 0 → es ≡ []
@@ -19,21 +62,18 @@ module _ {X : Type 0} where
   put_front (e ∷ es) k v sorted = rw sorted.0.0 refl
 
   -- entries in order are those of their map
-  pub entries_view : (es : List (Path × X)) → IsStrictlySortedBy path_cmp (keys_of es) → entries (from_entries {R = path_cmp} es) ≡ es
+  entries_view : (es : List (Path × X)) → IsStrictlySortedBy path_cmp (keys_of es) → entries (from_entries {R = path_cmp} es) ≡ es
   unfolding IsStrictlySortedBy
   entries_view [] sorted = no_length _ (sym (len-entries (empty {X = X} {R = path_cmp})) ∙ len-empty path_cmp X)
   entries_view (e ∷ es) sorted = entries-insert path_total (from_entries es) e.0 e.1 ∙ ap (put path_cmp e.0 e.1) (entries_view es sorted.1) ∙ put_front es e.0 e.1 sorted
 
-  pub len_view : (es : List (Path × X)) → IsStrictlySortedBy path_cmp (keys_of es) → len (from_entries {R = path_cmp} es) ≡ length es
-  len_view es sorted = len-entries (from_entries es) ∙ ap length (entries_view es sorted)
+module _ {X Z : Type 0} (es : List (Vec NameBytes Z × X)) (sorted : IsStrictlySortedBy names_cmp (keys_of es)) where
+  pub entries-by_path : entries (from_entries {R = path_cmp} (by_path es)) ≡ by_path es
+  entries-by_path = entries_view (by_path es) (sorted-by_path es sorted)
 
-  -- ---- what a map has after a change
+  length-by_path : (fs : List (Vec NameBytes Z × X)) → length fs ≡ length (by_path fs)
+  length-by_path [] = refl
+  length-by_path (f ∷ fs) = ap suc (length-by_path fs)
 
-  pub get-insert_same : (m : FinMap path_cmp X) (p : Path) (v : X) → get (insert m p v) p ≡ Some v
-  get-insert_same m p v = get-insert path_total m p v p ∙ ap (λ o. cond (is_eq o) (Some v) (get m p)) (tied_itself path_total p)
-
-  pub get-insert_other : (m : FinMap path_cmp X) (p q : Path) (v : X) → p ≢ q → get (insert m q v) p ≡ get m p
-  get-insert_other m p q v other = get-insert path_total m q v p ∙ ⊎_elim
-      (λ (one : (eq_by_cmp path_cmp p q ≡ true) × (p ≡ q)). absurd (other one.1))
-      (λ (two : (eq_by_cmp path_cmp p q ≡ false) × (p ≢ q)). ap (λ b. cond b (Some v) (get m p)) two.0)
-      (path_cases p q)
+  pub len-by_path : length es ≡ len (from_entries {R = path_cmp} (by_path es))
+  len-by_path = length-by_path es ∙ sym (ap length entries-by_path) ∙ sym (len-entries (from_entries {R = path_cmp} (by_path es)))

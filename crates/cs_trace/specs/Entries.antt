@@ -1,8 +1,12 @@
 -- What stands at each path.
-use Rattle.std.specs.Prelude.{ℕ, List, Option, refl}
+use Rattle.std.specs.Prelude.{ℕ, ◌+◌, Bool, not, is_some, List, Option, None, Some, length, refl}
 use Rattle.std.specs.Coded.{Coded, code_by, coded×, coded_ℕ, coded_list, coded_option}
 use Rattle.std.specs.FinMap.{FinMap, code}
-use Rattle.cs_tree_model.specs.Tree.{path_cmp}
+use Rattle.cs_tree_model.specs.Fresh.{listing}
+use Rattle.cs_tree_model.specs.Maps.Values.{map_values}
+use Rattle.cs_tree_model.specs.Tree.{Path, path_cmp}
+use Rattle.cs_tree_model.specs.declared.mode.TheConstants.{DMDIR}
+use Rattle.cs_tree_model.specs.declared.record.Record.{Record}
 use Rattle.cs_trace.specs.declared.entry.Entry.{Entry}
 
 -- in the order of paths
@@ -19,3 +23,25 @@ entry_code = code_by
 
 abbrev pub entries_code : Coded Entries
 entries_code = code (coded_list (coded_list coded_ℕ)) entry_code
+
+-- an entry without bytes is a directory
+abbrev pub is_directory : Entry → Bool
+is_directory e = not (is_some e.content)
+
+-- the bytes of a file; a directory has none
+abbrev pub size_of : Option (List ℕ) → ℕ
+size_of None = 0
+size_of (Some bytes) = length bytes
+
+-- the permissions, with a directory's bit above them
+abbrev pub file_mode : Option (List ℕ) → ℕ → ℕ
+file_mode None permissions = DMDIR + permissions
+file_mode (Some bytes) permissions = permissions
+
+-- the record of an entry, which nobody changed and which has no number yet
+abbrev pub record_of : Entry → Record
+record_of e = record { number = 0; vers = 0; owner = e.rights.owner; group = e.rights.group; mode = file_mode e.content e.rights.permissions; atime = 0; mtime = 0; muid = e.rights.owner; content = e.content }
+
+-- the records in the order of their paths, with fresh numbers
+abbrev pub records_in : Entries → List (Path × Record)
+records_in m = listing (map_values record_of m)

@@ -17,12 +17,7 @@ kind_text Memory = codes "out of memory"
 abbrev pub line_text : ℕ → List ℕ → List ℕ
 line_text line kind = codes "trace line " ++ (decimal line ++ (codes ": " ++ kind))
 
+-- want of memory is said of no line
 abbrev pub fault_text : ℕ → TraceFaultKind → List ℕ
-fault_text line Syntax = line_text line (codes "Syntax")
-fault_text line UnknownOp = line_text line (codes "UnknownOp")
-fault_text line BadName = line_text line (codes "BadName")
-fault_text line NoParent = line_text line (codes "NoParent")
-fault_text line NotDir = line_text line (codes "NotDir")
-fault_text line Exists = line_text line (codes "Exists")
-fault_text line TooLarge = line_text line (codes "TooLarge")
-fault_text line Memory = codes "out of memory"
+fault_text line Memory = kind_text Memory
+fault_text line kind = line_text line (kind_text kind)

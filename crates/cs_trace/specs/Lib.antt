@@ -1,6 +1,7 @@
 pub mod Entries
-pub mod Claims
 pub mod Faults
+pub mod Keys
 pub mod Lines
-pub mod Numbers
+pub mod Said
+pub mod Sound
 pub mod Start

@@ -1,5 +1,5 @@
 -- What a line of a trace says by itself, through what `serde_json` reads as a value.
-use Rattle.std.specs.Prelude.{ℕ, ◌+◌, ◌-◌, ◌*◌, ◌==◌, ◌||◌, ◌&&◌, Bool, false, List, [], ◌∷◌, nat_eq, nat_le, codes, Option, Some, None, option_and_then, if◌then◌else◌}
+use Rattle.std.specs.Prelude.{ℕ, ◌+◌, ◌-◌, ◌*◌, ◌==◌, ◌||◌, ◌&&◌, Bool, false, List, [], ◌∷◌, nat_eq, nat_le, codes, Option, Some, None, option_and_then, unwrap_or, if◌then◌else◌}
 use Rattle.std.specs.Cmp.Lexicographic.{pointwise}
 use Rattle.std.specs.Option.{option_map, option_map_or}
 use Rattle.std.specs.List.{list_all}
@@ -9,14 +9,24 @@ use Rattle.serde_json.specs.Read.{read}
 use Rattle.serde_json.specs.Events.{members_len}
 use Rattle.serde_json.specs.Find.{get, as_number, as_object, as_str, as_u64}
 use Rattle.hex.specs.Hex.{decode_of}
-use Rattle.cs_names.specs.Legal.{user_name_in}
-use Rattle.cs_names.specs.Paths.{path_in}
-use Rattle.cs_tree_model.specs.Tree.{Path}
-use Rattle.cs_trace.specs.Claims.{Claims}
-use Rattle.cs_trace.specs.declared.entry.Entry.{Entry}
-use Rattle.cs_trace.specs.declared.entry.Rights.{Rights}
-use Rattle.cs_trace.specs.declared.line.Line.{Line}
-use Rattle.cs_trace.specs.declared.line.Line.TheVariants.{Header, Start, Unknown}
+
+-- owner, group and permissions as a line has them
+pub record Claims : Type 0 where
+  pub owner : List ℕ
+  pub group : List ℕ
+  pub permissions : ℕ
+
+-- a file with its bytes at the start, or a directory, with its path as a text
+pub record StartLine : Type 0 where
+  pub path : List ℕ
+  pub claims : Claims
+  pub content : Option (List ℕ)
+
+-- the header, which says who has the root; a start line; an operation, or a start line of no known kind
+pub data Line : Type 0 where
+  Header : Claims → Line
+  Start : StartLine → Line
+  Unknown : Line
 
 -- spaces, tabs and carriage returns alone
 abbrev pub is_blank : List ℕ → Bool
@@ -51,6 +61,10 @@ permissions_in (a ∷ b ∷ c ∷ d ∷ more) = None
 abbrev pub bytes_at : Data → Option (List ℕ)
 bytes_at d = option_and_then (λ text. result_ok (decode_of text)) (text_at (codes "bytes") d)
 
+-- the same of a text that is known to spell some
+abbrev pub spelled_by : List ℕ → List ℕ
+spelled_by text = unwrap_or (result_ok (decode_of text)) []
+
 -- owner, group and mode
 abbrev pub claims_in : Data → Option Claims
 claims_in d =
@@ -60,48 +74,24 @@ claims_in d =
     option_map (λ permissions. record { owner = owner; group = group; permissions = permissions })
     (permissions_in mode)) (text_at (codes "mode") d)) (text_at (codes "group") d)) (text_at (codes "owner") d)
 
--- ---- the names in a line; None where one is not legal
-
-abbrev pub rights_in : Claims → Option Rights
-rights_in claims =
-    option_and_then (λ owner.
-    option_map (λ group. record { owner = owner; group = group; permissions = claims.permissions })
-    (result_ok (user_name_in claims.group))) (result_ok (user_name_in claims.owner))
-
--- a path with a name: the root has no start line
-abbrev pub below_root : Path → Option Path
-below_root [] = None
-below_root (name ∷ names) = Some (name ∷ names)
-
-abbrev pub start_path_in : List ℕ → Option Path
-start_path_in text = option_and_then below_root (result_ok (path_in text))
-
-abbrev pub placed_in : List ℕ → Claims → Option (List ℕ) → Option (Path × Entry)
-placed_in path claims content =
-    option_and_then (λ place.
-    option_map (λ rights. (place, record { rights = rights; content = content }))
-    (rights_in claims)) (start_path_in path)
-
 -- ---- the line; None where it is Syntax
 
 -- a header of this version
 abbrev pub header_in : Data → Data → Option Line
-header_in version d =
-    if is_one version && has_keys 4 d then option_map (λ claims. Header (rights_in claims)) (claims_in d)
-    else None
+header_in version d = if is_one version && has_keys 4 d then option_map Header (claims_in d) else None
 
 -- a start line with exactly so many keys
-abbrev pub start_with : ℕ → Data → Option (List ℕ) → Option Line
+abbrev pub start_with : ℕ → Data → Option (List ℕ) → Option StartLine
 start_with count d content =
     if has_keys count d then
-    option_and_then (λ path. option_map (λ claims. Start (placed_in path claims content)) (claims_in d)) (text_at (codes "path") d)
+    option_and_then (λ path. option_map (λ claims. record { path = path; claims = claims; content = content }) (claims_in d)) (text_at (codes "path") d)
     else None
 
 -- a start line of this kind
 abbrev pub start_line_in : List ℕ → Data → Option Line
 start_line_in kind d =
-    if pointwise nat_eq kind (codes "dir") then start_with 5 d None
-    else (if pointwise nat_eq kind (codes "file") then option_and_then (λ bytes. start_with 6 d (Some bytes)) (bytes_at d)
+    if pointwise nat_eq kind (codes "dir") then option_map Start (start_with 5 d None)
+    else (if pointwise nat_eq kind (codes "file") then option_and_then (λ bytes. option_map Start (start_with 6 d (Some bytes))) (bytes_at d)
     else Some Unknown)
 
 -- exactly one of the keys `trace`, `start` and `op` stands in a line

@@ -2,10 +2,10 @@
 ghost use Rattle.std.specs.Prelude.{◌≡◌, ◌==◌, IfOk, OnOk};
 ghost use Rattle.std.specs.FinMap as map;
 ghost use Rattle.std.specs.Option.{option_copied};
-ghost use Rattle.cs_trace.specs.Numbers.{numbered};
+ghost use Rattle.cs_trace.specs.Entries.{records_in};
 
 use crate::entry::Entry;
-use cs_names::Path;
+use cs_names::{Name, Path};
 use cs_tree_model::Record;
 use std::alloc::{AllocError, Global};
 use std::collections::BTreeMap;
@@ -14,18 +14,19 @@ use std::marker::Model;
 /// What stands at each path. Contracts see a finite map, in the order of paths.
 #[derive(Drop)]
 pub(crate) struct Entries {
-    by_path: BTreeMap<Path, Entry>,
+    by_names: BTreeMap<Vec<Name>, Entry>,
 }
 
 impl Model for Entries {
     ghost use Rattle.std.specs.FinMap as map;
     ghost use Rattle.cs_trace.specs.Entries as model;
+    ghost use Rattle.cs_trace.specs.Keys.{by_path};
 
     ghost Value = { model.Entries };
 
     ghost coded = { model.entries_code };
 
-    ghost view = { λ entries. map.from_entries entries.by_path.entries };
+    ghost view = { λ entries. map.from_entries (by_path entries.by_names.entries) };
 }
 
 impl Entries {
@@ -33,20 +34,21 @@ impl Entries {
         ensures { result ≡ map.empty }
     {
         Entries {
-            by_path: BTreeMap::new(alloc),
+            by_names: BTreeMap::new(alloc),
         }
     }
 
-    pub(crate) fn get(&self, path: &Path) -> Option<&Entry>
-        ensures { option_copied result ≡ map.get self.now path.now }
+    /// What stands at the path with these names. It takes no memory.
+    pub(crate) fn get(&self, names: &[Name]) -> Option<&Entry>
+        ensures { option_copied result ≡ map.get self.now names.now }
     {
-        self.by_path.get(path)
+        self.by_names.get(names)
     }
 
     pub(crate) fn len(&self) -> usize
         ensures { result ≡ map.len self.now }
     {
-        self.by_path.len()
+        self.by_names.len()
     }
 
     pub(crate) fn is_empty(&self) -> bool
@@ -55,21 +57,21 @@ impl Entries {
         self.len() == 0
     }
 
-    pub(crate) fn insert(&mut self, path: Path, entry: Entry) -> Result<(), AllocError>
-        ensures { OnOk result (self.new ≡ map.insert self.old path entry) }
+    pub(crate) fn insert(&mut self, names: Vec<Name>, entry: Entry) -> Result<(), AllocError>
+        ensures { OnOk result (self.new ≡ map.insert self.old names.items entry) }
     {
-        self.by_path.insert(path, entry)?;
+        self.by_names.insert(names, entry)?;
         Ok(())
     }
 
-    /// The records in the order of their paths, with the fresh numbers.
+    /// The records in the order of their paths, with fresh numbers.
     pub(crate) fn into_records(self, alloc: Global) -> Result<Vec<(Path, Record)>, AllocError>
-        ensures { IfOk result (λ records. records.items ≡ numbered 0 (map.entries self)) }
+        ensures { IfOk result (λ records. records.items ≡ records_in self) }
     {
         let mut records = Vec::new(alloc);
-        for (path, entry) in self.by_path {
+        for (names, entry) in self.by_names {
             let number = records.len() as u64;
-            records.push((path, entry.into_record(number)?))?;
+            records.push((Path::from_names(names), entry.into_record(number)?))?;
         }
         Ok(records)
     }

@@ -1,13 +1,15 @@
 //! The trace of a storage application: its header and the files that stand at its start.
 #![tactic(auto)]
 
+mod digits;
 mod entries;
 mod entry;
 pub mod fault;
 mod line;
+mod names;
 pub mod start;
 #[cfg(test)]
 mod tests;
 
 pub use fault::{TraceFault, TraceFaultKind};
-pub use start::{StartTree, read_start};
+pub use start::read_start;

@@ -1,27 +1,20 @@
 //! What a line of a trace says by itself.
-ghost use Rattle.std.specs.Prelude.{◌≡◌, codes, IfOk, option_and_then};
+ghost use Rattle.std.specs.Prelude.{◌≡◌, codes};
 ghost use Rattle.std.specs.Option.{option_map};
-ghost use Rattle.std.specs.Result.{result_ok};
-ghost use Rattle.serde_json.specs.Find.{as_str};
 ghost use Rattle.serde_json.specs.View.{view};
-ghost use Rattle.cs_names.specs.Legal.{user_name_in};
-ghost use Rattle.cs_trace.specs.Claims.{claims_of};
-ghost use Rattle.cs_trace.specs.Lines.{bytes_at, claims_in, has_keys, header_in, is_blank, is_octal, is_one, line_in, line_of, permissions_in, placed_in, rights_in, start_line_in, start_path_in, start_with, text_at};
+ghost use Rattle.cs_trace.specs.Said.{claims_of, line_said, start_of};
+ghost use Rattle.cs_trace.specs.Lines.{bytes_at, claims_in, has_keys, header_in, is_blank, is_octal, is_one, line_of, permissions_in, start_line_in, start_with, text_at};
 
-use crate::entry::{Entry, Rights};
-use cs_names::{NameFault, Path, UserName};
-use cs_tree_model::Content;
-use hex::FromHexError;
+use crate::digits::Digits;
 use serde_json::Value;
-use std::alloc::{AllocError, Global};
 
-/// What a line says by itself. A name in it that is not legal leaves None.
+/// What a line says. The texts in it are not yet judged as names and paths.
 #[derive(Drop)]
-pub(crate) enum Line {
+pub(crate) enum Line<'a> {
     /// The header: who has the root.
-    Header(Option<Rights>),
-    /// A file or a directory at the start, and its path.
-    Start(Option<(Path, Entry)>),
+    Header(Claims<'a>),
+    /// A file or a directory at the start.
+    Start(StartLine<'a>),
     /// An operation, or a start line of no known kind.
     Unknown,
 }
@@ -32,6 +25,15 @@ pub(crate) struct Claims<'a> {
     pub(crate) owner: &'a str,
     pub(crate) group: &'a str,
     pub(crate) permissions: u16,
+}
+
+/// A file or a directory at the start.
+#[derive(Drop)]
+pub(crate) struct StartLine<'a> {
+    pub(crate) path: &'a str,
+    pub(crate) claims: Claims<'a>,
+    /// The bytes of a file; a directory has none.
+    pub(crate) content: Option<Digits<'a>>,
 }
 
 /// Whether the line has JSON's blanks alone: it is skipped, and counted.
@@ -94,145 +96,61 @@ fn claims_in(value: &Value) -> Option<Claims<'_>>
     })
 }
 
-fn user_name_in(alloc: Global, text: &str) -> Result<Option<UserName>, AllocError>
-    ensures { IfOk result (λ name. name ≡ result_ok (user_name_in text.now)) }
-{
-    match UserName::read(alloc, text.as_bytes()) {
-        Ok(name) => Ok(Some(name)),
-        Err(NameFault::Memory) => Err(AllocError),
-        Err(_) => Ok(None),
-    }
-}
-
-fn rights_in(alloc: Global, claims: &Claims<'_>) -> Result<Option<Rights>, AllocError>
-    ensures { IfOk result (λ rights. rights ≡ rights_in (claims_of claims.now)) }
-{
-    let Some(owner) = user_name_in(alloc, claims.owner)? else {
-        return Ok(None);
-    };
-    let Some(group) = user_name_in(alloc, claims.group)? else {
-        return Ok(None);
-    };
-    Ok(Some(Rights {
-        owner,
-        group,
-        permissions: claims.permissions,
-    }))
-}
-
-/// The path of a start line, which the root has not.
-fn start_path_in(alloc: Global, text: &str) -> Result<Option<Path>, AllocError>
-    ensures { IfOk result (λ path. path ≡ start_path_in text.now) }
-{
-    match Path::read(alloc, text) {
-        Ok(path) if path.names().is_empty() => Ok(None),
-        Ok(path) => Ok(Some(path)),
-        Err(NameFault::Memory) => Err(AllocError),
-        Err(_) => Ok(None),
-    }
-}
-
-fn placed_in(
-    alloc: Global,
-    path: &str,
-    claims: &Claims<'_>,
-    content: Content,
-) -> Result<Option<(Path, Entry)>, AllocError>
-    ensures { IfOk result (λ placed. placed ≡ placed_in path.now (claims_of claims.now) content) }
-{
-    let Some(path) = start_path_in(alloc, path)? else {
-        return Ok(None);
-    };
-    match rights_in(alloc, claims)? {
-        Some(rights) => Ok(Some((path, Entry { rights, content }))),
-        None => Ok(None),
-    }
-}
-
 /// A start line with so many keys, for a file or a directory with that content.
-fn start_with(
-    alloc: Global,
-    value: &Value,
+fn start_with<'a>(
+    value: &'a Value,
     count: usize,
-    content: Content,
-) -> Result<Option<Line>, AllocError>
-    ensures { IfOk result (λ line. line ≡ start_with count (view value.now) content) }
+    content: Option<Digits<'a>>,
+) -> Option<StartLine<'a>>
+    ensures { option_map start_of result ≡ start_with count (view value.now) content.entry }
 {
     if !has_keys(value, count) {
-        return Ok(None);
+        return None;
     }
-    let Some(path) = text_at(value, "path") else {
-        return Ok(None);
-    };
-    match claims_in(value) {
-        Some(claims) => Ok(Some(Line::Start(placed_in(alloc, path, &claims, content)?))),
-        None => Ok(None),
-    }
+    Some(StartLine {
+        path: text_at(value, "path")?,
+        claims: claims_in(value)?,
+        content,
+    })
 }
 
 /// The bytes that hexadecimal digits of either case spell.
-fn bytes_at(alloc: Global, value: &Value) -> Result<Option<Vec<u8>>, AllocError>
-    ensures { IfOk result (λ bytes. option_map (λ v. v.items) bytes ≡ bytes_at (view value.now)) }
+fn bytes_at(value: &Value) -> Option<Digits<'_>>
+    ensures { result ≡ bytes_at (view value.now) }
 {
-    let Some(text) = text_at(value, "bytes") else {
-        return Ok(None);
-    };
-    match hex::decode(alloc, text) {
-        Ok(bytes) => Ok(Some(bytes)),
-        Err(FromHexError::OutOfMemory) => Err(AllocError),
-        Err(_) => Ok(None),
-    }
+    Digits::of(text_at(value, "bytes")?)
 }
 
-fn start_line_in(alloc: Global, kind: &str, value: &Value) -> Result<Option<Line>, AllocError>
-    ensures { IfOk result (λ line. line ≡ start_line_in kind.now (view value.now)) }
+fn start_line_in<'a>(kind: &str, value: &'a Value) -> Option<Line<'a>>
+    ensures { option_map line_said result ≡ start_line_in kind.now (view value.now) }
 {
     if kind == "dir" {
-        return start_with(alloc, value, 5, Content::directory());
+        return Some(Line::Start(start_with(value, 5, None)?));
     }
     if kind != "file" {
-        return Ok(Some(Line::Unknown));
+        return Some(Line::Unknown);
     }
-    match bytes_at(alloc, value)? {
-        Some(bytes) => start_with(alloc, value, 6, Content::file(bytes)),
-        None => Ok(None),
-    }
+    let content = bytes_at(value)?;
+    Some(Line::Start(start_with(value, 6, Some(content))?))
 }
 
-fn header_in(alloc: Global, version: &Value, value: &Value) -> Result<Option<Line>, AllocError>
-    ensures { IfOk result (λ line. line ≡ header_in (view version.now) (view value.now)) }
+fn header_in<'a>(version: &Value, value: &'a Value) -> Option<Line<'a>>
+    ensures { option_map line_said result ≡ header_in (view version.now) (view value.now) }
 {
     if !(is_one(version) && has_keys(value, 4)) {
-        return Ok(None);
+        return None;
     }
-    match claims_in(value) {
-        Some(claims) => Ok(Some(Line::Header(rights_in(alloc, &claims)?))),
-        None => Ok(None),
-    }
+    Some(Line::Header(claims_in(value)?))
 }
 
-fn line_of(alloc: Global, value: &Value) -> Result<Option<Line>, AllocError>
-    ensures { IfOk result (λ line. line ≡ line_of (view value.now)) }
+/// What the line of that value says, or None where it is no line of a trace. It takes no memory.
+pub(crate) fn line_of(value: &Value) -> Option<Line<'_>>
+    ensures { option_map line_said result ≡ line_of (view value.now) }
 {
     match (value.get("trace"), value.get("start"), value.get("op")) {
-        (Some(version), None, None) => header_in(alloc, version, value),
-        (None, Some(start), None) => match start.as_str() {
-            Some(kind) => start_line_in(alloc, kind, value),
-            None => Ok(None),
-        },
-        (None, None, Some(operation)) => Ok(operation.as_str().map(|_| Line::Unknown)),
-        _ => Ok(None),
-    }
-}
-
-/// What the line says, or None where it is no line of a trace.
-#[tactic(auto, unfolding(crate::specs::Lines::line_in))]
-pub(crate) fn line_in(alloc: Global, text: &str) -> Result<Option<Line>, AllocError>
-    ensures { IfOk result (λ line. line ≡ line_in text.now) }
-{
-    match Value::from_str(alloc, text) {
-        Ok(value) => line_of(alloc, &value),
-        Err(error) if error.is_memory() => Err(AllocError),
-        Err(_) => Ok(None),
+        (Some(version), None, None) => header_in(version, value),
+        (None, Some(start), None) => start_line_in(start.as_str()?, value),
+        (None, None, Some(operation)) => operation.as_str().map(|_| Line::Unknown),
+        _ => None,
     }
 }

@@ -1,4 +1,6 @@
-use crate::{StartTree, TraceFault, TraceFaultKind, read_start};
+use crate::{TraceFault, TraceFaultKind, read_start};
+use cs_names::Path;
+use cs_tree_model::Record;
 use std::alloc::{AllocError, Global};
 use std::test::Fail;
 
@@ -19,10 +21,11 @@ const SHUFFLED: &str = r#"{"trace":1,"owner":"cat","group":"staff","mode":"775"}
 {"start":"file","path":"/d/s/z","owner":"ann","group":"ann","mode":"644","bytes":""}
 "#;
 
-fn shown(alloc: Global, start: StartTree) -> Result<String, AllocError> {
+fn shown(alloc: Global, records: Vec<(Path, Record)>) -> Result<String, AllocError> {
     let mut whole = String::new(alloc);
-    for (path, record) in start.records {
-        let (data, bytes) = record.into_parts();
+    for (path, record) in records {
+        let (data, content) = record.into_parts();
+        let bytes = content.into_bytes();
         let place = format!(in alloc; "{} {path}", data.number)?;
         let owners = format!(in alloc; "{} {} {}", data.owner, data.group, data.muid)?;
         let times = format!(in alloc; "{} {} {}", data.vers, data.atime, data.mtime)?;
@@ -225,7 +228,7 @@ fn file(alloc: Global, length: usize) -> Result<String, AllocError> {
 fn a_path_has_at_most_64_names(rt: HostRuntime) -> Result<(), Fail> {
     let alloc = rt.alloc();
     let start = read_start(alloc, deep(alloc, 64)?.as_str())?;
-    assert_eq!(rt; start.records.len(), 65);
+    assert_eq!(rt; start.len(), 65);
     let fault = read_start(alloc, deep(alloc, 65)?.as_str()).err();
     assert_eq!(rt;
         fault,
@@ -237,11 +240,41 @@ fn a_path_has_at_most_64_names(rt: HostRuntime) -> Result<(), Fail> {
     Ok(())
 }
 
+/// The fault of a directory with so many names in its path, below 64 directories in one another.
+fn fault_below(alloc: Global, names: usize, last: &str) -> Result<Option<TraceFault>, AllocError> {
+    let mut text = deep(alloc, 64)?;
+    let mut path = String::new(alloc);
+    for _ in 1..names {
+        path.push_str("/x")?;
+    }
+    path.push_str(last)?;
+    push_directory(&mut text, path.as_str())?;
+    Ok(read_start(alloc, text.as_str()).err())
+}
+
+#[test]
+fn a_path_longer_than_any_directorys_is_judged_by_its_names(rt: HostRuntime) -> Result<(), Fail> {
+    let alloc = rt.alloc();
+    for (names, last, kind) in [
+        (64, "/x", TraceFaultKind::Exists),
+        (65, "/x", TraceFaultKind::TooLarge),
+        (65, "/..", TraceFaultKind::BadName),
+        (66, "/x", TraceFaultKind::NoParent),
+        (66, "/..", TraceFaultKind::BadName),
+        (1_000, "/x", TraceFaultKind::NoParent),
+        (1_000, "/", TraceFaultKind::BadName),
+    ] {
+        let want = Some(TraceFault { line: 66, kind });
+        assert_eq!(rt; fault_below(alloc, names, last)?, want, "{names}{last}");
+    }
+    Ok(())
+}
+
 #[test]
 fn a_file_has_at_most_1048576_bytes(rt: HostRuntime) -> Result<(), Fail> {
     let alloc = rt.alloc();
     let start = read_start(alloc, file(alloc, 1_048_576)?.as_str())?;
-    assert_eq!(rt; start.records.len(), 2);
+    assert_eq!(rt; start.len(), 2);
     let fault = read_start(alloc, file(alloc, 1_048_577)?.as_str()).err();
     assert_eq!(rt;
         fault,

@@ -7,8 +7,8 @@ use Rattle.cs_tree_model.specs.declared.change.New.{New}
 use Rattle.cs_tree_model.specs.declared.change.Stamp.{Stamp}
 use Rattle.cs_tree_model.specs.declared.record.Record.{Record}
 use Rattle.cs_tree_model.specs.Mode.{is_directory_mode}
-use Rattle.cs_tree_model.specs.Record.{IsDirectory}
-use Rattle.cs_tree_model.specs.Tree.{NameBytes, Path, Tree, path_numbered, record_numbered, parent_numbered}
+use Rattle.cs_tree_model.specs.Record.{IsDirectory, IsMarked}
+use Rattle.cs_tree_model.specs.Tree.{NameBytes, Path, Tree, record_at, path_numbered, record_numbered, parent_numbered}
 use Rattle.cs_tree_model.specs.Effects.{stamped, written, resized, change_at, add, take_out, rename, entry_after}
 
 -- f at the path of the number
@@ -54,6 +54,10 @@ changed n c s = at_number n (change_path c s)
 -- the change gives no directory's bit and takes none
 abbrev pub KeepsKind : Change → Option Record → Type 0
 KeepsKind c o = IfSome c.mode (λ mode. IfSome o (λ r. is_directory_mode mode ≡ is_directory_mode r.mode))
+
+-- each mode says rightly whether the record is a directory's
+abbrev pub AreMarked : Tree → Type 0
+AreMarked t = (p : Path) (r : Record) → record_at t p ≡ Some r → IsMarked r
 
 -- one more change of the file n fits its version
 abbrev pub CanStamp : Tree → ℕ → Type 0

@@ -1,98 +1,145 @@
-//! Look-ups of a name in a small and in a large directory. Run by hand with the word `time`, it tells
-//! how long they take: a look-up in 65,536 entries should take less than eight times one in 16.
+//! The same work on the plain store and on std's maps and vectors: look-ups, adds, removes and listings
+//! in small and large directories, and writes and appends to a file. Run by hand with the word `time`,
+//! it tells how long each takes, and how many times as long on the store.
 #![tactic(auto)]
 
-use cs_names::{Name, Path, UserName};
-use cs_tree::PlainTree;
-use cs_tree_model::{Content, Record, TreeRead};
+mod checked;
+mod ordinary;
+mod pair;
+mod subject;
+mod work;
+
+use crate::pair::{Pair, Times, names};
+use crate::work::{Adds, Appends, Listing, LookUps, Removes, Writes};
+use cs_names::UserName;
 use std::alloc::Global;
 use std::rt::Clock;
-use std::time::Instant;
 use std::{env, io};
 
-/// How many names are looked up, and how often.
+/// How many names are looked up, added and removed at a time.
 const NAMES: u64 = 16;
 
-const ROUNDS: u64 = 1_000_000;
-
-fn name(alloc: Global, number: u64) -> Option<Name> {
-    let text = format!(in alloc; "file{number:05}").ok()?;
-    Name::read(alloc, text.as_bytes()).ok()
+fn user(alloc: Global) -> Option<UserName> {
+    UserName::read(alloc, b"ann").ok()
 }
 
-fn record(alloc: Global, number: u64, content: Content) -> Option<Record> {
-    Some(Record {
-        number,
-        vers: 0,
-        owner: UserName::read(alloc, b"ann").ok()?,
-        group: UserName::read(alloc, b"staff").ok()?,
-        mode: 0o664,
-        atime: 0,
-        mtime: 0,
-        muid: UserName::read(alloc, b"ann").ok()?,
-        content,
-    })
+/// A root with so many files, twice.
+fn directory(alloc: Global, files: u64) -> Option<Pair> {
+    let names = names(alloc, files, 1, "")?;
+    Pair::new(alloc, &names, &user(alloc)?)
 }
 
-/// A root with so many empty files.
-fn directory(alloc: Global, files: u64) -> Option<PlainTree> {
-    let mut records = Vec::new(alloc);
-    let root = record(alloc, 0, Content::directory())?;
-    records
-        .push((Path::from_names(Vec::new(alloc)), root))
-        .ok()?;
-    for number in 1..=files {
-        let mut names = Vec::new(alloc);
-        names.push(name(alloc, number)?).ok()?;
-        let file = record(alloc, number, Content::file(Vec::new(alloc)))?;
-        records.push((Path::from_names(names), file)).ok()?;
-    }
-    PlainTree::try_from_records(alloc, records).ok()
-}
-
-/// Names of those files, as many in every directory and spread over it.
-fn names(alloc: Global, files: u64) -> Option<Vec<Name>> {
-    let mut names = Vec::new(alloc);
-    for step in 0..NAMES {
-        let number = (files / NAMES).wrapping_mul(step);
-        names.push(name(alloc, number.wrapping_add(1))?).ok()?;
-    }
-    Some(names)
-}
-
-/// How many of the look-ups find their file: all of them, or none where memory was wanting.
-fn look_up(tree: &PlainTree, names: &[Name], rounds: u64) -> u64 {
-    let mut found = 0u64;
-    for _ in 0..rounds {
-        for name in names {
-            if tree.find_number(0, name).is_some() {
-                found = found.wrapping_add(1);
-            }
-        }
-    }
-    found
-}
-
-/// Looks names up in a directory of so many files, and prints how many were found, and where it is
-/// timed in how many milliseconds.
-fn measure(rt: &(impl Clock + Print + AllocGlobal), files: u64, timed: bool) -> io::Result<()> {
+/// Looks names up in a directory of so many files.
+fn look_ups(rt: &(impl Clock + Print + AllocGlobal), files: u64, timed: bool) -> io::Result<()> {
     let alloc = rt.alloc();
-    let (Some(tree), Some(names)) = (directory(alloc, files), names(alloc, files)) else {
-        return println!(rt; "{files} files: out of memory");
+    let step = files / NAMES;
+    let (Some(mut pair), Some(names)) = (directory(alloc, files), names(alloc, NAMES, step, ""))
+    else {
+        return println!(rt; "out of memory");
     };
-    if !timed {
-        let found = look_up(&tree, &names, 1);
-        return println!(rt; "{files} files: {found} look-ups found their file");
+    let rounds = if timed { 1_000_000 } else { 1 };
+    let work = LookUps {
+        names: &names,
+        rounds,
+    };
+    let mut times = Times::new();
+    times.time(rt, &mut pair, &work)?;
+    print!(rt; "{files} files: ")?;
+    times.print(rt, "look-ups", timed)
+}
+
+/// Adds names to a directory of so many files, and takes them out again.
+fn changes(rt: &(impl Clock + Print + AllocGlobal), files: u64, timed: bool) -> io::Result<()> {
+    let alloc = rt.alloc();
+    let step = files / NAMES;
+    let (Some(mut pair), Some(names), Some(user)) = (
+        directory(alloc, files),
+        names(alloc, NAMES, step, "x"),
+        user(alloc),
+    ) else {
+        return println!(rt; "out of memory");
+    };
+    let (names, user) = (&names, &user);
+    let mut adds = Times::new();
+    let mut removes = Times::new();
+    for _ in 0..(if timed { 20_000 } else { 1 }) {
+        adds.time(rt, &mut pair, &Adds { names, user })?;
+        removes.time(rt, &mut pair, &Removes { count: NAMES, user })?;
     }
-    let start = Instant::now(rt)?;
-    let found = look_up(&tree, &names, ROUNDS);
-    let spent = start.elapsed(rt)?.as_millis();
-    println!(rt; "{files} files: {found} look-ups in {spent} ms")
+    print!(rt; "{files} files: ")?;
+    adds.print(rt, "adds", timed)?;
+    print!(rt; "{files} files: ")?;
+    removes.print(rt, "removes", timed)
+}
+
+/// Lists a directory of so many files, so often.
+fn listings(
+    rt: &(impl Clock + Print + AllocGlobal),
+    files: u64,
+    rounds: u64,
+    timed: bool,
+) -> io::Result<()> {
+    let Some(mut pair) = directory(rt.alloc(), files) else {
+        return println!(rt; "out of memory");
+    };
+    let mut times = Times::new();
+    for _ in 0..(if timed { rounds } else { 1 }) {
+        times.time(rt, &mut pair, &Listing)?;
+    }
+    print!(rt; "{files} files: ")?;
+    times.print(rt, "entries of listings", timed)
+}
+
+/// Writes blocks into a file of 1 MB.
+fn writes(rt: &(impl Clock + Print + AllocGlobal), timed: bool) -> io::Result<()> {
+    let alloc = rt.alloc();
+    let (Some(mut pair), Some(user)) = (directory(alloc, 1), user(alloc)) else {
+        return println!(rt; "out of memory");
+    };
+    let work = Writes { user: &user };
+    pair.run(alloc, &work);
+    let mut times = Times::new();
+    for _ in 0..(if timed { 1_000 } else { 1 }) {
+        times.time(rt, &mut pair, &work)?;
+    }
+    times.print(rt, "writes of 4 kB into 1 MB", timed)
+}
+
+/// Appends pieces to an empty file, up to 1 MB.
+fn appends(rt: &(impl Clock + Print + AllocGlobal), timed: bool) -> io::Result<()> {
+    let alloc = rt.alloc();
+    let (Some(mut pair), Some(names), Some(user)) = (
+        directory(alloc, 1),
+        names(alloc, 1, 1, "x"),
+        user(alloc),
+    ) else {
+        return println!(rt; "out of memory");
+    };
+    let (names, user) = (&names, &user);
+    let mut small = Times::new();
+    let mut large = Times::new();
+    for _ in 0..(if timed { 100 } else { 1 }) {
+        pair.run(alloc, &Adds { names, user });
+        small.time(rt, &mut pair, &Appends { user })?;
+        pair.run(alloc, &Removes { count: 1, user });
+        pair.run(alloc, &Adds { names, user });
+        large.time(rt, &mut pair, &Writes { user })?;
+        pair.run(alloc, &Removes { count: 1, user });
+    }
+    small.print(rt, "appends of 64 bytes up to 1 MB", timed)?;
+    large.print(rt, "appends of 4 kB up to 1 MB", timed)
 }
 
 fn main(rt: HostRuntime) -> io::Result<()> {
     let timed = env::args(&rt)?.count() > 1;
-    measure(&rt, 16, timed)?;
-    measure(&rt, 1_024, timed)?;
-    measure(&rt, 65_536, timed)
+    for files in [16, 1_024, 65_536] {
+        look_ups(&rt, files, timed)?;
+    }
+    for files in [16, 65_536] {
+        changes(&rt, files, timed)?;
+    }
+    listings(&rt, 16, 40_960, timed)?;
+    listings(&rt, 65_536, 10, timed)?;
+    writes(&rt, timed)?;
+    appends(&rt, timed)
 }

@@ -1,11 +1,16 @@
 use Rattle.std.proofs.Common.{◌++◌, length, ap, sym, ◌∙◌}
-use Rattle.std.specs.FinMap.{entries}
-use Rattle.cs_trace.specs.Numbers.{numbered}
-use Rattle.cs_trace.proofs.Views.{entries_view}
+use Rattle.std.specs.FinMap as map
+use Rattle.cs_tree_model.specs.Fresh.{numbered}
+use Rattle.cs_tree_model.specs.Maps.Values.{map_entries, entries-map_values}
+use Rattle.cs_tree_model.specs.Tree.{path_cmp}
+use Rattle.cs_trace.specs.Entries.{record_of}
+use Rattle.cs_trace.specs.Keys.{by_path}
+use Rattle.cs_trace.proofs.Views.{entries-by_path}
 use Rattle.cs_trace.proofs.entries.Entries.into_records.Goals as goal
 
-pub loop-path-init : goal.loop-path-init
-loop-path-init c =
-    let gives = c.into_iter-path-iterator.ensures.into_iter_gives in
-    (λ i. c.new-records.ensures.items i ++ numbered (length (c.new-records.ensures.items i)) (gives.0 i))
-    ∙ ap (numbered 0) (sym (entries_view _ gives.5) ∙ ap entries c.self.view_is)
+pub loop-names-init : goal.loop-names-init
+loop-names-init c =
+    let gives = c.into_iter-names-iterator.ensures.into_iter_gives in
+    (λ i. c.new-records.ensures.items i ++ numbered (length (c.new-records.ensures.items i)) (map_entries record_of (by_path (gives.0 i))))
+    ∙ ap (λ es. numbered 0 (map_entries record_of es)) (sym (entries-by_path _ gives.5) ∙ ap map.entries c.self.view_is)
+    ∙ ap (numbered 0) (sym (entries-map_values path_cmp record_of c.args.self))

@@ -1,0 +1,73 @@
+//! Laws of trees that change. A call of a function here does nothing: its contract is the law.
+ghost use Rattle.std.specs.Prelude.{◌≡◌, ◌≢◌, ◌≤◌, ◌∷◌, [], ◌++◌, ℕ, List, Option, None, Some, IfSome};
+ghost use Rattle.std.specs.Option.{option_map, option_map_or};
+ghost use Rattle.cs_tree_model.specs.Effects.{replace_prefix};
+ghost use Rattle.cs_tree_model.specs.Listing.{IsListing, tree_of_records};
+ghost use Rattle.cs_tree_model.specs.Nexts.{names_after};
+ghost use Rattle.cs_tree_model.specs.Stores.{AreMarked, KeepsKind, added, changed, entry_numbered, removed, written_to};
+ghost use Rattle.cs_tree_model.specs.Tree.{IsTree, NameBytes, Path, number_in, parent_numbered, parent_path, path_numbered, record_numbered};
+ghost use Rattle.cs_tree_model.specs.declared.change.Change as change;
+ghost use Rattle.cs_tree_model.specs.declared.change.New as new;
+ghost use Rattle.cs_tree_model.specs.declared.change.Stamp as stamp;
+
+use crate::change::{Change, Stamp};
+use crate::read::TreeRead;
+use crate::record::Record;
+use cs_names::Path;
+
+/// In the tree of a listing each mode says rightly whether its record is a directory's.
+pub fn listings_are_marked(records: &[(Path, Record)])
+    requires { IsListing records.now }
+    ensures { AreMarked (tree_of_records records.now) }
+{}
+
+/// And so they do after any call of a store; a change keeps the directory's bit as it is.
+pub fn calls_keep_marks<T: TreeRead>(tree: &T)
+    requires is_tree { IsTree (T.tree tree.now) }
+    requires marked { AreMarked (T.tree tree.now) }
+    ensures added { (d : ℕ) (x : NameBytes) (w : new.New) (s : stamp.Stamp) → AreMarked (added d x w s (T.tree tree.now)) }
+    ensures removed { (n : ℕ) (s : stamp.Stamp) → AreMarked (removed n s (T.tree tree.now)) }
+    ensures written { (n k : ℕ) (w : List ℕ) (s : stamp.Stamp) → AreMarked (written_to n k w s (T.tree tree.now)) }
+    ensures changed { (n : ℕ) (c : change.Change) (s : stamp.Stamp) → KeepsKind c (record_numbered (T.tree tree.now) n) → AreMarked (changed n c s (T.tree tree.now)) }
+{}
+
+/// A new name of a file renames every path that begins with the file's own, and leaves every other:
+/// all below a directory keep their numbers and move with it.
+pub fn rename_moves_what_is_below<T: TreeRead>(
+    tree: &T,
+    number: u64,
+    change: &Change,
+    stamp: &Stamp,
+)
+    requires is_tree { IsTree (T.tree tree.now) }
+    requires not_root { number ≢ 0 }
+    requires free { IfSome change.now.name (λ y. IfSome (parent_numbered (T.tree tree.now) number) (λ d. number_in (T.tree tree.now) d y ≡ None)) }
+    ensures { IfSome change.now.name (λ y. IfSome (path_numbered (T.tree tree.now) number) (λ q. (n : ℕ) → path_numbered (changed number change.now stamp.entry.now (T.tree tree.now)) n ≡ option_map (replace_prefix q (parent_path q ++ y ∷ [])) (path_numbered (T.tree tree.now) n))) }
+{}
+
+/// A remove takes one file out of the tree, and leaves the record of every other but of the directory
+/// that had it.
+pub fn remove_leaves_the_others<T: TreeRead>(tree: &T, number: u64, stamp: &Stamp)
+    requires is_tree { IsTree (T.tree tree.now) }
+    requires not_root { number ≢ 0 }
+    requires empty { (x : NameBytes) → number_in (T.tree tree.now) number x ≡ None }
+    ensures gone { record_numbered (removed number stamp.entry.now (T.tree tree.now)) number ≡ None }
+    ensures others { (n : ℕ) → n ≢ number → parent_numbered (T.tree tree.now) number ≢ Some n → record_numbered (removed number stamp.entry.now (T.tree tree.now)) n ≡ record_numbered (T.tree tree.now) n }
+{}
+
+/// A number is given once: no file has the next number or one above it, and no call lowers the next
+/// number.
+pub fn numbers_are_given_once<T: TreeRead>(tree: &T)
+    requires { IsTree (T.tree tree.now) }
+    ensures free { (n : ℕ) → (T.tree tree.now).next ≤ n → record_numbered (T.tree tree.now) n ≡ None }
+    ensures added { (d : ℕ) (x : NameBytes) (w : new.New) (s : stamp.Stamp) → (T.tree tree.now).next ≤ (added d x w s (T.tree tree.now)).next }
+    ensures removed { (n : ℕ) (s : stamp.Stamp) → (removed n s (T.tree tree.now)).next ≡ (T.tree tree.now).next }
+    ensures written { (n k : ℕ) (w : List ℕ) (s : stamp.Stamp) → (written_to n k w s (T.tree tree.now)).next ≡ (T.tree tree.now).next }
+    ensures changed { (n : ℕ) (c : change.Change) (s : stamp.Stamp) → (changed n c s (T.tree tree.now)).next ≡ (T.tree tree.now).next }
+{}
+
+/// A listing goes on: the names of a directory after the last one are the next name and the names
+/// after it. So a reader that asks for one entry after the other meets each name once.
+pub fn listing_goes_on<T: TreeRead>(tree: &T, directory: u64)
+    ensures { (last : Option NameBytes) → names_after (T.tree tree.now) directory last ≡ option_map_or (λ x. x ∷ names_after (T.tree tree.now) directory (Some x)) (entry_numbered (T.tree tree.now) directory last) [] }
+{}
