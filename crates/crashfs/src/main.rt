@@ -9,7 +9,7 @@ use clap::error::ErrorKind;
 use command_line::{Ask, ask_of};
 use cs_serve::{Inputs, script_of};
 use std::fs;
-use std::io::{self, BufWriter};
+use std::io::{self, BufWriter, Write};
 use std::process::ExitCode;
 use std::rt::{Env, Files};
 
@@ -38,31 +38,37 @@ fn read_file<R: Files + Eprint + AllocGlobal>(rt: &R, path: &str) -> Result<Vec<
     }
 }
 
-fn run_script<R: Files + Input + Print + Eprint + AllocGlobal>(
+fn run_script<R: Files + Input + Print + Eprint + AllocGlobal, E: Write>(
     rt: &R,
-    users: &str,
-    trace: &str,
+    err: &mut E,
+    ask: &Ask,
 ) -> Result<u8, u8> {
+    let Ask::Script {
+        users,
+        trace,
+        verbose,
+    } = *ask;
     let trace = read_file(rt, trace)?;
     let users = read_file(rt, users)?;
     let inputs = Inputs {
         users: &users,
         trace: &trace,
+        verbose,
     };
     let Ok(mut out) = BufWriter::new(rt.alloc(), io::writer(rt)) else {
         return Err(out_of_memory(rt));
     };
-    let mut err = Vec::new(rt.alloc());
-    let status = script_of(rt.alloc(), &inputs, &mut rt.reader(), &mut out, &mut err);
-    if let Ok(text) = std::str::from_utf8(&err) {
-        let _unheard = eprint!(rt; "{text}");
-    }
-    Ok(status)
+    let mut input = rt.reader();
+    Ok(script_of(rt.alloc(), &inputs, &mut input, &mut out, err))
 }
 
-fn run<R: Files + Input + Print + Eprint + AllocGlobal>(rt: &R, words: &[&str]) -> u8 {
+fn run<R: Files + Input + Print + Eprint + AllocGlobal, E: Write>(
+    rt: &R,
+    err: &mut E,
+    words: &[&str],
+) -> u8 {
     match ask_of(rt.alloc(), words) {
-        Ok(Ask::Script { users, trace }) => match run_script(rt, users, trace) {
+        Ok(ask) => match run_script(rt, err, &ask) {
             Ok(status) | Err(status) => status,
         },
         Err(error) if error.kind() == ErrorKind::OutOfMemory => out_of_memory(rt),
@@ -98,5 +104,5 @@ fn main(rt: HostRuntime) -> ExitCode {
             return ExitCode::from(out_of_memory(&rt));
         }
     }
-    ExitCode::from(run(&rt, &texts))
+    ExitCode::from(run(&rt, &mut rt.stderr(), &texts))
 }

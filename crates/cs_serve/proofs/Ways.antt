@@ -20,6 +20,10 @@ pub onto-end : (qs : List Qid) (r : Option RuleId) (n : ℕ) → onto qs (record
 onto-end [] r n = refl
 onto-end (p ∷ qs) r n = ap (further p) (onto-end qs r n)
 
+stopped_first-onto : (qs : List Qid) (q : Qid) (w : Way) → stopped_first (onto qs (further q w)) ≡ None
+stopped_first-onto [] q w = refl
+stopped_first-onto (p ∷ qs) q w = refl
+
 module _ (t : Tree) (us : List Row) (u : List ℕ) (n : ℕ) (names : List (String Global)) (i : ℕ) (x : String Global) (qs : List Qid) (target : Way) where
   -- the walk from here is one element and the rest
   at_name : i < length names → x ≡ get_or names i x
@@ -39,6 +43,13 @@ module _ (t : Tree) (us : List Row) (u : List ℕ) (n : ℕ) (names : List (Stri
       onto-append qs (qid_at t m) _
       ∙ ap (λ o. onto qs (go_on (λ k. way t us u k (map string_bytes (drop (i + 1) names))) t n o)) leads
       ∙ sym (ap (onto qs) (at_name less is)) ∙ done
+
+  -- where an element passes, nothing stops the walk at its first name
+  pub passes_at : i < length names → x ≡ get_or names i x → (m : ℕ) → Ok m ≡ element t us u n (string_bytes x)
+      → onto qs (way t us u n (map string_bytes (drop i names))) ≡ target → stopped_first target ≡ None
+  passes_at less is m leads done =
+      sym (ap stopped_first (ap (λ o. onto qs (go_on (λ k. way t us u k (map string_bytes (drop (i + 1) names))) t n o)) leads ∙ sym (ap (onto qs) (at_name less is)) ∙ done))
+      ∙ stopped_first-onto qs (qid_at t m) _
 
 module _ (t : Tree) (us : List Row) (u : List ℕ) (n : ℕ) (names : List (String Global)) (i : ℕ) (qs : List Qid) (target : Way) where
   pub ends_at : length names ≤ i → onto qs (way t us u n (map string_bytes (drop i names))) ≡ target → record { qids = qs; stopped = None; last = n } ≡ target
@@ -65,7 +76,6 @@ stopped_first-way t us u n (x ∷ xs) =
     first_by t n (λ m. way t us u m xs) (first_failing (element_rules t us u n x)) (next t n x) (last_fails _ _ (is_none (next t n x)))
 
 -- of a file that is there, a walk is refused where it is stopped at its first name
-pub first_failing-walk_run_rules : (t : Tree) (us : List Row) (u v : List ℕ) (n : ℕ) (names : List (List ℕ)) (w : Way)
-    → is_gone t n ≡ false → v ≡ u → w ≡ way t us v n names → first_failing (walk_run_rules t us u n names) ≡ stopped_first w
-first_failing-walk_run_rules t us u v n names w there same e =
-    rw there (sym (stopped_first-way t us u n names) ∙ ap (λ (x : List ℕ). stopped_first (way t us x n names)) (sym same) ∙ ap stopped_first (sym e))
+pub first_failing-walk_run_rules : (t : Tree) (us : List Row) (u : List ℕ) (n : ℕ) (names : List (List ℕ)) (w : Way)
+    → is_gone t n ≡ false → w ≡ way t us u n names → first_failing (walk_run_rules t us u n names) ≡ stopped_first w
+first_failing-walk_run_rules t us u n names w there e = rw there (sym (stopped_first-way t us u n names) ∙ ap stopped_first (sym e))

@@ -1,6 +1,7 @@
 -- What an attach is refused for, and what it does.
 use Rattle.std.specs.Prelude.{◌≡◌, ℕ, ◌+◌, ◌==◌, not, ◌||◌, Bool, false, List, [], ◌∷◌, length, nat_le, Option, None, Some, Result, Ok, Err, is_none, is_some}
 use Rattle.std.specs.Option.{option_map, option_map_or}
+use Rattle.cs_names.specs.declared.limits.TheConstants.{FIDS, RUN_ATTACHES}
 use Rattle.cs_names.specs.declared.rule_id.RuleId.{RuleId}
 use Rattle.cs_names.specs.declared.rule_id.RuleId.TheVariants.{A1, A2, A3, A4, A5, A6}
 use Rattle.cs_tree_model.specs.Tree.{Tree}
@@ -20,14 +21,14 @@ use Rattle.cs_serve.specs.Connection.{Connection, no_fid}
 -- the connection's rules of an attach: a free fid, no authentication fid, and a tree's name
 abbrev pub attach_connection_rules : List (ℕ × Entry) → ℕ → ℕ → List ℕ → List Check
 attach_connection_rules fids fid afid aname =
-    (A1, is_some (fid_at fids fid) || fid == no_fid || nat_le 4096 (length fids))
+    (A1, is_some (fid_at fids fid) || fid == no_fid || nat_le FIDS (length fids))
     ∷ (A2, not (afid == no_fid))
     ∷ (A3, is_none (tree_name_in aname))
     ∷ []
 
--- the run is another than the one that was found, or it was found 64 times
+-- the run is another than the one that was found, or it was found as often as it may be
 abbrev pub has_no_room : Option (List ℕ) → ℕ → List ℕ → Bool
-has_no_room run attaches name = option_map_or (λ found. not (same_name found name)) run false || nat_le 64 attaches
+has_no_room run attaches name = option_map_or (λ found. not (same_name found name)) run false || nat_le RUN_ATTACHES attaches
 
 -- the registry's rules: state 0 alone is published, and the run has room for the attach
 abbrev pub attach_registry_rules : Option (List ℕ) → ℕ → Option (List ℕ × List ℕ) → List Check

@@ -17,9 +17,9 @@ use Rattle.cs_serve.specs.Fids.{without}
 use Rattle.cs_serve.specs.Refusals.{first_failing, first_failing_or}
 use Rattle.cs_serve.specs.Attaches.{attach_connection_rules, first_failing_find, attach_run_rules, attached, attach_denied}
 use Rattle.cs_serve.specs.Connection.{Connection}
-use Rattle.cs_serve.specs.FidWalks.{walk_connection_rules, first_failing_walk, walk_left, walk_qids}
+use Rattle.cs_serve.specs.FidWalks.{first_failing_walk, walk_before, walk_left, walk_qids}
 use Rattle.cs_serve.specs.Opens.{open_connection_rules, first_failing_open, open_left, open_qid}
-use Rattle.cs_serve.specs.Reads.{first_failing_read, read_bytes}
+use Rattle.cs_serve.specs.Reads.{first_failing_read, gives_bytes, read_bytes}
 use Rattle.cs_serve.specs.Stats.{clunk_connection_rules, first_failing_stat, stat_left}
 use Rattle.cs_serve.specs.Versions.{version_connection_rules, agreed, version_text, session_of, renewed}
 use Rattle.cs_serve.specs.Walks.{qid_at}
@@ -68,7 +68,7 @@ effect_of tree users c tag (t.Flush oldtag) =
 effect_of tree users c tag (t.Walk fid newfid wname) =
     record {
       grows = true;
-      before = first_failing (walk_connection_rules c.fids fid newfid);
+      before = walk_before tree users c.fids fid newfid (map string_bytes wname.items);
       first = first_failing_walk tree users c.fids fid newfid (map string_bytes wname.items);
       reply = reply_of rk.Walk tag (map qid_of (walk_qids tree users c.fids fid (map string_bytes wname.items)));
       left = record c { fids = walk_left tree users c.fids fid newfid (map string_bytes wname.items) };
@@ -85,7 +85,7 @@ effect_of tree users c tag (t.Open fid mode) =
     }
 effect_of tree users c tag (t.Read fid offset count) =
     record {
-      grows = true;
+      grows = gives_bytes tree c.fids fid offset count (unwrap_or c.msize 0);
       before = first_failing_read tree c.fids fid;
       first = first_failing_read tree c.fids fid;
       reply = reply_of rk.Read tag (read_bytes tree c.fids fid offset count (unwrap_or c.msize 0));

@@ -1,5 +1,5 @@
 -- A connection's fids: the list of its entries in the order in which they came, and the room for more.
-use Rattle.std.specs.Prelude.{ℕ, List, Option, nat_eq}
+use Rattle.std.specs.Prelude.{◌≡◌, ◌<◌, ℕ, List, None, Option, nat_eq}
 use Rattle.std.specs.Map.{lookup, remove_entry}
 use Rattle.indexmap.specs.IndexMap.{insert_entry}
 use Rattle.cs_serve.specs.declared.fid.Entry.{Entry}
@@ -15,6 +15,10 @@ pub record Fids : Type 0 where
 -- the entry of that fid, among these
 abbrev pub fid_at : List (ℕ × Entry) → ℕ → Option Entry
 fid_at entries fid = lookup (nat_eq fid) entries
+
+-- the fid is there, or there is room for one more
+abbrev pub HasRoomFor : ℕ → Fids → Type 0
+HasRoomFor fid table = fid_at table.entries fid ≡ None → 0 < table.room
 
 -- the entries without that fid's
 abbrev pub without : ℕ → List (ℕ × Entry) → List (ℕ × Entry)

@@ -1,5 +1,5 @@
 -- What a read is refused for, and the bytes that it gives.
-use Rattle.std.specs.Prelude.{ℕ, ◌-◌, ◌%◌, ◌==◌, true, List, [], ◌∷◌, min, Option, None, is_none, unwrap_or}
+use Rattle.std.specs.Prelude.{ℕ, ◌-◌, ◌%◌, ◌==◌, Bool, not, true, List, [], ◌∷◌, length, min, Option, None, is_none, unwrap_or}
 use Rattle.std.specs.Option.{option_map_or}
 use Rattle.cs_names.specs.declared.rule_id.RuleId.{RuleId}
 use Rattle.cs_names.specs.declared.rule_id.RuleId.TheVariants.{G1, G2}
@@ -26,3 +26,7 @@ first_failing_read t fids fid =
 -- as many bytes of the fid's file as are asked for, are there, and fit a reply of that message size
 abbrev pub read_bytes : Tree → List (ℕ × Entry) → ℕ → ℕ → ℕ → ℕ → List ℕ
 read_bytes t fids fid offset count msize = option_map_or (λ f. unwrap_or (bytes_at t f.number offset (min count (msize - 11))) []) (opened_in (fid_at fids fid)) []
+
+-- there is at least one such byte
+abbrev pub gives_bytes : Tree → List (ℕ × Entry) → ℕ → ℕ → ℕ → ℕ → Bool
+gives_bytes t fids fid offset count msize = not (length (read_bytes t fids fid offset count msize) == 0)

@@ -4,7 +4,7 @@ use Rattle.std.specs.Option.{option_map, option_map_or}
 use Rattle.cs_names.specs.declared.rule_id.RuleId.{RuleId}
 use Rattle.cs_names.specs.declared.rule_id.RuleId.TheVariants.{K5, K6, K7, K8, O4, O5, O6, O8, G3, H2}
 use Rattle.cs_names.specs.Legal.{name_in}
-use Rattle.cs_tree_model.specs.declared.record.Metadata.{Metadata}
+use Rattle.cs_tree_model.specs.declared.record.MetadataBuf.{MetadataBuf}
 use Rattle.cs_tree_model.specs.declared.record.Kind.{Kind}
 use Rattle.cs_tree_model.specs.declared.record.Kind.TheVariants.{Directory, File}
 use Rattle.cs_tree_model.specs.Record.{metadata_of}
@@ -17,7 +17,7 @@ use Rattle.cs_users.specs.Rights.{has_right}
 use Rattle.cs_serve.specs.Refusals.{Check, first_failing}
 
 -- what is known of the file of a number, if it is there
-abbrev pub file_at : Tree → ℕ → Option Metadata
+abbrev pub file_at : Tree → ℕ → Option MetadataBuf
 file_at t n = option_map metadata_of (record_numbered t n)
 
 -- no file has the number
@@ -25,7 +25,7 @@ abbrev pub is_gone : Tree → ℕ → Bool
 is_gone t n = is_none (file_at t n)
 
 -- a test of the file, if it is there
-abbrev pub on_file : Tree → ℕ → (Metadata → Bool) → Bool
+abbrev pub on_file : Tree → ℕ → (MetadataBuf → Bool) → Bool
 on_file t n test = option_map_or test (file_at t n) false
 
 -- the mark of a directory
@@ -34,11 +34,11 @@ is_directory_kind Directory = true
 is_directory_kind (File length) = false
 
 -- the file is a directory
-abbrev pub is_directory : Metadata → Bool
+abbrev pub is_directory : MetadataBuf → Bool
 is_directory file = is_directory_kind file.kind
 
 -- the user has the right on the file
-abbrev pub may : List Row → List ℕ → Right → Metadata → Bool
+abbrev pub may : List Row → List ℕ → Right → MetadataBuf → Bool
 may us u right file = has_right us u file.owner file.group file.mode right
 
 -- the file is there, and the user has not the right on it

@@ -1,6 +1,7 @@
 -- Replies that have a spelling, and of how many bytes.
 use Rattle.std.specs.Prelude.{◌≡◌, ℕ, ◌+◌, ◌≤◌, true, List, length, max, Option, unwrap_or}
 use Rattle.std.specs.List.{AllByRecursion}
+use Rattle.cs_names.specs.declared.limits.TheConstants.{LEAST_MESSAGE_SIZE, MESSAGE_BYTES}
 use Rattle.cs_wire.specs.declared.message.Qid.{Qid}
 use Rattle.cs_wire.specs.declared.message.RBody.{RBody}
 use Rattle.cs_wire.specs.Bodies.{ReplyFits, reply_bytes}
@@ -42,9 +43,9 @@ pub record FitsWithin (most : ℕ) (reply : Message replies) : Type 0 where
 
 -- a size that a session can have
 pub record IsAgreed (size : ℕ) : Type 0 where
-  pub least : 1024 ≤ size
-  pub most : size ≤ 65536
+  pub least : LEAST_MESSAGE_SIZE ≤ size
+  pub most : size ≤ MESSAGE_BYTES
 
 -- the message size of the session, if one stands, and at least the least one
 abbrev pub room_of : Option ℕ → ℕ
-room_of msize = max 1024 (unwrap_or msize 0)
+room_of msize = max LEAST_MESSAGE_SIZE (unwrap_or msize 0)

@@ -1,13 +1,13 @@
 -- What a clunk and a stat are refused for, and what a stat tells.
-use Rattle.std.specs.Prelude.{ℕ, ◌-◌, List, [], ◌∷◌, length, Option, None, is_none, unwrap_or, option_and_then}
-use Rattle.std.specs.List.{slice_get}
+use Rattle.std.specs.Prelude.{ℕ, List, [], ◌∷◌, Option, None, is_none, unwrap_or, option_and_then}
 use Rattle.std.specs.Option.{option_map, option_map_or}
 use Rattle.cs_names.specs.declared.rule_id.RuleId.{RuleId}
 use Rattle.cs_names.specs.declared.rule_id.RuleId.TheVariants.{N1, H1}
-use Rattle.cs_tree_model.specs.declared.record.Metadata.{Metadata}
+use Rattle.cs_tree_model.specs.declared.record.MetadataBuf.{MetadataBuf}
 use Rattle.cs_tree_model.specs.declared.record.Kind.{Kind}
 use Rattle.cs_tree_model.specs.declared.record.Kind.TheVariants.{Directory, File}
-use Rattle.cs_tree_model.specs.Tree.{Tree, path_numbered}
+use Rattle.cs_tree_model.specs.Stores.{name_numbered}
+use Rattle.cs_tree_model.specs.Tree.{Tree}
 use Rattle.cs_wire.specs.Fields.{Value}
 use Rattle.cs_wire.specs.Messages.{stat_shape, qid_of as qid_value}
 use Rattle.cs_serve.specs.declared.fid.Entry.{Entry}
@@ -31,9 +31,9 @@ first_failing_stat t fids fid =
     first_failing_or (first_failing (stat_connection_rules fids fid))
     (option_map_or (λ entry. first_failing (stat_run_rules t (number_in_entry entry))) (fid_at fids fid) None)
 
--- the last name of a path, and a slash for the root
-abbrev pub last_name : List (List ℕ) → List ℕ
-last_name path = unwrap_or (slice_get path (length path - 1)) (47 ∷ [])
+-- the name of a file in its directory, and a slash for the root
+abbrev pub name_in : Tree → ℕ → List ℕ
+name_in t n = unwrap_or (name_numbered t n) (47 ∷ [])
 
 -- the length that a stat tells, 0 of a directory
 abbrev pub told_length : Kind → ℕ
@@ -41,12 +41,12 @@ told_length Directory = 0
 told_length (File length) = length
 
 -- what a stat tells of a file of that name
-abbrev pub stat_of_file : List ℕ → Metadata → Value stat_shape
+abbrev pub stat_of_file : List ℕ → MetadataBuf → Value stat_shape
 stat_of_file name file = (0, (0, (qid_value (qid_of file), (file.mode, (file.atime, (file.mtime, (told_length file.kind, (name, (file.owner, (file.group, file.muid))))))))))
 
 -- what a stat tells of the file of a number, if it is there
 abbrev pub stat_in : Tree → ℕ → Option (Value stat_shape)
-stat_in t n = option_and_then (λ path. option_map (stat_of_file (last_name path)) (file_at t n)) (path_numbered t n)
+stat_in t n = option_map (stat_of_file (name_in t n)) (file_at t n)
 
 -- what a stat of the fid tells, if the fid and its file are there
 abbrev pub stat_left : Tree → List (ℕ × Entry) → ℕ → Option (Value stat_shape)

@@ -1,6 +1,7 @@
 -- What a version comes to.
 use Rattle.std.specs.Prelude.{◌≡◌, ℕ, Bool, true, false, List, [], ◌∷◌, min, nat_lt, Option, None, Some, Result, Ok, Err, codes, if◌then◌else◌}
 use Rattle.std.specs.Borrow.{Bor}
+use Rattle.cs_names.specs.declared.limits.TheConstants.{LEAST_MESSAGE_SIZE, MESSAGE_BYTES}
 use Rattle.cs_names.specs.declared.rule_id.RuleId.{RuleId}
 use Rattle.cs_names.specs.declared.rule_id.RuleId.TheVariants.{S4}
 use Rattle.cs_names.specs.Pieces.{pieces}
@@ -23,11 +24,11 @@ is_spoken text = same_name (before_period text) (codes "9P2000")
 
 -- the rule of a version: no message size below the least one
 abbrev pub version_connection_rules : ℕ → List Check
-version_connection_rules msize = (S4, nat_lt msize 1024) ∷ []
+version_connection_rules msize = (S4, nat_lt msize LEAST_MESSAGE_SIZE) ∷ []
 
 -- the message size of a session, at most ours
 abbrev pub agreed : ℕ → ℕ
-agreed msize = min msize 65536
+agreed msize = min msize MESSAGE_BYTES
 
 -- the version that is spoken, or that none is
 abbrev pub said_version : Bool → List ℕ

@@ -2,7 +2,7 @@
 use Rattle.std.specs.Prelude.{ℕ, ◌/◌, List, [], ◌∷◌, Option, None, Some, Result, Ok, Err}
 use Rattle.std.specs.Option.{option_map_or}
 use Rattle.cs_names.specs.declared.rule_id.RuleId.{RuleId}
-use Rattle.cs_tree_model.specs.declared.record.Metadata.{Metadata}
+use Rattle.cs_tree_model.specs.declared.record.MetadataBuf.{MetadataBuf}
 use Rattle.cs_tree_model.specs.Tree.{Tree}
 use Rattle.cs_users.specs.Rows.{Row}
 use Rattle.cs_wire.specs.declared.message.Qid.{Qid}
@@ -10,7 +10,7 @@ use Rattle.cs_serve.specs.declared.walk.Walk.{Walk}
 use Rattle.cs_serve.specs.Rules.{file_at, element}
 
 -- the high byte of the mode, the version and the number
-abbrev pub qid_of : Metadata → Qid
+abbrev pub qid_of : MetadataBuf → Qid
 qid_of file = record { kind = file.mode / 0x1000000; vers = file.vers; path = file.number }
 
 -- the qid of the file of a number, or zeros where there is none

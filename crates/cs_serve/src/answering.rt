@@ -1,5 +1,6 @@
 //! What a session answers to each message.
 ghost use Rattle.std.specs.Prelude.{List, ◌≤◌, length, IfOk};
+ghost use Rattle.cs_names.specs.declared.limits.TheConstants.{WALK_NAMES};
 ghost use Rattle.cs_serve.specs.Sessions.{connection_of};
 ghost use Rattle.cs_serve.specs.Effects.{Ends, effect_of};
 ghost use Rattle.cs_serve.specs.Sizes.{FitsIn, room_of};
@@ -42,7 +43,7 @@ impl Session {
         newfid: u32,
         names: Vec<String>,
     ) -> Result<RBody, Refusal>
-        requires { length names.items ≤ 16 }
+        requires { length names.items ≤ WALK_NAMES }
         ensures ends { Ends (effect_of (T.tree tree.now) users.now (connection_of self.old) tag (t.Walk fid newfid names)) tag (connection_of self.old) result (connection_of self.new) }
         ensures fits { IfOk result (FitsIn (room_of self.old.msize)) }
     {

@@ -1,6 +1,6 @@
 //! The fids of a connection.
-ghost use Rattle.std.specs.Prelude.{◌≡◌, ◌<◌, ◌≤◌, [], length, OnOk, OnErr, IfNone, option_copied};
-ghost use Rattle.cs_serve.specs.Fids.{fid_at, with, without};
+ghost use Rattle.std.specs.Prelude.{◌≡◌, ◌<◌, ◌≤◌, [], length, IsOk, OnOk, OnErr, IfNone, None, option_copied};
+ghost use Rattle.cs_serve.specs.Fids.{HasRoomFor, fid_at, with, without};
 
 use crate::fid::Entry;
 use indexmap::IndexMap;
@@ -50,13 +50,26 @@ impl FidTable {
     pub fn reserve(&mut self) -> Result<(), AllocError>
         ensures entries { self.new.entries ≡ self.old.entries }
         ensures room { OnOk result (0 < self.new.room) }
+        ensures succeeds { 0 < self.old.room → IsOk result }
     {
         self.fids.reserve(1)
     }
 
+    /// Room for the fid, if it isn't there yet.
+    pub fn reserve_for(&mut self, fid: u32) -> Result<(), AllocError>
+        ensures entries { self.new.entries ≡ self.old.entries }
+        ensures absent { OnErr result (fid_at self.old.entries fid ≡ None) }
+        ensures room { OnOk result (HasRoomFor fid self.new) }
+    {
+        if self.look(fid).is_some() {
+            return Ok(());
+        }
+        self.reserve()
+    }
+
     /// Gives the fid this entry, in the place of what it was. It takes no memory.
     pub fn set(&mut self, fid: u32, entry: Entry)
-        requires room { 0 < self.old.room }
+        requires room { HasRoomFor fid self.old }
         ensures { self.new.entries ≡ with fid entry self.old.entries }
     {
         match self.fids.insert(fid, entry) {

@@ -1,5 +1,6 @@
 //! One connection over one start tree: state 0, and one run of it.
 ghost use Rattle.std.specs.Prelude.{ℕ, ◌≡◌, ◌≤◌, IfOk, length};
+ghost use Rattle.cs_names.specs.declared.limits.TheConstants.{LEAST_MESSAGE_SIZE, MESSAGE_BYTES};
 ghost use Rattle.cs_serve.specs.Sessions.{connection_of};
 ghost use Rattle.cs_serve.specs.Receipts.{Decodes, Receives, front_rules, said, tag_in};
 ghost use Rattle.cs_serve.specs.Refusals.{first_failing};
@@ -84,7 +85,7 @@ fn receive<T: TreeRead>(
 /// The reply that says an outcome. It takes no memory.
 fn reply_of(tag: u16, outcome: Result<RBody, Refusal>) -> RMessage
     ensures value { r_view result ≡ said tag outcome }
-    ensures fits { (most : ℕ) → 1024 ≤ most → most ≤ 65536 → IfOk outcome (FitsIn most) → FitsWithin most (r_view result) }
+    ensures fits { (most : ℕ) → LEAST_MESSAGE_SIZE ≤ most → most ≤ MESSAGE_BYTES → IfOk outcome (FitsIn most) → FitsWithin most (r_view result) }
 {
     match outcome {
         Ok(body) => RMessage { tag, body },

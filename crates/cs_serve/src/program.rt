@@ -8,23 +8,25 @@ use crate::script::{Action, ScriptLine, read_script};
 use cs_trace::{TraceFaultKind, read_start};
 use cs_tree::PlainTree;
 use cs_users::{Users, UsersFault};
-use cs_wire::{RMessage, encode};
+use cs_wire::{RMessage, decode, encode};
 use std::alloc::Global;
 use std::io::{ErrorKind, Read, Write};
 
-/// The bytes of the files that the command line named.
+/// What the command line gave: the bytes of the files that it named, and whether each message is told
+/// on standard error too.
 #[derive(Clone, Copy, Debug)]
 pub struct Inputs<'a> {
     pub users: &'a [u8],
     pub trace: &'a [u8],
+    pub verbose: bool,
 }
 
 fn read_tree(alloc: Global, trace: &[u8]) -> Result<PlainTree, ProgramFault> {
     let Ok(text) = std::str::from_utf8(trace) else {
         return Err(ProgramFault::TraceNotText);
     };
-    let start = match read_start(alloc, text) {
-        Ok(start) => start,
+    let records = match read_start(alloc, text) {
+        Ok(records) => records,
         Err(fault) => {
             if fault.kind == TraceFaultKind::Memory {
                 return Err(ProgramFault::Memory);
@@ -32,7 +34,7 @@ fn read_tree(alloc: Global, trace: &[u8]) -> Result<PlainTree, ProgramFault> {
             return Err(ProgramFault::Trace(fault));
         }
     };
-    PlainTree::from_records(alloc, start.records).map_err(|_| ProgramFault::Memory)
+    PlainTree::from_records(alloc, records).map_err(|_| ProgramFault::Memory)
 }
 
 fn read_users(alloc: Global, users: &[u8]) -> Result<Users, ProgramFault> {
@@ -66,15 +68,29 @@ fn write_reply<W: Write>(alloc: Global, reply: &RMessage, out: &mut W) -> Result
     writeln!(out, "0 {digits}").map_err(|_| ProgramFault::Output)
 }
 
-fn run_line<W: Write>(
+/// Tells a message and its reply as two lines of text. That these can't be written ends no script.
+fn tell<E: Write>(alloc: Global, bytes: &[u8], reply: &RMessage, err: &mut E) {
+    let _unheard = match decode(alloc, bytes) {
+        Ok(message) => writeln!(err, "0 <- {message}"),
+        Err(fault) => writeln!(err, "0 <- no message: {fault}"),
+    };
+    let _unheard = writeln!(err, "0 -> {reply}");
+}
+
+/// Does what a line asks, and prints what it came to; with `told` also what was asked, as text.
+fn run_line<W: Write, E: Write>(
     alloc: Global,
     world: &mut FirstWorld<PlainTree>,
     line: &ScriptLine,
     out: &mut W,
+    told: Option<&mut E>,
 ) -> Result<(), ProgramFault> {
     match &line.action {
         Action::Send(message) => {
             let reply = world.message(alloc, 0, line.now, &message.bytes);
+            if let Some(err) = told {
+                tell(alloc, &message.bytes, &reply, err);
+            }
             write_reply(alloc, &reply, out)
         }
         Action::HangUp => {
@@ -84,11 +100,12 @@ fn run_line<W: Write>(
     }
 }
 
-fn run_script<R: Read, W: Write>(
+fn run_script<R: Read, W: Write, E: Write>(
     alloc: Global,
     inputs: &Inputs,
     input: &mut R,
     out: &mut W,
+    err: &mut E,
 ) -> Result<(), ProgramFault> {
     let tree = read_tree(alloc, inputs.trace)?;
     let users = read_users(alloc, inputs.users)?;
@@ -96,14 +113,20 @@ fn run_script<R: Read, W: Write>(
     let script = read_all(alloc, input)?;
     let lines = read_script(alloc, &script)?;
     for line in &lines {
-        run_line(alloc, &mut world, line, out)?;
+        let told = if inputs.verbose {
+            Some(&mut *err)
+        } else {
+            None
+        };
+        run_line(alloc, &mut world, line, out, told)?;
     }
     out.flush().map_err(|_| ProgramFault::Output)
 }
 
 /// The command `script`: publishes the start tree, reads all of the input, checks every line, and then
 /// runs the lines one after the other, with a line of output for each. Its status: 0, or 1 where a
-/// fault ended it, which is told by one line on `err`; what was printed before stands.
+/// fault ended it, which is told by one line on `err`; what was printed before stands. Where the inputs
+/// ask for it, `err` also gets each message and its reply as text, `0 <- ` and `0 -> ` before them.
 pub fn script_of<R: Read, W: Write, E: Write>(
     alloc: Global,
     inputs: &Inputs,
@@ -113,7 +136,7 @@ pub fn script_of<R: Read, W: Write, E: Write>(
 ) -> u8
     ensures { result ≤ 1 }
 {
-    match run_script(alloc, inputs, input, out) {
+    match run_script(alloc, inputs, input, out, err) {
         Ok(()) => 0,
         Err(fault) => {
             let _printed = out.flush();

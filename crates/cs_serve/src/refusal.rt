@@ -1,6 +1,6 @@
 //! Why a request is refused.
 ghost use Rattle.std.specs.Prelude.{◌≡◌};
-ghost use Rattle.cs_serve.specs.declared.refusal.Refusal.TheVariants.{Memory};
+ghost use Rattle.cs_serve.specs.declared.refusal.Refusal.TheVariants.{Denied, Memory};
 ghost use Rattle.cs_serve.specs.Refusals.{refusal_text};
 ghost use Rattle.cs_serve.specs.Sizes.{IsShown};
 
@@ -24,6 +24,14 @@ impl Refusal {
             Refusal::Denied(rule) => rule.text(),
             Refusal::Memory => "out of memory",
         }
+    }
+}
+
+impl From<RuleId> for Refusal {
+    ghost from_gives = { λ rule refusal. refusal ≡ Denied rule };
+
+    fn from(rule: RuleId) -> Refusal {
+        Refusal::Denied(rule)
     }
 }
 

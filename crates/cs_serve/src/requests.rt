@@ -1,17 +1,17 @@
 //! What a connection's requests do on its fids and a tree, each after its rules.
-ghost use Rattle.std.specs.Prelude.{◌≡◌, ◌<◌, ◌≤◌, ◌-◌, length, map, string_bytes, IfOk, MatchResult, OnErr, OnOk, Option, None, Some};
+ghost use Rattle.std.specs.Prelude.{◌≡◌, ◌≤◌, ◌-◌, length, map, string_bytes, IfOk, IsErrOf, MatchResult, OnErr, OnOk, Option, None, Some, true};
 ghost use Rattle.cs_serve.specs.Fids.{fid_at, without};
 ghost use Rattle.cs_serve.specs.Refusals.{IsRefusal, first_failing};
 ghost use Rattle.cs_serve.specs.Connection.{walked_in, opened_in};
-ghost use Rattle.cs_serve.specs.FidWalks.{first_failing_walk, walk_left, walk_qids, walk_connection_rules};
+ghost use Rattle.cs_serve.specs.FidWalks.{first_failing_walk, walk_before, walk_left, walk_qids, walk_connection_rules};
 ghost use Rattle.cs_serve.specs.Opens.{first_failing_open, open_left, open_qid, open_connection_rules};
-ghost use Rattle.cs_serve.specs.Reads.{first_failing_read, read_bytes, read_connection_rules};
+ghost use Rattle.cs_serve.specs.Reads.{first_failing_read, gives_bytes, read_bytes, read_connection_rules};
 ghost use Rattle.cs_serve.specs.Stats.{clunk_connection_rules};
 ghost use Rattle.cs_serve.specs.Rules.{open_run_rules, walk_run_rules};
 ghost use Rattle.cs_serve.specs.Sizes.{AreQids, IsQid};
 ghost use Rattle.cs_serve.specs.Walks.{way, way_of};
 
-use crate::fid::{Entry, Fid, Opened, User, Walked};
+use crate::fid::{Entry, Fid, Opened, Walked};
 use crate::fid_table::FidTable;
 use crate::refusal::Refusal;
 use crate::rules::{is_directory, is_gone, may};
@@ -58,14 +58,13 @@ fn walk_from<T: TreeRead>(
     walked: &Fid<Walked>,
     names: &[String],
 ) -> Result<Walk, Refusal>
-    ensures value { MatchResult result (λ walk. (first_failing (walk_run_rules (T.tree tree.now) users.now walked.now.user walked.now.number (map string_bytes names.now)) ≡ None) × (way_of walk ≡ way (T.tree tree.now) users.now walked.now.user walked.now.number (map string_bytes names.now))) (IsRefusal None (first_failing (walk_run_rules (T.tree tree.now) users.now walked.now.user walked.now.number (map string_bytes names.now)))) }
+    ensures value { MatchResult result (λ walk. (first_failing (walk_run_rules (T.tree tree.now) users.now walked.now.user walked.now.number (map string_bytes names.now)) ≡ None) × (way_of walk ≡ way (T.tree tree.now) users.now walked.now.user walked.now.number (map string_bytes names.now))) (IsRefusal (first_failing (walk_run_rules (T.tree tree.now) users.now walked.now.user walked.now.number (map string_bytes names.now))) (first_failing (walk_run_rules (T.tree tree.now) users.now walked.now.user walked.now.number (map string_bytes names.now)))) }
     ensures qids { IfOk result (λ walk. AreQids (length names.now) walk.qids.items) }
 {
     if is_gone(tree, walked.number) {
         return Err(Refusal::Denied(RuleId::K5));
     }
-    let user = walked.user.as_bytes();
-    let walk = walk_names(alloc, tree, users, user, walked.number, names)?;
+    let walk = walk_names(alloc, tree, users, &walked.user, walked.number, names)?;
     match walk.stopped_first() {
         Some(rule) => Err(Refusal::Denied(rule)),
         None => Ok(walk),
@@ -83,23 +82,19 @@ pub fn walk<T: TreeRead>(
     newfid: u32,
     names: &[String],
 ) -> Result<Vec<Qid>, Refusal>
-    ensures granted { MatchResult result (λ qids. (first_failing_walk (T.tree tree.now) users.now fids.old.entries fid newfid (map string_bytes names.now) ≡ None) × (qids.items ≡ walk_qids (T.tree tree.now) users.now fids.old.entries fid (map string_bytes names.now))) (λ refusal. IsRefusal (first_failing (walk_connection_rules fids.old.entries fid newfid)) (first_failing_walk (T.tree tree.now) users.now fids.old.entries fid newfid (map string_bytes names.now)) refusal) }
+    ensures granted { MatchResult result (λ qids. (first_failing_walk (T.tree tree.now) users.now fids.old.entries fid newfid (map string_bytes names.now) ≡ None) × (qids.items ≡ walk_qids (T.tree tree.now) users.now fids.old.entries fid (map string_bytes names.now))) (λ refusal. IsRefusal (walk_before (T.tree tree.now) users.now fids.old.entries fid newfid (map string_bytes names.now)) (first_failing_walk (T.tree tree.now) users.now fids.old.entries fid newfid (map string_bytes names.now)) refusal) }
     ensures qids { IfOk result (λ qids. AreQids (length names.now) qids.items) }
     ensures left { OnOk result (fids.new.entries ≡ walk_left (T.tree tree.now) users.now fids.old.entries fid newfid (map string_bytes names.now)) }
     ensures unchanged { OnErr result (fids.new.entries ≡ fids.old.entries) }
 {
-    let reserved = fids.reserve();
-    let walked = match walkable(fids, fid, newfid) {
-        Ok(walked) => walked,
-        Err(rule) => return Err(Refusal::Denied(rule)),
-    };
+    let reserved = fids.reserve_for(newfid);
+    let walked = walkable(fids, fid, newfid)?;
     reserved?;
-    let user = walked.user.try_clone()?;
     let walk = walk_from(alloc, tree, users, walked, names)?;
     if walk.stopped.is_none() {
         let moved = Fid {
             number: walk.last,
-            user,
+            user: walked.user.try_clone()?,
             state: Walked,
         };
         fids.set(newfid, Entry::Walked(moved));
@@ -134,14 +129,13 @@ fn first_failing_open<T: TreeRead>(
     let Some(file) = tree.record(walked.number) else {
         return Some(RuleId::O4);
     };
-    let user = walked.user.as_bytes();
-    if is_directory(file) {
+    if is_directory(&file) {
         return Some(RuleId::O5);
     }
-    if mode == 0 && !may(users, user, Right::Read, file) {
+    if mode == 0 && !may(users, &walked.user, Right::Read, &file) {
         return Some(RuleId::O6);
     }
-    if mode == 3 && !may(users, user, Right::Execute, file) {
+    if mode == 3 && !may(users, &walked.user, Right::Execute, &file) {
         return Some(RuleId::O8);
     }
     None
@@ -161,10 +155,7 @@ pub fn open<T: TreeRead>(
     ensures unchanged { OnErr result (fids.new.entries ≡ fids.old.entries) }
 {
     let reserved = fids.reserve();
-    let walked = match openable(fids, fid, mode) {
-        Ok(walked) => walked,
-        Err(rule) => return Err(Refusal::Denied(rule)),
-    };
+    let walked = openable(fids, fid, mode)?;
     reserved?;
     if let Some(rule) = first_failing_open(tree, users, walked, mode) {
         return Err(Refusal::Denied(rule));
@@ -192,7 +183,7 @@ fn readable(fids: &FidTable, fid: u32) -> Result<&Fid<Opened>, RuleId>
 }
 
 /// Reads from an open fid's file (read(5)): as many bytes as are asked for, are there, and fit a reply
-/// of that message size.
+/// of that message size. Only bytes that are given take memory.
 pub fn read<T: TreeRead>(
     alloc: Global,
     tree: &T,
@@ -203,12 +194,10 @@ pub fn read<T: TreeRead>(
     msize: u32,
 ) -> Result<Vec<u8>, Refusal>
     ensures small { IfOk result (λ bytes. length bytes.items ≤ msize - 11) }
+    ensures memory { IsErrOf result Refusal.Memory → gives_bytes (T.tree tree.now) fids.now.entries fid offset count msize ≡ true }
     ensures value { MatchResult result (λ bytes. (first_failing_read (T.tree tree.now) fids.now.entries fid ≡ None) × (bytes.items ≡ read_bytes (T.tree tree.now) fids.now.entries fid offset count msize)) (λ refusal. IsRefusal (first_failing_read (T.tree tree.now) fids.now.entries fid) (first_failing_read (T.tree tree.now) fids.now.entries fid) refusal) }
 {
-    let opened = match readable(fids, fid) {
-        Ok(opened) => opened,
-        Err(rule) => return Err(Refusal::Denied(rule)),
-    };
+    let opened = readable(fids, fid)?;
     if is_gone(tree, opened.number) {
         return Err(Refusal::Denied(RuleId::G3));
     }

@@ -1,6 +1,7 @@
 //! A connection's session: its message size, its run and its fids (version(5), attach(5)).
 ghost use Rattle.std.specs.Option.{ForSome};
-ghost use Rattle.std.specs.Prelude.{◌≡◌, ◌<◌, ◌^◌, IfOk, MatchOption, MatchResult, None, Some, OnErr, OnOk, string_bytes};
+ghost use Rattle.std.specs.Prelude.{◌≡◌, ◌<◌, ◌^◌, false, true, IfNone, IfOk, IfSome, MatchOption, MatchResult, None, Some, OnErr, OnOk, string_bytes};
+ghost use Rattle.cs_users.specs.Members.{is_known};
 ghost use Rattle.cs_serve.specs.Refusals.{IsRefusal, first_failing};
 ghost use Rattle.cs_serve.specs.Attaches.{AttachEnds, attach_connection_rules, attach_registry_rules, has_no_room};
 ghost use Rattle.cs_serve.specs.Connection.{no_fid};
@@ -8,14 +9,14 @@ ghost use Rattle.cs_serve.specs.Versions.{VersionEnds, before_period, is_spoken,
 ghost use Rattle.cs_serve.specs.Sizes.{IsAgreed, IsQid, IsShown};
 ghost use Rattle.cs_serve.specs.TreeNames.{tree_name_in};
 
-use crate::fid::{Entry, Fid, User, Walked};
+use crate::fid::{Entry, Fid, Walked};
 use crate::fid_table::FidTable;
 use crate::refusal::Refusal;
 use crate::requests::NOFID;
 use crate::tree_name::TreeName;
 use crate::walk::qid_at;
 use cs_names::limits::{FIDS, LEAST_MESSAGE_SIZE, MESSAGE_BYTES, RUN_ATTACHES};
-use cs_names::{Pieces, RuleId, RunName};
+use cs_names::{Pieces, RuleId, RunName, UserName};
 use cs_tree_model::TreeRead;
 use cs_users::Users;
 use cs_wire::Qid;
@@ -84,6 +85,21 @@ fn first_failing_find(run: &Option<RunName>, attaches: u32, name: &TreeName) -> 
     None
 }
 
+/// The user of that name, where the users file knows it. It takes no memory.
+fn known_user(users: &Users, name: String) -> Option<UserName>
+    ensures some { IfSome result (λ user. (user ≡ string_bytes name) × (is_known users.now (string_bytes name) ≡ true)) }
+    ensures none { IfNone result (is_known users.now (string_bytes name) ≡ false) }
+{
+    if !users.knows(name.as_bytes()) {
+        return None;
+    }
+    match UserName::from_text(name) {
+        Ok(user) => Some(user),
+        // a known name is legal
+        Err(_) => unreachable!(),
+    }
+}
+
 impl Session {
     ghost use Rattle.cs_serve.specs.Sessions.{blank, connection_of};
 
@@ -113,10 +129,7 @@ impl Session {
     {
         let reserved = self.fids.reserve();
         let aname = request.aname.as_bytes();
-        let name = match attachable(&self.fids, request.fid, request.afid, aname) {
-            Ok(name) => name,
-            Err(rule) => return Err(Refusal::Denied(rule)),
-        };
+        let name = attachable(&self.fids, request.fid, request.afid, aname)?;
         reserved?;
         if let Some(rule) = first_failing_find(&self.run, self.attaches, &name) {
             return Err(Refusal::Denied(rule));
@@ -126,12 +139,12 @@ impl Session {
         };
         self.run = Some(run);
         self.attaches += 1;
-        if !users.knows(request.uname.as_bytes()) {
+        let Some(user) = known_user(users, request.uname) else {
             return Err(Refusal::Denied(RuleId::A6));
-        }
+        };
         let root = Fid {
             number: 0,
-            user: User::named(request.uname),
+            user,
             state: Walked,
         };
         self.fids.set(request.fid, Entry::Walked(root));

@@ -1,28 +1,29 @@
 //! What a stat tells of a file (stat(5)).
-ghost use Rattle.std.specs.Prelude.{◌≡◌, IfOk, MatchResult, Some, string_bytes};
+ghost use Rattle.std.specs.Prelude.{◌≡◌, IfOk, MatchResult, Some};
+ghost use Rattle.cs_tree_model.specs.Record.{lent};
 ghost use Rattle.cs_serve.specs.Fids.{fid_at};
 ghost use Rattle.cs_serve.specs.Refusals.{IsRefusal, first_failing};
 ghost use Rattle.cs_serve.specs.Connection.{number_in_entry};
-ghost use Rattle.cs_serve.specs.Stats.{first_failing_stat, last_name, stat_in, stat_left, stat_of_file, told_length};
+ghost use Rattle.cs_serve.specs.Stats.{first_failing_stat, name_in, stat_left, stat_of_file, told_length};
 ghost use Rattle.cs_serve.specs.Sizes.{IsQid, IsShown, IsStat, numbers_shape};
 ghost use Rattle.cs_wire.specs.Fields.{IsIn};
-ghost use Rattle.cs_wire.specs.Messages.{qid_of as qid_value, stat_of};
+ghost use Rattle.cs_wire.specs.Messages.{qid_of as qid_value, stat_in, stat_of};
 
 use crate::fid::Entry;
 use crate::fid_table::FidTable;
 use crate::refusal::Refusal;
 use crate::walk::qid_of;
-use cs_names::{Path, RuleId, UserName};
+use cs_names::{RuleId, UserName};
 use cs_tree_model::{Kind, Metadata, TreeRead};
-use cs_wire::{Qid, Stat};
-use std::alloc::{AllocError, Global};
+use cs_wire::{Qid, Stat, StatRef};
+use std::alloc::Global;
 
-/// The last name of a path, and `/` for the root.
-fn last_name(path: &Path) -> &str
-    ensures value { result.now ≡ last_name path.now }
+/// The name that a file has in its directory, and `/` for the root.
+fn shown_name<T: TreeRead>(tree: &T, number: u64) -> &str
+    ensures value { result.now ≡ name_in (T.tree tree.now) number }
     ensures shown { IsShown 255 result.now }
 {
-    match path.names().last() {
+    match tree.name_of(number) {
         Some(name) => name.as_str(),
         None => "/",
     }
@@ -45,20 +46,27 @@ fn shown(user: &UserName) -> &str
 }
 
 /// The texts of a stat.
-#[derive(Drop)]
-struct Texts {
-    name: String,
-    uid: String,
-    gid: String,
-    muid: String,
+#[derive(Clone, Copy)]
+struct Texts<'a> {
+    name: &'a str,
+    uid: &'a str,
+    gid: &'a str,
+    muid: &'a str,
 }
 
-fn stat_with(qid: Qid, mode: u32, atime: u32, mtime: u32, length: u64, texts: Texts) -> Stat
+fn stat_with<'a>(
+    qid: Qid,
+    mode: u32,
+    atime: u32,
+    mtime: u32,
+    length: u64,
+    texts: Texts<'a>,
+) -> StatRef<'a>
     requires { IsQid qid }
-    ensures value { stat_of result ≡ (0, (0, (qid_value qid, (mode, (atime, (mtime, (length, (string_bytes texts.name, (string_bytes texts.uid, (string_bytes texts.gid, string_bytes texts.muid)))))))))) }
+    ensures value { stat_in result ≡ (0, (0, (qid_value qid, (mode, (atime, (mtime, (length, (texts.entry.name.now, (texts.entry.uid.now, (texts.entry.gid.now, texts.entry.muid.now)))))))))) }
     ensures fits { IsIn numbers_shape (0, (0, (qid_value qid, (mode, (atime, (mtime, length)))))) }
 {
-    Stat {
+    StatRef {
         kind: 0,
         dev: 0,
         qid,
@@ -73,26 +81,27 @@ fn stat_with(qid: Qid, mode: u32, atime: u32, mtime: u32, length: u64, texts: Te
     }
 }
 
-fn stat_of_file(alloc: Global, name: &str, file: &Metadata) -> Result<Stat, AllocError>
+/// What a stat tells of a file of that name, lent. It takes no memory.
+fn stat_of_file<'a>(name: &'a str, file: &Metadata<'a>) -> StatRef<'a>
     requires { IsShown 255 name.now }
-    ensures value { IfOk result (λ stat. stat_of stat ≡ stat_of_file name.now file.now) }
-    ensures fits { IfOk result (λ stat. IsStat 600 (stat_of stat)) }
+    ensures value { stat_in result ≡ stat_of_file name.now (lent file.now) }
+    ensures fits { IsStat 600 (stat_in result) }
 {
     let texts = Texts {
-        name: String::from_str(alloc, name)?,
-        uid: String::from_str(alloc, shown(&file.owner))?,
-        gid: String::from_str(alloc, shown(&file.group))?,
-        muid: String::from_str(alloc, shown(&file.muid))?,
+        name,
+        uid: shown(file.owner),
+        gid: shown(file.group),
+        muid: shown(file.muid),
     };
     let length = told_length(file.kind);
-    Ok(stat_with(
+    stat_with(
         qid_of(file),
         file.mode,
         file.atime,
         file.mtime,
         length,
         texts,
-    ))
+    )
 }
 
 fn number_of(entry: &Entry) -> u64
@@ -121,8 +130,6 @@ pub fn stat<T: TreeRead>(
     let Some(file) = tree.record(number) else {
         return Err(Refusal::Denied(RuleId::H2));
     };
-    match tree.path_of(alloc, number)? {
-        Some(path) => Ok(stat_of_file(alloc, last_name(&path), file)?),
-        None => Err(Refusal::Denied(RuleId::H2)),
-    }
+    let name = shown_name(tree, number);
+    Ok(stat_of_file(name, &file).copied(alloc)?)
 }

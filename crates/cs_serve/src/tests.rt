@@ -21,7 +21,11 @@ fn run(
     trace: &[u8],
     script: &[u8],
 ) -> Result<(String, String, u8), Fail> {
-    let inputs = Inputs { users, trace };
+    let inputs = Inputs {
+        users,
+        trace,
+        verbose: false,
+    };
     let mut input = script;
     let mut out: Vec<u8> = Vec::new(alloc);
     let mut err: Vec<u8> = Vec::new(alloc);
@@ -211,8 +215,8 @@ fn texts(alloc: Global, words: &[&str]) -> Result<Vec<String>, Fail> {
 
 /// A world over the start tree of a trace, with no session.
 fn world_over(alloc: Global, trace: &str) -> Result<FirstWorld<PlainTree>, Fail> {
-    let start = read_start(alloc, trace)?;
-    let tree = PlainTree::from_records(alloc, start.records)?;
+    let records = read_start(alloc, trace)?;
+    let tree = PlainTree::from_records(alloc, records)?;
     let users = Users::read(alloc, USERS.as_bytes())?;
     Ok(FirstWorld::new(alloc, tree, users))
 }
@@ -573,6 +577,26 @@ fn runs_a_script(rt: HostRuntime) -> Result<(), Fail> {
     Ok(())
 }
 
+#[test]
+fn tells_each_message_as_text(rt: HostRuntime) -> Result<(), Fail> {
+    let inputs = Inputs {
+        users: USERS.as_bytes(),
+        trace: TRACE.as_bytes(),
+        verbose: true,
+    };
+    let mut input =
+        "0 0 1300000064ffff002000000600395032303030\n0 0 hangup\n0 0 07000000ff0100\n".as_bytes();
+    let mut out: Vec<u8> = Vec::new(rt.alloc());
+    let mut err: Vec<u8> = Vec::new(rt.alloc());
+    let status = script_of(rt.alloc(), &inputs, &mut input, &mut out, &mut err);
+    assert_eq!(rt; status, 0);
+    assert_eq!(rt;
+        String::from_utf8(err)?.as_str(),
+        "0 <- Tversion tag 65535 msize 8192 version \"9P2000\"\n0 -> Rversion tag 65535 msize 8192 version \"9P2000\"\n0 <- no message: unknown message type\n0 -> Rerror tag 1 ename \"S1 no session\"\n"
+    );
+    Ok(())
+}
+
 /// Runs an empty script on files one of which is at fault, and looks for the text and the status.
 fn expect_fault(
     rt: &(impl Abort + AllocGlobal),
@@ -744,6 +768,7 @@ fn tells_an_input_or_an_output_that_fails(rt: HostRuntime) -> Result<(), Fail> {
     let inputs = Inputs {
         users: USERS.as_bytes(),
         trace: TRACE.as_bytes(),
+        verbose: false,
     };
     let mut err: Vec<u8> = Vec::new(rt.alloc());
     let mut out: Vec<u8> = Vec::new(rt.alloc());

@@ -120,10 +120,6 @@ module _ (p : ℕ) (x : Option NameBytes) (m : MetadataBuf) (kind : Kind) (name 
   kind_with (Some n) (Directory c) is = is
   kind_with (Some n) (File bytes) is = refl
 
-  content_kept : (length : Option ℕ) (r : Record) → IsDirectory r → IsDirectory (changed_record (change length) s r)
-  content_kept None r dir = dir
-  content_kept (Some n) r dir = ap (option_map (λ bytes. take n (bytes ++ replicate n 0))) dir
-
 module _ (c : Change) (s : Stamp) (d : Node) where
   pub file_changed : (IsSome c.length → IsSome (content_of d.body)) → record_of (with_fields c s d).metadata (content_of (with_fields c s d).body) ≡ changed_record c s (record_of d.metadata (content_of d.body))
   file_changed = file_with d.parent d.name d.metadata d.metadata.kind c.name c.mode c.group c.mtime s c.length d.body
@@ -139,9 +135,6 @@ module _ (c : Change) (s : Stamp) (d : Node) where
 
   pub kind_changed : d.metadata.kind ≡ kind_of (content_of d.body) → (with_fields c s d).metadata.kind ≡ kind_of (content_of (with_fields c s d).body)
   kind_changed = kind_with d.parent d.name d.metadata d.metadata.kind c.name c.mode c.group c.mtime s c.length d.body
-
-  pub directory_kept : (r : Record) → IsDirectory r → IsDirectory (changed_record c s r)
-  directory_kept = content_kept d.parent d.name d.metadata d.metadata.kind c.name c.mode c.group c.mtime s c.length
 
 -- what was made of the bytes before a change is what the change makes of them
 pub resized_here : (at : ℕ → Option Node) (n : ℕ) (d : Node) → at n ≡ Some d → (length : Option ℕ) → resized_bytes at n length ≡ resized_of length d.body
@@ -174,8 +167,8 @@ module _ (at : ℕ → Option Node) (next : ℕ) (h : IsHeld at next) (t : Tree)
     }
 
     pub held_with_fields : IsHeld g next
-    held_with_fields = held_changed at next h t view n node_of.0 node_of.1 (with_fields c s node_of.0) (changed_record c s) refl (directory_kept c s node_of.0 (shape_of node_of.0).file) new_shape (children_changed c s node_of.0) new_node g goes_here
+    held_with_fields = held_changed at next h t view n node_of.0 node_of.1 (with_fields c s node_of.0) (changed_record c s) (laws.number_stays c.length s (shape_of node_of.0).file) (laws.directory_stays c.length s (shape_of node_of.0).file) new_shape (children_changed c s node_of.0) new_node g goes_here
 
     pub tree_with_fields : tree_of (shapes g) next ≡ changed n c s t
-    tree_with_fields = tree_changed at next h t view n node_of.0 node_of.1 (with_fields c s node_of.0) (changed_record c s) refl (directory_kept c s node_of.0 (shape_of node_of.0).file) new_shape (children_changed c s node_of.0) new_node g goes_here
+    tree_with_fields = tree_changed at next h t view n node_of.0 node_of.1 (with_fields c s node_of.0) (changed_record c s) (laws.number_stays c.length s (shape_of node_of.0).file) (laws.directory_stays c.length s (shape_of node_of.0).file) new_shape (children_changed c s node_of.0) new_node g goes_here
         ∙ ap (λ o. at_number n (λ p v. option_map_or (λ y. rename p y s (change_at p (changed_record c s) v)) o (change_at p (changed_record c s) v)) t) (sym no_name)

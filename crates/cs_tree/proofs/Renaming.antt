@@ -20,8 +20,7 @@ use Rattle.cs_tree.specs.declared.node.Node.{Node}
 use Rattle.cs_tree.specs.Held.{IsHeld, IsNode, kids, shapes}
 use Rattle.cs_tree.specs.Node.{Alike, CanStampNode, child_in, content_of, renamed, resized_bytes, shape_of, step_at, with_at, with_attributes, with_bytes, with_child, with_name, with_stamp, without_child, without_node}
 use Rattle.cs_tree.proofs.Tables.{content_with_child, content_without_child, kids_gone, kids_new, kids_same, kids_with, kids_without, node_behind, nodes_gone, nodes_put, one_table, shapes_gone, shapes_put, step_here, with_at_here, with_at_other}
-
-use Rattle.cs_tree.proofs.Changing.{children_changed, directory_kept, fields_are, file_changed, file_of, kind_changed, name_kept, node_of, parent_kept, with_fields}
+use Rattle.cs_tree.proofs.Changing.{children_changed, fields_are, file_changed, file_of, kind_changed, name_kept, node_of, parent_kept, with_fields}
 use Rattle.cs_tree.proofs.Lookups.{can_stamp, parent_is}
 use Rattle.cs_tree.proofs.Orders.{set_kid_swap, set_twice}
 use Rattle.cs_tree.proofs.Removing.{above}
@@ -176,10 +175,10 @@ module _ (at : ℕ → Option Node) (next : ℕ) (h : IsHeld at next) (t : Tree)
     new_node = record { kind = kind_changed c s named (h.nodes n d d_here).kind; named = λ z. subst IsSome (sym (name_kept c s named)) refl }
 
     pub held_after_rename : IsHeld g next
-    held_after_rename = held_moved at next h t view n d d_here not_root s y free_above (with_fields c s named) (changed_record c s) refl (directory_kept c s named (shape_of d).file) new_shape (children_changed c s named) new_node
+    held_after_rename = held_moved at next h t view n d d_here not_root s y free_above (with_fields c s named) (changed_record c s) (laws.number_stays c.length s (shape_of d).file) (laws.directory_stays c.length s (shape_of d).file) new_shape (children_changed c s named) new_node
         (λ v. with_attributes (with_bytes v bytes s) c.mode group c.mtime) steps g goes_on
 
     pub tree_after_rename : tree_of (shapes g) next ≡ changed n c s t
-    tree_after_rename = tree_moved at next h t view n d d_here not_root s y free_above (with_fields c s named) (changed_record c s) refl (directory_kept c s named (shape_of d).file) new_shape (children_changed c s named) new_node
+    tree_after_rename = tree_moved at next h t view n d d_here not_root s y free_above (with_fields c s named) (changed_record c s) (laws.number_stays c.length s (shape_of d).file) (laws.directory_stays c.length s (shape_of d).file) new_shape (children_changed c s named) new_node
         (λ v. with_attributes (with_bytes v bytes s) c.mode group c.mtime) steps g goes_on
         ∙ ap (λ o. at_number n (λ p v. option_map_or (λ z. rename p z s (change_at p (changed_record c s) v)) o (change_at p (changed_record c s) v)) t) (sym name)

@@ -1,7 +1,8 @@
 -- What each call of a store leaves: total functions of a tree, by number. Where no record has the
--- number they leave the tree.
-use Rattle.std.specs.Prelude.{◌≡◌, ◌+◌, ◌<◌, ◌^◌, ℕ, List, [], ◌∷◌, Option, None, Some, IfSome, IsSomeAnd, option_and_then, unwrap_or, if◌then◌else◌}
-use Rattle.std.specs.Option.{option_map_or, is_some}
+-- number they leave the tree. What they make of a write of no bytes, of a change that names nothing or
+-- the name that the file has, or of the root taken out, no call asks: its conditions leave that out.
+use Rattle.std.specs.Prelude.{◌≡◌, ◌+◌, ◌<◌, ◌^◌, ℕ, List, [], ◌∷◌, Option, None, Some, IfSome, IsSomeAnd, option_and_then, unwrap_or}
+use Rattle.std.specs.Option.{option_map_or}
 use Rattle.cs_tree_model.specs.declared.change.Change.{Change}
 use Rattle.cs_tree_model.specs.declared.change.New.{New}
 use Rattle.cs_tree_model.specs.declared.change.Stamp.{Stamp}
@@ -9,7 +10,7 @@ use Rattle.cs_tree_model.specs.declared.record.Record.{Record}
 use Rattle.cs_tree_model.specs.Mode.{is_directory_mode}
 use Rattle.cs_tree_model.specs.Record.{IsDirectory, IsMarked}
 use Rattle.cs_tree_model.specs.Tree.{NameBytes, Path, Tree, record_at, path_numbered, record_numbered, parent_numbered}
-use Rattle.cs_tree_model.specs.Effects.{stamped, written, resized, change_at, add, take_out, rename, entry_after}
+use Rattle.cs_tree_model.specs.Effects.{stamped, versioned, written, resized, change_at, add, take_out, rename, entry_after}
 
 -- f at the path of the number
 abbrev pub at_number : ℕ → (Path → Tree → Tree) → Tree → Tree
@@ -31,17 +32,17 @@ stamped_write k w s r = stamped s (written k w r)
 abbrev pub written_to : ℕ → ℕ → List ℕ → Stamp → Tree → Tree
 written_to n k w s = at_number n (λ p. change_at p (stamped_write k w s))
 
--- a record with the fields that a change names. Another length is a change of the bytes, so it sets
--- mtime and muid; an mtime that is named comes after that
+-- a record with so many bytes, if a length is named: that is a change of the bytes, also where the
+-- file has as many. Else only its version grows
+abbrev pub sized : Option ℕ → Stamp → Record → Record
+sized None s r = versioned r
+sized (Some n) s r = stamped s (resized n r)
+
+-- a record with the fields that a change names; an mtime that is named comes after the length's
 abbrev pub changed_record : Change → Stamp → Record → Record
-changed_record c s r = record r {
-  vers = r.vers + 1;
-  group = unwrap_or c.group r.group;
-  mode = unwrap_or c.mode r.mode;
-  mtime = unwrap_or c.mtime (if is_some c.length then s.now else r.mtime);
-  muid = (if is_some c.length then s.user else r.muid);
-  content = (option_map_or (λ n. resized n r) c.length r).content;
-}
+changed_record c s r =
+    let w = sized c.length s r in
+    record w { group = unwrap_or c.group w.group; mode = unwrap_or c.mode w.mode; mtime = unwrap_or c.mtime w.mtime }
 
 -- the file at p changed, and then its name, which changes its directory
 abbrev pub change_path : Change → Stamp → Path → Tree → Tree

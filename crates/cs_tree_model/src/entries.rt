@@ -1,9 +1,11 @@
 //! The entries of a directory, one after the other.
-ghost use Rattle.std.specs.Prelude.{◌≡◌, None, Some, IfNone, IfSome, IsSome, string_bytes};
+ghost use Rattle.std.specs.Prelude.{◌≡◌, None, Some, IfNone, IfSome, IsFalse, IsSome, IsTrue, string_bytes};
 ghost use Rattle.std.specs.BTreeMap.{get_by_text};
 ghost use Rattle.std.specs.Option.{option_copied};
 ghost use Rattle.cs_tree_model.specs.Nexts.{comes_before, IsEntry, IsEntryBelow};
+ghost use Rattle.cs_tree_model.specs.Tree.{NameBytes, number_in};
 
+use crate::read::TreeRead;
 use cs_names::Name;
 use std::collections::BTreeMap;
 use std::ops::Bound;
@@ -60,4 +62,12 @@ pub fn first_after<'a, X>(
         return None;
     }
     Some((name, value))
+}
+
+/// Whether no file is in the directory; true of a file too, and where no record has the number.
+pub fn is_empty<T: TreeRead>(tree: &T, directory: u64) -> bool
+    ensures empty { IsTrue result → (x : NameBytes) → number_in (T.tree tree.now) directory x ≡ None }
+    ensures entry { IsFalse result → (x : NameBytes) × IsSome (number_in (T.tree tree.now) directory x) }
+{
+    tree.entry_after(directory, None, None).is_none()
 }

@@ -1,6 +1,8 @@
 //! Files in std's maps and vectors as one would write them with no model in mind: what the store is
 //! measured beside.
 
+use crate::subject::Subject;
+use cs_names::{Name, UserName};
 use std::alloc::Global;
 use std::collections::BTreeMap;
 use std::ops::Bound;
@@ -67,23 +69,8 @@ impl Files {
         Some(Files { files, last: 0 })
     }
 
-    /// How many files there are, the root among them.
-    pub fn len(&self) -> usize {
-        self.files.len()
-    }
-
-    /// The number of the newest file.
-    pub fn last(&self) -> u64 {
-        self.last
-    }
-
-    /// The number of the file of that name in the directory.
-    pub fn find(&self, directory: u64, name: &str) -> Option<u64> {
-        self.files.get(&directory)?.entries()?.get(name).copied()
-    }
-
     /// The next entry of the directory after a name, or its first.
-    pub fn entry_after(&self, directory: u64, last: Option<&String>) -> Option<(&String, u64)> {
+    fn entry_after(&self, directory: u64, last: Option<&String>) -> Option<(&String, u64)> {
         let entries = self.files.get(&directory)?.entries()?;
         let (name, number) = match last {
             Some(last) => entries
@@ -93,15 +80,35 @@ impl Files {
         };
         Some((name, *number))
     }
+}
 
-    /// Makes an empty file in a directory, and gives its number.
-    pub fn add(
-        &mut self,
-        alloc: Global,
-        directory: u64,
-        name: &String,
-        user: &String,
-    ) -> Option<u64> {
+impl Subject for Files {
+    fn look_up(&self, directory: u64, name: &Name) -> Option<u64> {
+        self.files
+            .get(&directory)?
+            .entries()?
+            .get(name.as_str())
+            .copied()
+    }
+
+    fn list(&self, directory: u64) -> u64 {
+        let mut last = None;
+        let mut count = 0u64;
+        for _ in 0..self.files.len() {
+            let Some((name, _)) = self.entry_after(directory, last) else {
+                break;
+            };
+            last = Some(name);
+            count = count.wrapping_add(1);
+        }
+        count
+    }
+
+    fn newest(&self) -> u64 {
+        self.last
+    }
+
+    fn make(&mut self, alloc: Global, directory: u64, name: &Name, user: &UserName) -> Option<u64> {
         let number = self.last.checked_add(1)?;
         let above = self.files.get_mut(&directory)?;
         let Body::Directory(entries) = &mut above.body else {
@@ -110,19 +117,19 @@ impl Files {
         if entries.get(name.as_str()).is_some() {
             return None;
         }
-        entries.insert(name.clone().ok()?, number).ok()?;
+        entries.insert(name.as_string().clone().ok()?, number).ok()?;
         let group = above.group.clone().ok()?;
-        above.stamp(user.clone().ok()?);
+        above.stamp(user.as_string().clone().ok()?);
         let file = File {
             directory,
-            name: name.clone().ok()?,
+            name: name.as_string().clone().ok()?,
             vers: 0,
-            owner: user.clone().ok()?,
+            owner: user.as_string().clone().ok()?,
             group,
             mode: 0o664,
             atime: 1,
             mtime: 1,
-            muid: user.clone().ok()?,
+            muid: user.as_string().clone().ok()?,
             body: Body::Bytes(Vec::new(alloc)),
         };
         self.files.insert(number, file).ok()?;
@@ -130,25 +137,30 @@ impl Files {
         Some(number)
     }
 
-    /// Takes out a file.
-    pub fn remove(&mut self, number: u64, user: &String) -> Option<()> {
+    fn delete(&mut self, _alloc: Global, number: u64, user: &UserName) -> Option<()> {
         let file = self.files.remove(&number)?;
         let above = self.files.get_mut(&file.directory)?;
         if let Body::Directory(entries) = &mut above.body {
             entries.remove(file.name.as_str());
         }
-        above.stamp(user.clone().ok()?);
+        above.stamp(user.as_string().clone().ok()?);
         Some(())
     }
 
-    /// Puts bytes into a file at an offset.
-    pub fn write(&mut self, number: u64, offset: u32, bytes: &[u8], user: &String) -> Option<()> {
+    fn put(
+        &mut self,
+        _alloc: Global,
+        number: u64,
+        offset: u32,
+        bytes: &[u8],
+        user: &UserName,
+    ) -> Option<()> {
         let file = self.files.get_mut(&number)?;
         let Body::Bytes(content) = &mut file.body else {
             return None;
         };
         put(content, offset as usize, bytes)?;
-        file.stamp(user.clone().ok()?);
+        file.stamp(user.as_string().clone().ok()?);
         Some(())
     }
 }

@@ -46,10 +46,13 @@ module _ (at : Nodes) (next : ℕ) (t : IsTable at next) where
           let number : s.number ≡ k = shown_number at next t (path_of at u ++ x ∷ []) r e ∙ (let two : Some r.number ≡ Some k = is in cc) in
           let not_root : s.number ≢ 0 = λ z. snoc_not_nil (path_of at u) x (sym (path_of_root at) ∙ ap (path_of at) (sym z) ∙ s.path) in
           let step = sym (path_step at t.parent_below s.number s.node s.here not_root) ∙ s.path in
-          let up = t.in_directory s.number s.node s.here not_root in
-          (s.node, ap at (sym number) ∙ s.here, (λ z. not_root (number ∙ z)),
-          path_apart at next t s.node.parent u up.0 o up.1 there (snoc_front _ _ _ _ step),
-          snoc_last (path_of at s.node.parent) (path_of at u) s.node.name x step)
+          let up = t.in_directory s.number s.node s.here not_root in (
+            s.node,
+            ap at (sym number) ∙ s.here,
+            (λ z. not_root (number ∙ z)),
+            path_apart at next t s.node.parent u up.0 o up.1 there (snoc_front _ _ _ _ step),
+            snoc_last (path_of at s.node.parent) (path_of at u) s.node.name x step,
+          )
 
       found : (u : ℕ) (x : NameBytes) (k : ℕ) → number_in (tree_of at next) u x ≡ Some k → (d : Node) × (at k ≡ Some d) × (k ≢ 0) × (d.parent ≡ u) × (d.name ≡ x)
       found u x k is = ⊎_elim

@@ -7,11 +7,11 @@ use Rattle.cs_tree_model.specs.declared.change.Change.{Change}
 use Rattle.cs_tree_model.specs.declared.change.New.{New}
 use Rattle.cs_tree_model.specs.declared.change.Stamp.{Stamp}
 use Rattle.cs_tree_model.specs.declared.record.Record.{Record}
-use Rattle.cs_tree_model.specs.Effects.{add, change_at, move_paths, new_record, placed, rename, replace_prefix, resized, stamp_at, stamped, take_out, with_record}
+use Rattle.cs_tree_model.specs.Effects.{add, change_at, move_paths, new_record, placed, rename, replace_prefix, stamp_at, stamped, take_out, with_record}
 use Rattle.cs_tree_model.specs.Listing.{AllFollow, IsListing, tree_of_records, with_records}
 use Rattle.cs_tree_model.specs.Mode.{is_directory_mode}
 use Rattle.cs_tree_model.specs.Record.{IsMarked, is_directory}
-use Rattle.cs_tree_model.specs.Stores.{AreMarked, KeepsKind, added, at_number, change_path, changed, changed_record, removed, stamped_write, written_to}
+use Rattle.cs_tree_model.specs.Stores.{AreMarked, KeepsKind, added, at_number, change_path, changed, changed_record, removed, sized, stamped_write, written_to}
 use Rattle.cs_tree_model.specs.Tree.{IsTree, NameBytes, Path, Tree, parent_path, path_cmp, path_numbered, record_at, record_numbered}
 use Rattle.cs_tree_model.specs.Laws.Listings.{listing_rest, with_records-listed}
 use Rattle.cs_tree_model.specs.Laws.Moves.{get_moved_only}
@@ -49,9 +49,13 @@ mark_of_bytes : (f : List ℕ → List ℕ) (content : Option (List ℕ)) → is
 mark_of_bytes f None = refl
 mark_of_bytes f (Some bytes) = refl
 
-mark_of_length : (length : Option ℕ) (r : Record) → is_directory (option_map_or (λ n. resized n r) length r).content ≡ is_directory r.content
-mark_of_length None r = refl
-mark_of_length (Some n) r = mark_of_bytes (λ bytes. take n (bytes ++ replicate n 0)) r.content
+mark_of_length : (length : Option ℕ) (s : Stamp) (r : Record) → is_directory (sized length s r).content ≡ is_directory r.content
+mark_of_length None s r = refl
+mark_of_length (Some n) s r = mark_of_bytes (λ bytes. take n (bytes ++ replicate n 0)) r.content
+
+mode_of_length : (length : Option ℕ) (s : Stamp) (r : Record) → (sized length s r).mode ≡ r.mode
+mode_of_length None s r = refl
+mode_of_length (Some n) s r = refl
 
 mark_of_mode : (given : Option ℕ) (mode : ℕ) → IfSome given (λ m. is_directory_mode m ≡ is_directory_mode mode) → is_directory_mode (unwrap_or given mode) ≡ is_directory_mode mode
 mark_of_mode None mode same = refl
@@ -67,7 +71,7 @@ kept None r same = same
 kept (Some m) r same = same
 
 mark_of_change : (c : Change) (s : Stamp) (r : Record) → KeepsKind c (Some r) → IsMarked r → IsMarked (changed_record c s r)
-mark_of_change c s r keeps marked = mark_of_mode c.mode r.mode (kept c.mode r keeps) ∙ marked ∙ sym (mark_of_length c.length r)
+mark_of_change c s r keeps marked = ap (λ m. is_directory_mode (unwrap_or c.mode m)) (mode_of_length c.length s r) ∙ mark_of_mode c.mode r.mode (kept c.mode r keeps) ∙ marked ∙ sym (mark_of_length c.length s r)
 
 module _ (t : Tree) (h : AreMarked t) where
   at_number_marked : (n : ℕ) (f : Path → Tree → Tree) → ((p : Path) → path_numbered t n ≡ Some p → AreMarked (f p t)) → AreMarked (at_number n f t)

@@ -37,17 +37,6 @@ module _ (t : Tree) where
       by p None = refl
       by p (Some y) = refl
 
-  pub next_added : (d : ℕ) (x : NameBytes) (w : New) (s : Stamp) → t.next ≤ (added d x w s t).next
-  next_added d x w s = by (path_numbered t d)
-    where
-      by_record : (p : Path) (o : Option Record) → t.next ≤ (option_map_or (λ r. record { files = insert (stamp_at p s t.files) (p ++ x ∷ []) (new_record t.next r.group w s); next = t.next + 1 }) o t).next
-      by_record p None = omega arith
-      by_record p (Some r) = omega arith
-
-      by : (o : Option Path) → t.next ≤ (option_map_or (λ p. add p x w s t) o t).next
-      by None = omega arith
-      by (Some p) = by_record p (record_at t p)
-
   -- no file has the next number, nor one above it
   pub next_free : IsTree t → (n : ℕ) → t.next ≤ n → record_numbered t n ≡ None
   next_free h n above = laws.record_in (node_in t) (number_in t) t.next indexed t (tree_round t h) n ∙ ⊎_elim

@@ -1,6 +1,6 @@
 -- What a store has to do for each call: which nodes it changes, and which names it finds then. What a
 -- caller promises of the tree is told of the nodes.
-use Rattle.std.proofs.Common.{◌≡◌, ◌≢◌, ℕ, ◌+◌, ◌<◌, ◌^◌, ◌==◌, true, false, Option, None, Some, IsSome, IfSome, refl, sym, ap, ◌∙◌, subst, arith, ⊎_elim}
+use Rattle.std.proofs.Common.{◌≡◌, ◌≢◌, ℕ, ◌+◌, ◌<◌, ◌^◌, ◌==◌, true, false, Option, None, Some, IsSome, IfSome, refl, sym, ap, ◌∙◌, subst, arith, ⊎_elim, ◌++◌, take, replicate}
 use Rattle.std.proofs.lemmas.Bool.{false≢true, cases_eq, eq-eqb, ne_eqb}
 use Rattle.std.specs.Option.{option_map, option_map_or, option_and_then, is_some, IsSomeAnd}
 use Rattle.cs_tree_model.specs.declared.change.New.{New}
@@ -9,7 +9,7 @@ use Rattle.cs_tree_model.specs.declared.record.Record.{Record}
 use Rattle.cs_tree_model.specs.Effects.{stamped, new_record, change_at, add, take_out, rename}
 use Rattle.cs_tree_model.specs.Lookups.{Lookup, IsIndexed, set_kid}
 use Rattle.cs_tree_model.specs.Record.{IsDirectory}
-use Rattle.cs_tree_model.specs.Stores.{at_number, added, removed, content_numbered, CanStamp, CanStampParent, IsDirectoryNumbered}
+use Rattle.cs_tree_model.specs.Stores.{at_number, added, removed, content_numbered, sized, CanStamp, CanStampParent, IsDirectoryNumbered}
 use Rattle.cs_tree_model.specs.Table.{Node, Nodes, path_of, tree_of, IsTable, set_node, unset_node, with_file}
 use Rattle.cs_tree_model.specs.Tree.{NameBytes, Path, Tree, IsTree, record_numbered, path_numbered, parent_numbered, number_in}
 use Rattle.cs_tree_model.specs.Laws.Changes.{set_node_here, set_node_other, table_set_file, file_path, next_of_tree}
@@ -19,6 +19,16 @@ use Rattle.cs_tree_model.specs.Laws.Numbers.{path_numbered-tree_of, record_numbe
 use Rattle.cs_tree_model.specs.Laws.Paths.{option_cases}
 use Rattle.cs_tree_model.specs.Laws.Reads.{parent_of_node, no_parent_of_node, tree_of_is_tree}
 use Rattle.cs_tree_model.specs.Laws.Steps.{tree_after_change, table_after_add, tree_after_add, table_after_rename, tree_after_rename, table_after_remove, tree_after_remove}
+
+-- a change leaves a record its number
+pub number_stays : (length : Option ℕ) (s : Stamp) (r : Record) → (sized length s r).number ≡ r.number
+number_stays None s r = refl
+number_stays (Some n) s r = refl
+
+-- and a length makes no file of a directory
+pub directory_stays : (length : Option ℕ) (s : Stamp) (r : Record) → IsDirectory r → IsDirectory (sized length s r)
+directory_stays None s r dir = dir
+directory_stays (Some n) s r dir = ap (option_map (λ bytes. take n (bytes ++ replicate n 0))) dir
 
 module _ (at : Nodes) (kids : Lookup) (next : ℕ) (h : IsIndexed at kids next) (t : Tree) (view : tree_of at next ≡ t) where
   -- ---- what is read

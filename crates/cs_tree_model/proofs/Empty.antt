@@ -1,5 +1,5 @@
 -- A directory whose first entry isn't there has none.
-use Rattle.std.proofs.Common.{◌≡◌, ℕ, List, Option, None, Some, false, refl, sym, ap, subst}
+use Rattle.std.proofs.Common.{◌≡◌, ℕ, List, Option, None, Some, IsSome, IfSome, true, false, refl, sym, ap, subst}
 use Rattle.std.proofs.lemmas.Bool.{false≢true}
 use Rattle.std.specs.Option.{is_some, option_map}
 use Rattle.cs_tree_model.specs.declared.entries.Entry.{Entry}
@@ -15,3 +15,8 @@ no_entry t d None none is x = by (number_in t d x) refl
     by : (o : Option ℕ) → number_in t d x ≡ o → o ≡ None
     by None found = refl
     by (Some n) found = absurd (false≢true (sym (subst (IsEntryBelow (HasName t d) None None) (sym is) (entry_holds t d None None) x (ap is_some found, refl))))
+
+-- and one whose first entry is there has it
+pub first_entry : (t : Tree) (d : ℕ) (o : Option Entry) → is_some o ≡ true → IfSome o (λ e. number_in t d (entry_name e) ≡ Some e.number) → (x : List ℕ) × IsSome (number_in t d x)
+first_entry t d None some is = absurd (false≢true some)
+first_entry t d (Some e) some is = (entry_name e, subst IsSome (sym is) refl)
