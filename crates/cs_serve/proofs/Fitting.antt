@@ -102,9 +102,13 @@ reply_within most tag (r.Error e) low less fits = spelled_within most (r_view (r
 reply_within most tag r.Flush low less fits = spelled_within most (r_view (record { tag = tag; body = r.Flush })) low less fits.fields fits.small
 reply_within most tag (r.Walk q) low less fits = spelled_within most (r_view (record { tag = tag; body = r.Walk q })) low less fits.fields fits.small
 reply_within most tag (r.Open q n) low less fits = spelled_within most (r_view (record { tag = tag; body = r.Open q n })) low less fits.fields fits.small
+reply_within most tag (r.Create q n) low less fits = spelled_within most (r_view (record { tag = tag; body = r.Create q n })) low less fits.fields fits.small
 reply_within most tag (r.Read b) low less fits = spelled_within most (r_view (record { tag = tag; body = r.Read b })) low less fits.fields fits.small
+reply_within most tag (r.Write n) low less fits = spelled_within most (r_view (record { tag = tag; body = r.Write n })) low less fits.fields fits.small
 reply_within most tag r.Clunk low less fits = spelled_within most (r_view (record { tag = tag; body = r.Clunk })) low less fits.fields fits.small
+reply_within most tag r.Remove low less fits = spelled_within most (r_view (record { tag = tag; body = r.Remove })) low less fits.fields fits.small
 reply_within most tag (r.Stat s) low less fits = spelled_within most (r_view (record { tag = tag; body = r.Stat s })) low less fits.fields fits.small
+reply_within most tag r.Wstat low less fits = spelled_within most (r_view (record { tag = tag; body = r.Wstat })) low less fits.fields fits.small
 
 pub error_within : (most tag : ℕ) (text : List ℕ) → tag < 2 ^ 16 → 1024 ≤ most → most ≤ 65536 → IsShown 48 text → FitsWithin most (record { kind = rk.Error; tag = tag; fields = text })
 unfolding FieldsFit fields_of
@@ -129,6 +133,10 @@ request_fits tag (t.Attach fid afid uname aname) fits = fits
 request_fits tag (t.Flush oldtag) fits = fits
 request_fits tag (t.Walk fid newfid wname) fits = fits
 request_fits tag (t.Open fid mode) fits = fits
+request_fits tag (t.Create fid name perm mode) fits = fits
 request_fits tag (t.Read fid offset count) fits = fits
+request_fits tag (t.Write fid offset bytes) fits = fits
 request_fits tag (t.Clunk fid) fits = fits
+request_fits tag (t.Remove fid) fits = fits
 request_fits tag (t.Stat fid) fits = fits
+request_fits tag (t.Wstat fid stat) fits = fits

@@ -1,7 +1,7 @@
 -- What each message of a session does: what it may be refused for, its reply, and the connection that it leaves.
 use Rattle.std.specs.Prelude.{◌≡◌, ℕ, map, string_bytes, unwrap_or, Bool, true, false, Option, None, Some, Result, Ok, Err, List, option_map}
 use Rattle.cs_names.specs.declared.rule_id.RuleId.{RuleId}
-use Rattle.cs_names.specs.declared.rule_id.RuleId.TheVariants.{S3}
+use Rattle.cs_names.specs.declared.rule_id.RuleId.TheVariants.{S2, S3}
 use Rattle.cs_tree_model.specs.Tree.{Tree}
 use Rattle.cs_users.specs.Rows.{Row}
 use Rattle.cs_wire.specs.declared.kind.RKind.{RKind}
@@ -40,6 +40,10 @@ pub record Effect : Type 0 where
 -- a reply of that kind with these fields
 abbrev pub reply_of : (kind : RKind) → ℕ → Value (r_layout kind) → Option (Message replies)
 reply_of kind tag fields = Some (record { kind = kind; tag = tag; fields = fields })
+
+-- a message of a type that isn't served yet
+abbrev pub unserved : Connection → Effect
+unserved c = record { grows = false; before = Some S2; first = Some S2; reply = None; left = c; denied = c }
 
 -- what each message may come to, from this connection
 abbrev pub effect_of : Tree → List Row → Connection → ℕ → TBody → Effect
@@ -83,6 +87,7 @@ effect_of tree users c tag (t.Open fid mode) =
       left = record c { fids = open_left c.fids fid mode };
       denied = c;
     }
+effect_of tree users c tag (t.Create fid name perm mode) = unserved c
 effect_of tree users c tag (t.Read fid offset count) =
     record {
       grows = gives_bytes tree c.fids fid offset count (unwrap_or c.msize 0);
@@ -92,6 +97,7 @@ effect_of tree users c tag (t.Read fid offset count) =
       left = c;
       denied = c;
     }
+effect_of tree users c tag (t.Write fid offset bytes) = unserved c
 effect_of tree users c tag (t.Clunk fid) =
     record {
       grows = false;
@@ -101,6 +107,7 @@ effect_of tree users c tag (t.Clunk fid) =
       left = record c { fids = without fid c.fids };
       denied = c;
     }
+effect_of tree users c tag (t.Remove fid) = unserved c
 effect_of tree users c tag (t.Stat fid) =
     record {
       grows = true;
@@ -110,6 +117,7 @@ effect_of tree users c tag (t.Stat fid) =
       left = c;
       denied = c;
     }
+effect_of tree users c tag (t.Wstat fid stat) = unserved c
 
 -- how a message ends: granted, where no rule fails; denied by the first that fails; or refused for want of memory, which leaves the connection as it was
 abbrev pub Ends : Effect → ℕ → Connection → Result RBody Refusal → Connection → Type 0

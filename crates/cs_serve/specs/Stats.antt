@@ -6,8 +6,7 @@ use Rattle.cs_names.specs.declared.rule_id.RuleId.TheVariants.{N1, H1}
 use Rattle.cs_tree_model.specs.declared.record.MetadataBuf.{MetadataBuf}
 use Rattle.cs_tree_model.specs.declared.record.Kind.{Kind}
 use Rattle.cs_tree_model.specs.declared.record.Kind.TheVariants.{Directory, File}
-use Rattle.cs_tree_model.specs.Stores.{name_numbered}
-use Rattle.cs_tree_model.specs.Tree.{Tree}
+use Rattle.cs_tree_model.specs.Tree.{Tree, name_numbered}
 use Rattle.cs_wire.specs.Fields.{Value}
 use Rattle.cs_wire.specs.Messages.{stat_shape, qid_of as qid_value}
 use Rattle.cs_serve.specs.declared.fid.Entry.{Entry}

@@ -172,6 +172,11 @@ impl Session {
                 self.answer_read(alloc, tree, tag, fid, offset, count)
             }
             TBody::Clunk { fid } => self.answer_clunk(tag, fid),
+            // not served yet: told as what is no message
+            TBody::Create { .. }
+            | TBody::Write { .. }
+            | TBody::Remove { .. }
+            | TBody::Wstat { .. } => Err(Refusal::Denied(RuleId::S2)),
             TBody::Stat { fid } => self.answer_stat(alloc, tree, tag, fid),
         }
     }

@@ -308,11 +308,11 @@ fn walk_stops_at_a_missing_name(rt: HostRuntime) -> Result<(), Fail> {
             ("walk 0 1 . d", "Rerror tag 1 ename \"K8 no such name\""),
             (
                 "walk 0 1 f ..",
-                "Rwalk tag 1 wqid [Qid { kind: 0, vers: 0, path: 4 }]",
+                "Rwalk tag 1 wqid [(00 0 4)]",
             ),
             (
                 "walk 0 1 d q",
-                "Rwalk tag 1 wqid [Qid { kind: 128, vers: 0, path: 1 }]",
+                "Rwalk tag 1 wqid [(80 0 1)]",
             ),
             ("clunk 1", "Rerror tag 1 ename \"N1 unknown fid\""),
         ],
@@ -329,16 +329,16 @@ fn walk_stops_at_missing_search_right(rt: HostRuntime) -> Result<(), Fail> {
             ("attach 0 bob 0/x", "Rattach tag 1 qid (80 0 0)"),
             (
                 "walk 0 1 d",
-                "Rwalk tag 1 wqid [Qid { kind: 128, vers: 0, path: 1 }]",
+                "Rwalk tag 1 wqid [(80 0 1)]",
             ),
             (
                 "walk 1 2 s z q",
-                "Rwalk tag 1 wqid [Qid { kind: 128, vers: 0, path: 2 }]",
+                "Rwalk tag 1 wqid [(80 0 2)]",
             ),
             ("stat 2", "Rerror tag 1 ename \"H1 unknown fid\""),
             (
                 "walk 1 2 s",
-                "Rwalk tag 1 wqid [Qid { kind: 128, vers: 0, path: 2 }]",
+                "Rwalk tag 1 wqid [(80 0 2)]",
             ),
             ("walk 2 3 z", "Rerror tag 1 ename \"K7 no search right\""),
             ("walk 2 3 ..", "Rerror tag 1 ename \"K7 no search right\""),
@@ -356,11 +356,11 @@ fn walks_up_from_the_root_and_clones_by_no_names(rt: HostRuntime) -> Result<(), 
             ("attach 0 ann 0/x", "Rattach tag 1 qid (80 0 0)"),
             (
                 "walk 0 1 ..",
-                "Rwalk tag 1 wqid [Qid { kind: 128, vers: 0, path: 0 }]",
+                "Rwalk tag 1 wqid [(80 0 0)]",
             ),
             (
                 "walk 0 2 d s z",
-                "Rwalk tag 1 wqid [Qid { kind: 128, vers: 0, path: 1 }, Qid { kind: 128, vers: 0, path: 2 }, Qid { kind: 0, vers: 0, path: 3 }]",
+                "Rwalk tag 1 wqid [(80 0 1), (80 0 2), (00 0 3)]",
             ),
             ("walk 2 3", "Rwalk tag 1 wqid []"),
             (
@@ -435,7 +435,7 @@ fn opens_by_the_rights_of_the_user(rt: HostRuntime) -> Result<(), Fail> {
             ("attach 0 ann 0/x", "Rattach tag 1 qid (80 0 0)"),
             (
                 "walk 0 1 f",
-                "Rwalk tag 1 wqid [Qid { kind: 0, vers: 0, path: 4 }]",
+                "Rwalk tag 1 wqid [(00 0 4)]",
             ),
             ("open 1 3", "Rerror tag 1 ename \"O8 no execute right\""),
             ("open 1 1", "Rerror tag 1 ename \"O3 bad mode\""),
@@ -444,7 +444,7 @@ fn opens_by_the_rights_of_the_user(rt: HostRuntime) -> Result<(), Fail> {
             ("walk 1 2", "Rerror tag 1 ename \"K2 fid is open\""),
             (
                 "walk 0 2 d",
-                "Rwalk tag 1 wqid [Qid { kind: 128, vers: 0, path: 1 }]",
+                "Rwalk tag 1 wqid [(80 0 1)]",
             ),
             (
                 "open 2 0",
@@ -454,18 +454,18 @@ fn opens_by_the_rights_of_the_user(rt: HostRuntime) -> Result<(), Fail> {
             ("attach 3 cat 0/x", "Rattach tag 1 qid (80 0 0)"),
             (
                 "walk 3 3 f",
-                "Rwalk tag 1 wqid [Qid { kind: 0, vers: 0, path: 4 }]",
+                "Rwalk tag 1 wqid [(00 0 4)]",
             ),
             ("open 3 0", "Ropen tag 1 qid (00 0 4) iounit 0"),
             ("attach 4 none 0/x", "Rattach tag 1 qid (80 0 0)"),
             (
                 "walk 4 5 n",
-                "Rwalk tag 1 wqid [Qid { kind: 0, vers: 0, path: 5 }]",
+                "Rwalk tag 1 wqid [(00 0 5)]",
             ),
             ("open 5 0", "Rerror tag 1 ename \"O6 no read right\""),
             (
                 "walk 4 6 f",
-                "Rwalk tag 1 wqid [Qid { kind: 0, vers: 0, path: 4 }]",
+                "Rwalk tag 1 wqid [(00 0 4)]",
             ),
             ("open 6 0", "Ropen tag 1 qid (00 0 4) iounit 0"),
         ],
@@ -482,7 +482,7 @@ fn hang_up_frees_every_fid(rt: HostRuntime) -> Result<(), Fail> {
             ("attach 0 ann 0/x", "Rattach tag 1 qid (80 0 0)"),
             (
                 "walk 0 1 f",
-                "Rwalk tag 1 wqid [Qid { kind: 0, vers: 0, path: 4 }]",
+                "Rwalk tag 1 wqid [(00 0 4)]",
             ),
             ("open 1 0", "Ropen tag 1 qid (00 0 4) iounit 0"),
             ("hangup", ""),
@@ -522,7 +522,7 @@ fn holds_64_attaches_and_4096_fids(rt: HostRuntime) -> Result<(), Fail> {
     let reply = ask(&rt, &mut world, "walk 0 0 d")?;
     assert_eq!(rt;
         reply.as_str(),
-        "Rwalk tag 1 wqid [Qid { kind: 128, vers: 0, path: 1 }]"
+        "Rwalk tag 1 wqid [(80 0 1)]"
     );
     let reply = ask(&rt, &mut world, "attach 4096 bob 0/x")?;
     assert_eq!(rt; reply.as_str(), "Rerror tag 1 ename \"A1 fid not free\"");
@@ -549,7 +549,7 @@ fn cuts_a_read_to_the_message_size(rt: HostRuntime) -> Result<(), Fail> {
             ("attach 0 ann 0/x", ATTACHED),
             (
                 "walk 0 1 f",
-                "Rwalk tag 1 wqid [Qid { kind: 0, vers: 0, path: 1 }]",
+                "Rwalk tag 1 wqid [(00 0 1)]",
             ),
             ("open 1 0", "Ropen tag 1 qid (00 0 1) iounit 0"),
             ("read 1 0 4294967295", "Rread tag 1 count 1013"),

@@ -1,5 +1,7 @@
 pub mod Spelled
 pub mod Lines
 pub mod Legal
+pub mod Members
 pub mod Sound
+pub mod Turns
 pub mod Views

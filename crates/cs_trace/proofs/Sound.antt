@@ -5,9 +5,7 @@ use Rattle.std.proofs.lemmas.Bool.Decides.{nat_tests}
 use Rattle.std.proofs.lemmas.Nat.Bits.{and_pow, bit_at_above, bit_at_cat_high}
 use Rattle.std.specs.FinMap.{get, insert, empty, len, empty_of_len, len-empty, get-empty}
 use Rattle.std.specs.Option.{is_some, option_and_then, option_map, option_map_or}
-use Rattle.std.specs.Prelude.{if◌then◌else◌, ◌&&◌, bit_and, codes}
-use Rattle.serde_json.specs.Data.{Data}
-use Rattle.serde_json.specs.Find.{get as member, as_str}
+use Rattle.std.specs.Prelude.{if◌then◌else◌, ◌&&◌, bit_and}
 use Rattle.serde_json.specs.Read.{read}
 use Rattle.cs_names.specs.declared.limits.TheConstants.{TRACE_PATH_NAMES}
 use Rattle.cs_tree_model.specs.Fresh.{IsNested}
@@ -21,7 +19,8 @@ use Rattle.cs_tree_model.specs.Tree.{Path, path_cmp, parent_path}
 use Rattle.cs_tree_model.specs.declared.mode.TheConstants.{DMDIR}
 use Rattle.cs_tree_model.specs.declared.record.Record.{Record}
 use Rattle.cs_trace.specs.Entries.{Entries, is_directory, record_of, records_in, size_of}
-use Rattle.cs_trace.specs.Lines.{Claims, Header, Line, Start, StartLine, Unknown, bytes_at, claims_in, has_keys, header_in, is_octal, is_one, line_by, line_in, line_of, permissions_in, start_line_in, start_with, text_at}
+use Rattle.cs_trace.specs.Fields.{Field, Fields, fields_in, has_keys, text_of}
+use Rattle.cs_trace.specs.Lines.{Claims, Header, Line, Start, StartLine, Unknown, bytes_in, claims_in, header_in, is_octal, is_one, line_by, line_in, line_of, permissions_in, start_line_in, start_with, text_in}
 use Rattle.cs_trace.specs.Sound.{AreSound, HasDirectory}
 use Rattle.cs_trace.specs.Start.{and_then, are_user_names, at_line, entries_from, entries_in, entry_of, first_step, is_too_large, later_step, line_step, new_file_by, rights_of, start_path_in, step, with_entry}
 use Rattle.cs_trace.specs.declared.entry.Entry.{Entry}
@@ -63,42 +62,42 @@ permissions_octal (a ∷ b ∷ c ∷ d ∷ more) n is = absurd (cc)
 abbrev HasOctal : Claims → Type 0
 HasOctal claims = claims.permissions ≤ 511
 
-claims_octal : (d : Data) (claims : Claims) → claims_in d ≡ Some claims → claims.permissions ≤ 511
-claims_octal d =
-    and_then_by (text_at (codes "owner") d) _ HasOctal (λ owner.
-    and_then_by (text_at (codes "group") d) _ HasOctal (λ group.
-    and_then_by (text_at (codes "mode") d) _ HasOctal (λ mode.
+claims_octal : (f : Fields) (claims : Claims) → claims_in f ≡ Some claims → claims.permissions ≤ 511
+claims_octal f =
+    and_then_by (text_in f.owner) _ HasOctal (λ owner.
+    and_then_by (text_in f.group) _ HasOctal (λ group.
+    and_then_by (text_in f.mode) _ HasOctal (λ mode.
     map_by (permissions_in mode) _ HasOctal (λ n is. permissions_octal mode n is))))
 
-header_octal : (version d : Data) (line : Line) → header_in version d ≡ Some line → IsOctal line
-header_octal version d = if_by (is_one version && has_keys 4 d) (option_map Header (claims_in d)) IsOctal (map_by (claims_in d) Header IsOctal (λ claims is. claims_octal d claims is))
+header_octal : (version : Field) (f : Fields) (line : Line) → header_in version f ≡ Some line → IsOctal line
+header_octal version f = if_by (is_one version && has_keys 4 f) (option_map Header (claims_in f)) IsOctal (map_by (claims_in f) Header IsOctal (λ claims is. claims_octal f claims is))
 
 abbrev HasOctalClaims : StartLine → Type 0
 HasOctalClaims line = line.claims.permissions ≤ 511
 
-start_octal : (count : ℕ) (d : Data) (content : Option (List ℕ)) (line : StartLine) → start_with count d content ≡ Some line → HasOctalClaims line
-start_octal count d content =
-    if_by (has_keys count d) _ HasOctalClaims
-    (and_then_by (text_at (codes "path") d) _ HasOctalClaims (λ path. map_by (claims_in d) _ HasOctalClaims (λ claims is. claims_octal d claims is)))
+start_octal : (count : ℕ) (f : Fields) (content : Option (List ℕ)) (line : StartLine) → start_with count f content ≡ Some line → HasOctalClaims line
+start_octal count f content =
+    if_by (has_keys count f) _ HasOctalClaims
+    (and_then_by (text_in f.path) _ HasOctalClaims (λ path. map_by (claims_in f) _ HasOctalClaims (λ claims is. claims_octal f claims is)))
 
-kind_by : (dir file : Bool) (d : Data) (line : Line)
-    → (if dir then option_map Start (start_with 5 d None) else (if file then option_and_then (λ bytes. option_map Start (start_with 6 d (Some bytes))) (bytes_at d) else Some Unknown)) ≡ Some line → IsOctal line
-kind_by true file d line is = map_by (start_with 5 d None) Start IsOctal (start_octal 5 d None) line is
-kind_by false true d line is = and_then_by (bytes_at d) _ IsOctal (λ bytes. map_by (start_with 6 d (Some bytes)) Start IsOctal (start_octal 6 d (Some bytes))) line is
-kind_by false false d line is = let same : Unknown ≡ line = cc in subst IsOctal same tt
+kind_by : (dir file : Bool) (f : Fields) (line : Line)
+    → (if dir then option_map Start (start_with 5 f None) else (if file then option_and_then (λ bytes. option_map Start (start_with 6 f (Some bytes))) (bytes_in f.bytes) else Some Unknown)) ≡ Some line → IsOctal line
+kind_by true file f line is = map_by (start_with 5 f None) Start IsOctal (start_octal 5 f None) line is
+kind_by false true f line is = and_then_by (bytes_in f.bytes) _ IsOctal (λ bytes. map_by (start_with 6 f (Some bytes)) Start IsOctal (start_octal 6 f (Some bytes))) line is
+kind_by false false f line is = let same : Unknown ≡ line = cc in subst IsOctal same tt
 
-line_octal_by : (trace start op : Option Data) (d : Data) (line : Line) → line_by trace start op d ≡ Some line → IsOctal line
-line_octal_by (Some version) None None d line is = header_octal version d line is
-line_octal_by None (Some start) None d line is = and_then_by (as_str start) (λ kind. start_line_in kind d) IsOctal (λ kind. kind_by _ _ d) line is
-line_octal_by None None (Some operation) d line is = map_by (as_str operation) (λ _. Unknown) IsOctal (λ _ _. tt) line is
-line_octal_by (Some version) (Some start) op d line is = absurd (cc)
-line_octal_by (Some version) None (Some operation) d line is = absurd (cc)
-line_octal_by None (Some start) (Some operation) d line is = absurd (cc)
-line_octal_by None None None d line is = absurd (cc)
+line_octal_by : (trace start op : Option Field) (f : Fields) (line : Line) → line_by trace start op f ≡ Some line → IsOctal line
+line_octal_by (Some version) None None f line is = header_octal version f line is
+line_octal_by None (Some start) None f line is = and_then_by (text_of start) (λ kind. start_line_in kind f) IsOctal (λ kind. kind_by _ _ f) line is
+line_octal_by None None (Some operation) f line is = map_by (text_of operation) (λ _. Unknown) IsOctal (λ _ _. tt) line is
+line_octal_by (Some version) (Some start) op f line is = absurd (cc)
+line_octal_by (Some version) None (Some operation) f line is = absurd (cc)
+line_octal_by None (Some start) (Some operation) f line is = absurd (cc)
+line_octal_by None None None f line is = absurd (cc)
 
 line_octal : (text : List ℕ) (line : Line) → line_in text ≡ Some line → IsOctal line
 unfolding line_in
-line_octal text = and_then_by (read text) line_of IsOctal (λ d. line_octal_by (member (codes "trace") d) (member (codes "start") d) (member (codes "op") d) d)
+line_octal text = and_then_by (option_and_then fields_in (read text)) line_of IsOctal (λ f. line_octal_by f.trace f.start f.op f)
 
 -- ---- one entry more
 

@@ -1,7 +1,9 @@
 pub mod Entries
 pub mod Faults
+pub mod Fields
 pub mod Keys
 pub mod Lines
+pub mod Reading
 pub mod Said
 pub mod Sound
 pub mod Start

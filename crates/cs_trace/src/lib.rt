@@ -5,8 +5,11 @@ mod digits;
 mod entries;
 mod entry;
 pub mod fault;
+mod fields;
 mod line;
 mod names;
+mod numbers;
+mod reading;
 pub mod start;
 #[cfg(test)]
 mod tests;

@@ -1,12 +1,11 @@
 //! What a line of a trace says by itself.
-ghost use Rattle.std.specs.Prelude.{◌≡◌, codes};
-ghost use Rattle.std.specs.Option.{option_map};
-ghost use Rattle.serde_json.specs.View.{view};
+ghost use Rattle.std.specs.Prelude.{◌≡◌, option_map};
+ghost use Rattle.cs_trace.specs.Lines.{bytes_in, claims_in, header_in, is_blank, is_octal, is_one, line_of, permissions_in, start_line_in, start_with, text_in};
+ghost use Rattle.cs_trace.specs.Reading.{field_said, fields_said};
 ghost use Rattle.cs_trace.specs.Said.{claims_of, line_said, start_of};
-ghost use Rattle.cs_trace.specs.Lines.{bytes_at, claims_in, has_keys, header_in, is_blank, is_octal, is_one, line_of, permissions_in, start_line_in, start_with, text_at};
 
 use crate::digits::Digits;
-use serde_json::Value;
+use crate::fields::{Field, Fields};
 
 /// What a line says. The texts in it are not yet judged as names and paths.
 #[derive(Drop)]
@@ -64,93 +63,90 @@ fn permissions_in(text: &str) -> Option<u16>
     Some(u16::from(*a - b'0') * 64 + u16::from(*b - b'0') * 8 + u16::from(*c - b'0'))
 }
 
-fn text_at<'a>(value: &'a Value, key: &str) -> Option<&'a str>
-    ensures { option_map (λ text. text.now) result ≡ text_at key.now (view value.now) }
+fn text_in<'a>(field: &Option<Field<'a>>) -> Option<&'a str>
+    ensures { option_map (λ text. text.now) result ≡ text_in (option_map field_said field.now) }
 {
-    value.get(key).and_then(Value::as_str)
-}
-
-/// Whether the object has exactly so many keys: with those that are asked for, it has no others.
-fn has_keys(value: &Value, count: usize) -> bool
-    ensures { result ≡ has_keys count (view value.now) }
-{
-    match value.as_object() {
-        Some(members) => members.len() == count,
-        None => false,
+    match field {
+        Some(field) => field.text(),
+        None => None,
     }
 }
 
-fn is_one(value: &Value) -> bool
-    ensures { result ≡ is_one (view value.now) }
+fn is_one(version: &Field<'_>) -> bool
+    ensures { result ≡ is_one (field_said version.now) }
 {
-    value.as_u64() == Some(1)
+    match version {
+        Field::Number(number) => number.as_u64() == Some(1),
+        Field::Text(_) | Field::Other => false,
+    }
 }
 
-fn claims_in(value: &Value) -> Option<Claims<'_>>
-    ensures { option_map claims_of result ≡ claims_in (view value.now) }
+fn claims_in<'a>(fields: &Fields<'a>) -> Option<Claims<'a>>
+    ensures { option_map claims_of result ≡ claims_in (fields_said fields.now) }
 {
     Some(Claims {
-        owner: text_at(value, "owner")?,
-        group: text_at(value, "group")?,
-        permissions: permissions_in(text_at(value, "mode")?)?,
+        owner: text_in(&fields.owner)?,
+        group: text_in(&fields.group)?,
+        permissions: permissions_in(text_in(&fields.mode)?)?,
     })
 }
 
 /// A start line with so many keys, for a file or a directory with that content.
 fn start_with<'a>(
-    value: &'a Value,
+    fields: &Fields<'a>,
     count: usize,
     content: Option<Digits<'a>>,
 ) -> Option<StartLine<'a>>
-    ensures { option_map start_of result ≡ start_with count (view value.now) content.entry }
+    ensures { option_map start_of result ≡ start_with count (fields_said fields.now) content.entry }
 {
-    if !has_keys(value, count) {
+    if !fields.has_keys(count) {
         return None;
     }
     Some(StartLine {
-        path: text_at(value, "path")?,
-        claims: claims_in(value)?,
+        path: text_in(&fields.path)?,
+        claims: claims_in(fields)?,
         content,
     })
 }
 
 /// The bytes that hexadecimal digits of either case spell.
-fn bytes_at(value: &Value) -> Option<Digits<'_>>
-    ensures { result ≡ bytes_at (view value.now) }
+fn bytes_in<'a>(field: &Option<Field<'a>>) -> Option<Digits<'a>>
+    ensures { result ≡ bytes_in (option_map field_said field.now) }
 {
-    Digits::of(text_at(value, "bytes")?)
+    Digits::of(text_in(field)?)
 }
 
-fn start_line_in<'a>(kind: &str, value: &'a Value) -> Option<Line<'a>>
-    ensures { option_map line_said result ≡ start_line_in kind.now (view value.now) }
+fn start_line_in<'a>(kind: &str, fields: &Fields<'a>) -> Option<Line<'a>>
+    ensures { option_map line_said result ≡ start_line_in kind.now (fields_said fields.now) }
 {
     if kind == "dir" {
-        return Some(Line::Start(start_with(value, 5, None)?));
+        return Some(Line::Start(start_with(fields, 5, None)?));
     }
     if kind != "file" {
         return Some(Line::Unknown);
     }
-    let content = bytes_at(value)?;
-    Some(Line::Start(start_with(value, 6, Some(content))?))
+    let content = bytes_in(&fields.bytes)?;
+    Some(Line::Start(start_with(fields, 6, Some(content))?))
 }
 
-fn header_in<'a>(version: &Value, value: &'a Value) -> Option<Line<'a>>
-    ensures { option_map line_said result ≡ header_in (view version.now) (view value.now) }
+fn header_in<'a>(version: &Field<'_>, fields: &Fields<'a>) -> Option<Line<'a>>
+    ensures { option_map line_said result
+        ≡ header_in (field_said version.now) (fields_said fields.now) }
 {
-    if !(is_one(version) && has_keys(value, 4)) {
+    if !(is_one(version) && fields.has_keys(4)) {
         return None;
     }
-    Some(Line::Header(claims_in(value)?))
+    Some(Line::Header(claims_in(fields)?))
 }
 
-/// What the line of that value says, or None where it is no line of a trace. It takes no memory.
-pub(crate) fn line_of(value: &Value) -> Option<Line<'_>>
-    ensures { option_map line_said result ≡ line_of (view value.now) }
+/// What the line with these fields says, or None where it is no line of a trace.
+pub(crate) fn line_of<'a>(fields: &Fields<'a>) -> Option<Line<'a>>
+    ensures { option_map line_said result ≡ line_of (fields_said fields.now) }
 {
-    match (value.get("trace"), value.get("start"), value.get("op")) {
-        (Some(version), None, None) => header_in(version, value),
-        (None, Some(start), None) => start_line_in(start.as_str()?, value),
-        (None, None, Some(operation)) => operation.as_str().map(|_| Line::Unknown),
+    match (&fields.trace, &fields.start, &fields.op) {
+        (Some(version), None, None) => header_in(version, fields),
+        (None, Some(start), None) => start_line_in(start.text()?, fields),
+        (None, None, Some(operation)) => operation.text().map(|_| Line::Unknown),
         _ => None,
     }
 }

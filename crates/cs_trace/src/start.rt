@@ -14,10 +14,11 @@ use crate::entry::{Entry, Rights};
 use crate::fault::{TraceFault, TraceFaultKind};
 use crate::line::{Claims, Line, StartLine, is_blank, line_of};
 use crate::names::{are_user_names, keep_names, start_path_len};
+use crate::reading::fields_in;
 use cs_names::limits::{FILE_BYTES, TRACE_PATH_NAMES, TREE_RECORDS};
 use cs_names::{Name, Path};
 use cs_tree_model::{Content, Record};
-use serde_json::Value;
+use json::Scratch;
 use std::alloc::{AllocError, Global};
 
 /// Whether a new file may stand at the path with these names: NoParent, NotDir or Exists where not.
@@ -156,12 +157,11 @@ fn take(alloc: Global, entries: &mut Entries, text: &str) -> Result<(), TraceFau
     if is_blank(text) {
         return Ok(());
     }
-    let value = match Value::from_str(alloc, text) {
-        Ok(value) => value,
-        Err(error) if error.is_memory() => return Err(TraceFaultKind::Memory),
-        Err(_) => return Err(TraceFaultKind::Syntax),
+    let mut scratch = Scratch::new(alloc);
+    let Some(fields) = fields_in(text, &mut scratch)? else {
+        return Err(TraceFaultKind::Syntax);
     };
-    let Some(line) = line_of(&value) else {
+    let Some(line) = line_of(&fields) else {
         return Err(TraceFaultKind::Syntax);
     };
     take_line(alloc, entries, &line)

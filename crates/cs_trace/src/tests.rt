@@ -194,6 +194,102 @@ fn each_fault_of_a_start_line(rt: HostRuntime) -> Result<(), Fail> {
     Ok(())
 }
 
+/// A header, and an operation that names nothing, with this value under another key.
+fn fault_with(alloc: Global, value: &str) -> Result<Option<TraceFault>, AllocError> {
+    let line = format!(in alloc; "{{\"op\":\"x\",\"x\":{value}}}")?;
+    fault_of(alloc, &[HEADER, line.as_str()])
+}
+
+/// So many arrays in one another.
+fn nested(alloc: Global, depth: usize) -> Result<String, AllocError> {
+    let mut value = String::new(alloc);
+    for _ in 0..depth {
+        value.push_str("[")?;
+    }
+    for _ in 0..depth {
+        value.push_str("]")?;
+    }
+    Ok(value)
+}
+
+#[test]
+fn a_value_that_no_key_has_is_read_to_its_end(rt: HostRuntime) -> Result<(), Fail> {
+    let alloc = rt.alloc();
+    let deepest = nested(alloc, 126)?;
+    let deeper = nested(alloc, 127)?;
+    for (value, kind) in [
+        (
+            "[true,{\"op\":1,\"b\":[-0,2.5e-3,null]}]",
+            TraceFaultKind::UnknownOp,
+        ),
+        ("18446744073709551616", TraceFaultKind::UnknownOp),
+        (deepest.as_str(), TraceFaultKind::UnknownOp),
+        (deeper.as_str(), TraceFaultKind::Syntax),
+        ("[{\"b\":[1e400]}]", TraceFaultKind::Syntax),
+        ("-1e400", TraceFaultKind::Syntax),
+        ("[1,]", TraceFaultKind::Syntax),
+        ("[1}", TraceFaultKind::Syntax),
+        ("{\"b\"}", TraceFaultKind::Syntax),
+        ("01", TraceFaultKind::Syntax),
+        ("1}, {\"b\":1", TraceFaultKind::Syntax),
+    ] {
+        let want = Some(TraceFault { line: 2, kind });
+        assert_eq!(rt; fault_with(alloc, value)?, want, "{value}");
+    }
+    Ok(())
+}
+
+/// A header, and a directory whose line has this text so many times before its own members.
+fn directory_after(
+    alloc: Global,
+    count: usize,
+    member: &str,
+) -> Result<Option<TraceFault>, AllocError> {
+    let mut line = String::from_str(alloc, "{")?;
+    for _ in 0..count {
+        line.push_str(member)?;
+    }
+    line.push_str(&DIRECTORY[1..])?;
+    fault_of(alloc, &[HEADER, line.as_str()])
+}
+
+#[test]
+fn a_long_line_is_judged_by_its_last_values(rt: HostRuntime) -> Result<(), Fail> {
+    let alloc = rt.alloc();
+    let syntax = Some(TraceFault {
+        line: 2,
+        kind: TraceFaultKind::Syntax,
+    });
+    assert_eq!(rt;
+        directory_after(alloc, 100_000, "\"st\\u0061rt\":[0,1],")?,
+        None
+    );
+    assert_eq!(rt;
+        directory_after(alloc, 100_000, "\"mode\":\"\",\"path\":{},")?,
+        None
+    );
+    assert_eq!(rt; directory_after(alloc, 1, "\"other\":\"\",")?, syntax);
+    assert_eq!(rt; directory_after(alloc, 100_000, "\"bytes\":0,")?, syntax);
+    Ok(())
+}
+
+#[test]
+fn keys_and_texts_may_have_escapes(rt: HostRuntime) -> Result<(), Fail> {
+    let alloc = rt.alloc();
+    let mut text = String::from_str(alloc, HEADER)?;
+    text.push_str("\n{\"st\\u0061rt\":\"d\\u0069r\",\"p\\u0061th\":\"\\/\\u00e9\",")?;
+    text.push_str("\"owner\":\"\\ud83d\\ude00\",\"group\":\"\\u0061\",\"mode\":\"7\\u00355\"}")?;
+    let start = read_start(alloc, text.as_str())?;
+    assert_eq!(rt;
+        shown(alloc, start)?.as_str(),
+        "\
+0 / cat staff cat 0 0 0 800001fd None
+1 /\u{e9} \u{1f600} a \u{1f600} 0 0 0 800001ed None
+"
+    );
+    Ok(())
+}
+
 fn push_directory(text: &mut String, path: &str) -> Result<(), AllocError> {
     text.push_str("\n{\"start\":\"dir\",\"path\":\"")?;
     text.push_str(path)?;

@@ -1,21 +1,17 @@
 -- A call that changes one record.
-use Rattle.std.proofs.Common.{◌≡◌, ◌≢◌, ◌+◌, ◌<◌, ◌^◌, ◌==◌, ℕ, true, false, cond, [], List, Option, None, Some, IsSome, IfSome, refl, sym, ap, ◌∙◌, subst, ⊎_elim, unwrap_or, arith, ◌++◌, take, replicate}
-use Rattle.std.proofs.lemmas.Bool.{cases_eq, eq-eqb, ne_eqb, false≢true}
-use Rattle.std.specs.Option.{option_map, option_map_or, option_and_then, is_some}
+use Rattle.std.proofs.Common.{◌≡◌, ℕ, [], List, Option, None, Some, IsSome, refl, sym, ap, ◌∙◌, subst, unwrap_or, ◌++◌, take, replicate}
+use Rattle.std.proofs.lemmas.Bool.{false≢true}
+use Rattle.std.specs.Option.{option_map, option_map_or, option_and_then}
 use Rattle.cs_tree_model.specs.declared.change.Change.{Change}
-use Rattle.cs_tree_model.specs.declared.change.New.{New}
 use Rattle.cs_tree_model.specs.declared.change.Stamp.{Stamp}
 use Rattle.cs_tree_model.specs.declared.record.Record.{Record}
 use Rattle.cs_tree_model.specs.Effects.{change_at, placed, rename, stamped}
-use Rattle.cs_tree_model.specs.Laws.Changes.{set_node_here, set_node_other}
-use Rattle.cs_tree_model.specs.Laws.Lookups.{place_cases, set_kid_here, set_kid_other}
 use Rattle.cs_tree_model.specs.Laws.Stores as laws
-use Rattle.cs_tree_model.specs.Lookups.{IsIndexed, Lookup, set_kid}
+use Rattle.cs_tree_model.specs.Lookups.{IsIndexed}
 use Rattle.cs_tree_model.specs.Record.{IsDirectory, kind_of}
-use Rattle.cs_tree_model.specs.Stores.{at_number, changed, changed_record, content_numbered, stamped_write, written_to}
-use Rattle.cs_tree_model.specs.Table as table
-use Rattle.cs_tree_model.specs.Table.{Nodes, set_node, tree_of, unset_node, with_file}
-use Rattle.cs_tree_model.specs.Tree.{NameBytes, Tree, record_numbered}
+use Rattle.cs_tree_model.specs.Stores.{at_number, changed, changed_record, stamped_write, written_to}
+use Rattle.cs_tree_model.specs.Table.{set_node, tree_of, with_file}
+use Rattle.cs_tree_model.specs.Tree.{NameBytes, Tree, content_numbered, record_numbered}
 use Rattle.cs_tree.specs.declared.node.Node.{Node}
 use Rattle.cs_tree.specs.Held.{IsHeld, IsNode, kids, shapes}
 use Rattle.cs_tree.specs.declared.node.Body.{Body}
@@ -24,7 +20,7 @@ use Rattle.cs_tree_model.specs.declared.record.Kind.{Kind}
 use Rattle.cs_tree_model.specs.declared.record.MetadataBuf.{MetadataBuf}
 use Rattle.cs_tree.specs.Node.{Alike, body_with_write, child_in, content_of, record_of, resized_bytes, shape_of, step_at, with_at, with_attributes, with_bytes, with_write}
 use Rattle.cs_tree.proofs.Lookups.{node_there, file_there, content_is}
-use Rattle.cs_tree.proofs.Tables.{content_with_child, content_without_child, kids_gone, kids_new, kids_same, kids_with, kids_without, node_behind, nodes_gone, nodes_put, one_table, shapes_gone, shapes_put, step_here, with_at_here, with_at_other}
+use Rattle.cs_tree.proofs.Tables.{kids_same, nodes_put, one_table, shapes_put, step_here}
 
 module _ (at : ℕ → Option Node) (next : ℕ) (h : IsHeld at next) (t : Tree) (view : tree_of (shapes at) next ≡ t) where
   module _ (n : ℕ) (d : Node) (here : at n ≡ Some d) (e : Node) (f : Record → Record)

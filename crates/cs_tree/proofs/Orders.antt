@@ -1,25 +1,11 @@
 -- Tables and look-ups in which the same places are set in another order.
-use Rattle.std.proofs.Common.{◌≡◌, ◌≢◌, ◌+◌, ◌<◌, ◌^◌, ◌==◌, ℕ, true, false, cond, [], List, Option, None, Some, IsSome, IfSome, refl, sym, ap, ◌∙◌, subst, ⊎_elim, unwrap_or, arith}
-use Rattle.std.proofs.lemmas.Bool.{cases_eq, eq-eqb, ne_eqb, false≢true}
-use Rattle.std.specs.Option.{option_map, option_and_then, is_some}
-use Rattle.cs_tree_model.specs.declared.change.Change.{Change}
-use Rattle.cs_tree_model.specs.declared.change.New.{New}
-use Rattle.cs_tree_model.specs.declared.change.Stamp.{Stamp}
-use Rattle.cs_tree_model.specs.declared.record.Record.{Record}
-use Rattle.cs_tree_model.specs.Effects.{change_at, new_record, rename, stamped}
-use Rattle.cs_tree_model.specs.Laws.Changes.{set_node_here, set_node_other}
+use Rattle.std.proofs.Common.{◌≡◌, ◌≢◌, ◌==◌, ℕ, true, false, Option, refl, sym, ◌∙◌, ⊎_elim}
+use Rattle.std.proofs.lemmas.Bool.{cases_eq, eq-eqb, ne_eqb}
 use Rattle.cs_tree_model.specs.Laws.Lookups.{place_cases, set_kid_here, set_kid_other}
-use Rattle.cs_tree_model.specs.Laws.Stores as laws
-use Rattle.cs_tree_model.specs.Lookups.{IsIndexed, Lookup, set_kid}
-use Rattle.cs_tree_model.specs.Record.{IsDirectory, kind_of}
-use Rattle.cs_tree_model.specs.Stores.{added, at_number, removed}
+use Rattle.cs_tree_model.specs.Lookups.{Lookup, set_kid}
 use Rattle.cs_tree_model.specs.Table as table
 use Rattle.cs_tree_model.specs.Table.{Nodes, set_node, tree_of, unset_node, with_file}
-use Rattle.cs_tree_model.specs.Tree.{NameBytes, Tree, number_in}
-use Rattle.cs_tree.specs.declared.node.Node.{Node}
-use Rattle.cs_tree.specs.Held.{IsHeld, IsNode, kids, shapes}
-use Rattle.cs_tree.specs.Node.{Alike, IsNodeOf, child_in, content_of, renamed, shape_of, step_at, with_at, with_child, with_name, with_stamp, without_child, without_node}
-use Rattle.cs_tree.proofs.Tables.{content_with_child, content_without_child, kids_gone, kids_new, kids_same, kids_with, kids_without, node_behind, nodes_gone, nodes_put, one_table, shapes_gone, shapes_put, step_here, with_at_here, with_at_other}
+use Rattle.cs_tree_model.specs.Tree.{NameBytes}
 
 -- ---- tables of the model in which the same numbers are set in another order
 

@@ -1,8 +1,8 @@
 -- A record that follows those that are there.
-use Rattle.std.proofs.Common.{◌≡◌, ◌≢◌, ◌+◌, ◌<◌, ◌≤◌, ◌==◌, ℕ, Bool, true, false, cond, not, if◌then◌else◌, [], ◌∷◌, ◌++◌, Option, None, Some, IsSome, refl, sym, ap, ◌∙◌, subst, ⊎_elim, unwrap_or, arith}
-use Rattle.std.proofs.lemmas.Bool.{false≢true, cases_eq, eq-eqb, ne_eqb}
+use Rattle.std.proofs.Common.{◌≡◌, ◌≢◌, ◌+◌, ◌<◌, ◌≤◌, ℕ, Bool, true, false, not, if◌then◌else◌, [], ◌∷◌, ◌++◌, Option, None, Some, IsSome, refl, sym, ap, ◌∙◌, subst, ⊎_elim, unwrap_or, arith}
+use Rattle.std.proofs.lemmas.Bool.{cases_eq}
 use Rattle.std.specs.FinMap as map
-use Rattle.std.specs.Option.{option_map, is_some}
+use Rattle.std.specs.Option.{option_map}
 use Rattle.cs_tree_model.specs.declared.record.Record.{Record}
 use Rattle.cs_tree_model.specs.Laws.Changes.{set_node_here, set_node_other}
 use Rattle.cs_tree_model.specs.Laws.Listings.{table_with, tree_with, directory_node, place_of, follows_in}
@@ -21,7 +21,7 @@ use Rattle.cs_tree.specs.declared.node.Node.{Node}
 use Rattle.cs_tree.specs.Held.{IsHeld, IsNode, kids, shapes}
 use Rattle.cs_tree.specs.Node.{Alike, IsNodeOf, content_of, shape_of, step_at, with_at, with_child}
 use Rattle.cs_tree.proofs.Lookups.{is_tree, next_is}
-use Rattle.cs_tree.proofs.Tables.{content_with_child, kids_new, kids_with, node_behind, nodes_put, one_table, shapes_put, step_here, with_at_here, with_at_other}
+use Rattle.cs_tree.proofs.Tables.{content_with_child, kids_new, kids_with, node_behind, nodes_put, one_table, shapes_put, step_here, with_at_other}
 
 -- the test of a mode says what it is to tell
 told : (d m : Bool) → (if d then m else not m) ≡ true → m ≡ d

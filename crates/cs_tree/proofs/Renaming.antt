@@ -1,25 +1,21 @@
 -- A call that gives a file another name.
-use Rattle.std.proofs.Common.{◌≡◌, ◌≢◌, ◌+◌, ◌<◌, ◌^◌, ◌==◌, ℕ, true, false, cond, [], List, Option, None, Some, IsSome, IfSome, refl, sym, ap, ◌∙◌, subst, ⊎_elim, unwrap_or, arith}
-use Rattle.std.proofs.lemmas.Bool.{cases_eq, eq-eqb, ne_eqb, false≢true}
-use Rattle.std.specs.Option.{option_map, option_map_or, option_and_then, is_some}
+use Rattle.std.proofs.Common.{◌≡◌, ◌≢◌, ◌+◌, ◌<◌, ◌^◌, ℕ, [], List, Option, None, Some, IsSome, IfSome, refl, sym, ap, ◌∙◌, subst, unwrap_or}
+use Rattle.std.proofs.lemmas.Bool.{false≢true}
+use Rattle.std.specs.Option.{option_map, option_map_or, is_some}
 use Rattle.cs_tree_model.specs.declared.change.Change.{Change}
-use Rattle.cs_tree_model.specs.declared.change.New.{New}
 use Rattle.cs_tree_model.specs.declared.change.Stamp.{Stamp}
 use Rattle.cs_tree_model.specs.declared.record.Record.{Record}
-use Rattle.cs_tree_model.specs.Effects.{change_at, new_record, rename, stamped}
-use Rattle.cs_tree_model.specs.Laws.Changes.{set_node_here, set_node_other}
-use Rattle.cs_tree_model.specs.Laws.Lookups.{place_cases, set_kid_here, set_kid_other}
+use Rattle.cs_tree_model.specs.Effects.{change_at, rename, stamped}
 use Rattle.cs_tree_model.specs.Laws.Stores as laws
-use Rattle.cs_tree_model.specs.Lookups.{IsIndexed, Lookup, set_kid}
+use Rattle.cs_tree_model.specs.Lookups.{IsIndexed, set_kid}
 use Rattle.cs_tree_model.specs.Record.{IsDirectory, kind_of}
-use Rattle.cs_tree_model.specs.Stores.{CanStamp, at_number, changed, changed_record, content_numbered}
-use Rattle.cs_tree_model.specs.Table as table
-use Rattle.cs_tree_model.specs.Table.{Nodes, set_node, tree_of, unset_node, with_file}
-use Rattle.cs_tree_model.specs.Tree.{NameBytes, Tree, number_in, parent_numbered, record_numbered}
+use Rattle.cs_tree_model.specs.Stores.{CanStamp, at_number, changed, changed_record}
+use Rattle.cs_tree_model.specs.Table.{set_node, tree_of, with_file}
+use Rattle.cs_tree_model.specs.Tree.{NameBytes, Tree, content_numbered, number_in, parent_numbered, record_numbered}
 use Rattle.cs_tree.specs.declared.node.Node.{Node}
 use Rattle.cs_tree.specs.Held.{IsHeld, IsNode, kids, shapes}
-use Rattle.cs_tree.specs.Node.{Alike, CanStampNode, child_in, content_of, renamed, resized_bytes, shape_of, step_at, with_at, with_attributes, with_bytes, with_child, with_name, with_stamp, without_child, without_node}
-use Rattle.cs_tree.proofs.Tables.{content_with_child, content_without_child, kids_gone, kids_new, kids_same, kids_with, kids_without, node_behind, nodes_gone, nodes_put, one_table, shapes_gone, shapes_put, step_here, with_at_here, with_at_other}
+use Rattle.cs_tree.specs.Node.{Alike, CanStampNode, child_in, content_of, renamed, resized_bytes, shape_of, step_at, with_at, with_attributes, with_bytes, with_child, with_name, with_stamp, without_child}
+use Rattle.cs_tree.proofs.Tables.{content_with_child, content_without_child, kids_same, kids_with, kids_without, nodes_put, one_table, shapes_put, step_here, with_at_here, with_at_other}
 use Rattle.cs_tree.proofs.Changing.{children_changed, fields_are, file_changed, file_of, kind_changed, name_kept, node_of, parent_kept, with_fields}
 use Rattle.cs_tree.proofs.Lookups.{can_stamp, parent_is}
 use Rattle.cs_tree.proofs.Orders.{set_kid_swap, set_twice}

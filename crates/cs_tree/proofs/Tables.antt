@@ -1,16 +1,14 @@
 -- What steps of the table of nodes are in the model, and for the look-ups by name.
-use Rattle.std.proofs.Common.{◌≡◌, ◌≢◌, ℕ, ◌==◌, ◌&&◌, true, false, cond, [], Option, None, Some, IsSome, refl, sym, ap, ◌∙◌, subst, ◌⊎◌, inl, inr, ⊎_elim, unwrap_or}
+use Rattle.std.proofs.Common.{◌≡◌, ◌≢◌, ℕ, ◌==◌, true, false, Option, None, Some, refl, sym, ap, ◌∙◌, subst, ⊎_elim}
 use Rattle.std.proofs.lemmas.Bool.{false≢true, cases_eq, eq-eqb, ne_eqb}
-use Rattle.std.specs.FinMap as map
 use Rattle.std.specs.Option.{option_map, option_and_then, is_some}
-use Rattle.cs_tree_model.specs.Effects.{same_name}
 use Rattle.cs_tree_model.specs.Laws.Lookups.{place_cases, set_kid_here, set_kid_other}
 use Rattle.cs_tree_model.specs.Laws.Nexts.{total, exact}
 use Rattle.cs_tree_model.specs.Lookups.{set_kid}
 use Rattle.cs_tree_model.specs.Maps.Changes.{get-insert_same, get-insert_other, get-remove_same, get-remove_other}
 use Rattle.cs_tree_model.specs.Table as table
 use Rattle.cs_tree_model.specs.Table.{set_node, unset_node}
-use Rattle.cs_tree_model.specs.Tree.{NameBytes, name_cmp}
+use Rattle.cs_tree_model.specs.Tree.{NameBytes}
 use Rattle.cs_tree.specs.declared.node.Body.{Body}
 use Rattle.cs_tree.specs.declared.node.Body.TheVariants.{Directory, File}
 use Rattle.cs_tree.specs.declared.node.Node.{Node}

@@ -64,11 +64,11 @@ fn new_content(alloc: Global, mode: u32) -> Content
 }
 
 /// Whether the mode says rightly what the record is: a directory or a file.
-pub fn is_marked(record: &Record) -> bool
-    ensures { result ≡ is_marked record.now }
+pub fn is_marked(file: &Record) -> bool
+    ensures { result ≡ is_marked file.now }
 {
-    match record.content.kind() {
-        Kind::Directory => is_directory_mode(record.mode),
-        Kind::File { .. } => !is_directory_mode(record.mode),
+    match file.content.kind() {
+        Kind::Directory => is_directory_mode(file.mode),
+        Kind::File { .. } => !is_directory_mode(file.mode),
     }
 }

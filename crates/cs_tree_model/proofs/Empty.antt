@@ -4,11 +4,10 @@ use Rattle.std.proofs.lemmas.Bool.{false≢true}
 use Rattle.std.specs.Option.{is_some, option_map}
 use Rattle.cs_tree_model.specs.declared.entries.Entry.{Entry}
 use Rattle.cs_tree_model.specs.Laws.Nexts.{HasName, entry_holds}
-use Rattle.cs_tree_model.specs.Nexts.{IsEntryBelow, entry_below, entry_name}
-use Rattle.cs_tree_model.specs.Stores.{entry_numbered}
+use Rattle.cs_tree_model.specs.Nexts.{IsEntryBelow, entry_below, entry_name, next_name}
 use Rattle.cs_tree_model.specs.Tree.{Tree, number_in}
 
-pub no_entry : (t : Tree) (d : ℕ) (o : Option Entry) → is_some o ≡ false → option_map entry_name o ≡ entry_below None (entry_numbered t d None) → (x : List ℕ) → number_in t d x ≡ None
+pub no_entry : (t : Tree) (d : ℕ) (o : Option Entry) → is_some o ≡ false → option_map entry_name o ≡ entry_below None (next_name t d None) → (x : List ℕ) → number_in t d x ≡ None
 no_entry t d (Some e) none is x = absurd (false≢true (sym none))
 no_entry t d None none is x = by (number_in t d x) refl
   where

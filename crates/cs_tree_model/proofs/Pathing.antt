@@ -3,19 +3,15 @@ use Rattle.std.proofs.Common.{◌≡◌, ◌≢◌, ◌<◌, ℕ, zero, suc, tru
 use Rattle.std.proofs.lemmas.Bool.{false≢true}
 use Rattle.std.proofs.lemmas.List.{reverse-append}
 use Rattle.std.specs.Option.{option_and_then, option_map, is_some, IsSomeAnd}
+use Rattle.cs_tree_model.specs.declared.record.Metadata.{Metadata}
 use Rattle.cs_tree_model.specs.Lookups.{IsIndexed}
-use Rattle.cs_tree_model.specs.Stores.{end_name, name_numbered}
+use Rattle.cs_tree_model.specs.Record.{lent, metadata_of}
 use Rattle.cs_tree_model.specs.Table.{Node, path_of, node_in}
-use Rattle.cs_tree_model.specs.Tree.{NameBytes, Path, Tree, IsTree, number_in, parent_numbered, path_numbered}
+use Rattle.cs_tree_model.specs.Tree.{NameBytes, Path, Tree, IsTree, last_name, name_numbered, number_in, parent_numbered, path_numbered, record_numbered}
 use Rattle.cs_tree_model.specs.Laws.Lookups.{links_of_tree, tree_round}
 use Rattle.cs_tree_model.specs.Laws.Paths.{option_cases, path_of_root, path_step}
-use Rattle.cs_tree_model.specs.Laws.Round.{table_of_tree}
+use Rattle.cs_tree_model.specs.Laws.Round.{last_of_snoc, table_of_tree}
 use Rattle.cs_tree_model.specs.Laws.Stores as laws
-
-end_snoc : (p : Path) (x : NameBytes) → end_name (p ++ x ∷ []) ≡ Some x
-end_snoc [] x = refl
-end_snoc (y ∷ []) x = refl
-end_snoc (y ∷ z ∷ p) x = end_snoc (z ∷ p) x
 
 -- the name of a node; the root has none
 abbrev pub name_at : ℕ → Option Node → Option NameBytes
@@ -31,32 +27,42 @@ module _ (t : Tree) (h : IsTree t) where
   pub path_here : (n : ℕ) → path_numbered t n ≡ option_map (λ _. path_of (node_in t) n) (node_in t n)
   path_here = laws.path_in (node_in t) (number_in t) t.next indexed t (tree_round t h)
 
+  pub record_here : (n : ℕ) → record_numbered t n ≡ option_map (λ d. d.file) (node_in t n)
+  record_here = laws.record_in (node_in t) (number_in t) t.next indexed t (tree_round t h)
+
   pub parent_here : (n : ℕ) → parent_numbered t n ≡ option_map (λ d. d.parent) (node_in t n)
   parent_here = laws.parent_in (node_in t) (number_in t) t.next indexed t (tree_round t h)
 
   pub name_here : (n : ℕ) → name_numbered t n ≡ name_at n (node_in t n)
-  name_here n = ap (option_and_then end_name) (path_here n) ∙ by n (node_in t n) refl
+  name_here n = ap (option_and_then last_name) (path_here n) ∙ by n (node_in t n) refl
     where
-      by : (n : ℕ) (o : Option Node) → node_in t n ≡ o → option_and_then end_name (option_map (λ _. path_of (node_in t) n) o) ≡ name_at n o
+      by : (n : ℕ) (o : Option Node) → node_in t n ≡ o → option_and_then last_name (option_map (λ _. path_of (node_in t) n) o) ≡ name_at n o
       by zero None e = refl
-      by zero (Some d) e = ap end_name (path_of_root (node_in t))
+      by zero (Some d) e = ap last_name (path_of_root (node_in t))
       by (suc n) None e = refl
-      by (suc n) (Some d) e = ap end_name (path_step (node_in t) indexed.table.parent_below (suc n) d e (λ z. (cc))) ∙ end_snoc (path_of (node_in t) d.parent) d.name
+      by (suc n) (Some d) e = ap last_name (path_step (node_in t) indexed.table.parent_below (suc n) d e (λ z. (cc))) ∙ last_of_snoc (path_of (node_in t) d.parent) d.name
 
 module _ (t : Tree) (h : IsTree t) where
-  pub no_path : (n : ℕ) → is_some (parent_numbered t n) ≡ false → None ≡ path_numbered t n
-  no_path n none = by (node_in t n) (sym (ap is_some (parent_here t h n)) ∙ none) ∙ sym (path_here t h n)
-    where
-      by : (o : Option Node) → is_some (option_map (λ d. d.parent) o) ≡ false → None ≡ option_map (λ _. path_of (node_in t) n) o
-      by None e = refl
-      by (Some d) e = absurd (false≢true (sym e))
+  -- a store's answer for the record of n tells whether there is a node
+  module _ (n : ℕ) (m : Option Metadata) (told : option_map lent m ≡ option_map metadata_of (record_numbered t n)) where
+    same : option_map lent m ≡ option_map metadata_of (option_map (λ d. d.file) (node_in t n))
+    same = told ∙ ap (option_map metadata_of) (record_here t h n)
 
-  pub node_there : (n : ℕ) → is_some (parent_numbered t n) ≡ true → IsSome (node_in t n)
-  node_there n some = by (node_in t n) (sym (ap is_some (parent_here t h n)) ∙ some)
-    where
-      by : (o : Option Node) → is_some (option_map (λ d. d.parent) o) ≡ true → IsSome o
-      by None e = e
-      by (Some d) e = refl
+    pub no_path : is_some m ≡ false → None ≡ path_numbered t n
+    no_path none = by m (node_in t n) same none ∙ sym (path_here t h n)
+      where
+        by : (v : Option Metadata) (o : Option Node) → option_map lent v ≡ option_map metadata_of (option_map (λ d. d.file) o) → is_some v ≡ false → None ≡ option_map (λ _. path_of (node_in t) n) o
+        by v None w e = refl
+        by None (Some d) w e = absurd (false≢true (ap is_some w))
+        by (Some k) (Some d) w e = absurd (false≢true (sym e))
+
+    pub node_there : is_some m ≡ true → IsSome (node_in t n)
+    node_there some = by m (node_in t n) same some
+      where
+        by : (v : Option Metadata) (o : Option Node) → option_map lent v ≡ option_map metadata_of (option_map (λ d. d.file) o) → is_some v ≡ true → IsSome o
+        by None None w e = e
+        by (Some k) None w e = absurd (false≢true (ap is_some (sym w)))
+        by v (Some d) w e = refl
 
   pub some_path : (n : ℕ) → IsSome (node_in t n) → Some (path_of (node_in t) n) ≡ path_numbered t n
   some_path n there = by (node_in t n) there ∙ sym (path_here t h n)

@@ -1,6 +1,6 @@
 -- Look-ups by name, and the table of nodes that they answer for.
 use Rattle.std.specs.Prelude.{◌≡◌, ◌≢◌, ℕ, ◌==◌, ◌&&◌, cond, Option, Some}
-use Rattle.cs_tree_model.specs.Effects.{same_name}
+use Rattle.cs_names.specs.Texts.{same_bytes}
 use Rattle.cs_tree_model.specs.Table.{Node, Nodes, IsTable}
 use Rattle.cs_tree_model.specs.Tree.{NameBytes}
 
@@ -20,4 +20,4 @@ pub record IsIndexed (at : Nodes) (kids : Lookup) (next : ℕ) : Type 0 where
 
 -- with w under the name x of the directory u
 abbrev pub set_kid : Lookup → ℕ → NameBytes → Option ℕ → Lookup
-set_kid kids u x w v y = cond (v == u && same_name y x) w (kids v y)
+set_kid kids u x w v y = cond (v == u && same_bytes y x) w (kids v y)

@@ -1,7 +1,7 @@
 -- What each call of a store leaves: total functions of a tree, by number. Where no record has the
 -- number they leave the tree. What they make of a write of no bytes, of a change that names nothing or
 -- the name that the file has, or of the root taken out, no call asks: its conditions leave that out.
-use Rattle.std.specs.Prelude.{◌≡◌, ◌+◌, ◌<◌, ◌^◌, ℕ, List, [], ◌∷◌, Option, None, Some, IfSome, IsSomeAnd, option_and_then, unwrap_or}
+use Rattle.std.specs.Prelude.{◌≡◌, ◌+◌, ◌<◌, ◌^◌, ℕ, List, Option, None, Some, IfSome, IsSomeAnd, unwrap_or}
 use Rattle.std.specs.Option.{option_map_or}
 use Rattle.cs_tree_model.specs.declared.change.Change.{Change}
 use Rattle.cs_tree_model.specs.declared.change.New.{New}
@@ -10,7 +10,7 @@ use Rattle.cs_tree_model.specs.declared.record.Record.{Record}
 use Rattle.cs_tree_model.specs.Mode.{is_directory_mode}
 use Rattle.cs_tree_model.specs.Record.{IsDirectory, IsMarked}
 use Rattle.cs_tree_model.specs.Tree.{NameBytes, Path, Tree, record_at, path_numbered, record_numbered, parent_numbered}
-use Rattle.cs_tree_model.specs.Effects.{stamped, versioned, written, resized, change_at, add, take_out, rename, entry_after}
+use Rattle.cs_tree_model.specs.Effects.{stamped, versioned, written, resized, change_at, add, take_out, rename}
 
 -- f at the path of the number
 abbrev pub at_number : ℕ → (Path → Tree → Tree) → Tree → Tree
@@ -71,21 +71,3 @@ CanStampParent t n = IfSome (parent_numbered t n) (CanStamp t)
 -- the number is a directory's
 abbrev pub IsDirectoryNumbered : Tree → ℕ → Type 0
 IsDirectoryNumbered t n = IsSomeAnd (record_numbered t n) IsDirectory
-
--- the bytes of the file n
-abbrev pub content_numbered : Tree → ℕ → Option (List ℕ)
-content_numbered t n = option_and_then (λ r. r.content) (record_numbered t n)
-
--- the one name of a path that is not the root
-abbrev pub end_name : Path → Option NameBytes
-end_name [] = None
-end_name (x ∷ []) = Some x
-end_name (x ∷ y ∷ p) = end_name (y ∷ p)
-
--- the name of the file n in its directory
-abbrev pub name_numbered : Tree → ℕ → Option NameBytes
-name_numbered t n = option_and_then end_name (path_numbered t n)
-
--- the next name of the directory d in byte order; a file has none
-abbrev pub entry_numbered : Tree → ℕ → Option NameBytes → Option NameBytes
-entry_numbered t d last = option_and_then (λ p. entry_after t p last) (path_numbered t d)

@@ -3,8 +3,8 @@ ghost use Rattle.std.specs.Prelude.{◌≡◌, ◌≢◌, ◌+◌, ◌≤◌, �
 ghost use Rattle.std.specs.Option.{option_map, option_map_or};
 ghost use Rattle.cs_tree_model.specs.Effects.{replace_prefix};
 ghost use Rattle.cs_tree_model.specs.Listing.{IsListing, tree_of_records};
-ghost use Rattle.cs_tree_model.specs.Nexts.{names_after};
-ghost use Rattle.cs_tree_model.specs.Stores.{AreMarked, IsDirectoryNumbered, KeepsKind, added, changed, entry_numbered, removed, written_to};
+ghost use Rattle.cs_tree_model.specs.Nexts.{names_after, next_name};
+ghost use Rattle.cs_tree_model.specs.Stores.{AreMarked, IsDirectoryNumbered, KeepsKind, added, changed, removed, written_to};
 ghost use Rattle.cs_tree_model.specs.Tree.{IsTree, NameBytes, Path, number_in, parent_numbered, parent_path, path_numbered, record_numbered};
 ghost use Rattle.cs_tree_model.specs.declared.change.Change as change;
 ghost use Rattle.cs_tree_model.specs.declared.change.New as new;
@@ -84,5 +84,5 @@ pub fn numbers_are_given_once<T: TreeRead>(tree: &T)
 /// A listing goes on: the names of a directory after the last one are the next name and the names
 /// after it. So a reader that asks for one entry after the other meets each name once.
 pub fn listing_goes_on<T: TreeRead>(tree: &T, directory: u64)
-    ensures { (last : Option NameBytes) → names_after (T.tree tree.now) directory last ≡ option_map_or (λ x. x ∷ names_after (T.tree tree.now) directory (Some x)) (entry_numbered (T.tree tree.now) directory last) [] }
+    ensures { (last : Option NameBytes) → names_after (T.tree tree.now) directory last ≡ option_map_or (λ x. x ∷ names_after (T.tree tree.now) directory (Some x)) (next_name (T.tree tree.now) directory last) [] }
 {}

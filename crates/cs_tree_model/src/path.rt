@@ -1,6 +1,6 @@
 //! The path of a file of any store.
 ghost use Rattle.std.specs.Prelude.{◌≡◌, ◌≢◌, [], IfOk, IsErr, IsSomeAnd};
-ghost use Rattle.cs_tree_model.specs.Tree.{IsTree, path_numbered};
+ghost use Rattle.cs_tree_model.specs.Tree.{path_numbered};
 
 use crate::read::TreeRead;
 use cs_names::Path;
@@ -13,11 +13,10 @@ pub fn path_of<T: TreeRead>(
     tree: &T,
     number: u64,
 ) -> Result<Option<Path>, AllocError>
-    requires { IsTree (T.tree tree.now) }
     ensures value { IfOk result (λ path. path ≡ path_numbered (T.tree tree.now) number) }
     ensures memory { IsErr result → IsSomeAnd (path_numbered (T.tree tree.now) number) (λ path. path ≢ []) }
 {
-    if tree.parent_of(number).is_none() {
+    if tree.record(number).is_none() {
         return Ok(None);
     }
     let mut names = Vec::new(alloc);

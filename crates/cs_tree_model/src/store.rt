@@ -1,7 +1,7 @@
 //! A tree that changes.
 ghost use Rattle.std.specs.Prelude.{◌≡◌, ◌≢◌, ◌+◌, ◌<◌, ◌^◌, ℕ, List, None, Some, length, OnOk, OnErr, IfOk, IfSome, IsSome};
-ghost use Rattle.cs_tree_model.specs.Tree.{record_numbered, parent_numbered, number_in};
-ghost use Rattle.cs_tree_model.specs.Stores.{added, removed, written_to, changed, content_numbered, CanStamp, CanStampParent, IsDirectoryNumbered, KeepsKind};
+ghost use Rattle.cs_tree_model.specs.Tree.{record_numbered, parent_numbered, number_in, content_numbered};
+ghost use Rattle.cs_tree_model.specs.Stores.{added, removed, written_to, changed, CanStamp, CanStampParent, IsDirectoryNumbered, KeepsKind};
 
 use crate::change::{Change, New, Stamp};
 use crate::read::TreeRead;

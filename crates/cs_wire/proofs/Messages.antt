@@ -12,8 +12,8 @@ use Rattle.cs_wire.specs.declared.kind.RKind.{RKind}
 use Rattle.cs_wire.specs.declared.kind.RKind.TheVariants as rk
 use Rattle.cs_wire.specs.Fields.{spelled}
 use Rattle.cs_wire.specs.Messages.{Side, Message, IsMessage, fields_of, FieldsFit, spelling, requests, replies, t_number, t_kind_of, r_number, r_kind_of}
-use Rattle.cs_wire.specs.Reading.{◌>>=◌, number_at, whole, field_at, header_at, known, body_of, message_at, message_of}
-use Rattle.cs_wire.specs.Answers.{Decodes, Gives}
+use Rattle.cs_wire.specs.Reading.{◌>>=◌, number_at, whole, field_at, header_at, known, all_of, message_of}
+use Rattle.cs_wire.specs.Answers.{Decodes, Gives, IsReadBack}
 use Rattle.cs_wire.proofs.Numbers.{IsBytes, bind_ok, guard_ok, test_ok, ok_is, whole_ok, Took-then, wide8, wide16, wide32, number_takes, number_again}
 use Rattle.cs_wire.proofs.Fields.{field_takes, field_again}
 
@@ -72,28 +72,25 @@ known_ok (Some x) k e = ap Some (ok_is x k e)
 known_ok None k e = absurd cc
 
 pub message_takes : {K : Type 0} (side : Side K) → IsSide side → (bytes : List ℕ) (m : Message side) → IsBytes bytes → message_of side bytes ≡ Ok m → IsMessage m × (bytes ≡ spelling m)
-unfolding message_of body_of message_at spelling fields_of FieldsFit
+unfolding message_of all_of spelling fields_of FieldsFit
 message_takes {K} side lawful bytes m fits e =
-    let a = bind_ok (header_at bytes) (λ header. known (side.kind_of header.0) >>= λ kind. whole (message_at side kind header.1 header.2)) m e in
-    let b = bind_ok (known (side.kind_of a.0.0)) (λ kind. whole (message_at side kind a.0.1 a.0.2)) m a.2 in
-    let at_end = whole_ok (message_at side b.0 a.0.1 a.0.2) m b.2 in
-    let d = bind_ok (field_at (side.layout b.0) a.0.2) (λ fields. Ok (record { kind = b.0; tag = a.0.1; fields = fields.0 }, fields.1)) (m, []) at_end in
+    let a = bind_ok (header_at bytes) (λ header. known (side.kind_of header.0) >>= λ kind. all_of side kind header.1 header.2) m e in
+    let b = bind_ok (known (side.kind_of a.0.0)) (λ kind. all_of side kind a.0.1 a.0.2) m a.2 in
+    let d = bind_ok (whole (field_at (side.layout b.0) a.0.2)) (λ fields. Ok (record { kind = b.0; tag = a.0.1; fields = fields })) m b.2 in
     let h = header_takes bytes a.0 fits a.1 in
-    let t = field_takes (side.layout b.0) a.0.2 d.0 h.rest_fits d.1 in
-    let made : Message side = record { kind = b.0; tag = a.0.1; fields = d.0.0 } in
-    let same : (made, d.0.1) ≡ (m, []) = ok_is (made, d.0.1) (m, []) d.2 in
-    let nothing : d.0.1 ≡ [] = ap (λ (p : Message side × List ℕ). p.1) same in
-    let fields : List ℕ = spelled (side.layout b.0) d.0.0 in
+    let t = field_takes (side.layout b.0) a.0.2 (d.0, []) h.rest_fits (whole_ok (field_at (side.layout b.0) a.0.2) d.0 d.1) in
+    let made : Message side = record { kind = b.0; tag = a.0.1; fields = d.0 } in
+    let fields : List ℕ = spelled (side.layout b.0) d.0 in
     let number : a.0.0 ≡ side.number b.0 = sym (lawful.only a.0.0 b.0 (known_ok (side.kind_of a.0.0) b.0 b.1)) in
-    let rest : a.0.2 ≡ fields = t.0.parts ∙ ap (λ (z : List ℕ). fields ++ z) nothing ∙ append-nil fields in
+    let rest : a.0.2 ≡ fields = t.0.parts ∙ append-nil fields in
     let parts : bytes ≡ to_le_bytes w32 (length bytes) ++ after_size made = h.parts ∙ ap (λ (n : ℕ). to_le_bytes w32 (length bytes) ++ (to_le_bytes w8 n ++ (to_le_bytes w16 a.0.1 ++ a.0.2))) number ∙ ap (λ (z : List ℕ). to_le_bytes w32 (length bytes) ++ (to_le_bytes w8 (side.number b.0) ++ (to_le_bytes w16 a.0.1 ++ z))) rest in
     let len : length bytes ≡ length fields + 7 = omega (arith, ap length parts, length-append (to_le_bytes w32 (length bytes)) (after_size made), length-append (to_le_bytes w8 (side.number b.0)) (to_le_bytes w16 a.0.1 ++ fields), length-append (to_le_bytes w16 a.0.1) fields) in
     let spells : bytes ≡ spelling made = parts ∙ ap (λ (n : ℕ). to_le_bytes w32 n ++ after_size made) len in
     let good : IsMessage made = record { tag_fits = h.tag_fits; fields_fit = t.1; size_fits = subst (λ (z : List ℕ). length z < 2 ^ 32) spells h.size_fits } in
-    subst (λ (v : Message side). IsMessage v × (bytes ≡ spelling v)) (ap (λ (p : Message side × List ℕ). p.0) same) (good, spells)
+    subst (λ (v : Message side). IsMessage v × (bytes ≡ spelling v)) (ok_is made m d.2) (good, spells)
 
 pub message_again : {K : Type 0} (side : Side K) → IsSide side → (m : Message side) → IsMessage m → message_of side (spelling m) ≡ Ok m
-unfolding message_of body_of message_at spelling fields_of FieldsFit
+unfolding message_of all_of spelling fields_of FieldsFit
 message_again {K} side lawful m fits =
     let fields : List ℕ = spelled (side.layout m.kind) m.fields in
     let len = spelling_len m in
@@ -151,7 +148,7 @@ t_again k = refl
 
 t_only : (n : ℕ) (k : TKind) → t_kind_of n ≡ Some k → t_number k ≡ n
 unfolding t_kind_of
-t_only n = chosen t_number n tk.Version (chosen t_number n tk.Auth (chosen t_number n tk.Attach (chosen t_number n tk.Flush (chosen t_number n tk.Walk (chosen t_number n tk.Open (chosen t_number n tk.Read (chosen t_number n tk.Clunk (chosen t_number n tk.Stat (no_kind t_number n)))))))))
+t_only n = chosen t_number n tk.Version (chosen t_number n tk.Auth (chosen t_number n tk.Attach (chosen t_number n tk.Flush (chosen t_number n tk.Walk (chosen t_number n tk.Open (chosen t_number n tk.Create (chosen t_number n tk.Read (chosen t_number n tk.Write (chosen t_number n tk.Clunk (chosen t_number n tk.Remove (chosen t_number n tk.Stat (chosen t_number n tk.Wstat (no_kind t_number n)))))))))))))
 
 pub requests_lawful : IsSide requests
 requests_lawful = record { below = t_below; again = t_again; only = t_only }
@@ -167,7 +164,7 @@ r_again k = refl
 
 r_only : (n : ℕ) (k : RKind) → r_kind_of n ≡ Some k → r_number k ≡ n
 unfolding r_kind_of
-r_only n = chosen r_number n rk.Version (chosen r_number n rk.Auth (chosen r_number n rk.Attach (chosen r_number n rk.Error (chosen r_number n rk.Flush (chosen r_number n rk.Walk (chosen r_number n rk.Open (chosen r_number n rk.Read (chosen r_number n rk.Clunk (chosen r_number n rk.Stat (no_kind r_number n))))))))))
+r_only n = chosen r_number n rk.Version (chosen r_number n rk.Auth (chosen r_number n rk.Attach (chosen r_number n rk.Error (chosen r_number n rk.Flush (chosen r_number n rk.Walk (chosen r_number n rk.Open (chosen r_number n rk.Create (chosen r_number n rk.Read (chosen r_number n rk.Write (chosen r_number n rk.Clunk (chosen r_number n rk.Remove (chosen r_number n rk.Stat (chosen r_number n rk.Wstat (no_kind r_number n))))))))))))))
 
 pub replies_lawful : IsSide replies
 replies_lawful = record { below = r_below; again = r_again; only = r_only }
@@ -189,3 +186,6 @@ memory_last view (Err e) read given memory = given.1 (cc memory)
 
 pub is_read : {K M : Type 0} (side : Side K) → IsSide side → (view : M → Message side) (bytes : List ℕ) (r : Result M WireFault) → Decodes view r (message_of side bytes) → (m : Message side) → IsMessage m → bytes ≡ spelling m → Gives view r (Ok m)
 is_read side lawful view bytes r given m fits spelled_so = subst (λ read. Gives view r read) (ap (message_of side) spelled_so ∙ message_again side lawful m fits) (gives_so view r (message_of side bytes) given)
+
+pub read_back : {K M : Type 0} (side : Side K) → IsSide side → (view : M → Message side) → IsReadBack side view
+read_back side lawful view m written answer fits is given = subst (λ read. Gives view answer read) (ap (message_of side) is ∙ message_again side lawful (view m) fits.is_message) given

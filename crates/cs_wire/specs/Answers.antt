@@ -1,7 +1,9 @@
 -- What calls that read answer.
-use Rattle.std.specs.Prelude.{◌≡◌, ◌≢◌, List, ℕ, Result, Ok, Err, IsOk}
+use Rattle.std.specs.Prelude.{◌≡◌, ◌≢◌, ◌++◌, [], List, ℕ, Result, Ok, Err, IsOk}
 use Rattle.cs_wire.specs.declared.fault.WireFault.{WireFault}
 use Rattle.cs_wire.specs.declared.fault.WireFault.TheVariants as faults
+use Rattle.cs_wire.specs.Messages.{Side, Message, Fits, spelling}
+use Rattle.cs_wire.specs.Reading.{message_of}
 
 -- the fault is the first one of reading, which is never want of memory
 abbrev pub IsFault : {Y : Type 0} → WireFault → Result Y WireFault → Type 0
@@ -35,3 +37,7 @@ Fails e read = read ≡ Err e
 abbrev pub Gives : {X Y : Type 0} → (X → Y) → Result X WireFault → Result Y WireFault → Type 0
 Gives view (Ok x) read = read ≡ Ok (view x)
 Gives view (Err e) read = Fails e read
+
+-- what is written of a message that fits, into an empty vector, is read back as that message, unless memory ran out
+abbrev pub IsReadBack : {K M : Type 0} → (side : Side K) → (M → Message side) → Type 0
+IsReadBack {K} {M} side view = (m : M) (written : List ℕ) (answer : Result M WireFault) → Fits (view m) → written ≡ [] ++ spelling (view m) → Gives view answer (message_of side written) → Gives view answer (Ok (view m))

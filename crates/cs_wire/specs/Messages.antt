@@ -31,14 +31,18 @@ t_number tk.Attach = 104
 t_number tk.Flush = 108
 t_number tk.Walk = 110
 t_number tk.Open = 112
+t_number tk.Create = 114
 t_number tk.Read = 116
+t_number tk.Write = 118
 t_number tk.Clunk = 120
+t_number tk.Remove = 122
 t_number tk.Stat = 124
+t_number tk.Wstat = 126
 
 -- the type with that number
 unfoldable pub t_kind_of : ℕ → Option TKind
 t_kind_of n =
-    if n == 100 then Some tk.Version else if n == 102 then Some tk.Auth else if n == 104 then Some tk.Attach else if n == 108 then Some tk.Flush else if n == 110 then Some tk.Walk else if n == 112 then Some tk.Open else if n == 116 then Some tk.Read else if n == 120 then Some tk.Clunk else if n == 124 then Some tk.Stat else None
+    if n == 100 then Some tk.Version else if n == 102 then Some tk.Auth else if n == 104 then Some tk.Attach else if n == 108 then Some tk.Flush else if n == 110 then Some tk.Walk else if n == 112 then Some tk.Open else if n == 114 then Some tk.Create else if n == 116 then Some tk.Read else if n == 118 then Some tk.Write else if n == 120 then Some tk.Clunk else if n == 122 then Some tk.Remove else if n == 124 then Some tk.Stat else if n == 126 then Some tk.Wstat else None
 
 -- the number of a type of reply
 abbrev pub r_number : RKind → ℕ
@@ -49,14 +53,18 @@ r_number rk.Error = 107
 r_number rk.Flush = 109
 r_number rk.Walk = 111
 r_number rk.Open = 113
+r_number rk.Create = 115
 r_number rk.Read = 117
+r_number rk.Write = 119
 r_number rk.Clunk = 121
+r_number rk.Remove = 123
 r_number rk.Stat = 125
+r_number rk.Wstat = 127
 
 -- the type with that number
 unfoldable pub r_kind_of : ℕ → Option RKind
 r_kind_of n =
-    if n == 101 then Some rk.Version else if n == 103 then Some rk.Auth else if n == 105 then Some rk.Attach else if n == 107 then Some rk.Error else if n == 109 then Some rk.Flush else if n == 111 then Some rk.Walk else if n == 113 then Some rk.Open else if n == 117 then Some rk.Read else if n == 121 then Some rk.Clunk else if n == 125 then Some rk.Stat else None
+    if n == 101 then Some rk.Version else if n == 103 then Some rk.Auth else if n == 105 then Some rk.Attach else if n == 107 then Some rk.Error else if n == 109 then Some rk.Flush else if n == 111 then Some rk.Walk else if n == 113 then Some rk.Open else if n == 115 then Some rk.Create else if n == 117 then Some rk.Read else if n == 119 then Some rk.Write else if n == 121 then Some rk.Clunk else if n == 123 then Some rk.Remove else if n == 125 then Some rk.Stat else if n == 127 then Some rk.Wstat else None
 
 -- qid[13]: type[1] vers[4] path[8]
 abbrev pub qid_shape : Shape
@@ -74,9 +82,13 @@ t_layout tk.Attach = Four ▸ Four ▸ Text ▸ Text
 t_layout tk.Flush = Two
 t_layout tk.Walk = Four ▸ Four ▸ Several Text
 t_layout tk.Open = Four ▸ One
+t_layout tk.Create = Four ▸ Text ▸ Four ▸ One
 t_layout tk.Read = Four ▸ Eight ▸ Four
+t_layout tk.Write = Four ▸ Eight ▸ Raw
 t_layout tk.Clunk = Four
+t_layout tk.Remove = Four
 t_layout tk.Stat = Four
+t_layout tk.Wstat = Four ▸ Boxed stat_shape
 
 -- the fields of a reply
 abbrev pub r_layout : RKind → Shape
@@ -87,9 +99,13 @@ r_layout rk.Error = Text
 r_layout rk.Flush = Nothing
 r_layout rk.Walk = Several qid_shape
 r_layout rk.Open = qid_shape ▸ Four
+r_layout rk.Create = qid_shape ▸ Four
 r_layout rk.Read = Raw
+r_layout rk.Write = Four
 r_layout rk.Clunk = Nothing
+r_layout rk.Remove = Nothing
 r_layout rk.Stat = Boxed stat_shape
+r_layout rk.Wstat = Nothing
 
 -- One way of the conversation: its types, their numbers and their fields.
 pub record Side (Kind : Type 0) : Type 0 where
@@ -178,9 +194,13 @@ with_request f (t.Attach fid afid uname aname) = f tk.Attach (fid, (afid, (strin
 with_request f (t.Flush oldtag) = f tk.Flush oldtag
 with_request f (t.Walk fid newfid wname) = f tk.Walk (fid, (newfid, names_of wname.items))
 with_request f (t.Open fid mode) = f tk.Open (fid, mode)
+with_request f (t.Create fid name perm mode) = f tk.Create (fid, (string_bytes name, (perm, mode)))
 with_request f (t.Read fid offset count) = f tk.Read (fid, (offset, count))
+with_request f (t.Write fid offset bytes) = f tk.Write (fid, (offset, bytes.items))
 with_request f (t.Clunk fid) = f tk.Clunk fid
+with_request f (t.Remove fid) = f tk.Remove fid
 with_request f (t.Stat fid) = f tk.Stat fid
+with_request f (t.Wstat fid stat) = f tk.Wstat (fid, stat_of stat)
 
 -- What a reply says, likewise.
 abbrev pub with_reply {ℓ} : {A : Type ℓ} → ((kind : RKind) → Value (r_layout kind) → A) → RBody → A
@@ -191,9 +211,13 @@ with_reply f (r.Error ename) = f rk.Error (cow_str_bytes ename)
 with_reply f r.Flush = f rk.Flush tt
 with_reply f (r.Walk wqid) = f rk.Walk (map qid_of wqid.items)
 with_reply f (r.Open qid iounit) = f rk.Open (qid_of qid, iounit)
+with_reply f (r.Create qid iounit) = f rk.Create (qid_of qid, iounit)
 with_reply f (r.Read bytes) = f rk.Read bytes.items
+with_reply f (r.Write count) = f rk.Write count
 with_reply f r.Clunk = f rk.Clunk tt
+with_reply f r.Remove = f rk.Remove tt
 with_reply f (r.Stat stat) = f rk.Stat (stat_of stat)
+with_reply f r.Wstat = f rk.Wstat tt
 
 -- a client's message without where it lies in memory
 abbrev pub t_view : TMessage → Message requests

@@ -112,20 +112,15 @@ abbrev pub known : {K : Type 0} → Option K → Result K WireFault
 known (Some kind) = Ok kind
 known None = Err UnknownType
 
--- a message of that type and tag, whose fields stand in front
-unfoldable pub message_at : {K : Type 0} → (side : Side K) → K → ℕ → List ℕ → Result (Message side × List ℕ) WireFault
-message_at side kind tag bytes = do
-  fields ← field_at (side.layout kind) bytes
-  Ok (record { kind = kind; tag = tag; fields = fields.0 }, fields.1)
-
--- a message of the type with that number and that tag, whose fields are all of the bytes
-unfoldable pub body_of : {K : Type 0} → (side : Side K) → ℕ → ℕ → List ℕ → Result (Message side) WireFault
-body_of side number tag bytes = do
-  kind ← known (side.kind_of number)
-  whole (message_at side kind tag bytes)
+-- a message of that type and tag, whose fields are all of the bytes
+unfoldable pub all_of : {K : Type 0} → (side : Side K) → K → ℕ → List ℕ → Result (Message side) WireFault
+all_of side kind tag bytes = do
+  fields ← whole (field_at (side.layout kind) bytes)
+  Ok (record { kind = kind; tag = tag; fields = fields })
 
 -- the message that all of the bytes are, or the first fault
 unfoldable pub message_of : {K : Type 0} → (side : Side K) → List ℕ → Result (Message side) WireFault
 message_of side bytes = do
   header ← header_at bytes
-  body_of side header.0 header.1 header.2
+  kind ← known (side.kind_of header.0)
+  all_of side kind header.1 header.2

@@ -88,38 +88,42 @@ impl<'a> Cursor<'a> {
         Ok(())
     }
 
+    fn array<const N: usize>(&mut self) -> Result<[u8; N], WireFault>
+        ensures { FindsFront (λ x. x) result self.new.rest.now (front_at N self.old.rest.now) }
+    {
+        let Some((front, rest)) = self.rest.split_first_chunk::<N>() else {
+            return Err(WireFault::Short);
+        };
+        self.rest = rest;
+        Ok(*front)
+    }
+
     /// A number of one byte.
     pub(crate) fn one(&mut self) -> Result<u8, WireFault>
         ensures { FindsFront (λ x. x) result self.new.rest.now (number_at w8 self.old.rest.now) }
     {
-        let front = self.front(1)?;
-        Ok(u8::from_le_bytes([front[0]]))
+        Ok(u8::from_le_bytes(self.array()?))
     }
 
     /// A number of two bytes, the low one first.
     pub(crate) fn two(&mut self) -> Result<u16, WireFault>
         ensures { FindsFront (λ x. x) result self.new.rest.now (number_at w16 self.old.rest.now) }
     {
-        let front = self.front(2)?;
-        Ok(u16::from_le_bytes([front[0], front[1]]))
+        Ok(u16::from_le_bytes(self.array()?))
     }
 
     /// A number of four bytes, the low one first.
     pub(crate) fn four(&mut self) -> Result<u32, WireFault>
         ensures { FindsFront (λ x. x) result self.new.rest.now (number_at w32 self.old.rest.now) }
     {
-        let front = self.front(4)?;
-        Ok(u32::from_le_bytes([front[0], front[1], front[2], front[3]]))
+        Ok(u32::from_le_bytes(self.array()?))
     }
 
     /// A number of eight bytes, the low one first.
     pub(crate) fn eight(&mut self) -> Result<u64, WireFault>
         ensures { FindsFront (λ x. x) result self.new.rest.now (number_at w64 self.old.rest.now) }
     {
-        let front = self.front(8)?;
-        Ok(u64::from_le_bytes([
-            front[0], front[1], front[2], front[3], front[4], front[5], front[6], front[7],
-        ]))
+        Ok(u64::from_le_bytes(self.array()?))
     }
 
     /// A text: its length in two bytes, and UTF-8 without NUL.

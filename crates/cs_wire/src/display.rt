@@ -1,7 +1,26 @@
-//! Messages for people, as one line: the type, the tag, and the fields in the manual's order.
+//! Messages for people, as one line: the type, the tag, and the fields in the manual's order. Each form of fields
+//! has a function of its own.
 
 use crate::message::{Qid, RBody, RMessage, Stat, TBody, TMessage};
+use crate::table::{each_reply, each_request};
 use std::fmt;
+
+/// The qids of a walk.
+#[derive(Clone, Copy)]
+struct Qids<'a>(&'a [Qid]);
+
+impl fmt::Display for Qids<'_> {
+    fn fmt<W: fmt::Write>(&self, f: &mut fmt::Formatter<W>) -> fmt::Result {
+        write!(f, "[")?;
+        for (place, qid) in self.0.iter().enumerate() {
+            if place > 0 {
+                write!(f, ", ")?;
+            }
+            write!(f, "{qid}")?;
+        }
+        write!(f, "]")
+    }
+}
 
 impl fmt::Display for Qid {
     fn fmt<W: fmt::Write>(&self, f: &mut fmt::Formatter<W>) -> fmt::Result {
@@ -10,96 +29,200 @@ impl fmt::Display for Qid {
     }
 }
 
+fn file<W: fmt::Write>(
+    f: &mut fmt::Formatter<W>,
+    kind: u16,
+    dev: u32,
+    qid: Qid,
+    mode: u32,
+) -> fmt::Result {
+    write!(f, "type {kind} dev {dev} qid {qid} mode {mode:o}")
+}
+
+fn times<W: fmt::Write>(
+    f: &mut fmt::Formatter<W>,
+    atime: u32,
+    mtime: u32,
+    length: u64,
+) -> fmt::Result {
+    write!(f, " atime {atime} mtime {mtime} length {length}")
+}
+
+fn text<W: fmt::Write>(f: &mut fmt::Formatter<W>, name: &str, text: &str) -> fmt::Result {
+    write!(f, " {name} {text:?}")
+}
+
 impl fmt::Display for Stat {
     fn fmt<W: fmt::Write>(&self, f: &mut fmt::Formatter<W>) -> fmt::Result {
-        let Stat {
-            kind,
-            dev,
-            qid,
-            mode,
-            atime,
-            mtime,
-            length,
-            name,
-            uid,
-            gid,
-            muid,
-        } = self;
-        write!(
-            f,
-            "type {kind} dev {dev} qid {qid} mode {mode:o} atime {atime} mtime {mtime} "
-        )?;
-        write!(
-            f,
-            "length {length} name {name:?} uid {uid:?} gid {gid:?} muid {muid:?}"
-        )
+        file(f, self.kind, self.dev, self.qid, self.mode)?;
+        times(f, self.atime, self.mtime, self.length)?;
+        text(f, "name", self.name.as_str())?;
+        text(f, "uid", self.uid.as_str())?;
+        text(f, "gid", self.gid.as_str())?;
+        text(f, "muid", self.muid.as_str())
     }
+}
+
+fn line<W: fmt::Write>(f: &mut fmt::Formatter<W>, title: &str, tag: u16) -> fmt::Result {
+    write!(f, "{title} tag {tag}")
+}
+
+fn number<W: fmt::Write>(f: &mut fmt::Formatter<W>, name: &str, number: u32) -> fmt::Result {
+    write!(f, " {name} {number}")
+}
+
+fn count<W: fmt::Write>(f: &mut fmt::Formatter<W>, bytes: &[u8]) -> fmt::Result {
+    write!(f, " count {}", bytes.len())
+}
+
+fn qid<W: fmt::Write>(f: &mut fmt::Formatter<W>, name: &str, qid: Qid) -> fmt::Result {
+    write!(f, " {name} {qid}")
+}
+
+fn version<W: fmt::Write>(f: &mut fmt::Formatter<W>, msize: u32, version: &str) -> fmt::Result {
+    write!(f, " msize {msize} version {version:?}")
+}
+
+fn auth<W: fmt::Write>(
+    f: &mut fmt::Formatter<W>,
+    afid: u32,
+    uname: &str,
+    aname: &str,
+) -> fmt::Result {
+    write!(f, " afid {afid} uname {uname:?} aname {aname:?}")
+}
+
+fn walk<W: fmt::Write>(
+    f: &mut fmt::Formatter<W>,
+    fid: u32,
+    newfid: u32,
+    wname: &[String],
+) -> fmt::Result {
+    write!(f, " fid {fid} newfid {newfid} wname {wname:?}")
+}
+
+fn open<W: fmt::Write>(f: &mut fmt::Formatter<W>, fid: u32, mode: u8) -> fmt::Result {
+    write!(f, " fid {fid} mode {mode:#04x}")
+}
+
+fn create<W: fmt::Write>(
+    f: &mut fmt::Formatter<W>,
+    fid: u32,
+    name: &str,
+    perm: u32,
+    mode: u8,
+) -> fmt::Result {
+    write!(f, " fid {fid} name {name:?} perm {perm:o} mode {mode:#04x}")
+}
+
+fn place<W: fmt::Write>(f: &mut fmt::Formatter<W>, fid: u32, offset: u64) -> fmt::Result {
+    write!(f, " fid {fid} offset {offset}")
+}
+
+fn read<W: fmt::Write>(
+    f: &mut fmt::Formatter<W>,
+    fid: u32,
+    offset: u64,
+    count: u32,
+) -> fmt::Result {
+    place(f, fid, offset)?;
+    number(f, "count", count)
+}
+
+fn write<W: fmt::Write>(
+    f: &mut fmt::Formatter<W>,
+    fid: u32,
+    offset: u64,
+    data: &[u8],
+) -> fmt::Result {
+    place(f, fid, offset)?;
+    count(f, data)
+}
+
+fn wstat<W: fmt::Write>(f: &mut fmt::Formatter<W>, fid: u32, stat: &Stat) -> fmt::Result {
+    write!(f, " fid {fid} {stat}")
+}
+
+fn opened<W: fmt::Write>(f: &mut fmt::Formatter<W>, qid: Qid, iounit: u32) -> fmt::Result {
+    write!(f, " qid {qid} iounit {iounit}")
+}
+
+fn walked<W: fmt::Write>(f: &mut fmt::Formatter<W>, wqid: &[Qid]) -> fmt::Result {
+    let wqid = Qids(wqid);
+    write!(f, " wqid {wqid}")
+}
+
+macro_rules! title_of_body {
+    (($body:ident $bodies:ident)
+    $($name:ident $title:literal $code:literal { $($field:ident: $holds:ident),* })*) => {
+        match $body {
+            $($bodies::$name { .. } => $title,)*
+        }
+    };
+}
+
+fn request_title(body: &TBody) -> &'static str {
+    each_request!(title_of_body (body TBody))
+}
+
+fn reply_title(body: &RBody) -> &'static str {
+    each_reply!(title_of_body (body RBody))
 }
 
 impl fmt::Display for TMessage {
     fn fmt<W: fmt::Write>(&self, f: &mut fmt::Formatter<W>) -> fmt::Result {
-        let tag = self.tag;
+        line(f, request_title(&self.body), self.tag)?;
         match &self.body {
-            TBody::Version { msize, version } => {
-                write!(f, "Tversion tag {tag} msize {msize} version {version:?}")
-            }
-            TBody::Auth { afid, uname, aname } => {
-                write!(
-                    f,
-                    "Tauth tag {tag} afid {afid} uname {uname:?} aname {aname:?}"
-                )
-            }
+            TBody::Version {
+                msize,
+                version: dialect,
+            } => version(f, *msize, dialect),
+            TBody::Auth { afid, uname, aname } => auth(f, *afid, uname, aname),
             TBody::Attach {
                 fid,
                 afid,
                 uname,
                 aname,
             } => {
-                write!(
-                    f,
-                    "Tattach tag {tag} fid {fid} afid {afid} uname {uname:?} aname {aname:?}"
-                )
+                number(f, "fid", *fid)?;
+                auth(f, *afid, uname, aname)
             }
-            TBody::Flush { oldtag } => write!(f, "Tflush tag {tag} oldtag {oldtag}"),
-            TBody::Walk { fid, newfid, wname } => {
-                write!(
-                    f,
-                    "Twalk tag {tag} fid {fid} newfid {newfid} wname {wname:?}"
-                )
-            }
-            TBody::Open { fid, mode } => write!(f, "Topen tag {tag} fid {fid} mode {mode:#04x}"),
-            TBody::Read { fid, offset, count } => {
-                write!(f, "Tread tag {tag} fid {fid} offset {offset} count {count}")
-            }
-            TBody::Clunk { fid } => write!(f, "Tclunk tag {tag} fid {fid}"),
-            TBody::Stat { fid } => write!(f, "Tstat tag {tag} fid {fid}"),
+            TBody::Flush { oldtag } => number(f, "oldtag", u32::from(*oldtag)),
+            TBody::Walk { fid, newfid, wname } => walk(f, *fid, *newfid, wname),
+            TBody::Open { fid, mode } => open(f, *fid, *mode),
+            TBody::Create {
+                fid,
+                name,
+                perm,
+                mode,
+            } => create(f, *fid, name, *perm, *mode),
+            TBody::Read { fid, offset, count } => read(f, *fid, *offset, *count),
+            TBody::Write { fid, offset, data } => write(f, *fid, *offset, data),
+            TBody::Clunk { fid } | TBody::Remove { fid } | TBody::Stat { fid } => number(
+                f, "fid", *fid,
+            ),
+            TBody::Wstat { fid, stat } => wstat(f, *fid, stat),
         }
     }
 }
 
 impl fmt::Display for RMessage {
     fn fmt<W: fmt::Write>(&self, f: &mut fmt::Formatter<W>) -> fmt::Result {
-        let tag = self.tag;
+        line(f, reply_title(&self.body), self.tag)?;
         match &self.body {
-            RBody::Version { msize, version } => {
-                let version = version.as_str();
-                write!(f, "Rversion tag {tag} msize {msize} version {version:?}")
-            }
-            RBody::Auth { aqid } => write!(f, "Rauth tag {tag} aqid {aqid}"),
-            RBody::Attach { qid } => write!(f, "Rattach tag {tag} qid {qid}"),
-            RBody::Error { ename } => {
-                let ename = ename.as_str();
-                write!(f, "Rerror tag {tag} ename {ename:?}")
-            }
-            RBody::Flush => write!(f, "Rflush tag {tag}"),
-            RBody::Walk { wqid } => write!(f, "Rwalk tag {tag} wqid {wqid:?}"),
-            RBody::Open { qid, iounit } => write!(f, "Ropen tag {tag} qid {qid} iounit {iounit}"),
-            RBody::Read { data } => {
-                let count = data.len();
-                write!(f, "Rread tag {tag} count {count}")
-            }
-            RBody::Clunk => write!(f, "Rclunk tag {tag}"),
-            RBody::Stat { stat } => write!(f, "Rstat tag {tag} {stat}"),
+            RBody::Version {
+                msize,
+                version: dialect,
+            } => version(f, *msize, dialect.as_str()),
+            RBody::Auth { aqid } => qid(f, "aqid", *aqid),
+            RBody::Attach { qid: root } => qid(f, "qid", *root),
+            RBody::Error { ename } => text(f, "ename", ename.as_str()),
+            RBody::Walk { wqid } => walked(f, wqid),
+            RBody::Open { qid, iounit } | RBody::Create { qid, iounit } => opened(f, *qid, *iounit),
+            RBody::Read { data } => count(f, data),
+            RBody::Write { count } => number(f, "count", *count),
+            RBody::Stat { stat } => write!(f, " {stat}"),
+            RBody::Flush | RBody::Clunk | RBody::Remove | RBody::Wstat => Ok(()),
         }
     }
 }

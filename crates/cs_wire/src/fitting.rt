@@ -165,7 +165,7 @@ macro_rules! field_size {
 
 macro_rules! size_of_body {
     (($body:ident $bodies:ident)
-    $($name:ident $code:literal { $($field:ident: $holds:ident),* })*) => {
+    $($name:ident $title:literal $code:literal { $($field:ident: $holds:ident),* })*) => {
         match $body {
             $($bodies::$name { $($field),* } => Some(0 $(+ field_size!($holds $field))*),)*
         }

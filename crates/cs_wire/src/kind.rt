@@ -1,5 +1,10 @@
 //! The types of messages.
 
+ghost use Rattle.std.specs.Prelude.{◌≡◌};
+ghost use Rattle.cs_wire.specs.Messages.{t_kind_of, r_kind_of};
+
+use crate::table::{each_reply, each_request};
+
 /// The type of a client's message.
 #[derive(Clone, Copy, Debug, PartialEq, Eq)]
 pub enum TKind {
@@ -9,9 +14,13 @@ pub enum TKind {
     Flush,
     Walk,
     Open,
+    Create,
     Read,
+    Write,
     Clunk,
+    Remove,
     Stat,
+    Wstat,
 }
 
 /// The type of a reply.
@@ -24,7 +33,41 @@ pub enum RKind {
     Flush,
     Walk,
     Open,
+    Create,
     Read,
+    Write,
     Clunk,
+    Remove,
     Stat,
+    Wstat,
+}
+
+macro_rules! kind_of_number {
+    (($number:ident $kinds:ident)
+    $($name:ident $title:literal $code:literal { $($field:ident: $holds:ident),* })*) => {
+        match $number {
+            $($code => Some($kinds::$name),)*
+            _ => None,
+        }
+    };
+}
+
+impl TKind {
+    /// The type of a client's message with that number (intro(5)).
+    #[tactic(auto, unfolding(crate::specs::Messages::t_kind_of))]
+    pub fn of_number(number: u8) -> Option<TKind>
+        ensures { result ≡ t_kind_of number }
+    {
+        each_request!(kind_of_number (number TKind))
+    }
+}
+
+impl RKind {
+    /// The type of a reply with that number (intro(5)).
+    #[tactic(auto, unfolding(crate::specs::Messages::r_kind_of))]
+    pub fn of_number(number: u8) -> Option<RKind>
+        ensures { result ≡ r_kind_of number }
+    {
+        each_reply!(kind_of_number (number RKind))
+    }
 }

@@ -9,6 +9,8 @@ mod fitting;
 mod kind;
 mod message;
 mod reading;
+mod replies;
+mod requests;
 mod stat;
 mod table;
 #[cfg(test)]
@@ -18,6 +20,6 @@ mod writing;
 pub use fault::WireFault;
 pub use kind::{RKind, TKind};
 pub use message::{Qid, RBody, RMessage, Stat, TBody, TMessage};
-pub use reading::{decode, decode_r, one_spelling};
+pub use reading::{decode, decode_r, one_spelling, what_is_written_is_read};
 pub use stat::StatRef;
 pub use writing::{encode, encode_t};

@@ -82,19 +82,41 @@ pub enum TBody {
         fid: u32,
         mode: u8,
     },
+    /// Tcreate 114, open(5).
+    Create {
+        fid: u32,
+        name: String,
+        perm: u32,
+        mode: u8,
+    },
     /// Tread 116, read(5).
     Read {
         fid: u32,
         offset: u64,
         count: u32,
     },
+    /// Twrite 118, read(5).
+    Write {
+        fid: u32,
+        offset: u64,
+        data: Vec<u8>,
+    },
     /// Tclunk 120, clunk(5).
     Clunk {
+        fid: u32,
+    },
+    /// Tremove 122, remove(5).
+    Remove {
         fid: u32,
     },
     /// Tstat 124, stat(5).
     Stat {
         fid: u32,
+    },
+    /// Twstat 126, stat(5).
+    Wstat {
+        fid: u32,
+        stat: Stat,
     },
 }
 
@@ -137,14 +159,27 @@ pub enum RBody {
         qid: Qid,
         iounit: u32,
     },
+    /// Rcreate 115, open(5).
+    Create {
+        qid: Qid,
+        iounit: u32,
+    },
     /// Rread 117, read(5).
     Read {
         data: Vec<u8>,
     },
+    /// Rwrite 119, read(5).
+    Write {
+        count: u32,
+    },
     /// Rclunk 121, clunk(5).
     Clunk,
+    /// Rremove 123, remove(5).
+    Remove,
     /// Rstat 125, stat(5).
     Stat {
         stat: Stat,
     },
+    /// Rwstat 127, stat(5).
+    Wstat,
 }

@@ -1,76 +1,18 @@
 //! Messages from bytes.
 
-ghost use Rattle.std.specs.Prelude.{◌≡◌, ◌++◌, ℕ, List, IfOk, IsOk, IsErr, IsErrOf, Ok, slice_index, string_bytes, true};
+ghost use Rattle.std.specs.Prelude.{◌≡◌, ◌++◌, ℕ, List, IfOk, IsOk, IsErrOf, Ok, slice_index, true};
 ghost use Rattle.cs_wire.specs.declared.fault.WireFault.TheVariants.{Memory};
-ghost use Rattle.cs_wire.specs.Messages.{names_of, requests, replies, stat_of, stat_in, t_view, r_view, takes_memory, texts_in, Message, IsMessage, spelling};
-ghost use Rattle.cs_wire.specs.Reading.{body_of, header_at, message_of};
-ghost use Rattle.cs_wire.specs.Answers.{Decodes, Finds, Gives};
+ghost use Rattle.cs_wire.specs.Messages.{requests, replies, t_view, r_view, takes_memory, Message, IsMessage, spelling};
+ghost use Rattle.cs_wire.specs.Reading.{header_at, message_of};
+ghost use Rattle.cs_wire.specs.Answers.{Decodes, Finds, Gives, IsReadBack};
 
 use crate::cursor::Cursor;
 use crate::fault::WireFault;
-use crate::message::{RBody, RMessage, TBody, TMessage};
-use crate::table::{each_reply, each_request};
-use std::alloc::{AllocError, Global};
-use std::borrow::CowStr;
-
-fn names_copied(alloc: Global, names: &[&str]) -> Result<Vec<String>, AllocError>
-    ensures { IfOk result (λ copy. names_of copy.items ≡ texts_in names.now) }
-{
-    let mut copy = Vec::new(alloc);
-    for name in names {
-        copy.push(String::from_str(alloc, name)?)?;
-    }
-    Ok(copy)
-}
-
-/// What a field of a client's message keeps of what was borrowed; a number is its own copy.
-macro_rules! copied {
-    ($alloc:ident text $text:ident) => { String::from_str($alloc, $text)? };
-    ($alloc:ident data $bytes:ident) => { Vec::from_slice($alloc, $bytes)? };
-    ($alloc:ident names $names:ident) => { names_copied($alloc, $names.as_slice())? };
-    ($alloc:ident qids $qids:ident) => { Vec::from_slice($alloc, $qids.as_slice())? };
-    ($alloc:ident stat $stat:ident) => { $stat.copied($alloc)? };
-    ($alloc:ident $number:ident $value:ident) => { $value };
-}
-
-/// Likewise of a reply, whose texts may be constants.
-macro_rules! reply_copied {
-    ($alloc:ident text $text:ident) => { CowStr::Owned(String::from_str($alloc, $text)?) };
-    ($alloc:ident $holds:ident $value:ident) => { copied!($alloc $holds $value) };
-}
-
-/// The message that a row tells: all of its fields from the left, then the end, and only then their copies,
-/// so that no fault comes after want of memory.
-macro_rules! read {
-    (($alloc:ident $number:ident $tag:ident $fields:ident $message:ident $body:ident $copied:ident)
-    $($name:ident $code:literal { $($field:ident: $holds:ident),* })*) => {
-        match $number {
-            $($code => {
-                $(let $field = $fields.$holds()?;)*
-                $fields.end()?;
-                let body = $body::$name { $($field: $copied!($alloc $holds $field)),* };
-                Ok($message { tag: $tag, body })
-            })*
-            _ => Err(WireFault::UnknownType),
-        }
-    };
-}
-
-#[tactic(auto, unfolding(crate::specs::Reading::body_of, crate::specs::Reading::message_at, crate::specs::Reading::field_at, crate::specs::Messages::t_kind_of))]
-fn request(alloc: Global, number: u8, tag: u16, mut fields: Cursor) -> Result<TMessage, WireFault>
-    ensures decodes { Decodes t_view result (body_of requests number tag fields.entry.rest.now) }
-    ensures grows { IsErrOf result Memory → takes_memory requests number ≡ true }
-{
-    each_request!(read (alloc number tag fields TMessage TBody copied))
-}
-
-#[tactic(auto, unfolding(crate::specs::Reading::body_of, crate::specs::Reading::message_at, crate::specs::Reading::field_at, crate::specs::Messages::r_kind_of))]
-fn reply(alloc: Global, number: u8, tag: u16, mut fields: Cursor) -> Result<RMessage, WireFault>
-    ensures decodes { Decodes r_view result (body_of replies number tag fields.entry.rest.now) }
-    ensures grows { IsErrOf result Memory → takes_memory replies number ≡ true }
-{
-    each_reply!(read (alloc number tag fields RMessage RBody reply_copied))
-}
+use crate::kind::{RKind, TKind};
+use crate::message::{RMessage, TMessage};
+use crate::replies::reply;
+use crate::requests::request;
+use std::alloc::Global;
 
 /// Type, tag and the fields' bytes of what is as long as its size says.
 #[tactic(auto, unfolding(crate::specs::Reading::header_at))]
@@ -97,7 +39,8 @@ fn read_request(alloc: Global, bytes: &[u8]) -> Result<TMessage, WireFault>
     ensures grows { IsErrOf result Memory → takes_memory requests (slice_index bytes.now 4) ≡ true }
 {
     let (number, tag, fields) = header(bytes)?;
-    request(alloc, number, tag, fields)
+    let kind = TKind::of_number(number).ok_or(WireFault::UnknownType)?;
+    request(alloc, kind, tag, fields)
 }
 
 #[tactic(auto, unfolding(crate::specs::Reading::message_of))]
@@ -106,7 +49,8 @@ fn read_reply(alloc: Global, bytes: &[u8]) -> Result<RMessage, WireFault>
     ensures grows { IsErrOf result Memory → takes_memory replies (slice_index bytes.now 4) ≡ true }
 {
     let (number, tag, fields) = header(bytes)?;
-    reply(alloc, number, tag, fields)
+    let kind = RKind::of_number(number).ok_or(WireFault::UnknownType)?;
+    reply(alloc, kind, tag, fields)
 }
 
 /// The client's message that the bytes spell, all of the bytes (intro(5)).
@@ -150,4 +94,11 @@ pub fn decode_r(alloc: Global, bytes: &[u8]) -> Result<RMessage, WireFault>
 pub fn one_spelling()
     ensures requests { (a b : Message requests) (x y : List ℕ) → IsMessage a → IsMessage b → spelling a ++ x ≡ spelling b ++ y → (a ≡ b) × (x ≡ y) }
     ensures replies { (a b : Message replies) (x y : List ℕ) → IsMessage a → IsMessage b → spelling a ++ x ≡ spelling b ++ y → (a ≡ b) × (x ≡ y) }
+{}
+
+/// What `encode_t` appends to an empty `Vec` of a message that fits, `decode` reads as the same message, and what
+/// `encode` appends of a reply `decode_r` does, unless memory is refused.
+pub fn what_is_written_is_read()
+    ensures requests { IsReadBack requests t_view }
+    ensures replies { IsReadBack replies r_view }
 {}

@@ -2,7 +2,7 @@
 
 ghost use Rattle.std.specs.Prelude.{◌≡◌, ◌≤◌, ◌+◌, ◌++◌, length, map, vec_len, vec_capacity, OnOk, OnErr, IsOk};
 ghost use Rattle.std.specs.List.{flat_map, AllByRecursion};
-ghost use Rattle.cs_wire.specs.Fields.{One, Two, Four, Eight, Text, Boxed, ◌▸◌, IsIn, spelled};
+ghost use Rattle.cs_wire.specs.Fields.{One, Two, Four, Eight, Text, Raw, Several, Boxed, ◌▸◌, IsIn, spelled};
 ghost use Rattle.cs_wire.specs.Messages.{names_of, qid_of, qid_shape, users_in, stat_in, stat_shape, stat_entry, IsEntry, t_view, r_view, Fits, spelling};
 ghost use Rattle.cs_wire.specs.Bodies.{request_number, request_bytes, RequestFits, reply_number, reply_bytes, ReplyFits};
 
@@ -109,6 +109,42 @@ fn put_qids(out: &mut Vec<u8>, qids: &[Qid])
 }
 
 #[tactic(auto, unfolding(crate::specs::Fields::spelled))]
+fn put_names(out: &mut Vec<u8>, names: &[String])
+    requires fits { IsIn (Several Text) (names_of names.now) }
+    requires room { vec_len out.old + length (spelled (Several Text) (names_of names.now)) ≤ vec_capacity out.old }
+    ensures items { out.new.items ≡ out.old.items ++ spelled (Several Text) (names_of names.now) }
+    ensures len { vec_len out.new ≡ vec_len out.old + length (spelled (Several Text) (names_of names.now)) }
+    ensures capacity { vec_capacity out.old ≤ vec_capacity out.new }
+{
+    put_two(out, names.len() as u16);
+    put_texts(out, names);
+}
+
+#[tactic(auto, unfolding(crate::specs::Fields::spelled))]
+fn put_wqid(out: &mut Vec<u8>, wqid: &[Qid])
+    requires fits { IsIn (Several qid_shape) (map qid_of wqid.now) }
+    requires room { vec_len out.old + length (spelled (Several qid_shape) (map qid_of wqid.now)) ≤ vec_capacity out.old }
+    ensures items { out.new.items ≡ out.old.items ++ spelled (Several qid_shape) (map qid_of wqid.now) }
+    ensures len { vec_len out.new ≡ vec_len out.old + length (spelled (Several qid_shape) (map qid_of wqid.now)) }
+    ensures capacity { vec_capacity out.old ≤ vec_capacity out.new }
+{
+    put_two(out, wqid.len() as u16);
+    put_qids(out, wqid);
+}
+
+#[tactic(auto, unfolding(crate::specs::Fields::spelled))]
+fn put_data(out: &mut Vec<u8>, bytes: &[u8])
+    requires fits { IsIn Raw bytes.now }
+    requires room { vec_len out.old + (length bytes.now + 4) ≤ vec_capacity out.old }
+    ensures items { out.new.items ≡ out.old.items ++ spelled Raw bytes.now }
+    ensures len { vec_len out.new ≡ vec_len out.old + (length bytes.now + 4) }
+    ensures capacity { vec_capacity out.old ≤ vec_capacity out.new }
+{
+    put_four(out, bytes.len() as u32);
+    put(out, bytes);
+}
+
+#[tactic(auto, unfolding(crate::specs::Fields::spelled))]
 fn put_stat_texts(out: &mut Vec<u8>, stat: &StatRef)
     requires fits { IsIn (Text ▸ Text ▸ Text ▸ Text) (users_in stat.now) }
     requires room { vec_len out.old + length (spelled (Text ▸ Text ▸ Text ▸ Text) (users_in stat.now)) ≤ vec_capacity out.old }
@@ -160,24 +196,15 @@ macro_rules! put_field {
     ($out:ident eight $number:ident) => { put_eight($out, *$number) };
     ($out:ident qid $qid:ident) => { put_qid($out, $qid) };
     ($out:ident text $text:ident) => { put_text($out, $text.as_str()) };
-    ($out:ident names $names:ident) => {
-        put_two($out, $names.len() as u16);
-        put_texts($out, $names)
-    };
-    ($out:ident qids $qids:ident) => {
-        put_two($out, $qids.len() as u16);
-        put_qids($out, $qids)
-    };
-    ($out:ident data $bytes:ident) => {
-        put_four($out, $bytes.len() as u32);
-        put($out, $bytes)
-    };
+    ($out:ident names $names:ident) => { put_names($out, $names) };
+    ($out:ident qids $qids:ident) => { put_wqid($out, $qids) };
+    ($out:ident data $bytes:ident) => { put_data($out, $bytes) };
     ($out:ident stat $stat:ident) => { put_stat($out, &$stat.borrowed()) };
 }
 
 macro_rules! put_body {
     (($body:ident $bodies:ident $out:ident)
-    $($name:ident $code:literal { $($field:ident: $holds:ident),* })*) => {
+    $($name:ident $title:literal $code:literal { $($field:ident: $holds:ident),* })*) => {
         match $body {
             $($bodies::$name { $($field),* } => { $(put_field!($out $holds $field);)* })*
         }
@@ -204,7 +231,7 @@ fn put_reply(out: &mut Vec<u8>, body: &RBody)
 
 macro_rules! number_of_body {
     (($body:ident $bodies:ident)
-    $($name:ident $code:literal { $($field:ident: $holds:ident),* })*) => {
+    $($name:ident $title:literal $code:literal { $($field:ident: $holds:ident),* })*) => {
         match $body {
             $($bodies::$name { .. } => $code,)*
         }

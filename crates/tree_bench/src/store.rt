@@ -1,7 +1,7 @@
 //! The plain store, which is asked before each change what it wants of its caller.
 ghost use Rattle.std.specs.Prelude.{◌≡◌, ◌≢◌, ◌+◌, ◌<◌, ◌^◌, None, IsTrue, IsSome};
-ghost use Rattle.cs_tree_model.specs.Tree.{record_numbered, number_in};
-ghost use Rattle.cs_tree_model.specs.Stores.{content_numbered, CanStamp, CanStampParent, IsDirectoryNumbered};
+ghost use Rattle.cs_tree_model.specs.Tree.{record_numbered, number_in, content_numbered};
+ghost use Rattle.cs_tree_model.specs.Stores.{CanStamp, CanStampParent, IsDirectoryNumbered};
 
 use crate::subject::Subject;
 use cs_names::{Name, UserName};

@@ -1,8 +1,8 @@
 //! Whether a store may be asked for a change: what the calls of `TreeStore` leave to their caller.
 ghost use Rattle.std.specs.Prelude.{◌≡◌, ◌≢◌, ◌+◌, ◌<◌, ◌^◌, ℕ, List, None, IsTrue, IsSome, IfSome};
 ghost use Rattle.cs_tree_model.specs.Mode.{is_directory_mode};
-ghost use Rattle.cs_tree_model.specs.Tree.{record_numbered, parent_numbered, number_in};
-ghost use Rattle.cs_tree_model.specs.Stores.{content_numbered, CanStamp, CanStampParent, IsDirectoryNumbered};
+ghost use Rattle.cs_tree_model.specs.Tree.{record_numbered, parent_numbered, number_in, content_numbered};
+ghost use Rattle.cs_tree_model.specs.Stores.{CanStamp, CanStampParent, IsDirectoryNumbered};
 
 use cs_names::Name;
 use cs_tree_model::{Kind, TreeRead, is_directory_mode};

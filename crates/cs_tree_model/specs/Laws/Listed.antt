@@ -14,8 +14,7 @@ use Rattle.std.specs.declared.cmp.Ordering.{Ordering}
 use Rattle.std.specs.declared.cmp.Ordering.TheVariants.{Less, Equal, Greater}
 use Rattle.cs_tree_model.specs.declared.record.Record.{Record}
 use Rattle.cs_tree_model.specs.Effects.{child_names, comes_after, entry_after}
-use Rattle.cs_tree_model.specs.Nexts.{names_after}
-use Rattle.cs_tree_model.specs.Stores.{entry_numbered}
+use Rattle.cs_tree_model.specs.Nexts.{names_after, next_name}
 use Rattle.cs_tree_model.specs.Tree.{NameBytes, Path, name_cmp, path_cmp, path_numbered, Tree}
 use Rattle.cs_tree_model.specs.Laws.Entries.{child, child_is, names_cmp, names_of}
 use Rattle.cs_tree_model.specs.Laws.Nexts.{comes_later, is_less, not_both}
@@ -103,7 +102,7 @@ ascending p (e ∷ es) sorted = ⊎_elim
     (option_cases (child p e.0))
 
 -- a listing goes on: the names after one are the next one and those after that
-pub names_go_on : (t : Tree) (d : ℕ) (last : Option NameBytes) → names_after t d last ≡ option_map_or (λ x. x ∷ names_after t d (Some x)) (entry_numbered t d last) []
+pub names_go_on : (t : Tree) (d : ℕ) (last : Option NameBytes) → names_after t d last ≡ option_map_or (λ x. x ∷ names_after t d (Some x)) (next_name t d last) []
 names_go_on t d last = by (path_numbered t d)
   where
     by : (o : Option Path) → filter (comes_after last) (option_map_or (child_names t) o []) ≡ option_map_or (λ x. x ∷ filter (comes_after (Some x)) (option_map_or (child_names t) o [])) (option_and_then (λ p. entry_after t p last) o) []

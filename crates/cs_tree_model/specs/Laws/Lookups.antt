@@ -3,7 +3,7 @@ use Rattle.std.proofs.Common.{◌≡◌, ◌≢◌, ℕ, ◌==◌, ◌&&◌, Boo
 use Rattle.std.proofs.lemmas.Bool.{false≢true, cases_eq, eq-eqb, ne_eqb}
 use Rattle.std.specs.Option.{option_map, option_and_then, is_some}
 use Rattle.cs_tree_model.specs.declared.record.Record.{Record}
-use Rattle.cs_tree_model.specs.Effects.{same_name}
+use Rattle.cs_names.specs.Texts.{same_bytes}
 use Rattle.cs_tree_model.specs.Tree.{NameBytes, Tree, IsTree, record_at, number_at, number_in}
 use Rattle.cs_tree_model.specs.Table.{Node, Nodes, path_of, tree_of, IsTable, node_in, set_node, unset_node, with_file}
 use Rattle.cs_tree_model.specs.Lookups.{Lookup, Links, set_kid}
@@ -75,8 +75,8 @@ links_of_tree t h = subst (λ v. Links (node_in t) (number_in v)) (tree_round t 
 pub place_cases : (u : ℕ) (x : NameBytes) (v : ℕ) (y : NameBytes) → ((v ≡ u) × (y ≡ x)) ⊎ ((v ≡ u) × (y ≡ x) → ⊥)
 place_cases u x v y = ⊎_elim
     (λ (e : v ≡ u). ⊎_elim
-    (λ (f : (same_name y x ≡ true) × (y ≡ x)). inl (e, f.1))
-    (λ (f : (same_name y x ≡ false) × (y ≢ x)). inr (λ both. f.1 both.1))
+    (λ (f : (same_bytes y x ≡ true) × (y ≡ x)). inl (e, f.1))
+    (λ (f : (same_bytes y x ≡ false) × (y ≢ x)). inr (λ both. f.1 both.1))
     (name_cases y x))
     (λ (ne : v ≢ u). inr (λ both. ne both.0))
     (cases_eq v u)
@@ -84,15 +84,15 @@ place_cases u x v y = ⊎_elim
 module _ (kids : Lookup) (u : ℕ) (x : NameBytes) (w : Option ℕ) where
   pub set_kid_here : set_kid kids u x w u x ≡ w
   set_kid_here = ⊎_elim
-      (λ (f : (same_name x x ≡ true) × (x ≡ x)). let e : u == u ≡ true = eq-eqb u u refl in rw (e, f.0) refl)
-      (λ (f : (same_name x x ≡ false) × (x ≢ x)). absurd (f.1 refl))
+      (λ (f : (same_bytes x x ≡ true) × (x ≡ x)). let e : u == u ≡ true = eq-eqb u u refl in rw (e, f.0) refl)
+      (λ (f : (same_bytes x x ≡ false) × (x ≢ x)). absurd (f.1 refl))
       (name_cases x x)
 
   pub set_kid_other : (v : ℕ) (y : NameBytes) → ((v ≡ u) × (y ≡ x) → ⊥) → set_kid kids u x w v y ≡ kids v y
   set_kid_other v y other = ⊎_elim
       (λ (e : v ≡ u). ⊎_elim
-      (λ (f : (same_name y x ≡ true) × (y ≡ x)). absurd (other (e, f.1)))
-      (λ (f : (same_name y x ≡ false) × (y ≢ x)). let t : v == u ≡ true = eq-eqb v u e in rw (t, f.0) refl)
+      (λ (f : (same_bytes y x ≡ true) × (y ≡ x)). absurd (other (e, f.1)))
+      (λ (f : (same_bytes y x ≡ false) × (y ≢ x)). let t : v == u ≡ true = eq-eqb v u e in rw (t, f.0) refl)
       (name_cases y x))
       (λ (ne : v ≢ u). let t : v == u ≡ false = ne_eqb v u ne in rw t refl)
       (cases_eq v u)

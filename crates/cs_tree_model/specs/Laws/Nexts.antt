@@ -11,8 +11,7 @@ use Rattle.std.specs.declared.cmp.Ordering.TheVariants.{Less, Equal, Greater}
 use Rattle.cs_tree_model.specs.declared.entries.Entry.{Entry}
 use Rattle.cs_tree_model.specs.declared.record.Record.{Record}
 use Rattle.cs_tree_model.specs.Effects.{comes_after, entry_after}
-use Rattle.cs_tree_model.specs.Nexts.{entry_name, comes_before, entry_below, IsNext, IsEntry, IsEntryBelow}
-use Rattle.cs_tree_model.specs.Stores.{entry_numbered}
+use Rattle.cs_tree_model.specs.Nexts.{entry_name, comes_before, entry_below, IsNext, IsEntry, IsEntryBelow, next_name}
 use Rattle.cs_tree_model.specs.Tree.{NameBytes, Path, Tree, name_cmp, number_in, path_numbered, record_at}
 use Rattle.cs_tree_model.specs.Laws.Entries.{entry_after-some, entry_after-none}
 
@@ -110,7 +109,7 @@ abbrev pub HasName : Tree → ℕ → NameBytes → Type 0
 HasName t d y = IsSome (number_in t d y)
 
 module _ (t : Tree) (d : ℕ) (last : Option NameBytes) where
-  whole : IsEntry (HasName t d) last (entry_numbered t d last)
+  whole : IsEntry (HasName t d) last (next_name t d last)
   whole = by (path_numbered t d) refl
     where
       has_number : (o : Option Record) → is_some (option_map (λ (r : Record). r.number) o) ≡ is_some o
@@ -130,9 +129,9 @@ module _ (t : Tree) (d : ℕ) (last : Option NameBytes) where
       by (Some p) e = subst (λ w. IsEntry (HasName t d) last (option_and_then (λ p. entry_after t p last) w)) (sym e) (at p e (entry_after t p last) refl)
 
   -- the next entry is such a one
-  pub entry_holds : (bound : Option NameBytes) → IsEntryBelow (HasName t d) last bound (entry_below bound (entry_numbered t d last))
-  entry_holds bound = entry_bounded (HasName t d) last bound (entry_numbered t d last) whole
+  pub entry_holds : (bound : Option NameBytes) → IsEntryBelow (HasName t d) last bound (entry_below bound (next_name t d last))
+  entry_holds bound = entry_bounded (HasName t d) last bound (next_name t d last) whole
 
   -- and such a one is the next entry
-  pub entry_is : (bound o : Option NameBytes) → IsEntryBelow (HasName t d) last bound o → o ≡ entry_below bound (entry_numbered t d last)
+  pub entry_is : (bound o : Option NameBytes) → IsEntryBelow (HasName t d) last bound o → o ≡ entry_below bound (next_name t d last)
   entry_is bound o a = entry_one _ last o _ a (entry_holds bound)

@@ -9,9 +9,9 @@ use Rattle.cs_tree_model.specs.declared.record.Record.{Record}
 use Rattle.cs_tree_model.specs.Effects.{stamped, new_record, change_at, add, take_out, rename}
 use Rattle.cs_tree_model.specs.Lookups.{Lookup, IsIndexed, set_kid}
 use Rattle.cs_tree_model.specs.Record.{IsDirectory}
-use Rattle.cs_tree_model.specs.Stores.{at_number, added, removed, content_numbered, sized, CanStamp, CanStampParent, IsDirectoryNumbered}
+use Rattle.cs_tree_model.specs.Stores.{at_number, added, removed, sized, CanStamp, CanStampParent, IsDirectoryNumbered}
 use Rattle.cs_tree_model.specs.Table.{Node, Nodes, path_of, tree_of, IsTable, set_node, unset_node, with_file}
-use Rattle.cs_tree_model.specs.Tree.{NameBytes, Path, Tree, IsTree, record_numbered, path_numbered, parent_numbered, number_in}
+use Rattle.cs_tree_model.specs.Tree.{NameBytes, Path, Tree, IsTree, record_numbered, path_numbered, parent_numbered, number_in, content_numbered}
 use Rattle.cs_tree_model.specs.Laws.Changes.{set_node_here, set_node_other, table_set_file, file_path, next_of_tree}
 use Rattle.cs_tree_model.specs.Laws.Lookups.{number_in-links, links_file, links_more, links_less, links_moved}
 use Rattle.cs_tree_model.specs.Laws.Moves.{with_name}

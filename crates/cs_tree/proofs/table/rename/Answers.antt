@@ -3,7 +3,6 @@ use Rattle.std.proofs.lemmas.Bool.{cases_eq}
 use Rattle.std.specs.HashMap.{get}
 use Rattle.std.specs.Option.{option_map, option_and_then}
 use Rattle.std.specs.String.{string_bytes}
-use Rattle.cs_tree_model.specs.Tree.{NameBytes}
 use Rattle.cs_tree.specs.declared.node.Node.{Node}
 use Rattle.cs_tree.specs.Node.{Alike, renamed, step_at, with_child, with_name, with_stamp, without_child}
 use Rattle.cs_tree.proofs.Tables.{one_table, with_at_here, with_at_other}

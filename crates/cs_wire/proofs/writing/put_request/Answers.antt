@@ -1,5 +1,5 @@
-use Rattle.std.proofs.Common.{◌++◌}
-use Rattle.cs_wire.specs.Fields.{Four, Eight, spelled}
+use Rattle.std.proofs.Common.{◌++◌, ℕ, List, ap, ◌∙◌}
+use Rattle.cs_wire.specs.Fields.{Four, Eight, Raw, spelled}
 use Rattle.cs_wire.proofs.Putting.{then_put}
 use Rattle.cs_wire.proofs.writing.put_request.Goals as goal
 
@@ -9,3 +9,12 @@ returns-in-Read c =
     let count = spelled Four c.in-Read.count in
     let offset = spelled Eight c.in-Read.offset in
     rw c.in-Read.is (then_put c.args.out.now.items (spelled Four c.in-Read.fid) (offset ++ count) c.put_four-in-Read.ensures.items (then_put c.put_four-in-Read.new.out.items offset count c.put_eight.ensures.items c.put_four-in-Read-2.ensures.items))
+
+pub returns-in-Write : goal.returns-in-Write
+unfolding spelled
+returns-in-Write c =
+    let fid = spelled Four c.in-Write.fid in
+    let offset = spelled Eight c.in-Write.offset in
+    let bytes = spelled Raw c.deref-in-Write.result.now in
+    let put = then_put c.args.out.now.items fid (offset ++ bytes) c.put_four-in-Write.ensures.items (then_put c.put_four-in-Write.new.out.items offset bytes c.put_eight-in-Write.ensures.items c.put_data.ensures.items) in
+    rw c.in-Write.is (put ∙ ap (λ (z : List ℕ). c.args.out.now.items ++ (fid ++ (offset ++ spelled Raw z))) c.deref-in-Write.ensures.value)

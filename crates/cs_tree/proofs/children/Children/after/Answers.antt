@@ -1,9 +1,8 @@
-use Rattle.std.proofs.Common.{◌≡◌, List, ℕ, None, Some, IsSome, sym, ap, ◌∙◌, subst}
+use Rattle.std.proofs.Common.{None, Some, sym, ap, ◌∙◌}
 use Rattle.std.specs.FinMap as map
 use Rattle.std.specs.BTreeMap.{get_by_text}
-use Rattle.std.specs.Option.{option_copied, option_map, is_some}
+use Rattle.std.specs.Option.{option_copied, is_some}
 use Rattle.std.specs.String.{string_bytes}
-use Rattle.cs_tree_model.specs.Nexts.{IsEntryBelow}
 use Rattle.cs_tree_model.specs.Laws.Nexts.{entry_same}
 use Rattle.cs_tree.proofs.ByText.{get_seen}
 use Rattle.cs_tree.proofs.children.Children.after.Goals as goal

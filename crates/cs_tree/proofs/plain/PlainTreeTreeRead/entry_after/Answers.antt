@@ -1,4 +1,4 @@
-use Rattle.std.proofs.Common.{◌≡◌, Some, nat_eq, sym, ap, ◌∙◌, unwrap_or, []}
+use Rattle.std.proofs.Common.{nat_eq, ap, ◌∙◌, unwrap_or, []}
 use Rattle.std.specs.HashMap.{get}
 use Rattle.std.specs.Option.{option_copied, option_map}
 use Rattle.std.specs.String.{string_bytes}

@@ -1,7 +1,7 @@
 use Rattle.std.proofs.Common.{nat_eq, sym, ap, ◌∙◌}
 use Rattle.std.specs.HashMap.{get}
 use Rattle.std.specs.Option.{option_and_then}
-use Rattle.cs_tree_model.specs.Stores.{name_numbered}
+use Rattle.cs_tree_model.specs.Tree.{name_numbered}
 use Rattle.cs_tree.proofs.Lookups.{name_is, name_root}
 use Rattle.cs_tree.proofs.plain.PlainTreeTreeRead.name_of.Goals as goal
 

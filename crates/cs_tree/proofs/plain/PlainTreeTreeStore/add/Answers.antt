@@ -1,4 +1,4 @@
-use Rattle.std.proofs.Common.{◌≡◌, ◌+◌, ap, sym, ◌∙◌, nat_eq, subst, arith, refl}
+use Rattle.std.proofs.Common.{◌+◌, ap, sym, ◌∙◌, nat_eq, subst, arith}
 use Rattle.std.proofs.lemmas.Bool.{false≢true}
 use Rattle.std.proofs.lemmas.Result.{err_from_is_err_and}
 use Rattle.std.specs.HashMap.{get}

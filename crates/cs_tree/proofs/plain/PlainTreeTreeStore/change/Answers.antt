@@ -1,8 +1,6 @@
-use Rattle.std.proofs.Common.{◌≡◌, ◌+◌, Some, None, IsSome, IfSome, nat_eq, refl, sym, ap, ◌∙◌, subst}
+use Rattle.std.proofs.Common.{◌+◌, IsSome, nat_eq, refl, sym, subst}
 use Rattle.std.specs.HashMap.{get}
-use Rattle.cs_tree_model.specs.Tree.{number_in, parent_numbered}
 use Rattle.cs_tree.specs.Held.{IsHeld}
-use Rattle.cs_tree.specs.Node.{Alike, renamed}
 use Rattle.cs_tree.proofs.Changing.{held_with_fields, tree_with_fields}
 use Rattle.cs_tree.proofs.Lookups.{can_stamp, has_name, parent_can_stamp}
 use Rattle.cs_tree.proofs.Renaming.{can_stamp_renamed, held_after_rename, tree_after_rename}

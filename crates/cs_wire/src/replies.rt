@@ -1,0 +1,216 @@
+//! The fields of each reply, read and copied as those of a request are.
+
+ghost use Rattle.std.specs.Prelude.{◌≡◌, IsErrOf, true};
+ghost use Rattle.cs_wire.specs.declared.fault.WireFault.TheVariants.{Memory};
+ghost use Rattle.cs_wire.specs.declared.kind.RKind.TheVariants as rk;
+ghost use Rattle.cs_wire.specs.Fields.{holds_bytes};
+ghost use Rattle.cs_wire.specs.Messages.{replies, r_layout, r_view};
+ghost use Rattle.cs_wire.specs.Reading.{all_of};
+ghost use Rattle.cs_wire.specs.Answers.{Decodes, Finds};
+
+use crate::cursor::Cursor;
+use crate::fault::WireFault;
+use crate::kind::RKind;
+use crate::message::{RBody, RMessage};
+use std::alloc::Global;
+use std::borrow::CowStr;
+
+#[tactic(auto, unfolding(crate::specs::Reading::all_of, crate::specs::Reading::field_at))]
+fn version(alloc: Global, tag: u16, mut fields: Cursor) -> Result<RMessage, WireFault>
+    ensures { Decodes r_view result (all_of replies rk.Version tag fields.entry.rest.now) }
+{
+    let msize = fields.four()?;
+    let version = fields.text()?;
+    fields.end()?;
+    let version = CowStr::Owned(String::from_str(alloc, version)?);
+    Ok(RMessage {
+        tag,
+        body: RBody::Version { msize, version },
+    })
+}
+
+#[tactic(auto, unfolding(crate::specs::Reading::all_of))]
+fn auth(tag: u16, mut fields: Cursor) -> Result<RMessage, WireFault>
+    ensures { Finds r_view result (all_of replies rk.Auth tag fields.entry.rest.now) }
+{
+    let aqid = fields.qid()?;
+    fields.end()?;
+    Ok(RMessage {
+        tag,
+        body: RBody::Auth { aqid },
+    })
+}
+
+#[tactic(auto, unfolding(crate::specs::Reading::all_of))]
+fn attach(tag: u16, mut fields: Cursor) -> Result<RMessage, WireFault>
+    ensures { Finds r_view result (all_of replies rk.Attach tag fields.entry.rest.now) }
+{
+    let qid = fields.qid()?;
+    fields.end()?;
+    Ok(RMessage {
+        tag,
+        body: RBody::Attach { qid },
+    })
+}
+
+#[tactic(auto, unfolding(crate::specs::Reading::all_of))]
+fn error(alloc: Global, tag: u16, mut fields: Cursor) -> Result<RMessage, WireFault>
+    ensures { Decodes r_view result (all_of replies rk.Error tag fields.entry.rest.now) }
+{
+    let ename = fields.text()?;
+    fields.end()?;
+    let ename = CowStr::Owned(String::from_str(alloc, ename)?);
+    Ok(RMessage {
+        tag,
+        body: RBody::Error { ename },
+    })
+}
+
+#[tactic(auto, unfolding(crate::specs::Reading::all_of, crate::specs::Reading::field_at))]
+fn flush(tag: u16, fields: Cursor) -> Result<RMessage, WireFault>
+    ensures { Finds r_view result (all_of replies rk.Flush tag fields.entry.rest.now) }
+{
+    fields.end()?;
+    Ok(RMessage {
+        tag,
+        body: RBody::Flush,
+    })
+}
+
+#[tactic(auto, unfolding(crate::specs::Reading::all_of, crate::specs::Reading::field_at))]
+fn walk(alloc: Global, tag: u16, mut fields: Cursor) -> Result<RMessage, WireFault>
+    ensures { Decodes r_view result (all_of replies rk.Walk tag fields.entry.rest.now) }
+{
+    let wqid = fields.qids()?;
+    fields.end()?;
+    let wqid = Vec::from_slice(alloc, wqid.as_slice())?;
+    Ok(RMessage {
+        tag,
+        body: RBody::Walk { wqid },
+    })
+}
+
+#[tactic(auto, unfolding(crate::specs::Reading::all_of, crate::specs::Reading::field_at))]
+fn open(tag: u16, mut fields: Cursor) -> Result<RMessage, WireFault>
+    ensures { Finds r_view result (all_of replies rk.Open tag fields.entry.rest.now) }
+{
+    let qid = fields.qid()?;
+    let iounit = fields.four()?;
+    fields.end()?;
+    Ok(RMessage {
+        tag,
+        body: RBody::Open { qid, iounit },
+    })
+}
+
+#[tactic(auto, unfolding(crate::specs::Reading::all_of, crate::specs::Reading::field_at))]
+fn create(tag: u16, mut fields: Cursor) -> Result<RMessage, WireFault>
+    ensures { Finds r_view result (all_of replies rk.Create tag fields.entry.rest.now) }
+{
+    let qid = fields.qid()?;
+    let iounit = fields.four()?;
+    fields.end()?;
+    Ok(RMessage {
+        tag,
+        body: RBody::Create { qid, iounit },
+    })
+}
+
+#[tactic(auto, unfolding(crate::specs::Reading::all_of, crate::specs::Reading::field_at))]
+fn read(alloc: Global, tag: u16, mut fields: Cursor) -> Result<RMessage, WireFault>
+    ensures { Decodes r_view result (all_of replies rk.Read tag fields.entry.rest.now) }
+{
+    let data = fields.data()?;
+    fields.end()?;
+    let data = Vec::from_slice(alloc, data)?;
+    Ok(RMessage {
+        tag,
+        body: RBody::Read { data },
+    })
+}
+
+#[tactic(auto, unfolding(crate::specs::Reading::all_of, crate::specs::Reading::field_at))]
+fn write(tag: u16, mut fields: Cursor) -> Result<RMessage, WireFault>
+    ensures { Finds r_view result (all_of replies rk.Write tag fields.entry.rest.now) }
+{
+    let count = fields.four()?;
+    fields.end()?;
+    Ok(RMessage {
+        tag,
+        body: RBody::Write { count },
+    })
+}
+
+#[tactic(auto, unfolding(crate::specs::Reading::all_of, crate::specs::Reading::field_at))]
+fn clunk(tag: u16, fields: Cursor) -> Result<RMessage, WireFault>
+    ensures { Finds r_view result (all_of replies rk.Clunk tag fields.entry.rest.now) }
+{
+    fields.end()?;
+    Ok(RMessage {
+        tag,
+        body: RBody::Clunk,
+    })
+}
+
+#[tactic(auto, unfolding(crate::specs::Reading::all_of, crate::specs::Reading::field_at))]
+fn remove(tag: u16, fields: Cursor) -> Result<RMessage, WireFault>
+    ensures { Finds r_view result (all_of replies rk.Remove tag fields.entry.rest.now) }
+{
+    fields.end()?;
+    Ok(RMessage {
+        tag,
+        body: RBody::Remove,
+    })
+}
+
+#[tactic(auto, unfolding(crate::specs::Reading::all_of, crate::specs::Reading::field_at))]
+fn stat(alloc: Global, tag: u16, mut fields: Cursor) -> Result<RMessage, WireFault>
+    ensures { Decodes r_view result (all_of replies rk.Stat tag fields.entry.rest.now) }
+{
+    let stat = fields.stat()?;
+    fields.end()?;
+    let stat = stat.copied(alloc)?;
+    Ok(RMessage {
+        tag,
+        body: RBody::Stat { stat },
+    })
+}
+
+#[tactic(auto, unfolding(crate::specs::Reading::all_of, crate::specs::Reading::field_at))]
+fn wstat(tag: u16, fields: Cursor) -> Result<RMessage, WireFault>
+    ensures { Finds r_view result (all_of replies rk.Wstat tag fields.entry.rest.now) }
+{
+    fields.end()?;
+    Ok(RMessage {
+        tag,
+        body: RBody::Wstat,
+    })
+}
+
+/// The reply of that type and tag whose fields are all of the bytes.
+pub(crate) fn reply(
+    alloc: Global,
+    kind: RKind,
+    tag: u16,
+    fields: Cursor,
+) -> Result<RMessage, WireFault>
+    ensures decodes { Decodes r_view result (all_of replies kind tag fields.entry.rest.now) }
+    ensures grows { IsErrOf result Memory → holds_bytes (r_layout kind) ≡ true }
+{
+    match kind {
+        RKind::Version => version(alloc, tag, fields),
+        RKind::Auth => auth(tag, fields),
+        RKind::Attach => attach(tag, fields),
+        RKind::Error => error(alloc, tag, fields),
+        RKind::Flush => flush(tag, fields),
+        RKind::Walk => walk(alloc, tag, fields),
+        RKind::Open => open(tag, fields),
+        RKind::Create => create(tag, fields),
+        RKind::Read => read(alloc, tag, fields),
+        RKind::Write => write(tag, fields),
+        RKind::Clunk => clunk(tag, fields),
+        RKind::Remove => remove(tag, fields),
+        RKind::Stat => stat(alloc, tag, fields),
+        RKind::Wstat => wstat(tag, fields),
+    }
+}

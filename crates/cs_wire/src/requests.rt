@@ -1,0 +1,240 @@
+//! The fields of each request, from all of the bytes that a cursor has: first they are read, then the end is met,
+//! and only then are they copied, so that no fault comes after want of memory.
+
+ghost use Rattle.std.specs.Prelude.{◌≡◌, IfOk, IsErrOf, true};
+ghost use Rattle.cs_wire.specs.declared.fault.WireFault.TheVariants.{Memory};
+ghost use Rattle.cs_wire.specs.declared.kind.TKind.TheVariants as tk;
+ghost use Rattle.cs_wire.specs.Fields.{holds_bytes};
+ghost use Rattle.cs_wire.specs.Messages.{names_of, requests, t_layout, t_view, texts_in};
+ghost use Rattle.cs_wire.specs.Reading.{all_of};
+ghost use Rattle.cs_wire.specs.Answers.{Decodes, Finds};
+
+use crate::cursor::Cursor;
+use crate::fault::WireFault;
+use crate::kind::TKind;
+use crate::message::{TBody, TMessage};
+use std::alloc::{AllocError, Global};
+
+fn names_copied(alloc: Global, names: &[&str]) -> Result<Vec<String>, AllocError>
+    ensures { IfOk result (λ copy. names_of copy.items ≡ texts_in names.now) }
+{
+    let mut copy = Vec::new(alloc);
+    for name in names {
+        copy.push(String::from_str(alloc, name)?)?;
+    }
+    Ok(copy)
+}
+
+#[tactic(auto, unfolding(crate::specs::Reading::all_of, crate::specs::Reading::field_at))]
+fn version(alloc: Global, tag: u16, mut fields: Cursor) -> Result<TMessage, WireFault>
+    ensures { Decodes t_view result (all_of requests tk.Version tag fields.entry.rest.now) }
+{
+    let msize = fields.four()?;
+    let version = fields.text()?;
+    fields.end()?;
+    let body = TBody::Version {
+        msize,
+        version: String::from_str(alloc, version)?,
+    };
+    Ok(TMessage { tag, body })
+}
+
+#[tactic(auto, unfolding(crate::specs::Reading::all_of, crate::specs::Reading::field_at))]
+fn auth(alloc: Global, tag: u16, mut fields: Cursor) -> Result<TMessage, WireFault>
+    ensures { Decodes t_view result (all_of requests tk.Auth tag fields.entry.rest.now) }
+{
+    let afid = fields.four()?;
+    let uname = fields.text()?;
+    let aname = fields.text()?;
+    fields.end()?;
+    let body = TBody::Auth {
+        afid,
+        uname: String::from_str(alloc, uname)?,
+        aname: String::from_str(alloc, aname)?,
+    };
+    Ok(TMessage { tag, body })
+}
+
+#[tactic(auto, unfolding(crate::specs::Reading::all_of, crate::specs::Reading::field_at))]
+fn attach(alloc: Global, tag: u16, mut fields: Cursor) -> Result<TMessage, WireFault>
+    ensures { Decodes t_view result (all_of requests tk.Attach tag fields.entry.rest.now) }
+{
+    let fid = fields.four()?;
+    let afid = fields.four()?;
+    let uname = fields.text()?;
+    let aname = fields.text()?;
+    fields.end()?;
+    let body = TBody::Attach {
+        fid,
+        afid,
+        uname: String::from_str(alloc, uname)?,
+        aname: String::from_str(alloc, aname)?,
+    };
+    Ok(TMessage { tag, body })
+}
+
+#[tactic(auto, unfolding(crate::specs::Reading::all_of, crate::specs::Reading::field_at))]
+fn flush(tag: u16, mut fields: Cursor) -> Result<TMessage, WireFault>
+    ensures { Finds t_view result (all_of requests tk.Flush tag fields.entry.rest.now) }
+{
+    let oldtag = fields.two()?;
+    fields.end()?;
+    Ok(TMessage {
+        tag,
+        body: TBody::Flush { oldtag },
+    })
+}
+
+#[tactic(auto, unfolding(crate::specs::Reading::all_of, crate::specs::Reading::field_at))]
+fn walk(alloc: Global, tag: u16, mut fields: Cursor) -> Result<TMessage, WireFault>
+    ensures { Decodes t_view result (all_of requests tk.Walk tag fields.entry.rest.now) }
+{
+    let fid = fields.four()?;
+    let newfid = fields.four()?;
+    let wname = fields.names()?;
+    fields.end()?;
+    let body = TBody::Walk {
+        fid,
+        newfid,
+        wname: names_copied(alloc, wname.as_slice())?,
+    };
+    Ok(TMessage { tag, body })
+}
+
+#[tactic(auto, unfolding(crate::specs::Reading::all_of, crate::specs::Reading::field_at))]
+fn open(tag: u16, mut fields: Cursor) -> Result<TMessage, WireFault>
+    ensures { Finds t_view result (all_of requests tk.Open tag fields.entry.rest.now) }
+{
+    let fid = fields.four()?;
+    let mode = fields.one()?;
+    fields.end()?;
+    Ok(TMessage {
+        tag,
+        body: TBody::Open { fid, mode },
+    })
+}
+
+#[tactic(auto, unfolding(crate::specs::Reading::all_of, crate::specs::Reading::field_at))]
+fn create(alloc: Global, tag: u16, mut fields: Cursor) -> Result<TMessage, WireFault>
+    ensures { Decodes t_view result (all_of requests tk.Create tag fields.entry.rest.now) }
+{
+    let fid = fields.four()?;
+    let name = fields.text()?;
+    let perm = fields.four()?;
+    let mode = fields.one()?;
+    fields.end()?;
+    let body = TBody::Create {
+        fid,
+        name: String::from_str(alloc, name)?,
+        perm,
+        mode,
+    };
+    Ok(TMessage { tag, body })
+}
+
+#[tactic(auto, unfolding(crate::specs::Reading::all_of, crate::specs::Reading::field_at))]
+fn read(tag: u16, mut fields: Cursor) -> Result<TMessage, WireFault>
+    ensures { Finds t_view result (all_of requests tk.Read tag fields.entry.rest.now) }
+{
+    let fid = fields.four()?;
+    let offset = fields.eight()?;
+    let count = fields.four()?;
+    fields.end()?;
+    Ok(TMessage {
+        tag,
+        body: TBody::Read { fid, offset, count },
+    })
+}
+
+#[tactic(auto, unfolding(crate::specs::Reading::all_of, crate::specs::Reading::field_at))]
+fn write(alloc: Global, tag: u16, mut fields: Cursor) -> Result<TMessage, WireFault>
+    ensures { Decodes t_view result (all_of requests tk.Write tag fields.entry.rest.now) }
+{
+    let fid = fields.four()?;
+    let offset = fields.eight()?;
+    let data = fields.data()?;
+    fields.end()?;
+    let body = TBody::Write {
+        fid,
+        offset,
+        data: Vec::from_slice(alloc, data)?,
+    };
+    Ok(TMessage { tag, body })
+}
+
+#[tactic(auto, unfolding(crate::specs::Reading::all_of, crate::specs::Reading::field_at))]
+fn clunk(tag: u16, mut fields: Cursor) -> Result<TMessage, WireFault>
+    ensures { Finds t_view result (all_of requests tk.Clunk tag fields.entry.rest.now) }
+{
+    let fid = fields.four()?;
+    fields.end()?;
+    Ok(TMessage {
+        tag,
+        body: TBody::Clunk { fid },
+    })
+}
+
+#[tactic(auto, unfolding(crate::specs::Reading::all_of, crate::specs::Reading::field_at))]
+fn remove(tag: u16, mut fields: Cursor) -> Result<TMessage, WireFault>
+    ensures { Finds t_view result (all_of requests tk.Remove tag fields.entry.rest.now) }
+{
+    let fid = fields.four()?;
+    fields.end()?;
+    Ok(TMessage {
+        tag,
+        body: TBody::Remove { fid },
+    })
+}
+
+#[tactic(auto, unfolding(crate::specs::Reading::all_of, crate::specs::Reading::field_at))]
+fn stat(tag: u16, mut fields: Cursor) -> Result<TMessage, WireFault>
+    ensures { Finds t_view result (all_of requests tk.Stat tag fields.entry.rest.now) }
+{
+    let fid = fields.four()?;
+    fields.end()?;
+    Ok(TMessage {
+        tag,
+        body: TBody::Stat { fid },
+    })
+}
+
+#[tactic(auto, unfolding(crate::specs::Reading::all_of, crate::specs::Reading::field_at))]
+fn wstat(alloc: Global, tag: u16, mut fields: Cursor) -> Result<TMessage, WireFault>
+    ensures { Decodes t_view result (all_of requests tk.Wstat tag fields.entry.rest.now) }
+{
+    let fid = fields.four()?;
+    let stat = fields.stat()?;
+    fields.end()?;
+    let body = TBody::Wstat {
+        fid,
+        stat: stat.copied(alloc)?,
+    };
+    Ok(TMessage { tag, body })
+}
+
+/// The request of that type and tag whose fields are all of the bytes.
+pub(crate) fn request(
+    alloc: Global,
+    kind: TKind,
+    tag: u16,
+    fields: Cursor,
+) -> Result<TMessage, WireFault>
+    ensures decodes { Decodes t_view result (all_of requests kind tag fields.entry.rest.now) }
+    ensures grows { IsErrOf result Memory → holds_bytes (t_layout kind) ≡ true }
+{
+    match kind {
+        TKind::Version => version(alloc, tag, fields),
+        TKind::Auth => auth(alloc, tag, fields),
+        TKind::Attach => attach(alloc, tag, fields),
+        TKind::Flush => flush(tag, fields),
+        TKind::Walk => walk(alloc, tag, fields),
+        TKind::Open => open(tag, fields),
+        TKind::Create => create(alloc, tag, fields),
+        TKind::Read => read(tag, fields),
+        TKind::Write => write(alloc, tag, fields),
+        TKind::Clunk => clunk(tag, fields),
+        TKind::Remove => remove(tag, fields),
+        TKind::Stat => stat(tag, fields),
+        TKind::Wstat => wstat(alloc, tag, fields),
+    }
+}
