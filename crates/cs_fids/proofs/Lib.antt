@@ -1,0 +1,4 @@
+pub mod Changes
+pub mod Leasts
+pub mod Maps
+pub mod Results

@@ -1,0 +1,12 @@
+-- What is said of a call that a table refused.
+use Rattle.std.specs.Prelude.{ℕ, List, codes}
+use Rattle.cs_fids.specs.declared.fault.FidFault.{FidFault}
+use Rattle.cs_fids.specs.declared.fault.FidFault.TheVariants.{TableFull, Unknown, AlreadyOpen, NotOpen, InUse, Memory}
+
+abbrev pub fault_text : FidFault → List ℕ
+fault_text TableFull = codes "fid table full"
+fault_text Unknown = codes "unknown fid"
+fault_text AlreadyOpen = codes "fid is open"
+fault_text NotOpen = codes "fid not open"
+fault_text InUse = codes "fid in use"
+fault_text Memory = codes "out of memory"

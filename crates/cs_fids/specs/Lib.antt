@@ -1,0 +1,7 @@
+pub mod Entries
+pub mod Faults
+pub mod FidOf
+pub mod Fids
+pub mod Leasts
+pub mod Slots
+pub mod Tables

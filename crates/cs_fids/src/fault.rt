@@ -1,0 +1,49 @@
+//! Why a table refused a call.
+ghost use Rattle.std.specs.Prelude.{◌≡◌, Some};
+ghost use Rattle.cs_fids.specs.declared.fault.FidFault.TheVariants.{Memory};
+ghost use Rattle.cs_fids.specs.Faults.{fault_text};
+
+use std::alloc::AllocError;
+use std::fmt;
+
+/// Why a table of fids refused a call.
+#[derive(Clone, Copy, Debug, PartialEq, Eq)]
+pub enum FidFault {
+    /// The table has FIDS fids.
+    TableFull,
+    /// The number stands for no fid.
+    Unknown,
+    /// The fid is open.
+    AlreadyOpen,
+    /// The fid isn't open.
+    NotOpen,
+    /// The number stands for a fid.
+    InUse,
+    /// No memory for one fid more.
+    Memory,
+}
+
+impl fmt::Display for FidFault {
+    ghost output = { λ fault. Some (fault_text fault) };
+
+    fn fmt<W: fmt::Write>(&self, f: &mut fmt::Formatter<W>) -> fmt::Result {
+        f.write_str(match self {
+            FidFault::TableFull => "fid table full",
+            FidFault::Unknown => "unknown fid",
+            FidFault::AlreadyOpen => "fid is open",
+            FidFault::NotOpen => "fid not open",
+            FidFault::InUse => "fid in use",
+            FidFault::Memory => "out of memory",
+        })
+    }
+}
+
+impl std::error::Error for FidFault {}
+
+impl From<AllocError> for FidFault {
+    ghost from_gives = { λ _ fault. fault ≡ Memory };
+
+    fn from(_refused: AllocError) -> FidFault {
+        FidFault::Memory
+    }
+}

@@ -1,0 +1,18 @@
+//! Fids by number, whose states are types: a fid that was walked to, and one that is open (intro(5)).
+#![tactic(auto)]
+
+mod entry;
+mod fault;
+mod fid;
+mod fid_table;
+mod place;
+mod slot;
+
+pub use entry::Entry;
+pub use fault::FidFault;
+pub use fid::{Fid, NOFID, Opened, Walked};
+pub use fid_table::FidTable;
+pub use place::Place;
+
+#[cfg(test)]
+mod tests;

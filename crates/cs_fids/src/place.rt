@@ -1,0 +1,38 @@
+//! Where the reads of a directory go on.
+ghost use Rattle.std.specs.Prelude.{◌≡◌, IfOk};
+
+use cs_names::Name;
+use std::alloc::AllocError;
+
+/// Where the reads of a directory go on: the offset at which the last read ended, and the last name
+/// that it gave (read(5)).
+#[derive(Debug, Drop)]
+pub struct Place {
+    pub end: u64,
+    pub last: Option<Name>,
+}
+
+impl Place {
+    ghost use Rattle.cs_fids.specs.Fids.{first_place};
+
+    /// The place before the first entry.
+    pub fn start() -> Place
+        ensures { result ≡ first_place }
+    {
+        Place { end: 0, last: None }
+    }
+
+    /// The same place again.
+    pub fn try_clone(&self) -> Result<Place, AllocError>
+        ensures { IfOk result (λ place. place ≡ self.now) }
+    {
+        let last = match &self.last {
+            Some(name) => Some(name.try_clone()?),
+            None => None,
+        };
+        Ok(Place {
+            end: self.end,
+            last,
+        })
+    }
+}

@@ -1,0 +1,118 @@
+//! What a wstat changes (stat(5)): the new value of each field of its stat that is to be touched and
+//! hasn't the present value.
+ghost use Rattle.std.specs.Prelude.{◌≡◌, option_copied};
+ghost use Rattle.cs_tree_model.specs.Record.{lent};
+ghost use Rattle.cs_permit.specs.Changes.{changes_attributes, changes_fixed, new_group, new_length, new_mode, new_mtime, new_name, new_number, new_text, ones_2, ones_4, ones_8, same_qid};
+
+use crate::call::WstatCall;
+use crate::shown::{qid_of, shown_name, told_length};
+use cs_tree_model::{Metadata, TreeRead};
+use cs_wire::Qid;
+
+fn new_u16(present: u16, sent: u16) -> Option<u16>
+    ensures { result ≡ new_number ones_2 present sent }
+{
+    if sent == u16::MAX || sent == present {
+        None
+    } else {
+        Some(sent)
+    }
+}
+
+fn new_u32(present: u32, sent: u32) -> Option<u32>
+    ensures { result ≡ new_number ones_4 present sent }
+{
+    if sent == u32::MAX || sent == present {
+        None
+    } else {
+        Some(sent)
+    }
+}
+
+fn new_u64(present: u64, sent: u64) -> Option<u64>
+    ensures { result ≡ new_number ones_8 present sent }
+{
+    if sent == u64::MAX || sent == present {
+        None
+    } else {
+        Some(sent)
+    }
+}
+
+fn new_text<'a>(present: &str, sent: &'a str) -> Option<&'a str>
+    ensures { option_copied result ≡ new_text present.now sent.now }
+{
+    if sent == "" || sent == present {
+        None
+    } else {
+        Some(sent)
+    }
+}
+
+/// The new name, if the wstat has one. The root's present name is `/`.
+pub fn new_name<'a, T: TreeRead>(tree: &T, call: &'a WstatCall) -> Option<&'a str>
+    ensures { option_copied result ≡ new_name (T.tree tree.now) call.now }
+{
+    new_text(shown_name(tree, call.number), call.stat.name.as_str())
+}
+
+/// The new length, if the wstat has one. A directory's present length is 0.
+pub fn new_length(call: &WstatCall, file: &Metadata) -> Option<u64>
+    ensures { result ≡ new_length call.now (lent file.now) }
+{
+    new_u64(told_length(file.kind), call.stat.length)
+}
+
+/// The new mode, if the wstat has one.
+pub fn new_mode(call: &WstatCall, file: &Metadata) -> Option<u32>
+    ensures { result ≡ new_mode call.now (lent file.now) }
+{
+    new_u32(file.mode, call.stat.mode)
+}
+
+/// The new mtime, if the wstat has one.
+pub fn new_mtime(call: &WstatCall, file: &Metadata) -> Option<u32>
+    ensures { result ≡ new_mtime call.now (lent file.now) }
+{
+    new_u32(file.mtime, call.stat.mtime)
+}
+
+/// The new group, if the wstat has one.
+pub fn new_group<'a>(call: &'a WstatCall, file: &Metadata) -> Option<&'a str>
+    ensures { option_copied result ≡ new_group call.now (lent file.now) }
+{
+    new_text(file.group.as_str(), call.stat.gid.as_str())
+}
+
+/// The qid of a wstat that is not to be touched.
+const ONES_QID: Qid = Qid {
+    kind: u8::MAX,
+    vers: u32::MAX,
+    path: u64::MAX,
+};
+
+fn is_same_qid(a: Qid, b: Qid) -> bool
+    ensures { result ≡ same_qid a b }
+{
+    a.kind == b.kind && a.vers == b.vers && a.path == b.path
+}
+
+/// Whether a field changes that can't be: type, dev, qid, atime, uid or muid.
+pub fn changes_fixed(call: &WstatCall, file: &Metadata) -> bool
+    ensures { result ≡ changes_fixed call.now (lent file.now) }
+{
+    let stat = &call.stat;
+    new_u16(0, stat.kind).is_some()
+        || new_u32(0, stat.dev).is_some()
+        || !(is_same_qid(stat.qid, ONES_QID) || is_same_qid(stat.qid, qid_of(file)))
+        || new_u32(file.atime, stat.atime).is_some()
+        || new_text(file.owner.as_str(), stat.uid.as_str()).is_some()
+        || new_text(file.muid.as_str(), stat.muid.as_str()).is_some()
+}
+
+/// Whether the mode or the mtime changes.
+pub fn changes_attributes(call: &WstatCall, file: &Metadata) -> bool
+    ensures { result ≡ changes_attributes call.now (lent file.now) }
+{
+    new_mode(call, file).is_some() || new_mtime(call, file).is_some()
+}

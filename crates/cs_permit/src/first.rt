@@ -1,0 +1,197 @@
+//! The first rule of a call on a run that fails, without taking memory.
+ghost use Rattle.std.specs.Prelude.{◌≡◌, if◌then◌else◌};
+ghost use Rattle.cs_tree_model.specs.Record.{lent};
+ghost use Rattle.cs_permit.specs.Attaches.{attach_rules};
+ghost use Rattle.cs_permit.specs.Calls.{first, state};
+ghost use Rattle.cs_permit.specs.Creates.{create_rules};
+ghost use Rattle.cs_permit.specs.Opens.{is_open, open_rules};
+ghost use Rattle.cs_permit.specs.Refusals.{first_failing};
+ghost use Rattle.cs_permit.specs.Removes.{has_entries, remove_rules};
+ghost use Rattle.cs_permit.specs.Rules.{is_append_only};
+ghost use Rattle.cs_permit.specs.Shown.{told_length};
+ghost use Rattle.cs_permit.specs.Stats.{stat_rules};
+ghost use Rattle.cs_permit.specs.Walks.{walk_rules};
+ghost use Rattle.cs_permit.specs.Writes.{ends_too_late, write_rules};
+
+use crate::call::{
+    AttachCall, Call, CreateCall, OpenCall, OpenFile, RemoveCall, StatCall, WalkCall, WriteCall,
+};
+use crate::mode::{asks_execute, asks_read, asks_write, removes_on_close};
+use crate::read::first_of_read;
+use crate::rules::{is_append_only, is_directory, is_exclusive, is_gone, may, parent_lacks};
+use crate::shown::told_length;
+use crate::walk::first_of_element;
+use crate::wstat::first_of_wstat;
+use cs_names::RuleId;
+use cs_names::limits::{FILE_BYTES, TREE_RECORDS};
+use cs_tree_model::{Metadata, TreeRead};
+use cs_users::{Right, Users};
+
+fn first_of_attach(call: &AttachCall, users: &Users) -> Option<RuleId>
+    ensures { result ≡ first_failing (attach_rules users.now call.now) }
+{
+    if !users.knows(call.user.as_bytes()) {
+        return Some(RuleId::A6);
+    }
+    None
+}
+
+/// The first rule of a walk that fails, by its first name alone (walk(5)).
+pub fn first_of_walk<T: TreeRead>(call: &WalkCall, tree: &T, users: &Users) -> Option<RuleId>
+    ensures { result ≡ first_failing (walk_rules (T.tree tree.now) users.now call.now) }
+{
+    if is_gone(tree, call.number) {
+        return Some(RuleId::K5);
+    }
+    let name = call.names.first()?;
+    first_of_element(tree, users, &call.user, call.number, name.as_str())
+}
+
+fn is_open(opens: &[OpenFile], file: u64) -> bool
+    ensures { result ≡ is_open opens.now file }
+{
+    opens.iter().any(|open_file| open_file.file == file)
+}
+
+fn first_of_open<T: TreeRead>(
+    call: &OpenCall,
+    tree: &T,
+    opens: &[OpenFile],
+    users: &Users,
+) -> Option<RuleId>
+    ensures { result ≡ first_failing (open_rules (T.tree tree.now) opens.now users.now call.now) }
+{
+    let Some(file) = tree.record(call.number) else {
+        return Some(RuleId::O4);
+    };
+    if is_directory(&file) && call.mode != 0 {
+        return Some(RuleId::O5);
+    }
+    if asks_read(call.mode) && !may(users, &call.user, Right::Read, &file) {
+        return Some(RuleId::O6);
+    }
+    if asks_write(call.mode) && !may(users, &call.user, Right::Write, &file) {
+        return Some(RuleId::O7);
+    }
+    if asks_execute(call.mode) && !may(users, &call.user, Right::Execute, &file) {
+        return Some(RuleId::O8);
+    }
+    if removes_on_close(call.mode)
+        && parent_lacks(tree, users, &call.user, Right::Write, call.number)
+    {
+        return Some(RuleId::O9);
+    }
+    if is_exclusive(&file) && is_open(opens, call.number) {
+        return Some(RuleId::O10);
+    }
+    None
+}
+
+fn first_of_create<T: TreeRead>(call: &CreateCall, tree: &T, users: &Users) -> Option<RuleId>
+    ensures { result ≡ first_failing (create_rules (T.tree tree.now) users.now call.now) }
+{
+    let Some(directory) = tree.record(call.number) else {
+        return Some(RuleId::C6);
+    };
+    if !is_directory(&directory) {
+        return Some(RuleId::C7);
+    }
+    if !may(users, &call.user, Right::Write, &directory) {
+        return Some(RuleId::C8);
+    }
+    if tree.find_number(call.number, call.name.as_str()).is_some() {
+        return Some(RuleId::C9);
+    }
+    if tree.count() >= TREE_RECORDS {
+        return Some(RuleId::C10);
+    }
+    None
+}
+
+/// Whether so many bytes from there on end above the limit.
+fn ends_too_late(start: u64, count: u64) -> bool
+    ensures { result ≡ ends_too_late start count }
+{
+    count > FILE_BYTES || start > FILE_BYTES - count
+}
+
+/// Where a write begins.
+fn write_start(call: &WriteCall, file: &Metadata) -> u64
+    ensures { result ≡ (if is_append_only (lent file.now) then told_length file.now.kind else call.now.offset) }
+{
+    if is_append_only(file) {
+        told_length(file.kind)
+    } else {
+        call.offset
+    }
+}
+
+fn first_of_write<T: TreeRead>(call: &WriteCall, tree: &T) -> Option<RuleId>
+    ensures { result ≡ first_failing (write_rules (T.tree tree.now) call.now) }
+{
+    let Some(file) = tree.record(call.number) else {
+        return Some(RuleId::E3);
+    };
+    let start = write_start(call, &file);
+    if !call.bytes.is_empty() && ends_too_late(start, call.bytes.len() as u64) {
+        return Some(RuleId::E4);
+    }
+    None
+}
+
+fn has_entries<T: TreeRead>(tree: &T, number: u64) -> bool
+    ensures { result ≡ has_entries (T.tree tree.now) number }
+{
+    tree.entry_after(number, None, None).is_some()
+}
+
+fn first_of_remove<T: TreeRead>(call: &RemoveCall, tree: &T, users: &Users) -> Option<RuleId>
+    ensures { result ≡ first_failing (remove_rules (T.tree tree.now) users.now call.now) }
+{
+    if is_gone(tree, call.number) {
+        return Some(RuleId::M2);
+    }
+    if call.number == 0 {
+        return Some(RuleId::M3);
+    }
+    if parent_lacks(tree, users, &call.user, Right::Write, call.number) {
+        return Some(RuleId::M4);
+    }
+    if has_entries(tree, call.number) {
+        return Some(RuleId::M5);
+    }
+    None
+}
+
+fn first_of_stat<T: TreeRead>(call: &StatCall, tree: &T) -> Option<RuleId>
+    ensures { result ≡ first_failing (stat_rules (T.tree tree.now) call.now) }
+{
+    if is_gone(tree, call.number) {
+        return Some(RuleId::H2);
+    }
+    None
+}
+
+/// The first rule of the run that the call fails, if any. It takes no memory.
+#[tactic(auto, unfolding(crate::specs::Calls::first))]
+pub fn first_failing<T: TreeRead>(
+    call: &Call,
+    tree: &T,
+    opens: &[OpenFile],
+    users: &Users,
+) -> Option<RuleId>
+    ensures { result ≡ first (state (T.tree tree.now) opens.now users.now) call.now }
+{
+    match call {
+        Call::Attach(call) => first_of_attach(call, users),
+        Call::Walk(call) => first_of_walk(call, tree, users),
+        Call::Open(call) => first_of_open(call, tree, opens, users),
+        Call::Create(call) => first_of_create(call, tree, users),
+        Call::Read(call) => first_of_read(call, tree),
+        Call::Write(call) => first_of_write(call, tree),
+        Call::Close(_) => None,
+        Call::Remove(call) => first_of_remove(call, tree, users),
+        Call::Stat(call) => first_of_stat(call, tree),
+        Call::Wstat(call) => first_of_wstat(call, tree, users),
+    }
+}

@@ -1,0 +1,38 @@
+//! The calls on a run as plain values, and the rules of every call: those that look at a
+//! connection's fids, and those that look at a run's tree, its opens and the users.
+#![tactic(auto)]
+
+pub mod call;
+pub mod changes;
+mod first;
+pub mod laws;
+pub mod mode;
+mod read;
+pub mod request;
+pub mod rules;
+mod shown;
+mod table;
+#[cfg(test)]
+mod tests;
+mod tree_name;
+mod walk;
+mod wstat;
+
+pub use call::{
+    AttachCall, Call, CloseCall, CreateCall, OpenCall, OpenFile, ReadCall, RemoveCall, StatCall,
+    WalkCall, WriteCall, WstatCall,
+};
+pub use changes::{new_group, new_length, new_mode, new_mtime, new_name};
+pub use first::{first_failing, first_of_walk};
+pub use laws::{
+    first_entry_tells, first_rule_of_two_lists, first_rule_that_fails, what_is_kept_needs_no_right,
+};
+pub use read::name_before;
+pub use request::Request;
+pub use shown::{
+    entry_size, entry_stat, qid_at, qid_known, qid_of, shown_name, stat_of_file, stat_ref,
+    stat_size, told_length,
+};
+pub use table::first_of_table;
+pub use tree_name::TreeName;
+pub use walk::{element, element_of};

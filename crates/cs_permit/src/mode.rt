@@ -1,0 +1,94 @@
+//! The modes of opens, and the permissions that a client may give (open(5), stat(5)).
+ghost use Rattle.std.specs.Prelude.{◌≡◌};
+ghost use Rattle.cs_permit.specs.Modes.{are_bad_permissions, asks_execute, asks_read, asks_write, covers_read, covers_write, given_bits, has_bit_outside, is_append_or_exclusive, is_bad_open_mode, removes_on_close, truncates};
+
+use cs_tree_model::{DMAPPEND, DMDIR, DMEXCL, DMTMP, is_directory_mode};
+use cs_users::has_bit;
+
+/// Open mode: the file is emptied.
+pub const OTRUNC: u8 = 0x10;
+/// Open mode: the file is removed when it is closed.
+pub const ORCLOSE: u8 = 0x40;
+/// All bits that an open's mode may have: the low two, OTRUNC and ORCLOSE.
+pub const OPEN_BITS: u8 = 0x53;
+/// All bits that a client may give a file.
+pub const GIVEN_BITS: u32 = DMDIR | DMAPPEND | DMEXCL | DMTMP | 0o777;
+
+/// Whether an open in that mode is to read.
+pub fn asks_read(mode: u8) -> bool
+    ensures { result ≡ asks_read mode }
+{
+    mode % 4 == 0 || mode % 4 == 2
+}
+
+/// Whether an open in that mode is to write, or to empty the file.
+pub fn asks_write(mode: u8) -> bool
+    ensures { result ≡ asks_write mode }
+{
+    covers_write(mode) || truncates(mode)
+}
+
+/// Whether an open in that mode is to execute.
+pub fn asks_execute(mode: u8) -> bool
+    ensures { result ≡ asks_execute mode }
+{
+    mode % 4 == 3
+}
+
+/// Whether an open in that mode empties the file.
+pub fn truncates(mode: u8) -> bool
+    ensures { result ≡ truncates mode }
+{
+    mode & OTRUNC != 0
+}
+
+/// Whether the end of an open in that mode removes the file.
+pub fn removes_on_close(mode: u8) -> bool
+    ensures { result ≡ removes_on_close mode }
+{
+    mode & ORCLOSE != 0
+}
+
+/// Whether an open in that mode covers a read. What may be executed may be read.
+pub fn covers_read(mode: u8) -> bool
+    ensures { result ≡ covers_read mode }
+{
+    asks_read(mode) || asks_execute(mode)
+}
+
+/// Whether an open in that mode covers a write.
+pub fn covers_write(mode: u8) -> bool
+    ensures { result ≡ covers_write mode }
+{
+    mode % 4 == 1 || mode % 4 == 2
+}
+
+/// Whether no open can have that mode.
+pub fn is_bad_open_mode(mode: u8) -> bool
+    ensures { result ≡ is_bad_open_mode mode }
+{
+    mode & OPEN_BITS != mode
+}
+
+/// Whether the mode is that of a file that only grows, or that one fid at a time may have open.
+pub fn is_append_or_exclusive(mode: u32) -> bool
+    ensures { result ≡ is_append_or_exclusive mode }
+{
+    has_bit(mode, DMAPPEND) || has_bit(mode, DMEXCL)
+}
+
+/// Whether the permissions have a bit that no client may give.
+pub fn has_bit_outside(mode: u32) -> bool
+    ensures { result ≡ has_bit_outside given_bits mode }
+{
+    mode & GIVEN_BITS != mode
+}
+
+/// Whether no file can be made with these permissions and opened in that mode.
+pub fn are_bad_permissions(perm: u32, mode: u8) -> bool
+    ensures { result ≡ are_bad_permissions perm mode }
+{
+    has_bit_outside(perm)
+        || (is_directory_mode(perm) && is_append_or_exclusive(perm))
+        || (is_directory_mode(perm) && mode != 0)
+}

@@ -1,0 +1,57 @@
+//! The rules of a read: of a directory it begins at its first entry or where the last read ended, and
+//! gives whole entries (read(5)).
+ghost use Rattle.std.specs.Prelude.{◌≡◌, option_copied};
+ghost use Rattle.cs_permit.specs.Reads.{is_good_offset, name_before, needs_more, read_rules};
+ghost use Rattle.cs_permit.specs.Refusals.{first_failing};
+
+use crate::call::ReadCall;
+use crate::rules::is_directory;
+use crate::shown::entry_size;
+use cs_names::{Name, RuleId};
+use cs_tree_model::TreeRead;
+
+/// Whether a read of a directory begins where one may.
+fn is_good_offset(call: &ReadCall) -> bool
+    ensures { result ≡ is_good_offset call.now }
+{
+    call.offset == 0 || call.offset == call.place.end
+}
+
+/// The name after which a read of a directory begins.
+pub fn name_before(call: &ReadCall) -> Option<&Name>
+    ensures { option_copied result ≡ name_before call.now }
+{
+    if call.offset == 0 {
+        None
+    } else {
+        call.place.last.as_ref()
+    }
+}
+
+/// Whether an entry remains, and the next one has more bytes than are asked for.
+fn needs_more<T: TreeRead>(tree: &T, call: &ReadCall) -> bool
+    ensures { result ≡ needs_more (T.tree tree.now) call.now }
+{
+    match tree.entry_after(call.number, name_before(call), None) {
+        Some(entry) => entry_size(tree, entry) > call.count as usize,
+        None => false,
+    }
+}
+
+pub fn first_of_read<T: TreeRead>(call: &ReadCall, tree: &T) -> Option<RuleId>
+    ensures { result ≡ first_failing (read_rules (T.tree tree.now) call.now) }
+{
+    let Some(file) = tree.record(call.number) else {
+        return Some(RuleId::G3);
+    };
+    if !is_directory(&file) {
+        return None;
+    }
+    if !is_good_offset(call) {
+        return Some(RuleId::G4);
+    }
+    if needs_more(tree, call) {
+        return Some(RuleId::G5);
+    }
+    None
+}

@@ -1,0 +1,72 @@
+//! The tests that the rules of many calls are made of.
+ghost use Rattle.std.specs.Prelude.{◌≡◌};
+ghost use Rattle.cs_tree_model.specs.Record.{lent};
+ghost use Rattle.cs_permit.specs.Rules.{is_append_only, is_directory, is_exclusive, is_gone, may, parent_lacks};
+
+use cs_names::UserName;
+use cs_tree_model::{DMAPPEND, DMEXCL, Kind, Metadata, TreeRead};
+use cs_users::{Right, Users, has_bit};
+
+/// Whether it is a directory's.
+pub fn is_directory(file: &Metadata) -> bool
+    ensures { result ≡ is_directory (lent file.now) }
+{
+    match file.kind {
+        Kind::Directory => true,
+        Kind::File { .. } => false,
+    }
+}
+
+/// Whether all writes go to the file's end.
+pub fn is_append_only(file: &Metadata) -> bool
+    ensures { result ≡ is_append_only (lent file.now) }
+{
+    has_bit(file.mode, DMAPPEND)
+}
+
+/// Whether one fid at a time may have the file open.
+pub fn is_exclusive(file: &Metadata) -> bool
+    ensures { result ≡ is_exclusive (lent file.now) }
+{
+    has_bit(file.mode, DMEXCL)
+}
+
+/// Whether no file has the number.
+pub fn is_gone<T: TreeRead>(tree: &T, number: u64) -> bool
+    ensures { result ≡ is_gone (T.tree tree.now) number }
+{
+    tree.record(number).is_none()
+}
+
+/// Whether the user has the right on the file.
+pub fn may(users: &Users, user: &UserName, right: Right, file: &Metadata) -> bool
+    ensures { result ≡ may users.now user.now right (lent file.now) }
+{
+    cs_users::has_right(
+        users,
+        user.as_bytes(),
+        file.owner.as_bytes(),
+        file.group.as_bytes(),
+        file.mode,
+        right,
+    )
+}
+
+/// Whether the user has not the right on the directory of the file. The root's is the root.
+pub fn parent_lacks<T: TreeRead>(
+    tree: &T,
+    users: &Users,
+    user: &UserName,
+    right: Right,
+    number: u64,
+) -> bool
+    ensures { result ≡ parent_lacks (T.tree tree.now) users.now user.now right number }
+{
+    let Some(parent) = tree.parent_of(number) else {
+        return false;
+    };
+    match tree.record(parent) {
+        Some(directory) => !may(users, user, right, &directory),
+        None => false,
+    }
+}

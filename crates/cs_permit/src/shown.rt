@@ -1,0 +1,196 @@
+//! What a client is shown of a file: its qid, its name, what a stat tells of it, and the size of its
+//! entry in a read of its directory (stat(5), read(5)).
+ghost use Rattle.std.specs.Prelude.{◌≡◌, ◌/◌, IfSome, length};
+ghost use Rattle.std.specs.Option.{option_map};
+ghost use Rattle.cs_tree_model.specs.Nexts.{entry_name};
+ghost use Rattle.cs_tree_model.specs.Record.{lent};
+ghost use Rattle.cs_wire.specs.Fields.{IsIn};
+ghost use Rattle.cs_wire.specs.Messages.{qid_of as qid_value, stat_entry, stat_in as fields_of};
+ghost use Rattle.cs_permit.specs.Shown.{entry_of, qid_at, qid_of, qid_or_zeros, shown_name, stat_as, stat_at, stat_of_file, told_length};
+ghost use Rattle.cs_permit.specs.Sizes.{IsQid, IsShown, IsStat, numbers_shape};
+
+use cs_names::limits::{NAME_BYTES, USER_NAME_BYTES};
+use cs_names::{Name, UserName};
+use cs_tree_model::{Entry, Kind, Metadata, TreeRead};
+use cs_wire::{Qid, StatRef};
+
+/// Bytes of a stat entry beside those of its texts.
+const FIXED_BYTES: usize = 49;
+
+/// A bound on the bytes of a stat in a reply (stat(5)): no file's is longer.
+pub const STAT_BYTES: usize = 600;
+
+/// The qid of a file (intro(5)).
+pub fn qid_of(file: &Metadata) -> Qid
+    ensures value { result ≡ qid_of (lent file.now) }
+    ensures fits { IsQid result }
+{
+    qid_from(file.mode, file.vers, file.number)
+}
+
+fn qid_from(mode: u32, vers: u32, number: u64) -> Qid
+    ensures kind { result.kind ≡ mode / 0x1000000 }
+    ensures rest { (result.vers ≡ vers) × (result.path ≡ number) }
+    ensures fits { IsQid result }
+{
+    Qid {
+        kind: (mode >> 24) as u8,
+        vers,
+        path: number,
+    }
+}
+
+/// The qid of a file of which the tree tells this, or zeros where there is none.
+pub fn qid_known(file: Option<Metadata>) -> Qid
+    ensures value { result ≡ qid_or_zeros (option_map lent file.entry) }
+    ensures fits { IsQid result }
+{
+    match file {
+        Some(file) => qid_of(&file),
+        None => Qid {
+            kind: 0,
+            vers: 0,
+            path: 0,
+        },
+    }
+}
+
+/// The qid of the file of a number, or zeros where no file has it.
+pub fn qid_at<T: TreeRead>(tree: &T, number: u64) -> Qid
+    ensures value { result ≡ qid_at (T.tree tree.now) number }
+    ensures fits { IsQid result }
+{
+    qid_known(tree.record(number))
+}
+
+/// A name, as a text that a message can have.
+pub fn name_text(name: &Name) -> &str
+    ensures value { result.now ≡ name.now }
+    ensures shown { IsShown NAME_BYTES result.now }
+{
+    name.as_str()
+}
+
+/// The name that a file has in its directory, and `/` for the root.
+pub fn shown_name<T: TreeRead>(tree: &T, number: u64) -> &str
+    ensures value { result.now ≡ shown_name (T.tree tree.now) number }
+    ensures shown { IsShown NAME_BYTES result.now }
+{
+    match tree.name_of(number) {
+        Some(name) => name_text(name),
+        None => "/",
+    }
+}
+
+/// The length that a stat tells: of a directory 0.
+pub fn told_length(kind: Kind) -> u64
+    ensures { result ≡ told_length kind }
+{
+    match kind {
+        Kind::Directory => 0,
+        Kind::File { length } => length,
+    }
+}
+
+fn shown(user: &UserName) -> &str
+    ensures value { result.now ≡ user.now }
+    ensures shown { IsShown USER_NAME_BYTES result.now }
+{
+    user.as_str()
+}
+
+/// The texts of a stat.
+#[derive(Clone, Copy)]
+struct Texts<'a> {
+    name: &'a str,
+    uid: &'a str,
+    gid: &'a str,
+    muid: &'a str,
+}
+
+fn stat_with<'a>(
+    qid: Qid,
+    mode: u32,
+    atime: u32,
+    mtime: u32,
+    length: u64,
+    texts: Texts<'a>,
+) -> StatRef<'a>
+    requires { IsQid qid }
+    ensures value { fields_of result ≡ (0, (0, (qid_value qid, (mode, (atime, (mtime, (length, (texts.entry.name.now, (texts.entry.uid.now, (texts.entry.gid.now, texts.entry.muid.now)))))))))) }
+    ensures fits { IsIn numbers_shape (0, (0, (qid_value qid, (mode, (atime, (mtime, length)))))) }
+{
+    StatRef {
+        kind: 0,
+        dev: 0,
+        qid,
+        mode,
+        atime,
+        mtime,
+        length,
+        name: texts.name,
+        uid: texts.uid,
+        gid: texts.gid,
+        muid: texts.muid,
+    }
+}
+
+/// What a stat tells of a file of that name, lent. It takes no memory.
+pub fn stat_of_file<'a>(name: &'a str, file: &Metadata<'a>) -> StatRef<'a>
+    requires { IsShown NAME_BYTES name.now }
+    ensures value { fields_of result ≡ stat_of_file name.now (lent file.now) }
+    ensures fits { IsStat STAT_BYTES (fields_of result) }
+{
+    let texts = Texts {
+        name,
+        uid: shown(file.owner),
+        gid: shown(file.group),
+        muid: shown(file.muid),
+    };
+    let length = told_length(file.kind);
+    stat_with(
+        qid_of(file),
+        file.mode,
+        file.atime,
+        file.mtime,
+        length,
+        texts,
+    )
+}
+
+/// What a stat tells of the file of a number, lent; None where no file has it. It takes no memory.
+pub fn stat_ref<T: TreeRead>(tree: &T, number: u64) -> Option<StatRef<'_>>
+    ensures value { option_map fields_of result ≡ stat_at (T.tree tree.now) number }
+    ensures fits { IfSome result (λ stat. IsStat STAT_BYTES (fields_of stat)) }
+{
+    let file = tree.record(number)?;
+    let name = shown_name(tree, number);
+    Some(stat_of_file(name, &file))
+}
+
+/// How many bytes an entry takes in a read of its directory, by what a stat tells of its file.
+pub fn stat_size(stat: &StatRef) -> usize
+    requires { IsStat STAT_BYTES (fields_of stat.now) }
+    ensures { result ≡ length (stat_entry (fields_of stat.now)) }
+{
+    FIXED_BYTES + stat.name.len() + stat.uid.len() + stat.gid.len() + stat.muid.len()
+}
+
+/// What a stat tells of an entry of a directory, lent. It takes no memory.
+pub fn entry_stat<'a, T: TreeRead>(tree: &'a T, entry: Entry<'a>) -> Option<StatRef<'a>>
+    ensures value { option_map fields_of result ≡ stat_as (T.tree tree.now) entry.entry.number (entry_name entry.entry) }
+    ensures fits { IfSome result (λ stat. IsStat STAT_BYTES (fields_of stat)) }
+{
+    let file = tree.record(entry.number)?;
+    Some(stat_of_file(name_text(entry.name), &file))
+}
+
+/// How many bytes an entry of a directory takes in a read of it.
+pub fn entry_size<T: TreeRead>(tree: &T, entry: Entry) -> usize
+    ensures { result ≡ length (entry_of (stat_as (T.tree tree.now) entry.entry.number (entry_name entry.entry))) }
+{
+    match entry_stat(tree, entry) {
+        Some(stat) => stat_size(&stat),
+        None => 0,
+    }
+}

@@ -1,0 +1,187 @@
+//! The first rule of a request on a connection's fids that fails, without taking memory.
+ghost use Rattle.std.specs.Prelude.{◌≡◌, ◌∷◌, []};
+ghost use Rattle.cs_permit.specs.Refusals.{first_failing};
+ghost use Rattle.cs_permit.specs.Table.{attach_table_rules, create_table_rules, first_of_table, is_full, is_open, is_unknown, may_be_read, may_be_written, open_mode, open_table_rules, read_table_rules, walk_table_rules, write_table_rules};
+
+use crate::mode::{are_bad_permissions, covers_read, covers_write, is_bad_open_mode};
+use crate::request::Request;
+use crate::tree_name::TreeName;
+use cs_fids::{Entry, FidTable, NOFID};
+use cs_names::limits::FIDS;
+use cs_names::{Name, RuleId};
+
+fn is_unknown(fids: &FidTable, fid: u32) -> bool
+    ensures { result ≡ is_unknown fids.now.fids fid }
+{
+    fids.look(fid).is_none()
+}
+
+/// The mode of the fid's open, if it is open.
+fn open_mode(fids: &FidTable, fid: u32) -> Option<u8>
+    ensures { result ≡ open_mode fids.now.fids fid }
+{
+    match fids.look(fid) {
+        Some(Entry::Opened(opened)) => Some(opened.mode()),
+        Some(Entry::Walked(_)) => None,
+        None => None,
+    }
+}
+
+fn is_open(fids: &FidTable, fid: u32) -> bool
+    ensures { result ≡ is_open fids.now.fids fid }
+{
+    open_mode(fids, fid).is_some()
+}
+
+fn is_full(fids: &FidTable) -> bool
+    ensures { result ≡ is_full fids.now.fids }
+{
+    fids.len() >= FIDS
+}
+
+fn first_of_attach(fids: &FidTable, fid: u32, afid: u32, aname: &str) -> Option<RuleId>
+    ensures { result ≡ first_failing (attach_table_rules fids.now.fids fid afid aname.now) }
+{
+    if !is_unknown(fids, fid) || fid == NOFID || is_full(fids) {
+        return Some(RuleId::A1);
+    }
+    if afid != NOFID {
+        return Some(RuleId::A2);
+    }
+    if TreeName::read(aname.as_bytes()).is_none() {
+        return Some(RuleId::A3);
+    }
+    None
+}
+
+fn first_of_walk(fids: &FidTable, fid: u32, newfid: u32) -> Option<RuleId>
+    ensures { result ≡ first_failing (walk_table_rules fids.now.fids fid newfid) }
+{
+    if is_unknown(fids, fid) {
+        return Some(RuleId::K1);
+    }
+    if is_open(fids, fid) {
+        return Some(RuleId::K2);
+    }
+    if newfid == NOFID || (!is_unknown(fids, newfid) && newfid != fid) {
+        return Some(RuleId::K3);
+    }
+    if newfid != fid && is_full(fids) {
+        return Some(RuleId::K4);
+    }
+    None
+}
+
+fn first_of_open(fids: &FidTable, fid: u32, mode: u8) -> Option<RuleId>
+    ensures { result ≡ first_failing (open_table_rules fids.now.fids fid mode) }
+{
+    if is_unknown(fids, fid) {
+        return Some(RuleId::O1);
+    }
+    if is_open(fids, fid) {
+        return Some(RuleId::O2);
+    }
+    if is_bad_open_mode(mode) {
+        return Some(RuleId::O3);
+    }
+    None
+}
+
+fn first_of_create(fids: &FidTable, fid: u32, name: &str, perm: u32, mode: u8) -> Option<RuleId>
+    ensures { result ≡ first_failing (create_table_rules fids.now.fids fid name.now perm mode) }
+{
+    if is_unknown(fids, fid) {
+        return Some(RuleId::C1);
+    }
+    if is_open(fids, fid) {
+        return Some(RuleId::C2);
+    }
+    if is_bad_open_mode(mode) {
+        return Some(RuleId::C3);
+    }
+    if Name::check(name.as_bytes()).is_err() {
+        return Some(RuleId::C4);
+    }
+    if are_bad_permissions(perm, mode) {
+        return Some(RuleId::C5);
+    }
+    None
+}
+
+/// Whether the fid is open in a mode that covers a read.
+fn may_be_read(fids: &FidTable, fid: u32) -> bool
+    ensures { result ≡ may_be_read fids.now.fids fid }
+{
+    match open_mode(fids, fid) {
+        Some(mode) => covers_read(mode),
+        None => false,
+    }
+}
+
+fn first_of_read(fids: &FidTable, fid: u32) -> Option<RuleId>
+    ensures { result ≡ first_failing (read_table_rules fids.now.fids fid) }
+{
+    if is_unknown(fids, fid) {
+        return Some(RuleId::G1);
+    }
+    if !may_be_read(fids, fid) {
+        return Some(RuleId::G2);
+    }
+    None
+}
+
+/// Whether the fid is open in a mode that covers a write.
+fn may_be_written(fids: &FidTable, fid: u32) -> bool
+    ensures { result ≡ may_be_written fids.now.fids fid }
+{
+    match open_mode(fids, fid) {
+        Some(mode) => covers_write(mode),
+        None => false,
+    }
+}
+
+fn first_of_write(fids: &FidTable, fid: u32) -> Option<RuleId>
+    ensures { result ≡ first_failing (write_table_rules fids.now.fids fid) }
+{
+    if is_unknown(fids, fid) {
+        return Some(RuleId::E1);
+    }
+    if !may_be_written(fids, fid) {
+        return Some(RuleId::E2);
+    }
+    None
+}
+
+/// The rule, where the number stands for no fid.
+fn known_or(fids: &FidTable, fid: u32, rule: RuleId) -> Option<RuleId>
+    ensures { result ≡ first_failing ((rule, is_unknown fids.now.fids fid) ∷ []) }
+{
+    if is_unknown(fids, fid) {
+        return Some(rule);
+    }
+    None
+}
+
+/// The first rule of the connection that the request fails, if any. It takes no memory.
+#[tactic(auto, unfolding(crate::specs::Table::first_of_table))]
+pub fn first_of_table(request: &Request, fids: &FidTable) -> Option<RuleId>
+    ensures { result ≡ first_of_table fids.now.fids request.now }
+{
+    match *request {
+        Request::Attach { fid, afid, aname } => first_of_attach(fids, fid, afid, aname),
+        Request::Walk { fid, newfid } => first_of_walk(fids, fid, newfid),
+        Request::Open { fid, mode } => first_of_open(fids, fid, mode),
+        Request::Create {
+            fid,
+            name,
+            perm,
+            mode,
+        } => first_of_create(fids, fid, name, perm, mode),
+        Request::Read { fid } => first_of_read(fids, fid),
+        Request::Write { fid } => first_of_write(fids, fid),
+        Request::Clunk { fid } => known_or(fids, fid, RuleId::N1),
+        Request::Remove { fid } => known_or(fids, fid, RuleId::M1),
+        Request::Stat { fid } => known_or(fids, fid, RuleId::H1),
+        Request::Wstat { fid } => known_or(fids, fid, RuleId::Q1),
+    }
+}

@@ -1,0 +1,61 @@
+//! The name of a tree, as an attach gives it: a state's number, a slash, and a run's name.
+ghost use Rattle.std.specs.Prelude.{◌≡◌, MatchOption, None, Some};
+ghost use Rattle.std.specs.List.{list_all};
+ghost use Rattle.cs_permit.specs.TreeNames.{is_digit, is_state_number, is_zero, tree_name_in};
+
+use cs_names::{Pieces, RunName};
+
+/// The two parts of a tree's name.
+#[derive(Clone, Copy, Debug)]
+pub struct TreeName<'a> {
+    /// The digits of the state's number.
+    pub state: &'a [u8],
+    /// The name of the run.
+    pub run: &'a [u8],
+}
+
+fn has_digits_alone(bytes: &[u8]) -> bool
+    ensures { result ≡ list_all is_digit bytes.now }
+{
+    bytes.iter().all(|c| c.is_ascii_digit())
+}
+
+fn is_zero(bytes: &[u8]) -> bool
+    ensures { result ≡ is_zero bytes.now }
+{
+    bytes == b"0".as_slice()
+}
+
+fn is_state_number(bytes: &[u8]) -> bool
+    ensures { result ≡ is_state_number bytes.now }
+{
+    match bytes.first() {
+        None => false,
+        Some(first) => {
+            bytes.len() <= 5 && has_digits_alone(bytes) && (*first != b'0' || bytes.len() == 1)
+        }
+    }
+}
+
+impl<'a> TreeName<'a> {
+    /// The parts of an aname: a number of 1 to 5 digits with no zero before others, a slash, and the
+    /// name of a run; None where it has not this form. It takes no memory.
+    pub fn read(aname: &'a [u8]) -> Option<TreeName<'a>>
+        ensures { MatchOption result (tree_name_in aname.now ≡ None) (λ name. tree_name_in aname.now ≡ Some (name.state.now, name.run.now)) }
+    {
+        let mut pieces = Pieces::of(aname, b'/');
+        let state = pieces.next()?;
+        let run = pieces.next()?;
+        if pieces.next().is_some() || !is_state_number(state) || !RunName::is_legal(run) {
+            return None;
+        }
+        Some(TreeName { state, run })
+    }
+
+    /// Whether it names state 0.
+    pub fn is_of_state_zero(&self) -> bool
+        ensures { result ≡ is_zero self.now.state.now }
+    {
+        is_zero(self.state)
+    }
+}

@@ -1,0 +1,80 @@
+//! One element of a walk (walk(5)).
+ghost use Rattle.std.specs.Prelude.{◌≡◌};
+ghost use Rattle.std.specs.Option.{option_map};
+ghost use Rattle.cs_tree_model.specs.Record.{lent};
+ghost use Rattle.cs_permit.specs.Refusals.{first_failing};
+ghost use Rattle.cs_permit.specs.Rules.{file_at};
+ghost use Rattle.cs_permit.specs.Walks.{element, element_rules, is_up, next};
+
+use crate::rules::{is_directory, may};
+use cs_names::{Name, RuleId, UserName};
+use cs_tree_model::{Metadata, TreeRead};
+use cs_users::{Right, Users};
+
+fn is_up(name: &str) -> bool
+    ensures { result ≡ is_up name.now }
+{
+    name == ".."
+}
+
+/// Where a name leads from a directory: `..` to its parent, another legal name to its entry.
+fn next_number<T: TreeRead>(tree: &T, number: u64, name: &str) -> Option<u64>
+    ensures { result ≡ next (T.tree tree.now) number name.now }
+{
+    if is_up(name) {
+        return tree.parent_of(number);
+    }
+    let name = Name::check(name.as_bytes()).ok()?;
+    tree.find_number(number, name)
+}
+
+/// One element of a walk from the file of that number, of which the tree tells this: where it leads, or
+/// the rule that stops it. It takes no memory, and looks up a name and no record.
+pub fn element_of<T: TreeRead>(
+    tree: &T,
+    users: &Users,
+    user: &UserName,
+    number: u64,
+    file: Option<Metadata>,
+    name: &str,
+) -> Result<u64, RuleId>
+    requires { option_map lent file ≡ file_at (T.tree tree.now) number }
+    ensures { result ≡ element (T.tree tree.now) users.now user.now number name.now }
+{
+    if let Some(file) = file {
+        if !is_directory(&file) {
+            return Err(RuleId::K6);
+        }
+        if !may(users, user, Right::Execute, &file) {
+            return Err(RuleId::K7);
+        }
+    }
+    next_number(tree, number, name).ok_or(RuleId::K8)
+}
+
+/// One element of a walk from the file of that number: where it leads, or the rule that stops it. It
+/// takes no memory.
+pub fn element<T: TreeRead>(
+    tree: &T,
+    users: &Users,
+    user: &UserName,
+    number: u64,
+    name: &str,
+) -> Result<u64, RuleId>
+    ensures { result ≡ element (T.tree tree.now) users.now user.now number name.now }
+{
+    element_of(tree, users, user, number, tree.record(number), name)
+}
+
+/// The rule that stops one element of a walk, if any does.
+pub fn first_of_element<T: TreeRead>(
+    tree: &T,
+    users: &Users,
+    user: &UserName,
+    number: u64,
+    name: &str,
+) -> Option<RuleId>
+    ensures { result ≡ first_failing (element_rules (T.tree tree.now) users.now user.now number name.now) }
+{
+    element(tree, users, user, number, name).err()
+}

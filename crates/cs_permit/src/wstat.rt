@@ -1,0 +1,149 @@
+//! The rules of a wstat (stat(5)).
+ghost use Rattle.std.specs.Prelude.{◌≡◌};
+ghost use Rattle.cs_tree_model.specs.Record.{lent};
+ghost use Rattle.cs_permit.specs.Refusals.{first_failing};
+ghost use Rattle.cs_permit.specs.Wstats.{field_rules, group_rules, is_bad_mode, is_owner_or_leader, length_rules, may_give, mode_rules, name_rules, number_beside, wstat_rules};
+
+use crate::call::WstatCall;
+use crate::changes::{
+    changes_attributes, changes_fixed, new_group, new_length, new_mode, new_name,
+};
+use crate::mode::{has_bit_outside, is_append_or_exclusive};
+use crate::rules::{is_directory, may, parent_lacks};
+use cs_names::limits::FILE_BYTES;
+use cs_names::{Name, RuleId, UserName};
+use cs_tree_model::{DMDIR, Metadata, TreeRead};
+use cs_users::{Right, Users, owns};
+
+/// The number of the file of that name in the directory of a file.
+fn number_beside<T: TreeRead>(tree: &T, number: u64, name: &str) -> Option<u64>
+    ensures { result ≡ number_beside (T.tree tree.now) number name.now }
+{
+    let parent = tree.parent_of(number)?;
+    tree.find_number(parent, name)
+}
+
+#[tactic(auto, unfolding(crate::specs::Wstats::name_rules))]
+fn first_of_name<T: TreeRead>(call: &WstatCall, tree: &T, users: &Users) -> Option<RuleId>
+    ensures { result ≡ first_failing (name_rules (T.tree tree.now) users.now call.now) }
+{
+    let name = new_name(tree, call)?;
+    if call.number == 0 {
+        return Some(RuleId::Q4);
+    }
+    if Name::check(name.as_bytes()).is_err() {
+        return Some(RuleId::Q5);
+    }
+    if parent_lacks(tree, users, &call.user, Right::Write, call.number) {
+        return Some(RuleId::Q6);
+    }
+    if number_beside(tree, call.number, name).is_some() {
+        return Some(RuleId::Q7);
+    }
+    None
+}
+
+#[tactic(auto, unfolding(crate::specs::Wstats::length_rules))]
+pub fn first_of_length(call: &WstatCall, users: &Users, file: &Metadata) -> Option<RuleId>
+    ensures { result ≡ first_failing (length_rules users.now call.now (lent file.now)) }
+{
+    let length = new_length(call, file)?;
+    if is_directory(file) {
+        return Some(RuleId::Q8);
+    }
+    if !may(users, &call.user, Right::Write, file) {
+        return Some(RuleId::Q9);
+    }
+    if length > FILE_BYTES {
+        return Some(RuleId::Q10);
+    }
+    None
+}
+
+/// Whether the file can't have that mode.
+fn is_bad_mode(file: &Metadata, mode: u32) -> bool
+    ensures { result ≡ is_bad_mode (lent file.now) mode }
+{
+    has_bit_outside(mode)
+        || mode & DMDIR != file.mode & DMDIR
+        || (is_directory(file) && is_append_or_exclusive(mode))
+}
+
+fn is_owner_or_leader(users: &Users, user: &UserName, file: &Metadata) -> bool
+    ensures { result ≡ is_owner_or_leader users.now user.now (lent file.now) }
+{
+    owns(user.as_bytes(), file.owner.as_bytes())
+        || users.is_leader(user.as_bytes(), file.group.as_bytes())
+}
+
+#[tactic(auto, unfolding(crate::specs::Wstats::mode_rules))]
+pub fn first_of_mode(call: &WstatCall, users: &Users, file: &Metadata) -> Option<RuleId>
+    ensures { result ≡ first_failing (mode_rules users.now call.now (lent file.now)) }
+{
+    if let Some(mode) = new_mode(call, file) {
+        if is_bad_mode(file, mode) {
+            return Some(RuleId::Q11);
+        }
+    }
+    if changes_attributes(call, file) && !is_owner_or_leader(users, &call.user, file) {
+        return Some(RuleId::Q12);
+    }
+    None
+}
+
+/// Whether the user may give the file that group.
+fn may_give(users: &Users, user: &UserName, file: &Metadata, group: &str) -> bool
+    ensures { result ≡ may_give users.now user.now (lent file.now) group.now }
+{
+    let user = user.as_bytes();
+    (owns(user, file.owner.as_bytes()) && users.is_member(user, group.as_bytes()))
+        || (users.is_leader(user, file.group.as_bytes()) && users.is_leader(user, group.as_bytes()))
+}
+
+#[tactic(auto, unfolding(crate::specs::Wstats::group_rules))]
+pub fn first_of_group(call: &WstatCall, users: &Users, file: &Metadata) -> Option<RuleId>
+    ensures { result ≡ first_failing (group_rules users.now call.now (lent file.now)) }
+{
+    let group = new_group(call, file)?;
+    if !users.knows(group.as_bytes()) {
+        return Some(RuleId::Q13);
+    }
+    if !may_give(users, &call.user, file, group) {
+        return Some(RuleId::Q14);
+    }
+    None
+}
+
+#[tactic(auto, using(crate::proofs::Firsts::first_failing_append))]
+fn first_of_fields<T: TreeRead>(
+    call: &WstatCall,
+    tree: &T,
+    users: &Users,
+    file: &Metadata,
+) -> Option<RuleId>
+    ensures { result ≡ first_failing (field_rules (T.tree tree.now) users.now call.now (lent file.now)) }
+{
+    if let Some(rule) = first_of_name(call, tree, users) {
+        return Some(rule);
+    }
+    if let Some(rule) = first_of_length(call, users, file) {
+        return Some(rule);
+    }
+    if let Some(rule) = first_of_mode(call, users, file) {
+        return Some(rule);
+    }
+    first_of_group(call, users, file)
+}
+
+/// The first rule of a wstat that fails, if any.
+pub fn first_of_wstat<T: TreeRead>(call: &WstatCall, tree: &T, users: &Users) -> Option<RuleId>
+    ensures { result ≡ first_failing (wstat_rules (T.tree tree.now) users.now call.now) }
+{
+    let Some(file) = tree.record(call.number) else {
+        return Some(RuleId::Q2);
+    };
+    if changes_fixed(call, &file) {
+        return Some(RuleId::Q3);
+    }
+    first_of_fields(call, tree, users, &file)
+}

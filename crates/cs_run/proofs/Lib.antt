@@ -1,0 +1,8 @@
+pub mod Bounding
+pub mod Fitting
+pub mod OpenLaws
+pub mod Stopping
+pub mod Trees
+pub mod Versions
+pub mod Ways
+pub mod Wstats

@@ -1,0 +1,13 @@
+use Rattle.std.proofs.Common.{◌+◌, ap, subst, sym}
+use Rattle.cs_run.proofs.Bounding.{room_left}
+use Rattle.cs_run.specs.Laws.{AllVersBelow}
+use Rattle.cs_run.proofs.counted.CountedRun.step.Goals as goal
+
+pub act-requires-clause-vers : goal.act-requires-clause-vers
+act-requires-clause-vers g c =
+    c.versions_can_grow.ensures (c.args.self.now.count + 1) (g.T.TreeRead.tree c.args.self.now.tree) c.args.self.now.bounded (room_left c.args.self.now.count _ c.requires.room)
+
+pub invariant_of-self : goal.invariant_of-self
+invariant_of-self g c =
+    let raised = c.calls_raise_by_one.ensures _ _ _ _ in
+    record { bounded = subst (AllVersBelow (c.args.self.now.count + 1 + 1)) (sym (ap (λ l. l.tree) c.act.ensures.step.1.1)) (raised.versions (c.args.self.now.count + 1) c.args.self.now.bounded) }

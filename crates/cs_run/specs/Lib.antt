@@ -1,0 +1,9 @@
+pub mod Counted
+pub mod Effects
+pub mod Marks
+pub mod Opens
+pub mod Outcomes
+pub mod Pages
+pub mod Walks
+pub mod Stats
+pub mod Laws

@@ -1,0 +1,13 @@
+-- Which growth of a call memory refuses, as data.
+use Rattle.std.specs.Prelude.{Bool, true, false}
+
+-- Whether memory suffices for what a granted call takes.
+pub data CallMark : Type 0 where
+  Ample : CallMark
+  -- a growth that the grant reaches is refused
+  NoRoom : CallMark
+
+-- memory is refused
+abbrev pub is_refused : CallMark → Bool
+is_refused Ample = false
+is_refused NoRoom = true

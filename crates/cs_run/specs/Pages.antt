@@ -1,0 +1,66 @@
+-- What a read gives: bytes of a file, or as many whole entries of a directory as fit (read(5)).
+use Rattle.std.specs.Prelude.{ℕ, ◌+◌, ◌-◌, ◌==◌, nat_le, min, if◌then◌else◌, List, [], ◌∷◌, ◌++◌, Option, None, Some, length, option_copied, unwrap_or}
+use Rattle.cs_fids.specs.declared.place.Place.{Place}
+use Rattle.cs_permit.specs.declared.call.ReadCall.{ReadCall}
+use Rattle.cs_permit.specs.Reads.{name_before}
+use Rattle.cs_permit.specs.Rules.{is_directory, on_file}
+use Rattle.cs_permit.specs.Shown.{entry_bytes}
+use Rattle.cs_run.specs.declared.page.Page.{Page as InMemory}
+use Rattle.cs_tree_model.specs.Nexts.{names_after}
+use Rattle.cs_tree_model.specs.Tree.{NameBytes, Tree, bytes_at}
+
+-- Entries' bytes, and the last name among them.
+pub record Page : Type 0 where
+  pub bytes : List ℕ
+  pub last : Option NameBytes
+
+-- what a page in memory says
+abbrev pub page_of : InMemory → Page
+page_of p = record { bytes = p.bytes.items; last = option_copied p.last }
+
+-- no entry after that name
+abbrev pub no_more : Option NameBytes → Page
+no_more last = record { bytes = []; last = last }
+
+-- some bytes, and the page that follows
+abbrev pub onto : List ℕ → Page → Page
+onto bytes page = record page { bytes = bytes ++ page.bytes }
+
+-- of these names of a directory, which come after the last one, as many whole entries as fit into the room
+abbrev pub page : Tree → ℕ → ℕ → Option NameBytes → List NameBytes → Page
+page t d room last [] = no_more last
+page t d room last (x ∷ xs) =
+    if nat_le (length (entry_bytes t d x)) room
+    then onto (entry_bytes t d x) (page t d (room - length (entry_bytes t d x)) (Some x) xs)
+    else no_more last
+
+-- the same of all names of the directory after the last one
+abbrev pub page_after : Tree → ℕ → ℕ → Option NameBytes → Page
+page_after t d room last = page t d room last (names_after t d last)
+
+-- What a read gives: bytes, and of a directory where its next read goes on, if that moved.
+pub record Given : Type 0 where
+  pub bytes : List ℕ
+  pub place : Option Place
+
+-- the end of a read that gave some bytes; no end is above the greatest offset
+abbrev pub end_after : ℕ → ℕ → ℕ
+end_after start count = min (start + count) 0xFFFFFFFFFFFFFFFF
+
+-- where a directory's next read goes on; a read that gives no entry leaves the place as it was
+abbrev pub place_after : ReadCall → Page → Option Place
+place_after c p = if length p.bytes == 0 then None else Some (record { end = end_after c.offset (length p.bytes); last = p.last })
+
+-- the whole entries of a directory that fit, after the last name given
+abbrev pub entries_given : Tree → ReadCall → Given
+entries_given t c =
+    let p = page_after t c.number c.count (name_before c) in
+    record { bytes = p.bytes; place = place_after c p }
+
+-- at most so many bytes of a file, from the offset on
+abbrev pub bytes_given : Tree → ReadCall → Given
+bytes_given t c = record { bytes = unwrap_or (bytes_at t c.number c.offset c.count) []; place = None }
+
+-- what a read gives
+abbrev pub given : Tree → ReadCall → Given
+given t c = if on_file t c.number is_directory then entries_given t c else bytes_given t c

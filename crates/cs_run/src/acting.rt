@@ -1,0 +1,106 @@
+//! A call of a run: by the rules, and if there is memory.
+ghost use Rattle.std.specs.Prelude.{◌≡◌, ◌<◌, ◌^◌, ℕ, IfOk, OnErr, true};
+ghost use Rattle.cs_permit.specs.Calls.{first, rules_of, state};
+ghost use Rattle.cs_permit.specs.Refusals.{AllPass};
+ghost use Rattle.cs_run.specs.Effects.{effect_of, left};
+ghost use Rattle.cs_run.specs.Laws.{FitsCall};
+ghost use Rattle.cs_run.specs.Marks.{CallMark};
+ghost use Rattle.cs_run.specs.Opens.{released_if};
+ghost use Rattle.cs_run.specs.Outcomes.{closes, outcome, stepped, takes_memory};
+ghost use Rattle.cs_tree_model.specs.Stores.{CanStamp};
+
+use crate::answer::{Answer, Outcome};
+use crate::closing::act_close;
+use crate::creating::act_create;
+use crate::opening::act_open;
+use crate::opens::release_if;
+use crate::reading::read;
+use crate::removing::act_remove;
+use crate::stating::act_stat;
+use crate::turn::Turn;
+use crate::walking::{act_walk, walk};
+use crate::writing::act_write;
+use crate::wstating::act_wstat;
+use cs_permit::{Call, OpenFile, first_failing, first_rule_that_fails, qid_at};
+use cs_tree_model::TreeStore;
+use cs_users::Users;
+use std::alloc::{AllocError, Global};
+
+/// Does a call that no rule denies.
+fn grant<T: TreeStore>(
+    alloc: Global,
+    call: &Call,
+    tree: &mut T,
+    opens: &mut Vec<OpenFile>,
+    users: &Users,
+    turn: Turn,
+) -> Result<Answer, AllocError>
+    requires granted { AllPass (rules_of (state (T.tree tree.old) opens.old.items users.now) call.now) }
+    requires vers { (n : ℕ) → CanStamp (T.tree tree.old) n }
+    requires next { (T.tree tree.old).next < 2 ^ 64 }
+    ensures ok { IfOk result (λ answer. left (T.tree tree.new) opens.new.items answer ≡ effect_of (state (T.tree tree.old) opens.old.items users.now) turn call.now) }
+    ensures memory { OnErr result (takes_memory (state (T.tree tree.old) opens.old.items users.now) turn call.now ≡ true) }
+    ensures err { OnErr result ((T.tree tree.new ≡ T.tree tree.old) × (opens.new.items ≡ released_if (closes call.now) turn.pass opens.old.items)) }
+{
+    match call {
+        Call::Attach(_) => Ok(Answer::Attached(qid_at(tree, 0))),
+        Call::Walk(call) => Ok(Answer::Walked(walk(alloc, call, tree, users)?)),
+        Call::Open(call) => act_open(alloc, call, tree, opens, users, turn),
+        Call::Create(call) => act_create(alloc, call, tree, opens, users, turn),
+        Call::Read(call) => Ok(Answer::Data(read(alloc, call, tree)?)),
+        Call::Write(call) => act_write(alloc, call, tree, opens, turn),
+        Call::Close(call) => act_close(alloc, call, tree, opens, turn),
+        Call::Remove(call) => act_remove(alloc, call, tree, opens, users, turn),
+        Call::Stat(call) => act_stat(alloc, call, tree),
+        Call::Wstat(call) => act_wstat(alloc, call, tree, opens, users, turn),
+    }
+}
+
+/// The open that a call ends, whatever comes of it.
+fn closes(call: &Call) -> Option<u32>
+    ensures { result ≡ closes call.now }
+{
+    match call {
+        Call::Close(call) => Some(call.open_number),
+        Call::Remove(call) => call.open_number,
+        Call::Attach(_)
+        | Call::Walk(_)
+        | Call::Open(_)
+        | Call::Create(_)
+        | Call::Read(_)
+        | Call::Write(_)
+        | Call::Stat(_)
+        | Call::Wstat(_) => None,
+    }
+}
+
+/// Does a call by the rules of the run, if there is memory for what it takes. A call that is denied,
+/// or short of memory, leaves the tree, and no open but that of a close or of a remove, which is
+/// released. A read answers no more bytes than it asks for, and a walk no more qids than it has names.
+#[tactic(auto, unfolding(crate::specs::Outcomes::outcome))]
+pub fn act<T: TreeStore>(
+    alloc: Global,
+    call: &Call,
+    tree: &mut T,
+    opens: &mut Vec<OpenFile>,
+    users: &Users,
+    turn: Turn,
+) -> (Outcome, Answer)
+    requires vers { (n : ℕ) → CanStamp (T.tree tree.old) n }
+    requires next { (T.tree tree.old).next < 2 ^ 64 }
+    ensures step { (mark : CallMark) × ((result.0 ≡ outcome (state (T.tree tree.old) opens.old.items users.now) turn call.now mark) × (left (T.tree tree.new) opens.new.items result.1 ≡ stepped (state (T.tree tree.old) opens.old.items users.now) turn call.now mark)) }
+    ensures fits { FitsCall call.now result.1 }
+{
+    if let Call::Walk(call) = call {
+        return act_walk(alloc, call, tree, users);
+    }
+    if let Some(rule) = first_failing(call, tree, opens.as_slice(), users) {
+        release_if(opens, closes(call), turn.pass);
+        return (Outcome::Denied(rule), Answer::Denied(rule));
+    }
+    first_rule_that_fails();
+    match grant(alloc, call, tree, opens, users, turn) {
+        Ok(answer) => (Outcome::Granted, answer),
+        Err(_) => (Outcome::Short, Answer::Short),
+    }
+}

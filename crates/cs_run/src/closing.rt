@@ -1,0 +1,67 @@
+//! Closes (clunk(5)).
+ghost use Rattle.std.specs.Prelude.{◌≡◌, IfOk, OnOk, OnErr, Some, true, ℕ};
+ghost use Rattle.cs_run.specs.Effects.{close_effect, closed_tree, left, removes};
+ghost use Rattle.cs_run.specs.Opens.{open_numbered, released};
+ghost use Rattle.cs_tree_model.specs.Stores.{CanStamp};
+ghost use Rattle.cs_tree_model.specs.Tree.{IsTree};
+
+use crate::answer::Answer;
+use crate::opens::release;
+use crate::turn::{Turn, stamp_of};
+use crate::writing::has_bytes;
+use cs_permit::mode::removes_on_close;
+use cs_permit::{CloseCall, OpenFile};
+use cs_tree_model::{TreeRead, TreeStore};
+use std::alloc::{AllocError, Global};
+
+/// Whether the file of an open is to be removed now: where the open's mode says so, and the file is
+/// still there.
+fn removes<T: TreeRead>(tree: &T, opened: OpenFile) -> bool
+    ensures value { result ≡ removes (T.tree tree.now) (Some opened) }
+    ensures is_tree { IsTree (T.tree tree.now) }
+{
+    has_bytes(tree, opened.file) && removes_on_close(opened.mode)
+}
+
+/// Removes the file of an open that was released, where that open says so.
+fn remove_closed<T: TreeStore>(
+    alloc: Global,
+    call: &CloseCall,
+    tree: &mut T,
+    closed: Option<OpenFile>,
+    turn: Turn,
+) -> Result<(), AllocError>
+    requires { (n : ℕ) → CanStamp (T.tree tree.old) n }
+    ensures ok { OnOk result (T.tree tree.new ≡ closed_tree (T.tree tree.old) turn call.now.user closed) }
+    ensures memory { OnErr result (removes (T.tree tree.old) closed ≡ true) }
+    ensures err { OnErr result (T.tree tree.new ≡ T.tree tree.old) }
+{
+    let Some(opened) = closed else {
+        return Ok(());
+    };
+    if !removes(tree, opened) {
+        return Ok(());
+    }
+    let stamp = stamp_of(turn, &call.user)?;
+    tree.remove(alloc, opened.file, stamp)
+}
+
+/// Ends an open, and removes its file where the open says so. The open is released also for want of
+/// memory.
+#[tactic(auto, unfolding(crate::specs::Effects::close_effect))]
+pub fn act_close<T: TreeStore>(
+    alloc: Global,
+    call: &CloseCall,
+    tree: &mut T,
+    opens: &mut Vec<OpenFile>,
+    turn: Turn,
+) -> Result<Answer, AllocError>
+    requires { (n : ℕ) → CanStamp (T.tree tree.old) n }
+    ensures ok { IfOk result (λ answer. left (T.tree tree.new) opens.new.items answer ≡ close_effect (T.tree tree.old) opens.old.items turn call.now) }
+    ensures memory { OnErr result (removes (T.tree tree.old) (open_numbered call.now.open_number turn.pass opens.old.items) ≡ true) }
+    ensures err { OnErr result ((T.tree tree.new ≡ T.tree tree.old) × (opens.new.items ≡ released call.now.open_number turn.pass opens.old.items)) }
+{
+    let closed = release(opens, call.open_number, turn.pass);
+    remove_closed(alloc, call, tree, closed, turn)?;
+    Ok(Answer::Closed)
+}

@@ -1,0 +1,19 @@
+//! A run without a journal: a tree, its opens and the users, on which calls are made in turn.
+ghost use Rattle.std.specs.Prelude.{◌+◌};
+ghost use Rattle.cs_run.specs.Laws.{AllVersBelow};
+
+use cs_permit::OpenFile;
+use cs_tree_model::TreeStore;
+use cs_users::Users;
+
+/// A run that keeps no journal. It counts its calls: each raises a version by one at most, so that none
+/// can overflow before the count does. Contracts see its `run_of`.
+#[derive(Drop)]
+pub struct CountedRun<T: TreeStore + Drop> {
+    pub(crate) tree: T,
+    pub(crate) opens: Vec<OpenFile>,
+    pub(crate) users: Users,
+    /// The greatest version at the start, and the calls made since.
+    pub(crate) count: u32,
+    ghost bounded: { AllVersBelow (count + 1) (T.TreeRead.tree tree) },
+}

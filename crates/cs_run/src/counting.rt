@@ -1,0 +1,98 @@
+//! Calls in turn on a run without a journal.
+ghost use Rattle.std.specs.Prelude.{◌≡◌, ◌+◌, ◌≤◌, IfSome, [], false};
+ghost use Rattle.cs_run.specs.Counted.{is_full, run_of, state_of, turn_of};
+ghost use Rattle.cs_run.specs.Effects.{left};
+ghost use Rattle.cs_run.specs.Laws.{AllVersBelow, FitsCall};
+ghost use Rattle.cs_run.specs.Marks.{CallMark};
+ghost use Rattle.cs_run.specs.Outcomes.{outcome, stepped};
+ghost use Rattle.cs_tree_model.specs.Tree.{IsTree, record_numbered};
+
+use crate::acting::act;
+use crate::answer::{Answer, Outcome};
+use crate::counted::CountedRun;
+use crate::laws::{calls_raise_by_one, versions_can_grow};
+use crate::turn::Turn;
+use cs_permit::Call;
+use cs_tree_model::{TreeRead, TreeStore};
+use cs_users::Users;
+use std::alloc::Global;
+
+/// The version of the file of a number, 0 of none.
+fn version_of<T: TreeRead>(tree: &T, number: u64) -> u32
+    ensures bound { IfSome (record_numbered (T.tree tree.now) number) (λ r. r.vers ≤ result) }
+    ensures is_tree { IsTree (T.tree tree.now) }
+{
+    match tree.record(number) {
+        Some(file) => file.vers,
+        None => 0,
+    }
+}
+
+/// The greatest version of the tree's files.
+fn greatest_version<T: TreeRead>(tree: &T) -> u32
+    ensures { AllVersBelow (result + 1) (T.tree tree.now) }
+{
+    let last = tree.last_number();
+    let mut greatest = version_of(tree, last);
+    for number in 0..last {
+        greatest = greatest.max(version_of(tree, number));
+    }
+    greatest
+}
+
+impl<T: TreeStore + Drop> CountedRun<T> {
+    /// A run over this tree with no open.
+    pub fn new(alloc: Global, tree: T, users: Users) -> CountedRun<T>
+        ensures tree { (run_of result).tree ≡ T.TreeRead.tree tree }
+        ensures opens { (run_of result).opens ≡ [] }
+        ensures users { (run_of result).users ≡ users }
+    {
+        let count = greatest_version(&tree);
+        CountedRun {
+            tree,
+            opens: Vec::new(alloc),
+            users,
+            count,
+        }
+    }
+
+    /// Its tree, lent.
+    pub fn tree(&self) -> &T
+        ensures { T.TreeRead.tree result.now ≡ (run_of self.now).tree }
+    {
+        &self.tree
+    }
+
+    /// Whether one call more could raise a version, or the next number, above the greatest there is.
+    pub fn is_full(&self) -> bool
+        ensures { result ≡ is_full (run_of self.now) }
+    {
+        self.count == u32::MAX || self.tree.last_number() == u64::MAX
+    }
+
+    /// Makes a call at that moment under a pass, in the turn of its count.
+    pub fn step(&mut self, alloc: Global, moment: u32, pass: u32, call: &Call) -> (Outcome, Answer)
+        requires room { is_full (run_of self.old) ≡ false }
+        ensures stepped { (mark : CallMark) × ((result.0 ≡ outcome (state_of (run_of self.old)) (turn_of (run_of self.old) moment pass) call.now mark) × (left (run_of self.new).tree (run_of self.new).opens result.1 ≡ stepped (state_of (run_of self.old)) (turn_of (run_of self.old) moment pass) call.now mark)) }
+        ensures fits { FitsCall call.now result.1 }
+        ensures users { (run_of self.new).users ≡ (run_of self.old).users }
+        ensures count { (run_of self.new).count ≡ (run_of self.old).count + 1 }
+    {
+        calls_raise_by_one();
+        versions_can_grow();
+        let turn = Turn {
+            moment,
+            place: self.count,
+            pass,
+        };
+        self.count += 1;
+        act(
+            alloc,
+            call,
+            &mut self.tree,
+            &mut self.opens,
+            &self.users,
+            turn,
+        )
+    }
+}

@@ -1,0 +1,93 @@
+//! Creates (open(5)).
+ghost use Rattle.std.specs.Prelude.{◌≡◌, ◌<◌, ◌^◌, IfOk, OnOk, OnErr};
+ghost use Rattle.cs_permit.specs.Creates.{create_rules};
+ghost use Rattle.cs_permit.specs.Refusals.{AllPass};
+ghost use Rattle.cs_run.specs.Effects.{all_but, create_effect, created_mode, created_tree, left, mode_at, new_file};
+ghost use Rattle.cs_tree_model.specs.Stores.{CanStamp};
+
+use crate::answer::Answer;
+use crate::turn::{Turn, stamp_of};
+use cs_permit::{CreateCall, OpenFile, qid_at};
+use cs_tree_model::{New, TreeRead, TreeStore, is_directory_mode};
+use cs_users::Users;
+use std::alloc::{AllocError, Global};
+
+fn mode_at<T: TreeRead>(tree: &T, number: u64) -> u32
+    ensures { result ≡ mode_at (T.tree tree.now) number }
+{
+    match tree.record(number) {
+        Some(file) => file.mode,
+        None => 0,
+    }
+}
+
+/// The mode of a new file: its directory's mode is a mask of the permissions that are asked for.
+fn created_mode(perm: u32, directory: u32) -> u32
+    ensures { result ≡ created_mode perm directory }
+{
+    if is_directory_mode(perm) {
+        perm & (!0o777 | (directory & 0o777))
+    } else {
+        perm & (!0o666 | (directory & 0o666))
+    }
+}
+
+fn new_file<T: TreeRead>(tree: &T, call: &CreateCall) -> New
+    ensures { result ≡ new_file (T.tree tree.now) call.now }
+{
+    New {
+        mode: created_mode(call.perm, mode_at(tree, call.number)),
+    }
+}
+
+fn add_created<T: TreeStore>(
+    alloc: Global,
+    call: &CreateCall,
+    tree: &mut T,
+    users: &Users,
+    turn: Turn,
+) -> Result<u64, AllocError>
+    requires granted { AllPass (create_rules (T.tree tree.old) users.now call.now) }
+    requires vers { CanStamp (T.tree tree.old) call.now.number }
+    requires next { (T.tree tree.old).next < 2 ^ 64 }
+    ensures ok { OnOk result (T.tree tree.new ≡ created_tree (T.tree tree.old) turn call.now) }
+    ensures number { IfOk result (λ n. n ≡ (T.tree tree.old).next) }
+    ensures err { OnErr result (T.tree tree.new ≡ T.tree tree.old) }
+{
+    let name = call.name.try_clone()?;
+    let stamp = stamp_of(turn, &call.user)?;
+    let new = new_file(tree, call);
+    tree.add(alloc, call.number, name, new, stamp)
+}
+
+/// Makes a file in a directory, and opens it.
+#[tactic(auto, unfolding(crate::specs::Effects::create_effect))]
+pub fn act_create<T: TreeStore>(
+    alloc: Global,
+    call: &CreateCall,
+    tree: &mut T,
+    opens: &mut Vec<OpenFile>,
+    users: &Users,
+    turn: Turn,
+) -> Result<Answer, AllocError>
+    requires granted { AllPass (create_rules (T.tree tree.old) users.now call.now) }
+    requires vers { CanStamp (T.tree tree.old) call.now.number }
+    requires next { (T.tree tree.old).next < 2 ^ 64 }
+    ensures ok { IfOk result (λ answer. left (T.tree tree.new) opens.new.items answer ≡ create_effect (T.tree tree.old) opens.old.items turn call.now) }
+    ensures err { OnErr result ((T.tree tree.new ≡ T.tree tree.old) × (opens.new.items ≡ opens.old.items)) }
+{
+    opens.reserve(1)?;
+    let number = add_created(alloc, call, tree, users, turn)?;
+    let open = OpenFile {
+        number: turn.place,
+        file: number,
+        mode: call.mode,
+        pass: turn.pass,
+    };
+    opens.push_reserved(open);
+    Ok(Answer::Opened {
+        qid: qid_at(tree, number),
+        open_number: turn.place,
+        number,
+    })
+}

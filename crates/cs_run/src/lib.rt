@@ -1,0 +1,36 @@
+//! What each call does to a run's tree and its opens, and what it answers.
+#![tactic(auto)]
+
+mod acting;
+pub mod answer;
+mod closing;
+pub mod counted;
+mod counting;
+mod creating;
+pub mod laws;
+mod opening;
+mod opens;
+mod page;
+mod reading;
+mod removing;
+mod stating;
+#[cfg(test)]
+mod tests;
+pub mod turn;
+mod walking;
+mod writing;
+mod wstating;
+
+pub use acting::act;
+pub use answer::{Answer, Data, FileStat, Outcome, Walk};
+pub use closing::act_close;
+pub use counted::CountedRun;
+pub use creating::act_create;
+pub use opening::act_open;
+pub use opens::release;
+pub use reading::read;
+pub use removing::act_remove;
+pub use turn::Turn;
+pub use walking::walk;
+pub use writing::act_write;
+pub use wstating::act_wstat;

@@ -1,0 +1,90 @@
+//! Reads (read(5)).
+ghost use Rattle.std.specs.Prelude.{◌≡◌, ◌+◌, IfOk, OnErr, min, true};
+ghost use Rattle.cs_run.specs.Outcomes.{has_some};
+ghost use Rattle.cs_permit.specs.Rules.{is_directory, on_file};
+ghost use Rattle.std.specs.Option.{option_copied};
+ghost use Rattle.cs_run.specs.Pages.{bytes_given, end_after, entries_given, given, page_of, place_after};
+ghost use Rattle.cs_tree_model.specs.Tree.{IsTree};
+
+use crate::answer::Data;
+use crate::page::{Page, read_page};
+use cs_fids::Place;
+use cs_names::Name;
+use cs_permit::rules::is_directory;
+use cs_permit::{ReadCall, name_before};
+use cs_tree_model::TreeRead;
+use std::alloc::{AllocError, Global};
+
+/// The end of a read that gave so many bytes.
+fn end_after(start: u64, count: usize) -> u64
+    ensures { result ≡ end_after start count }
+{
+    start.saturating_add(count as u64)
+}
+
+fn copied(name: Option<&Name>) -> Result<Option<Name>, AllocError>
+    ensures { IfOk result (λ copy. copy ≡ option_copied name.entry) }
+{
+    match name {
+        Some(name) => Ok(Some(name.try_clone()?)),
+        None => Ok(None),
+    }
+}
+
+/// Where the next read of the directory goes on, if this one gave an entry.
+fn place_after(call: &ReadCall, page: &Page) -> Result<Option<Place>, AllocError>
+    ensures value { IfOk result (λ place. place ≡ place_after call.now (page_of page.now)) }
+    ensures memory { OnErr result (has_some (page_of page.now).bytes ≡ true) }
+{
+    if page.bytes.is_empty() {
+        return Ok(None);
+    }
+    Ok(Some(Place {
+        end: end_after(call.offset, page.bytes.len()),
+        last: copied(page.last)?,
+    }))
+}
+
+/// Reads whole entries of a directory.
+fn read_entries<T: TreeRead>(alloc: Global, call: &ReadCall, tree: &T) -> Result<Data, AllocError>
+    requires { IsTree (T.tree tree.now) }
+    ensures value { IfOk result (λ read. read ≡ entries_given (T.tree tree.now) call.now) }
+    ensures memory { OnErr result (has_some (entries_given (T.tree tree.now) call.now).bytes ≡ true) }
+{
+    let start = name_before(call);
+    let page = read_page(alloc, tree, call.number, call.count as usize, start)?;
+    let place = place_after(call, &page)?;
+    Ok(Data::new(page.bytes, place))
+}
+
+/// Reads bytes of a file.
+fn read_bytes<T: TreeRead>(alloc: Global, call: &ReadCall, tree: &T) -> Result<Data, AllocError>
+    ensures value { IfOk result (λ read. read ≡ bytes_given (T.tree tree.now) call.now) }
+    ensures memory { OnErr result (has_some (bytes_given (T.tree tree.now) call.now).bytes ≡ true) }
+{
+    match tree.read_at(alloc, call.number, call.offset, call.count as usize)? {
+        Some(bytes) => Ok(Data::new(bytes, None)),
+        None => Ok(Data::new(Vec::new(alloc), None)),
+    }
+}
+
+fn is_of_directory<T: TreeRead>(tree: &T, number: u64) -> bool
+    ensures value { result ≡ on_file (T.tree tree.now) number is_directory }
+    ensures is_tree { IsTree (T.tree tree.now) }
+{
+    match tree.record(number) {
+        Some(file) => is_directory(&file),
+        None => false,
+    }
+}
+
+/// Reads bytes of a file, or whole entries of a directory. Only bytes that are given take memory.
+pub fn read<T: TreeRead>(alloc: Global, call: &ReadCall, tree: &T) -> Result<Data, AllocError>
+    ensures value { IfOk result (λ read. read ≡ given (T.tree tree.now) call.now) }
+    ensures memory { OnErr result (has_some (given (T.tree tree.now) call.now).bytes ≡ true) }
+{
+    if is_of_directory(tree, call.number) {
+        return read_entries(alloc, call, tree);
+    }
+    read_bytes(alloc, call, tree)
+}

@@ -1,0 +1,23 @@
+//! Stats (stat(5)).
+ghost use Rattle.std.specs.Prelude.{◌≡◌, IfOk};
+ghost use Rattle.cs_run.specs.Effects.{stat_answer};
+
+use crate::answer::{Answer, FileStat};
+use cs_names::RuleId;
+use cs_permit::{StatCall, stat_ref};
+use cs_tree_model::TreeRead;
+use std::alloc::{AllocError, Global};
+
+/// Tells what a stat tells of a file.
+pub(crate) fn act_stat<T: TreeRead>(
+    alloc: Global,
+    call: &StatCall,
+    tree: &T,
+) -> Result<Answer, AllocError>
+    ensures { IfOk result (λ answer. answer ≡ stat_answer (T.tree tree.now) call.now) }
+{
+    let Some(stat) = stat_ref(tree, call.number) else {
+        return Ok(Answer::Denied(RuleId::H2));
+    };
+    Ok(Answer::Stat(FileStat::new(stat.copied(alloc)?)))
+}

@@ -1,0 +1,109 @@
+//! Walks (walk(5)).
+ghost use Rattle.std.specs.Prelude.{◌≡◌, ◌<◌, List, None, length, IfErr, IfOk, IsErrOf, OnErr, map, string_bytes};
+ghost use Rattle.cs_permit.specs.Calls.{state};
+ghost use Rattle.cs_permit.specs.Refusals.{first_failing};
+ghost use Rattle.cs_permit.specs.Walks.{walk_rules};
+ghost use Rattle.cs_permit.specs.declared.call.Call.TheVariants as c;
+ghost use Rattle.cs_permit.specs.declared.call.OpenFile.{OpenFile};
+ghost use Rattle.cs_run.specs.Effects.{left};
+ghost use Rattle.cs_run.specs.Marks.{CallMark};
+ghost use Rattle.cs_run.specs.Outcomes.{outcome, stepped};
+ghost use Rattle.cs_run.specs.Walks.{way, way_asked};
+ghost use Rattle.cs_run.specs.declared.turn.Turn.{Turn};
+
+use crate::answer::{Answer, Outcome, Walk};
+use cs_names::{RuleId, UserName};
+use cs_permit::{WalkCall, element_of, first_of_walk, qid_known};
+use cs_tree_model::TreeRead;
+use cs_users::Users;
+use cs_wire::Qid;
+use std::alloc::{AllocError, Global};
+
+fn walk_names<T: TreeRead>(
+    alloc: Global,
+    tree: &T,
+    users: &Users,
+    user: &UserName,
+    start: u64,
+    names: &[String],
+) -> Result<Walk, AllocError>
+    ensures value { IfOk result (λ walk. walk ≡ way (T.tree tree.now) users.now user.now start (map string_bytes names.now)) }
+    ensures memory { OnErr result (0 < length names.now) }
+{
+    let mut qids: Vec<Qid> = Vec::with_capacity(alloc, names.len())?;
+    let mut last = start;
+    let mut file = tree.record(start);
+    for name in names {
+        match element_of(tree, users, user, last, file, name.as_str()) {
+            Ok(next) => {
+                file = tree.record(next);
+                qids.push_reserved(qid_known(file));
+                last = next;
+            }
+            Err(rule) => return Ok(Walk::new(qids, Some(rule), last)),
+        }
+    }
+    Ok(Walk::new(qids, None, last))
+}
+
+/// Walks as far as the rules let it. Only the qids take memory, once for all names; a name takes one
+/// look-up of a name, and one of a record.
+pub fn walk<T: TreeRead>(
+    alloc: Global,
+    call: &WalkCall,
+    tree: &T,
+    users: &Users,
+) -> Result<Walk, AllocError>
+    ensures value { IfOk result (λ walk. walk ≡ way_asked (T.tree tree.now) users.now call.now) }
+    ensures memory { OnErr result (0 < length call.now.names.items) }
+{
+    walk_names(
+        alloc,
+        tree,
+        users,
+        &call.user,
+        call.number,
+        call.names.as_slice(),
+    )
+}
+
+/// The walk that a call asks for. Else the first rule that denies it; or None, where none does and memory is
+/// wanting.
+fn walk_allowed<T: TreeRead>(
+    alloc: Global,
+    call: &WalkCall,
+    tree: &T,
+    users: &Users,
+) -> Result<Walk, Option<RuleId>>
+    ensures ok { IfOk result (λ walk. (first_failing (walk_rules (T.tree tree.now) users.now call.now) ≡ None) × (walk ≡ way_asked (T.tree tree.now) users.now call.now)) }
+    ensures err { IfErr result (λ first. first ≡ first_failing (walk_rules (T.tree tree.now) users.now call.now)) }
+    ensures memory { IsErrOf result None → 0 < length call.now.names.items }
+{
+    if tree.record(call.number).is_none() {
+        return Err(Some(RuleId::K5));
+    }
+    let Ok(walk) = walk(alloc, call, tree, users) else {
+        return Err(first_of_walk(call, tree, users));
+    };
+    match walk.stopped_first() {
+        Some(rule) => Err(Some(rule)),
+        None => Ok(walk),
+    }
+}
+
+/// Makes a walk by its rules. They are asked as the walk goes, so that no name is looked up twice.
+#[tactic(auto, unfolding(crate::specs::Outcomes::outcome))]
+pub fn act_walk<T: TreeRead>(
+    alloc: Global,
+    call: &WalkCall,
+    tree: &T,
+    users: &Users,
+) -> (Outcome, Answer)
+    ensures { (os : List OpenFile) (w : Turn) → (mark : CallMark) × ((result.0 ≡ outcome (state (T.tree tree.now) os users.now) w (c.Walk call.now) mark) × (left (T.tree tree.now) os result.1 ≡ stepped (state (T.tree tree.now) os users.now) w (c.Walk call.now) mark)) }
+{
+    match walk_allowed(alloc, call, tree, users) {
+        Ok(walk) => (Outcome::Granted, Answer::Walked(walk)),
+        Err(Some(rule)) => (Outcome::Denied(rule), Answer::Denied(rule)),
+        Err(None) => (Outcome::Short, Answer::Short),
+    }
+}

@@ -1,0 +1,144 @@
+//! Wstats (stat(5)).
+ghost use Rattle.std.specs.Prelude.{◌≡◌, ℕ, IfOk, OnOk, OnErr, Some, false, is_some, true};
+ghost use Rattle.std.specs.Option.{option_map_or};
+ghost use Rattle.cs_permit.specs.Changes.{new_group, new_name};
+ghost use Rattle.cs_permit.specs.Refusals.{AllPass};
+ghost use Rattle.cs_permit.specs.Wstats.{wstat_rules};
+ghost use Rattle.cs_run.specs.Effects.{asked, change_of, changed_by, changes_some, left, wstat_effect};
+ghost use Rattle.cs_tree_model.specs.Record.{lent};
+ghost use Rattle.cs_tree_model.specs.Stores.{CanStamp};
+
+use crate::answer::Answer;
+use crate::turn::{Turn, stamp_of};
+use cs_names::{Name, UserName};
+use cs_permit::{OpenFile, WstatCall, new_group, new_length, new_mode, new_mtime, new_name};
+use cs_tree_model::{Change, Metadata, TreeRead, TreeStore};
+use cs_users::Users;
+use std::alloc::{AllocError, Global};
+
+/// The new name, if the wstat has one. A legal one is refused for nothing but want of memory.
+fn name_asked<T: TreeRead>(
+    alloc: Global,
+    tree: &T,
+    call: &WstatCall,
+) -> Result<Option<Name>, AllocError>
+    ensures value { IfOk result (λ name. name ≡ new_name (T.tree tree.now) call.now) }
+    ensures memory { OnErr result (is_some (new_name (T.tree tree.now) call.now) ≡ true) }
+{
+    let Some(name) = new_name(tree, call) else {
+        return Ok(None);
+    };
+    match Name::read(alloc, name.as_bytes()) {
+        Ok(name) => Ok(Some(name)),
+        Err(_) => Err(AllocError),
+    }
+}
+
+/// The new group, if the wstat has one. A known one is refused for nothing but want of memory.
+fn group_asked(
+    alloc: Global,
+    call: &WstatCall,
+    file: &Metadata,
+) -> Result<Option<UserName>, AllocError>
+    ensures value { IfOk result (λ group. group ≡ new_group call.now (lent file.now)) }
+    ensures memory { OnErr result (is_some (new_group call.now (lent file.now)) ≡ true) }
+{
+    let Some(group) = new_group(call, file) else {
+        return Ok(None);
+    };
+    match UserName::read(alloc, group.as_bytes()) {
+        Ok(group) => Ok(Some(group)),
+        Err(_) => Err(AllocError),
+    }
+}
+
+/// The fields that a wstat changes, each with its new value.
+fn change_of<T: TreeRead>(
+    alloc: Global,
+    tree: &T,
+    call: &WstatCall,
+    file: &Metadata,
+) -> Result<Change, AllocError>
+    ensures value { IfOk result (λ change. change ≡ change_of (T.tree tree.now) call.now (lent file.now)) }
+    ensures memory { OnErr result (changes_some (change_of (T.tree tree.now) call.now (lent file.now)) ≡ true) }
+{
+    let name = name_asked(alloc, tree, call)?;
+    let group = group_asked(alloc, call, file)?;
+    Ok(Change {
+        name,
+        length: new_length(call, file),
+        mode: new_mode(call, file),
+        group,
+        mtime: new_mtime(call, file),
+    })
+}
+
+/// The change that a wstat asks for, if its file is there.
+fn asked<T: TreeRead>(
+    alloc: Global,
+    tree: &T,
+    call: &WstatCall,
+) -> Result<Option<Change>, AllocError>
+    ensures value { IfOk result (λ change. change ≡ asked (T.tree tree.now) call.now) }
+    ensures memory { OnErr result (option_map_or changes_some (asked (T.tree tree.now) call.now) false ≡ true) }
+{
+    match tree.record(call.number) {
+        Some(file) => Ok(Some(change_of(alloc, tree, call, &file)?)),
+        None => Ok(None),
+    }
+}
+
+fn changes_some(change: &Change) -> bool
+    ensures { result ≡ changes_some change.now }
+{
+    change.name.is_some()
+        || change.length.is_some()
+        || change.mode.is_some()
+        || change.group.is_some()
+        || change.mtime.is_some()
+}
+
+/// Makes the change that the wstat asks for, if it names a field.
+fn change_by<T: TreeStore>(
+    alloc: Global,
+    call: &WstatCall,
+    tree: &mut T,
+    users: &Users,
+    change: &Change,
+    turn: Turn,
+) -> Result<(), AllocError>
+    requires granted { AllPass (wstat_rules (T.tree tree.old) users.now call.now) }
+    requires asked { asked (T.tree tree.old) call.now ≡ Some change.now }
+    requires vers { (n : ℕ) → CanStamp (T.tree tree.old) n }
+    ensures ok { OnOk result (T.tree tree.new ≡ changed_by (T.tree tree.old) turn call.now change.now) }
+    ensures memory { OnErr result (changes_some change.now ≡ true) }
+    ensures err { OnErr result (T.tree tree.new ≡ T.tree tree.old) }
+{
+    if !changes_some(change) {
+        return Ok(());
+    }
+    let stamp = stamp_of(turn, &call.user)?;
+    tree.change(alloc, call.number, change, stamp)
+}
+
+/// Gives a file the fields that are new: all of them, or after want of memory none.
+#[tactic(auto, unfolding(crate::specs::Effects::wstat_effect))]
+pub fn act_wstat<T: TreeStore>(
+    alloc: Global,
+    call: &WstatCall,
+    tree: &mut T,
+    opens: &mut Vec<OpenFile>,
+    users: &Users,
+    turn: Turn,
+) -> Result<Answer, AllocError>
+    requires granted { AllPass (wstat_rules (T.tree tree.old) users.now call.now) }
+    requires vers { (n : ℕ) → CanStamp (T.tree tree.old) n }
+    ensures ok { IfOk result (λ answer. left (T.tree tree.new) opens.new.items answer ≡ wstat_effect (T.tree tree.old) opens.old.items turn call.now) }
+    ensures memory { OnErr result (option_map_or changes_some (asked (T.tree tree.old) call.now) false ≡ true) }
+    ensures err { OnErr result ((T.tree tree.new ≡ T.tree tree.old) × (opens.new.items ≡ opens.old.items)) }
+{
+    if let Some(change) = asked(alloc, tree, call)? {
+        change_by(alloc, call, tree, users, &change, turn)?;
+    }
+    Ok(Answer::Changed)
+}
