@@ -1,0 +1,26 @@
+use Rattle.std.proofs.Common.{◌∙◌, [], refl, rules, sym}
+use Rattle.cs_session.specs.Marks.{Steps}
+use Rattle.cs_session.specs.Receipts.{Alone, Asked, Barred}
+use Rattle.cs_session.proofs.Fitting.{asks_fit}
+use Rattle.cs_session.proofs.Unread.{unread}
+use Rattle.cs_session.proofs.session.Session.receive.Goals as goal
+
+pub returns-in-Some-clause-received : goal.returns-in-Some-clause-received
+returns-in-Some-clause-received g c = record { mark = Steps []; received = Barred c.in-Some.rule (search rules) (refl, refl, refl) }
+
+pub returns-in-Err-clause-received : goal.returns-in-Err-clause-received
+returns-in-Err-clause-received g c = unread g.P.Port.gives c.args.now c.args.bytes.now c.args.self.now c.args.port.now (search rules) c.in-Err.reply c.in-Err.ensures.err
+
+pub returns-in-Err-message_in-clause-received : goal.returns-in-Err-message_in-clause-received
+returns-in-Err-message_in-clause-received g c =
+    record { mark = Steps []; received = Alone c.in-Ok.message c.in-Err-message_in.reply (search rules) c.in-Ok.ensures.ok (sym c.message_in.ensures ∙ c.in-Err-message_in.is) (refl, refl, refl) }
+
+pub returns-clause-received : goal.returns-clause-received
+returns-clause-received g c =
+    let answered = c.answer.ensures.answered in
+    record { mark = Steps answered.marks; received = Asked c.in-Ok.message c.in-Ok-message_in.asks answered.marks (search rules) c.in-Ok.ensures.ok (sym c.message_in.ensures ∙ c.in-Ok-message_in.is) answered.answers }
+
+pub returns-clause-fits : goal.returns-clause-fits
+returns-clause-fits g c =
+    let asks = sym c.message_in.ensures ∙ c.in-Ok-message_in.is in
+    c.answer.ensures.fits (rw asks at (asks_fit c.in-Ok.message.tag c.in-Ok.message.body c.in-Ok.ensures.ok.0.fields_fit))

@@ -1,0 +1,45 @@
+-- A read: its count is cut to what a reply of the session holds (read(5)).
+use Rattle.std.specs.Prelude.{ℕ, ◌-◌, min, Bool, ◌&&◌, false, Option, None, Some, Result, is_some, unwrap_or, option_map}
+use Rattle.std.specs.FinMap.{insert}
+use Rattle.std.specs.Option.{option_map_or}
+use Rattle.cs_fids.specs.declared.entry.Entry.TheVariants as entry
+use Rattle.cs_fids.specs.declared.fid.Opened.{Opened}
+use Rattle.cs_fids.specs.declared.place.Place.{Place}
+use Rattle.cs_fids.specs.FidOf.{FidOf}
+use Rattle.cs_fids.specs.Fids.{with_place}
+use Rattle.cs_fids.specs.Tables.{FidMap}
+use Rattle.cs_permit.specs.declared.call.Call.TheVariants as c
+use Rattle.cs_permit.specs.Table.{read_table_rules}
+use Rattle.cs_run.specs.declared.answer.Answer.{Answer}
+use Rattle.cs_run.specs.declared.answer.Answer.TheVariants as a
+use Rattle.cs_session.specs.declared.message.ReadMessage.{ReadMessage}
+use Rattle.cs_session.specs.declared.reading.TheConstants.{READ_OVERHEAD}
+use Rattle.cs_session.specs.declared.reply.Reply.{Reply}
+use Rattle.cs_session.specs.declared.reply.Reply.TheVariants as r
+use Rattle.cs_session.specs.Judgements.{judged, opened_at, refusal}
+use Rattle.cs_session.specs.Questions.{Question, Ask}
+
+-- at most as many bytes as an Rread of that message size holds
+abbrev pub cut : Option ℕ → ℕ → ℕ
+cut msize count = min count (unwrap_or msize 0 - READ_OVERHEAD)
+
+abbrev pub read_question : ℕ → Option ℕ → FidMap → ReadMessage → Option Question
+read_question now msize fids x =
+    option_map (λ f. Ask now f.run f.pass (c.Read (record { number = f.number; offset = x.offset; count = cut msize x.count; place = f.state.place }))) (opened_at fids x.fid)
+
+-- the place of the fid has a name, whose copy takes memory
+abbrev pub copies_name : FidMap → ℕ → Bool
+copies_name fids fid = option_map_or (λ f. is_some f.state.place.last) (opened_at fids fid) false
+
+abbrev pub read_judged : ℕ → Bool → Option ℕ → FidMap → ReadMessage → Bool → Result Question Reply
+read_judged now awaits msize fids x refused = judged awaits msize (read_table_rules fids x.fid) (refused && copies_name fids x.fid) (read_question now msize fids x)
+
+-- the fid's next read of a directory goes on there, if anywhere else than before
+abbrev pub read_left : FidMap → ℕ → Option (FidOf Opened) → Option Place → FidMap
+read_left fids fid None place = fids
+read_left fids fid (Some f) None = fids
+read_left fids fid (Some f) (Some place) = insert fids fid (entry.Opened (with_place f place))
+
+abbrev pub read_after : FidMap → ℕ → Answer → Reply × FidMap
+read_after fids fid (a.Data d) = (r.Read d.bytes, read_left fids fid (opened_at fids fid) d.place)
+read_after fids fid answer = (refusal answer, fids)

@@ -1,0 +1,21 @@
+-- What is true of every connection.
+use Rattle.std.specs.Prelude.{◌≡◌, ◌≢◌, ℕ, ◌<◌, ◌≤◌, Option, None, Some}
+use Rattle.std.specs.Option.{ForSome}
+use Rattle.cs_fids.specs.declared.fid.TheConstants.{NOFID}
+use Rattle.cs_fids.specs.Tables.{Fids, fid_at}
+use Rattle.cs_names.specs.declared.limits.TheConstants.{LEAST_MESSAGE_SIZE, MESSAGE_BYTES}
+use Rattle.cs_session.specs.Sessions.{Awaited}
+
+-- a size that a session can have
+pub record IsAgreed (size : ℕ) : Type 0 where
+  pub least : LEAST_MESSAGE_SIZE ≤ size
+  pub most : size ≤ MESSAGE_BYTES
+
+-- the table takes the fid of the run that awaits its attach, with no memory
+abbrev pub HasPlace : Option Awaited → Fids → Type 0
+HasPlace None table = Unit {0}
+HasPlace (Some p) table = (0 < table.room) × (p.fid ≢ NOFID) × (fid_at table p.fid ≡ None)
+
+pub record IsReady (msize : Option ℕ) (pending : Option Awaited) (table : Fids) : Type 0 where
+  pub agreed : ForSome msize IsAgreed
+  pub place : HasPlace pending table

@@ -1,0 +1,44 @@
+-- What a connection keeps from one step to the next.
+use Rattle.std.specs.Prelude.{ℕ, List, Option, None, refl}
+use Rattle.std.specs.Coded.{Coded, code_by, coded×, coded_ℕ, coded_list, coded_option}
+use Rattle.std.specs.FinMap.{code, empty, get}
+use Rattle.cs_fids.specs.contracts.entry.Entry as row
+use Rattle.cs_fids.specs.declared.entry.Entry.{Entry}
+use Rattle.cs_fids.specs.Tables.{FidMap}
+use Rattle.cs_session.specs.declared.reply.Reply.{Reply}
+
+-- a run that was found, and awaits its attach: the fid and the user of the attach, and the run's place at the port
+pub record Awaited : Type 0 where
+  pub fid : ℕ
+  pub run : ℕ
+  pub user : List ℕ
+
+-- the message size, if a session stands; the run that awaits its attach, if one does; and the fids
+pub record Sess : Type 0 where
+  pub msize : Option ℕ
+  pub pending : Option Awaited
+  pub fids : FidMap
+
+abbrev pub awaited_code : Coded Awaited
+awaited_code = code_by (ℕ × (ℕ × List ℕ)) (coded× coded_ℕ (coded× coded_ℕ (coded_list coded_ℕ))) (λ p. (p.fid, (p.run, p.user))) (λ parts. record { fid = parts.0; run = parts.1.0; user = parts.1.1 }) (λ _. refl)
+
+abbrev pub sess_code : Coded Sess
+sess_code = code_by (Option ℕ × (Option Awaited × FidMap)) (coded× (coded_option coded_ℕ) (coded× (coded_option awaited_code) (code coded_ℕ row.the_row.coded))) (λ s. (s.msize, (s.pending, s.fids))) (λ parts. record { msize = parts.0; pending = parts.1.0; fids = parts.1.1 }) (λ _. refl)
+
+-- what the number stands for
+abbrev pub entry_at : Sess → ℕ → Option Entry
+entry_at s fid = get s.fids fid
+
+abbrev pub with_fids : FidMap → Sess → Sess
+with_fids fids s = record s { fids = fids }
+
+abbrev pub with_pending : Option Awaited → Sess → Sess
+with_pending p s = record s { pending = p }
+
+-- the reply, and the fids that are left
+abbrev pub leaves : Sess → Reply × FidMap → Reply × Sess
+leaves s x = (x.0, with_fids x.1 s)
+
+-- no fid is left; a session of that message size stands, or none does
+abbrev pub blank : Option ℕ → Sess
+blank msize = record { msize = msize; pending = None; fids = empty }

@@ -1,0 +1,52 @@
+//! What a step asks of a run, once its rules have let it pass.
+ghost use Rattle.std.specs.Prelude.{◌≡◌};
+ghost use Rattle.cs_permit.specs.Refusals.{first_failing};
+ghost use Rattle.cs_permit.specs.Table.{table_rules};
+ghost use Rattle.cs_session.specs.Judgements.{after_session, refusal};
+ghost use Rattle.cs_session.specs.Sizes.{IsPlain};
+
+use crate::reply::Reply;
+use cs_fids::FidTable;
+use cs_names::RuleId;
+use cs_permit::{Call, Request, first_of_table};
+use cs_run::Answer;
+
+/// A call on the run at that place, at that moment, under the pass at that place.
+#[derive(Drop)]
+pub(crate) struct Asked {
+    pub(crate) now: u32,
+    pub(crate) run: u32,
+    pub(crate) pass: u32,
+    pub(crate) call: Call,
+}
+
+/// The first rule of the connection that the request fails: S5 where a run awaits its attach, S1 where
+/// no session stands, and then those of its fids. It takes no memory.
+#[tactic(auto, unfolding(cs_permit::specs::Table::first_of_table))]
+pub(crate) fn first_of(
+    awaits: bool,
+    msize: Option<u32>,
+    request: &Request,
+    fids: &FidTable,
+) -> Option<RuleId>
+    ensures { result ≡ first_failing (after_session awaits msize (table_rules fids.now.fids request.now)) }
+{
+    if awaits {
+        return Some(RuleId::S5);
+    }
+    if msize.is_none() {
+        return Some(RuleId::S1);
+    }
+    first_of_table(request, fids)
+}
+
+/// What a denial or want of memory is told as.
+pub(crate) fn refusal(answer: Answer) -> Reply
+    ensures value { result ≡ refusal answer }
+    ensures plain { IsPlain result }
+{
+    match answer {
+        Answer::Denied(rule) => Reply::Error(rule),
+        _ => Reply::Memory,
+    }
+}

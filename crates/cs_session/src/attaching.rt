@@ -1,0 +1,118 @@
+//! Attaches: a run is found, and then entered (attach(5)).
+ghost use Rattle.std.specs.Prelude.{◌≡◌, ◌≢◌, ◌<◌, ◌≤◌, false, IfErr, IfOk, IsOk, None, string_bytes};
+ghost use Rattle.std.specs.FinMap.{get};
+ghost use Rattle.cs_session.specs.Attaches.{entered, find_judged, find_refusal, pass_refusal};
+ghost use Rattle.cs_session.specs.Judgements.{Judged};
+ghost use Rattle.cs_session.specs.Names.{user_in};
+ghost use Rattle.cs_session.specs.Questions.{Find};
+ghost use Rattle.cs_session.specs.Sizes.{IsPlain};
+
+use crate::asked::{first_of, refusal};
+use crate::message::AttachMessage;
+use crate::port::{FindFault, PassFault};
+use crate::reply::Reply;
+use cs_fids::{Entry, Fid, FidTable, NOFID};
+use cs_names::{NameFault, RuleId, UserName};
+use cs_permit::{Request, TreeName};
+use cs_run::Answer;
+use std::alloc::Global;
+
+/// The name of a user that a text is, if it is one; Memory alone is a fault here.
+fn user_in(alloc: Global, uname: &str) -> Result<Option<UserName>, NameFault>
+    ensures { IfOk result (λ user. user ≡ user_in uname.now) }
+{
+    match UserName::read(alloc, uname.as_bytes()) {
+        Ok(user) => Ok(Some(user)),
+        Err(NameFault::Memory) => Err(NameFault::Memory),
+        Err(_) => Ok(None),
+    }
+}
+
+/// What the find of an attach asks, with room for the fid, and the name of its user.
+pub(crate) fn judge_find<'a>(
+    alloc: Global,
+    awaits: bool,
+    msize: Option<u32>,
+    fids: &mut FidTable,
+    message: &'a AttachMessage,
+) -> Result<(TreeName<'a>, Option<UserName>), Reply>
+    ensures judged { Judged (λ a. Find a.0.state.now a.0.run.now) (find_judged awaits msize fids.old.fids message.now) result }
+    ensures plain { IfErr result IsPlain }
+    ensures idle { IsOk result → awaits ≡ false }
+    ensures user { IfOk result (λ a. a.1 ≡ user_in (string_bytes message.now.uname)) }
+    ensures named { IsOk result → message.now.fid ≢ NOFID }
+    ensures free { IsOk result → get fids.old.fids message.now.fid ≡ None }
+    ensures room { IsOk result → 0 < fids.new.room }
+    ensures kept { fids.old.room ≤ fids.new.room }
+    ensures fids { fids.new.fids ≡ fids.old.fids }
+{
+    let request = Request::Attach {
+        fid: message.fid,
+        afid: message.afid,
+        aname: message.aname.as_str(),
+    };
+    if let Some(rule) = first_of(awaits, msize, &request, fids) {
+        return Err(Reply::Error(rule));
+    }
+    if fids.reserve().is_err() {
+        return Err(Reply::Memory);
+    }
+    let Ok(user) = user_in(alloc, message.uname.as_str()) else {
+        return Err(Reply::Memory);
+    };
+    match TreeName::read(message.aname.as_bytes()) {
+        Some(name) => Ok((name, user)),
+        None => Err(Reply::Error(RuleId::S5)),
+    }
+}
+
+/// What is told where no run was found.
+pub(crate) fn find_refusal(fault: FindFault) -> Reply
+    ensures value { result ≡ find_refusal fault }
+    ensures plain { IsPlain result }
+{
+    match fault {
+        FindFault::Unpublished => Reply::Error(RuleId::A4),
+        FindFault::Full => Reply::Error(RuleId::A5),
+        FindFault::Memory => Reply::Memory,
+    }
+}
+
+/// What is told where a run gave no pass.
+pub(crate) fn pass_refusal(fault: PassFault) -> Reply
+    ensures value { result ≡ pass_refusal fault }
+    ensures plain { IsPlain result }
+{
+    match fault {
+        PassFault::Room => Reply::Error(RuleId::A5),
+        PassFault::Foreign => Reply::Error(RuleId::S5),
+        PassFault::Memory => Reply::Memory,
+    }
+}
+
+/// The reply to an attach, and its fid, for which there is room.
+pub(crate) fn settle_attach(
+    fids: &mut FidTable,
+    fid: u32,
+    run: u32,
+    user: Option<UserName>,
+    pass: u32,
+    answer: Answer,
+) -> Reply
+    requires named { fid ≢ NOFID }
+    requires free { get fids.old.fids fid ≡ None }
+    requires room { 0 < fids.old.room }
+    ensures value { (result, fids.new.fids) ≡ entered fids.old.fids fid run user pass answer }
+    ensures plain { IsPlain result }
+{
+    match answer {
+        Answer::Attached(qid) => match user {
+            Some(user) => {
+                let _put = fids.put(fid, Entry::Walked(Fid::new(run, pass, 0, user)));
+                Reply::Attach(qid)
+            }
+            None => Reply::Error(RuleId::A6),
+        },
+        answer => refusal(answer),
+    }
+}

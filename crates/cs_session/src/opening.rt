@@ -1,0 +1,144 @@
+//! Opens and creates (open(5)).
+ghost use Rattle.std.specs.Prelude.{◌≡◌, false, IfErr, IsOk};
+ghost use Rattle.cs_session.specs.Judgements.{Judged, asked, walked_at};
+ghost use Rattle.cs_session.specs.Sizes.{IsPlain};
+ghost use Rattle.cs_session.specs.Opens.{create_after, create_judged, open_after, open_judged, open_left};
+
+use crate::asked::{Asked, first_of, refusal};
+use crate::message::{CreateMessage, OpenMessage};
+use crate::reply::Reply;
+use cs_fids::{Entry, FidTable};
+use cs_names::{Name, RuleId};
+use cs_permit::{Call, CreateCall, OpenCall, Request};
+use cs_run::Answer;
+
+/// What an open asks.
+pub(crate) fn judge_open(
+    awaits: bool,
+    msize: Option<u32>,
+    fids: &FidTable,
+    now: u32,
+    message: OpenMessage,
+) -> Result<Asked, Reply>
+    ensures judged { Judged asked (open_judged now awaits msize fids.now.fids message) result }
+    ensures plain { IfErr result IsPlain }
+    ensures idle { IsOk result → awaits ≡ false }
+{
+    let request = Request::Open {
+        fid: message.fid,
+        mode: message.mode,
+    };
+    if let Some(rule) = first_of(awaits, msize, &request, fids) {
+        return Err(Reply::Error(rule));
+    }
+    let Some(Entry::Walked(fid)) = fids.look(message.fid) else {
+        return Err(Reply::Error(RuleId::S5));
+    };
+    let Ok(user) = fid.user().try_clone() else {
+        return Err(Reply::Memory);
+    };
+    let call = Call::Open(OpenCall {
+        number: fid.number(),
+        user,
+        mode: message.mode,
+    });
+    Ok(Asked {
+        now,
+        run: fid.run(),
+        pass: fid.pass(),
+        call,
+    })
+}
+
+/// What a create asks.
+pub(crate) fn judge_create(
+    awaits: bool,
+    msize: Option<u32>,
+    fids: &FidTable,
+    now: u32,
+    message: CreateMessage,
+) -> Result<Asked, Reply>
+    ensures judged { Judged asked (create_judged now awaits msize fids.now.fids message) result }
+    ensures plain { IfErr result IsPlain }
+    ensures idle { IsOk result → awaits ≡ false }
+{
+    let request = Request::Create {
+        fid: message.fid,
+        name: message.name.as_str(),
+        perm: message.perm,
+        mode: message.mode,
+    };
+    if let Some(rule) = first_of(awaits, msize, &request, fids) {
+        return Err(Reply::Error(rule));
+    }
+    let Ok(name) = Name::from_text(message.name) else {
+        return Err(Reply::Error(RuleId::S5));
+    };
+    let Some(Entry::Walked(fid)) = fids.look(message.fid) else {
+        return Err(Reply::Error(RuleId::S5));
+    };
+    let Ok(user) = fid.user().try_clone() else {
+        return Err(Reply::Memory);
+    };
+    let call = Call::Create(CreateCall {
+        number: fid.number(),
+        user,
+        name,
+        perm: message.perm,
+        mode: message.mode,
+    });
+    Ok(Asked {
+        now,
+        run: fid.run(),
+        pass: fid.pass(),
+        call,
+    })
+}
+
+/// Has the fid, if it isn't open yet, stand for that file and be open.
+fn open_fid(fids: &mut FidTable, fid: u32, mode: u8, open_number: u32, number: u64)
+    ensures { fids.new.fids ≡ open_left fids.old.fids fid (walked_at fids.old.fids fid) mode open_number number }
+{
+    match fids.move_to(fid, number) {
+        Ok(()) => {
+            let _opened = fids.open(fid, mode, open_number);
+        }
+        Err(_) => {}
+    }
+}
+
+/// The reply to an open, and its fid.
+pub(crate) fn settle_open(fids: &mut FidTable, fid: u32, mode: u8, answer: Answer) -> Reply
+    ensures value { (result, fids.new.fids) ≡ open_after fids.old.fids fid mode answer }
+    ensures plain { IsPlain result }
+{
+    match answer {
+        Answer::Opened {
+            qid,
+            open_number,
+            number,
+        } => {
+            open_fid(fids, fid, mode, open_number, number);
+            Reply::Open(qid)
+        }
+        answer => refusal(answer),
+    }
+}
+
+/// The reply to a create, and its fid.
+pub(crate) fn settle_create(fids: &mut FidTable, fid: u32, mode: u8, answer: Answer) -> Reply
+    ensures value { (result, fids.new.fids) ≡ create_after fids.old.fids fid mode answer }
+    ensures plain { IsPlain result }
+{
+    match answer {
+        Answer::Opened {
+            qid,
+            open_number,
+            number,
+        } => {
+            open_fid(fids, fid, mode, open_number, number);
+            Reply::Create(qid)
+        }
+        answer => refusal(answer),
+    }
+}

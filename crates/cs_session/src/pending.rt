@@ -1,0 +1,28 @@
+//! A run that was found, and awaits its attach.
+
+use cs_names::UserName;
+use std::marker::Model;
+
+/// A run that was found, and awaits its attach. Contracts see the fid and the user of the attach, and
+/// the run's place; the user's name stands here twice, so that the attach takes no memory.
+#[derive(Debug, Drop)]
+pub(crate) struct Pending {
+    pub(crate) fid: u32,
+    pub(crate) run: u32,
+    pub(crate) uname: String,
+    pub(crate) user: Option<UserName>,
+}
+
+impl Model for Pending {
+    ghost use Rattle.std.specs.Prelude.{◌≡◌, string_bytes};
+    ghost use Rattle.cs_session.specs.Names.{user_in};
+    ghost use Rattle.cs_session.specs.Sessions.{Awaited, awaited_code};
+
+    ghost Value = { Awaited };
+
+    ghost coded = { awaited_code };
+
+    ghost view = { λ p. record { fid = p.fid; run = p.run; user = string_bytes p.uname } };
+
+    ghost invariant = { λ p. p.user ≡ user_in (string_bytes p.uname) };
+}

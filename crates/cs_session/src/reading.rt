@@ -1,0 +1,102 @@
+//! Reads (read(5)).
+ghost use Rattle.std.specs.Prelude.{◌≡◌, ℕ, ◌≤◌, false, is_some, true, IfErr, IfOk, IsOk, OnErr, Option};
+ghost use Rattle.cs_run.specs.Laws.{FitsCall, bytes_in};
+ghost use Rattle.cs_session.specs.Judgements.{Judged, asked, opened_at};
+ghost use Rattle.cs_run.specs.declared.answer.Answer.{Answer};
+ghost use Rattle.cs_session.specs.Sizes.{IsPlain, ReplyFits};
+ghost use Rattle.cs_session.specs.Reads.{cut, read_after, read_judged, read_left};
+
+use crate::asked::{Asked, first_of, refusal};
+use crate::message::ReadMessage;
+use crate::reply::{Bytes, Reply};
+use cs_fids::{Entry, FidTable, Place};
+use cs_names::RuleId;
+use cs_permit::{Call, ReadCall, Request};
+use cs_run::Answer;
+use std::alloc::AllocError;
+
+/// The bytes of an Rread beside its data: size, type, tag and count (read(5)).
+pub const READ_OVERHEAD: u32 = 11;
+
+/// At most as many bytes as an Rread of that message size holds.
+fn cut(msize: Option<u32>, count: u32) -> u32
+    ensures { result ≡ cut msize count }
+{
+    count.min(msize.unwrap_or(0).saturating_sub(READ_OVERHEAD))
+}
+
+/// The place again, which takes memory only for a name.
+fn copied(place: &Place) -> Result<Place, AllocError>
+    ensures ok { IfOk result (λ copy. copy ≡ place.now) }
+    ensures memory { OnErr result (is_some place.now.last ≡ true) }
+{
+    let last = match &place.last {
+        Some(name) => Some(name.try_clone()?),
+        None => None,
+    };
+    Ok(Place {
+        end: place.end,
+        last,
+    })
+}
+
+/// What a read asks.
+pub(crate) fn judge_read(
+    awaits: bool,
+    msize: Option<u32>,
+    fids: &FidTable,
+    now: u32,
+    message: ReadMessage,
+) -> Result<Asked, Reply>
+    ensures judged { Judged asked (read_judged now awaits msize fids.now.fids message) result }
+    ensures plain { IfErr result IsPlain }
+    ensures fits { IfOk result (λ a. (answer : Answer) → FitsCall a.call answer → bytes_in answer ≤ cut msize message.count) }
+    ensures idle { IsOk result → awaits ≡ false }
+{
+    let request = Request::Read { fid: message.fid };
+    if let Some(rule) = first_of(awaits, msize, &request, fids) {
+        return Err(Reply::Error(rule));
+    }
+    let Some(Entry::Opened(fid)) = fids.look(message.fid) else {
+        return Err(Reply::Error(RuleId::S5));
+    };
+    let Ok(place) = copied(fid.place()) else {
+        return Err(Reply::Memory);
+    };
+    let call = Call::Read(ReadCall {
+        number: fid.number(),
+        offset: message.offset,
+        count: cut(msize, message.count),
+        place,
+    });
+    Ok(Asked {
+        now,
+        run: fid.run(),
+        pass: fid.pass(),
+        call,
+    })
+}
+
+/// Has the fid's next read of a directory go on there, if anywhere else than before.
+fn go_on_at(fids: &mut FidTable, fid: u32, place: Option<Place>)
+    ensures { fids.new.fids ≡ read_left fids.old.fids fid (opened_at fids.old.fids fid) place }
+{
+    if let Some(place) = place {
+        let _set = fids.set_place(fid, place);
+    }
+}
+
+/// The reply to a read, and its fid.
+pub(crate) fn settle_read(fids: &mut FidTable, fid: u32, answer: Answer) -> Reply
+    ensures value { (result, fids.new.fids) ≡ read_after fids.old.fids fid answer }
+    ensures fits { (msize : Option ℕ) (count : ℕ) → bytes_in answer ≤ cut msize count → ReplyFits msize result }
+{
+    match answer {
+        Answer::Data(data) => {
+            let (bytes, place) = data.into_parts();
+            go_on_at(fids, fid, place);
+            Reply::Read(Bytes::new(bytes))
+        }
+        answer => refusal(answer),
+    }
+}

@@ -1,0 +1,281 @@
+//! From a message's bytes to the reply on the wire.
+ghost use Rattle.std.specs.Option.{ForSome};
+ghost use Rattle.std.specs.Prelude.{◌≡◌, ℕ, ◌≤◌, codes, IfErr, IfOk, length, None, Option};
+ghost use Rattle.cs_names.specs.Rules.{text_of};
+ghost use Rattle.cs_permit.specs.Refusals.{first_failing};
+ghost use Rattle.cs_permit.specs.Sizes.{IsQid, IsShown};
+ghost use Rattle.cs_session.specs.declared.message.CallMessage.TheVariants as call;
+ghost use Rattle.cs_session.specs.Ready.{IsAgreed};
+ghost use Rattle.cs_session.specs.Receipts.{IsReceived, IsReplied, IsSpelled, IsUnread, error_reply, front_rules, message_in, said, said_version, tag_in};
+ghost use Rattle.cs_session.specs.Sizes.{FitsIn, FitsWithin, ReplyFits, room_of};
+ghost use Rattle.cs_wire.specs.Messages.{r_view};
+
+use crate::message::{
+    AttachMessage, CallMessage, CreateMessage, Message, OpenMessage, ReadMessage, WalkMessage,
+    WriteMessage, WstatMessage,
+};
+use crate::port::Port;
+use crate::reply::Reply;
+use crate::session::Session;
+use cs_names::RuleId;
+use cs_wire::{Qid, RBody, RMessage, TBody, TMessage, WireFault, decode};
+use std::alloc::Global;
+use std::borrow::CowStr;
+
+/// The type of a Tversion (version(5)).
+const VERSION: u8 = 100;
+
+/// The type of a Tflush (flush(5)).
+const FLUSH: u8 = 108;
+
+/// The tag of a message, which its reply carries too: its bytes 5 and 6.
+fn tag_in(bytes: &[u8]) -> u16
+    requires { 7 ≤ length bytes.now }
+    ensures { result ≡ tag_in bytes.now }
+{
+    u16::from_le_bytes([bytes[5], bytes[6]])
+}
+
+/// The first of the rules S1 and S2 that a message breaks before it is decoded.
+fn first_failing_front(msize: Option<u32>, bytes: &[u8]) -> Option<RuleId>
+    requires { 7 ≤ length bytes.now }
+    ensures { result ≡ first_failing (front_rules msize bytes.now) }
+{
+    match msize {
+        None => {
+            if bytes[4] != VERSION && bytes[4] != FLUSH {
+                return Some(RuleId::S1);
+            }
+        }
+        Some(msize) => {
+            if bytes.len() > msize as usize {
+                return Some(RuleId::S2);
+            }
+        }
+    }
+    None
+}
+
+/// The message that the bytes spell; want of memory; or that they are no message.
+fn decoded(alloc: Global, bytes: &[u8]) -> Result<TMessage, Reply>
+    ensures ok { IfOk result (λ message. IsSpelled bytes.now message) }
+    ensures err { IfErr result (IsUnread bytes.now) }
+{
+    match decode(alloc, bytes) {
+        Ok(message) => Ok(message),
+        Err(WireFault::Memory) => Err(Reply::Memory),
+        Err(_) => Err(Reply::Error(RuleId::S2)),
+    }
+}
+
+/// What a message asks of its session, or the reply of one that takes no step.
+fn message_in(body: TBody) -> Result<Message, Reply>
+    ensures { result ≡ message_in body }
+{
+    Ok(match body {
+        TBody::Auth { .. } => return Err(Reply::Error(RuleId::S3)),
+        TBody::Flush { .. } => return Err(Reply::Flush),
+        TBody::Version { msize, version } => Message::Version { msize, version },
+        TBody::Attach {
+            fid,
+            afid,
+            uname,
+            aname,
+        } => Message::Attach(AttachMessage {
+            fid,
+            afid,
+            uname,
+            aname,
+        }),
+        TBody::Clunk { fid } => Message::Clunk(fid),
+        TBody::Walk { fid, newfid, wname } => Message::Call(walk(fid, newfid, wname)),
+        TBody::Open { fid, mode } => Message::Call(CallMessage::Open(OpenMessage { fid, mode })),
+        TBody::Create {
+            fid,
+            name,
+            perm,
+            mode,
+        } => Message::Call(create(fid, name, perm, mode)),
+        TBody::Read { fid, offset, count } => Message::Call(read(fid, offset, count)),
+        TBody::Write { fid, offset, data } => Message::Call(write(fid, offset, data)),
+        TBody::Remove { fid } => Message::Call(CallMessage::Remove(fid)),
+        TBody::Stat { fid } => Message::Call(CallMessage::Stat(fid)),
+        TBody::Wstat { fid, stat } => Message::Call(CallMessage::Wstat(WstatMessage { fid, stat })),
+    })
+}
+
+fn walk(fid: u32, newfid: u32, names: Vec<String>) -> CallMessage
+    ensures { result ≡ call.Walk (record { fid = fid; newfid = newfid; names = names }) }
+{
+    CallMessage::Walk(WalkMessage { fid, newfid, names })
+}
+
+fn create(fid: u32, name: String, perm: u32, mode: u8) -> CallMessage
+    ensures { result ≡ call.Create (record { fid = fid; name = name; perm = perm; mode = mode }) }
+{
+    CallMessage::Create(CreateMessage {
+        fid,
+        name,
+        perm,
+        mode,
+    })
+}
+
+fn read(fid: u32, offset: u64, count: u32) -> CallMessage
+    ensures { result ≡ call.Read (record { fid = fid; offset = offset; count = count }) }
+{
+    CallMessage::Read(ReadMessage { fid, offset, count })
+}
+
+fn write(fid: u32, offset: u64, bytes: Vec<u8>) -> CallMessage
+    ensures { result ≡ call.Write (record { fid = fid; offset = offset; bytes = bytes }) }
+{
+    CallMessage::Write(WriteMessage { fid, offset, bytes })
+}
+
+/// What the reply to a version names.
+fn version_text(is_spoken: bool) -> &'static str
+    ensures value { result.now ≡ said_version is_spoken }
+    ensures shown { IsShown 7 result.now }
+{
+    if is_spoken { "9P2000" } else { "unknown" }
+}
+
+/// The text of a rule.
+fn rule_text(rule: RuleId) -> &'static str
+    ensures value { result.now ≡ text_of rule }
+    ensures shown { IsShown 48 result.now }
+{
+    rule.text()
+}
+
+/// An Rerror with that text (error(5)).
+fn error(text: &'static str) -> RBody
+    requires { IsShown 48 text.now }
+    ensures value { (tag : ℕ) → r_view (record { tag = tag; body = result }) ≡ error_reply tag text.now }
+    ensures fits { (msize : Option ℕ) → FitsIn (room_of msize) result }
+{
+    RBody::Error {
+        ename: CowStr::Borrowed(text),
+    }
+}
+
+/// The same qid, whose numbers are in their ranges, as any qid's are.
+fn ranged(qid: Qid) -> Qid
+    ensures value { result ≡ qid }
+    ensures fits { IsQid result }
+{
+    Qid {
+        kind: qid.kind,
+        vers: qid.vers,
+        path: qid.path,
+    }
+}
+
+/// The words of a reply. It takes no memory.
+fn body_of(reply: Reply) -> RBody
+    ensures value { (tag : ℕ) → r_view (record { tag = tag; body = result }) ≡ said tag reply }
+    ensures fits { (msize : Option ℕ) → ForSome msize IsAgreed → ReplyFits msize reply → FitsIn (room_of msize) result }
+{
+    match reply {
+        Reply::Version { msize, is_spoken } => RBody::Version {
+            msize,
+            version: CowStr::Borrowed(version_text(is_spoken)),
+        },
+        Reply::Attach(qid) => RBody::Attach { qid: ranged(qid) },
+        Reply::Walk(way) => RBody::Walk {
+            wqid: way.into_qids(),
+        },
+        Reply::Open(qid) => RBody::Open {
+            qid: ranged(qid),
+            iounit: 0,
+        },
+        Reply::Create(qid) => RBody::Create {
+            qid: ranged(qid),
+            iounit: 0,
+        },
+        Reply::Read(bytes) => RBody::Read {
+            data: bytes.into_vec(),
+        },
+        Reply::Write(count) => RBody::Write { count },
+        Reply::Clunk => RBody::Clunk,
+        Reply::Remove => RBody::Remove,
+        Reply::Stat(stat) => RBody::Stat {
+            stat: stat.into_stat(),
+        },
+        Reply::Wstat => RBody::Wstat,
+        Reply::Flush => RBody::Flush,
+        Reply::Error(rule) => error(rule_text(rule)),
+        Reply::Memory => error(memory_text()),
+        // no message ends with these
+        Reply::Found => error(rule_text(RuleId::S5)),
+        Reply::Closed => error(rule_text(RuleId::S5)),
+    }
+}
+
+/// What want of memory is told as.
+fn memory_text() -> &'static str
+    ensures value { result.now ≡ codes "out of memory" }
+    ensures shown { IsShown 48 result.now }
+{
+    "out of memory"
+}
+
+impl Session {
+    /// What a message's bytes come to.
+    fn receive<P: Port>(&mut self, alloc: Global, port: &mut P, now: u32, bytes: &[u8]) -> Reply
+        requires whole { 7 ≤ length bytes.now }
+        requires idle { self.old.pending ≡ None }
+        ensures received { IsReceived P.gives now bytes.now self.old port.old result self.new port.new }
+        ensures fits { ReplyFits self.old.msize result }
+        ensures idle { self.new.pending ≡ None }
+    {
+        if let Some(rule) = first_failing_front(self.msize(), bytes) {
+            return Reply::Error(rule);
+        }
+        let message = match decoded(alloc, bytes) {
+            Ok(message) => message,
+            Err(reply) => return reply,
+        };
+        let asks = match message_in(message.body) {
+            Ok(asks) => asks,
+            Err(reply) => return reply,
+        };
+        self.answer(alloc, port, now, asks)
+    }
+
+    /// Answers one message, of 7 bytes at least, at that moment. The reply carries the message's tag,
+    /// and has at most as many bytes as the session's message size; the first rule that fails, or want
+    /// of memory, is told by an Rerror (error(5)).
+    pub fn reply<P: Port>(
+        &mut self,
+        alloc: Global,
+        port: &mut P,
+        now: u32,
+        bytes: &[u8],
+    ) -> RMessage
+        requires whole { 7 ≤ length bytes.now }
+        requires idle { self.old.pending ≡ None }
+        ensures replied { IsReplied P.gives now bytes.now self.old port.old (r_view result) self.new port.new }
+        ensures fits { FitsWithin (room_of self.old.msize) (r_view result) }
+        ensures idle { self.new.pending ≡ None }
+    {
+        let msize = self.msize();
+        let reply = self.receive(alloc, port, now, bytes);
+        told(msize, tag_in(bytes), reply)
+    }
+}
+
+/// The reply of that tag, in a session of that message size.
+fn told(msize: Option<u32>, tag: u16, reply: Reply) -> RMessage
+    requires agreed { ForSome msize IsAgreed }
+    requires fits { ReplyFits msize reply }
+    ensures value { r_view result ≡ said tag reply }
+    ensures fits { FitsWithin (room_of msize) (r_view result) }
+{
+    let _msize = msize;
+    RMessage {
+        tag,
+        body: body_of(reply),
+    }
+}

@@ -1,0 +1,392 @@
+//! A connection's session, and its steps.
+ghost use Rattle.std.specs.Prelude.{◌≡◌, ◌≢◌, ◌<◌, is_ok, is_some, IfSome, IsOk, IsSome, None};
+ghost use Rattle.std.specs.FinMap.{len};
+ghost use Rattle.cs_fids.specs.Tables.{least_open, opened_in};
+ghost use Rattle.cs_session.specs.declared.message.CallMessage.TheVariants as call;
+ghost use Rattle.cs_session.specs.Ready.{IsAgreed};
+ghost use Rattle.cs_session.specs.Sessions.{blank, entry_at};
+ghost use Rattle.std.specs.Option.{ForSome};
+ghost use Rattle.cs_session.specs.Sizes.{CallFits, IsPlain, ReplyFits};
+ghost use Rattle.cs_session.specs.Steps.{AttachStep, CallStep, CloseStep, FindStep, IsTaken, Table};
+ghost use Rattle.cs_session.specs.TableSteps.{table_stepped};
+
+use crate::attaching::{find_refusal, judge_find, pass_refusal, settle_attach};
+use crate::changing::{
+    close_reply, judge_close, judge_remove, judge_stat, judge_write, judge_wstat, remove_reply,
+    stat_reply, write_reply, wstat_reply,
+};
+use crate::message::{
+    AttachMessage, CallMessage, CreateMessage, OpenMessage, ReadMessage, TableStep, WalkMessage,
+    WriteMessage, WstatMessage,
+};
+use crate::opening::{judge_create, judge_open, settle_create, settle_open};
+use crate::pending::Pending;
+use crate::port::Port;
+use crate::reading::{judge_read, settle_read};
+use crate::reply::Reply;
+use crate::versions::{clunk, session_size, version_reply};
+use crate::walking::{judge_walk, settle_walk};
+use cs_fids::FidTable;
+use cs_names::RuleId;
+use std::alloc::Global;
+use std::marker::Model;
+
+/// A connection: its message size, where a session stands; a run that awaits its attach; and its fids.
+#[derive(Drop)]
+pub struct Session {
+    msize: Option<u32>,
+    pending: Option<Pending>,
+    fids: FidTable,
+}
+
+impl Model for Session {
+    ghost use Rattle.cs_session.specs.Ready.{IsReady};
+    ghost use Rattle.cs_session.specs.Sessions.{Sess, sess_code};
+
+    ghost Value = { Sess };
+
+    ghost coded = { sess_code };
+
+    ghost view = { λ s. record { msize = s.msize; pending = s.pending; fids = s.fids.fids } };
+
+    ghost invariant = { λ s. IsReady s.msize s.pending s.fids };
+}
+
+impl Session {
+    /// A connection with no session and no fid.
+    pub fn new(alloc: Global) -> Session
+        ensures { result ≡ blank None }
+    {
+        Session {
+            msize: None,
+            pending: None,
+            fids: FidTable::new(alloc),
+        }
+    }
+
+    /// The message size, if a session stands.
+    pub fn msize(&self) -> Option<u32>
+        ensures value { result ≡ self.now.msize }
+        ensures agreed { ForSome result IsAgreed }
+    {
+        self.msize
+    }
+
+    /// Finds the run of an attach, which then awaits it. A refusal leaves the connection.
+    pub fn find_step<P: Port>(
+        &mut self,
+        alloc: Global,
+        port: &mut P,
+        now: u32,
+        message: AttachMessage,
+    ) -> Reply
+        ensures takes { IsTaken P.gives now self.old port.old (FindStep message) result self.new port.new }
+        ensures plain { IsPlain result }
+        ensures found { result ≡ Reply.Found → IsSome self.new.pending }
+        ensures refused { result ≢ Reply.Found → self.new.pending ≡ self.old.pending }
+    {
+        let awaits = self.pending.is_some();
+        match judge_find(alloc, awaits, self.msize, &mut self.fids, &message) {
+            Err(reply) => reply,
+            Ok((name, user)) => match port.find(alloc, &name) {
+                Ok(run) => {
+                    self.pending = Some(Pending {
+                        fid: message.fid,
+                        run,
+                        uname: message.uname,
+                        user,
+                    });
+                    Reply::Found
+                }
+                Err(fault) => find_refusal(fault),
+            },
+        }
+    }
+
+    /// Attaches to the run that was found, which then awaits its attach no more. S5 where none was
+    /// found. It takes no memory but the port's.
+    pub fn attach_step<P: Port>(&mut self, alloc: Global, port: &mut P, now: u32) -> Reply
+        ensures takes { IsTaken P.gives now self.old port.old AttachStep result self.new port.new }
+        ensures fits { ReplyFits self.old.msize result }
+        ensures idle { self.new.pending ≡ None }
+    {
+        let Some(found) = self.pending.take() else {
+            return Reply::Error(RuleId::S5);
+        };
+        match port.attach(alloc, now, found.run, found.uname) {
+            Ok((pass, answer)) => settle_attach(
+                &mut self.fids,
+                found.fid,
+                found.run,
+                found.user,
+                pass,
+                answer,
+            ),
+            Err(fault) => pass_refusal(fault),
+        }
+    }
+
+    /// Closes an open fid, which is free then, whatever the answer is. S5 where the fid isn't open.
+    pub fn close_step<P: Port>(&mut self, alloc: Global, port: &mut P, now: u32, fid: u32) -> Reply
+        ensures takes { IsTaken P.gives now self.old port.old (CloseStep fid) result self.new port.new }
+        ensures plain { IsPlain result }
+        ensures pending { self.new.pending ≡ self.old.pending }
+        ensures fewer { self.old.pending ≡ None → IsOk (opened_in (entry_at self.old fid)) → len self.new.fids < len self.old.fids }
+    {
+        let awaits = self.pending.is_some();
+        let ask = match judge_close(awaits, &mut self.fids, now, fid) {
+            Ok(ask) => ask,
+            Err(reply) => return reply,
+        };
+        let answer = port.call(alloc, ask.now, ask.run, ask.pass, ask.call);
+        close_reply(answer)
+    }
+
+    /// Frees every fid, and begins a session of that message size, or none.
+    fn begin(&mut self, msize: Option<u32>)
+        requires agreed { ForSome msize IsAgreed }
+        requires idle { self.old.pending ≡ None }
+        ensures { self.new ≡ blank msize }
+    {
+        self.fids.clear();
+        self.msize = msize;
+    }
+
+    /// Changes the connection's own table, and asks nothing of the port (version(5), clunk(5)). S5 where
+    /// a run awaits its attach, where the fid of a clunk is open, and where a fid is open at a version or
+    /// a hang-up: it changes nothing.
+    pub fn table_step<P: Port>(&mut self, port: &mut P, now: u32, step: TableStep) -> Reply
+        ensures takes { IsTaken P.gives now self.old port.old (Table step) result self.new port.new }
+        ensures value { (result, self.new) ≡ table_stepped self.old step }
+        ensures plain { IsPlain result }
+        ensures idle { self.old.pending ≡ None → self.new.pending ≡ None }
+    {
+        if self.pending.is_some() {
+            return Reply::Error(RuleId::S5);
+        }
+        match step {
+            TableStep::Clunk(fid) => {
+                if self.msize.is_none() {
+                    return Reply::Error(RuleId::S1);
+                }
+                clunk(&mut self.fids, fid)
+            }
+            TableStep::Version { msize, version } => {
+                if self.fids.least_open().is_some() {
+                    return Reply::Error(RuleId::S5);
+                }
+                self.begin(session_size(msize, version.as_str()));
+                version_reply(msize, version.as_str())
+            }
+            TableStep::HangUp => {
+                if self.fids.least_open().is_some() {
+                    return Reply::Error(RuleId::S5);
+                }
+                self.begin(None);
+                Reply::Closed
+            }
+        }
+    }
+
+    fn walk_step<P: Port>(
+        &mut self,
+        alloc: Global,
+        port: &mut P,
+        now: u32,
+        message: WalkMessage,
+    ) -> Reply
+        ensures takes { IsTaken P.gives now self.old port.old (CallStep (call.Walk message)) result self.new port.new }
+        ensures fits { CallFits (call.Walk message) → ReplyFits self.old.msize result }
+        ensures pending { self.new.pending ≡ self.old.pending }
+    {
+        let awaits = self.pending.is_some();
+        let (fid, newfid) = (message.fid, message.newfid);
+        match judge_walk(awaits, self.msize, &mut self.fids, now, message) {
+            Err(reply) => reply,
+            Ok((ask, from)) => {
+                let answer = port.call(alloc, ask.now, ask.run, ask.pass, ask.call);
+                settle_walk(&mut self.fids, fid, newfid, from, answer)
+            }
+        }
+    }
+
+    fn open_step<P: Port>(
+        &mut self,
+        alloc: Global,
+        port: &mut P,
+        now: u32,
+        message: OpenMessage,
+    ) -> Reply
+        ensures takes { IsTaken P.gives now self.old port.old (CallStep (call.Open message)) result self.new port.new }
+        ensures fits { ReplyFits self.old.msize result }
+        ensures pending { self.new.pending ≡ self.old.pending }
+    {
+        let awaits = self.pending.is_some();
+        match judge_open(awaits, self.msize, &self.fids, now, message) {
+            Err(reply) => reply,
+            Ok(ask) => {
+                let answer = port.call(alloc, ask.now, ask.run, ask.pass, ask.call);
+                settle_open(&mut self.fids, message.fid, message.mode, answer)
+            }
+        }
+    }
+
+    fn create_step<P: Port>(
+        &mut self,
+        alloc: Global,
+        port: &mut P,
+        now: u32,
+        message: CreateMessage,
+    ) -> Reply
+        ensures takes { IsTaken P.gives now self.old port.old (CallStep (call.Create message)) result self.new port.new }
+        ensures fits { ReplyFits self.old.msize result }
+        ensures pending { self.new.pending ≡ self.old.pending }
+    {
+        let awaits = self.pending.is_some();
+        let (fid, mode) = (message.fid, message.mode);
+        match judge_create(awaits, self.msize, &self.fids, now, message) {
+            Err(reply) => reply,
+            Ok(ask) => {
+                let answer = port.call(alloc, ask.now, ask.run, ask.pass, ask.call);
+                settle_create(&mut self.fids, fid, mode, answer)
+            }
+        }
+    }
+
+    fn read_step<P: Port>(
+        &mut self,
+        alloc: Global,
+        port: &mut P,
+        now: u32,
+        message: ReadMessage,
+    ) -> Reply
+        ensures takes { IsTaken P.gives now self.old port.old (CallStep (call.Read message)) result self.new port.new }
+        ensures fits { ReplyFits self.old.msize result }
+        ensures pending { self.new.pending ≡ self.old.pending }
+    {
+        let awaits = self.pending.is_some();
+        match judge_read(awaits, self.msize, &self.fids, now, message) {
+            Err(reply) => reply,
+            Ok(ask) => {
+                let answer = port.call(alloc, ask.now, ask.run, ask.pass, ask.call);
+                settle_read(&mut self.fids, message.fid, answer)
+            }
+        }
+    }
+
+    fn write_step<P: Port>(
+        &mut self,
+        alloc: Global,
+        port: &mut P,
+        now: u32,
+        message: WriteMessage,
+    ) -> Reply
+        ensures takes { IsTaken P.gives now self.old port.old (CallStep (call.Write message)) result self.new port.new }
+        ensures fits { ReplyFits self.old.msize result }
+        ensures pending { self.new.pending ≡ self.old.pending }
+    {
+        let awaits = self.pending.is_some();
+        let ask = match judge_write(awaits, self.msize, &self.fids, now, message) {
+            Ok(ask) => ask,
+            Err(reply) => return reply,
+        };
+        let answer = port.call(alloc, ask.now, ask.run, ask.pass, ask.call);
+        write_reply(answer)
+    }
+
+    fn remove_step<P: Port>(&mut self, alloc: Global, port: &mut P, now: u32, fid: u32) -> Reply
+        ensures takes { IsTaken P.gives now self.old port.old (CallStep (call.Remove fid)) result self.new port.new }
+        ensures fits { ReplyFits self.old.msize result }
+        ensures pending { self.new.pending ≡ self.old.pending }
+    {
+        let awaits = self.pending.is_some();
+        let ask = match judge_remove(awaits, self.msize, &mut self.fids, now, fid) {
+            Ok(ask) => ask,
+            Err(reply) => return reply,
+        };
+        let answer = port.call(alloc, ask.now, ask.run, ask.pass, ask.call);
+        remove_reply(answer)
+    }
+
+    fn stat_step<P: Port>(&mut self, alloc: Global, port: &mut P, now: u32, fid: u32) -> Reply
+        ensures takes { IsTaken P.gives now self.old port.old (CallStep (call.Stat fid)) result self.new port.new }
+        ensures fits { ReplyFits self.old.msize result }
+        ensures pending { self.new.pending ≡ self.old.pending }
+    {
+        let awaits = self.pending.is_some();
+        let ask = match judge_stat(awaits, self.msize, &self.fids, now, fid) {
+            Ok(ask) => ask,
+            Err(reply) => return reply,
+        };
+        let answer = port.call(alloc, ask.now, ask.run, ask.pass, ask.call);
+        stat_reply(answer)
+    }
+
+    fn wstat_step<P: Port>(
+        &mut self,
+        alloc: Global,
+        port: &mut P,
+        now: u32,
+        message: WstatMessage,
+    ) -> Reply
+        ensures takes { IsTaken P.gives now self.old port.old (CallStep (call.Wstat message)) result self.new port.new }
+        ensures fits { ReplyFits self.old.msize result }
+        ensures pending { self.new.pending ≡ self.old.pending }
+    {
+        let awaits = self.pending.is_some();
+        let ask = match judge_wstat(awaits, self.msize, &self.fids, now, message) {
+            Ok(ask) => ask,
+            Err(reply) => return reply,
+        };
+        let answer = port.call(alloc, ask.now, ask.run, ask.pass, ask.call);
+        wstat_reply(answer)
+    }
+
+    /// Does a call on a fid's run: the connection's rules, the growth of its table, and then what the
+    /// run answers. A refusal leaves the fids, but for a remove that was asked, whose fid is free
+    /// (remove(5)).
+    pub fn call_step<P: Port>(
+        &mut self,
+        alloc: Global,
+        port: &mut P,
+        now: u32,
+        message: CallMessage,
+    ) -> Reply
+        ensures takes { IsTaken P.gives now self.old port.old (CallStep message) result self.new port.new }
+        ensures fits { CallFits message → ReplyFits self.old.msize result }
+        ensures pending { self.new.pending ≡ self.old.pending }
+    {
+        match message {
+            CallMessage::Walk(message) => self.walk_step(alloc, port, now, message),
+            CallMessage::Open(message) => self.open_step(alloc, port, now, message),
+            CallMessage::Create(message) => self.create_step(alloc, port, now, message),
+            CallMessage::Read(message) => self.read_step(alloc, port, now, message),
+            CallMessage::Write(message) => self.write_step(alloc, port, now, message),
+            CallMessage::Remove(fid) => self.remove_step(alloc, port, now, fid),
+            CallMessage::Stat(fid) => self.stat_step(alloc, port, now, fid),
+            CallMessage::Wstat(message) => self.wstat_step(alloc, port, now, message),
+        }
+    }
+
+    /// The least number of an open fid, if any.
+    pub(crate) fn least_open(&self) -> Option<u32>
+        ensures least { result ≡ least_open self.now.fids }
+        ensures found { IfSome result (λ fid. IsOk (opened_in (entry_at self.now fid))) }
+    {
+        self.fids.least_open()
+    }
+
+    /// Whether the number stands for an open fid.
+    pub(crate) fn is_open(&self, fid: u32) -> bool
+        ensures { result ≡ is_ok (opened_in (entry_at self.now fid)) }
+    {
+        self.fids.get_opened(fid).is_ok()
+    }
+
+    /// Whether a run that was found awaits its attach.
+    pub fn awaits(&self) -> bool
+        ensures { result ≡ is_some self.now.pending }
+    {
+        self.pending.is_some()
+    }
+}

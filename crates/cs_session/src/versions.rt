@@ -1,0 +1,64 @@
+//! Versions, and the other changes of a connection's own table (version(5), clunk(5)).
+ghost use Rattle.std.specs.Option.{ForSome};
+ghost use Rattle.std.specs.Prelude.{◌≡◌, string_bytes};
+ghost use Rattle.cs_fids.specs.Tables.{fid_at};
+ghost use Rattle.cs_session.specs.Ready.{IsAgreed};
+ghost use Rattle.cs_session.specs.Sizes.{IsPlain};
+ghost use Rattle.cs_session.specs.TableSteps.{clunk_left, clunk_reply};
+ghost use Rattle.cs_session.specs.Versions.{before_period, is_spoken, session_size, version_reply};
+
+use crate::reply::Reply;
+use cs_fids::{FidFault, FidTable};
+use cs_names::limits::{LEAST_MESSAGE_SIZE, MESSAGE_BYTES};
+use cs_names::{Pieces, RuleId};
+
+fn before_period(text: &[u8]) -> &[u8]
+    ensures { result.now ≡ before_period text.now }
+{
+    Pieces::of(text, b'.').next().unwrap_or(b"".as_slice())
+}
+
+/// Whether the text, up to its first period, is the version that this server speaks.
+fn is_spoken(text: &[u8]) -> bool
+    ensures { result ≡ is_spoken text.now }
+{
+    before_period(text) == b"9P2000".as_slice()
+}
+
+/// The reply to a version.
+pub(crate) fn version_reply(msize: u32, version: &str) -> Reply
+    ensures value { result ≡ version_reply msize version.now }
+    ensures plain { IsPlain result }
+{
+    if msize < LEAST_MESSAGE_SIZE {
+        return Reply::Error(RuleId::S4);
+    }
+    Reply::Version {
+        msize: msize.min(MESSAGE_BYTES),
+        is_spoken: is_spoken(version.as_bytes()),
+    }
+}
+
+/// The message size of the session that a version begins, if it begins one.
+pub(crate) fn session_size(msize: u32, version: &str) -> Option<u32>
+    ensures value { result ≡ session_size msize version.now }
+    ensures agreed { ForSome result IsAgreed }
+{
+    if msize < LEAST_MESSAGE_SIZE || !is_spoken(version.as_bytes()) {
+        return None;
+    }
+    Some(msize.min(MESSAGE_BYTES))
+}
+
+/// Frees a fid that isn't open.
+pub(crate) fn clunk(fids: &mut FidTable, fid: u32) -> Reply
+    ensures value { result ≡ clunk_reply (fid_at fids.old fid) }
+    ensures plain { IsPlain result }
+    ensures left { fids.new.fids ≡ clunk_left fids.old.fids fid (fid_at fids.old fid) }
+{
+    match fids.take_walked(fid) {
+        Ok(_walked) => Reply::Clunk,
+        Err(FidFault::AlreadyOpen) => Reply::Error(RuleId::S5),
+        Err(_) => Reply::Error(RuleId::N1),
+    }
+}

@@ -1,0 +1,111 @@
+//! Walks (walk(5)).
+ghost use Rattle.std.specs.Prelude.{◌≡◌, ◌≢◌, ℕ, ◌<◌, ◌≤◌, false, length, IfErr, IfOk, IsOk, None, Option, Some};
+ghost use Rattle.std.specs.FinMap.{get};
+ghost use Rattle.cs_run.specs.Laws.{FitsCall, qids_in};
+ghost use Rattle.cs_session.specs.Judgements.{Judged, asked, walked_at};
+ghost use Rattle.cs_names.specs.declared.limits.TheConstants.{WALK_NAMES};
+ghost use Rattle.cs_run.specs.declared.answer.Answer.{Answer};
+ghost use Rattle.cs_session.specs.Sizes.{IsPlain, ReplyFits};
+ghost use Rattle.cs_session.specs.Walks.{walk_after, walk_judged, walk_left};
+
+use crate::asked::{Asked, first_of, refusal};
+use crate::message::WalkMessage;
+use crate::reply::Reply;
+use cs_fids::{Entry, Fid, FidTable, NOFID, Walked};
+use cs_names::RuleId;
+use cs_permit::{Call, Request, WalkCall};
+use cs_run::{Answer, Walk};
+
+/// What a walk asks, with a copy of the fid from which it goes, and room for a new one.
+pub(crate) fn judge_walk(
+    awaits: bool,
+    msize: Option<u32>,
+    fids: &mut FidTable,
+    now: u32,
+    message: WalkMessage,
+) -> Result<(Asked, Fid<Walked>), Reply>
+    ensures judged { Judged (λ a. asked a.0) (walk_judged now awaits msize fids.old.fids message) result }
+    ensures plain { IfErr result IsPlain }
+    ensures fits { IfOk result (λ a. (answer : Answer) → FitsCall a.0.call answer → qids_in answer ≤ length message.names.items) }
+    ensures idle { IsOk result → awaits ≡ false }
+    ensures from { IfOk result (λ a. walked_at fids.old.fids message.fid ≡ Some a.1) }
+    ensures named { IsOk result → message.newfid ≢ NOFID }
+    ensures free { IsOk result → message.newfid ≢ message.fid → get fids.old.fids message.newfid ≡ None }
+    ensures room { IsOk result → message.newfid ≢ message.fid → 0 < fids.new.room }
+    ensures kept { fids.old.room ≤ fids.new.room }
+    ensures fids { fids.new.fids ≡ fids.old.fids }
+{
+    let request = Request::Walk {
+        fid: message.fid,
+        newfid: message.newfid,
+    };
+    if let Some(rule) = first_of(awaits, msize, &request, fids) {
+        return Err(Reply::Error(rule));
+    }
+    if message.newfid != message.fid && fids.reserve().is_err() {
+        return Err(Reply::Memory);
+    }
+    let Some(Entry::Walked(fid)) = fids.look(message.fid) else {
+        return Err(Reply::Error(RuleId::S5));
+    };
+    let Ok(user) = fid.user().try_clone() else {
+        return Err(Reply::Memory);
+    };
+    let Ok(from) = fid.try_clone() else {
+        return Err(Reply::Memory);
+    };
+    let call = Call::Walk(WalkCall {
+        number: fid.number(),
+        user,
+        names: message.names,
+    });
+    let ask = Asked {
+        now,
+        run: fid.run(),
+        pass: fid.pass(),
+        call,
+    };
+    Ok((ask, from))
+}
+
+/// Has the new fid stand for the last file, unless a rule stopped the walk.
+fn move_fid(fids: &mut FidTable, fid: u32, newfid: u32, from: Fid<Walked>, way: &Walk)
+    requires from { walked_at fids.old.fids fid ≡ Some from }
+    requires named { newfid ≢ NOFID }
+    requires free { newfid ≢ fid → get fids.old.fids newfid ≡ None }
+    requires room { newfid ≢ fid → 0 < fids.old.room }
+    ensures { fids.new.fids ≡ walk_left fids.old.fids newfid (Some from) way.now }
+{
+    if way.stopped().is_some() {
+        return;
+    }
+    if newfid == fid {
+        let _moved = fids.move_to(fid, way.last());
+    } else {
+        let _put = fids.put(newfid, Entry::Walked(from.moved_to(way.last())));
+    }
+}
+
+/// The reply to a walk, and its fid.
+pub(crate) fn settle_walk(
+    fids: &mut FidTable,
+    fid: u32,
+    newfid: u32,
+    from: Fid<Walked>,
+    answer: Answer,
+) -> Reply
+    requires from { walked_at fids.old.fids fid ≡ Some from }
+    requires named { newfid ≢ NOFID }
+    requires free { newfid ≢ fid → get fids.old.fids newfid ≡ None }
+    requires room { newfid ≢ fid → 0 < fids.old.room }
+    ensures value { (result, fids.new.fids) ≡ walk_after fids.old.fids fid newfid answer }
+    ensures fits { (msize : Option ℕ) (names : ℕ) → names ≤ WALK_NAMES → qids_in answer ≤ names → ReplyFits msize result }
+{
+    match answer {
+        Answer::Walked(way) => {
+            move_fid(fids, fid, newfid, from, &way);
+            Reply::Walk(way)
+        }
+        answer => refusal(answer),
+    }
+}
