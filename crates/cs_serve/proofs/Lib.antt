@@ -1,6 +1,4 @@
-pub mod Ending
-pub mod Firsts
-pub mod Fitting
-pub mod Showing
-pub mod Sizing
-pub mod Ways
+pub mod Keeping
+pub mod Mapping
+pub mod Serving
+pub mod Stepping

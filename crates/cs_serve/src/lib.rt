@@ -1,26 +1,20 @@
-//! A server of one start tree over 9P2000: a connection's session, fids and rules, and the scripts
-//! that run on it.
+//! A server of one start tree over 9P2000: the connections 0 to 63 over one run of it, and the
+//! scripts that run on them.
 #![tactic(auto)]
 
-mod answering;
 mod fault;
-mod fid;
-mod fid_table;
+mod first_run;
 mod first_world;
 mod laws;
+mod printing;
 mod program;
-mod refusal;
-mod requests;
-mod rules;
 mod script;
-mod session;
-mod stat;
 #[cfg(test)]
 mod tests;
-mod tree_name;
-mod walk;
+mod world;
 
 pub use fault::ProgramFault;
-pub use first_world::FirstWorld;
-pub use laws::first_rule_that_fails;
+pub use first_run::FirstRun;
+pub use laws::{attach_is_a_call, step_is_function};
 pub use program::{Inputs, script_of};
+pub use world::FirstWorld;

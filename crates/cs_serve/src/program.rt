@@ -1,14 +1,14 @@
 //! The commands of the program, after their files were read.
 ghost use Rattle.std.specs.Prelude.{◌≤◌};
-ghost use Rattle.cs_wire.specs.Messages.{Fits, r_view};
 
 use crate::fault::ProgramFault;
-use crate::first_world::FirstWorld;
+use crate::printing::Printer;
 use crate::script::{Action, ScriptLine, read_script};
+use crate::world::FirstWorld;
 use cs_trace::{TraceFaultKind, read_start};
 use cs_tree::PlainTree;
 use cs_users::{Users, UsersFault};
-use cs_wire::{RMessage, decode, encode};
+use cs_wire::{RMessage, decode};
 use std::alloc::Global;
 use std::io::{ErrorKind, Read, Write};
 
@@ -54,48 +54,36 @@ fn read_all<R: Read>(alloc: Global, input: &mut R) -> Result<Vec<u8>, ProgramFau
     }
 }
 
-/// The reply's bytes as a line: the connection, which is 0, and lower case hexadecimal.
-fn write_reply<W: Write>(alloc: Global, reply: &RMessage, out: &mut W) -> Result<(), ProgramFault>
-    requires { Fits (r_view reply.now) }
-{
-    let mut bytes = Vec::new(alloc);
-    if encode(reply, &mut bytes).is_err() {
-        return Err(ProgramFault::Memory);
-    }
-    let Ok(digits) = hex::encode(alloc, bytes.as_slice()) else {
-        return Err(ProgramFault::Memory);
-    };
-    writeln!(out, "0 {digits}").map_err(|_| ProgramFault::Output)
-}
-
 /// Tells a message and its reply as two lines of text. That these can't be written ends no script.
-fn tell<E: Write>(alloc: Global, bytes: &[u8], reply: &RMessage, err: &mut E) {
+fn tell<E: Write>(alloc: Global, conn: u32, bytes: &[u8], reply: &RMessage, err: &mut E) {
     let _unheard = match decode(alloc, bytes) {
-        Ok(message) => writeln!(err, "0 <- {message}"),
-        Err(fault) => writeln!(err, "0 <- no message: {fault}"),
+        Ok(message) => writeln!(err, "{conn} <- {message}"),
+        Err(fault) => writeln!(err, "{conn} <- no message: {fault}"),
     };
-    let _unheard = writeln!(err, "0 -> {reply}");
+    let _unheard = writeln!(err, "{conn} -> {reply}");
 }
 
 /// Does what a line asks, and prints what it came to; with `told` also what was asked, as text.
 fn run_line<W: Write, E: Write>(
     alloc: Global,
     world: &mut FirstWorld<PlainTree>,
+    printer: &mut Printer,
     line: &ScriptLine,
     out: &mut W,
     told: Option<&mut E>,
 ) -> Result<(), ProgramFault> {
+    let conn = line.conn;
     match &line.action {
         Action::Send(message) => {
-            let reply = world.message(alloc, 0, line.now, &message.bytes);
+            let reply = world.message(alloc, conn, line.now, &message.bytes);
             if let Some(err) = told {
-                tell(alloc, &message.bytes, &reply, err);
+                tell(alloc, conn, &message.bytes, &reply, err);
             }
-            write_reply(alloc, &reply, out)
+            printer.reply(conn, &reply, out)
         }
         Action::HangUp => {
-            world.hang_up(0, line.now);
-            writeln!(out, "0 closed").map_err(|_| ProgramFault::Output)
+            world.hang_up(alloc, conn, line.now);
+            writeln!(out, "{conn} closed").map_err(|_| ProgramFault::Output)
         }
     }
 }
@@ -109,16 +97,19 @@ fn run_script<R: Read, W: Write, E: Write>(
 ) -> Result<(), ProgramFault> {
     let tree = read_tree(alloc, inputs.trace)?;
     let users = read_users(alloc, inputs.users)?;
-    let mut world = FirstWorld::new(alloc, tree, users);
+    let Ok(mut world) = FirstWorld::new(alloc, tree, users) else {
+        return Err(ProgramFault::Memory);
+    };
     let script = read_all(alloc, input)?;
     let lines = read_script(alloc, &script)?;
+    let mut printer = Printer::new(alloc);
     for line in &lines {
         let told = if inputs.verbose {
             Some(&mut *err)
         } else {
             None
         };
-        run_line(alloc, &mut world, line, out, told)?;
+        run_line(alloc, &mut world, &mut printer, line, out, told)?;
     }
     out.flush().map_err(|_| ProgramFault::Output)
 }
@@ -126,7 +117,8 @@ fn run_script<R: Read, W: Write, E: Write>(
 /// The command `script`: publishes the start tree, reads all of the input, checks every line, and then
 /// runs the lines one after the other, with a line of output for each. Its status: 0, or 1 where a
 /// fault ended it, which is told by one line on `err`; what was printed before stands. Where the inputs
-/// ask for it, `err` also gets each message and its reply as text, `0 <- ` and `0 -> ` before them.
+/// ask for it, `err` also gets each message and its reply as text, the connection's number and `<-` or
+/// `->` before them.
 pub fn script_of<R: Read, W: Write, E: Write>(
     alloc: Global,
     inputs: &Inputs,

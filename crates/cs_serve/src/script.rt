@@ -1,9 +1,10 @@
-//! A script: what a connection sends, line by line.
-ghost use Rattle.std.specs.Prelude.{◌≤◌, length};
+//! A script: what connections send, line by line.
+ghost use Rattle.std.specs.Prelude.{◌<◌, ◌≤◌, IfSome, length};
+ghost use Rattle.cs_names.specs.declared.limits.TheConstants.{CONNECTIONS};
 
 use crate::fault::ProgramFault;
 use cs_names::Pieces;
-use cs_names::limits::{MESSAGE_BYTES, SCRIPT_LINES};
+use cs_names::limits::{CONNECTIONS, MESSAGE_BYTES, SCRIPT_LINES};
 use std::alloc::Global;
 
 /// A message of a script, of 7 to 65,536 bytes.
@@ -13,18 +14,20 @@ pub struct ScriptMessage {
     ghost whole: { 7 ≤ length bytes.items },
 }
 
-/// What a line of a script does on the connection 0.
+/// What a line of a script does on its connection.
 #[derive(Debug, Drop)]
 pub enum Action {
     Send(ScriptMessage),
     HangUp,
 }
 
-/// A line of a script: at that moment, in seconds since 1970, that is done.
+/// A line of a script: on that connection, at that moment, in seconds since 1970, that is done.
 #[derive(Debug, Drop)]
 pub struct ScriptLine {
+    pub conn: u32,
     pub now: u32,
     pub action: Action,
+    ghost connection: { conn < CONNECTIONS },
 }
 
 /// The fewest bytes of a message.
@@ -55,8 +58,23 @@ fn message(alloc: Global, digits: &[u8]) -> Result<Option<ScriptMessage>, Progra
     }
 }
 
-/// The line that the text spells: a connection's number, which is 0, a moment, and `hangup` or a
-/// message in hexadecimal, with one space between; None where it spells none.
+/// The number of a connection.
+fn connection(text: &[u8]) -> Option<u32>
+    ensures { IfSome result (λ conn. conn < CONNECTIONS) }
+{
+    number(text).filter(|conn| *conn < CONNECTIONS)
+}
+
+/// What a word asks: `hangup`, or a message in hexadecimal; None where it asks nothing.
+fn read_action(alloc: Global, word: &[u8]) -> Result<Option<Action>, ProgramFault> {
+    if word == b"hangup".as_slice() {
+        return Ok(Some(Action::HangUp));
+    }
+    Ok(message(alloc, word)?.map(Action::Send))
+}
+
+/// The line that the text spells: a connection's number, a moment, and `hangup` or a message in
+/// hexadecimal, with one space between; None where it spells none.
 fn read_line(alloc: Global, text: &[u8]) -> Result<Option<ScriptLine>, ProgramFault> {
     let mut words = Pieces::of(text, b' ');
     let (Some(conn), Some(moment), Some(asked), None) = (
@@ -67,22 +85,13 @@ fn read_line(alloc: Global, text: &[u8]) -> Result<Option<ScriptLine>, ProgramFa
     ) else {
         return Ok(None);
     };
-    let (Some(0), Some(now)) = (number(conn), number(moment)) else {
+    let (Some(conn), Some(now)) = (connection(conn), number(moment)) else {
         return Ok(None);
     };
-    if asked == b"hangup".as_slice() {
-        return Ok(Some(ScriptLine {
-            now,
-            action: Action::HangUp,
-        }));
-    }
-    let Some(message) = message(alloc, asked)? else {
+    let Some(action) = read_action(alloc, asked)? else {
         return Ok(None);
     };
-    Ok(Some(ScriptLine {
-        now,
-        action: Action::Send(message),
-    }))
+    Ok(Some(ScriptLine { conn, now, action }))
 }
 
 /// The bytes without the line feed at their end, if they end so.

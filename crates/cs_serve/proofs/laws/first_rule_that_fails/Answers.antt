@@ -1,8 +1,0 @@
-use Rattle.cs_serve.proofs.Firsts.{first_failing-denied, first_failing-granted}
-use Rattle.cs_serve.proofs.laws.first_rule_that_fails.Goals as goal
-
-pub returns-clause-denied : goal.returns-clause-denied
-returns-clause-denied c = first_failing-denied
-
-pub returns-clause-granted : goal.returns-clause-granted
-returns-clause-granted c = first_failing-granted

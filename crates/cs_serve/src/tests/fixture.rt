@@ -1,0 +1,116 @@
+//! The start tree of the worked examples, its users, and worlds over it.
+use crate::tests::asking::{shown, spelled};
+use crate::{FirstWorld, Inputs, script_of};
+use cs_trace::read_start;
+use cs_tree::PlainTree;
+use cs_users::Users;
+use std::alloc::Global;
+use std::process::Abort;
+use std::test::Fail;
+
+pub const USERS: &str = "# people\n1:ann::\n2:bob::\n3:cat::\n4:staff:ann:ann,bob,zed\n5:none::\n";
+
+pub const TRACE: &str =
+    "{\"trace\":1,\"owner\":\"cat\",\"group\":\"staff\",\"mode\":\"775\"}\n{\"start\":\"dir\",\"path\":\"/d\",\"owner\":\"ann\",\"group\":\"staff\",\"mode\":\"755\"}\n{\"start\":\"dir\",\"path\":\"/d/s\",\"owner\":\"ann\",\"group\":\"ann\",\"mode\":\"700\"}\n{\"start\":\"file\",\"path\":\"/d/s/z\",\"owner\":\"ann\",\"group\":\"ann\",\"mode\":\"644\",\"bytes\":\"\"}\n{\"start\":\"file\",\"path\":\"/f\",\"owner\":\"ann\",\"group\":\"staff\",\"mode\":\"664\",\"bytes\":\"68656c6c6f\"}\n{\"start\":\"file\",\"path\":\"/n\",\"owner\":\"none\",\"group\":\"none\",\"mode\":\"600\",\"bytes\":\"\"}\n{\"start\":\"dir\",\"path\":\"/p\",\"owner\":\"ann\",\"group\":\"staff\",\"mode\":\"750\"}\n";
+
+/// The line that begins each trace here.
+pub const HEADER: &str = "{\"trace\":1,\"owner\":\"cat\",\"group\":\"staff\",\"mode\":\"775\"}\n";
+
+/// A session of 8,192 bytes begins.
+pub const VERSIONED: &str = "Rversion tag 1 msize 8192 version \"9P2000\"";
+
+/// An attach is granted.
+pub const ATTACHED: &str = "Rattach tag 1 qid (80 0 0)";
+
+/// A world over the start tree of a trace, with no session.
+pub fn world_over(alloc: Global, trace: &str) -> Result<FirstWorld<PlainTree>, Fail> {
+    let records = read_start(alloc, trace)?;
+    let tree = PlainTree::from_records(alloc, records)?;
+    let users = Users::read(alloc, USERS.as_bytes())?;
+    Ok(FirstWorld::new(alloc, tree, users)?)
+}
+
+/// Does what a line asks: a connection's number, and words of a message, or `hangup`. The reply as
+/// text; a hang-up has none.
+pub fn ask(
+    rt: &(impl Abort + AllocGlobal),
+    world: &mut FirstWorld<PlainTree>,
+    line: &str,
+) -> Result<String, Fail> {
+    let words: Vec<&str> = line.split_whitespace().collect(rt.alloc())?;
+    let [conn, words @ ..] = words.as_slice() else {
+        return Ok(String::new(rt.alloc()));
+    };
+    let conn = conn.parse::<u32>()?;
+    assert!(rt; conn < 64);
+    if words.first() == Some(&"hangup") {
+        world.hang_up(rt.alloc(), conn, 7);
+        return Ok(String::new(rt.alloc()));
+    }
+    let bytes = spelled(rt.alloc(), words)?;
+    assert!(rt; bytes.len() >= 7);
+    let reply = world.message(rt.alloc(), conn, 7, &bytes);
+    shown(rt.alloc(), words, &reply)
+}
+
+/// Asks line by line in a world, and looks for the replies.
+pub fn expect_in(
+    rt: &(impl Abort + AllocGlobal),
+    world: &mut FirstWorld<PlainTree>,
+    exchange: &[(&str, &str)],
+) -> Result<(), Fail> {
+    for (line, wanted) in exchange {
+        let reply = ask(rt, world, line)?;
+        assert_eq!(rt; reply.as_str(), *wanted, "{line}");
+    }
+    Ok(())
+}
+
+/// Begins a session on a connection and attaches a user as the fid 0.
+pub fn join(
+    rt: &(impl Abort + AllocGlobal),
+    world: &mut FirstWorld<PlainTree>,
+    conn: u32,
+    user: &str,
+) -> Result<(), Fail> {
+    let version = format!(in rt.alloc(); "{conn} version 8192 9P2000")?;
+    let attach = format!(in rt.alloc(); "{conn} attach 0 {user} 0/x")?;
+    assert_eq!(rt; ask(rt, world, version.as_str())?.as_str(), VERSIONED);
+    assert_eq!(rt; ask(rt, world, attach.as_str())?.as_str(), ATTACHED);
+    Ok(())
+}
+
+/// Asks line by line in a world over the start tree, and looks for the replies. Its connections are
+/// those of these users, each attached as the fid 0.
+pub fn expect(
+    rt: &(impl Abort + AllocGlobal),
+    users: &[&str],
+    exchange: &[(&str, &str)],
+) -> Result<(), Fail> {
+    let mut world = world_over(rt.alloc(), TRACE)?;
+    let mut conn = 0u32;
+    for user in users {
+        join(rt, &mut world, conn, user)?;
+        conn = conn.saturating_add(1);
+    }
+    expect_in(rt, &mut world, exchange)
+}
+
+/// What the commands print on a script, and their status.
+pub fn run(
+    alloc: Global,
+    users: &[u8],
+    trace: &[u8],
+    script: &[u8],
+) -> Result<(String, String, u8), Fail> {
+    let inputs = Inputs {
+        users,
+        trace,
+        verbose: false,
+    };
+    let mut input = script;
+    let mut out: Vec<u8> = Vec::new(alloc);
+    let mut err: Vec<u8> = Vec::new(alloc);
+    let status = script_of(alloc, &inputs, &mut input, &mut out, &mut err);
+    Ok((String::from_utf8(out)?, String::from_utf8(err)?, status))
+}
