@@ -1,4 +1,4 @@
--- The names of a start line's path.
+-- The names of an entry's path.
 use Rattle.std.proofs.Common.{◌≡◌, ℕ, ◌==◌, Bool, true, false, List, [], ◌∷◌, length, Some, IsSome, Result, Ok, Err, refl, sym, ap}
 use Rattle.std.specs.Option.{option_and_then}
 use Rattle.std.specs.Prelude.{if◌then◌else◌}
@@ -8,7 +8,7 @@ use Rattle.cs_names.specs.Paths.{names_in}
 use Rattle.cs_names.specs.Pieces.{pieces}
 use Rattle.cs_names.specs.declared.fault.NameFault.{NameFault}
 use Rattle.cs_names.specs.declared.fault.NameFault.TheVariants.{Forbidden}
-use Rattle.cs_trace.specs.Start.{below_root, start_path_in}
+use Rattle.cs_trace.specs.Names.{below_root, entry_path_of}
 
 below_by : (texts names : List (List ℕ)) → texts ≡ names → IsSome (below_root names) → below_root names ≡ Some texts
 below_by texts [] same some = absurd (cc)
@@ -26,5 +26,5 @@ path_by true true texts some = absurd (cc)
 path_by true false texts some = kept_by texts (names_in texts) refl some
 path_by false alone texts some = absurd (cc)
 
-pub start_path_in-pieces : (c : ℕ) (rest : List ℕ) → IsSome (start_path_in (c ∷ rest)) → start_path_in (c ∷ rest) ≡ Some (pieces 47 rest)
-start_path_in-pieces c rest some = path_by (c == 47) (length rest == 0) (pieces 47 rest) some
+pub entry_path_of-pieces : (c : ℕ) (rest : List ℕ) → IsSome (entry_path_of (c ∷ rest)) → entry_path_of (c ∷ rest) ≡ Some (pieces 47 rest)
+entry_path_of-pieces c rest some = path_by (c == 47) (length rest == 0) (pieces 47 rest) some

@@ -1,7 +1,14 @@
-pub mod Spelled
-pub mod Lines
+pub mod Beneath
 pub mod Legal
+pub mod LineByLine
 pub mod Members
+pub mod Octal
+pub mod Past
+pub mod Resolved
 pub mod Sound
+pub mod SoundSteps
+pub mod Spelled
 pub mod Turns
 pub mod Views
+pub mod Whole
+pub mod Within

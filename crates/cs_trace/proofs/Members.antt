@@ -48,9 +48,14 @@ fields_of-put k d ms = λ i. record {
   start = field_at-put (codes "start") k d ms i;
   op = field_at-put (codes "op") k d ms i;
   path = field_at-put (codes "path") k d ms i;
+  from = field_at-put (codes "from") k d ms i;
+  to = field_at-put (codes "to") k d ms i;
   owner = field_at-put (codes "owner") k d ms i;
   group = field_at-put (codes "group") k d ms i;
   mode = field_at-put (codes "mode") k d ms i;
   bytes = field_at-put (codes "bytes") k d ms i;
+  offset = field_at-put (codes "offset") k d ms i;
+  length = field_at-put (codes "length") k d ms i;
+  text = field_at-put (codes "text") k d ms i;
   others = has_others-put k d ms i;
 }

@@ -1,282 +1,236 @@
--- Each line that is taken keeps the entries sound, and so a trace's records are a tree's.
-use Rattle.std.proofs.Common.{◌≡◌, ◌≢◌, ℕ, ◌+◌, ◌-◌, ◌*◌, ◌^◌, ◌<◌, ◌≤◌, ◌==◌, Bool, true, false, not, List, [], ◌∷◌, length, inl, inr, Option, None, Some, Result, Ok, Err, refl, sym, ap, ◌∙◌, subst, ⊎_elim, arith, lit≤}
-use Rattle.std.proofs.lemmas.Bool.{false≢true, eq-eqb, eqb-true}
-use Rattle.std.proofs.lemmas.Bool.Decides.{nat_tests}
-use Rattle.std.proofs.lemmas.Nat.Bits.{and_pow, bit_at_above, bit_at_cat_high}
-use Rattle.std.specs.FinMap.{get, insert, empty, len, empty_of_len, len-empty, get-empty}
-use Rattle.std.specs.Option.{is_some, option_and_then, option_map, option_map_or}
-use Rattle.std.specs.Prelude.{if◌then◌else◌, ◌&&◌, bit_and}
-use Rattle.serde_json.specs.Read.{read}
-use Rattle.cs_names.specs.declared.limits.TheConstants.{TRACE_PATH_NAMES}
-use Rattle.cs_tree_model.specs.Fresh.{IsNested}
-use Rattle.cs_tree_model.specs.Laws.Fresh.{listing-IsListing, not_both}
+-- What each line that is taken keeps.
+use Rattle.std.proofs.Common.{◌≡◌, ◌≢◌, ◌⊎◌, ℕ, suc, zero, ◌+◌, ◌<◌, ◌≤◌, true, false, cond, List, [], ◌∷◌, ◌++◌, length, map, inl, inr, ⊎_elim, Option, None, Some, option_map, refl, sym, ap, ◌∙◌, subst, arith, length-append}
+use Rattle.std.proofs.lemmas.List.{length-map, map-append}
+use Rattle.std.specs.FinMap.{FinMap, get, insert, get-insert, same_map}
+use Rattle.std.specs.List.{slice_get}
+use Rattle.std.specs.Option.{option_map_or}
+use Rattle.std.specs.Ordering.{eq_by_cmp}
+use Rattle.cs_names.specs.declared.limits.TheConstants.{TRACE_PATH_NAMES, TREE_RECORDS}
+use Rattle.cs_tree_model.specs.Laws.Fresh.{not_both}
 use Rattle.cs_tree_model.specs.Laws.Paths.{path_cases, path_exact, path_total}
-use Rattle.cs_tree_model.specs.Listing.{IsListing}
 use Rattle.cs_tree_model.specs.Maps.Changes.{get-insert_same, get-insert_other}
 use Rattle.cs_tree_model.specs.Maps.Values.{get-map_values, map_values}
-use Rattle.cs_tree_model.specs.Record.{IsMarked}
 use Rattle.cs_tree_model.specs.Tree.{Path, path_cmp, parent_path}
-use Rattle.cs_tree_model.specs.declared.mode.TheConstants.{DMDIR}
-use Rattle.cs_tree_model.specs.declared.record.Record.{Record}
-use Rattle.cs_trace.specs.Entries.{Entries, is_directory, record_of, records_in, size_of}
-use Rattle.cs_trace.specs.Fields.{Field, Fields, fields_in, has_keys, text_of}
-use Rattle.cs_trace.specs.Lines.{Claims, Header, Line, Start, StartLine, Unknown, bytes_in, claims_in, header_in, is_octal, is_one, line_by, line_in, line_of, permissions_in, start_line_in, start_with, text_in}
-use Rattle.cs_trace.specs.Sound.{AreSound, HasDirectory}
-use Rattle.cs_trace.specs.Start.{and_then, are_user_names, at_line, entries_from, entries_in, entry_of, first_step, is_too_large, later_step, line_step, new_file_by, rights_of, start_path_in, step, with_entry}
+use Rattle.cs_trace.specs.Entries.{Entries, node_by, node_of, size_of}
+use Rattle.cs_trace.specs.Judging.{AreShort}
+use Rattle.cs_trace.specs.Operations.{AreLegal, IsDirectoryAt, Paths, paths_after_all, sizes_after_all}
+use Rattle.cs_trace.specs.States.{State, nothing, with_entry}
 use Rattle.cs_trace.specs.declared.entry.Entry.{Entry}
-use Rattle.cs_trace.specs.declared.fault.TraceFaultKind.{TraceFaultKind}
-use Rattle.cs_trace.specs.declared.fault.TraceFaultKind.TheVariants.{Syntax, BadName, Exists, NotDir, TooLarge}
+use Rattle.cs_trace.specs.declared.operation.Node.{Node}
+use Rattle.cs_trace.specs.declared.operation.Node.TheVariants.{Directory, File}
+use Rattle.cs_trace.proofs.Resolved.{AreKnown}
 
--- ---- what a line claims
+-- what stands at the start
+abbrev pub start_of : State → Paths
+start_of s = map_values node_of s.start
 
-abbrev IsOctal : Line → Type 0
-IsOctal (Header claims) = claims.permissions ≤ 511
-IsOctal (Start line) = line.claims.permissions ≤ 511
-IsOctal Unknown = Unit {0}
+-- the size of what an entry is
+abbrev pub entry_size : Option Entry → ℕ
+entry_size e = option_map_or (λ f. size_of f.content) e 0
 
-and_then_by : {A B : Type 0} (o : Option A) (f : A → Option B) (P : B → Type 0) → ((x : A) → (y : B) → f x ≡ Some y → P y) → (y : B) → option_and_then f o ≡ Some y → P y
-and_then_by None f P each y is = absurd (cc)
-and_then_by (Some x) f P each y is = each x y is
+-- the sizes of the start's files
+abbrev pub sizes_of : State → List ℕ
+sizes_of s = map (λ p. entry_size (get s.start p)) s.files
 
-map_by : {A B : Type 0} (o : Option A) (f : A → B) (P : B → Type 0) → ((x : A) → o ≡ Some x → P (f x)) → (y : B) → option_map f o ≡ Some y → P y
-map_by None f P each y is = absurd (cc)
-map_by (Some x) f P each y is = let same : f x ≡ y = cc in subst P same (each x refl)
+pub record IsSound (s : State) : Type 0 where
+  pub fresh : s.made ≡ 0 → s ≡ nothing
+  pub rooted : s.made ≢ 0 → IsDirectoryAt (start_of s) []
+  pub nested : (p : Path) (node : Node) → get (start_of s) p ≡ Some node → p ≢ [] → IsDirectoryAt (start_of s) (parent_path p)
+  pub octal : (p : Path) (e : Entry) → get s.start p ≡ Some e → e.rights.permissions ≤ 511
+  pub numbered : (n : ℕ) (p : Path) → slice_get s.files n ≡ Some p → get (start_of s) p ≡ Some (File n)
+  pub found : (n : ℕ) (p : Path) → get (start_of s) p ≡ Some (File n) → slice_get s.files n ≡ Some p
+  pub paths : s.paths ≡ paths_after_all (start_of s) s.operations
+  pub sizes : s.sizes ≡ sizes_after_all (sizes_of s) s.operations
+  pub legal : AreLegal (start_of s) (sizes_of s) s.operations
+  pub short : AreShort s.paths
+  pub known : AreKnown s.paths s.sizes
+  pub few : s.made ≤ TREE_RECORDS
+  pub counted : length s.sizes ≤ s.made
 
-if_by : {B : Type 0} (t : Bool) (o : Option B) (P : B → Type 0) → ((y : B) → o ≡ Some y → P y) → (y : B) → (if t then o else None) ≡ Some y → P y
-if_by true o P each y is = each y is
-if_by false o P each y is = absurd (cc)
+-- ---- lists that grow
 
-octal_by : (a b c n : ℕ) (t : Bool) → is_octal a && is_octal b && is_octal c ≡ t → (if t then Some ((a - 48) * 64 + (b - 48) * 8 + (c - 48)) else None) ≡ Some n → n ≤ 511
-octal_by a b c n true is gives =
-    let same : (a - 48) * 64 + (b - 48) * 8 + (c - 48) ≡ n = cc in
-    grind (arith, nat_tests)
-octal_by a b c n false is gives = absurd (cc)
+some_same : {X : Type 0} (a b : X) → Some a ≡ Some b → a ≡ b
+some_same a b is = cc
 
-permissions_octal : (text : List ℕ) (n : ℕ) → permissions_in text ≡ Some n → n ≤ 511
-permissions_octal [] n is = absurd (cc)
-permissions_octal (a ∷ []) n is = absurd (cc)
-permissions_octal (a ∷ b ∷ []) n is = absurd (cc)
-permissions_octal (a ∷ b ∷ c ∷ []) n is = octal_by a b c n _ refl is
-permissions_octal (a ∷ b ∷ c ∷ d ∷ more) n is = absurd (cc)
+slice_get-push_old : {X : Type 0} (xs : List X) (x : X) (n : ℕ) (y : X) → slice_get xs n ≡ Some y → slice_get (xs ++ x ∷ []) n ≡ Some y
+slice_get-push_old [] x n y is = absurd (cc)
+slice_get-push_old (z ∷ xs) x zero y is = is
+slice_get-push_old (z ∷ xs) x (suc n) y is = slice_get-push_old xs x n y is
 
-abbrev HasOctal : Claims → Type 0
-HasOctal claims = claims.permissions ≤ 511
+slice_get-push_new : {X : Type 0} (xs : List X) (x : X) → slice_get (xs ++ x ∷ []) (length xs) ≡ Some x
+slice_get-push_new [] x = refl
+slice_get-push_new (z ∷ xs) x = slice_get-push_new xs x
 
-claims_octal : (f : Fields) (claims : Claims) → claims_in f ≡ Some claims → claims.permissions ≤ 511
-claims_octal f =
-    and_then_by (text_in f.owner) _ HasOctal (λ owner.
-    and_then_by (text_in f.group) _ HasOctal (λ group.
-    and_then_by (text_in f.mode) _ HasOctal (λ mode.
-    map_by (permissions_in mode) _ HasOctal (λ n is. permissions_octal mode n is))))
+slice_get-push : {X : Type 0} (xs : List X) (x : X) (n : ℕ) (y : X) → slice_get (xs ++ x ∷ []) n ≡ Some y → (slice_get xs n ≡ Some y) ⊎ ((n ≡ length xs) × (y ≡ x))
+slice_get-push [] x zero y is = inr (refl, sym (some_same x y is))
+slice_get-push [] x (suc n) y is = absurd (cc)
+slice_get-push (z ∷ xs) x zero y is = inl is
+slice_get-push (z ∷ xs) x (suc n) y is = ⊎_elim (λ old. inl old) (λ new. inr (ap suc new.0, new.1)) (slice_get-push xs x n y is)
 
-header_octal : (version : Field) (f : Fields) (line : Line) → header_in version f ≡ Some line → IsOctal line
-header_octal version f = if_by (is_one version && has_keys 4 f) (option_map Header (claims_in f)) IsOctal (map_by (claims_in f) Header IsOctal (λ claims is. claims_octal f claims is))
+-- two functions that agree on what is in a list
+map_same : {X Y : Type 0} (f g : X → Y) (xs : List X) → ((n : ℕ) (x : X) → slice_get xs n ≡ Some x → f x ≡ g x) → map f xs ≡ map g xs
+map_same f g [] same = refl
+map_same f g (x ∷ xs) same = λ i. same 0 x refl i ∷ map_same f g xs (λ n y is. same (suc n) y is) i
 
-abbrev HasOctalClaims : StartLine → Type 0
-HasOctalClaims line = line.claims.permissions ≤ 511
+-- ---- one entry more at the start
 
-start_octal : (count : ℕ) (f : Fields) (content : Option (List ℕ)) (line : StartLine) → start_with count f content ≡ Some line → HasOctalClaims line
-start_octal count f content =
-    if_by (has_keys count f) _ HasOctalClaims
-    (and_then_by (text_in f.path) _ HasOctalClaims (λ path. map_by (claims_in f) _ HasOctalClaims (λ claims is. claims_octal f claims is)))
+map_values-insert : (m : Entries) (p : Path) (e : Entry) → map_values node_of (insert m p e) ≡ insert (map_values node_of m) p (node_of e)
+map_values-insert m p e = same_map path_total path_exact _ _ (λ q. ⊎_elim
+    (λ (one : (eq_by_cmp path_cmp q p ≡ true) × (q ≡ p)).
+    get-map_values path_cmp node_of (insert m p e) q ∙ ap (λ o. option_map node_of o) (get-insert path_total m p e q ∙ ap (λ b. cond b (Some e) (get m q)) one.0)
+    ∙ sym (get-insert path_total (map_values node_of m) p (node_of e) q ∙ ap (λ b. cond b (Some (node_of e)) (get (map_values {R = path_cmp} node_of m) q)) one.0))
+    (λ (two : (eq_by_cmp path_cmp q p ≡ false) × (q ≢ p)).
+    get-map_values path_cmp node_of (insert m p e) q ∙ ap (λ o. option_map node_of o) (get-insert path_total m p e q ∙ ap (λ b. cond b (Some e) (get m q)) two.0)
+    ∙ sym (get-insert path_total (map_values node_of m) p (node_of e) q ∙ ap (λ b. cond b (Some (node_of e)) (get (map_values {R = path_cmp} node_of m) q)) two.0 ∙ get-map_values path_cmp node_of m q))
+    (path_cases q p))
 
-kind_by : (dir file : Bool) (f : Fields) (line : Line)
-    → (if dir then option_map Start (start_with 5 f None) else (if file then option_and_then (λ bytes. option_map Start (start_with 6 f (Some bytes))) (bytes_in f.bytes) else Some Unknown)) ≡ Some line → IsOctal line
-kind_by true file f line is = map_by (start_with 5 f None) Start IsOctal (start_octal 5 f None) line is
-kind_by false true f line is = and_then_by (bytes_in f.bytes) _ IsOctal (λ bytes. map_by (start_with 6 f (Some bytes)) Start IsOctal (start_octal 6 f (Some bytes))) line is
-kind_by false false f line is = let same : Unknown ≡ line = cc in subst IsOctal same tt
+-- what holds of the new value and of each old one holds of each
+pub each_of : {X : Type 0} (m : FinMap path_cmp X) (p : Path) (v : X) (P : Path → X → Type 0) → P p v → ((q : Path) (w : X) → q ≢ p → get m q ≡ Some w → P q w) → (q : Path) (w : X) → get (insert m p v) q ≡ Some w → P q w
+each_of m p v P new old q w found = ⊎_elim
+    (λ (one : (eq_by_cmp path_cmp q p ≡ true) × (q ≡ p)).
+    let here : Some v ≡ Some w = sym (get-insert_same path_total path_exact m p v) ∙ ap (get (insert m p v)) (sym one.1) ∙ found in
+    subst (λ x. P x w) (sym one.1) (subst (λ x. P p x) (some_same v w here) new))
+    (λ (two : (eq_by_cmp path_cmp q p ≡ false) × (q ≢ p)). old q w two.1 (sym (get-insert_other path_total path_exact m q p v two.1) ∙ found))
+    (path_cases q p)
 
-line_octal_by : (trace start op : Option Field) (f : Fields) (line : Line) → line_by trace start op f ≡ Some line → IsOctal line
-line_octal_by (Some version) None None f line is = header_octal version f line is
-line_octal_by None (Some start) None f line is = and_then_by (text_of start) (λ kind. start_line_in kind f) IsOctal (λ kind. kind_by _ _ f) line is
-line_octal_by None None (Some operation) f line is = map_by (text_of operation) (λ _. Unknown) IsOctal (λ _ _. tt) line is
-line_octal_by (Some version) (Some start) op f line is = absurd (cc)
-line_octal_by (Some version) None (Some operation) f line is = absurd (cc)
-line_octal_by None (Some start) (Some operation) f line is = absurd (cc)
-line_octal_by None None None f line is = absurd (cc)
+abbrev AreRooted : Paths → Type 0
+AreRooted m = IsDirectoryAt m []
 
-line_octal : (text : List ℕ) (line : Line) → line_in text ≡ Some line → IsOctal line
-unfolding line_in
-line_octal text = and_then_by (option_and_then fields_in (read text)) line_of IsOctal (λ f. line_octal_by f.trace f.start f.op f)
+abbrev AreInDirectories : Paths → Type 0
+AreInDirectories m = (q : Path) (node : Node) → get m q ≡ Some node → q ≢ [] → IsDirectoryAt m (parent_path q)
 
--- ---- one entry more
+abbrev HaveNumbers : List Path → Paths → Type 0
+HaveNumbers files m = (n : ℕ) (q : Path) → slice_get files n ≡ Some q → get m q ≡ Some (File n)
 
-module _ (m : Entries) (p : Path) (e : Entry) (sound : AreSound m) (above : HasDirectory m (parent_path p)) (free : get m p ≡ None) (short : length p ≤ TRACE_PATH_NAMES) (octal : e.rights.permissions ≤ 511) where
-  not_free : (q : Path) (f : Entry) → get m q ≡ Some f → q ≢ p
-  not_free q f found same = not_both _ f free (ap (get m) (sym same) ∙ found)
+abbrev AreFound : List Path → Paths → Type 0
+AreFound files m = (n : ℕ) (q : Path) → get m q ≡ Some (File n) → slice_get files n ≡ Some q
 
-  stays : (q : Path) (f : Entry) → get m q ≡ Some f → get (insert m p e) q ≡ Some f
-  stays q f found = get-insert_other path_total path_exact m q p e (not_free q f found) ∙ found
+not_file : {X : Type 0} (n : ℕ) → Directory ≡ File n → X
+not_file n is = absurd (cc)
 
-  keeps : (q : Path) → HasDirectory m q → HasDirectory (insert m p e) q
-  keeps q d = (d.0, stays q d.0 d.1, d.2)
+pub file_number : (a b : ℕ) → File a ≡ File b → a ≡ b
+file_number a b is = cc
 
-  -- what holds of the new entry and of each old one holds of each
-  each : (P : Path → Entry → Type 0) → P p e → ((q : Path) (f : Entry) → get m q ≡ Some f → P q f) → (q : Path) (f : Entry) → get (insert m p e) q ≡ Some f → P q f
-  each P new old q f found = ⊎_elim
-      (λ one.
-      let here : Some e ≡ Some f = sym (get-insert_same path_total path_exact m p e) ∙ ap (get (insert m p e)) (sym one.1) ∙ found in
-      let entry : e ≡ f = cc in
-      subst (λ (w : Path). P w f) (sym one.1) (subst (λ (w : Entry). P p w) entry new))
-      (λ two. old q f (sym (get-insert_other path_total path_exact m q p e two.1) ∙ found))
-      (path_cases q p)
+module _ (s : State) (sound : IsSound s) (p : Path) (e : Entry)
+    (none : s.operations ≡ []) (free : get (start_of s) p ≡ None) (above : p ≢ [] → IsDirectoryAt (start_of s) (parent_path p))
+    (octal : e.rights.permissions ≤ 511) (short : length p ≤ TRACE_PATH_NAMES) (few : s.made + 1 ≤ TREE_RECORDS) where
+  abbrev now : Paths
+  now = insert (start_of s) p (node_of e)
 
-  has_root : len m ≡ 0 → ⊥
-  has_root none = not_both _ above.0 (ap (λ w. get w (parent_path p)) (empty_of_len m none) ∙ get-empty path_cmp (parent_path p)) above.1
+  same_start : map_values node_of (insert s.start p e) ≡ now
+  same_start = map_values-insert s.start p e
 
-  pub AreSound-insert : AreSound (insert m p e)
-  AreSound-insert = record {
-    root = ⊎_elim (λ none. absurd (has_root none)) (λ root. inr (keeps [] root)) sound.root;
-    nested = each (λ q f. q ≢ [] → HasDirectory (insert m p e) (parent_path q)) (λ _. keeps (parent_path p) above) (λ q f found named. keeps (parent_path q) (sound.nested q f found named));
-    short = each (λ q f. length q ≤ TRACE_PATH_NAMES) short sound.short;
-    octal = each (λ q f. f.rights.permissions ≤ 511) octal sound.octal;
-  }
+  same_paths : s.paths ≡ start_of s
+  same_paths = sound.paths ∙ ap (paths_after_all (start_of s)) none
 
-none_of : {A : Type 0} (o : Option A) → is_some o ≡ false → o ≡ None
-none_of None is = refl
-none_of (Some a) is = absurd (false≢true (sym is))
+  other : (q : Path) (node : Node) → get (start_of s) q ≡ Some node → q ≢ p
+  other q node there same = not_both _ node free (ap (get (start_of s)) (sym same) ∙ there)
 
-not_false : (b : Bool) → not b ≡ true → b ≡ false
-not_false true is = absurd (false≢true is)
-not_false false is = refl
+  pub stays : (q : Path) (node : Node) → get (start_of s) q ≡ Some node → get now q ≡ Some node
+  stays q node there = get-insert_other path_total path_exact (start_of s) q p (node_of e) (other q node there) ∙ there
 
-within : (p : Path) (m : Entries) (size : ℕ) → is_too_large m p size ≡ false → length p ≤ TRACE_PATH_NAMES
-within p m size is = grind (arith, nat_tests)
+  in_directories : AreInDirectories now
+  in_directories = each_of (start_of s) p (node_of e) (λ q node. q ≢ [] → IsDirectoryAt now (parent_path q))
+      (λ named. stays (parent_path p) Directory (above named))
+      (λ q node apart there named. stays (parent_path q) Directory (sound.nested q node there named))
 
-module _ (m n : Entries) (p : Path) (e : Entry) (sound : AreSound m) (octal : e.rights.permissions ≤ 511) where
-  added_by : (d : Entry) → get m (parent_path p) ≡ Some d → (t x y : Bool) → is_directory d ≡ t → is_some (get m p) ≡ x → is_too_large m p (size_of e.content) ≡ y
-      → and_then (if t then (if x then Err Exists else Ok (tt {0})) else Err NotDir) (λ _. if y then Err TooLarge else Ok (insert m p e)) ≡ Ok n → AreSound n
-  added_by d there true true y is found large does = absurd (cc)
-  added_by d there true false true is found large does = absurd (cc)
-  added_by d there true false false is found large does =
-      let same : insert m p e ≡ n = cc in
-      subst AreSound same (AreSound-insert m p e sound (d, there, none_of _ (not_false _ is)) (none_of _ found) (within p m (size_of e.content) large) octal)
-  added_by d there false x y is found large does = absurd (cc)
+  all_octal : (q : Path) (f : Entry) → get (insert s.start p e) q ≡ Some f → f.rights.permissions ≤ 511
+  all_octal = each_of s.start p e (λ q f. f.rights.permissions ≤ 511) octal (λ q f apart there. sound.octal q f there)
 
-  under_by : (o : Option Entry) → get m (parent_path p) ≡ o
-      → and_then (new_file_by o (is_some (get m p))) (λ _. if is_too_large m p (size_of e.content) then Err TooLarge else Ok (insert m p e)) ≡ Ok n → AreSound n
-  under_by None there does = absurd (cc)
-  under_by (Some d) there does = added_by d there _ _ _ refl refl refl does
+  all_short : AreShort (insert s.paths p (node_of e))
+  all_short = each_of s.paths p (node_of e) (λ q node. length q ≤ TRACE_PATH_NAMES) short (λ q node apart there. sound.short q node there)
 
-  AreSound-with_entry : with_entry m p e ≡ Ok n → AreSound n
-  AreSound-with_entry does = under_by _ refl does
+  paths_now : insert s.paths p (node_of e) ≡ paths_after_all (map_values node_of (insert s.start p e)) s.operations
+  paths_now = ap (λ w. insert w p (node_of e)) same_paths ∙ sym same_start ∙ sym (ap (paths_after_all (map_values node_of (insert s.start p e))) none)
 
--- ---- one line more
+  none_legal : (m : Paths) (sizes : List ℕ) → AreLegal m sizes s.operations
+  none_legal m sizes = subst (λ ops. AreLegal m sizes ops) (sym none) tt
 
-AreSound-root : (m : Entries) (e : Entry) → len m ≡ 0 → e.content ≡ None → e.rights.permissions ≤ 511 → AreSound (insert m [] e)
-AreSound-root m e none directory octal = record {
-  root = inr (e, get-insert_same path_total path_exact m [] e, directory);
-  nested = λ q f found named. absurd (not_both _ f (nothing_else q named) found);
-  short = λ q f found. ⊎_elim (λ one. let no_names = ap length one.1 in omega arith) (λ two. absurd (not_both _ f (nothing_else q two.1) found)) (path_cases q []);
-  octal = λ q f found. ⊎_elim
-      (λ one.
-      let here : Some e ≡ Some f = sym (get-insert_same path_total path_exact m [] e) ∙ ap (get (insert m [] e)) (sym one.1) ∙ found in
-      let entry : e ≡ f = cc in
-      let P : Entry → Type 0 = λ w. w.rights.permissions ≤ 511 in
-      subst P entry octal)
-      (λ two. absurd (not_both _ f (nothing_else q two.1) found))
-      (path_cases q []);
-}
-  where
-    nothing_else : (q : Path) → q ≢ [] → get (insert m [] e) q ≡ None
-    nothing_else q named = get-insert_other path_total path_exact m q [] e named ∙ ap (λ w. get w q) (empty_of_len m none) ∙ get-empty path_cmp q
+  sizes_then : s.sizes ≡ sizes_of s
+  sizes_then = sound.sizes ∙ ap (sizes_after_all (sizes_of s)) none
 
-AreSound-header : (m n : Entries) (claims : Claims) (t : Bool) → len m ≡ 0 → claims.permissions ≤ 511
-    → (if t then Ok (insert m [] (record { rights = rights_of claims; content = None })) else Err BadName) ≡ Ok n → AreSound n
-AreSound-header m n claims true none octal does =
-    let root : Entry = record { rights = rights_of claims; content = None } in
-    let same : insert m [] root ≡ n = cc in
-    subst AreSound same (AreSound-root m root none refl octal)
-AreSound-header m n claims false none octal does = absurd (cc)
+  -- the files that stood before keep their sizes
+  same_sizes : map (λ q. entry_size (get s.start q)) s.files ≡ map (λ q. entry_size (get (insert s.start p e) q)) s.files
+  same_sizes = map_same _ _ s.files (λ n q at.
+      ap entry_size (sym (get-insert_other path_total path_exact s.start q p e (other q (File n) (sound.numbered n q at)))))
 
-AreSound-first : (m n : Entries) (line : Line) → len m ≡ 0 → IsOctal line → first_step m line ≡ Ok n → AreSound n
-AreSound-first m n (Header claims) none octal does = AreSound-header m n claims _ none octal does
-AreSound-first m n (Start line) none octal does = absurd (cc)
-AreSound-first m n Unknown none octal does = absurd (cc)
+  not_fresh : s.made + 1 ≡ 0 → ⊥
+  not_fresh zero_made = omega arith
 
-placed_by : (m n : Entries) (line : StartLine) (path : Option Path) (t : Bool) → AreSound m → HasOctalClaims line
-    → option_map_or (λ p. if t then with_entry m p (entry_of line) else Err BadName) path (Err BadName) ≡ Ok n → AreSound n
-placed_by m n line None t sound octal does = absurd (cc)
-placed_by m n line (Some p) true sound octal does = AreSound-with_entry m n p (entry_of line) sound octal does
-placed_by m n line (Some p) false sound octal does = absurd (cc)
+  old_numbers : HaveNumbers s.files now
+  old_numbers n q at = stays q (File n) (sound.numbered n q at)
 
-AreSound-later : (m n : Entries) (line : Line) → AreSound m → IsOctal line → later_step m line ≡ Ok n → AreSound n
-AreSound-later m n (Header claims) sound octal does = absurd (cc)
-AreSound-later m n (Start line) sound octal does = placed_by m n line (start_path_in line.path) (are_user_names line.claims) sound octal does
-AreSound-later m n Unknown sound octal does = absurd (cc)
+  -- the sizes after so many files, with these sizes
+  sizes_by : (files : List Path) (sizes : List ℕ) → sizes ≡ map (λ q. entry_size (get (insert s.start p e) q)) files
+      → sizes ≡ sizes_after_all (map (λ q. entry_size (get (insert s.start p e) q)) files) s.operations
+  sizes_by files sizes is = is ∙ sym (ap (sizes_after_all (map (λ q. entry_size (get (insert s.start p e) q)) files)) none)
 
-module _ (m n : Entries) (sound : AreSound m) where
-  line_sound : (line : Line) (t : Bool) → len m == 0 ≡ t → IsOctal line → (if t then first_step m line else later_step m line) ≡ Ok n → AreSound n
-  line_sound line true none octal does = AreSound-first m n line (eqb-true _ _ none) octal does
-  line_sound line false some octal does = AreSound-later m n line sound octal does
+  module _ (rooted : IsDirectoryAt now []) where
+    -- a directory more
+    pub sound-directory : e.content ≡ None → IsSound (with_entry s p e None)
+    sound-directory directory = record {
+      fresh = λ zero_made. absurd (not_fresh zero_made);
+      rooted = λ _. subst AreRooted (sym same_start) rooted;
+      nested = subst AreInDirectories (sym same_start) in_directories;
+      octal = all_octal;
+      numbered = subst (HaveNumbers s.files) (sym same_start) old_numbers;
+      found = subst (AreFound s.files) (sym same_start) (λ n q there. each_of (start_of s) p (node_of e) (λ r node. node ≡ File n → slice_get s.files n ≡ Some r)
+          (λ is. not_file n (sym here ∙ is))
+          (λ r node apart at is. sound.found n r (at ∙ ap Some is))
+          q (File n) there refl);
+      paths = paths_now;
+      sizes = sizes_by s.files s.sizes (sizes_then ∙ same_sizes);
+      legal = none_legal _ _;
+      short = all_short;
+      known = λ q file there. each_of s.paths p (node_of e) (λ r node. node ≡ File file → file < length s.sizes)
+          (λ is. not_file file (sym here ∙ is))
+          (λ r node apart at is. sound.known r file (at ∙ ap Some is))
+          q (File file) there refl;
+      few = few;
+      counted = let old = sound.counted in omega arith;
+    }
+      where
+        here : node_of e ≡ Directory
+        here = ap (λ c. node_by c e.number) directory
 
-  text_sound : (text : List ℕ) (blank : Bool) (line : Option Line) → line_in text ≡ line → (if blank then Ok m else option_map_or (line_step m) line (Err Syntax)) ≡ Ok n → AreSound n
-  text_sound text true line is does = let same : m ≡ n = cc in subst AreSound same sound
-  text_sound text false None is does = absurd (cc)
-  text_sound text false (Some line) is does = line_sound line _ refl (line_octal text line is) does
+    -- a file more
+    pub sound-file : (bytes : List ℕ) → e.content ≡ Some bytes → e.number ≡ length s.sizes → IsSound (with_entry s p e (Some bytes))
+    sound-file bytes content number = record {
+      fresh = λ zero_made. absurd (not_fresh zero_made);
+      rooted = λ _. subst AreRooted (sym same_start) rooted;
+      nested = subst AreInDirectories (sym same_start) in_directories;
+      octal = all_octal;
+      numbered = subst (HaveNumbers (s.files ++ p ∷ [])) (sym same_start) (λ n q at. ⊎_elim
+          (λ (old : slice_get s.files n ≡ Some q). old_numbers n q old)
+          (λ (new : (n ≡ length s.files) × (q ≡ p)).
+          ap (get now) new.1 ∙ get-insert_same path_total path_exact (start_of s) p (node_of e) ∙ ap Some (here ∙ ap File (count ∙ sym new.0)))
+          (slice_get-push s.files p n q at));
+      found = subst (AreFound (s.files ++ p ∷ [])) (sym same_start) (λ n q there. each_of (start_of s) p (node_of e) (λ r node. node ≡ File n → slice_get (s.files ++ p ∷ []) n ≡ Some r)
+          (λ is.
+          let same : n ≡ length s.files = sym (file_number _ _ (sym here ∙ is)) ∙ count in
+          ap (slice_get (s.files ++ p ∷ [])) same ∙ slice_get-push_new s.files p)
+          (λ r node apart at is. slice_get-push_old s.files p n r (sound.found n r (at ∙ ap Some is)))
+          q (File n) there refl);
+      paths = paths_now;
+      sizes = sizes_by (s.files ++ p ∷ []) (s.sizes ++ length bytes ∷ [])
+          (ap (λ sizes. sizes ++ length bytes ∷ []) (sizes_then ∙ same_sizes)
+          ∙ ap (λ size. map (λ q. entry_size (get (insert s.start p e) q)) s.files ++ size ∷ []) (sym new_size)
+          ∙ sym (map-append (λ q. entry_size (get (insert s.start p e) q)) s.files (p ∷ [])));
+      legal = none_legal _ _;
+      short = all_short;
+      known = λ q file there. each_of s.paths p (node_of e) (λ r node. node ≡ File file → file < length (s.sizes ++ length bytes ∷ []))
+          (λ is. let same = file_number _ _ (sym here ∙ is) in omega (arith, same, number, length-append s.sizes (length bytes ∷ [])))
+          (λ r node apart at is. let old = sound.known r file (at ∙ ap Some is) in omega (arith, old, length-append s.sizes (length bytes ∷ [])))
+          q (File file) there refl;
+      few = few;
+      counted = let old = sound.counted in omega (arith, length-append s.sizes (length bytes ∷ []));
+    }
+      where
+        here : node_of e ≡ File e.number
+        here = ap (λ c. node_by c e.number) content
 
--- ---- all lines
+        count : e.number ≡ length s.files
+        count = number ∙ ap length sizes_then ∙ length-map s.files (λ q. entry_size (get s.start q))
 
-lines_by : (m n : Entries) (number : ℕ) (lines : List (List ℕ)) (r : Result Entries TraceFaultKind)
-    → ((next : Entries) → r ≡ Ok next → entries_from next (number + 1) lines ≡ Ok n → AreSound n)
-    → and_then (at_line number r) (λ next. entries_from next (number + 1) lines) ≡ Ok n → AreSound n
-lines_by m n number lines (Ok next) rest does = rest next refl does
-lines_by m n number lines (Err kind) rest does = absurd (cc)
-
-AreSound-entries_from : (m n : Entries) (number : ℕ) (lines : List (List ℕ)) → AreSound m → entries_from m number lines ≡ Ok n → AreSound n
-AreSound-entries_from m n number [] sound does = let same : m ≡ n = cc in subst AreSound same sound
-AreSound-entries_from m n number (text ∷ lines) sound does =
-    lines_by m n number lines (step m text) (λ next is rest. AreSound-entries_from next n (number + 1) lines (text_sound m next sound text _ _ refl is) rest) does
-
-AreSound-empty : AreSound empty
-AreSound-empty = record {
-  root = inl (len-empty path_cmp Entry);
-  nested = λ p e found. absurd (not_both _ e (get-empty path_cmp p) found);
-  short = λ p e found. absurd (not_both _ e (get-empty path_cmp p) found);
-  octal = λ p e found. absurd (not_both _ e (get-empty path_cmp p) found);
-}
-
-pub AreSound-entries_in : (lines : List (List ℕ)) (m : Entries) → entries_in lines ≡ Ok m → AreSound m
-AreSound-entries_in lines m does = AreSound-entries_from empty m 1 lines AreSound-empty does
-
--- ---- the records
-
-no_bit : (n : ℕ) → n ≤ 511 → bit_and n DMDIR ≡ 0
-no_bit n low =
-    let below : n < 2 ^ 9 = omega arith in
-    let none = bit_at_above n 9 31 below (lit≤ tt) in
-    and_pow n 31 ∙ ap (λ b. b * 2 ^ 31) none
-
-has_bit : (n : ℕ) → n ≤ 511 → bit_and (DMDIR + n) DMDIR ≡ DMDIR
-has_bit n low =
-    let below : n < 2 ^ 31 = omega arith in
-    and_pow (DMDIR + n) 31 ∙ ap (λ b. b * 2 ^ 31) (bit_at_cat_high 1 31 n 31 below (lit≤ tt))
-
-marked_by : (e : Entry) (content : Option (List ℕ)) → e.rights.permissions ≤ 511 → e.content ≡ content → IsMarked (record_of e)
-marked_by e None low is = rw (is, has_bit e.rights.permissions low) refl
-marked_by e (Some bytes) low is = rw (is, no_bit e.rights.permissions low) refl
-
-module _ (m : Entries) (sound : AreSound m) where
-  record_at_path : (p : Path) (e : Entry) → get m p ≡ Some e → get (map_values record_of m) p ≡ Some (record_of e)
-  record_at_path p e found = get-map_values path_cmp record_of m p ∙ ap (option_map record_of) found
-
-  entry_of_record : (p : Path) (r : Record) (o : Option Entry) → get m p ≡ o → option_map record_of o ≡ Some r → (e : Entry) × (get m p ≡ Some e) × (record_of e ≡ r)
-  entry_of_record p r None at is = absurd (cc)
-  entry_of_record p r (Some e) at is = (e, at, cc)
-
-  entry_at_path : (p : Path) (r : Record) → get (map_values record_of m) p ≡ Some r → (e : Entry) × (get m p ≡ Some e) × (record_of e ≡ r)
-  entry_at_path p r found = entry_of_record p r (get m p) refl (sym (get-map_values path_cmp record_of m p) ∙ found)
-
-  AreSound-IsNested : HasDirectory m [] → IsNested (map_values record_of m)
-  AreSound-IsNested root = record {
-    root = (record_of root.0, record_at_path [] root.0 root.1, root.2);
-    nested = λ p r found named. let e = entry_at_path p r found in let d = sound.nested p e.0 e.1 named in (record_of d.0, record_at_path (parent_path p) d.0 d.1, d.2);
-    marked = λ p r found. let e = entry_at_path p r found in subst IsMarked e.2 (marked_by e.0 e.0.content (sound.octal p e.0 e.1) refl);
-  }
-
-  -- the records of a start are a tree's
-  pub IsListing-records_in : len m == 0 ≡ false → IsListing (records_in m)
-  IsListing-records_in some = ⊎_elim
-      (λ (none : len m ≡ 0). absurd (false≢true (sym some ∙ eq-eqb _ _ none)))
-      (λ (root : HasDirectory m []). listing-IsListing (map_values record_of m) (AreSound-IsNested root))
-      sound.root
+        new_size : entry_size (get (insert s.start p e) p) ≡ length bytes
+        new_size = ap entry_size (get-insert_same path_total path_exact s.start p e) ∙ ap size_of content

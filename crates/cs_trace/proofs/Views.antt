@@ -1,15 +1,15 @@
 -- A `BTreeMap` whose keys are lists of names, as a finite map of paths.
-use Rattle.std.proofs.Common.{◌≡◌, suc, Bool, List, [], ◌∷◌, Vec, cond, length, Some, refl, sym, ap, ◌∙◌, arith}
+use Rattle.std.proofs.Common.{◌≡◌, ◌≢◌, suc, true, false, None, ⊎_elim, Bool, List, [], ◌∷◌, Vec, cond, length, Some, refl, sym, ap, ◌∙◌, arith}
 use Rattle.std.specs.declared.cmp.Ordering.{Ordering}
 use Rattle.std.specs.declared.cmp.Ordering.TheVariants.{Less, Equal, Greater}
 use Rattle.std.specs.BTreeMap.{insert_entry, is_at}
 use Rattle.std.specs.List.{AllByRecursion}
 use Rattle.std.specs.List.Sorted.{IsStrictlySortedBy}
-use Rattle.std.specs.Map.{keys_of, lookup}
+use Rattle.std.specs.Map.{keys_of, lookup, remove_entry}
 use Rattle.std.specs.Ordering.{eq_by_cmp, match_ordering}
-use Rattle.std.specs.FinMap.{get, insert, empty, entries, len, from_entries, put, find, entries-insert, get-insert, get-from_entries, len-entries, len-empty, same_map}
+use Rattle.std.specs.FinMap.{get, get-remove, remove, insert, empty, entries, len, from_entries, put, find, entries-insert, get-insert, get-from_entries, len-entries, len-empty, same_map}
 use Rattle.std.specs.FinMap.Entries.{by_order, find-put}
-use Rattle.cs_tree_model.specs.Laws.Paths.{path_total, path_exact}
+use Rattle.cs_tree_model.specs.Laws.Paths.{path_cases, path_total, path_exact}
 use Rattle.cs_tree_model.specs.Maps.Views.{get_view}
 use Rattle.cs_tree_model.specs.Tree.{NameBytes, Path, path_cmp}
 use Rattle.cs_trace.specs.Keys.{by_path}
@@ -41,6 +41,27 @@ module _ {X Z : Type 0} where
   insert-by_path es k v = same_map path_total path_exact _ _ (λ q.
       get-from_entries path_total _ q ∙ ap (find path_cmp q) (put-by_path es k v) ∙ find-put path_cmp path_total q k.items v (by_path es)
       ∙ sym (get-insert path_total (from_entries (by_path es)) k.items v q ∙ ap (cond (eq_by_cmp path_cmp q k.items) (Some v)) (get-from_entries path_total (by_path es) q)))
+
+  others_stay : (es : List (Vec NameBytes Z × X)) (p q : Path) → q ≢ p → find path_cmp q (by_path (remove_entry (λ k. is_at (path_cmp p) k.items) es)) ≡ find path_cmp q (by_path es)
+  others_stay [] p q other = refl
+  others_stay (e ∷ es) p q other = ⊎_elim
+      (λ (one : (eq_by_cmp path_cmp p e.0.items ≡ true) × (p ≡ e.0.items)). ⊎_elim
+      (λ (same : (eq_by_cmp path_cmp q e.0.items ≡ true) × (q ≡ e.0.items)). absurd (other (same.1 ∙ sym one.1)))
+      (λ (apart : (eq_by_cmp path_cmp q e.0.items ≡ false) × (q ≢ e.0.items)). rw (one.0, apart.0) refl)
+      (path_cases q e.0.items))
+      (λ (two : (eq_by_cmp path_cmp p e.0.items ≡ false) × (p ≢ e.0.items)). rw two.0 (ap (cond (eq_by_cmp path_cmp q e.0.items) (Some e.1)) (others_stay es p q other)))
+      (path_cases p e.0.items)
+
+  pub remove-by_path : (es : List (Vec NameBytes Z × X)) (p : Path) → lookup (λ k. is_at (path_cmp p) k.items) (remove_entry (λ k. is_at (path_cmp p) k.items) es) ≡ None
+      → from_entries {R = path_cmp} (by_path (remove_entry (λ k. is_at (path_cmp p) k.items) es)) ≡ remove (from_entries (by_path es)) p
+  remove-by_path es p gone = same_map path_total path_exact _ _ (λ q. ⊎_elim
+      (λ (one : (eq_by_cmp path_cmp q p ≡ true) × (q ≡ p)).
+      ap (get (from_entries (by_path (remove_entry (λ k. is_at (path_cmp p) k.items) es)))) one.1 ∙ sym (get-by_path (remove_entry (λ k. is_at (path_cmp p) k.items) es) p) ∙ gone
+      ∙ sym (get-remove path_total (from_entries (by_path es)) p q ∙ ap (λ b. cond b None (get (from_entries {R = path_cmp} (by_path es)) q)) one.0))
+      (λ (two : (eq_by_cmp path_cmp q p ≡ false) × (q ≢ p)).
+      get-from_entries path_total (by_path (remove_entry (λ k. is_at (path_cmp p) k.items) es)) q ∙ others_stay es p q two.1 ∙ sym (get-from_entries path_total (by_path es) q)
+      ∙ sym (get-remove path_total (from_entries (by_path es)) p q ∙ ap (λ b. cond b None (get (from_entries {R = path_cmp} (by_path es)) q)) two.0))
+      (path_cases q p))
 
   below-by_path : (k : Vec NameBytes Z) (es : List (Vec NameBytes Z × X)) → AllByRecursion (λ l. names_cmp k l ≡ Less) (keys_of es) → AllByRecursion (λ p. path_cmp k.items p ≡ Less) (keys_of (by_path es))
   below-by_path k [] all = all

@@ -1,13 +1,15 @@
 -- What stands at each path.
-use Rattle.std.specs.Prelude.{ℕ, ◌+◌, Bool, not, is_some, List, Option, None, Some, length, refl}
+use Rattle.std.specs.Prelude.{ℕ, ◌+◌, List, Option, None, Some, length, map, refl}
 use Rattle.std.specs.Coded.{Coded, code_by, coded×, coded_ℕ, coded_list, coded_option}
-use Rattle.std.specs.FinMap.{FinMap, code}
+use Rattle.std.specs.FinMap.{FinMap, code, entries}
 use Rattle.cs_tree_model.specs.Fresh.{listing}
 use Rattle.cs_tree_model.specs.Maps.Values.{map_values}
 use Rattle.cs_tree_model.specs.Tree.{Path, path_cmp}
 use Rattle.cs_tree_model.specs.declared.mode.TheConstants.{DMDIR}
 use Rattle.cs_tree_model.specs.declared.record.Record.{Record}
 use Rattle.cs_trace.specs.declared.entry.Entry.{Entry}
+use Rattle.cs_trace.specs.declared.operation.Node.{Node}
+use Rattle.cs_trace.specs.declared.operation.Node.TheVariants.{Directory, File}
 
 -- in the order of paths
 abbrev pub Entries : Type 0
@@ -15,18 +17,22 @@ Entries = FinMap path_cmp Entry
 
 abbrev pub entry_code : Coded Entry
 entry_code = code_by
-    (List ℕ × (List ℕ × (ℕ × Option (List ℕ))))
-    (coded× (coded_list coded_ℕ) (coded× (coded_list coded_ℕ) (coded× coded_ℕ (coded_option (coded_list coded_ℕ)))))
-    (λ e. (e.rights.owner, (e.rights.group, (e.rights.permissions, e.content))))
-    (λ p. record { rights = record { owner = p.0; group = p.1.0; permissions = p.1.1.0 }; content = p.1.1.1 })
+    (ℕ × (List ℕ × (List ℕ × (ℕ × Option (List ℕ)))))
+    (coded× coded_ℕ (coded× (coded_list coded_ℕ) (coded× (coded_list coded_ℕ) (coded× coded_ℕ (coded_option (coded_list coded_ℕ))))))
+    (λ e. (e.number, (e.rights.owner, (e.rights.group, (e.rights.permissions, e.content)))))
+    (λ p. record { number = p.0; rights = record { owner = p.1.0; group = p.1.1.0; permissions = p.1.1.1.0 }; content = p.1.1.1.1 })
     (λ _. refl)
 
 abbrev pub entries_code : Coded Entries
 entries_code = code (coded_list (coded_list coded_ℕ)) entry_code
 
--- an entry without bytes is a directory
-abbrev pub is_directory : Entry → Bool
-is_directory e = not (is_some e.content)
+-- what stands where an entry does: one without bytes is a directory
+abbrev pub node_by : Option (List ℕ) → ℕ → Node
+node_by None number = Directory
+node_by (Some bytes) number = File number
+
+abbrev pub node_of : Entry → Node
+node_of e = node_by e.content e.number
 
 -- the bytes of a file; a directory has none
 abbrev pub size_of : Option (List ℕ) → ℕ
@@ -45,3 +51,7 @@ record_of e = record { number = 0; vers = 0; owner = e.rights.owner; group = e.r
 -- the records in the order of their paths, with fresh numbers
 abbrev pub records_in : Entries → List (Path × Record)
 records_in m = listing (map_values record_of m)
+
+-- what each of them is, in the same order
+abbrev pub nodes_in : Entries → List Node
+nodes_in m = map (λ e. node_of e.1) (entries m)

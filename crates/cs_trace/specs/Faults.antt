@@ -1,7 +1,7 @@
 -- What is said of a text that is no trace.
 use Rattle.std.specs.Prelude.{ℕ, List, ◌++◌, codes, decimal}
 use Rattle.cs_trace.specs.declared.fault.TraceFaultKind.{TraceFaultKind}
-use Rattle.cs_trace.specs.declared.fault.TraceFaultKind.TheVariants.{Syntax, UnknownOp, BadName, NoParent, NotDir, Exists, TooLarge, Memory}
+use Rattle.cs_trace.specs.declared.fault.TraceFaultKind.TheVariants.{Syntax, UnknownOp, BadName, NoParent, NotDir, Exists, Missing, NotFile, NotEmpty, TooLarge, Memory}
 
 abbrev pub kind_text : TraceFaultKind → List ℕ
 kind_text Syntax = codes "Syntax"
@@ -10,6 +10,9 @@ kind_text BadName = codes "BadName"
 kind_text NoParent = codes "NoParent"
 kind_text NotDir = codes "NotDir"
 kind_text Exists = codes "Exists"
+kind_text Missing = codes "Missing"
+kind_text NotFile = codes "NotFile"
+kind_text NotEmpty = codes "NotEmpty"
 kind_text TooLarge = codes "TooLarge"
 kind_text Memory = codes "out of memory"
 

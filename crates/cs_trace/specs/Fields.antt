@@ -18,10 +18,15 @@ pub record Fields : Type 0 where
   pub start : Option Field
   pub op : Option Field
   pub path : Option Field
+  pub from : Option Field
+  pub to : Option Field
   pub owner : Option Field
   pub group : Option Field
   pub mode : Option Field
   pub bytes : Option Field
+  pub offset : Option Field
+  pub length : Option Field
+  pub text : Option Field
   pub others : Bool
 
 -- what the format tells of a value
@@ -45,7 +50,7 @@ is_key key name = pointwise nat_eq key name
 abbrev pub is_known : List ℕ → Bool
 is_known key =
     list_any (is_key key)
-    (codes "trace" ∷ codes "start" ∷ codes "op" ∷ codes "path" ∷ codes "owner" ∷ codes "group" ∷ codes "mode" ∷ codes "bytes" ∷ [])
+    (codes "trace" ∷ codes "start" ∷ codes "op" ∷ codes "path" ∷ codes "from" ∷ codes "to" ∷ codes "owner" ∷ codes "group" ∷ codes "mode" ∷ codes "bytes" ∷ codes "offset" ∷ codes "length" ∷ codes "text" ∷ [])
 
 -- one of the keys is none that the format has
 abbrev pub has_others : Members → Bool
@@ -59,10 +64,15 @@ fields_of ms = record {
   start = field_at (codes "start") ms;
   op = field_at (codes "op") ms;
   path = field_at (codes "path") ms;
+  from = field_at (codes "from") ms;
+  to = field_at (codes "to") ms;
   owner = field_at (codes "owner") ms;
   group = field_at (codes "group") ms;
   mode = field_at (codes "mode") ms;
   bytes = field_at (codes "bytes") ms;
+  offset = field_at (codes "offset") ms;
+  length = field_at (codes "length") ms;
+  text = field_at (codes "text") ms;
   others = has_others ms;
 }
 
@@ -73,7 +83,7 @@ fields_in d = option_map fields_of (as_object d)
 -- exactly so many keys, and each of them one that the format has
 abbrev pub has_keys : ℕ → Fields → Bool
 has_keys count f =
-    not f.others && (length (filter is_some (f.trace ∷ f.start ∷ f.op ∷ f.path ∷ f.owner ∷ f.group ∷ f.mode ∷ f.bytes ∷ [])) == count)
+    not f.others && (length (filter is_some (f.trace ∷ f.start ∷ f.op ∷ f.path ∷ f.from ∷ f.to ∷ f.owner ∷ f.group ∷ f.mode ∷ f.bytes ∷ f.offset ∷ f.length ∷ f.text ∷ [])) == count)
 
 -- the text of a field
 abbrev pub text_of : Field → Option (List ℕ)

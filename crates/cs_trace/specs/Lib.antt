@@ -1,9 +1,14 @@
+pub mod Below
 pub mod Entries
 pub mod Faults
 pub mod Fields
+pub mod Judging
+pub mod Kept
 pub mod Keys
 pub mod Lines
+pub mod Names
+pub mod Operations
 pub mod Reading
 pub mod Said
-pub mod Sound
-pub mod Start
+pub mod States
+pub mod Traces

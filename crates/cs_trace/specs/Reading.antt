@@ -23,10 +23,15 @@ fields_said f = record {
   start = option_map field_said f.start;
   op = option_map field_said f.op;
   path = option_map field_said f.path;
+  from = option_map field_said f.from;
+  to = option_map field_said f.to;
   owner = option_map field_said f.owner;
   group = option_map field_said f.group;
   mode = option_map field_said f.mode;
   bytes = option_map field_said f.bytes;
+  offset = option_map field_said f.offset;
+  length = option_map field_said f.length;
+  text = option_map field_said f.text;
   others = f.has_others;
 }
 
@@ -40,10 +45,15 @@ with_field key field f = record {
   start = replaced_if (is_key key (codes "start")) field f.start;
   op = replaced_if (is_key key (codes "op")) field f.op;
   path = replaced_if (is_key key (codes "path")) field f.path;
+  from = replaced_if (is_key key (codes "from")) field f.from;
+  to = replaced_if (is_key key (codes "to")) field f.to;
   owner = replaced_if (is_key key (codes "owner")) field f.owner;
   group = replaced_if (is_key key (codes "group")) field f.group;
   mode = replaced_if (is_key key (codes "mode")) field f.mode;
   bytes = replaced_if (is_key key (codes "bytes")) field f.bytes;
+  offset = replaced_if (is_key key (codes "offset")) field f.offset;
+  length = replaced_if (is_key key (codes "length")) field f.length;
+  text = replaced_if (is_key key (codes "text")) field f.text;
   others = not (is_known key) || f.others;
 }
 

@@ -1,10 +1,10 @@
 //! The files at the start by their paths.
-ghost use Rattle.std.specs.Prelude.{◌≡◌, ◌==◌, IfOk, OnOk};
+ghost use Rattle.std.specs.Prelude.{◌≡◌, IfOk, OnOk};
 ghost use Rattle.std.specs.FinMap as map;
-ghost use Rattle.std.specs.Option.{option_copied};
-ghost use Rattle.cs_trace.specs.Entries.{records_in};
+ghost use Rattle.cs_trace.specs.Entries.{nodes_in, records_in};
 
 use crate::entry::Entry;
+use crate::operation::Node;
 use cs_names::{Name, Path};
 use cs_tree_model::Record;
 use std::alloc::{AllocError, Global};
@@ -38,25 +38,6 @@ impl Entries {
         }
     }
 
-    /// What stands at the path with these names. It takes no memory.
-    pub(crate) fn get(&self, names: &[Name]) -> Option<&Entry>
-        ensures { option_copied result ≡ map.get self.now names.now }
-    {
-        self.by_names.get(names)
-    }
-
-    pub(crate) fn len(&self) -> usize
-        ensures { result ≡ map.len self.now }
-    {
-        self.by_names.len()
-    }
-
-    pub(crate) fn is_empty(&self) -> bool
-        ensures { result ≡ (map.len self.now == 0) }
-    {
-        self.len() == 0
-    }
-
     pub(crate) fn insert(&mut self, names: Vec<Name>, entry: Entry) -> Result<(), AllocError>
         ensures { OnOk result (self.new ≡ map.insert self.old names.items entry) }
     {
@@ -64,15 +45,21 @@ impl Entries {
         Ok(())
     }
 
-    /// The records in the order of their paths, with fresh numbers.
-    pub(crate) fn into_records(self, alloc: Global) -> Result<Vec<(Path, Record)>, AllocError>
-        ensures { IfOk result (λ records. records.items ≡ records_in self) }
+    /// The records in the order of their paths, with fresh numbers; and what each of them is.
+    pub(crate) fn into_parts(
+        self,
+        alloc: Global,
+    ) -> Result<(Vec<(Path, Record)>, Vec<Node>), AllocError>
+        ensures records { IfOk result (λ parts. parts.0.items ≡ records_in self) }
+        ensures nodes { IfOk result (λ parts. parts.1.items ≡ nodes_in self) }
     {
         let mut records = Vec::new(alloc);
+        let mut nodes = Vec::new(alloc);
         for (names, entry) in self.by_names {
             let number = records.len() as u64;
+            nodes.push(entry.node())?;
             records.push((Path::from_names(names), entry.into_record(number)?))?;
         }
-        Ok(records)
+        Ok((records, nodes))
     }
 }

@@ -1,43 +1,19 @@
-//! What stands at a path.
+//! What stands at a path at the start.
 ghost use Rattle.std.specs.Prelude.{◌≡◌, ◌≤◌, IfOk};
 ghost use Rattle.cs_tree_model.specs.Fresh.{fresh_record};
-ghost use Rattle.cs_trace.specs.Entries.{file_mode, is_directory, record_of};
-ghost use Rattle.cs_trace.specs.Said.{claims_of};
-ghost use Rattle.cs_trace.specs.Start.{rights_of};
+ghost use Rattle.cs_trace.specs.Entries.{file_mode, node_of, record_of};
 
-use crate::line::Claims;
-use crate::names::keep_user_name;
-use cs_names::UserName;
+use crate::operation::{Node, Rights};
 use cs_tree_model::{Content, DMDIR, Kind, Record};
-use std::alloc::{AllocError, Global};
-
-/// Who has a file, and what they and others may do with it.
-#[derive(Debug, Drop)]
-pub(crate) struct Rights {
-    pub(crate) owner: UserName,
-    pub(crate) group: UserName,
-    /// The nine bits of three octal digits.
-    pub(crate) permissions: u16,
-}
+use std::alloc::AllocError;
 
 /// A file or a directory, without its path.
 #[derive(Debug, Drop)]
 pub(crate) struct Entry {
+    /// The number of a file; a directory has none.
+    pub(crate) number: u32,
     pub(crate) rights: Rights,
     pub(crate) content: Content,
-}
-
-impl Rights {
-    /// The rights that legal names claim.
-    pub(crate) fn keep(alloc: Global, claims: &Claims<'_>) -> Result<Rights, AllocError>
-        ensures { IfOk result (λ rights. rights ≡ rights_of (claims_of claims.now)) }
-    {
-        Ok(Rights {
-            owner: keep_user_name(alloc, claims.owner)?,
-            group: keep_user_name(alloc, claims.group)?,
-            permissions: claims.permissions,
-        })
-    }
 }
 
 fn file_mode(content: &Content, permissions: u16) -> u32
@@ -50,10 +26,13 @@ fn file_mode(content: &Content, permissions: u16) -> u32
 }
 
 impl Entry {
-    pub(crate) fn is_directory(&self) -> bool
-        ensures { result ≡ is_directory self.now }
+    pub(crate) fn node(&self) -> Node
+        ensures { result ≡ node_of self.now }
     {
-        matches!(self.content.kind(), Kind::Directory)
+        match self.content.kind() {
+            Kind::Directory => Node::Directory,
+            Kind::File { .. } => Node::File(self.number),
+        }
     }
 
     /// The record that nobody changed yet, with that number.

@@ -18,11 +18,17 @@ pub enum TraceFaultKind {
     BadName,
     /// Nothing stands at the path's directory.
     NoParent,
-    /// A file stands at the path's directory.
+    /// A file stands at the path's directory, or where a directory is to be removed.
     NotDir,
     /// Something stands at the path.
     Exists,
-    /// A path of too many names, too many files, or a file of too many bytes.
+    /// Nothing stands at the path.
+    Missing,
+    /// A directory stands at the path.
+    NotFile,
+    /// Something stands in the directory.
+    NotEmpty,
+    /// A path of too many names, too many files, a file of too many bytes, or a text that is too long.
     TooLarge,
     /// No memory to keep what the line says.
     Memory,
@@ -39,6 +45,9 @@ impl fmt::Display for TraceFaultKind {
             TraceFaultKind::NoParent => "NoParent",
             TraceFaultKind::NotDir => "NotDir",
             TraceFaultKind::Exists => "Exists",
+            TraceFaultKind::Missing => "Missing",
+            TraceFaultKind::NotFile => "NotFile",
+            TraceFaultKind::NotEmpty => "NotEmpty",
             TraceFaultKind::TooLarge => "TooLarge",
             TraceFaultKind::Memory => "out of memory",
         })

@@ -21,10 +21,15 @@ pub(crate) struct Fields<'a> {
     pub(crate) start: Option<Field<'a>>,
     pub(crate) op: Option<Field<'a>>,
     pub(crate) path: Option<Field<'a>>,
+    pub(crate) from: Option<Field<'a>>,
+    pub(crate) to: Option<Field<'a>>,
     pub(crate) owner: Option<Field<'a>>,
     pub(crate) group: Option<Field<'a>>,
     pub(crate) mode: Option<Field<'a>>,
     pub(crate) bytes: Option<Field<'a>>,
+    pub(crate) offset: Option<Field<'a>>,
+    pub(crate) length: Option<Field<'a>>,
+    pub(crate) text: Option<Field<'a>>,
     /// Whether there is a key that the format doesn't have.
     pub(crate) has_others: bool,
 }
@@ -53,10 +58,15 @@ impl<'a> Fields<'a> {
             start: None,
             op: None,
             path: None,
+            from: None,
+            to: None,
             owner: None,
             group: None,
             mode: None,
             bytes: None,
+            offset: None,
+            length: None,
+            text: None,
             has_others: false,
         }
     }
@@ -71,10 +81,15 @@ impl<'a> Fields<'a> {
             "start" => self.start = Some(field),
             "op" => self.op = Some(field),
             "path" => self.path = Some(field),
+            "from" => self.from = Some(field),
+            "to" => self.to = Some(field),
             "owner" => self.owner = Some(field),
             "group" => self.group = Some(field),
             "mode" => self.mode = Some(field),
             "bytes" => self.bytes = Some(field),
+            "offset" => self.offset = Some(field),
+            "length" => self.length = Some(field),
+            "text" => self.text = Some(field),
             _ => self.has_others = true,
         }
     }
@@ -84,8 +99,19 @@ impl<'a> Fields<'a> {
         ensures { result ≡ has_keys count (fields_said self.now) }
     {
         let fields = [
-            self.trace, self.start, self.op, self.path, self.owner, self.group, self.mode,
+            self.trace,
+            self.start,
+            self.op,
+            self.path,
+            self.from,
+            self.to,
+            self.owner,
+            self.group,
+            self.mode,
             self.bytes,
+            self.offset,
+            self.length,
+            self.text,
         ];
         !self.has_others && fields.iter().filter(|field| field.is_some()).count() == count
     }

@@ -1,4 +1,4 @@
-//! The trace of a storage application: its header and the files that stand at its start.
+//! The trace of a storage application: the files that stand at its start, and its operations.
 #![tactic(auto)]
 
 mod digits;
@@ -6,13 +6,25 @@ mod entries;
 mod entry;
 pub mod fault;
 mod fields;
+mod judge;
 mod line;
+mod lines;
 mod names;
 mod numbers;
+pub mod operation;
+#[cfg(test)]
+mod operation_tests;
+mod path_text;
 mod reading;
-pub mod start;
+mod resolve;
+mod standing;
+mod start;
+mod state;
 #[cfg(test)]
 mod tests;
+pub mod trace;
+mod verb;
 
 pub use fault::{TraceFault, TraceFaultKind};
-pub use start::read_start;
+pub use operation::{Bytes, Covers, Node, Operation, Rights};
+pub use trace::{Trace, read_start, read_trace};

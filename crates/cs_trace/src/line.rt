@@ -1,11 +1,12 @@
 //! What a line of a trace says by itself.
 ghost use Rattle.std.specs.Prelude.{◌≡◌, option_map};
-ghost use Rattle.cs_trace.specs.Lines.{bytes_in, claims_in, header_in, is_blank, is_octal, is_one, line_of, permissions_in, start_line_in, start_with, text_in};
+ghost use Rattle.cs_trace.specs.Lines.{bytes_in, claims_in, header_in, is_blank, is_octal, is_one, line_of, operation_in, operation_of, permissions_in, start_line_in, start_with, text_in, whole_in};
 ghost use Rattle.cs_trace.specs.Reading.{field_said, fields_said};
-ghost use Rattle.cs_trace.specs.Said.{claims_of, line_said, start_of};
+ghost use Rattle.cs_trace.specs.Said.{claims_of, line_said, operation_said, start_of};
 
 use crate::digits::Digits;
 use crate::fields::{Field, Fields};
+use crate::verb::Verb;
 
 /// What a line says. The texts in it are not yet judged as names and paths.
 #[derive(Drop)]
@@ -14,8 +15,11 @@ pub(crate) enum Line<'a> {
     Header(Claims<'a>),
     /// A file or a directory at the start.
     Start(StartLine<'a>),
-    /// An operation, or a start line of no known kind.
-    Unknown,
+    Operation(OperationLine<'a>),
+    /// A start line of no known kind.
+    UnknownStart,
+    /// An operation of no known name.
+    UnknownOperation,
 }
 
 /// Owner, group and permissions as a line has them.
@@ -33,6 +37,45 @@ pub(crate) struct StartLine<'a> {
     pub(crate) claims: Claims<'a>,
     /// The bytes of a file; a directory has none.
     pub(crate) content: Option<Digits<'a>>,
+}
+
+/// An operation.
+#[derive(Drop)]
+pub(crate) enum OperationLine<'a> {
+    Creat {
+        path: &'a str,
+        claims: Claims<'a>,
+    },
+    Mkdir {
+        path: &'a str,
+        claims: Claims<'a>,
+    },
+    Unlink {
+        path: &'a str,
+    },
+    Rmdir {
+        path: &'a str,
+    },
+    Rename {
+        from: &'a str,
+        to: &'a str,
+    },
+    Write {
+        path: &'a str,
+        offset: u64,
+        bytes: Digits<'a>,
+    },
+    Truncate {
+        path: &'a str,
+        size: u64,
+    },
+    Fsync {
+        path: &'a str,
+    },
+    Sync,
+    Say {
+        text: &'a str,
+    },
 }
 
 /// Whether the line has JSON's blanks alone: it is skipped, and counted.
@@ -69,6 +112,16 @@ fn text_in<'a>(field: &Option<Field<'a>>) -> Option<&'a str>
     match field {
         Some(field) => field.text(),
         None => None,
+    }
+}
+
+/// The whole number of a field.
+fn whole_in(field: &Option<Field<'_>>) -> Option<u64>
+    ensures { result ≡ whole_in (option_map field_said field.now) }
+{
+    match field {
+        Some(Field::Number(number)) => number.as_u64(),
+        _ => None,
     }
 }
 
@@ -123,10 +176,64 @@ fn start_line_in<'a>(kind: &str, fields: &Fields<'a>) -> Option<Line<'a>>
         return Some(Line::Start(start_with(fields, 5, None)?));
     }
     if kind != "file" {
-        return Some(Line::Unknown);
+        return Some(Line::UnknownStart);
     }
     let content = bytes_in(&fields.bytes)?;
     Some(Line::Start(start_with(fields, 6, Some(content))?))
+}
+
+/// What the operation has under its keys.
+fn operation_of<'a>(verb: Verb, fields: &Fields<'a>) -> Option<OperationLine<'a>>
+    ensures { option_map operation_said result ≡ operation_of verb (fields_said fields.now) }
+{
+    Some(match verb {
+        Verb::Creat => OperationLine::Creat {
+            path: text_in(&fields.path)?,
+            claims: claims_in(fields)?,
+        },
+        Verb::Mkdir => OperationLine::Mkdir {
+            path: text_in(&fields.path)?,
+            claims: claims_in(fields)?,
+        },
+        Verb::Unlink => OperationLine::Unlink {
+            path: text_in(&fields.path)?,
+        },
+        Verb::Rmdir => OperationLine::Rmdir {
+            path: text_in(&fields.path)?,
+        },
+        Verb::Rename => OperationLine::Rename {
+            from: text_in(&fields.from)?,
+            to: text_in(&fields.to)?,
+        },
+        Verb::Write => OperationLine::Write {
+            path: text_in(&fields.path)?,
+            offset: whole_in(&fields.offset)?,
+            bytes: bytes_in(&fields.bytes)?,
+        },
+        Verb::Truncate => OperationLine::Truncate {
+            path: text_in(&fields.path)?,
+            size: whole_in(&fields.length)?,
+        },
+        Verb::Fsync => OperationLine::Fsync {
+            path: text_in(&fields.path)?,
+        },
+        Verb::Sync => OperationLine::Sync,
+        Verb::Say => OperationLine::Say {
+            text: text_in(&fields.text)?,
+        },
+    })
+}
+
+fn operation_in<'a>(name: &str, fields: &Fields<'a>) -> Option<Line<'a>>
+    ensures { option_map line_said result ≡ operation_in name.now (fields_said fields.now) }
+{
+    let Some(verb) = Verb::named(name) else {
+        return Some(Line::UnknownOperation);
+    };
+    if !fields.has_keys(verb.key_count()) {
+        return None;
+    }
+    Some(Line::Operation(operation_of(verb, fields)?))
 }
 
 fn header_in<'a>(version: &Field<'_>, fields: &Fields<'a>) -> Option<Line<'a>>
@@ -146,7 +253,7 @@ pub(crate) fn line_of<'a>(fields: &Fields<'a>) -> Option<Line<'a>>
     match (&fields.trace, &fields.start, &fields.op) {
         (Some(version), None, None) => header_in(version, fields),
         (None, Some(start), None) => start_line_in(start.text()?, fields),
-        (None, None, Some(operation)) => operation.text().map(|_| Line::Unknown),
+        (None, None, Some(operation)) => operation_in(operation.text()?, fields),
         _ => None,
     }
 }

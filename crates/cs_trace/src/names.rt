@@ -1,48 +1,11 @@
-//! The names in a line: judged without memory, and kept.
-ghost use Rattle.std.specs.Prelude.{◌≡◌, IfOk, IsSome, length, Some};
-ghost use Rattle.std.specs.Option.{option_map};
-ghost use Rattle.cs_names.specs.Pieces.{pieces};
+//! The names of users and groups in a line: judged without memory, and kept.
+ghost use Rattle.std.specs.Prelude.{◌≡◌, IfOk};
+ghost use Rattle.cs_trace.specs.Names.{are_user_names, is_user_name};
 ghost use Rattle.cs_trace.specs.Said.{claims_of};
-ghost use Rattle.cs_trace.specs.Start.{are_user_names, is_user_name, start_path_in};
 
 use crate::line::Claims;
-use cs_names::{Name, Path, Pieces, UserName};
+use cs_names::UserName;
 use std::alloc::{AllocError, Global};
-
-/// How many names a start line's path has; None where it is no path, or the root's.
-pub(crate) fn start_path_len(text: &str) -> Option<usize>
-    ensures { result ≡ option_map (λ path. length path) (start_path_in text.now) }
-{
-    match Path::check(text) {
-        Ok(0) | Err(_) => None,
-        Ok(count) => Some(count),
-    }
-}
-
-/// The pieces between the slashes, which are known to be legal names.
-fn keep_pieces(alloc: Global, bytes: &[u8]) -> Result<Vec<Name>, AllocError>
-    ensures { IfOk result (λ names. names.items ≡ pieces 47 bytes.now) }
-{
-    let mut names = Vec::new(alloc);
-    for piece in Pieces::of(bytes, b'/') {
-        let Ok(name) = Name::read(alloc, piece) else {
-            return Err(AllocError);
-        };
-        names.push(name)?;
-    }
-    Ok(names)
-}
-
-/// The names of a start line's path, which is known to be legal.
-pub(crate) fn keep_names(alloc: Global, text: &str) -> Result<Vec<Name>, AllocError>
-    requires { IsSome (start_path_in text.now) }
-    ensures { IfOk result (λ names. start_path_in text.now ≡ Some names.items) }
-{
-    match text.as_bytes().split_first() {
-        Some((_, rest)) => keep_pieces(alloc, rest),
-        None => Ok(Vec::new(alloc)),
-    }
-}
 
 fn is_user_name(text: &str) -> bool
     ensures { result ≡ is_user_name text.now }

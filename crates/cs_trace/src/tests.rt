@@ -154,7 +154,7 @@ fn each_fault_of_a_start_line(rt: HostRuntime) -> Result<(), Fail> {
         (r#"{"op":1}"#, TraceFaultKind::Syntax),
         (r#"{"start":null}"#, TraceFaultKind::Syntax),
         (r#"{"start":"link"}"#, TraceFaultKind::UnknownOp),
-        (r#"{"op":"creat","path":7}"#, TraceFaultKind::UnknownOp),
+        (r#"{"op":"link","path":7}"#, TraceFaultKind::UnknownOp),
         (
             r#"{"start":"dir","path":"/","owner":"ann","group":"ann","mode":"755"}"#,
             TraceFaultKind::BadName,

@@ -159,3 +159,12 @@ read_fields-returns-clause-value t c =
     let named : read_key l.reader ≡ Some (None, c.next_key.new.self) = grind arith in
     l.invariant.4 ∙ members_over (value c.args.depth) l.invariant.1 l.invariant.0 l.reader c.next_key.new.self l.invariant.2 named
     ∙ ap (λ fs. Some (fs, c.next_key.new.self)) l.invariant.3
+
+pub read_fields-members-smaller : goal.read_fields-members-smaller
+read_fields-members-smaller t c =
+    let l = c.members in
+    let s = c.next_key.new.self in
+    let named : read_key l.reader ≡ Some (Some c.in-Some.key.now, s) = grind arith in
+    let less = read_key-shorter l.reader (Some c.in-Some.key.now) s named in
+    let lesser = c.in_ok-field.ensures.shorter in
+    omega arith

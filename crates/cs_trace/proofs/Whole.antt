@@ -1,0 +1,128 @@
+-- What a sound state leaves is a trace.
+use Rattle.std.proofs.Common.{◌≡◌, ◌≢◌, ℕ, ◌+◌, ◌*◌, ◌^◌, ◌<◌, ◌≤◌, List, [], ◌∷◌, length, map, Option, None, Some, option_map, refl, sym, ap, ◌∙◌, subst, arith, lit≤}
+use Rattle.std.proofs.lemmas.List.{length-map}
+use Rattle.std.proofs.lemmas.Nat.Bits.{and_pow, bit_at_above, bit_at_cat_high}
+use Rattle.std.specs.FinMap.{entries, from_entries, get, get-entries, get-from_entries, same_map}
+use Rattle.std.specs.List.{slice_get, zip}
+use Rattle.std.specs.Option.{option_map_or}
+use Rattle.std.specs.Prelude.{bit_and}
+use Rattle.cs_tree_model.specs.Fresh.{IsNested, fresh, fresh_record, numbered, place_in}
+use Rattle.cs_tree_model.specs.Laws.Fresh.{listing-IsListing, record_at-fresh}
+use Rattle.cs_tree_model.specs.Laws.Paths.{path_exact, path_total}
+use Rattle.cs_tree_model.specs.Maps.Values.{entries-map_values, get-map_values, map_entries, map_values}
+use Rattle.cs_tree_model.specs.Record.{IsMarked}
+use Rattle.cs_tree_model.specs.Tree.{Path, path_cmp, parent_path}
+use Rattle.cs_tree_model.specs.declared.mode.TheConstants.{DMDIR}
+use Rattle.cs_tree_model.specs.declared.record.Record.{Record}
+use Rattle.cs_trace.specs.Entries.{Entries, node_by, node_of, nodes_in, record_of, records_in, size_of}
+use Rattle.cs_trace.specs.Operations.{AreLegal, AreNested, IsDirectoryAt}
+use Rattle.cs_trace.specs.States.{State}
+use Rattle.cs_trace.specs.Traces.{IsTrace, size_at, standing, start_paths, start_sizes, whole}
+use Rattle.cs_trace.specs.declared.entry.Entry.{Entry}
+use Rattle.cs_trace.specs.declared.operation.Node.TheVariants.{Directory, File}
+use Rattle.cs_trace.proofs.Sound.{IsSound, entry_size, start_of, sizes_of}
+
+-- ---- the records are a tree's
+
+no_bit : (n : ℕ) → n ≤ 511 → bit_and n DMDIR ≡ 0
+no_bit n low =
+    let below : n < 2 ^ 9 = omega arith in
+    let none = bit_at_above n 9 31 below (lit≤ tt) in
+    and_pow n 31 ∙ ap (λ b. b * 2 ^ 31) none
+
+has_bit : (n : ℕ) → n ≤ 511 → bit_and (DMDIR + n) DMDIR ≡ DMDIR
+has_bit n low =
+    let below : n < 2 ^ 31 = omega arith in
+    and_pow (DMDIR + n) 31 ∙ ap (λ b. b * 2 ^ 31) (bit_at_cat_high 1 31 n 31 below (lit≤ tt))
+
+marked_by : (e : Entry) (content : Option (List ℕ)) → e.rights.permissions ≤ 511 → e.content ≡ content → IsMarked (record_of e)
+marked_by e None low is = rw (is, has_bit e.rights.permissions low) refl
+marked_by e (Some bytes) low is = rw (is, no_bit e.rights.permissions low) refl
+
+-- an entry at which a directory stands has no bytes
+directory_by : (content : Option (List ℕ)) (number : ℕ) → node_by content number ≡ Directory → content ≡ None
+directory_by None number is = refl
+directory_by (Some bytes) number is = absurd (cc)
+
+module _ (m : Entries) where
+  entry_by : {X : Type 0} (f : Entry → X) (p : Path) (x : X) (o : Option Entry) → get m p ≡ o → option_map f o ≡ Some x → (e : Entry) × (get m p ≡ Some e) × (f e ≡ x)
+  entry_by f p x None at is = absurd (cc)
+  entry_by f p x (Some e) at is = (e, at, cc)
+
+  -- the entry that a value of the map comes from
+  entry_at : {X : Type 0} (f : Entry → X) (p : Path) (x : X) → get (map_values f m) p ≡ Some x → (e : Entry) × (get m p ≡ Some e) × (f e ≡ x)
+  entry_at f p x there = entry_by f p x (get m p) refl (sym (get-map_values path_cmp f m p) ∙ there)
+
+  value_at : {X : Type 0} (f : Entry → X) (p : Path) (e : Entry) → get m p ≡ Some e → get (map_values f m) p ≡ Some (f e)
+  value_at f p e there = get-map_values path_cmp f m p ∙ ap (option_map f) there
+
+  -- a directory's record
+  directory_record : (p : Path) → IsDirectoryAt (map_values node_of m) p → (d : Record) × (get (map_values record_of m) p ≡ Some d) × (d.content ≡ None)
+  directory_record p there =
+      let e = entry_at node_of p Directory there in
+      (record_of e.0, value_at record_of p e.0 e.1, directory_by e.0.content e.0.number e.2)
+
+  -- ---- what stands, and the sizes
+
+  zipped : (k : ℕ) (es : List (Path × Entry)) → zip (map (λ e. e.0) (numbered k (map_entries record_of es))) (map (λ e. node_of e.1) es) ≡ map_entries node_of es
+  zipped k [] = refl
+  zipped k (e ∷ es) = λ i. (e.0, node_of e.1) ∷ zipped (k + 1) es i
+
+  same_listing : records_in m ≡ numbered 0 (map_entries record_of (entries m))
+  same_listing = ap (numbered 0) (entries-map_values path_cmp record_of m)
+
+  same_standing : standing (records_in m) (nodes_in m) ≡ map_values node_of m
+  same_standing =
+      ap (λ es. from_entries (zip (map (λ e. e.0) es) (nodes_in m))) same_listing
+      ∙ ap from_entries (zipped 0 (entries m) ∙ sym (entries-map_values path_cmp node_of m))
+      ∙ same_map path_total path_exact _ _ (λ q. get-from_entries path_total (entries (map_values node_of m)) q ∙ sym (get-entries (map_values node_of m) q))
+
+  length-numbered : (k : ℕ) (es : List (Path × Record)) → length (numbered k es) ≡ length es
+  length-numbered k [] = refl
+  length-numbered k (e ∷ es) = let rest = length-numbered (k + 1) es in omega arith
+
+  each_node : length (nodes_in m) ≡ length (records_in m)
+  each_node =
+      length-map (entries m) (λ e. node_of e.1)
+      ∙ sym (ap length same_listing ∙ length-numbered 0 (map_entries record_of (entries m)) ∙ length-map (entries m) (λ e. (e.0, record_of e.1)))
+
+  size_by : (n : ℕ) (o : Option Entry) → option_map_or (λ r. size_of r.content) (option_map (fresh_record n) (option_map record_of o)) 0 ≡ entry_size o
+  size_by n None = refl
+  size_by n (Some e) = refl
+
+  same_size : (p : Path) → size_at (records_in m) p ≡ entry_size (get m p)
+  unfolding fresh
+  same_size p =
+      ap (λ o. option_map_or (λ r. size_of r.content) o 0) (record_at-fresh (map_values record_of m) p)
+      ∙ ap (λ o. option_map_or (λ r. size_of r.content) (option_map (fresh_record (place_in p (entries (map_values record_of m)))) o) 0) (get-map_values path_cmp record_of m p)
+      ∙ size_by (place_in p (entries (map_values record_of m))) (get m p)
+
+  same_all : (files : List Path) → map (size_at (records_in m)) files ≡ map (λ p. entry_size (get m p)) files
+  same_all [] = refl
+  same_all (p ∷ files) = λ i. same_size p i ∷ same_all files i
+
+module _ (s : State) (sound : IsSound s) (made : s.made ≢ 0) where
+  nested_records : IsNested (map_values record_of s.start)
+  nested_records = record {
+    root = directory_record s.start [] (sound.rooted made);
+    nested = λ p r there named.
+        let e = entry_at s.start record_of p r there in
+        directory_record s.start (parent_path p) (sound.nested p (node_of e.0) (value_at s.start node_of p e.0 e.1) named);
+    marked = λ p r there. let e = entry_at s.start record_of p r there in subst IsMarked e.2 (marked_by e.0 e.0.content (sound.octal p e.0 e.1) refl);
+  }
+
+  paths_are : start_paths (whole s) ≡ start_of s
+  paths_are = same_standing s.start
+
+  sizes_are : start_sizes (whole s) ≡ sizes_of s
+  sizes_are = same_all s.start s.files
+
+  pub whole_is : IsTrace (whole s)
+  whole_is = record {
+    listing = listing-IsListing (map_values record_of s.start) nested_records;
+    each = each_node s.start;
+    nested = subst AreNested (sym paths_are) (record { root = sound.rooted made; nested = sound.nested });
+    numbered = subst (λ m. (n : ℕ) (p : Path) → slice_get s.files n ≡ Some p → get m p ≡ Some (File n)) (sym paths_are) sound.numbered;
+    found = subst (λ m. (n : ℕ) (p : Path) → get m p ≡ Some (File n) → slice_get s.files n ≡ Some p) (sym paths_are) sound.found;
+    legal = subst (λ m. AreLegal m (start_sizes (whole s)) s.operations) (sym paths_are) (subst (λ sizes. AreLegal (start_of s) sizes s.operations) (sym sizes_are) sound.legal);
+  }

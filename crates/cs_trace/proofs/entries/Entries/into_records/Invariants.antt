@@ -1,9 +1,0 @@
-use Rattle.std.proofs.Common.{◌≡◌, ◌++◌, length}
-use Rattle.cs_tree_model.specs.Fresh.{numbered}
-use Rattle.cs_tree_model.specs.Maps.Values.{map_entries}
-use Rattle.cs_trace.specs.Entries.{record_of, records_in}
-use Rattle.cs_trace.specs.Keys.{by_path}
-use Rattle.cs_trace.proofs.entries.Entries.into_records.Given as goal
-
-abbrev pub invariant-loop-names : goal.invariant-loop-names
-invariant-loop-names l = l.records.items ++ numbered (length l.records.items) (map_entries record_of (by_path l.names-iterator)) ≡ records_in l.fn.self

@@ -1,0 +1,160 @@
+-- What a line needs of what stands, and its first fault.
+use Rattle.std.specs.Prelude.{◌≡◌, ◌≤◌, ℕ, ◌+◌, ◌||◌, ◌&&◌, Bool, true, false, List, length, nat_le, nat_lt, Option, Some, None, slice_index_or, if◌then◌else◌, Result, Ok, Err}
+use Rattle.std.specs.FinMap.{get}
+use Rattle.std.specs.Option.{option_map_or}
+use Rattle.cs_names.specs.declared.limits.TheConstants.{FILE_BYTES, SAY_BYTES, TRACE_PATH_NAMES, TREE_RECORDS}
+use Rattle.cs_tree_model.specs.Tree.{Path, parent_path}
+use Rattle.cs_trace.specs.Below.{has_below}
+use Rattle.cs_trace.specs.Lines as line
+use Rattle.cs_trace.specs.Lines.{Claims, OperationLine}
+use Rattle.cs_trace.specs.Names.{entry_path_of, new_path_of, path_of, rights_of}
+use Rattle.cs_trace.specs.Operations.{Paths}
+use Rattle.cs_trace.specs.declared.fault.TraceFaultKind.{TraceFaultKind}
+use Rattle.cs_trace.specs.declared.fault.TraceFaultKind.TheVariants.{Syntax, UnknownOp, BadName, NoParent, NotDir, Exists, Missing, NotFile, NotEmpty, TooLarge, Memory}
+use Rattle.cs_trace.specs.declared.operation.Covers.TheVariants as covers
+use Rattle.cs_trace.specs.declared.operation.Node.{Node}
+use Rattle.cs_trace.specs.declared.operation.Node.TheVariants.{Directory, File}
+use Rattle.cs_trace.specs.declared.operation.Operation.{Operation}
+use Rattle.cs_trace.specs.declared.operation.Operation.TheVariants.{Creat, Mkdir, Unlink, Rmdir, Rename, Write, Truncate, Sync, Say}
+
+abbrev pub and_then : {A B E : Type 0} → Result A E → (A → Result B E) → Result B E
+and_then (Ok x) f = f x
+and_then (Err e) f = Err e
+
+-- ---- what stands at a path, as a line needs it
+
+-- the number of the file that stands here
+abbrev pub file_by : Option Node → Result ℕ TraceFaultKind
+file_by None = Err Missing
+file_by (Some Directory) = Err NotFile
+file_by (Some (File file)) = Ok file
+
+-- a new entry may stand here, below what stands above
+abbrev pub free_by : Option Node → Option Node → Result (Unit {0}) TraceFaultKind
+free_by None here = Err NoParent
+free_by (Some (File file)) here = Err NotDir
+free_by (Some Directory) (Some node) = Err Exists
+free_by (Some Directory) None = Ok tt
+
+-- a file may come here, over a file, below what stands above
+abbrev pub target_by : Option Node → Option Node → Result (Unit {0}) TraceFaultKind
+target_by None here = Err NoParent
+target_by (Some (File file)) here = Err NotDir
+target_by (Some Directory) (Some Directory) = Err NotFile
+target_by (Some Directory) (Some (File file)) = Ok tt
+target_by (Some Directory) None = Ok tt
+
+-- an empty directory stands here; whether something stands below it
+abbrev pub emptied_by : Option Node → Bool → Result (Unit {0}) TraceFaultKind
+emptied_by None below = Err Missing
+emptied_by (Some (File file)) below = Err NotDir
+emptied_by (Some Directory) true = Err NotEmpty
+emptied_by (Some Directory) false = Ok tt
+
+-- what an fsync of what stands here covers
+abbrev pub covered_by : Option Node → Path → Result Operation TraceFaultKind
+covered_by None p = Err Missing
+covered_by (Some Directory) p = Ok (Sync (covers.Directory p))
+covered_by (Some (File file)) p = Ok (Sync (covers.File file))
+
+abbrev pub file_at : Paths → Path → Result ℕ TraceFaultKind
+file_at m p = file_by (get m p)
+
+abbrev pub free_at : Paths → Path → Result (Unit {0}) TraceFaultKind
+free_at m p = free_by (get m (parent_path p)) (get m p)
+
+abbrev pub target_at : Paths → Path → Result (Unit {0}) TraceFaultKind
+target_at m p = target_by (get m (parent_path p)) (get m p)
+
+abbrev pub emptied_at : Paths → Path → Result (Unit {0}) TraceFaultKind
+emptied_at m p = emptied_by (get m p) (has_below m p)
+
+-- ---- limits
+
+abbrev pub has_too_many_names : Path → Bool
+has_too_many_names p = nat_lt TRACE_PATH_NAMES (length p)
+
+-- one record more at the path goes past a limit, after so many
+abbrev pub is_too_much : ℕ → Path → Bool
+is_too_much made p = has_too_many_names p || nat_le TREE_RECORDS made
+
+-- a write of at least one byte ends above the greatest size
+abbrev pub ends_above : ℕ → List ℕ → Bool
+ends_above offset bytes = nat_lt 0 (length bytes) && nat_lt FILE_BYTES (offset + length bytes)
+
+abbrev pub size_in : List ℕ → ℕ → ℕ
+size_in sizes file = slice_index_or sizes file 0
+
+-- the value, unless a limit is passed
+abbrev pub unless_too_large : {A : Type 0} → Bool → A → Result A TraceFaultKind
+unless_too_large large x = if large then Err TooLarge else Ok x
+
+-- ---- operations, where their names are legal
+
+abbrev pub creat : Paths → ℕ → ℕ → Path → Claims → Result Operation TraceFaultKind
+creat m made file p claims = and_then (free_at m p) (λ _. unless_too_large (is_too_much made p) (Creat p file (rights_of claims)))
+
+abbrev pub mkdir : Paths → ℕ → Path → Claims → Result Operation TraceFaultKind
+mkdir m made p claims = and_then (free_at m p) (λ _. unless_too_large (is_too_much made p) (Mkdir p (rights_of claims)))
+
+abbrev pub unlink : Paths → Path → Result Operation TraceFaultKind
+unlink m p = and_then (file_at m p) (λ _. Ok (Unlink p))
+
+abbrev pub rmdir : Paths → Path → Result Operation TraceFaultKind
+rmdir m p = and_then (emptied_at m p) (λ _. Ok (Rmdir p))
+
+abbrev pub rename : Paths → Path → Path → Result Operation TraceFaultKind
+rename m p q = and_then (file_at m p) (λ _. and_then (target_at m q) (λ _. unless_too_large (has_too_many_names q) (Rename p q)))
+
+abbrev pub write : Paths → List ℕ → Path → ℕ → List ℕ → Result Operation TraceFaultKind
+write m sizes p offset bytes = and_then (file_at m p) (λ file. unless_too_large (ends_above offset bytes) (Write file (size_in sizes file) offset bytes))
+
+abbrev pub truncate : Paths → List ℕ → Path → ℕ → Result Operation TraceFaultKind
+truncate m sizes p size = and_then (file_at m p) (λ file. unless_too_large (nat_lt FILE_BYTES size) (Truncate file (size_in sizes file) size))
+
+abbrev pub fsync : Paths → Path → Result Operation TraceFaultKind
+fsync m p = covered_by (get m p) p
+
+abbrev pub say : List ℕ → Result Operation TraceFaultKind
+say text = unless_too_large (nat_lt SAY_BYTES (length text)) Say
+
+-- ---- with the names judged first
+
+-- a path that a text spells; one that spells none is BadName
+abbrev pub legal : Option Path → Result Path TraceFaultKind
+legal path = option_map_or Ok path (Err BadName)
+
+abbrev pub with_path : {A : Type 0} → Option Path → (Path → Result A TraceFaultKind) → Result A TraceFaultKind
+with_path path f = and_then (legal path) f
+
+-- the operation of a line, where these paths stand, the files have these sizes, and so many records were
+-- made; or its first fault
+abbrev pub resolve : Paths → List ℕ → ℕ → OperationLine → Result Operation TraceFaultKind
+resolve m sizes made (line.Creat text claims) = with_path (new_path_of text claims) (λ p. creat m made (length sizes) p claims)
+resolve m sizes made (line.Mkdir text claims) = with_path (new_path_of text claims) (λ p. mkdir m made p claims)
+resolve m sizes made (line.Unlink text) = with_path (entry_path_of text) (unlink m)
+resolve m sizes made (line.Rmdir text) = with_path (entry_path_of text) (rmdir m)
+resolve m sizes made (line.Rename from to) = with_path (entry_path_of from) (λ p. with_path (entry_path_of to) (λ q. rename m p q))
+resolve m sizes made (line.Write text offset bytes) = with_path (entry_path_of text) (λ p. write m sizes p offset bytes)
+resolve m sizes made (line.Truncate text size) = with_path (entry_path_of text) (λ p. truncate m sizes p size)
+resolve m sizes made (line.Fsync text) = with_path (path_of text) (fsync m)
+resolve m sizes made line.Sync = Ok (Sync covers.All)
+resolve m sizes made (line.Say text) = say text
+
+-- ---- where memory may be wanted
+
+-- there is no fault, or one that only what stands shows: it comes after the names are kept, for which
+-- memory may be wanted
+abbrev pub IsPastNames : {A : Type 0} → Result A TraceFaultKind → Type 0
+IsPastNames (Ok x) = Unit {0}
+IsPastNames (Err Syntax) = ⊥
+IsPastNames (Err UnknownOp) = ⊥
+IsPastNames (Err BadName) = ⊥
+IsPastNames (Err Memory) = ⊥
+IsPastNames (Err kind) = Unit {0}
+
+-- ---- what a reader keeps of what stands
+
+-- no path that stands has too many names
+abbrev pub AreShort : Paths → Type 0
+AreShort m = (p : Path) (node : Node) → get m p ≡ Some node → length p ≤ TRACE_PATH_NAMES

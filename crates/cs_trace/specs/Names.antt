@@ -1,0 +1,39 @@
+-- The names in a line: paths, users and groups.
+use Rattle.std.specs.Prelude.{ℕ, Bool, ◌&&◌, List, [], ◌∷◌, Option, Some, None, option_and_then, unwrap_or, is_ok, if◌then◌else◌}
+use Rattle.std.specs.Result.{result_ok}
+use Rattle.cs_names.specs.Legal.{user_name_in}
+use Rattle.cs_names.specs.Paths.{path_in}
+use Rattle.cs_tree_model.specs.Tree.{Path}
+use Rattle.cs_trace.specs.Lines.{Claims}
+use Rattle.cs_trace.specs.declared.operation.Rights.{Rights}
+
+abbrev pub is_user_name : List ℕ → Bool
+is_user_name text = is_ok (user_name_in text)
+
+-- its owner and its group are legal names
+abbrev pub are_user_names : Claims → Bool
+are_user_names claims = is_user_name claims.owner && is_user_name claims.group
+
+abbrev pub rights_of : Claims → Rights
+rights_of claims = record { owner = claims.owner; group = claims.group; permissions = claims.permissions }
+
+-- the path that a text spells; None where it is not legal
+abbrev pub path_of : List ℕ → Option Path
+path_of text = result_ok (path_in text)
+
+-- the same of a text that is known to spell one
+abbrev pub spelled_path : List ℕ → Path
+spelled_path text = unwrap_or (path_of text) []
+
+-- a path with a name: the root has no entry
+abbrev pub below_root : Path → Option Path
+below_root [] = None
+below_root (name ∷ names) = Some (name ∷ names)
+
+-- the path of an entry; None where it is not legal
+abbrev pub entry_path_of : List ℕ → Option Path
+entry_path_of text = option_and_then below_root (path_of text)
+
+-- the path of a new entry, with its owner and its group; None where one of them is not legal
+abbrev pub new_path_of : List ℕ → Claims → Option Path
+new_path_of text claims = option_and_then (λ p. if are_user_names claims then Some p else None) (entry_path_of text)

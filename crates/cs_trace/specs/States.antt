@@ -1,0 +1,107 @@
+-- What the lines of a trace leave, one after another.
+use Rattle.std.specs.Prelude.{ℕ, ◌+◌, ◌==◌, List, [], ◌∷◌, ◌++◌, length, nat_lt, ◌||◌, Option, Some, None, if◌then◌else◌, Result, Ok, Err}
+use Rattle.std.specs.FinMap.{empty, insert}
+use Rattle.std.specs.List.{slice_split}
+use Rattle.std.specs.Option.{option_map_or}
+use Rattle.cs_names.specs.declared.limits.TheConstants.{FILE_BYTES}
+use Rattle.cs_tree_model.specs.Tree.{Path}
+use Rattle.cs_trace.specs.Entries.{Entries, node_of, size_of}
+use Rattle.cs_trace.specs.Judging.{and_then, free_at, is_too_much, resolve, unless_too_large, with_path}
+use Rattle.cs_trace.specs.Lines.{Claims, Header, Line, Operation, Start, StartLine, UnknownOperation, UnknownStart, is_blank, line_in}
+use Rattle.cs_trace.specs.Names.{are_user_names, new_path_of, rights_of}
+use Rattle.cs_trace.specs.Operations.{Paths, paths_after, sizes_after}
+use Rattle.cs_trace.specs.declared.entry.Entry.{Entry}
+use Rattle.cs_trace.specs.declared.fault.TraceFault.{TraceFault}
+use Rattle.cs_trace.specs.declared.fault.TraceFaultKind.{TraceFaultKind}
+use Rattle.cs_trace.specs.declared.fault.TraceFaultKind.TheVariants.{Syntax, UnknownOp, BadName}
+use Rattle.cs_trace.specs.declared.operation.Operation.{Operation as Resolved}
+use Rattle.cs_trace.specs.declared.operation.Operation.TheVariants as op
+
+-- what the lines so far leave: the entries at the start and the paths of its files by their numbers; what
+-- stands now, each file's size by its number, and how many records were ever made; the operations
+pub record State : Type 0 where
+  pub start : Entries
+  pub files : List Path
+  pub paths : Paths
+  pub sizes : List ℕ
+  pub made : ℕ
+  pub operations : List Resolved
+
+abbrev pub nothing : State
+nothing = record { start = empty; files = []; paths = empty; sizes = []; made = 0; operations = [] }
+
+-- ---- one line more
+
+-- a directory, or a file with its bytes, at the start
+abbrev pub with_entry : State → Path → Entry → Option (List ℕ) → State
+with_entry s p e None = record s { start = insert s.start p e; paths = insert s.paths p (node_of e); made = s.made + 1 }
+with_entry s p e (Some bytes) =
+    record s { start = insert s.start p e; files = s.files ++ p ∷ []; paths = insert s.paths p (node_of e); sizes = s.sizes ++ length bytes ∷ []; made = s.made + 1 }
+
+-- a file takes the next number; a directory has none
+abbrev pub number_for : State → Option (List ℕ) → ℕ
+number_for s None = 0
+number_for s (Some bytes) = length s.sizes
+
+abbrev pub entry_for : State → Claims → Option (List ℕ) → Entry
+entry_for s claims content = record { number = number_for s content; rights = rights_of claims; content = content }
+
+abbrev pub with_start : State → Path → Claims → Option (List ℕ) → State
+with_start s p claims content = with_entry s p (entry_for s claims content) content
+
+-- the first line is the header, which gives the root
+abbrev pub first_step : State → Line → Result State TraceFaultKind
+first_step s (Header claims) = if are_user_names claims then Ok (with_start s [] claims None) else Err BadName
+first_step s _ = Err Syntax
+
+-- a file or a directory at the start, where its names are legal
+abbrev pub start_at : State → Path → Claims → Option (List ℕ) → Result State TraceFaultKind
+start_at s p claims content =
+    and_then (free_at s.paths p) (λ _. unless_too_large (is_too_much s.made p || nat_lt FILE_BYTES (size_of content)) (with_start s p claims content))
+
+abbrev pub start_step : State → StartLine → Result State TraceFaultKind
+start_step s line = with_path (new_path_of line.path line.claims) (λ p. start_at s p line.claims line.content)
+
+-- how many records an operation makes
+abbrev pub made_by : Resolved → ℕ
+made_by (op.Creat p file rights) = 1
+made_by (op.Mkdir p rights) = 1
+made_by _ = 0
+
+abbrev pub taken : State → Resolved → State
+taken s o = record s { paths = paths_after s.paths o; sizes = sizes_after s.sizes o; made = s.made + made_by o; operations = s.operations ++ o ∷ [] }
+
+-- the others are start lines, and then operations
+abbrev pub later_step : State → Line → Result State TraceFaultKind
+later_step s (Header claims) = Err Syntax
+later_step s (Start line) = if length s.operations == 0 then start_step s line else Err Syntax
+later_step s UnknownStart = if length s.operations == 0 then Err UnknownOp else Err Syntax
+later_step s (Operation line) = and_then (resolve s.paths s.sizes s.made line) (λ o. Ok (taken s o))
+later_step s UnknownOperation = Err UnknownOp
+
+abbrev pub line_step : State → Line → Result State TraceFaultKind
+line_step s line = if s.made == 0 then first_step s line else later_step s line
+
+-- what a line leaves, which may be blank
+abbrev pub step : State → List ℕ → Result State TraceFaultKind
+step s text = if is_blank text then Ok s else option_map_or (line_step s) (line_in text) (Err Syntax)
+
+-- ---- all lines
+
+-- a fault with the number of its line
+abbrev pub at_line : ℕ → Result State TraceFaultKind → Result State TraceFault
+at_line number (Ok s) = Ok s
+at_line number (Err kind) = Err (record { line = number; kind = kind })
+
+-- what these lines leave, the first of which has that number; or the first line's fault
+abbrev pub state_from : State → ℕ → List (List ℕ) → Result State TraceFault
+state_from s number [] = Ok s
+state_from s number (text ∷ lines) = and_then (at_line number (step s text)) (λ next. state_from next (number + 1) lines)
+
+-- what a trace's lines leave
+abbrev pub state_in : List (List ℕ) → Result State TraceFault
+state_in lines = state_from nothing 1 lines
+
+-- the lines of a text, cut at the line feeds
+abbrev pub lines_in : List ℕ → List (List ℕ)
+lines_in text = slice_split (λ c. c == 10) text

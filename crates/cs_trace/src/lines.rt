@@ -1,0 +1,97 @@
+//! The lines of a trace, one after another.
+ghost use Rattle.std.specs.Prelude.{◌≡◌, ◌≢◌, false, IfErr, IfOk, Ok, Err, OnOk, length};
+ghost use Rattle.cs_trace.specs.Judging.{IsPastNames};
+ghost use Rattle.cs_trace.specs.Kept.{IsBounded, state_of};
+ghost use Rattle.cs_trace.specs.Lines.{is_blank};
+ghost use Rattle.cs_trace.specs.Said.{line_said, operation_said};
+ghost use Rattle.cs_trace.specs.States.{later_step, line_step, lines_in, state_in, step};
+ghost use Rattle.cs_trace.specs.Lines as said;
+ghost use Rattle.cs_trace.specs.Traces.{MayWant};
+ghost use Rattle.cs_trace.specs.declared.fault.TraceFaultKind.TheVariants.{Memory};
+
+use crate::fault::{TraceFault, TraceFaultKind};
+use crate::line::{Line, OperationLine, is_blank, line_of};
+use crate::reading::fields_in;
+use crate::resolve::resolve;
+use crate::start::{take_header, take_start};
+use crate::state::State;
+use json::Scratch;
+use std::alloc::Global;
+
+/// An operation after the header.
+fn take_operation(
+    alloc: Global,
+    state: &mut State,
+    line: &OperationLine<'_>,
+) -> Result<(), TraceFaultKind>
+    requires { IsBounded (state_of state.old) }
+    ensures done { OnOk result (later_step (state_of state.old) (said.Operation (operation_said line.now)) ≡ Ok (state_of state.new)) }
+    ensures fault { IfErr result (λ kind. kind ≢ Memory → later_step (state_of state.old) (said.Operation (operation_said line.now)) ≡ Err kind) }
+    ensures memory { IfErr result (λ kind. kind ≡ Memory → IsPastNames (later_step (state_of state.old) (said.Operation (operation_said line.now)))) }
+{
+    let operation = resolve(alloc, state, line)?;
+    state.take(alloc, operation)?;
+    Ok(())
+}
+
+/// A line that isn't blank: first the header, then the files at the start, and then operations.
+fn take_line(alloc: Global, state: &mut State, line: &Line<'_>) -> Result<(), TraceFaultKind>
+    requires { IsBounded (state_of state.old) }
+    ensures done { OnOk result (line_step (state_of state.old) (line_said line.now) ≡ Ok (state_of state.new)) }
+    ensures fault { IfErr result (λ kind. kind ≢ Memory → line_step (state_of state.old) (line_said line.now) ≡ Err kind) }
+    ensures memory { IfErr result (λ kind. kind ≡ Memory → IsPastNames (line_step (state_of state.old) (line_said line.now))) }
+{
+    let is_first = state.made == 0;
+    let is_start = state.operations.is_empty();
+    match line {
+        Line::Header(claims) if is_first => take_header(alloc, state, claims),
+        _ if is_first => Err(TraceFaultKind::Syntax),
+        Line::Start(line) if is_start => take_start(alloc, state, line),
+        Line::UnknownStart if is_start => Err(TraceFaultKind::UnknownOp),
+        Line::Header(_) | Line::Start(_) | Line::UnknownStart => Err(TraceFaultKind::Syntax),
+        Line::Operation(line) => take_operation(alloc, state, line),
+        Line::UnknownOperation => Err(TraceFaultKind::UnknownOp),
+    }
+}
+
+/// One line more.
+#[tactic(auto, unfolding(crate::specs::Lines::line_in))]
+fn take(alloc: Global, state: &mut State, text: &str) -> Result<(), TraceFaultKind>
+    requires { IsBounded (state_of state.old) }
+    ensures done { OnOk result (step (state_of state.old) text.now ≡ Ok (state_of state.new)) }
+    ensures fault { IfErr result (λ kind. kind ≢ Memory → step (state_of state.old) text.now ≡ Err kind) }
+    ensures memory { IfErr result (λ kind. kind ≡ Memory → is_blank text.now ≡ false) }
+{
+    if is_blank(text) {
+        return Ok(());
+    }
+    let mut scratch = Scratch::new(alloc);
+    let Some(fields) = fields_in(text, &mut scratch)? else {
+        return Err(TraceFaultKind::Syntax);
+    };
+    let Some(line) = line_of(&fields) else {
+        return Err(TraceFaultKind::Syntax);
+    };
+    take_line(alloc, state, &line)
+}
+
+/// What all lines of the text leave.
+pub(crate) fn take_lines(alloc: Global, text: &str) -> Result<State, TraceFault>
+    ensures done { IfOk result (λ state. state_in (lines_in text.now) ≡ Ok (state_of state)) }
+    ensures fault { IfErr result (λ fault. fault.kind ≢ Memory → state_in (lines_in text.now) ≡ Err fault) }
+    ensures memory { IfErr result (λ fault. fault.kind ≡ Memory → MayWant (lines_in text.now) fault.line) }
+{
+    let mut state = State::new(alloc);
+    for (i, line) in text.split('\n').enumerate() {
+        if let Err(kind) = take(alloc, &mut state, line) {
+            return Err(TraceFault { line: i + 1, kind });
+        }
+    }
+    Ok(state)
+}
+
+pub(crate) fn line_count(text: &str) -> usize
+    ensures { result ≡ length (lines_in text.now) }
+{
+    text.split('\n').count()
+}

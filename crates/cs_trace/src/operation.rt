@@ -1,0 +1,131 @@
+//! The operations of a trace, with the files that they name found.
+ghost use Rattle.std.specs.Prelude.{◌≡◌, IfOk};
+ghost use Rattle.cs_trace.specs.Names.{rights_of};
+ghost use Rattle.cs_trace.specs.Said.{claims_of};
+
+use crate::line::Claims;
+use crate::names::keep_user_name;
+use cs_names::{Path, UserName};
+use std::alloc::{AllocError, Global};
+use std::marker::Model;
+
+/// What stands at a path.
+#[derive(Clone, Copy, Debug, PartialEq, Eq)]
+pub enum Node {
+    Directory,
+    /// A file by its number. Files are numbered from 0 as they are made: those at the start in the
+    /// order of their lines, and then each `creat`. No number is given twice.
+    File(u32),
+}
+
+/// Who has a file, and what they and others may do with it.
+#[derive(Debug, Drop)]
+pub struct Rights {
+    pub owner: UserName,
+    pub group: UserName,
+    /// The nine bits of three octal digits.
+    pub permissions: u16,
+}
+
+/// The bytes of a write. Contracts see them as a list.
+#[derive(Debug, Drop)]
+pub struct Bytes {
+    items: Vec<u8>,
+}
+
+/// What an operation waits for until it is on the disk.
+#[derive(Debug, Drop)]
+pub enum Covers {
+    /// Everything.
+    All,
+    /// The file of that number.
+    File(u32),
+    /// The entries of the directory at that path.
+    Directory(Path),
+}
+
+/// An operation of a trace. A file that stands is told by its number, and an entry by its path.
+#[derive(Debug, Drop)]
+pub enum Operation {
+    /// A new file without a byte, with the next number.
+    Creat {
+        path: Path,
+        file: u32,
+        rights: Rights,
+    },
+    /// A new directory.
+    Mkdir {
+        path: Path,
+        rights: Rights,
+    },
+    /// A file's entry is removed.
+    Unlink {
+        path: Path,
+    },
+    /// An empty directory is removed.
+    Rmdir {
+        path: Path,
+    },
+    /// A file's entry is moved, over a file that stands there. The two paths may be one.
+    Rename {
+        from: Path,
+        to: Path,
+    },
+    /// Bytes are written from an offset on. With no byte nothing changes, wherever the offset is.
+    Write {
+        file: u32,
+        /// The file's size before it.
+        size: u64,
+        offset: u64,
+        bytes: Bytes,
+    },
+    /// The file is cut, or filled up with zeros.
+    Truncate {
+        file: u32,
+        /// The file's size before it.
+        size: u64,
+        /// Its size after it.
+        length: u64,
+    },
+    /// An fsync, or a sync of everything.
+    Sync(Covers),
+    /// A text that the application tells its users.
+    Say,
+}
+
+impl Model for Bytes {
+    ghost use Rattle.std.specs.Prelude.{List, ℕ};
+
+    ghost Value = { List ℕ };
+
+    ghost view = { λ bytes. bytes.items.items };
+}
+
+impl Bytes {
+    /// These bytes.
+    pub fn of(items: Vec<u8>) -> Bytes
+        ensures { result ≡ items.items }
+    {
+        Bytes { items }
+    }
+
+    /// The bytes as a slice.
+    pub fn as_slice(&self) -> &[u8]
+        ensures { result.now ≡ self.now }
+    {
+        self.items.as_slice()
+    }
+}
+
+impl Rights {
+    /// The rights that legal names claim.
+    pub(crate) fn keep(alloc: Global, claims: &Claims<'_>) -> Result<Rights, AllocError>
+        ensures { IfOk result (λ rights. rights ≡ rights_of (claims_of claims.now)) }
+    {
+        Ok(Rights {
+            owner: keep_user_name(alloc, claims.owner)?,
+            group: keep_user_name(alloc, claims.group)?,
+            permissions: claims.permissions,
+        })
+    }
+}

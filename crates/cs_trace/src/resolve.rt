@@ -1,0 +1,222 @@
+//! An operation's line in what stands: its names are judged, then kept, and then what it needs is asked.
+ghost use Rattle.std.specs.Prelude.{◌≡◌, ◌≢◌, ◌<◌, ◌^◌, IfErr, IfOk, Ok, Err, length};
+ghost use Rattle.cs_trace.specs.Judging.{AreShort, IsPastNames, creat, fsync, legal, mkdir, rename, resolve, rmdir, truncate, unlink, write};
+ghost use Rattle.cs_trace.specs.Kept.{IsWithin};
+ghost use Rattle.cs_trace.specs.Names.{entry_path_of, new_path_of, path_of};
+ghost use Rattle.cs_trace.specs.Said.{claims_of, operation_said};
+ghost use Rattle.cs_trace.specs.declared.fault.TraceFaultKind.TheVariants.{Memory};
+
+use crate::digits::Digits;
+use crate::fault::TraceFaultKind;
+use crate::judge;
+use crate::line::{Claims, OperationLine};
+use crate::names::are_user_names;
+use crate::operation::{Covers, Operation};
+use crate::path_text::PathText;
+use crate::standing::Standing;
+use crate::state::State;
+use std::alloc::Global;
+
+/// A path, which may be the root's.
+fn any_path(text: &str) -> Result<PathText<'_>, TraceFaultKind>
+    ensures { result ≡ legal (path_of text.now) }
+{
+    PathText::of(text).ok_or(TraceFaultKind::BadName)
+}
+
+/// The path of an entry.
+fn entry_path(text: &str) -> Result<PathText<'_>, TraceFaultKind>
+    ensures { result ≡ legal (entry_path_of text.now) }
+{
+    PathText::of_entry(text).ok_or(TraceFaultKind::BadName)
+}
+
+/// The path of a new entry, whose owner and group are judged with it.
+pub(crate) fn new_path<'a>(
+    text: &'a str,
+    claims: &Claims<'_>,
+) -> Result<PathText<'a>, TraceFaultKind>
+    ensures { result ≡ legal (new_path_of text.now (claims_of claims.now)) }
+{
+    let path = entry_path(text)?;
+    if !are_user_names(claims) {
+        return Err(TraceFaultKind::BadName);
+    }
+    Ok(path)
+}
+
+#[tactic(auto, using(crate::proofs::Past::nothing_above, crate::proofs::Past::past_creat))]
+fn creat(
+    alloc: Global,
+    state: &State,
+    path: &PathText<'_>,
+    claims: &Claims<'_>,
+) -> Result<Operation, TraceFaultKind>
+    requires short { AreShort state.now.paths }
+    requires few { length state.now.sizes.items < 2 ^ 32 }
+    ensures done { IfOk result (λ operation. creat state.now.paths state.now.made (length state.now.sizes.items) path.now (claims_of claims.now) ≡ Ok operation) }
+    ensures fault { IfErr result (λ kind. kind ≢ Memory → creat state.now.paths state.now.made (length state.now.sizes.items) path.now (claims_of claims.now) ≡ Err kind) }
+    ensures memory { IfErr result (λ kind. kind ≡ Memory → IsPastNames (creat state.now.paths state.now.made (length state.now.sizes.items) path.now (claims_of claims.now))) }
+{
+    let Some(names) = path.keep_short(alloc)? else {
+        return Err(TraceFaultKind::NoParent);
+    };
+    let file = state.sizes.len() as u32;
+    judge::creat(alloc, &state.paths, state.made, file, names, claims)
+}
+
+#[tactic(auto, using(crate::proofs::Past::nothing_above, crate::proofs::Past::past_mkdir))]
+fn mkdir(
+    alloc: Global,
+    paths: &Standing,
+    made: usize,
+    path: &PathText<'_>,
+    claims: &Claims<'_>,
+) -> Result<Operation, TraceFaultKind>
+    requires { AreShort paths.now }
+    ensures done { IfOk result (λ operation. mkdir paths.now made path.now (claims_of claims.now) ≡ Ok operation) }
+    ensures fault { IfErr result (λ kind. kind ≢ Memory → mkdir paths.now made path.now (claims_of claims.now) ≡ Err kind) }
+    ensures memory { IfErr result (λ kind. kind ≡ Memory → IsPastNames (mkdir paths.now made path.now (claims_of claims.now))) }
+{
+    let Some(names) = path.keep_short(alloc)? else {
+        return Err(TraceFaultKind::NoParent);
+    };
+    judge::mkdir(alloc, paths, made, names, claims)
+}
+
+#[tactic(auto, using(crate::proofs::Past::nothing_at, crate::proofs::Past::past_unlink))]
+fn unlink(alloc: Global, paths: &Standing, path: &PathText<'_>) -> Result<Operation, TraceFaultKind>
+    requires { AreShort paths.now }
+    ensures done { IfOk result (λ operation. unlink paths.now path.now ≡ Ok operation) }
+    ensures fault { IfErr result (λ kind. kind ≢ Memory → unlink paths.now path.now ≡ Err kind) }
+    ensures memory { IfErr result (λ kind. kind ≡ Memory → IsPastNames (unlink paths.now path.now)) }
+{
+    let Some(names) = path.keep_short(alloc)? else {
+        return Err(TraceFaultKind::Missing);
+    };
+    judge::unlink(paths, names)
+}
+
+#[tactic(auto, using(crate::proofs::Past::nothing_at, crate::proofs::Past::past_rmdir))]
+fn rmdir(alloc: Global, paths: &Standing, path: &PathText<'_>) -> Result<Operation, TraceFaultKind>
+    requires { AreShort paths.now }
+    ensures done { IfOk result (λ operation. rmdir paths.now path.now ≡ Ok operation) }
+    ensures fault { IfErr result (λ kind. kind ≢ Memory → rmdir paths.now path.now ≡ Err kind) }
+    ensures memory { IfErr result (λ kind. kind ≡ Memory → IsPastNames (rmdir paths.now path.now)) }
+{
+    let Some(names) = path.keep_short(alloc)? else {
+        return Err(TraceFaultKind::Missing);
+    };
+    judge::rmdir(paths, names)
+}
+
+#[tactic(auto, using(crate::proofs::Past::nothing_at, crate::proofs::Past::past_write))]
+fn write(
+    alloc: Global,
+    state: &State,
+    path: &PathText<'_>,
+    offset: u64,
+    bytes: &Digits<'_>,
+) -> Result<Operation, TraceFaultKind>
+    requires { AreShort state.now.paths }
+    ensures done { IfOk result (λ operation. write state.now.paths state.now.sizes.items path.now offset bytes.now ≡ Ok operation) }
+    ensures fault { IfErr result (λ kind. kind ≢ Memory → write state.now.paths state.now.sizes.items path.now offset bytes.now ≡ Err kind) }
+    ensures memory { IfErr result (λ kind. kind ≡ Memory → IsPastNames (write state.now.paths state.now.sizes.items path.now offset bytes.now)) }
+{
+    let Some(names) = path.keep_short(alloc)? else {
+        return Err(TraceFaultKind::Missing);
+    };
+    judge::write(alloc, &state.paths, &state.sizes, &names, offset, bytes)
+}
+
+#[tactic(auto, using(crate::proofs::Past::nothing_at, crate::proofs::Past::past_truncate))]
+fn truncate(
+    alloc: Global,
+    state: &State,
+    path: &PathText<'_>,
+    length: u64,
+) -> Result<Operation, TraceFaultKind>
+    requires { AreShort state.now.paths }
+    ensures done { IfOk result (λ operation. truncate state.now.paths state.now.sizes.items path.now length ≡ Ok operation) }
+    ensures fault { IfErr result (λ kind. kind ≢ Memory → truncate state.now.paths state.now.sizes.items path.now length ≡ Err kind) }
+    ensures memory { IfErr result (λ kind. kind ≡ Memory → IsPastNames (truncate state.now.paths state.now.sizes.items path.now length)) }
+{
+    let Some(names) = path.keep_short(alloc)? else {
+        return Err(TraceFaultKind::Missing);
+    };
+    judge::truncate(&state.paths, &state.sizes, &names, length)
+}
+
+#[tactic(auto, using(crate::proofs::Past::nothing_at, crate::proofs::Past::past_fsync))]
+fn fsync(alloc: Global, paths: &Standing, path: &PathText<'_>) -> Result<Operation, TraceFaultKind>
+    requires { AreShort paths.now }
+    ensures done { IfOk result (λ operation. fsync paths.now path.now ≡ Ok operation) }
+    ensures fault { IfErr result (λ kind. kind ≢ Memory → fsync paths.now path.now ≡ Err kind) }
+    ensures memory { IfErr result (λ kind. kind ≡ Memory → IsPastNames (fsync paths.now path.now)) }
+{
+    let Some(names) = path.keep_short(alloc)? else {
+        return Err(TraceFaultKind::Missing);
+    };
+    judge::fsync(paths, names)
+}
+
+#[tactic(auto, using(crate::proofs::Past::nothing_at, crate::proofs::Past::nothing_above, crate::proofs::Past::past_rename))]
+fn rename(
+    alloc: Global,
+    paths: &Standing,
+    from: &PathText<'_>,
+    to: &PathText<'_>,
+) -> Result<Operation, TraceFaultKind>
+    requires { AreShort paths.now }
+    ensures done { IfOk result (λ operation. rename paths.now from.now to.now ≡ Ok operation) }
+    ensures fault { IfErr result (λ kind. kind ≢ Memory → rename paths.now from.now to.now ≡ Err kind) }
+    ensures memory { IfErr result (λ kind. kind ≡ Memory → IsPastNames (rename paths.now from.now to.now)) }
+{
+    let Some(names) = from.keep_short(alloc)? else {
+        return Err(TraceFaultKind::Missing);
+    };
+    let Some(new_names) = to.keep_short(alloc)? else {
+        return judge::rename_far(paths, &names);
+    };
+    judge::rename(paths, names, new_names)
+}
+
+/// The operation of a line where the state stands, or its first fault.
+#[tactic(auto, using(crate::proofs::Past::past_say))]
+pub(crate) fn resolve(
+    alloc: Global,
+    state: &State,
+    line: &OperationLine<'_>,
+) -> Result<Operation, TraceFaultKind>
+    requires short { AreShort state.now.paths }
+    requires few { length state.now.sizes.items < 2 ^ 32 }
+    ensures done { IfOk result (λ operation. resolve state.now.paths state.now.sizes.items state.now.made (operation_said line.now) ≡ Ok operation) }
+    ensures fault { IfErr result (λ kind. kind ≢ Memory → resolve state.now.paths state.now.sizes.items state.now.made (operation_said line.now) ≡ Err kind) }
+    ensures memory { IfErr result (λ kind. kind ≡ Memory → IsPastNames (resolve state.now.paths state.now.sizes.items state.now.made (operation_said line.now))) }
+{
+    let paths = &state.paths;
+    match line {
+        OperationLine::Creat { path, claims } => {
+            creat(alloc, state, &new_path(path, claims)?, claims)
+        }
+        OperationLine::Mkdir { path, claims } => {
+            mkdir(alloc, paths, state.made, &new_path(path, claims)?, claims)
+        }
+        OperationLine::Unlink { path } => unlink(alloc, paths, &entry_path(path)?),
+        OperationLine::Rmdir { path } => rmdir(alloc, paths, &entry_path(path)?),
+        OperationLine::Rename { from, to } => {
+            rename(alloc, paths, &entry_path(from)?, &entry_path(to)?)
+        }
+        OperationLine::Write {
+            path,
+            offset,
+            bytes,
+        } => write(alloc, state, &entry_path(path)?, *offset, bytes),
+        OperationLine::Truncate { path, size } => {
+            truncate(alloc, state, &entry_path(path)?, *size)
+        }
+        OperationLine::Fsync { path } => fsync(alloc, paths, &any_path(path)?),
+        OperationLine::Sync => Ok(Operation::Sync(Covers::All)),
+        OperationLine::Say { text } => judge::say(text),
+    }
+}

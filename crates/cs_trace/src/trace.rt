@@ -1,0 +1,166 @@
+//! A trace: the tree at its start, and its operations.
+ghost use Rattle.std.specs.Prelude.{◌≡◌, ◌≢◌, ℕ, List, Some, IfErr, IfOk, Ok, Err, slice_get};
+ghost use Rattle.std.specs.FinMap.{get};
+ghost use Rattle.cs_tree_model.specs.Listing.{IsListing};
+ghost use Rattle.cs_trace.specs.Kept.{state_of};
+ghost use Rattle.cs_trace.specs.Operations.{AreLegal, AreNested};
+ghost use Rattle.cs_trace.specs.States.{lines_in};
+ghost use Rattle.cs_trace.specs.Traces.{IsTrace, MayWant, start_in, start_paths, start_sizes, trace_in, whole};
+ghost use Rattle.cs_trace.specs.declared.fault.TraceFaultKind.TheVariants.{Memory};
+
+use crate::fault::{TraceFault, TraceFaultKind};
+use crate::lines::{line_count, take_lines};
+use crate::operation::{Node, Operation};
+use crate::state::State;
+use cs_names::Path;
+use cs_tree_model::Record;
+use std::alloc::{AllocError, Global};
+use std::marker::Model;
+
+/// A trace that was read whole. Contracts see its start tree and its operations, each of which is
+/// legal in what the ones before it leave.
+#[derive(Drop)]
+pub struct Trace {
+    records: Vec<(Path, Record)>,
+    nodes: Vec<Node>,
+    files: Vec<Path>,
+    operations: Vec<Operation>,
+}
+
+impl Model for Trace {
+    ghost use Rattle.cs_trace.specs.Traces as model;
+
+    ghost Value = { model.Trace };
+
+    ghost view = { λ trace. record {
+      records = trace.records.items;
+      nodes = trace.nodes.items;
+      files = trace.files.items;
+      operations = trace.operations.items;
+    } };
+
+    ghost invariant = { λ trace. model.IsTrace (record {
+      records = trace.records.items;
+      nodes = trace.nodes.items;
+      files = trace.files.items;
+      operations = trace.operations.items;
+    }) };
+}
+
+impl Trace {
+    /// The start tree: its records with their paths, in the order of the paths, each numbered by its
+    /// place there.
+    pub fn records(&self) -> &[(Path, Record)]
+        ensures value { result.now ≡ self.now.records }
+        ensures listing { IsListing self.now.records }
+    {
+        &self.records
+    }
+
+    /// What each of the records is, in their order.
+    pub fn nodes(&self) -> &[Node]
+        ensures { result.now ≡ self.now.nodes }
+    {
+        &self.nodes
+    }
+
+    /// The paths of the start's files, in the order of their numbers.
+    pub fn files(&self) -> &[Path]
+        ensures value { result.now ≡ self.now.files }
+        ensures numbered { (n : ℕ) (p : List (List ℕ)) → slice_get self.now.files n ≡ Some p → get (start_paths self.now) p ≡ Some (Node.File n) }
+        ensures found { (n : ℕ) (p : List (List ℕ)) → get (start_paths self.now) p ≡ Some (Node.File n) → slice_get self.now.files n ≡ Some p }
+    {
+        &self.files
+    }
+
+    /// The operations, in the order of their lines.
+    pub fn operations(&self) -> &[Operation]
+        ensures value { result.now ≡ self.now.operations }
+        ensures nested { AreNested (start_paths self.now) }
+        ensures legal { AreLegal (start_paths self.now) (start_sizes self.now) self.now.operations }
+    {
+        &self.operations
+    }
+
+    /// The start tree alone, for a store.
+    pub fn into_records(self) -> Vec<(Path, Record)>
+        ensures value { result.items ≡ self.records }
+        ensures listing { IsListing result.items }
+    {
+        self.records
+    }
+}
+
+/// The state after the last line, as a trace.
+fn finish(alloc: Global, state: State) -> Result<Trace, AllocError>
+    requires { IsTrace (whole (state_of state)) }
+    ensures { IfOk result (λ trace. trace ≡ whole (state_of state)) }
+{
+    let (records, nodes) = state.start.into_parts(alloc)?;
+    Ok(Trace {
+        records,
+        nodes,
+        files: state.files,
+        operations: state.operations,
+    })
+}
+
+/// The trace that a text spells, or the fault of its first line that has one.
+///
+/// Lines are cut at line feeds and counted from 1; those of JSON's blanks alone are skipped. The first
+/// is the header, which gives the root; start lines follow, each of which gives a file or a directory;
+/// and then operations:
+///
+/// ```text
+/// {"trace":1,"owner":O,"group":G,"mode":M}
+/// {"start":"dir","path":P,"owner":O,"group":G,"mode":M}
+/// {"start":"file","path":P,"owner":O,"group":G,"mode":M,"bytes":H}
+/// {"op":"creat","path":P,"owner":O,"group":G,"mode":M}
+/// {"op":"mkdir","path":P,"owner":O,"group":G,"mode":M}
+/// {"op":"unlink","path":P}
+/// {"op":"rmdir","path":P}
+/// {"op":"rename","from":P,"to":P}
+/// {"op":"write","path":P,"offset":N,"bytes":H}
+/// {"op":"truncate","path":P,"length":N}
+/// {"op":"fsync","path":P}
+/// {"op":"sync"}
+/// {"op":"say","text":T}
+/// ```
+///
+/// The keys may stand in any order, with no others. P has a name after each `/`, and is `/` for an
+/// fsync alone; O and G are the names of a user and a group; M is three octal digits, H is hexadecimal,
+/// N a whole number below 2^64, and T any text. A text without a header is Syntax at line 1. Each line is
+/// judged in what the lines before it leave.
+///
+/// Want of memory is a fault of kind Memory, at a line before which there is no fault. It is the line
+/// that was read, or the last one where only the records were left to keep.
+pub fn read_trace(alloc: Global, text: &str) -> Result<Trace, TraceFault>
+    ensures done { IfOk result (λ trace. trace_in text.now ≡ Ok trace) }
+    ensures fault { IfErr result (λ fault. fault.kind ≢ Memory → trace_in text.now ≡ Err fault) }
+    ensures memory { IfErr result (λ fault. fault.kind ≡ Memory → MayWant (lines_in text.now) fault.line) }
+{
+    let state = take_lines(alloc, text)?;
+    if state.made == 0 {
+        return Err(TraceFault {
+            line: 1,
+            kind: TraceFaultKind::Syntax,
+        });
+    }
+    let Ok(trace) = finish(alloc, state) else {
+        return Err(TraceFault {
+            line: line_count(text),
+            kind: TraceFaultKind::Memory,
+        });
+    };
+    Ok(trace)
+}
+
+/// The start tree of a trace, as `read_trace` gives it, or the same fault.
+pub fn read_start(alloc: Global, text: &str) -> Result<Vec<(Path, Record)>, TraceFault>
+    ensures done { IfOk result (λ records. start_in text.now ≡ Ok records.items) }
+    ensures listing { IfOk result (λ records. IsListing records.items) }
+    ensures fault { IfErr result (λ fault. fault.kind ≢ Memory → start_in text.now ≡ Err fault) }
+    ensures memory { IfErr result (λ fault. fault.kind ≡ Memory → MayWant (lines_in text.now) fault.line) }
+{
+    Ok(read_trace(alloc, text)?.into_records())
+}
