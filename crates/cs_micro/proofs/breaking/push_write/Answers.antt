@@ -1,0 +1,9 @@
+use Rattle.std.proofs.Common.{length, sym, ◌∙◌, eq-eqb}
+use Rattle.std.proofs.lemmas.Bool.{false≢true}
+use Rattle.cs_micro.proofs.Counting.{written_some}
+use Rattle.cs_micro.proofs.breaking.push_write.Goals as goal
+
+pub returns-clause-memory : goal.returns-clause-memory
+returns-clause-memory c refused =
+    let bytes = c.args.bytes.now in
+    written_some c.args.file c.args.size c.args.offset bytes (λ none. false≢true (sym c.if-is_empty.false ∙ c.is_empty.ensures ∙ eq-eqb (length bytes) 0 none))

@@ -1,0 +1,41 @@
+-- Where a micro-operation is legal, and what it leaves.
+use Rattle.std.specs.Prelude.{◌≡◌, ◌≢◌, ◌<◌, ◌≤◌, ℕ, ◌+◌, List, [], ◌∷◌, length}
+use Rattle.std.specs.FinMap.{insert, remove}
+use Rattle.cs_names.specs.declared.limits.TheConstants.{FILE_BYTES}
+use Rattle.cs_trace.specs.Operations.{IsDirectoryAt, IsEmptyAt, IsFileAt, IsFree, IsOctal, MayTake, Paths, moved}
+use Rattle.cs_trace.specs.declared.operation.Node.TheVariants.{Directory, File}
+use Rattle.cs_micro.specs.Blocks.{start_of}
+use Rattle.cs_micro.specs.declared.blocks.TheConstants.{BLOCK_BYTES}
+use Rattle.cs_micro.specs.declared.micro_op.EntryKind.TheVariants as kinds
+use Rattle.cs_micro.specs.declared.micro_op.MicroOp.{MicroOp}
+use Rattle.cs_micro.specs.declared.micro_op.MicroOp.TheVariants.{CreateDirEntry, DeleteDirEntry, MoveDirEntry, ChangeFileSize, WriteBlock, Say}
+
+-- what stands at each path after it
+abbrev pub paths_after : Paths → MicroOp → Paths
+paths_after m (CreateDirEntry p node rights) = insert m p node
+paths_after m (DeleteDirEntry p kind) = remove m p
+paths_after m (MoveDirEntry p q) = moved p q m
+paths_after m _ = m
+
+-- how many files have been made after it
+abbrev pub made_after : ℕ → MicroOp → ℕ
+made_after made (CreateDirEntry p (File file) rights) = made + 1
+made_after made _ = made
+
+-- it is legal where these paths stand and so many files have been made: a new file has the next number, and a
+-- file that is changed has been made; bytes lie in their block, and no file is too large
+abbrev pub IsLegal : Paths → ℕ → MicroOp → Type 0
+IsLegal m made (CreateDirEntry p Directory rights) = IsFree m p × IsOctal rights
+IsLegal m made (CreateDirEntry p (File file) rights) = IsFree m p × (file ≡ made) × IsOctal rights
+IsLegal m made (DeleteDirEntry p kinds.File) = IsFileAt m p
+IsLegal m made (DeleteDirEntry p kinds.Directory) = (p ≢ []) × IsDirectoryAt m p × IsEmptyAt m p
+IsLegal m made (MoveDirEntry p q) = (p ≢ q) × IsFileAt m p × MayTake m q
+IsLegal m made (ChangeFileSize file to) = (file < made) × (to ≤ FILE_BYTES)
+IsLegal m made (WriteBlock file block at bytes) =
+    (file < made) × (0 < length bytes) × (at + length bytes ≤ BLOCK_BYTES) × (start_of block + at + length bytes ≤ FILE_BYTES)
+IsLegal m made Say = Unit {0}
+
+-- each is legal in what those before it leave
+abbrev pub AreLegal : Paths → ℕ → List MicroOp → Type 0
+AreLegal m made [] = Unit {0}
+AreLegal m made (o ∷ ops) = IsLegal m made o × AreLegal (paths_after m o) (made_after made o) ops

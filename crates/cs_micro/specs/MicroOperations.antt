@@ -1,0 +1,50 @@
+-- The micro-operations that an operation of a trace is.
+use Rattle.std.specs.Prelude.{ℕ, ◌+◌, ◌<◌, ◌≤◌, ◌==◌, nat_lt, List, [], ◌∷◌, ◌++◌, length, if◌then◌else◌}
+use Rattle.std.specs.List.{flat_map}
+use Rattle.cs_names.specs.Paths.{path_eq}
+use Rattle.cs_names.specs.declared.limits.TheConstants.{FILE_BYTES}
+use Rattle.cs_trace.specs.declared.operation.Node.TheVariants as nodes
+use Rattle.cs_trace.specs.declared.operation.Operation.{Operation}
+use Rattle.cs_trace.specs.declared.operation.Operation.TheVariants.{Creat, Mkdir, Unlink, Rmdir, Rename, Write, Truncate, Sync, Say}
+use Rattle.cs_micro.specs.declared.micro_op.EntryKind.TheVariants as kinds
+use Rattle.cs_micro.specs.declared.micro_op.MicroOp.{MicroOp}
+use Rattle.cs_micro.specs.declared.micro_op.MicroOp.TheVariants as micro
+use Rattle.cs_micro.specs.Blocks.{block_writes}
+
+-- where bytes end past a file's size, one change of size
+abbrev pub grown : ℕ → ℕ → ℕ → List MicroOp
+grown file size end = if nat_lt size end then micro.ChangeFileSize file end ∷ [] else []
+
+-- a write of no byte is nothing; any other is a change of size, if it grows, and then its blocks
+abbrev pub written : ℕ → ℕ → ℕ → List ℕ → List MicroOp
+written file size offset bytes =
+    if length bytes == 0 then [] else grown file size (offset + length bytes) ++ block_writes file offset bytes
+
+-- a change to another size
+abbrev pub resized : ℕ → ℕ → ℕ → List MicroOp
+resized file size to = if size == to then [] else micro.ChangeFileSize file to ∷ []
+
+-- a move to another path
+abbrev pub moved : List (List ℕ) → List (List ℕ) → List MicroOp
+moved p q = if path_eq p q then [] else micro.MoveDirEntry p q ∷ []
+
+-- the micro-operations of one operation
+abbrev pub micros_of : Operation → List MicroOp
+micros_of (Creat p file rights) = micro.CreateDirEntry p (nodes.File file) rights ∷ []
+micros_of (Mkdir p rights) = micro.CreateDirEntry p nodes.Directory rights ∷ []
+micros_of (Unlink p) = micro.DeleteDirEntry p kinds.File ∷ []
+micros_of (Rmdir p) = micro.DeleteDirEntry p kinds.Directory ∷ []
+micros_of (Rename p q) = moved p q
+micros_of (Write file size offset bytes) = written file size offset bytes
+micros_of (Truncate file size to) = resized file size to
+micros_of (Sync covers) = []
+micros_of Say = micro.Say ∷ []
+
+-- those of all operations, one after another
+unfoldable pub micro_operations_of : List Operation → List MicroOp
+micro_operations_of operations = flat_map micros_of operations
+
+-- a write of at least one byte ends within the largest file
+abbrev pub IsWithinLimit : Operation → Type 0
+IsWithinLimit (Write file size offset bytes) = 0 < length bytes → offset + length bytes ≤ FILE_BYTES
+IsWithinLimit _ = Unit {0}

@@ -1,0 +1,27 @@
+-- What is printed of a micro-operation, and of a trace that isn't broken up.
+use Rattle.std.specs.Prelude.{ℕ, List, ◌++◌, codes, decimal, length}
+use Rattle.cs_names.specs.Paths.{path_text}
+use Rattle.cs_trace.specs.declared.operation.Node.{Node}
+use Rattle.cs_trace.specs.declared.operation.Node.TheVariants.{Directory, File}
+use Rattle.cs_micro.specs.declared.fault.MicroFault.{MicroFault}
+use Rattle.cs_micro.specs.declared.fault.MicroFault.TheVariants.{TooMany, Memory}
+use Rattle.cs_micro.specs.declared.micro_op.MicroOp.{MicroOp}
+use Rattle.cs_micro.specs.declared.micro_op.MicroOp.TheVariants.{CreateDirEntry, DeleteDirEntry, MoveDirEntry, ChangeFileSize, WriteBlock, Say}
+
+abbrev pub kind_text : Node → List ℕ
+kind_text Directory = codes "dir"
+kind_text (File file) = codes "file"
+
+-- the kind, and its fields
+abbrev pub op_text : MicroOp → List ℕ
+op_text (CreateDirEntry p node rights) = codes "create_dir_entry " ++ (path_text p ++ (codes " " ++ kind_text node))
+op_text (DeleteDirEntry p kind) = codes "delete_dir_entry " ++ path_text p
+op_text (MoveDirEntry p q) = codes "move_dir_entry " ++ (path_text p ++ (codes " " ++ path_text q))
+op_text (ChangeFileSize file to) = codes "change_file_size " ++ (decimal file ++ (codes " " ++ decimal to))
+op_text (WriteBlock file block at bytes) =
+    codes "write_block " ++ (decimal file ++ (codes " " ++ (decimal block ++ (codes " " ++ (decimal at ++ (codes " " ++ decimal (length bytes)))))))
+op_text Say = codes "say"
+
+abbrev pub fault_text : MicroFault → List ℕ
+fault_text TooMany = codes "too many micro-operations"
+fault_text Memory = codes "out of memory"

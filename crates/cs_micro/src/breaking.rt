@@ -1,0 +1,233 @@
+//! The micro-operations and the sync points of a list of operations.
+ghost use Rattle.std.specs.Prelude.{◌≡◌, ◌++◌, ◌∷◌, [], ◌+◌, ◌<◌, ◌≤◌, ◌↔◌, length, IfOk, IsErr, IsTrue, OnOk, ℕ};
+ghost use Rattle.std.specs.List.{All};
+ghost use Rattle.cs_micro.specs.MicroOperations.{IsWithinLimit, micro_operations_of, micros_of, moved, resized, written};
+ghost use Rattle.cs_micro.specs.SyncPoints.{points_behind, sync_points_of};
+
+use crate::blocks::{BLOCK_BYTES, push_blocks};
+use crate::copies::{copy_covers, copy_rights};
+use crate::micro_op::{EntryKind, MicroOp};
+use crate::sync_point::SyncPoint;
+use cs_names::Path;
+use cs_names::limits::{FILE_BYTES, MICRO_OPERATIONS};
+use cs_trace::{Node, Operation, Rights};
+use std::alloc::{AllocError, Global};
+
+/// How many micro-operations a write is. It takes no memory.
+fn count_of_write(size: u64, offset: u64, bytes: &[u8]) -> usize
+    requires { 0 < length bytes.now → offset + length bytes.now ≤ FILE_BYTES }
+    ensures { (file : ℕ) → result ≡ length (written file size offset bytes.now) }
+{
+    if bytes.is_empty() {
+        return 0;
+    }
+    let end = offset + bytes.len() as u64;
+    let blocks = (end - 1) / BLOCK_BYTES + 1 - offset / BLOCK_BYTES;
+    let changes = if size < end { 1 } else { 0 };
+    blocks as usize + changes
+}
+
+/// How many micro-operations an operation is. It takes no memory.
+fn count_of(operation: &Operation) -> usize
+    requires { IsWithinLimit operation.now }
+    ensures { result ≡ length (micros_of operation.now) }
+{
+    match operation {
+        Operation::Creat { .. }
+        | Operation::Mkdir { .. }
+        | Operation::Unlink { .. }
+        | Operation::Rmdir { .. }
+        | Operation::Say => 1,
+        Operation::Rename { from, to } => usize::from(from != to),
+        Operation::Write {
+            size,
+            offset,
+            bytes,
+            ..
+        } => count_of_write(*size, *offset, bytes.as_slice()),
+        Operation::Truncate { size, length, .. } => usize::from(size != length),
+        Operation::Sync(_) => 0,
+    }
+}
+
+/// Whether there are no more micro-operations than a trace may have. It takes no memory.
+pub fn has_room(operations: &[Operation]) -> bool
+    requires { All IsWithinLimit operations.now }
+    ensures { IsTrue result ↔ (length (micro_operations_of operations.now) ≤ MICRO_OPERATIONS) }
+{
+    let mut total = 0;
+    for operation in operations {
+        let count = count_of(operation);
+        if count > MICRO_OPERATIONS - total {
+            return false;
+        }
+        total += count;
+    }
+    true
+}
+
+/// A new entry.
+fn push_create(
+    alloc: Global,
+    ops: &mut Vec<MicroOp>,
+    path: &Path,
+    node: Node,
+    rights: &Rights,
+) -> Result<(), AllocError>
+    ensures { OnOk result (ops.new.items ≡ ops.old.items ++ MicroOp.CreateDirEntry path.now node rights.now ∷ []) }
+{
+    ops.push(MicroOp::CreateDirEntry {
+        path: path.try_clone(alloc)?,
+        node,
+        rights: copy_rights(rights)?,
+    })?;
+    Ok(())
+}
+
+/// An entry that goes.
+fn push_delete(
+    alloc: Global,
+    ops: &mut Vec<MicroOp>,
+    path: &Path,
+    kind: EntryKind,
+) -> Result<(), AllocError>
+    ensures { OnOk result (ops.new.items ≡ ops.old.items ++ MicroOp.DeleteDirEntry path.now kind ∷ []) }
+{
+    ops.push(MicroOp::DeleteDirEntry {
+        path: path.try_clone(alloc)?,
+        kind,
+    })?;
+    Ok(())
+}
+
+/// A move, unless it is to the same path.
+fn push_move(
+    alloc: Global,
+    ops: &mut Vec<MicroOp>,
+    from: &Path,
+    to: &Path,
+) -> Result<(), AllocError>
+    ensures value { OnOk result (ops.new.items ≡ ops.old.items ++ moved from.now to.now) }
+    ensures memory { IsErr result → 0 < length (moved from.now to.now) }
+{
+    if from == to {
+        return Ok(());
+    }
+    ops.push(MicroOp::MoveDirEntry {
+        from: from.try_clone(alloc)?,
+        to: to.try_clone(alloc)?,
+    })?;
+    Ok(())
+}
+
+/// A change of size where a write grows, and then its blocks.
+fn push_write(
+    alloc: Global,
+    ops: &mut Vec<MicroOp>,
+    file: u32,
+    size: u64,
+    offset: u64,
+    bytes: &[u8],
+) -> Result<(), AllocError>
+    requires { 0 < length bytes.now → offset + length bytes.now ≤ FILE_BYTES }
+    ensures value { OnOk result (ops.new.items ≡ ops.old.items ++ written file size offset bytes.now) }
+    ensures memory { IsErr result → 0 < length (written file size offset bytes.now) }
+{
+    if bytes.is_empty() {
+        return Ok(());
+    }
+    let end = offset + bytes.len() as u64;
+    if size < end {
+        ops.push(MicroOp::ChangeFileSize { file, length: end })?;
+    }
+    push_blocks(alloc, ops, file, offset, bytes)
+}
+
+/// A change of size, unless it is to the same size.
+fn push_size(ops: &mut Vec<MicroOp>, file: u32, size: u64, to: u64) -> Result<(), AllocError>
+    ensures value { OnOk result (ops.new.items ≡ ops.old.items ++ resized file size to) }
+    ensures memory { IsErr result → 0 < length (resized file size to) }
+{
+    if size != to {
+        ops.push(MicroOp::ChangeFileSize { file, length: to })?;
+    }
+    Ok(())
+}
+
+/// A text for the application's users.
+fn push_say(ops: &mut Vec<MicroOp>) -> Result<(), AllocError>
+    ensures { OnOk result (ops.new.items ≡ ops.old.items ++ MicroOp.Say ∷ []) }
+{
+    ops.push(MicroOp::Say)?;
+    Ok(())
+}
+
+/// The micro-operations of one operation, behind the others.
+fn push_micros(
+    alloc: Global,
+    ops: &mut Vec<MicroOp>,
+    operation: &Operation,
+) -> Result<(), AllocError>
+    requires { IsWithinLimit operation.now }
+    ensures value { OnOk result (ops.new.items ≡ ops.old.items ++ micros_of operation.now) }
+    ensures memory { IsErr result → 0 < length (micros_of operation.now) }
+{
+    match operation {
+        Operation::Creat { path, file, rights } => {
+            push_create(alloc, ops, path, Node::File(*file), rights)
+        }
+        Operation::Mkdir { path, rights } => {
+            push_create(alloc, ops, path, Node::Directory, rights)
+        }
+        Operation::Unlink { path } => push_delete(alloc, ops, path, EntryKind::File),
+        Operation::Rmdir { path } => push_delete(alloc, ops, path, EntryKind::Directory),
+        Operation::Rename { from, to } => push_move(alloc, ops, from, to),
+        Operation::Write {
+            file,
+            size,
+            offset,
+            bytes,
+        } => push_write(alloc, ops, *file, *size, *offset, bytes.as_slice()),
+        Operation::Truncate { file, size, length } => push_size(ops, *file, *size, *length),
+        Operation::Sync(_) => Ok(()),
+        Operation::Say => push_say(ops),
+    }
+}
+
+/// The sync point of one operation, if it is one, behind so many micro-operations.
+fn push_sync(
+    alloc: Global,
+    syncs: &mut Vec<SyncPoint>,
+    count: usize,
+    operation: &Operation,
+) -> Result<(), AllocError>
+    ensures value { OnOk result (syncs.new.items ≡ syncs.old.items ++ points_behind count operation.now) }
+    ensures memory { IsErr result → 0 < length (points_behind count operation.now) }
+{
+    if let Operation::Sync(covers) = operation {
+        syncs.push(SyncPoint {
+            at: count,
+            covers: copy_covers(alloc, covers)?,
+        })?;
+    }
+    Ok(())
+}
+
+/// The micro-operations of these operations, and their sync points.
+pub fn broken_up(
+    alloc: Global,
+    operations: &[Operation],
+) -> Result<(Vec<MicroOp>, Vec<SyncPoint>), AllocError>
+    requires { All IsWithinLimit operations.now }
+    ensures ops { IfOk result (λ both. both.0.items ≡ micro_operations_of operations.now) }
+    ensures syncs { IfOk result (λ both. both.1.items ≡ sync_points_of operations.now) }
+    ensures memory { IsErr result → 0 < length (micro_operations_of operations.now) + length (sync_points_of operations.now) }
+{
+    let mut ops = Vec::new(alloc);
+    let mut syncs = Vec::new(alloc);
+    for operation in operations {
+        push_sync(alloc, &mut syncs, ops.len(), operation)?;
+        push_micros(alloc, &mut ops, operation)?;
+    }
+    Ok((ops, syncs))
+}

@@ -1,0 +1,18 @@
+//! The operations of a trace, broken into the steps that reach the disk one by one.
+#![tactic(auto)]
+
+mod blocks;
+mod breaking;
+mod copies;
+pub mod fault;
+pub mod micro_op;
+pub mod micros;
+pub mod sync_point;
+#[cfg(test)]
+mod tests;
+
+pub use blocks::{BLOCK_BYTES, blocks_make_up_a_write};
+pub use fault::MicroFault;
+pub use micro_op::{EntryKind, MicroOp};
+pub use micros::{Micros, break_up};
+pub use sync_point::SyncPoint;

@@ -1,0 +1,92 @@
+//! A step that reaches the disk by itself.
+ghost use Rattle.std.specs.Prelude.{◌≡◌, Some};
+ghost use Rattle.cs_micro.specs.Texts.{kind_text, op_text};
+
+use cs_names::Path;
+use cs_trace::{Bytes, Node, Rights};
+use std::fmt;
+
+/// What an entry that is deleted was the entry of.
+#[derive(Clone, Copy, Debug, PartialEq, Eq)]
+pub enum EntryKind {
+    File,
+    Directory,
+}
+
+/// A step that reaches the disk by itself. A file is told by its number, and an entry by its path.
+#[derive(Debug, Drop)]
+pub enum MicroOp {
+    /// A new entry: of a directory, or of the file of that number.
+    CreateDirEntry {
+        path: Path,
+        node: Node,
+        rights: Rights,
+    },
+    /// An entry that goes.
+    DeleteDirEntry {
+        path: Path,
+        kind: EntryKind,
+    },
+    /// A file's entry that comes to another path, over a file's entry that stands there.
+    MoveDirEntry {
+        from: Path,
+        to: Path,
+    },
+    /// The file has so many bytes from now on.
+    ChangeFileSize {
+        file: u32,
+        length: u64,
+    },
+    /// Bytes that are written into one block of a file.
+    WriteBlock {
+        file: u32,
+        /// The block's number, from 0.
+        block: u64,
+        /// Where the bytes begin in the block.
+        at: u64,
+        /// At least one byte; all of them lie in the block.
+        bytes: Bytes,
+    },
+    /// A text that the application tells its users.
+    Say,
+}
+
+/// The word for what a new entry is of.
+fn node_word(node: Node) -> &'static str
+    ensures { result.now ≡ kind_text node }
+{
+    match node {
+        Node::Directory => "dir",
+        Node::File(_) => "file",
+    }
+}
+
+/// What the list of a trace's micro-operations says of it, but for its place: its kind, and then
+/// the path or paths, or the file's number with the length, or with the block, the place in it and
+/// the number of bytes.
+impl fmt::Display for MicroOp {
+    ghost output = { λ op. Some (op_text op) };
+
+    fn fmt<W: fmt::Write>(&self, f: &mut fmt::Formatter<W>) -> fmt::Result {
+        match self {
+            MicroOp::CreateDirEntry { path, node, .. } => {
+                write!(f, "create_dir_entry {path} {}", node_word(*node))
+            }
+            MicroOp::DeleteDirEntry { path, .. } => write!(f, "delete_dir_entry {path}"),
+            MicroOp::MoveDirEntry { from, to } => write!(f, "move_dir_entry {from} {to}"),
+            MicroOp::ChangeFileSize { file, length } => {
+                write!(f, "change_file_size {file} {length}")
+            }
+            MicroOp::WriteBlock {
+                file,
+                block,
+                at,
+                bytes,
+            } => {
+                let count = bytes.as_slice().len();
+                write!(f, "write_block {file} {block} {at} {count}")
+            }
+            MicroOp::Say => f.write_str("say"),
+        }
+    }
+}
