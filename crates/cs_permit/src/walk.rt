@@ -18,6 +18,8 @@ fn is_up(name: &str) -> bool
 }
 
 /// Where a name leads from a directory: `..` to its parent, another legal name to its entry.
+// a walk spends a good part of its time on these few calls
+#[inline(always)]
 fn next_number<T: TreeRead>(tree: &T, number: u64, name: &str) -> Option<u64>
     ensures { result ≡ next (T.tree tree.now) number name.now }
 {
@@ -30,6 +32,8 @@ fn next_number<T: TreeRead>(tree: &T, number: u64, name: &str) -> Option<u64>
 
 /// One element of a walk from the file of that number, of which the tree tells this: where it leads, or
 /// the rule that stops it. It takes no memory, and looks up a name and no record.
+// a record is large: out of line, it would be passed in memory
+#[inline(always)]
 pub fn element_of<T: TreeRead>(
     tree: &T,
     users: &Users,

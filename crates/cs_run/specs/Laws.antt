@@ -33,6 +33,11 @@ pub record OpensOne (old new : List OpenFile) (w : Turn) : Type 0 where
 abbrev pub AllVersBelow : ℕ → Tree → Type 0
 AllVersBelow k t = (p : Path) (r : Record) → record_at t p ≡ Some r → r.vers < k
 
+-- no version is greater, and each number above all versions is above this one
+pub record IsGreatestVersion (t : Tree) (n : ℕ) : Type 0 where
+  pub bounds : AllVersBelow (n + 1) t
+  pub least : (k : ℕ) → 0 < k → AllVersBelow k t → n < k
+
 -- a call raises no version by more than one, and the next number by at most one
 pub record RaisesByOne (old new : Tree) : Type 0 where
   pub versions : (k : ℕ) → AllVersBelow k old → AllVersBelow (k + 1) new

@@ -74,6 +74,34 @@ fn closes(call: &Call) -> Option<u32>
     }
 }
 
+/// Asks a call's rules, and then does it, if there is memory for what it takes.
+// in line, a walk would pay at the entry of `act` for what all other calls keep on the stack
+#[inline(never)]
+#[tactic(auto, unfolding(crate::specs::Outcomes::outcome))]
+fn act_by_rules<T: TreeStore>(
+    alloc: Global,
+    call: &Call,
+    tree: &mut T,
+    opens: &mut Vec<OpenFile>,
+    users: &Users,
+    turn: Turn,
+) -> (Outcome, Answer)
+    requires vers { (n : ℕ) → CanStamp (T.tree tree.old) n }
+    requires next { (T.tree tree.old).next < 2 ^ 64 }
+    ensures step { (mark : CallMark) × ((result.0 ≡ outcome (state (T.tree tree.old) opens.old.items users.now) turn call.now mark) × (left (T.tree tree.new) opens.new.items result.1 ≡ stepped (state (T.tree tree.old) opens.old.items users.now) turn call.now mark)) }
+    ensures fits { FitsCall call.now result.1 }
+{
+    if let Some(rule) = first_failing(call, tree, opens.as_slice(), users) {
+        release_if(opens, closes(call), turn.pass);
+        return (Outcome::Denied(rule), Answer::Denied(rule));
+    }
+    first_rule_that_fails();
+    match grant(alloc, call, tree, opens, users, turn) {
+        Ok(answer) => (Outcome::Granted, answer),
+        Err(_) => (Outcome::Short, Answer::Short),
+    }
+}
+
 /// Does a call by the rules of the run, if there is memory for what it takes. A call that is denied,
 /// or short of memory, leaves the tree, and no open but that of a close or of a remove, which is
 /// released. A read answers no more bytes than it asks for, and a walk no more qids than it has names.
@@ -94,13 +122,5 @@ pub fn act<T: TreeStore>(
     if let Call::Walk(call) = call {
         return act_walk(alloc, call, tree, users);
     }
-    if let Some(rule) = first_failing(call, tree, opens.as_slice(), users) {
-        release_if(opens, closes(call), turn.pass);
-        return (Outcome::Denied(rule), Answer::Denied(rule));
-    }
-    first_rule_that_fails();
-    match grant(alloc, call, tree, opens, users, turn) {
-        Ok(answer) => (Outcome::Granted, answer),
-        Err(_) => (Outcome::Short, Answer::Short),
-    }
+    act_by_rules(alloc, call, tree, opens, users, turn)
 }

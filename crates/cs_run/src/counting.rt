@@ -1,8 +1,8 @@
 //! Calls in turn on a run without a journal.
-ghost use Rattle.std.specs.Prelude.{◌≡◌, ◌+◌, ◌≤◌, IfSome, [], false};
+ghost use Rattle.std.specs.Prelude.{◌≡◌, ◌<◌, ◌+◌, ◌≤◌, ℕ, IfSome, [], false};
 ghost use Rattle.cs_run.specs.Counted.{is_full, run_of, state_of, turn_of};
 ghost use Rattle.cs_run.specs.Effects.{left};
-ghost use Rattle.cs_run.specs.Laws.{AllVersBelow, FitsCall};
+ghost use Rattle.cs_run.specs.Laws.{AllVersBelow, FitsCall, IsGreatestVersion};
 ghost use Rattle.cs_run.specs.Marks.{CallMark};
 ghost use Rattle.cs_run.specs.Outcomes.{outcome, stepped};
 ghost use Rattle.cs_tree_model.specs.Tree.{IsTree, record_numbered};
@@ -20,6 +20,7 @@ use std::alloc::Global;
 /// The version of the file of a number, 0 of none.
 fn version_of<T: TreeRead>(tree: &T, number: u64) -> u32
     ensures bound { IfSome (record_numbered (T.tree tree.now) number) (λ r. r.vers ≤ result) }
+    ensures least { (k : ℕ) → 0 < k → AllVersBelow k (T.tree tree.now) → result < k }
     ensures is_tree { IsTree (T.tree tree.now) }
 {
     match tree.record(number) {
@@ -30,7 +31,7 @@ fn version_of<T: TreeRead>(tree: &T, number: u64) -> u32
 
 /// The greatest version of the tree's files.
 fn greatest_version<T: TreeRead>(tree: &T) -> u32
-    ensures { AllVersBelow (result + 1) (T.tree tree.now) }
+    ensures { IsGreatestVersion (T.tree tree.now) result }
 {
     let last = tree.last_number();
     let mut greatest = version_of(tree, last);
@@ -41,11 +42,12 @@ fn greatest_version<T: TreeRead>(tree: &T) -> u32
 }
 
 impl<T: TreeStore + Drop> CountedRun<T> {
-    /// A run over this tree with no open.
+    /// A run over this tree with no open, whose count begins at the greatest version.
     pub fn new(alloc: Global, tree: T, users: Users) -> CountedRun<T>
         ensures tree { (run_of result).tree ≡ T.TreeRead.tree tree }
         ensures opens { (run_of result).opens ≡ [] }
         ensures users { (run_of result).users ≡ users }
+        ensures count { IsGreatestVersion (T.TreeRead.tree tree) (run_of result).count }
     {
         let count = greatest_version(&tree);
         CountedRun {

@@ -1,7 +1,9 @@
 //! Walks (walk(5)).
+ghost use Rattle.std.specs.Option.{option_map};
 ghost use Rattle.std.specs.Prelude.{◌≡◌, ◌<◌, List, None, length, IfErr, IfOk, IsErrOf, OnErr, map, string_bytes};
 ghost use Rattle.cs_permit.specs.Calls.{state};
 ghost use Rattle.cs_permit.specs.Refusals.{first_failing};
+ghost use Rattle.cs_permit.specs.Rules.{file_at};
 ghost use Rattle.cs_permit.specs.Walks.{walk_rules};
 ghost use Rattle.cs_permit.specs.declared.call.Call.TheVariants as c;
 ghost use Rattle.cs_permit.specs.declared.call.OpenFile.{OpenFile};
@@ -10,29 +12,35 @@ ghost use Rattle.cs_run.specs.Marks.{CallMark};
 ghost use Rattle.cs_run.specs.Outcomes.{outcome, stepped};
 ghost use Rattle.cs_run.specs.Walks.{way, way_asked};
 ghost use Rattle.cs_run.specs.declared.turn.Turn.{Turn};
+ghost use Rattle.cs_tree_model.specs.Record.{lent};
 
 use crate::answer::{Answer, Outcome, Walk};
 use cs_names::{RuleId, UserName};
 use cs_permit::{WalkCall, element_of, first_of_walk, qid_known};
-use cs_tree_model::TreeRead;
+use cs_tree_model::{Metadata, TreeRead};
 use cs_users::Users;
 use cs_wire::Qid;
 use std::alloc::{AllocError, Global};
 
-fn walk_names<T: TreeRead>(
+/// The walk of these names from a file, of which the tree tells this.
+// a record is large: out of line, it would be passed in memory
+#[inline(always)]
+fn walk_names<'a, T: TreeRead>(
     alloc: Global,
-    tree: &T,
+    tree: &'a T,
     users: &Users,
     user: &UserName,
     start: u64,
+    told: Option<Metadata<'a>>,
     names: &[String],
 ) -> Result<Walk, AllocError>
+    requires { option_map lent told ≡ file_at (T.tree tree.now) start }
     ensures value { IfOk result (λ walk. walk ≡ way (T.tree tree.now) users.now user.now start (map string_bytes names.now)) }
     ensures memory { OnErr result (0 < length names.now) }
 {
     let mut qids: Vec<Qid> = Vec::with_capacity(alloc, names.len())?;
     let mut last = start;
-    let mut file = tree.record(start);
+    let mut file = told;
     for name in names {
         match element_of(tree, users, user, last, file, name.as_str()) {
             Ok(next) => {
@@ -46,14 +54,17 @@ fn walk_names<T: TreeRead>(
     Ok(Walk::new(qids, None, last))
 }
 
-/// Walks as far as the rules let it. Only the qids take memory, once for all names; a name takes one
-/// look-up of a name, and one of a record.
-pub fn walk<T: TreeRead>(
+/// The walk that a call asks for, from its file, of which the tree tells this.
+// for the same reason
+#[inline(always)]
+fn walk_from<'a, T: TreeRead>(
     alloc: Global,
     call: &WalkCall,
-    tree: &T,
+    tree: &'a T,
     users: &Users,
+    told: Option<Metadata<'a>>,
 ) -> Result<Walk, AllocError>
+    requires { option_map lent told ≡ file_at (T.tree tree.now) call.now.number }
     ensures value { IfOk result (λ walk. walk ≡ way_asked (T.tree tree.now) users.now call.now) }
     ensures memory { OnErr result (0 < length call.now.names.items) }
 {
@@ -63,8 +74,25 @@ pub fn walk<T: TreeRead>(
         users,
         &call.user,
         call.number,
+        told,
         call.names.as_slice(),
     )
+}
+
+/// Walks as far as the rules let it. Only the qids take memory, once for all names; a name takes one
+/// look-up of a name, and one of a record.
+// `act` takes `act_walk` in its place, so it isn't to make `grant` larger
+#[inline(never)]
+pub fn walk<T: TreeRead>(
+    alloc: Global,
+    call: &WalkCall,
+    tree: &T,
+    users: &Users,
+) -> Result<Walk, AllocError>
+    ensures value { IfOk result (λ walk. walk ≡ way_asked (T.tree tree.now) users.now call.now) }
+    ensures memory { OnErr result (0 < length call.now.names.items) }
+{
+    walk_from(alloc, call, tree, users, tree.record(call.number))
 }
 
 /// The walk that a call asks for. Else the first rule that denies it; or None, where none does and memory is
@@ -79,10 +107,11 @@ fn walk_allowed<T: TreeRead>(
     ensures err { IfErr result (λ first. first ≡ first_failing (walk_rules (T.tree tree.now) users.now call.now)) }
     ensures memory { IsErrOf result None → 0 < length call.now.names.items }
 {
-    if tree.record(call.number).is_none() {
+    let file = tree.record(call.number);
+    if file.is_none() {
         return Err(Some(RuleId::K5));
     }
-    let Ok(walk) = walk(alloc, call, tree, users) else {
+    let Ok(walk) = walk_from(alloc, call, tree, users, file) else {
         return Err(first_of_walk(call, tree, users));
     };
     match walk.stopped_first() {
@@ -91,7 +120,10 @@ fn walk_allowed<T: TreeRead>(
     }
 }
 
-/// Makes a walk by its rules. They are asked as the walk goes, so that no name is looked up twice.
+/// Makes a walk by its rules. They are asked as the walk goes, so that no name is looked up twice, and
+/// the file that it goes from once.
+// an answer is large: in line, it would be copied once more
+#[inline(never)]
 #[tactic(auto, unfolding(crate::specs::Outcomes::outcome))]
 pub fn act_walk<T: TreeRead>(
     alloc: Global,

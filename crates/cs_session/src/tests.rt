@@ -1,13 +1,14 @@
 //! Examples of a connection over a port that keeps no runs, and answers each call by its kind.
 use crate::{
-    AttachMessage, Bytes, CallMessage, FindFault, Message, OpenMessage, PassFault, Port,
-    ReadMessage, Reply, Session, TableStep, WalkMessage, WriteMessage, message_is_steps,
+    AttachMessage, Bytes, CallMessage, CreateMessage, FindFault, Message, OpenMessage, PassFault,
+    Port, ReadMessage, Reply, Session, TableStep, WalkMessage, WriteMessage, WstatMessage,
+    message_is_steps,
 };
 use cs_fids::NOFID;
 use cs_names::RuleId;
 use cs_permit::{Call, TreeName};
 use cs_run::Answer;
-use cs_wire::{Qid, encode};
+use cs_wire::{Qid, Stat, encode};
 use std::alloc::Global;
 use std::process::Abort;
 use std::test::Fail;
@@ -108,6 +109,29 @@ fn attach_message(alloc: Global, fid: u32) -> Result<AttachMessage, Fail> {
         uname: String::from_str(alloc, "ann")?,
         aname: String::from_str(alloc, "0/a")?,
     })
+}
+
+/// A wstat that changes the name alone.
+fn renaming(alloc: Global, fid: u32) -> Result<WstatMessage, Fail> {
+    let keep = Qid {
+        kind: u8::MAX,
+        vers: u32::MAX,
+        path: u64::MAX,
+    };
+    let stat = Stat {
+        kind: u16::MAX,
+        dev: u32::MAX,
+        qid: keep,
+        mode: u32::MAX,
+        atime: u32::MAX,
+        mtime: u32::MAX,
+        length: u64::MAX,
+        name: String::from_str(alloc, "b")?,
+        uid: String::new(alloc),
+        gid: String::new(alloc),
+        muid: String::new(alloc),
+    };
+    Ok(WstatMessage { fid, stat })
 }
 
 /// The reply to a message, of a connection that awaits no attach.
@@ -216,6 +240,41 @@ fn asks_its_port_for_each_call_on_a_fid(rt: HostRuntime) -> Result<(), Fail> {
         Message::Call(CallMessage::Stat(1)),
     );
     assert_eq!(rt; denial(gone), Some(RuleId::H1));
+    Ok(())
+}
+
+#[test]
+fn asks_its_port_for_each_call_on_a_fid_that_is_not_open(rt: HostRuntime) -> Result<(), Fail> {
+    let alloc = rt.alloc();
+    let mut port = Fake::new(alloc);
+    let mut session = session_of(&rt, &mut port, &[])?;
+    attach(alloc, &mut session, &mut port, 1)?;
+    let mut names = Vec::new(alloc);
+    names.push(String::from_str(alloc, "a")?)?;
+    let walk = CallMessage::Walk(WalkMessage {
+        fid: 1,
+        newfid: 2,
+        names,
+    });
+    let denied = ask(alloc, &mut session, &mut port, Message::Call(walk));
+    assert_eq!(rt; denial(denied), Some(RuleId::K8));
+    let stat = CallMessage::Stat(1);
+    let denied = ask(alloc, &mut session, &mut port, Message::Call(stat));
+    assert_eq!(rt; denial(denied), Some(RuleId::H2));
+    let wstat = CallMessage::Wstat(renaming(alloc, 1)?);
+    let changed = ask(alloc, &mut session, &mut port, Message::Call(wstat));
+    assert!(rt; matches!(changed, Reply::Wstat));
+    let create = CallMessage::Create(CreateMessage {
+        fid: 1,
+        name: String::from_str(alloc, "c")?,
+        perm: 0o644,
+        mode: 1,
+    });
+    let made = ask(alloc, &mut session, &mut port, Message::Call(create));
+    assert!(rt; matches!(made, Reply::Create(_)));
+    let clunked = ask(alloc, &mut session, &mut port, Message::Clunk(1));
+    assert!(rt; matches!(clunked, Reply::Clunk));
+    assert_eq!(rt; port.closed.as_slice(), [0].as_slice());
     Ok(())
 }
 

@@ -1,28 +1,11 @@
-use Rattle.std.proofs.Common.{◌≡◌, None, sym, ◌∙◌, ap, rules, subst}
-use Rattle.cs_permit.specs.Calls.{first, rules_of, state}
+use Rattle.std.proofs.Common.{sym, subst}
+use Rattle.cs_permit.specs.Calls.{state}
 use Rattle.cs_permit.specs.declared.call.Call.TheVariants as k
 use Rattle.cs_run.proofs.Fitting.{fits}
 use Rattle.cs_run.specs.Effects.{Left}
 use Rattle.cs_run.specs.Laws.{FitsCall}
 use Rattle.cs_run.specs.Outcomes.{outcome}
-use Rattle.cs_run.specs.declared.answer.Outcome.TheVariants as o
 use Rattle.cs_run.proofs.acting.act.Goals as goal
-
-pub grant-requires-clause-granted : goal.grant-requires-clause-granted
-unfolding first
-grant-requires-clause-granted g c =
-    let none : c.first_failing.result ≡ None = search rules in
-    let same = sym c.first_failing.ensures ∙ none in
-    c.first_rule_that_fails.ensures.granted (rules_of (state (g.T.TreeRead.tree c.args.tree.now) c.args.opens.now.items c.args.users.now) c.args.call.now) (ap (λ os. first (state (g.T.TreeRead.tree c.args.tree.now) os c.args.users.now) c.args.call.now) (sym c.as_slice.ensures.value) ∙ same)
-
-pub returns-in-Some-clause-fits : goal.returns-in-Some-clause-fits
-returns-in-Some-clause-fits g c = fits (state (g.T.TreeRead.tree c.args.tree.now) c.args.opens.now.items c.args.users.now) c.args.turn c.args.call.now (o.Denied c.in-Some.rule)
-
-pub returns-in-Ok-clause-fits : goal.returns-in-Ok-clause-fits
-returns-in-Ok-clause-fits g c = subst (λ (l : Left). FitsCall c.args.call.now l.answer) (sym c.in-Ok.ensures.ok) (fits (state (g.T.TreeRead.tree c.args.tree.now) c.args.opens.now.items c.args.users.now) c.args.turn c.args.call.now o.Granted)
-
-pub returns-in-Err-clause-fits : goal.returns-in-Err-clause-fits
-returns-in-Err-clause-fits g c = fits (state (g.T.TreeRead.tree c.args.tree.now) c.args.opens.now.items c.args.users.now) c.args.turn c.args.call.now o.Short
 
 pub returns-in-Walk-clause-step : goal.returns-in-Walk-clause-step
 returns-in-Walk-clause-step g c = rw c.in-Walk.is (c.act_walk.ensures c.args.opens.now.items c.args.turn)
