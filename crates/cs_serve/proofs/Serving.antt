@@ -14,12 +14,12 @@ use Rattle.cs_run.specs.Outcomes.{outcome, stepped}
 use Rattle.cs_session.specs.Marks.{PortMark, InRun}
 use Rattle.cs_session.specs.Questions.{Ask, Got, Enter, Entered}
 use Rattle.cs_users.specs.Members.{is_known}
-use Rattle.cs_serve.specs.Runs.{Standing, IsGiven, attached, called, counted, entered, got}
+use Rattle.cs_serve.specs.Runs.{FirstState, IsGiven, attached, called, counted, entered, got}
 use Rattle.std.specs.Prelude.{Ok, nat_le}
 use Rattle.cs_names.specs.declared.limits.TheConstants.{RUN_ATTACHES}
 
 -- the call's answer and the run that it leaves are those of the question
-pub asks : (s s' : Standing) (now run pass : ℕ) (c : Call) (answer : Answer) (new : Counted) → (mark : CallMark) × ((answer, new) ≡ called s.run now pass c mark) → s' ≡ record s { run = new } → (mark : PortMark) × IsGiven s mark (Ask now run pass c) (Got answer) s'
+pub asks : (s s' : FirstState) (now run pass : ℕ) (c : Call) (answer : Answer) (new : Counted) → (mark : CallMark) × ((answer, new) ≡ called s.run now pass c mark) → s' ≡ record s { run = new } → (mark : PortMark) × IsGiven s mark (Ask now run pass c) (Got answer) s'
 asks s s' now run pass c answer new w left = (InRun w.0, rw left (ap (got s) w.1))
 
 -- an attach takes no memory, and changes nothing but the count
@@ -35,5 +35,5 @@ pub attach_is_called : (run : Counted) (now pass : ℕ) (c : AttachCall) (mark :
 attach_is_called run now pass c mark = attach_by run now pass c mark (is_full run) (is_known run.users (string_bytes c.user)) refl refl
 
 -- the same of an attach, under a new pass
-pub enters : (s s' : Standing) (now run : ℕ) (c : AttachCall) (answer : Answer) (new : Counted) → nat_le RUN_ATTACHES s.passes ≡ false → (mark : CallMark) × ((answer, new) ≡ called s.run now s.passes (call.Attach c) mark) → s' ≡ record s { run = new; passes = s.passes + 1 } → (mark : PortMark) × IsGiven s mark (Enter now run (string_bytes c.user)) (Entered (Ok (s.passes, answer))) s'
+pub enters : (s s' : FirstState) (now run : ℕ) (c : AttachCall) (answer : Answer) (new : Counted) → nat_le RUN_ATTACHES s.passes ≡ false → (mark : CallMark) × ((answer, new) ≡ called s.run now s.passes (call.Attach c) mark) → s' ≡ record s { run = new; passes = s.passes + 1 } → (mark : PortMark) × IsGiven s mark (Enter now run (string_bytes c.user)) (Entered (Ok (s.passes, answer))) s'
 enters s s' now run c answer new free w left = (InRun w.0, rw (left, free) (ap (entered s) (w.1 ∙ attach_is_called s.run now s.passes c w.0)))

@@ -1,3 +1,3 @@
 pub mod Runs
-pub mod Rooms
+pub mod Views
 pub mod Taking

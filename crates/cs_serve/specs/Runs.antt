@@ -19,7 +19,7 @@ use Rattle.cs_users.specs.Members.{is_known}
 use Rattle.cs_session.specs.Questions.{Question, Find, Enter, Ask, Told, Found, Entered, Got}
 
 -- the run; its name, once it was found; how often it was found; and how many passes it gave
-pub record Standing : Type 0 where
+pub record FirstState : Type 0 where
   pub run : Counted
   pub name : Option (List ℕ)
   pub finds : ℕ
@@ -33,7 +33,7 @@ is_other None name = false
 is_other (Some found) name = not (same_bytes found name)
 
 -- no room for the attach: it would be a second run, or the run was found as often as it can be
-abbrev pub has_no_room : Standing → List ℕ → Bool
+abbrev pub has_no_room : FirstState → List ℕ → Bool
 has_no_room s name = is_other s.name name || nat_le RUN_ATTACHES s.finds
 
 -- the name that was found first stays
@@ -48,7 +48,7 @@ refuses_run NoPass = false
 refuses_run (InRun m) = false
 
 -- state 0 alone is published (A4); then the room (A5); then the memory, which the first find alone takes
-abbrev pub found : Standing → List ℕ → List ℕ → PortMark → Told × Standing
+abbrev pub found : FirstState → List ℕ → List ℕ → PortMark → Told × FirstState
 found s state name m =
     if not (is_zero state) then (Found (Err f.Unpublished), s) else
     if has_no_room s name then (Found (Err f.Full), s) else
@@ -80,15 +80,15 @@ attach_answer run user = if is_known run.users user then a.Attached (qid_at run.
 abbrev pub attached : Counted → List ℕ → Answer × Counted
 attached run user = if is_full run then (a.Denied L1, run) else (attach_answer run user, record run { count = run.count + 1 })
 
-abbrev pub got : Standing → Answer × Counted → Told × Standing
+abbrev pub got : FirstState → Answer × Counted → Told × FirstState
 got s x = (Got x.0, record s { run = x.1 })
 
 -- under a new pass, whose place is the number of those before it
-abbrev pub entered : Standing → Answer × Counted → Told × Standing
+abbrev pub entered : FirstState → Answer × Counted → Told × FirstState
 entered s x = (Entered (Ok (s.passes, x.0)), record s { run = x.1; passes = s.passes + 1 })
 
 -- the answer to a question where memory refuses that growth, and the run then
-abbrev pub answered : Standing → Question → PortMark → Told × Standing
+abbrev pub answered : FirstState → Question → PortMark → Told × FirstState
 answered s (Find state name) m = found s state name m
 answered s (Enter now run user) m =
     if nat_le RUN_ATTACHES s.passes then (Entered (Err p.Room), s) else
@@ -96,5 +96,5 @@ answered s (Enter now run user) m =
 answered s (Ask now run pass call) m = got s (called s.run now pass call (call_mark m))
 
 -- the answer is the definition's
-abbrev pub IsGiven : Standing → PortMark → Question → Told → Standing → Type 0
+abbrev pub IsGiven : FirstState → PortMark → Question → Told → FirstState → Type 0
 IsGiven s m question told s' = (told, s') ≡ answered s question m

@@ -4,7 +4,7 @@ ghost use Rattle.cs_permit.specs.declared.call.Call.{Call};
 ghost use Rattle.cs_run.specs.Counted.{run_of};
 ghost use Rattle.cs_run.specs.Laws.{FitsCall};
 ghost use Rattle.cs_run.specs.Marks.{CallMark};
-ghost use Rattle.cs_serve.specs.Rooms.{standing_of};
+ghost use Rattle.cs_serve.specs.Views.{first_state};
 ghost use Rattle.cs_serve.specs.Runs.{IsGiven, called, has_no_room};
 
 use cs_names::limits::RUN_ATTACHES;
@@ -16,8 +16,8 @@ use cs_tree_model::TreeStore;
 use cs_users::Users;
 use std::alloc::Global;
 
-/// State 0's one run, whose name the first find fixes, and which at most 64 finds and as many passes
-/// are given. Contracts see its `standing_of`.
+/// State 0's one run, whose name the first granted find fixes. At most 64 finds are granted, and as many
+/// passes given. Contracts see its `first_state`.
 #[derive(Drop)]
 pub struct FirstRun<T: TreeStore + Drop> {
     run: CountedRun<T>,
@@ -28,17 +28,19 @@ pub struct FirstRun<T: TreeStore + Drop> {
 
 impl<T: TreeStore + Drop> FirstRun<T> {
     ghost use Rattle.std.specs.Prelude.{◌≡◌, [], None};
-    ghost use Rattle.cs_serve.specs.Rooms.{standing_of};
+    ghost use Rattle.cs_run.specs.Laws.{IsGreatestVersion};
+    ghost use Rattle.cs_serve.specs.Views.{first_state};
     ghost use Rattle.cs_serve.specs.Runs.{has_no_room};
 
-    /// A run over this tree that was not found yet.
+    /// A run over this tree that was not found yet; its count begins at the greatest version.
     pub fn new(alloc: Global, tree: T, users: Users) -> FirstRun<T>
-        ensures tree { (standing_of result).run.tree ≡ T.TreeRead.tree tree }
-        ensures opens { (standing_of result).run.opens ≡ [] }
-        ensures users { (standing_of result).run.users ≡ users }
-        ensures name { (standing_of result).name ≡ None }
-        ensures finds { (standing_of result).finds ≡ 0 }
-        ensures passes { (standing_of result).passes ≡ 0 }
+        ensures tree { (first_state result).run.tree ≡ T.TreeRead.tree tree }
+        ensures opens { (first_state result).run.opens ≡ [] }
+        ensures users { (first_state result).run.users ≡ users }
+        ensures count { IsGreatestVersion (T.TreeRead.tree tree) (first_state result).run.count }
+        ensures name { (first_state result).name ≡ None }
+        ensures finds { (first_state result).finds ≡ 0 }
+        ensures passes { (first_state result).passes ≡ 0 }
     {
         FirstRun {
             run: CountedRun::new(alloc, tree, users),
@@ -50,13 +52,13 @@ impl<T: TreeStore + Drop> FirstRun<T> {
 
     /// Its tree, lent.
     pub fn tree(&self) -> &T
-        ensures { T.TreeRead.tree result.now ≡ (standing_of self.now).run.tree }
+        ensures { T.TreeRead.tree result.now ≡ (first_state self.now).run.tree }
     {
         self.run.tree()
     }
 
     fn has_no_room(&self, name: &[u8]) -> bool
-        ensures { result ≡ has_no_room (standing_of self.now) name.now }
+        ensures { result ≡ has_no_room (first_state self.now) name.now }
     {
         match &self.name {
             Some(found) if found.as_bytes() != name => true,
@@ -84,10 +86,10 @@ fn called<T: TreeStore + Drop>(
 }
 
 impl<T: TreeStore + Drop> Port for FirstRun<T> {
-    ghost use Rattle.cs_serve.specs.Rooms.{standing_of};
+    ghost use Rattle.cs_serve.specs.Views.{first_state};
     ghost use Rattle.cs_serve.specs.Runs.{IsGiven};
 
-    ghost gives = { λ p mark question told p'. IsGiven (standing_of p) mark question told (standing_of p') };
+    ghost gives = { λ p mark question told p'. IsGiven (first_state p) mark question told (first_state p') };
 
     fn find(&mut self, alloc: Global, name: &TreeName) -> Result<u32, FindFault> {
         if !name.is_of_state_zero() {

@@ -2,7 +2,8 @@
 ghost use Rattle.std.specs.List.{AllByRecursion};
 ghost use Rattle.std.specs.Prelude.{◌≡◌, ◌<◌, ◌≤◌, [], IfOk, None, length, slice_set};
 ghost use Rattle.cs_names.specs.declared.limits.TheConstants.{CONNECTIONS};
-ghost use Rattle.cs_serve.specs.Rooms.{connection, connections, standing};
+ghost use Rattle.cs_run.specs.Laws.{IsGreatestVersion};
+ghost use Rattle.cs_serve.specs.Views.{connection, connections, run_state};
 ghost use Rattle.cs_serve.specs.Runs.{IsGiven};
 ghost use Rattle.cs_session.specs.declared.message.Message.TheVariants as m;
 ghost use Rattle.cs_session.specs.declared.reply.Reply.TheVariants as r;
@@ -36,10 +37,11 @@ fn blanks(alloc: Global) -> Result<Vec<Session>, AllocError>
 impl<T: TreeStore + Drop> FirstWorld<T> {
     /// A world over this tree, with these users, whose connections have no session.
     pub fn new(alloc: Global, tree: T, users: Users) -> Result<FirstWorld<T>, AllocError>
-        ensures tree { IfOk result (λ world. (standing world).run.tree ≡ T.TreeRead.tree tree) }
-        ensures opens { IfOk result (λ world. (standing world).run.opens ≡ []) }
-        ensures users { IfOk result (λ world. (standing world).run.users ≡ users) }
-        ensures unfound { IfOk result (λ world. ((standing world).name ≡ None) × ((standing world).finds ≡ 0) × ((standing world).passes ≡ 0)) }
+        ensures tree { IfOk result (λ world. (run_state world).run.tree ≡ T.TreeRead.tree tree) }
+        ensures opens { IfOk result (λ world. (run_state world).run.opens ≡ []) }
+        ensures users { IfOk result (λ world. (run_state world).run.users ≡ users) }
+        ensures count { IfOk result (λ world. IsGreatestVersion (T.TreeRead.tree tree) (run_state world).run.count) }
+        ensures unfound { IfOk result (λ world. ((run_state world).name ≡ None) × ((run_state world).finds ≡ 0) × ((run_state world).passes ≡ 0)) }
         ensures connections { IfOk result (λ world. AllByRecursion (λ s. s ≡ blank None) (connections world)) }
     {
         Ok(FirstWorld {
@@ -50,7 +52,7 @@ impl<T: TreeStore + Drop> FirstWorld<T> {
 
     /// The tree of the run, lent.
     pub fn tree(&self) -> &T
-        ensures { T.TreeRead.tree result.now ≡ (standing self.now).run.tree }
+        ensures { T.TreeRead.tree result.now ≡ (run_state self.now).run.tree }
     {
         self.run.tree()
     }
@@ -61,7 +63,7 @@ impl<T: TreeStore + Drop> FirstWorld<T> {
     pub fn message(&mut self, alloc: Global, conn: u32, now: u32, bytes: &[u8]) -> RMessage
         requires connection { conn < CONNECTIONS }
         requires whole { 7 ≤ length bytes.now }
-        ensures replied { IsReplied IsGiven now bytes.now (connection self.old conn) (standing self.old) (r_view result) (connection self.new conn) (standing self.new) }
+        ensures replied { IsReplied IsGiven now bytes.now (connection self.old conn) (run_state self.old) (r_view result) (connection self.new conn) (run_state self.new) }
         ensures others { connections self.new ≡ slice_set (connections self.old) conn (connection self.new conn) }
         ensures fits { FitsWithin (room_of (connection self.old conn).msize) (r_view result) }
     {
@@ -73,7 +75,7 @@ impl<T: TreeStore + Drop> FirstWorld<T> {
     /// (intro(5)). No other connection changes.
     pub fn hang_up(&mut self, alloc: Global, conn: u32, now: u32)
         requires connection { conn < CONNECTIONS }
-        ensures answered { IsAnswered IsGiven now m.HangUp (connection self.old conn) (standing self.old) r.Closed (connection self.new conn) (standing self.new) }
+        ensures answered { IsAnswered IsGiven now m.HangUp (connection self.old conn) (run_state self.old) r.Closed (connection self.new conn) (run_state self.new) }
         ensures ended { connection self.new conn ≡ blank None }
         ensures others { connections self.new ≡ slice_set (connections self.old) conn (connection self.new conn) }
     {

@@ -5,7 +5,7 @@ ghost use Rattle.cs_permit.specs.declared.call.AttachCall.{AttachCall};
 ghost use Rattle.cs_permit.specs.declared.call.Call.TheVariants as call;
 ghost use Rattle.cs_run.specs.Counted.{Counted};
 ghost use Rattle.cs_run.specs.Marks.{CallMark};
-ghost use Rattle.cs_serve.specs.Runs.{IsGiven, Standing, attached, called};
+ghost use Rattle.cs_serve.specs.Runs.{IsGiven, FirstState, attached, called};
 ghost use Rattle.cs_serve.specs.Taking.{step, took};
 ghost use Rattle.cs_session.specs.declared.reply.Reply.{Reply};
 ghost use Rattle.cs_session.specs.Marks.{Mark};
@@ -15,7 +15,7 @@ ghost use Rattle.cs_session.specs.Steps.{Step, Takes};
 /// A step of a connection is a function of what stands before it, and of the growth that memory
 /// refuses.
 pub fn step_is_function()
-    ensures { (now : ℕ) (s s' : Sess) (x : Step) (mark : Mark) (run run' : Standing) (reply : Reply) → Takes IsGiven now s run x mark reply s' run' → took (reply, s') run' ≡ step now s run x mark }
+    ensures { (now : ℕ) (s s' : Sess) (x : Step) (mark : Mark) (run run' : FirstState) (reply : Reply) → Takes IsGiven now s run x mark reply s' run' → took (reply, s') run' ≡ step now s run x mark }
 {}
 
 /// An attach is the run's call of that name, of a user of that name, whatever memory refuses.

@@ -5,7 +5,7 @@ use crate::fault::ProgramFault;
 use crate::printing::Printer;
 use crate::script::{Action, ScriptLine, read_script};
 use crate::world::FirstWorld;
-use cs_trace::{TraceFaultKind, read_start};
+use cs_trace::{TraceFaultKind, read_trace};
 use cs_tree::PlainTree;
 use cs_users::{Users, UsersFault};
 use cs_wire::{RMessage, decode};
@@ -25,8 +25,8 @@ fn read_tree(alloc: Global, trace: &[u8]) -> Result<PlainTree, ProgramFault> {
     let Ok(text) = std::str::from_utf8(trace) else {
         return Err(ProgramFault::TraceNotText);
     };
-    let records = match read_start(alloc, text) {
-        Ok(records) => records,
+    let trace = match read_trace(alloc, text) {
+        Ok(trace) => trace,
         Err(fault) => {
             if fault.kind == TraceFaultKind::Memory {
                 return Err(ProgramFault::Memory);
@@ -34,7 +34,7 @@ fn read_tree(alloc: Global, trace: &[u8]) -> Result<PlainTree, ProgramFault> {
             return Err(ProgramFault::Trace(fault));
         }
     };
-    PlainTree::from_records(alloc, records).map_err(|_| ProgramFault::Memory)
+    PlainTree::from_records(alloc, trace.into_records()).map_err(|_| ProgramFault::Memory)
 }
 
 fn read_users(alloc: Global, users: &[u8]) -> Result<Users, ProgramFault> {

@@ -8,7 +8,7 @@ use cs_session::Session;
 use cs_tree_model::TreeStore;
 
 /// The connections 0 to 63 over one run of one start tree, which is state 0. Contracts see its
-/// `connections` and the run that `standing` is.
+/// `connections` and the run that `run_state` is.
 #[derive(Drop)]
 pub struct FirstWorld<T: TreeStore + Drop> {
     pub(crate) sessions: Vec<Session>,

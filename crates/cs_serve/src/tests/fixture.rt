@@ -1,7 +1,7 @@
 //! The start tree of the worked examples, its users, and worlds over it.
 use crate::tests::asking::{shown, spelled};
 use crate::{FirstWorld, Inputs, script_of};
-use cs_trace::read_start;
+use cs_trace::read_trace;
 use cs_tree::PlainTree;
 use cs_users::Users;
 use std::alloc::Global;
@@ -24,7 +24,7 @@ pub const ATTACHED: &str = "Rattach tag 1 qid (80 0 0)";
 
 /// A world over the start tree of a trace, with no session.
 pub fn world_over(alloc: Global, trace: &str) -> Result<FirstWorld<PlainTree>, Fail> {
-    let records = read_start(alloc, trace)?;
+    let records = read_trace(alloc, trace)?.into_records();
     let tree = PlainTree::from_records(alloc, records)?;
     let users = Users::read(alloc, USERS.as_bytes())?;
     Ok(FirstWorld::new(alloc, tree, users)?)

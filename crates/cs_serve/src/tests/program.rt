@@ -42,6 +42,43 @@ fn tells_each_message_as_text(rt: HostRuntime) -> Result<(), Fail> {
     Ok(())
 }
 
+/// A file, and operations that make a directory with a file.
+const MADE: &str =
+    r#"{"start":"file","path":"/f","owner":"ann","group":"ann","mode":"644","bytes":"6869"}
+{"op":"mkdir","path":"/e","owner":"ann","group":"ann","mode":"755"}
+{"op":"creat","path":"/e/x","owner":"ann","group":"ann","mode":"644"}
+"#;
+
+#[test]
+fn tells_each_fault_of_an_operation(rt: HostRuntime) -> Result<(), Fail> {
+    for (operation, wanted) in [
+        (r#"{"op":"link"}"#, "UnknownOp"),
+        (r#"{"op":"sync","path":"/f"}"#, "Syntax"),
+        (r#"{"op":"unlink","path":"f"}"#, "BadName"),
+        (r#"{"op":"rmdir","path":"/q"}"#, "Missing"),
+        (r#"{"op":"rmdir","path":"/f"}"#, "NotDir"),
+        (r#"{"op":"rmdir","path":"/e"}"#, "NotEmpty"),
+        (r#"{"op":"unlink","path":"/e"}"#, "NotFile"),
+        (
+            r#"{"op":"truncate","path":"/f","length":1048577}"#,
+            "TooLarge",
+        ),
+    ] {
+        let mut trace = String::from_str(rt.alloc(), HEADER)?;
+        trace.push_str(MADE)?;
+        trace.push_str(operation)?;
+        let wanted = format!(in rt.alloc(); "crashfs: trace line 5: {wanted}\n")?;
+        expect_fault(
+            &rt,
+            USERS.as_bytes(),
+            trace.as_bytes(),
+            b"",
+            wanted.as_str(),
+        )?;
+    }
+    Ok(())
+}
+
 /// Runs an empty script on files one of which is at fault, and looks for the text and the status.
 fn expect_fault(
     rt: &(impl Abort + AllocGlobal),
@@ -122,15 +159,6 @@ fn tells_each_fault_of_the_trace(rt: HostRuntime) -> Result<(), Fail> {
         let trace = trace_of(&rt, starts)?;
         expect_fault(&rt, users, trace.as_bytes(), b"", wanted)?;
     }
-    let mut operation = trace_of(&rt, &[])?;
-    operation.push_str("{\"op\":\"sync\"}")?;
-    expect_fault(
-        &rt,
-        users,
-        operation.as_bytes(),
-        b"",
-        "crashfs: trace line 3: UnknownOp\n",
-    )?;
     expect_fault(&rt, users, b"", b"", "crashfs: trace line 1: Syntax\n")?;
     expect_fault(&rt, users, b"\xff", b"", "crashfs: trace: NotText\n")
 }

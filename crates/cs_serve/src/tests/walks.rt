@@ -1,5 +1,5 @@
 //! Walks, and files that move or go while a fid stands on them.
-use crate::tests::fixture::expect;
+use crate::tests::fixture::{TRACE, expect, expect_in, join, world_over};
 use std::test::Fail;
 
 #[test]
@@ -94,5 +94,18 @@ fn fid_follows_a_renamed_directory(rt: HostRuntime) -> Result<(), Fail> {
             ("0 walk 1 3 ..", "Rwalk tag 1 wqid [(80 1 1)]"),
             ("0 walk 0 4 d", "Rerror tag 1 ename \"K8 no such name\""),
         ],
+    )
+}
+
+#[test]
+fn start_tree_is_served_whatever_the_operations_are(rt: HostRuntime) -> Result<(), Fail> {
+    let mut trace = String::from_str(rt.alloc(), TRACE)?;
+    trace.push_str("{\"op\":\"unlink\",\"path\":\"/f\"}\n")?;
+    let mut world = world_over(rt.alloc(), trace.as_str())?;
+    join(&rt, &mut world, 0, "ann")?;
+    expect_in(
+        &rt,
+        &mut world,
+        &[("0 walk 0 1 f", "Rwalk tag 1 wqid [(00 0 4)]")],
     )
 }

@@ -5,14 +5,14 @@ use Rattle.cs_session.specs.Sessions.{Sess, blank}
 use Rattle.cs_tree_model.specs.declared.read.TreeRead.{Ghosts}
 use Rattle.cs_serve.specs.declared.first_run.FirstRun.{FirstRun}
 use Rattle.cs_serve.specs.declared.world.FirstWorld.{FirstWorld}
-use Rattle.cs_serve.specs.Runs.{Standing}
+use Rattle.cs_serve.specs.Runs.{FirstState}
 
-abbrev pub standing_of : {T : Type 0} {store : Ghosts T} → FirstRun T store → Standing
-standing_of r = record { run = run_of r.run; name = r.name; finds = r.finds; passes = r.passes }
+abbrev pub first_state : {T : Type 0} {store : Ghosts T} → FirstRun T store → FirstState
+first_state r = record { run = run_of r.run; name = r.name; finds = r.finds; passes = r.passes }
 
 -- the run of a world
-abbrev pub standing : {T : Type 0} {store : Ghosts T} → FirstWorld T store → Standing
-standing world = standing_of world.run
+abbrev pub run_state : {T : Type 0} {store : Ghosts T} → FirstWorld T store → FirstState
+run_state world = first_state world.run
 
 -- the connections of a world, by their numbers
 abbrev pub connections : {T : Type 0} {store : Ghosts T} → FirstWorld T store → List Sess
