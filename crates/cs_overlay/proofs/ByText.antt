@@ -1,0 +1,88 @@
+-- A map whose keys are texts, as a finite map by their bytes.
+use Rattle.std.proofs.Common.{◌≡◌, ◌≢◌, ⊎_elim, Bool, true, false, Option, List, [], ◌∷◌, cond, None, Some, refl, sym, ap, ◌∙◌, length}
+use Rattle.std.proofs.lemmas.Map.Text.{btree_map_updates_text, is_eq-slice_cmp}
+use Rattle.std.specs.BTreeMap.{BTreeMap, UpdatesBy, get_by_text, is_at}
+use Rattle.std.specs.Cmp.{eq_by_cmp_equiv}
+use Rattle.std.specs.FinMap as map
+use Rattle.std.specs.Map.{lookup}
+use Rattle.std.specs.Ordering.{is_eq}
+use Rattle.std.specs.Option.{option_map, is_some}
+use Rattle.std.specs.Str.{bytes_eq}
+use Rattle.std.specs.String.{string_bytes, string_cmp}
+use Rattle.std.specs.declared.string.String.{String}
+use Rattle.cs_tree_model.specs.Laws.Nexts.{total, exact}
+use Rattle.cs_tree_model.specs.Maps.Views.{get_view}
+use Rattle.cs_tree_model.specs.Tree.{NameBytes, name_cmp}
+use Rattle.cs_tree_model.specs.Maps.Changes.{key_cases}
+use Rattle.cs_tree_model.specs.Maps.Values.{get-map_values}
+use Rattle.cs_overlay.proofs.Ranges.{none_of_none}
+use Rattle.std.proofs.lemmas.Bool.{false≢true}
+use Rattle.cs_overlay.specs.declared.names.Said.{Said}
+use Rattle.cs_overlay.specs.Texts.{by_bytes, numbers_of, AreNamed}
+
+lookup_by_bytes : {Y X : Type 0} (q : NameBytes) (es : List (String Y × X)) → lookup (is_at (name_cmp q)) (by_bytes es) ≡ lookup (is_at (λ k. name_cmp q (string_bytes k))) es
+lookup_by_bytes q [] = refl
+lookup_by_bytes q (e ∷ es) = ap (cond (is_eq (name_cmp q (string_bytes e.0))) (Some e.1)) (lookup_by_bytes q es)
+
+same_test : (bs cs : NameBytes) → bytes_eq bs cs ≡ is_eq (name_cmp cs bs)
+same_test bs cs = sym (is_eq-slice_cmp bs cs) ∙ (eq_by_cmp_equiv total).symm bs cs
+
+module _ {Y X : Type 0} where
+  abbrev pub seen : BTreeMap (String Y) X → map.FinMap name_cmp X
+  seen m = map.from_entries (by_bytes m.entries)
+
+  pub get_seen : (m : BTreeMap (String Y) X) (q : NameBytes) → map.get (seen m) q ≡ get_by_text m q
+  get_seen m q = get_view total exact (by_bytes m.entries) q ∙ lookup_by_bytes q m.entries
+
+  module _ (m n : BTreeMap (String Y) X) (bs : NameBytes) where
+    pub seen_insert : (v : X) → UpdatesBy string_cmp (λ k. name_cmp bs (string_bytes k)) m n (Some v) → seen n ≡ map.insert (seen m) bs v
+    seen_insert v h = map.same_map total exact _ _ (λ cs. get_seen n cs ∙ btree_map_updates_text bs m n (Some v) h cs
+        ∙ (λ i. cond (same_test bs cs i) (Some v) (sym (get_seen m cs) i)) ∙ sym (map.get-insert total (seen m) bs v cs))
+
+    pub seen_remove : UpdatesBy string_cmp (λ k. name_cmp bs (string_bytes k)) m n None → seen n ≡ map.remove (seen m) bs
+    seen_remove h = map.same_map total exact _ _ (λ cs. get_seen n cs ∙ btree_map_updates_text bs m n None h cs
+        ∙ (λ i. cond (same_test bs cs i) None (sym (get_seen m cs) i)) ∙ sym (map.get-remove total (seen m) bs cs))
+
+-- ---- a number for each name
+
+module _ {Y : Type 0} where
+  pub get_number : (m : BTreeMap (String Y) Said) (q : NameBytes) → map.get (numbers_of m.entries) q ≡ option_map (λ s. s.number) (get_by_text m q)
+  get_number m q = get-map_values name_cmp (λ s. s.number) (seen m) q ∙ ap (option_map (λ (s : Said). s.number)) (get_seen m q)
+
+  pub numbers_insert : (m n : BTreeMap (String Y) Said) (bs : NameBytes) (v : Said) → UpdatesBy string_cmp (λ k. name_cmp bs (string_bytes k)) m n (Some v) → numbers_of n.entries ≡ map.insert (numbers_of m.entries) bs v.number
+  numbers_insert m n bs v h = map.same_map total exact _ _ (λ cs. get_number n cs
+      ∙ ap (option_map (λ (s : Said). s.number)) (sym (get_seen n cs) ∙ ap (λ w. map.get w cs) (seen_insert m n bs v h) ∙ map.get-insert total (seen m) bs v cs)
+      ∙ by (is_eq (name_cmp cs bs)) (map.get (seen m) cs)
+      ∙ ap (cond (is_eq (name_cmp cs bs)) (Some v.number)) (ap (option_map (λ (s : Said). s.number)) (get_seen m cs) ∙ sym (get_number m cs))
+      ∙ sym (map.get-insert total (numbers_of m.entries) bs v.number cs))
+    where
+      by : (b : Bool) (o : Option Said) → option_map (λ s. s.number) (cond b (Some v) o) ≡ cond b (Some v.number) (option_map (λ s. s.number) o)
+      by true o = refl
+      by false o = refl
+
+  -- what is said of a name has the name, after one more
+  pub named_insert : (m n : BTreeMap (String Y) Said) (bs : NameBytes) (v : Said) → UpdatesBy string_cmp (λ k. name_cmp bs (string_bytes k)) m n (Some v) → v.name ≡ bs → AreNamed (get_by_text m) → AreNamed (get_by_text n)
+  named_insert m n bs v h own all cs s is = ⊎_elim
+      (λ (one : (is_eq (name_cmp cs bs) ≡ true) × (cs ≡ bs)).
+      let two : Some v ≡ Some s = sym (found cs ∙ ap (λ b. cond b (Some v) (get_by_text m cs)) one.0) ∙ is in
+      let same : v ≡ s = cc in
+      ap (λ (w : Said). w.name) (sym same) ∙ own ∙ sym one.1)
+      (λ (other : (is_eq (name_cmp cs bs) ≡ false) × (cs ≢ bs)). all cs s (sym (found cs ∙ ap (λ b. cond b (Some v) (get_by_text m cs)) other.0) ∙ is))
+      (key_cases total exact cs bs)
+    where
+      found : (cs : NameBytes) → get_by_text n cs ≡ cond (is_eq (name_cmp cs bs)) (Some v) (get_by_text m cs)
+      found cs = sym (get_seen n cs) ∙ ap (λ w. map.get w cs) (seen_insert m n bs v h) ∙ map.get-insert total (seen m) bs v cs ∙ ap (cond (is_eq (name_cmp cs bs)) (Some v)) (get_seen m cs)
+
+  -- and the same names
+  pub same_names : (m : BTreeMap (String Y) Said) (q : NameBytes) → is_some (get_by_text m q) ≡ is_some (map.get (numbers_of m.entries) q)
+  same_names m q = by (get_by_text m q) ∙ ap is_some (sym (get_number m q))
+    where
+      by : (o : Option Said) → is_some o ≡ is_some (option_map (λ s. s.number) o)
+      by None = refl
+      by (Some s) = refl
+
+  pub numbers_none : (m : BTreeMap (String Y) Said) → length m.entries ≡ 0 → numbers_of m.entries ≡ map.empty
+  numbers_none m none = map.same_map total exact _ _ (λ q. get_number m q ∙ ap (option_map (λ (s : Said). s.number)) (none_of_none _ m.entries none) ∙ sym (map.get-empty name_cmp q))
+
+  pub named_none : (m : BTreeMap (String Y) Said) → length m.entries ≡ 0 → AreNamed (get_by_text m)
+  named_none m none x s is = absurd (false≢true (ap is_some (sym (none_of_none _ m.entries none) ∙ is)))

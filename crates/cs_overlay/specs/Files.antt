@@ -1,0 +1,17 @@
+-- A file over a lower one, by what the program keeps of it.
+use Rattle.std.specs.Prelude.{ℕ, List}
+use Rattle.std.specs.BTreeMap.{get}
+use Rattle.std.specs.Ordering.{nat_cmp}
+use Rattle.cs_overlay.specs.declared.patched.Patched.{Patched}
+use Rattle.cs_overlay.specs.Patch.{byte_at, bytes_of, HidesNothing}
+
+-- the byte at i, whatever the file's size
+abbrev pub file_byte : List ℕ → Patched → ℕ → ℕ
+file_byte lower p = byte_at lower p.kept (get nat_cmp p.blocks)
+
+abbrev pub file_bytes : List ℕ → Patched → List ℕ
+file_bytes lower p = bytes_of lower p.kept (get nat_cmp p.blocks) p.size
+
+-- past the file's end there is nothing that would show if it grew
+abbrev pub NothingHidden : List ℕ → Patched → Type 0
+NothingHidden lower p = HidesNothing lower p.kept (get nat_cmp p.blocks) p.size

@@ -1,0 +1,4 @@
+pub mod Texts
+pub mod Patch
+pub mod Files
+pub mod Layers

@@ -1,0 +1,95 @@
+//! A block of a file's own.
+ghost use Rattle.std.specs.Prelude.{◌≡◌, ◌+◌, ◌++◌, ◌≤◌, ◌<◌, ◌^◌, ℕ, length, map, replicate, take, drop, slice_index, OnOk};
+ghost use Rattle.std.specs.List.{range_with_len};
+ghost use Rattle.cs_overlay.specs.Patch.{put_in};
+
+use std::alloc::AllocError;
+use std::marker::Model;
+
+/// The bytes of one block; what is past them reads as zero.
+#[derive(Drop)]
+pub struct Block {
+    bytes: Vec<u8>,
+}
+
+impl Model for Block {
+    ghost use Rattle.std.specs.Prelude.{List, ℕ};
+
+    ghost Value = { List ℕ };
+
+    ghost view = { λ b. b.bytes.items };
+}
+
+impl Block {
+    /// A block with these bytes.
+    pub fn of(bytes: Vec<u8>) -> Block
+        ensures { result ≡ bytes.items }
+    {
+        Block { bytes }
+    }
+
+    pub fn bytes(&self) -> &[u8]
+        ensures { result.now ≡ self.now }
+    {
+        &self.bytes
+    }
+
+    pub fn cut(&mut self, n: usize)
+        ensures { self.new ≡ take n self.old }
+    {
+        self.bytes.truncate(n);
+    }
+
+    /// Puts a piece over its bytes, which reach as far.
+    pub fn put(&mut self, start: usize, piece: &[u8])
+        requires { start + length piece.now ≤ length self.old }
+        ensures { self.new ≡ put_in start piece.now self.old }
+    {
+        put_over(&mut self.bytes, start, piece);
+    }
+
+    /// Puts zeros behind its bytes, up to a length at least.
+    pub fn lengthen(&mut self, n: usize) -> Result<(), AllocError>
+        ensures longer { (z : ℕ) × (self.new ≡ self.old ++ replicate z 0) }
+        ensures there { OnOk result (n ≤ length self.new) }
+    {
+        let end = self.bytes.len().max(n);
+        self.bytes.resize(end, 0)?;
+        Ok(())
+    }
+}
+
+/// At most `count` bytes from a place on.
+fn part(bytes: &[u8], start: usize, count: usize) -> &[u8]
+    ensures { result.now ≡ take count (drop start bytes.now) }
+{
+    let start = bytes.len().min(start);
+    let rest = &bytes[start..];
+    let end = rest.len().min(count);
+    &rest[..end]
+}
+
+/// Appends `count` bytes from a place on; past the end of the source stand zeros.
+pub fn append_part(
+    out: &mut Vec<u8>,
+    source: &[u8],
+    start: usize,
+    count: usize,
+) -> Result<(), AllocError>
+    requires { length out.old.items + count < 2 ^ 63 }
+    ensures { OnOk result (out.new.items ≡ out.old.items ++ map (slice_index source.now) (range_with_len start count)) }
+{
+    let end = out.len() + count;
+    out.extend_from_slice(part(source, start, count))?;
+    out.resize(end, 0)?;
+    Ok(())
+}
+
+/// Puts a piece over others, which reach as far.
+fn put_over(bytes: &mut [u8], start: usize, piece: &[u8])
+    requires { start + length piece.now ≤ length bytes.old }
+    ensures bytes { bytes.new ≡ put_in start piece.now bytes.old }
+    ensures length { length bytes.new ≡ length bytes.old }
+{
+    bytes[start..start + piece.len()].copy_from_slice(piece);
+}

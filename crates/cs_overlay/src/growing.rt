@@ -1,0 +1,114 @@
+//! Blocks of a file's own, before they are written. Nobody sees them.
+ghost use Rattle.std.specs.Prelude.{◌≡◌, ◌≤◌, ◌<◌, ◌^◌, ℕ, List, Some, length, IfOk, IfSome, IsSome, OnOk};
+ghost use Rattle.std.specs.Ordering.{nat_cmp};
+ghost use Rattle.std.specs.BTreeMap.{get};
+ghost use Rattle.cs_overlay.specs.Patch.{byte_at, block_of, lower_bytes, AreLonger, Reaches};
+
+use crate::block::Block;
+use cs_tree_model::TreeRead;
+use std::alloc::{AllocError, Global};
+use std::collections::BTreeMap;
+
+/// The block as the file shows it where none of its own stands.
+fn shown_block<L: TreeRead>(
+    alloc: Global,
+    lower: &L,
+    number: u64,
+    kept: u64,
+    index: u64,
+) -> Result<Block, AllocError>
+    requires { index < 2 ^ 51 }
+    ensures { IfOk result (λ b. b ≡ block_of (lower_bytes (L.tree lower.now) number) kept index) }
+{
+    let start = index * 4096;
+    let count = kept.saturating_sub(start).min(4096) as usize;
+    let Some(bytes) = lower.read_at(alloc, number, start, count)? else {
+        return Ok(Block::of(Vec::new(alloc)));
+    };
+    Ok(Block::of(bytes))
+}
+
+/// Puts zeros behind a block's bytes, up to a length at least.
+fn lengthen(blocks: &mut BTreeMap<u64, Block>, index: u64, end: usize) -> Result<(), AllocError>
+    ensures longer { AreLonger (get nat_cmp blocks.old) (get nat_cmp blocks.new) }
+    ensures there { OnOk result (IfSome (get nat_cmp blocks.new index) (λ s. end ≤ length s)) }
+{
+    if let Some(block) = blocks.get_mut(&index) {
+        block.lengthen(end)?;
+    }
+    Ok(())
+}
+
+/// Gives the file a block of its own.
+fn own<L: TreeRead>(
+    alloc: Global,
+    lower: &L,
+    number: u64,
+    kept: u64,
+    blocks: &mut BTreeMap<u64, Block>,
+    index: u64,
+) -> Result<(), AllocError>
+    requires { index < 2 ^ 51 }
+    ensures same { (i : ℕ) → byte_at (lower_bytes (L.tree lower.now) number) kept (get nat_cmp blocks.new) i ≡ byte_at (lower_bytes (L.tree lower.now) number) kept (get nat_cmp blocks.old) i }
+    ensures keeps { (a b : ℕ) → Reaches (get nat_cmp blocks.old) a b → Reaches (get nat_cmp blocks.new) a b }
+    ensures there { OnOk result (IsSome (get nat_cmp blocks.new index)) }
+{
+    if blocks.contains_key(&index) {
+        return Ok(());
+    }
+    let block = shown_block(alloc, lower, number, kept, index)?;
+    blocks.insert(index, block)?;
+    Ok(())
+}
+
+/// Gives the file a block of its own which has a length at least.
+fn reach<L: TreeRead>(
+    alloc: Global,
+    lower: &L,
+    number: u64,
+    kept: u64,
+    blocks: &mut BTreeMap<u64, Block>,
+    index: u64,
+    end: usize,
+) -> Result<(), AllocError>
+    requires { index < 2 ^ 51 }
+    ensures same { (i : ℕ) → byte_at (lower_bytes (L.tree lower.now) number) kept (get nat_cmp blocks.new) i ≡ byte_at (lower_bytes (L.tree lower.now) number) kept (get nat_cmp blocks.old) i }
+    ensures keeps { (a b : ℕ) → Reaches (get nat_cmp blocks.old) a b → Reaches (get nat_cmp blocks.new) a b }
+    ensures there { OnOk result ((s : List ℕ) × (get nat_cmp blocks.new index ≡ Some s) × (end ≤ length s)) }
+{
+    own(alloc, lower, number, kept, blocks, index)?;
+    lengthen(blocks, index, end)?;
+    Ok(())
+}
+
+/// Gives the file blocks of its own which reach from one place to another.
+pub fn bring_up<L: TreeRead>(
+    alloc: Global,
+    lower: &L,
+    number: u64,
+    kept: u64,
+    blocks: &mut BTreeMap<u64, Block>,
+    offset: u64,
+    end: u64,
+) -> Result<(), AllocError>
+    requires { end < 2 ^ 63 }
+    ensures same { (i : ℕ) → byte_at (lower_bytes (L.tree lower.now) number) kept (get nat_cmp blocks.new) i ≡ byte_at (lower_bytes (L.tree lower.now) number) kept (get nat_cmp blocks.old) i }
+    ensures there { OnOk result (Reaches (get nat_cmp blocks.new) offset end) }
+{
+    let mut at = offset;
+    while at < end {
+        let index = at / 4096;
+        let stop = end.min((index + 1) * 4096);
+        reach(
+            alloc,
+            lower,
+            number,
+            kept,
+            blocks,
+            index,
+            (stop - index * 4096) as usize,
+        )?;
+        at = stop;
+    }
+    Ok(())
+}

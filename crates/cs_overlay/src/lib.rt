@@ -1,0 +1,20 @@
+//! A tree that changes over a lower one, which is shared and never changes: it keeps what differs and
+//! nothing else.
+#![tactic(auto)]
+
+mod block;
+mod entry;
+mod growing;
+pub mod laws;
+mod listing;
+mod names;
+mod node;
+mod overlay;
+mod patched;
+mod reading;
+mod table;
+#[cfg(test)]
+mod tests;
+mod writing;
+
+pub use overlay::Overlay;

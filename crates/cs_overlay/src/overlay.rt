@@ -1,0 +1,235 @@
+//! A tree over a lower one.
+ghost use Rattle.std.specs.Prelude.{◌≡◌, IfOk};
+ghost use Rattle.std.specs.Arc.{arc_value};
+
+use crate::node::{Node, copied};
+use crate::table::{change, copy_up, make_room, move_name, put, say, say_both, stamp_node, write};
+use crate::{entry, listing};
+use cs_names::{Name, UserName};
+use cs_tree_model::{Change, Entry, Metadata, New, Stamp, TreeRead, TreeStore};
+use std::alloc::{AllocError, Global};
+use std::collections::HashMap;
+use std::marker::Model;
+use std::sync::Arc;
+
+/// A tree that differs from a lower one, which is shared and never changes. It takes memory for what
+/// differs alone: the first change of a file copies what its record says, and no entry of a directory;
+/// a write copies the blocks that it touches. A look-up asks the lower tree at most once.
+#[derive(Drop)]
+pub struct Overlay<L: TreeRead> {
+    lower: Arc<L>,
+    // None: the lower tree's file was taken out
+    nodes: HashMap<u64, Option<Node>>,
+    // the greatest number that was ever given
+    greatest: u64,
+    count: usize,
+}
+
+impl<L: TreeRead> Model for Overlay<L> {
+    ghost use Rattle.std.specs.Arc.{arc_value};
+    ghost use Rattle.std.specs.HashMap as hash;
+    ghost use Rattle.std.specs.Prelude.{◌+◌, nat_eq};
+    ghost use Rattle.cs_tree_model.specs.Tree.{Tree, tree_code};
+    ghost use Rattle.cs_tree_model.specs.Table.{tree_of};
+    ghost use Rattle.cs_overlay.specs.Layers.{layers, IsOver};
+
+    ghost Value = { Tree };
+
+    ghost coded = { tree_code };
+
+    ghost view = { λ a. tree_of (layers (L.tree (arc_value a.lower)) (hash.get nat_eq a.nodes)) (a.greatest + 1) };
+
+    ghost invariant = { λ a. IsOver (L.tree (arc_value a.lower)) (hash.get nat_eq a.nodes) (a.greatest + 1) a.count };
+}
+
+impl<L: TreeRead> Overlay<L> {
+    /// The lower tree, with no changes. It takes no memory.
+    pub fn over(alloc: Global, lower: Arc<L>) -> Overlay<L>
+        ensures { result ≡ L.tree (arc_value lower) }
+    {
+        let greatest = lower.last_number();
+        let count = lower.count();
+        Overlay {
+            lower,
+            nodes: HashMap::new(alloc),
+            greatest,
+            count,
+        }
+    }
+}
+
+impl<L: TreeRead> TreeRead for Overlay<L> {
+    ghost tree = { λ t. t };
+
+    fn record(&self, number: u64) -> Option<Metadata<'_>> {
+        entry::record(&*self.lower, self.nodes.get(&number), number)
+    }
+
+    fn find_number(&self, directory: u64, name: &str) -> Option<u64> {
+        entry::find(&*self.lower, self.nodes.get(&directory), directory, name)
+    }
+
+    fn parent_of(&self, number: u64) -> Option<u64> {
+        entry::parent(&*self.lower, self.nodes.get(&number), number)
+    }
+
+    fn name_of(&self, number: u64) -> Option<&Name> {
+        let nodes = &self.nodes;
+        if number == 0 {
+            return None;
+        }
+        entry::name(&*self.lower, nodes.get(&number), number)
+    }
+
+    fn entry_after(
+        &self,
+        directory: u64,
+        last: Option<&Name>,
+        bound: Option<&Name>,
+    ) -> Option<Entry<'_>> {
+        let entry = self.nodes.get(&directory);
+        listing::entry_after(&*self.lower, entry, directory, last, bound)
+    }
+
+    fn count(&self) -> usize {
+        self.count
+    }
+
+    fn last_number(&self) -> u64 {
+        self.greatest
+    }
+
+    fn read_at(
+        &self,
+        alloc: Global,
+        number: u64,
+        offset: u64,
+        count: usize,
+    ) -> Result<Option<Vec<u8>>, AllocError> {
+        let entry = self.nodes.get(&number);
+        let bytes = entry::read(alloc, &*self.lower, entry, number, offset, count)?;
+        Ok(bytes)
+    }
+}
+
+impl<L: TreeRead> TreeStore for Overlay<L> {
+    fn add(
+        &mut self,
+        alloc: Global,
+        directory: u64,
+        name: Name,
+        new: New,
+        stamp: Stamp,
+    ) -> Result<u64, AllocError> {
+        let number = self.greatest + 1;
+        let Some(count) = self.count.checked_add(1) else {
+            // more than any memory has room for
+            return Err(AllocError);
+        };
+        let Some(above) = self.record(directory) else {
+            return Ok(number);
+        };
+        let group = above.group.try_clone()?;
+        let key = name.try_clone()?;
+        let node = Node::new_file(alloc, number, directory, name, group, new, &stamp)?;
+        make_room(alloc, &*self.lower, &mut self.nodes, directory)?;
+        say(&mut self.nodes, directory, key, Some(number))?;
+        stamp_node(&mut self.nodes, directory, stamp);
+        put(&mut self.nodes, number, Some(node));
+        self.greatest = number;
+        self.count = count;
+        Ok(number)
+    }
+
+    fn remove(&mut self, alloc: Global, number: u64, stamp: Stamp) -> Result<(), AllocError> {
+        let Some(directory) = self.parent_of(number) else {
+            return Ok(());
+        };
+        let Some(name) = self.name_of(number) else {
+            return Ok(());
+        };
+        let name = name.try_clone()?;
+        make_room(alloc, &*self.lower, &mut self.nodes, directory)?;
+        say(&mut self.nodes, directory, name, None)?;
+        stamp_node(&mut self.nodes, directory, stamp);
+        put(&mut self.nodes, number, None);
+        self.count -= 1;
+        Ok(())
+    }
+
+    fn write_at(
+        &mut self,
+        alloc: Global,
+        number: u64,
+        offset: u64,
+        bytes: &[u8],
+        stamp: Stamp,
+    ) -> Result<(), AllocError> {
+        copy_up(alloc, &*self.lower, &mut self.nodes, number)?;
+        write(
+            alloc,
+            &*self.lower,
+            &mut self.nodes,
+            number,
+            offset,
+            bytes,
+            stamp,
+        )?;
+        Ok(())
+    }
+
+    fn change(
+        &mut self,
+        alloc: Global,
+        number: u64,
+        fields: &Change,
+        stamp: Stamp,
+    ) -> Result<(), AllocError> {
+        let group = copied_user(&fields.group)?;
+        let Some(name) = copied(fields.name.as_ref())? else {
+            copy_up(alloc, &*self.lower, &mut self.nodes, number)?;
+            change(&mut self.nodes, number, fields, group, stamp)?;
+            return Ok(());
+        };
+        let Some(directory) = self.parent_of(number) else {
+            return Ok(());
+        };
+        let Some(old) = self.name_of(number) else {
+            return Ok(());
+        };
+        let old = old.try_clone()?;
+        let moment = stamp.try_clone()?;
+        let said = old.try_clone()?;
+        let free = name.try_clone()?;
+        copy_up(alloc, &*self.lower, &mut self.nodes, number)?;
+        say_both(
+            alloc,
+            &*self.lower,
+            &mut self.nodes,
+            directory,
+            number,
+            said,
+            free,
+        )?;
+        change(&mut self.nodes, number, fields, group, moment)?;
+        move_name(
+            &mut self.nodes,
+            directory,
+            number,
+            old.as_str(),
+            name,
+            stamp,
+        );
+        Ok(())
+    }
+}
+
+/// The user's name again, if there is one.
+fn copied_user(name: &Option<UserName>) -> Result<Option<UserName>, AllocError>
+    ensures { IfOk result (λ again. again ≡ name.now) }
+{
+    match name {
+        Some(name) => Ok(Some(name.try_clone()?)),
+        None => Ok(None),
+    }
+}

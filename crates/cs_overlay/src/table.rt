@@ -1,0 +1,264 @@
+//! The nodes of an overlay by their numbers. None at a number: the lower tree's file was taken out.
+ghost use Rattle.std.specs.Prelude.{◌≡◌, ◌≢◌, ◌+◌, ◌<◌, ◌^◌, ℕ, List, nat_eq, Option, None, Some, OnOk, OnErr, IfSome, IsSome, IsSomeAnd, length};
+ghost use Rattle.std.specs.Option.{option_map};
+ghost use Rattle.std.specs.HashMap.{get, spare};
+ghost use Rattle.cs_tree_model.specs.Record.{IsDirectory};
+ghost use Rattle.cs_tree_model.specs.Stores.{changed_record, stamped_write};
+ghost use Rattle.cs_tree_model.specs.Tree.{Tree, content_numbered};
+ghost use Rattle.cs_overlay.specs.Layers.{content_over, found, layers, own_in, step_at, with_answer, with_at, with_name, with_stamp, Alike, AreNodes, CanStampNode, HasNode, IsFileIf, IsNode, IsStep, KeepsNodes, SameLayers, SaysBoth, StepsAt};
+
+use crate::node::Node;
+use cs_names::{Name, UserName};
+use cs_tree_model::{Change, Stamp, TreeRead};
+use std::alloc::{AllocError, Global};
+use std::collections::HashMap;
+
+/// Gives a file a node of the overlay's own. Nobody sees it.
+pub fn copy_up<L: TreeRead>(
+    alloc: Global,
+    lower: &L,
+    nodes: &mut HashMap<u64, Option<Node>>,
+    number: u64,
+) -> Result<(), AllocError>
+    requires { IsSome (layers (L.tree lower.now) (get nat_eq nodes.old) number) }
+    ensures same { SameLayers (L.tree lower.now) (get nat_eq nodes.old) (get nat_eq nodes.new) }
+    ensures keeps { KeepsNodes (get nat_eq nodes.old) (get nat_eq nodes.new) }
+    ensures there { OnOk result (HasNode (get nat_eq nodes.new) number) }
+{
+    if nodes.contains_key(&number) {
+        return Ok(());
+    }
+    if let Some(node) = Node::copy_of(alloc, lower, number)? {
+        nodes.insert(number, Some(node))?;
+    }
+    Ok(())
+}
+
+/// Gives a directory a node of the overlay's own, and the table room for one number more. Nobody sees
+/// it.
+pub fn make_room<L: TreeRead>(
+    alloc: Global,
+    lower: &L,
+    nodes: &mut HashMap<u64, Option<Node>>,
+    directory: u64,
+) -> Result<(), AllocError>
+    requires { IsSome (layers (L.tree lower.now) (get nat_eq nodes.old) directory) }
+    ensures same { SameLayers (L.tree lower.now) (get nat_eq nodes.old) (get nat_eq nodes.new) }
+    ensures there { OnOk result (HasNode (get nat_eq nodes.new) directory) }
+    ensures room { OnOk result (0 < spare nodes.new) }
+{
+    copy_up(alloc, lower, nodes, directory)?;
+    nodes.reserve(1)?;
+    Ok(())
+}
+
+fn say_in(entry: &mut Option<Node>, name: Name, answer: Option<u64>) -> Result<(), AllocError>
+    ensures ok { OnOk result (entry.new ≡ option_map (λ d. with_answer d name answer) entry.old) }
+    ensures err { OnErr result (entry.new ≡ entry.old) }
+{
+    match entry {
+        Some(node) => node.say(name, answer),
+        None => Ok(()),
+    }
+}
+
+/// Says in a directory which file has a name, or that none has it.
+pub fn say(
+    nodes: &mut HashMap<u64, Option<Node>>,
+    directory: u64,
+    name: Name,
+    answer: Option<u64>,
+) -> Result<(), AllocError>
+    ensures ok { OnOk result (Alike (step_at (get nat_eq nodes.old) directory (λ d. with_answer d name answer)) (get nat_eq nodes.new)) }
+    ensures err { OnErr result (Alike (get nat_eq nodes.old) (get nat_eq nodes.new)) }
+    ensures spare { spare nodes.new ≡ spare nodes.old }
+{
+    match nodes.get_mut(&directory) {
+        Some(entry) => say_in(entry, name, answer),
+        None => Ok(()),
+    }
+}
+
+fn stamp_in(entry: &mut Option<Node>, stamp: Stamp)
+    requires { IfSome entry.old (λ d. d.metadata.vers + 1 < 2 ^ 32) }
+    ensures { entry.new ≡ option_map (λ d. with_stamp d stamp) entry.old }
+{
+    if let Some(node) = entry {
+        node.stamp(stamp);
+    }
+}
+
+/// Counts a change of a directory's entries.
+pub fn stamp_node(nodes: &mut HashMap<u64, Option<Node>>, number: u64, stamp: Stamp)
+    requires { CanStampNode (get nat_eq nodes.old) number }
+    ensures step { Alike (step_at (get nat_eq nodes.old) number (λ d. with_stamp d stamp)) (get nat_eq nodes.new) }
+    ensures spare { spare nodes.new ≡ spare nodes.old }
+{
+    if let Some(entry) = nodes.get_mut(&number) {
+        stamp_in(entry, stamp);
+    }
+}
+
+/// Puts a node into the table, which has room for it, or takes the lower tree's file out.
+pub fn put(nodes: &mut HashMap<u64, Option<Node>>, number: u64, node: Option<Node>)
+    requires { 0 < spare nodes.old }
+    ensures { Alike (with_at (get nat_eq nodes.old) number (Some node)) (get nat_eq nodes.new) }
+{
+    match nodes.insert(number, node) {
+        Ok(_) => {}
+        Err(_) => unreachable!(),
+    }
+}
+
+fn write_in<L: TreeRead>(
+    alloc: Global,
+    lower: &L,
+    entry: &mut Option<Node>,
+    number: u64,
+    offset: u64,
+    bytes: &[u8],
+    stamp: Stamp,
+) -> Result<(), AllocError>
+    requires vers { IfSome entry.old (λ d. d.metadata.vers + 1 < 2 ^ 32) }
+    requires some { 0 < length bytes.now }
+    requires room { offset + length bytes.now < 2 ^ 63 }
+    requires node { IfSome entry.old (IsNode (content_numbered (L.tree lower.now) number) number) }
+    ensures ok { OnOk result (IfSome entry.old (λ d. IfSome entry.new (IsStep (content_numbered (L.tree lower.now) number) number (stamped_write offset bytes.now stamp) d))) }
+    ensures err { OnErr result (IfSome entry.old (λ d. IfSome entry.new (IsStep (content_numbered (L.tree lower.now) number) number (λ r. r) d))) }
+    ensures there { IsSome entry.old → IsSome entry.new }
+{
+    match entry {
+        Some(node) => node.write(alloc, lower, number, offset, bytes, stamp),
+        None => Ok(()),
+    }
+}
+
+/// Puts bytes into a file that has a node, and stamps it.
+pub fn write<L: TreeRead>(
+    alloc: Global,
+    lower: &L,
+    nodes: &mut HashMap<u64, Option<Node>>,
+    number: u64,
+    offset: u64,
+    bytes: &[u8],
+    stamp: Stamp,
+) -> Result<(), AllocError>
+    requires there { HasNode (get nat_eq nodes.old) number }
+    requires vers { CanStampNode (get nat_eq nodes.old) number }
+    requires some { 0 < length bytes.now }
+    requires room { offset + length bytes.now < 2 ^ 63 }
+    requires nodes { AreNodes (L.tree lower.now) (get nat_eq nodes.old) }
+    ensures ok { OnOk result (StepsAt (L.tree lower.now) number (stamped_write offset bytes.now stamp) (get nat_eq nodes.old) (get nat_eq nodes.new)) }
+    ensures err { OnErr result (StepsAt (L.tree lower.now) number (λ r. r) (get nat_eq nodes.old) (get nat_eq nodes.new)) }
+{
+    match nodes.get_mut(&number) {
+        Some(entry) => write_in(alloc, lower, entry, number, offset, bytes, stamp),
+        None => Ok(()),
+    }
+}
+
+fn change_in(
+    entry: &mut Option<Node>,
+    fields: &Change,
+    group: Option<UserName>,
+    stamp: Stamp,
+) -> Result<(), AllocError>
+    requires vers { IfSome entry.old (λ d. d.metadata.vers + 1 < 2 ^ 32) }
+    requires group { group ≡ fields.now.group }
+    ensures ok { OnOk result (IfSome entry.old (λ d. IfSome entry.new (λ e. (low : Option (List ℕ)) (n : ℕ) → IsNode low n d → (IsSome fields.now.length → IsSome (content_over low d.body)) → IsStep low n (changed_record fields.now stamp) d e))) }
+    ensures err { OnErr result (IfSome entry.old (λ d. IfSome entry.new (λ e. (low : Option (List ℕ)) (n : ℕ) → IsNode low n d → IsStep low n (λ r. r) d e))) }
+    ensures there { IsSome entry.old → IsSome entry.new }
+{
+    match entry {
+        Some(node) => node.change(fields, group, stamp),
+        None => Ok(()),
+    }
+}
+
+/// Gives a file that has a node the fields of a change but its name: `group` is the change's group.
+pub fn change(
+    nodes: &mut HashMap<u64, Option<Node>>,
+    number: u64,
+    fields: &Change,
+    group: Option<UserName>,
+    stamp: Stamp,
+) -> Result<(), AllocError>
+    requires there { HasNode (get nat_eq nodes.old) number }
+    requires vers { CanStampNode (get nat_eq nodes.old) number }
+    requires group { group ≡ fields.now.group }
+    ensures ok { OnOk result ((t : Tree) → AreNodes t (get nat_eq nodes.old) → IsFileIf fields.now.length t (get nat_eq nodes.old) number → StepsAt t number (changed_record fields.now stamp) (get nat_eq nodes.old) (get nat_eq nodes.new)) }
+    ensures err { OnErr result ((t : Tree) → AreNodes t (get nat_eq nodes.old) → StepsAt t number (λ r. r) (get nat_eq nodes.old) (get nat_eq nodes.new)) }
+    ensures others { (q : ℕ) → q ≢ number → get nat_eq nodes.new q ≡ get nat_eq nodes.old q }
+{
+    match nodes.get_mut(&number) {
+        Some(entry) => change_in(entry, fields, group, stamp),
+        None => Ok(()),
+    }
+}
+
+/// Has a directory say what it says already of a file's name, and of a name that no file has. Nobody
+/// sees it.
+pub fn say_both<L: TreeRead>(
+    alloc: Global,
+    lower: &L,
+    nodes: &mut HashMap<u64, Option<Node>>,
+    directory: u64,
+    number: u64,
+    old: Name,
+    new: Name,
+) -> Result<(), AllocError>
+    requires there { IsSomeAnd (layers (L.tree lower.now) (get nat_eq nodes.old) directory) (λ d. IsDirectory d.file) }
+    requires old { found (L.tree lower.now) (get nat_eq nodes.old) directory old ≡ Some number }
+    requires new { found (L.tree lower.now) (get nat_eq nodes.old) directory new ≡ None }
+    ensures same { SameLayers (L.tree lower.now) (get nat_eq nodes.old) (get nat_eq nodes.new) }
+    ensures keeps { KeepsNodes (get nat_eq nodes.old) (get nat_eq nodes.new) }
+    ensures there { OnOk result (SaysBoth (get nat_eq nodes.new) directory old new) }
+{
+    copy_up(alloc, lower, nodes, directory)?;
+    say(nodes, directory, old, Some(number))?;
+    say(nodes, directory, new, None)?;
+    Ok(())
+}
+
+fn move_in(entry: &mut Option<Node>, old: &str, new: &str, number: u64, stamp: Stamp)
+    requires vers { IfSome entry.old (λ d. d.metadata.vers + 1 < 2 ^ 32) }
+    requires old { IfSome entry.old (λ d. IsSome (own_in d.body old.now)) }
+    requires new { IfSome entry.old (λ d. IsSome (own_in d.body new.now)) }
+    ensures { entry.new ≡ option_map (λ d. with_stamp (with_answer (with_answer d old.now None) new.now (Some number)) stamp) entry.old }
+{
+    if let Some(node) = entry {
+        node.say_again(old, None);
+        node.say_again(new, Some(number));
+        node.stamp(stamp);
+    }
+}
+
+fn name_in(entry: &mut Option<Node>, name: Name)
+    ensures { entry.new ≡ option_map (λ d. with_name d name) entry.old }
+{
+    if let Some(node) = entry {
+        node.name = Some(name);
+    }
+}
+
+/// Gives a file another name in its directory, which says something of both names, and stamps the
+/// directory. It takes no memory.
+pub fn move_name(
+    nodes: &mut HashMap<u64, Option<Node>>,
+    directory: u64,
+    number: u64,
+    old: &str,
+    name: Name,
+    stamp: Stamp,
+)
+    requires vers { CanStampNode (get nat_eq nodes.old) directory }
+    requires said { SaysBoth (get nat_eq nodes.old) directory old.now name }
+    ensures { Alike (step_at (step_at (get nat_eq nodes.old) directory (λ d. with_stamp (with_answer (with_answer d old.now None) name (Some number)) stamp)) number (λ d. with_name d name)) (get nat_eq nodes.new) }
+{
+    if let Some(entry) = nodes.get_mut(&directory) {
+        move_in(entry, old, name.as_str(), number, stamp);
+    }
+    if let Some(entry) = nodes.get_mut(&number) {
+        name_in(entry, name);
+    }
+}

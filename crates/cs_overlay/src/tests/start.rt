@@ -1,0 +1,66 @@
+//! The start tree.
+
+use crate::Overlay;
+use cs_names::{Path, UserName};
+use cs_tree::PlainTree;
+use cs_tree_model::{Content, DMDIR, Record};
+use std::alloc::Global;
+use std::sync::Arc;
+
+/// Number, path, owner, group, mode and bytes of a record; None for a directory.
+pub type Row = (
+    u64,
+    &'static str,
+    &'static [u8],
+    &'static [u8],
+    u32,
+    Option<&'static [u8]>,
+);
+
+pub const START: [Row; 7] = [
+    (0, "/", b"cat", b"staff", DMDIR | 0o775, None),
+    (1, "/d", b"ann", b"staff", DMDIR | 0o755, None),
+    (2, "/d/s", b"ann", b"ann", DMDIR | 0o700, None),
+    (3, "/d/s/z", b"ann", b"ann", 0o644, Some(b"")),
+    (4, "/f", b"ann", b"staff", 0o664, Some(b"hello")),
+    (5, "/n", b"none", b"none", 0o600, Some(b"")),
+    (6, "/p", b"ann", b"staff", DMDIR | 0o750, None),
+];
+
+pub fn record(alloc: Global, row: &Row) -> Option<(Path, Record)> {
+    let (number, path, owner, group, mode, bytes) = *row;
+    let content = match bytes {
+        None => Content::directory(),
+        Some(bytes) => Content::file(Vec::from_slice(alloc, bytes).ok()?),
+    };
+    let record = Record {
+        number,
+        vers: 0,
+        owner: UserName::read(alloc, owner).ok()?,
+        group: UserName::read(alloc, group).ok()?,
+        mode,
+        atime: 0,
+        mtime: 0,
+        muid: UserName::read(alloc, owner).ok()?,
+        content,
+    };
+    Some((Path::read(alloc, path).ok()?, record))
+}
+
+pub fn records(alloc: Global, rows: &[Row]) -> Option<Vec<(Path, Record)>> {
+    let mut records = Vec::new(alloc);
+    for row in rows {
+        records.push(record(alloc, row)?).ok()?;
+    }
+    Some(records)
+}
+
+pub fn plain_tree(alloc: Global) -> Option<Arc<PlainTree>> {
+    let tree = PlainTree::try_from_records(alloc, records(alloc, &START)?).ok()?;
+    Arc::new(alloc, tree).ok()
+}
+
+/// The start tree with nothing over it yet.
+pub fn start_tree(alloc: Global) -> Option<Overlay<PlainTree>> {
+    Some(Overlay::over(alloc, plain_tree(alloc)?))
+}
