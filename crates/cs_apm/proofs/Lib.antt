@@ -1,0 +1,14 @@
+pub mod Words
+pub mod Finding
+pub mod Filling
+pub mod Tables
+pub mod Reaching
+pub mod FromRules
+pub mod Admitting
+pub mod Ordering
+pub mod Folding
+pub mod Contents
+pub mod Before
+pub mod Listing
+pub mod Standing
+pub mod Building

@@ -1,0 +1,5 @@
+use Rattle.cs_apm.specs.Rows.{AreSynced}
+use Rattle.cs_apm.proofs.found.first_syncs.Given as goal
+
+abbrev pub invariant-loop-i : goal.invariant-loop-i
+invariant-loop-i l = AreSynced l.ops l.syncs l.i l.found.items

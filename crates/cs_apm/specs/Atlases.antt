@@ -1,0 +1,82 @@
+-- What is found once of a trace, for the states of all its sets.
+use Rattle.std.specs.Prelude.{◌≡◌, ◌<◌, ℕ, ◌++◌, Bool, List, [], Some, None, length, map, slice_get, slice_index_or}
+use Rattle.std.specs.List.{All, Contains, list_any}
+use Rattle.cs_tree_model.specs.declared.record.Record.{Record}
+use Rattle.cs_tree_model.specs.Tree.{Path}
+use Rattle.cs_trace.specs.declared.operation.Rights.{Rights}
+use Rattle.cs_trace.specs.Operations.{AreNested}
+use Rattle.cs_trace.specs.Traces.{Trace, start_paths}
+use Rattle.cs_micro.specs.declared.micro_op.MicroOp.{MicroOp}
+use Rattle.cs_apm.specs.Contents.{IsSmall, changes}
+use Rattle.cs_apm.specs.Legal.{AreLegalSteps}
+use Rattle.cs_apm.specs.Rules.{op_at, touched}
+use Rattle.cs_apm.specs.States.{Content, content_at, content_of, created, no_content, owners_of, start_state, state_of}
+use Rattle.cs_apm.specs.Slots.{AreAscending, AreKnown, AreKnownSteps, AreSteps, Mirror}
+use Rattle.cs_apm.specs.declared.atlas.Tables.{Tables}
+use Rattle.cs_apm.specs.declared.slot.Slot.{Slot}
+use Rattle.cs_apm.specs.declared.slot.Step.{Step}
+
+-- every path that ever stands, in order; what stands there at the start; what each micro-operation does
+-- there; owner, group and permissions of the directories and of the files; where the record of each of
+-- the start's files stands; which files an operation changes
+pub record Atlas : Type 0 where
+  pub paths : List Path
+  pub slots : List Slot
+  pub steps : List Step
+  pub rights : List Rights
+  pub owners : List Rights
+  pub starts : List ℕ
+  pub changed : List Bool
+
+-- a record that no place has
+abbrev pub no_record : Path × Record
+no_record = ([], record { number = 0; vers = 0; owner = []; group = []; mode = 0; atime = 0; mtime = 0; muid = []; content = None })
+
+-- the record of each of the start's files has its content
+pub record AreStarts (t : Trace) (starts : List ℕ) : Type 0 where
+  pub long : length starts ≡ length t.files
+  pub each : (n : ℕ) → n < length starts → slice_index_or starts n 0 < length t.records
+  pub content : (n : ℕ) → n < length starts → content_of (slice_index_or t.records (slice_index_or starts n 0) no_record).1 ≡ content_at t.records (slice_index_or t.files n [])
+
+-- the flags of the files that an operation changes
+pub record AreChanged (ops : List MicroOp) (n : ℕ) (changed : List Bool) : Type 0 where
+  pub long : length changed ≡ n
+  pub each : (file : ℕ) (flag : Bool) → slice_get changed file ≡ Some flag → flag ≡ list_any (changes file) ops
+
+-- the atlas is of the trace, whose micro-operations these are
+pub record IsAtlas (t : Trace) (ops : List MicroOp) (a : Atlas) : Type 0 where
+  pub ascending : AreAscending a.paths
+  pub long : length a.slots ≡ length a.paths
+  pub start : Mirror a.rights a.paths a.slots (start_state t).paths
+  pub steps : AreSteps a.rights a.paths ops a.steps
+  pub known : AreKnown (length a.rights) (length a.owners) a.slots
+  pub known_steps : AreKnownSteps (length a.slots) (length a.rights) (length a.owners) a.steps
+  pub owners : a.owners ≡ owners_of t ops
+  pub starts : AreStarts t a.starts
+  pub changed : AreChanged ops (length (owners_of t ops)) a.changed
+  pub nested : AreNested (start_paths t)
+  pub legal : AreLegalSteps (start_paths t) ops
+  pub small : All IsSmall ops
+
+-- the files after the members of a set
+unfoldable pub files_left : Trace → List MicroOp → List ℕ → List Content
+files_left t ops places = (state_of (start_state t) ops places).files
+
+-- the file of the number at the start, or as it is made
+abbrev pub content_before : Trace → List MicroOp → ℕ → Content
+content_before t ops n = slice_index_or (map (content_at t.records) t.files ++ created ops) n no_content
+
+-- the tables of an atlas, lent
+abbrev pub lent : Tables → Atlas
+lent t = record { paths = t.paths.now; slots = t.slots.now; steps = t.steps.now; rights = t.rights.now; owners = t.owners.now; starts = t.starts.now; changed = t.changed.now }
+
+-- the paths of the first n records are among these
+abbrev pub HasFirst : List Path → List (Path × Record) → ℕ → Type 0
+HasFirst paths records n = (k : ℕ) → k < n → Contains paths (slice_index_or records k no_record).0
+
+-- the paths that a micro-operation touches are among these
+abbrev pub HasTouched : List Path → MicroOp → Type 0
+HasTouched paths o = (p : Path) → Contains (touched o) p → Contains paths p
+
+abbrev pub HasAllTouched : List Path → List MicroOp → ℕ → Type 0
+HasAllTouched paths ops n = (k : ℕ) → k < n → HasTouched paths (op_at ops k)

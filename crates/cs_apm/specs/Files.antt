@@ -1,0 +1,12 @@
+-- What is known of the files of a trace by their numbers.
+use Rattle.std.specs.Prelude.{◌≡◌, List, length}
+use Rattle.cs_trace.specs.Traces.{Trace}
+use Rattle.cs_micro.specs.declared.micro_op.MicroOp.{MicroOp}
+use Rattle.cs_apm.specs.Atlases.{AreChanged, AreStarts}
+use Rattle.cs_apm.specs.States.{owners_of}
+use Rattle.cs_apm.specs.declared.making.Files.{Files}
+
+pub record AreFiles (t : Trace) (ops : List MicroOp) (files : Files) : Type 0 where
+  pub owners : files.owners.now ≡ owners_of t ops
+  pub starts : AreStarts t files.starts.now
+  pub changed : AreChanged ops (length (owners_of t ops)) files.changed.now

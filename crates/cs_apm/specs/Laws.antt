@@ -1,0 +1,15 @@
+pub mod Chains
+pub mod Paths
+pub mod Reasons
+pub mod Search
+pub mod One
+pub mod Shown
+pub mod Nested
+pub mod Members
+pub mod Allowed
+pub mod Steps
+pub mod Trees
+pub mod Starts
+pub mod Mirrors
+pub mod Small
+pub mod Ascents

@@ -1,0 +1,202 @@
+-- The rules as tests say what they say as sentences.
+use Rattle.std.proofs.Common.{◌≡◌, ◌<◌, ◌≤◌, ◌⊎◌, inl, inr, ℕ, ◌+◌, ◌-◌, ◌&&◌, ◌||◌, ◌==◌, not, true, false, List, refl, sym, ap, ◌∙◌, subst, arith, ⊎_elim}
+use Rattle.std.proofs.lemmas.Bool.{cases_Bool, false≢true, and_parts, and_from, or_cases, or_left, or_right, eqb-true, eq-eqb, lt-ltb, not-true}
+use Rattle.std.specs.Prelude.{nat_lt, nat_le, ◌↔◌}
+use Rattle.std.specs.List.{Contains, list_any}
+use Rattle.cs_names.specs.Paths.{path_eq}
+use Rattle.cs_tree_model.specs.Tree.{Path, parent_path}
+use Rattle.cs_trace.specs.declared.operation.Covers.{Covers}
+use Rattle.cs_trace.specs.declared.operation.Covers.TheVariants as covers
+use Rattle.cs_micro.specs.declared.micro_op.EntryKind.TheVariants as kinds
+use Rattle.cs_micro.specs.declared.micro_op.MicroOp.{MicroOp}
+use Rattle.cs_micro.specs.declared.micro_op.MicroOp.TheVariants.{CreateDirEntry, DeleteDirEntry, MoveDirEntry, ChangeFileSize, WriteBlock, Say}
+use Rattle.cs_micro.specs.declared.sync_point.SyncPoint.{SyncPoint}
+use Rattle.cs_apm.specs.Rules.{between, both_say, creates, empties, is_covered, is_latest, is_synced, makes_parent, needs, op_at, pair_needs, same_place, shares_path, touched, touches, touches_entry_of}
+use Rattle.cs_apm.specs.Reasons.{ChangesSize, Creates, IsCovered, IsLatestCreate, IsSyncedBetween, Needs, Reason, Touches, TouchesEntryOf, WritesBlock, writes_one_block, resizes_one_file, touches_one_path, makes_directory, empties_directory, is_waited_for, tells_after}
+use Rattle.cs_apm.specs.Laws.Paths.{any_between, any_found, any_from, none_between, path_from_eq, same_path}
+
+-- ---- one operation
+
+pub touches_says : (o : MicroOp) (p : Path) → touches o p ≡ true → Touches o p
+touches_says o p h = (let w = any_found (λ q. path_eq q p) (touched o) h in subst (Contains (touched o)) (path_from_eq w.0 p w.2) w.1)
+
+pub says_touches : (o : MicroOp) (p : Path) → Touches o p → touches o p ≡ true
+says_touches o p there = any_from (λ q. path_eq q p) (touched o) p there (same_path p)
+
+entry_says : (o : MicroOp) (d : Path) → touches_entry_of o d ≡ true → TouchesEntryOf o d
+entry_says o d h = (let w = any_found (λ p. path_eq d (parent_path p)) (touched o) h in record { path = w.0; touching = w.1; parent = sym (path_from_eq d (parent_path w.0) w.2) })
+
+says_entry : (o : MicroOp) (d : Path) → TouchesEntryOf o d → touches_entry_of o d ≡ true
+says_entry o d w = any_from (λ p. path_eq d (parent_path p)) (touched o) w.path w.touching (ap (path_eq d) w.parent ∙ same_path d)
+
+pub creates_says : (o : MicroOp) (p : Path) → creates o p ≡ true → Creates o p
+creates_says (CreateDirEntry q node rights) p h = (node, rights, ap (λ r. CreateDirEntry r node rights) (path_from_eq q p h))
+creates_says (DeleteDirEntry q kind) p h = absurd (false≢true h)
+creates_says (MoveDirEntry q r) p h = absurd (false≢true h)
+creates_says (ChangeFileSize file size) p h = absurd (false≢true h)
+creates_says (WriteBlock file block at bytes) p h = absurd (false≢true h)
+creates_says Say p h = absurd (false≢true h)
+
+pub says_creates : (o : MicroOp) (p : Path) → Creates o p → creates o p ≡ true
+says_creates o p c = ap (λ w. creates w p) c.2 ∙ same_path p
+
+-- ---- the rules that look at the two alone
+
+abbrev OneBlock : MicroOp → MicroOp → Type 0
+OneBlock a b = (file : ℕ) × (block : ℕ) × WritesBlock a file block × WritesBlock b file block
+
+abbrev OneFile : MicroOp → MicroOp → Type 0
+OneFile a b = (file : ℕ) × ChangesSize a file × ChangesSize b file
+
+place_says : (a b : MicroOp) → same_place a b ≡ true → OneBlock a b ⊎ OneFile a b
+place_says (WriteBlock file block at bytes) (WriteBlock other number from more) h =
+    let parts = and_parts (file == other) (block == number) h in
+    let f = sym (eqb-true file other parts.0) in
+    let b = sym (eqb-true block number parts.1) in
+    inl (file, block, (at, bytes, refl), (from, more, λ w. WriteBlock (f w) (b w) from more))
+place_says (ChangeFileSize file to) (ChangeFileSize other size) h =
+    inr (file, (to, refl), (size, ap (λ w. ChangeFileSize w size) (sym (eqb-true file other h))))
+place_says a b h = absurd (false≢true h)
+
+block_place : (a b : MicroOp) (file block : ℕ) → WritesBlock a file block → WritesBlock b file block → same_place a b ≡ true
+block_place a b file block x y = (λ w. same_place (x.2 w) (y.2 w)) ∙ and_from (file == file) (block == block) (eq-eqb file file refl) (eq-eqb block block refl)
+
+size_place : (a b : MicroOp) (file : ℕ) → ChangesSize a file → ChangesSize b file → same_place a b ≡ true
+size_place a b file x y = (λ w. same_place (x.1 w) (y.1 w)) ∙ eq-eqb file file refl
+
+empties_says : (a b : MicroOp) → empties a b ≡ true → (d : Path) × (b ≡ DeleteDirEntry d kinds.Directory) × TouchesEntryOf a d
+empties_says a (DeleteDirEntry d kinds.Directory) h = (d, refl, entry_says a d h)
+empties_says a b h = absurd (false≢true h)
+
+say_says : (a b : MicroOp) → both_say a b ≡ true → (a ≡ Say) × (b ≡ Say)
+say_says Say Say h = (refl, refl)
+say_says a b h = absurd (false≢true h)
+
+-- ---- a sync
+
+covered_says : (c : Covers) (o : MicroOp) → is_covered c o ≡ true → IsCovered c o
+covered_says covers.All o h = tt
+covered_says (covers.File file) (WriteBlock other block at bytes) h = inl (block, (at, bytes, ap (λ w. WriteBlock w block at bytes) (sym (eqb-true file other h))))
+covered_says (covers.File file) (ChangeFileSize other size) h = inr (size, ap (λ w. ChangeFileSize w size) (sym (eqb-true file other h)))
+covered_says (covers.File file) (CreateDirEntry q node rights) h = absurd (false≢true h)
+covered_says (covers.File file) (DeleteDirEntry q kind) h = absurd (false≢true h)
+covered_says (covers.File file) (MoveDirEntry q r) h = absurd (false≢true h)
+covered_says (covers.File file) Say h = absurd (false≢true h)
+covered_says (covers.Directory d) o h = entry_says o d h
+
+says_covered : (c : Covers) (o : MicroOp) → IsCovered c o → is_covered c o ≡ true
+says_covered covers.All o h = refl
+says_covered (covers.File file) o h = ⊎_elim
+    (λ (w : (block : ℕ) × WritesBlock o file block). ap (is_covered (covers.File file)) w.1.2 ∙ eq-eqb file file refl)
+    (λ (s : ChangesSize o file). ap (is_covered (covers.File file)) s.1 ∙ eq-eqb file file refl)
+    h
+says_covered (covers.Directory d) o h = says_entry o d h
+
+le_says : (m n : ℕ) → nat_le m n ≡ true → m ≤ n
+le_says m n h = grind (arith, h)
+
+says_le : (m n : ℕ) → m ≤ n → nat_le m n ≡ true
+says_le m n h = grind (arith, h)
+
+lt_says : (m n : ℕ) → nat_lt m n ≡ true → m < n
+lt_says m n h = grind (arith, h)
+
+module _ (ops : List MicroOp) (syncs : List SyncPoint) (i j : ℕ) where
+  synced_says : is_synced syncs i j (op_at ops i) ≡ true → IsSyncedBetween ops syncs i j
+  synced_says h =
+      let w = any_found (λ (s : SyncPoint). (nat_lt i s.at && nat_le s.at j) && is_covered s.covers (op_at ops i)) syncs h in
+      let parts = and_parts (nat_lt i w.0.at && nat_le w.0.at j) (is_covered w.0.covers (op_at ops i)) w.2 in
+      let times = and_parts (nat_lt i w.0.at) (nat_le w.0.at j) parts.0 in
+      record { point = w.0; there = w.1; behind = lt_says i w.0.at times.0; ahead = le_says w.0.at j times.1; covered = covered_says w.0.covers (op_at ops i) parts.1 }
+
+  says_synced : IsSyncedBetween ops syncs i j → is_synced syncs i j (op_at ops i) ≡ true
+  says_synced w = any_from (λ (s : SyncPoint). (nat_lt i s.at && nat_le s.at j) && is_covered s.covers (op_at ops i)) syncs w.point w.there
+      (and_from (nat_lt i w.point.at && nat_le w.point.at j) (is_covered w.point.covers (op_at ops i))
+      (and_from (nat_lt i w.point.at) (nat_le w.point.at j) (lt-ltb i w.point.at w.behind) (says_le w.point.at j w.ahead))
+      (says_covered w.point.covers (op_at ops i) w.covered))
+
+  -- ---- the latest create
+
+  pub latest_says : (p : Path) → is_latest ops i j p ≡ true → IsLatestCreate ops i j p
+  unfolding is_latest
+  latest_says p h =
+      let t = λ (k : ℕ). creates (op_at ops k) p in
+      let parts = and_parts (creates (op_at ops i) p) (not (list_any t (between i j))) h in
+      record {
+        made = creates_says (op_at ops i) p parts.0;
+        last = λ k low high c. false≢true (sym (not-true (list_any t (between i j)) parts.1) ∙ any_between t (i + 1) (j - (i + 1)) k (omega (arith, low)) (omega (arith, low, high)) (says_creates (op_at ops k) p c));
+      }
+
+  pub says_latest : (p : Path) → IsLatestCreate ops i j p → is_latest ops i j p ≡ true
+  unfolding is_latest
+  says_latest p w =
+      let t = λ (k : ℕ). creates (op_at ops k) p in
+      and_from (creates (op_at ops i) p) (not (list_any t (between i j))) (says_creates (op_at ops i) p w.made)
+      (ap not (none_between t (i + 1) (j - (i + 1)) (λ k low high. ⊎_elim
+      (λ (yes : t k ≡ true). absurd (w.last k (omega (arith, low)) (omega (arith, low, high)) (creates_says (op_at ops k) p yes)))
+      (λ (none : t k ≡ false). none)
+      (cases_Bool (t k)))))
+
+  -- ---- all of them
+
+  abbrev a : MicroOp
+  a = op_at ops i
+
+  abbrev b : MicroOp
+  b = op_at ops j
+
+  pair_says : pair_needs a b ≡ true → Reason ops syncs i j
+  pair_says h = ⊎_elim
+      (λ (first : (same_place a b || shares_path a b || empties a b) ≡ true). ⊎_elim
+      (λ (second : (same_place a b || shares_path a b) ≡ true). ⊎_elim
+      (λ (place : same_place a b ≡ true). ⊎_elim
+      (λ (w : OneBlock a b). writes_one_block w.0 w.1 w.2 w.3)
+      (λ (w : OneFile a b). resizes_one_file w.0 w.1 w.2)
+      (place_says a b place))
+      (λ (path : shares_path a b ≡ true). (let w = any_found (touches a) (touched b) path in touches_one_path w.0 (touches_says a w.0 w.2) w.1))
+      (or_cases (same_place a b) (shares_path a b) second))
+      (λ (gone : empties a b ≡ true). (let w = empties_says a b gone in empties_directory w.0 w.1 w.2))
+      (or_cases (same_place a b || shares_path a b) (empties a b) first))
+      (λ (say : both_say a b ≡ true). (let w = say_says a b say in tells_after w.0 w.1))
+      (or_cases (same_place a b || shares_path a b || empties a b) (both_say a b) h)
+
+  pub needs_says : needs ops syncs i j ≡ true → Needs ops syncs i j
+  unfolding needs
+  needs_says h =
+      let parts = and_parts (nat_lt i j) (pair_needs a b || makes_parent ops i j || is_synced syncs i j a) h in
+      record {
+        before = lt_says i j parts.0;
+        reason = ⊎_elim
+            (λ (first : (pair_needs a b || makes_parent ops i j) ≡ true). ⊎_elim
+            pair_says
+            (λ (made : makes_parent ops i j ≡ true). (let w = any_found (λ p. is_latest ops i j (parent_path p)) (touched b) made in makes_directory w.0 w.1 (latest_says (parent_path w.0) w.2)))
+            (or_cases (pair_needs a b) (makes_parent ops i j) first))
+            (λ (synced : is_synced syncs i j a ≡ true). is_waited_for (synced_says synced))
+            (or_cases (pair_needs a b || makes_parent ops i j) (is_synced syncs i j a) parts.1);
+      }
+
+  by_pair : pair_needs a b ≡ true → (pair_needs a b || makes_parent ops i j || is_synced syncs i j a) ≡ true
+  by_pair h = or_left (pair_needs a b || makes_parent ops i j) (is_synced syncs i j a) (or_left (pair_needs a b) (makes_parent ops i j) h)
+
+  by_place : same_place a b ≡ true → (pair_needs a b || makes_parent ops i j || is_synced syncs i j a) ≡ true
+  by_place h = by_pair (or_left (same_place a b || shares_path a b || empties a b) (both_say a b) (or_left (same_place a b || shares_path a b) (empties a b) (or_left (same_place a b) (shares_path a b) h)))
+
+  says_reason : Reason ops syncs i j → (pair_needs a b || makes_parent ops i j || is_synced syncs i j a) ≡ true
+  says_reason (writes_one_block file block x y) = by_place (block_place a b file block x y)
+  says_reason (resizes_one_file file x y) = by_place (size_place a b file x y)
+  says_reason (touches_one_path p x y) = by_pair (or_left (same_place a b || shares_path a b || empties a b) (both_say a b) (or_left (same_place a b || shares_path a b) (empties a b) (or_right (same_place a b) (shares_path a b)
+      (any_from (touches a) (touched b) p y (says_touches a p x)))))
+  says_reason (makes_directory p touching latest) = or_left (pair_needs a b || makes_parent ops i j) (is_synced syncs i j a) (or_right (pair_needs a b) (makes_parent ops i j)
+      (any_from (λ q. is_latest ops i j (parent_path q)) (touched b) p touching (says_latest (parent_path p) latest)))
+  says_reason (empties_directory d gone w) = by_pair (or_left (same_place a b || shares_path a b || empties a b) (both_say a b) (or_right (same_place a b || shares_path a b) (empties a b)
+      (ap (empties a) gone ∙ says_entry a d w)))
+  says_reason (is_waited_for w) = or_right (pair_needs a b || makes_parent ops i j) (is_synced syncs i j a) (says_synced w)
+  says_reason (tells_after x y) = by_pair (or_right (same_place a b || shares_path a b || empties a b) (both_say a b) (λ w. both_say (x w) (y w)))
+
+  pub says_needs : Needs ops syncs i j → needs ops syncs i j ≡ true
+  unfolding needs
+  says_needs w = and_from (nat_lt i j) (pair_needs a b || makes_parent ops i j || is_synced syncs i j a) (lt-ltb i j w.before) (says_reason w.reason)
+
+-- the tests are the sentences
+pub needs_exactly : (ops : List MicroOp) (syncs : List SyncPoint) (i j : ℕ) → (needs ops syncs i j ≡ true) ↔ Needs ops syncs i j
+needs_exactly ops syncs i j = (needs_says ops syncs i j, says_needs ops syncs i j)

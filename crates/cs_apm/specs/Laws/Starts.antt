@@ -1,0 +1,44 @@
+-- The entries at a trace's start stand where its nodes do; and the state of each allowed set is a tree.
+use Rattle.std.proofs.Common.{◌≡◌, ℕ, cond, List, [], ◌∷◌, Some, refl, sym, ap, ◌∙◌, subst, map, length}
+use Rattle.std.specs.FinMap.{find, get-from_entries, same_map}
+use Rattle.std.specs.List.{zip}
+use Rattle.std.specs.Option.{option_map}
+use Rattle.std.specs.Ordering.{eq_by_cmp}
+use Rattle.cs_tree_model.specs.declared.record.Record.{Record}
+use Rattle.cs_tree_model.specs.Laws.Paths.{path_exact, path_total}
+use Rattle.cs_tree_model.specs.Tree.{IsTree, Path, path_cmp}
+use Rattle.cs_trace.specs.declared.operation.Node.{Node}
+use Rattle.cs_trace.specs.Operations.{AreLegal, AreNested}
+use Rattle.cs_trace.specs.Traces.{Trace, standing, start_paths, start_sizes}
+use Rattle.cs_micro.specs.Micros.{micros_in}
+use Rattle.cs_apm.specs.Legal.{AreLegalSteps}
+use Rattle.cs_apm.specs.Orders.{needs_of}
+use Rattle.cs_apm.specs.Sets.{IsAllowed}
+use Rattle.cs_apm.specs.States.{crash_state_of, owners_of, rights_of, start_entries, start_entry, start_state}
+use Rattle.cs_apm.specs.Laws.Steps.{legal_steps}
+use Rattle.cs_apm.specs.Laws.Trees.{chosen, get_nodes, node_made, node_of, nodes_in, state_is_tree}
+
+find_start : (q : Path) (records : List (Path × Record)) (nodes : List Node)
+    → option_map node_of (find path_cmp q (map (λ x. (x.0.0, start_entry x.1 x.0.1)) (zip records nodes))) ≡ find path_cmp q (zip (map (λ e. e.0) records) nodes)
+find_start q [] nodes = refl
+find_start q (e ∷ es) [] = refl
+find_start q (e ∷ es) (n ∷ ns) =
+    chosen (eq_by_cmp path_cmp q e.0) (Some (start_entry n e.1)) (find path_cmp q (map (λ x. (x.0.0, start_entry x.1 x.0.1)) (zip es ns)))
+    ∙ (λ w. cond (eq_by_cmp path_cmp q e.0) (Some (node_made n (rights_of e.1) w)) (find_start q es ns w))
+
+pub start_nodes : (records : List (Path × Record)) (nodes : List Node) → nodes_in (start_entries records nodes) ≡ standing records nodes
+start_nodes records nodes = same_map path_total path_exact (nodes_in (start_entries records nodes)) (standing records nodes) (λ q.
+    get_nodes (start_entries records nodes) q
+    ∙ ap (option_map node_of) (get-from_entries path_total (map (λ x. (x.0.0, start_entry x.1 x.0.1)) (zip records nodes)) q)
+    ∙ find_start q records nodes
+    ∙ sym (get-from_entries path_total (zip (map (λ e. e.0) records) nodes) q))
+
+module _ (t : Trace) (nested : AreNested (start_paths t)) (legal : AreLegal (start_paths t) (start_sizes t) t.operations) where
+  pub nested_start : AreNested (nodes_in (start_state t).paths)
+  nested_start = subst AreNested (sym (start_nodes t.records t.nodes)) nested
+
+  pub legal_start : AreLegalSteps (nodes_in (start_state t).paths) (micros_in t).ops
+  legal_start = subst (λ m. AreLegalSteps m (micros_in t).ops) (sym (start_nodes t.records t.nodes)) (legal_steps (start_paths t) (start_sizes t) t.operations legal)
+
+  pub crash_states_are_trees : (places : List ℕ) → IsAllowed (needs_of (micros_in t)) (length (micros_in t).ops) places → IsTree (crash_state_of t (micros_in t) places)
+  crash_states_are_trees places allowed = state_is_tree (owners_of t (micros_in t).ops) (start_state t) (micros_in t).ops (micros_in t).syncs places nested_start legal_start allowed

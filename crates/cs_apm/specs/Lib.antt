@@ -1,0 +1,14 @@
+pub mod Bits
+pub mod Rules
+pub mod Reasons
+pub mod Chains
+pub mod Sets
+pub mod Orders
+pub mod Rows
+pub mod Legal
+pub mod States
+pub mod Contents
+pub mod Slots
+pub mod Atlases
+pub mod Files
+pub mod Laws

@@ -1,0 +1,132 @@
+//! What is in a file of a crash state: its size, and its bytes with those that are hidden past it.
+ghost use Rattle.std.specs.Prelude.{◌≡◌, ℕ, ◌+◌, ◌<◌, ◌≤◌, List, length, OnOk, IfOk};
+ghost use Rattle.std.specs.List.{All};
+ghost use Rattle.cs_apm.specs.Contents.{IsSmall, change, changes, content_after, content_left};
+ghost use Rattle.cs_apm.specs.States.{overwritten, padded, put, resized, visible};
+
+use cs_micro::{BLOCK_BYTES, MicroOp};
+use cs_names::limits::FILE_BYTES;
+use std::alloc::AllocError;
+use std::marker::Model;
+
+/// What is in a file. Contracts see its size, and its bytes from the first on; those past the size are
+/// hidden.
+#[derive(Debug, Drop)]
+pub struct FileContent {
+    size: u64,
+    bytes: Vec<u8>,
+}
+
+impl Model for FileContent {
+    ghost use Rattle.cs_apm.specs.States.{Content, content_code};
+
+    ghost Value = { Content };
+
+    ghost coded = { content_code };
+
+    ghost view = { λ content. record { size = content.size; bytes = content.bytes.items } };
+}
+
+impl FileContent {
+    /// These bytes, none of them hidden.
+    pub fn of(bytes: Vec<u8>) -> FileContent
+        ensures { result ≡ record { size = length bytes.items; bytes = bytes.items } }
+    {
+        FileContent {
+            size: bytes.len() as u64,
+            bytes,
+        }
+    }
+
+    /// Changes the size. A size that shrinks drops every byte past it, hidden ones too.
+    fn resize(&mut self, size: u64)
+        ensures { self.new ≡ resized size self.old }
+    {
+        if size < self.size {
+            self.bytes.truncate(size as usize);
+        }
+        self.size = size;
+    }
+
+    /// Places bytes at an offset, whatever the size. Bytes that nothing wrote are zero.
+    fn overwrite(&mut self, at: usize, piece: &[u8]) -> Result<(), AllocError>
+        requires { at + length piece.now ≤ FILE_BYTES }
+        ensures { OnOk result (self.new ≡ overwritten at piece.now self.old) }
+    {
+        pad(&mut self.bytes, at + piece.len())?;
+        put_at(&mut self.bytes, at, piece);
+        Ok(())
+    }
+
+    /// What the micro-operation does to the file, if it is the file's.
+    fn change(&mut self, op: &MicroOp) -> Result<(), AllocError>
+        requires { IsSmall op.now }
+        ensures { OnOk result (self.new ≡ change self.old op.now) }
+    {
+        match op {
+            MicroOp::ChangeFileSize { length, .. } => self.resize(*length),
+            MicroOp::WriteBlock {
+                block,
+                at,
+                bytes,
+                ..
+            } => self.overwrite((*block * BLOCK_BYTES + *at) as usize, bytes.as_slice())?,
+            _ => {}
+        }
+        Ok(())
+    }
+
+    /// Takes the members of a set that change the file of this number, in their order.
+    pub fn take(&mut self, file: u32, ops: &[MicroOp], places: &[u32]) -> Result<(), AllocError>
+        requires small { All IsSmall ops.now }
+        requires inside { All (λ place. place < length ops.now) places.now }
+        ensures { OnOk result (self.new ≡ content_left file self.old ops.now places.now) }
+    {
+        for place in places {
+            let op = &ops[*place as usize];
+            if changes(file, op) {
+                self.change(op)?;
+            }
+        }
+        Ok(())
+    }
+
+    /// The bytes up to the size; those that nothing wrote are zero.
+    pub fn into_visible(self) -> Result<Vec<u8>, AllocError>
+        ensures { IfOk result (λ bytes. bytes.items ≡ visible self) }
+    {
+        let mut bytes = self.bytes;
+        bytes.truncate(self.size as usize);
+        bytes.resize(self.size as usize, 0)?;
+        Ok(bytes)
+    }
+}
+
+/// Fills the bytes up with zeros, where they end before the end.
+fn pad(bytes: &mut Vec<u8>, end: usize) -> Result<(), AllocError>
+    ensures { OnOk result (bytes.new.items ≡ padded end bytes.old.items) }
+{
+    if bytes.len() < end {
+        bytes.resize(end, 0)?;
+    }
+    Ok(())
+}
+
+/// Puts the piece over the bytes from an offset on.
+fn put_at(bytes: &mut [u8], at: usize, piece: &[u8])
+    requires { at + length piece.now ≤ length bytes.old }
+    ensures { bytes.new ≡ put at piece.now bytes.old }
+{
+    bytes[at..at + piece.len()].copy_from_slice(piece);
+}
+
+/// Whether the micro-operation changes the file of the number.
+pub fn changes(file: u32, op: &MicroOp) -> bool
+    ensures { result ≡ changes file op.now }
+{
+    match op {
+        MicroOp::ChangeFileSize { file: other, .. } => *other == file,
+        MicroOp::WriteBlock { file: other, .. } => *other == file,
+        _ => false,
+    }
+}

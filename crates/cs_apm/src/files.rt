@@ -1,0 +1,87 @@
+//! The files of a crash state.
+ghost use Rattle.std.specs.Prelude.{◌≡◌, ◌<◌, length, IfOk, slice_index_or};
+ghost use Rattle.std.specs.List.{All};
+ghost use Rattle.cs_apm.specs.Atlases.{AreChanged, AreStarts, content_before, files_left};
+ghost use Rattle.cs_apm.specs.Contents.{IsSmall, content_left};
+ghost use Rattle.cs_apm.specs.States.{bytes_of, no_content, owners_of, visible};
+
+use crate::content::FileContent;
+use cs_micro::MicroOp;
+use cs_trace::Trace;
+use cs_tree_model::Record;
+use std::alloc::{AllocError, Global};
+
+/// A copy of the file's bytes.
+fn bytes_of(alloc: Global, file: &Record) -> Result<Vec<u8>, AllocError>
+    ensures { IfOk result (λ bytes. bytes.items ≡ bytes_of file.now) }
+{
+    match file.content.try_clone(alloc)?.into_bytes() {
+        None => Ok(Vec::new(alloc)),
+        Some(bytes) => Ok(bytes),
+    }
+}
+
+/// The file of the number before any operation: at the start, or without a byte as it is made.
+fn file_before(
+    alloc: Global,
+    trace: &Trace,
+    _ops: &[MicroOp],
+    starts: &[u32],
+    file: u32,
+) -> Result<FileContent, AllocError>
+    requires { AreStarts trace.now starts.now }
+    ensures { IfOk result (λ content. content ≡ content_before trace.now _ops.now file) }
+{
+    if file as usize >= starts.len() {
+        return Ok(FileContent::of(Vec::new(alloc)));
+    }
+    let record = &trace.records()[starts[file as usize] as usize].1;
+    let bytes = bytes_of(alloc, record)?;
+    Ok(FileContent::of(bytes))
+}
+
+/// What a set leaves of the file of the number. A file that no operation changes is copied once.
+fn file_left(
+    alloc: Global,
+    trace: &Trace,
+    ops: &[MicroOp],
+    starts: &[u32],
+    changed: &[bool],
+    places: &[u32],
+    file: u32,
+) -> Result<FileContent, AllocError>
+    requires starts { AreStarts trace.now starts.now }
+    requires changed { AreChanged ops.now (length changed.now) changed.now }
+    requires known { file < length changed.now }
+    requires small { All IsSmall ops.now }
+    requires inside { All (λ place. place < length ops.now) places.now }
+    ensures { IfOk result (λ content. content ≡ content_left file (content_before trace.now ops.now file) ops.now places.now) }
+{
+    let mut content = file_before(alloc, trace, ops, starts, file)?;
+    if changed[file as usize] {
+        content.take(file, ops, places)?;
+    }
+    Ok(content)
+}
+
+/// The bytes that a set leaves of the file of the number.
+pub fn bytes_left(
+    alloc: Global,
+    trace: &Trace,
+    ops: &[MicroOp],
+    starts: &[u32],
+    changed: &[bool],
+    places: &[u32],
+    file: u32,
+) -> Result<Vec<u8>, AllocError>
+    requires starts { AreStarts trace.now starts.now }
+    requires changed { AreChanged ops.now (length (owners_of trace.now ops.now)) changed.now }
+    requires known { file < length changed.now }
+    requires small { All IsSmall ops.now }
+    requires inside { All (λ place. place < length ops.now) places.now }
+    ensures { IfOk result (λ bytes. bytes.items ≡ visible (slice_index_or (files_left trace.now ops.now places.now) file no_content)) }
+{
+    let content = file_left(alloc, trace, ops, starts, changed, places, file)?;
+    let bytes = content.into_visible()?;
+    Ok(bytes)
+}

@@ -1,0 +1,116 @@
+//! What is found once for each micro-operation: the latest creates of the directories that it touches,
+//! and the first sync behind it that covers it.
+ghost use Rattle.std.specs.Prelude.{◌≡◌, ◌<◌, ◌≤◌, ℕ, length, IfOk};
+ghost use Rattle.cs_tree_model.specs.Tree.{parent_path};
+ghost use Rattle.cs_apm.specs.Rows.{AreSynced, is_at, is_before, is_by, is_maker};
+ghost use Rattle.cs_apm.specs.Rules as rules;
+
+use crate::rules::{creates_parent, is_covered, op_at};
+use cs_micro::{MicroOp, SyncPoint};
+use cs_names::Path;
+use std::alloc::{AllocError, Global};
+
+/// The latest creates of the parent directories of the paths that a micro-operation touches, of which
+/// there are two at most.
+#[derive(Clone, Copy, Debug)]
+pub struct Makers {
+    first: Option<usize>,
+    second: Option<usize>,
+}
+
+/// The latest create of the path's directory before j.
+fn latest_create(ops: &[MicroOp], j: usize, path: &Path) -> Option<usize>
+    requires { j ≤ length ops.now }
+    ensures { (i : ℕ) → i < j → is_at result i ≡ rules.is_latest ops.now i j (parent_path path.now) }
+{
+    let mut latest = None;
+    for k in 0..j {
+        if creates_parent(op_at(ops, k), path) {
+            latest = Some(k);
+        }
+    }
+    latest
+}
+
+impl Makers {
+    /// Those of the micro-operation j.
+    pub fn of(ops: &[MicroOp], j: usize) -> Makers
+        requires { j < length ops.now }
+        ensures { (i : ℕ) → i < j → is_maker result i ≡ rules.makes_parent ops.now i j }
+    {
+        let (first, second) = match op_at(ops, j) {
+            MicroOp::CreateDirEntry { path, .. } => (latest_create(ops, j, path), None),
+            MicroOp::DeleteDirEntry { path, .. } => (latest_create(ops, j, path), None),
+            MicroOp::MoveDirEntry { from, to } => {
+                (latest_create(ops, j, from), latest_create(ops, j, to))
+            }
+            _ => (None, None),
+        };
+        Makers { first, second }
+    }
+
+    /// Whether the micro-operation is one of them.
+    pub fn has(&self, place: usize) -> bool
+        ensures { result ≡ is_maker self.now place }
+    {
+        is_at(self.first, place) || is_at(self.second, place)
+    }
+}
+
+/// Whether it is the place that was found.
+fn is_at(found: Option<usize>, place: usize) -> bool
+    ensures { result ≡ is_at found place }
+{
+    match found {
+        Some(at) => at == place,
+        None => false,
+    }
+}
+
+/// How many micro-operations come before the first sync point behind i that covers it.
+fn first_sync(syncs: &[SyncPoint], i: usize, op: &MicroOp) -> Option<usize>
+    ensures { (j : ℕ) → is_by result j ≡ rules.is_synced syncs.now i j op.now }
+{
+    let mut first = None;
+    for sync in syncs {
+        if i < sync.at && is_before(sync.at, first) && is_covered(&sync.covers, op) {
+            first = Some(sync.at);
+        }
+    }
+    first
+}
+
+/// Whether the place is before the one that was found, if one was.
+fn is_before(place: usize, found: Option<usize>) -> bool
+    ensures { result ≡ is_before place found }
+{
+    match found {
+        Some(at) => place < at,
+        None => true,
+    }
+}
+
+/// Whether the place that was found is not behind j.
+pub fn is_by(found: Option<usize>, j: usize) -> bool
+    ensures { result ≡ is_by found j }
+{
+    match found {
+        Some(at) => at <= j,
+        None => false,
+    }
+}
+
+/// For each micro-operation how many come before the first sync point behind it that covers it.
+pub fn first_syncs(
+    alloc: Global,
+    ops: &[MicroOp],
+    syncs: &[SyncPoint],
+) -> Result<Vec<Option<usize>>, AllocError>
+    ensures { IfOk result (λ found. AreSynced ops.now syncs.now (length ops.now) found.items) }
+{
+    let mut found = Vec::new(alloc);
+    for (i, op) in ops.iter().enumerate() {
+        found.push(first_sync(syncs, i, op))?;
+    }
+    Ok(found)
+}

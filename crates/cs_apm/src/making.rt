@@ -1,0 +1,138 @@
+//! The store of a state, made once from what stands in its slots.
+ghost use Rattle.std.specs.Prelude.{◌≡◌, ◌<◌, ◌≤◌, length, map, IfOk};
+ghost use Rattle.std.specs.List.{All};
+ghost use Rattle.std.specs.Option.{option_map};
+ghost use Rattle.cs_tree_model.specs.Fresh.{IsNested, fresh, fresh_record, numbered};
+ghost use Rattle.cs_tree_model.specs.Maps.Values.{map_entries, map_values};
+ghost use Rattle.cs_apm.specs.Atlases.{files_left};
+ghost use Rattle.cs_apm.specs.Files.{AreFiles};
+ghost use Rattle.cs_apm.specs.Contents.{IsSmall};
+ghost use Rattle.cs_apm.specs.Slots.{AreAscending, AreKnown, IsKnown, entry_of, mirrored, present};
+ghost use Rattle.cs_apm.specs.States.{owners_of, record_of, record_with};
+
+use crate::files::bytes_left;
+use crate::slot::Slot;
+use cs_micro::MicroOp;
+use cs_names::Path;
+use cs_trace::{Rights, Trace};
+use cs_tree::PlainTree;
+use cs_tree_model::{Content, DMDIR, Record};
+use std::alloc::{AllocError, Global};
+
+/// What is known of the files by their numbers: owner, group and permissions of each; where the record
+/// of each of the start's files stands; and which files an operation changes.
+#[derive(Clone, Copy)]
+pub struct Files<'a> {
+    pub owners: &'a [Rights],
+    pub starts: &'a [u32],
+    pub changed: &'a [bool],
+}
+
+/// A record that was never changed: its owner is the last who changed it.
+fn record_with(
+    number: u64,
+    rights: &Rights,
+    bit: u32,
+    content: Content,
+) -> Result<Record, AllocError>
+    requires { bit ≤ DMDIR }
+    ensures { IfOk result (λ made. made ≡ fresh_record number (record_with rights.now bit content)) }
+{
+    Ok(Record {
+        number,
+        vers: 0,
+        owner: rights.owner.try_clone()?,
+        group: rights.group.try_clone()?,
+        mode: bit + u32::from(rights.permissions % 512),
+        atime: 0,
+        mtime: 0,
+        muid: rights.owner.try_clone()?,
+        content,
+    })
+}
+
+/// The record of what stands in a slot, if something does.
+fn record_at(
+    alloc: Global,
+    number: u64,
+    trace: &Trace,
+    ops: &[MicroOp],
+    rights: &[Rights],
+    files: Files<'_>,
+    places: &[u32],
+    slot: Slot,
+) -> Result<Option<Record>, AllocError>
+    requires files { AreFiles trace.now ops.now files }
+    requires known { IsKnown (length rights.now) (length files.owners.now) slot }
+    requires small { All IsSmall ops.now }
+    requires inside { All (λ place. place < length ops.now) places.now }
+    ensures { IfOk result (λ made. made ≡ option_map (λ e. fresh_record number (record_of (owners_of trace.now ops.now) (files_left trace.now ops.now places.now) e)) (entry_of rights.now slot)) }
+{
+    match slot {
+        Slot::Nothing => Ok(None),
+        Slot::Directory(k) => {
+            let rights = &rights[k as usize];
+            let record = record_with(number, rights, DMDIR, Content::directory())?;
+            Ok(Some(record))
+        }
+        Slot::File(n) => {
+            let bytes = bytes_left(alloc, trace, ops, files.starts, files.changed, places, n)?;
+            let owner = &files.owners[n as usize];
+            let record = record_with(number, owner, 0, Content::file(bytes))?;
+            Ok(Some(record))
+        }
+    }
+}
+
+/// The records of what stands, in the order of paths.
+fn records(
+    alloc: Global,
+    trace: &Trace,
+    ops: &[MicroOp],
+    paths: &[Path],
+    rights: &[Rights],
+    files: Files<'_>,
+    places: &[u32],
+    slots: &[Slot],
+) -> Result<Vec<(Path, Record)>, AllocError>
+    requires files { AreFiles trace.now ops.now files }
+    requires long { length slots.now ≡ length paths.now }
+    requires known { AreKnown (length rights.now) (length files.owners.now) slots.now }
+    requires small { All IsSmall ops.now }
+    requires inside { All (λ place. place < length ops.now) places.now }
+    ensures { IfOk result (λ records. records.items ≡ numbered 0 (map_entries (record_of (owners_of trace.now ops.now) (files_left trace.now ops.now places.now)) (present rights.now paths.now slots.now))) }
+{
+    let mut records = Vec::new(alloc);
+    for (i, slot) in slots.iter().enumerate() {
+        let number = records.len() as u64;
+        match record_at(alloc, number, trace, ops, rights, files, places, *slot)? {
+            None => {}
+            Some(record) => records.push((paths[i].try_clone(alloc)?, record))?,
+        }
+    }
+    Ok(records)
+}
+
+/// The store of what stands in the slots.
+pub fn store_of(
+    alloc: Global,
+    trace: &Trace,
+    ops: &[MicroOp],
+    paths: &[Path],
+    rights: &[Rights],
+    files: Files<'_>,
+    places: &[u32],
+    slots: &[Slot],
+) -> Result<PlainTree, AllocError>
+    requires files { AreFiles trace.now ops.now files }
+    requires long { length slots.now ≡ length paths.now }
+    requires known { AreKnown (length rights.now) (length files.owners.now) slots.now }
+    requires small { All IsSmall ops.now }
+    requires inside { All (λ place. place < length ops.now) places.now }
+    requires ascending { AreAscending paths.now }
+    requires nested { IsNested (map_values (record_of (owners_of trace.now ops.now) (files_left trace.now ops.now places.now)) (mirrored rights.now paths.now slots.now)) }
+    ensures { IfOk result (λ tree. tree ≡ fresh (map_values (record_of (owners_of trace.now ops.now) (files_left trace.now ops.now places.now)) (mirrored rights.now paths.now slots.now))) }
+{
+    let records = records(alloc, trace, ops, paths, rights, files, places, slots)?;
+    PlainTree::from_records(alloc, records)
+}

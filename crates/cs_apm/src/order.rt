@@ -1,0 +1,105 @@
+//! The order of a trace's micro-operations, and the sets of them that a crash may leave.
+ghost use Rattle.std.specs.Prelude.{◌≡◌, ◌↔◌, ℕ, ◌<◌, ◌≤◌, length, IfOk, IsTrue, true};
+ghost use Rattle.cs_apm.specs.Bits.{has};
+ghost use Rattle.cs_apm.specs.Chains.{IsBackward, by_chain};
+ghost use Rattle.cs_apm.specs.Orders.{needs_in, order_of};
+ghost use Rattle.cs_apm.specs.Sets.{IsAllowed};
+
+use crate::row::Row;
+use crate::rows::{reach_of, rows_of};
+use cs_micro::Micros;
+use cs_names::limits::MICRO_OPERATIONS;
+use std::alloc::{AllocError, Global};
+use std::marker::Model;
+
+/// Which micro-operation of a trace needs which to be on the disk before it. Contracts see a table: for
+/// each place, which of the places before it it needs.
+#[derive(Debug, Drop)]
+pub struct Order {
+    rows: Vec<Row>,
+    reach: Vec<Row>,
+}
+
+impl Model for Order {
+    ghost use Rattle.std.specs.Prelude.{List, Bool, length};
+    ghost use Rattle.cs_apm.specs.Orders.{table};
+    ghost use Rattle.cs_apm.specs.Rows.{IsOrder, bit_in};
+
+    ghost Value = { List (List Bool) };
+
+    ghost view = { λ order. table (bit_in order.rows.items) (length order.rows.items) };
+
+    ghost invariant = { λ order. IsOrder order.rows.items order.reach.items };
+}
+
+impl Order {
+    /// The order of a trace's micro-operations, by the six rules. What it looks for among all of them
+    /// is found here once.
+    pub fn of(alloc: Global, micros: &Micros) -> Result<Order, AllocError>
+        ensures { IfOk result (λ order. order ≡ order_of micros.now) }
+    {
+        let rows = rows_of(alloc, micros.ops(), micros.syncs())?;
+        let reach = reach_of(alloc, &rows)?;
+        Ok(Order { rows, reach })
+    }
+
+    /// How many micro-operations there are. What one of them needs lies before it.
+    pub fn len(&self) -> usize
+        ensures value { result ≡ length self.now }
+        ensures few { result ≤ MICRO_OPERATIONS }
+        ensures backward { IsBackward (needs_in self.now) }
+    {
+        self.rows.len()
+    }
+
+    /// Whether j needs i.
+    pub fn needs(&self, i: usize, j: usize) -> bool
+        requires first { i < length self.now }
+        requires second { j < length self.now }
+        ensures { result ≡ needs_in self.now i j }
+    {
+        self.rows[j].has(i)
+    }
+
+    /// Whether j needs i by any chain: itself, or as what it needs does.
+    pub fn needs_by_chain(&self, i: usize, j: usize) -> bool
+        requires first { i < length self.now }
+        requires second { j < length self.now }
+        ensures { result ≡ by_chain (needs_in self.now) i j }
+    {
+        self.reach[j].has(i)
+    }
+
+    /// Whether j needs none but these.
+    fn needs_only(&self, j: usize, members: &Row) -> bool
+        requires { j < length self.now }
+        ensures backward { IsBackward (needs_in self.now) }
+        ensures value { IsTrue result ↔ ((i : ℕ) → needs_in self.now i j ≡ true → has members.now i ≡ true) }
+    {
+        self.rows[j].within(members)
+    }
+
+    /// Whether a crash may leave just the micro-operations at these places: they ascend strictly, each is
+    /// in range, and with each there is all that it needs.
+    pub fn is_allowed(&self, places: &[u32]) -> bool
+        ensures { IsTrue result ↔ IsAllowed (needs_in self.now) (length self.now) places.now }
+    {
+        let mut members = Row::empty();
+        let mut next = 0usize;
+        for place in places {
+            let place = *place as usize;
+            if place < next {
+                return false;
+            }
+            if place >= self.len() {
+                return false;
+            }
+            if !self.needs_only(place, &members) {
+                return false;
+            }
+            members.set(place);
+            next = place + 1;
+        }
+        true
+    }
+}

@@ -1,0 +1,91 @@
+//! Every path that ever stands, in order, each with its place.
+ghost use Rattle.std.specs.Prelude.{◌≡◌, ◌<◌, length, IfOk, OnOk};
+ghost use Rattle.std.specs.List.{Contains};
+ghost use Rattle.cs_tree_model.specs.Tree.{Path as Names};
+ghost use Rattle.cs_apm.specs.Atlases.{HasAllTouched, HasFirst, HasTouched};
+ghost use Rattle.cs_apm.specs.Slots.{AreAscending, IsPlace};
+
+use cs_micro::MicroOp;
+use cs_names::Path;
+use cs_tree_model::Record;
+use std::alloc::{AllocError, Global};
+
+/// Puts the path among the others, in order, if it isn't there.
+pub fn add_path(alloc: Global, paths: &mut Vec<Path>, path: &Path) -> Result<(), AllocError>
+    requires { AreAscending paths.old.items }
+    ensures ascending { AreAscending paths.new.items }
+    ensures there { OnOk result (Contains paths.new.items path.now) }
+    ensures others { (p : Names) → Contains paths.old.items p → Contains paths.new.items p }
+{
+    match paths.binary_search(path) {
+        Ok(_found) => {}
+        Err(place) => paths.insert(place, path.try_clone(alloc)?)?,
+    }
+    Ok(())
+}
+
+/// Puts the paths of the records among the others.
+fn add_starts(
+    alloc: Global,
+    paths: &mut Vec<Path>,
+    records: &[(Path, Record)],
+) -> Result<(), AllocError>
+    requires { AreAscending paths.old.items }
+    ensures ascending { OnOk result (AreAscending paths.new.items) }
+    ensures there { OnOk result (HasFirst paths.new.items records.now (length records.now)) }
+{
+    for record in records {
+        add_path(alloc, paths, &record.0)?;
+    }
+    Ok(())
+}
+
+/// Puts the paths that a micro-operation touches among the others.
+fn add_touched(alloc: Global, paths: &mut Vec<Path>, op: &MicroOp) -> Result<(), AllocError>
+    requires { AreAscending paths.old.items }
+    ensures ascending { OnOk result (AreAscending paths.new.items) }
+    ensures there { OnOk result (HasTouched paths.new.items op.now) }
+    ensures others { (p : Names) → Contains paths.old.items p → Contains paths.new.items p }
+{
+    match op {
+        MicroOp::CreateDirEntry { path, .. } => add_path(alloc, paths, path)?,
+        MicroOp::DeleteDirEntry { path, .. } => add_path(alloc, paths, path)?,
+        MicroOp::MoveDirEntry { from, to } => {
+            add_path(alloc, paths, from)?;
+            add_path(alloc, paths, to)?;
+        }
+        _ => {}
+    }
+    Ok(())
+}
+
+/// Every path that ever stands, in order: those of the records at the start, and those that the
+/// micro-operations touch.
+pub fn paths_of(
+    alloc: Global,
+    records: &[(Path, Record)],
+    ops: &[MicroOp],
+) -> Result<Vec<Path>, AllocError>
+    ensures ascending { IfOk result (λ paths. AreAscending paths.items) }
+    ensures starts { IfOk result (λ paths. HasFirst paths.items records.now (length records.now)) }
+    ensures touched { IfOk result (λ paths. HasAllTouched paths.items ops.now (length ops.now)) }
+{
+    let mut paths = Vec::new(alloc);
+    add_starts(alloc, &mut paths, records)?;
+    for op in ops {
+        add_touched(alloc, &mut paths, op)?;
+    }
+    Ok(paths)
+}
+
+/// The place of a path that is among them.
+pub fn place_of(paths: &[Path], path: &Path) -> usize
+    requires ascending { AreAscending paths.now }
+    requires there { Contains paths.now path.now }
+    ensures { IsPlace paths.now result path.now }
+{
+    match paths.binary_search(path) {
+        Ok(place) => place,
+        Err(place) => place,
+    }
+}

@@ -1,0 +1,60 @@
+//! Rows of bits, one for each micro-operation of a trace.
+ghost use Rattle.std.specs.Prelude.{◌≡◌, ◌==◌, ◌||◌, ℕ, ◌<◌, false, true, IsTrue, ◌↔◌};
+ghost use Rattle.cs_apm.specs.Bits.{has};
+
+use cs_names::limits::MICRO_OPERATIONS;
+
+/// Words of a row.
+const WORDS: usize = 16;
+
+/// A set of places below MICRO_OPERATIONS, as a bit for each.
+#[derive(Clone, Copy, Debug)]
+pub struct Row {
+    words: [u64; 16],
+}
+
+impl Row {
+    /// The row without a place.
+    pub fn empty() -> Row
+        ensures { (k : ℕ) → has result k ≡ false }
+    {
+        Row { words: [0; 16] }
+    }
+
+    /// Whether the row has the place.
+    pub fn has(&self, place: usize) -> bool
+        requires { place < MICRO_OPERATIONS }
+        ensures { result ≡ has self.now place }
+    {
+        (self.words[place / 64] >> (place % 64)) & 1 == 1
+    }
+
+    /// Takes the place in.
+    pub fn set(&mut self, place: usize)
+        requires { place < MICRO_OPERATIONS }
+        ensures { (k : ℕ) → has self.new k ≡ (k == place || has self.old k) }
+    {
+        self.words[place / 64] |= 1u64 << (place % 64);
+    }
+
+    /// Takes in all that the other row has.
+    pub fn join(&mut self, other: &Row)
+        ensures { (k : ℕ) → has self.new k ≡ (has self.old k || has other.now k) }
+    {
+        for w in 0..WORDS {
+            self.words[w] |= other.words[w];
+        }
+    }
+
+    /// Whether the other row has all that this one has.
+    pub fn within(&self, other: &Row) -> bool
+        ensures { IsTrue result ↔ ((k : ℕ) → has self.now k ≡ true → has other.now k ≡ true) }
+    {
+        for w in 0..WORDS {
+            if self.words[w] | other.words[w] != other.words[w] {
+                return false;
+            }
+        }
+        true
+    }
+}

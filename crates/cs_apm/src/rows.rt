@@ -1,0 +1,110 @@
+//! What each micro-operation needs, as rows of bits.
+ghost use Rattle.std.specs.Prelude.{◌≡◌, ℕ, ◌<◌, ◌≤◌, length, IfOk};
+ghost use Rattle.cs_apm.specs.Bits.{has};
+ghost use Rattle.cs_apm.specs.Chains.{by_chain};
+ghost use Rattle.cs_apm.specs.Rows.{AreReach, AreRows, AreSynced, IsRow, bit_in, is_maker};
+ghost use Rattle.cs_apm.specs.Rules as rules;
+
+use crate::found::{Makers, first_syncs, is_by};
+use crate::row::Row;
+use crate::rules::{op_at, pair_needs};
+use cs_micro::{MicroOp, SyncPoint};
+use cs_names::limits::MICRO_OPERATIONS;
+use std::alloc::{AllocError, Global};
+
+/// Whether a sync between i and j covers i.
+fn is_synced(
+    _ops: &[MicroOp],
+    _syncs: &[SyncPoint],
+    found: &[Option<usize>],
+    i: usize,
+    j: usize,
+) -> bool
+    requires inside { i < length _ops.now }
+    requires found { AreSynced _ops.now _syncs.now (length _ops.now) found.now }
+    ensures { result ≡ rules.is_synced _syncs.now i j (rules.op_at _ops.now i) }
+{
+    is_by(found[i], j)
+}
+
+/// Whether j needs i, where the latest creates that j needs and the first syncs are found.
+#[tactic(auto, unfolding(crate::specs::Rules::needs))]
+fn needs(
+    ops: &[MicroOp],
+    syncs: &[SyncPoint],
+    found: &[Option<usize>],
+    makers: Makers,
+    i: usize,
+    j: usize,
+) -> bool
+    requires order { i < j }
+    requires inside { j < length ops.now }
+    requires found { AreSynced ops.now syncs.now (length ops.now) found.now }
+    requires makers { (i : ℕ) → i < j → is_maker makers i ≡ rules.makes_parent ops.now i j }
+    ensures { result ≡ rules.needs ops.now syncs.now i j }
+{
+    pair_needs(op_at(ops, i), op_at(ops, j)) || makers.has(i) || is_synced(ops, syncs, found, i, j)
+}
+
+/// What micro-operation j needs, where the first syncs that cover those before it are found.
+fn row_of(ops: &[MicroOp], syncs: &[SyncPoint], found: &[Option<usize>], j: usize) -> Row
+    requires inside { j < length ops.now }
+    requires few { length ops.now ≤ MICRO_OPERATIONS }
+    requires found { AreSynced ops.now syncs.now (length ops.now) found.now }
+    ensures { IsRow (rules.needs ops.now syncs.now) j result }
+{
+    let makers = Makers::of(ops, j);
+    let mut row = Row::empty();
+    for i in 0..j {
+        if needs(ops, syncs, found, makers, i, j) {
+            row.set(i);
+        }
+    }
+    row
+}
+
+/// A row for each micro-operation: what it needs.
+pub fn rows_of(alloc: Global, ops: &[MicroOp], syncs: &[SyncPoint]) -> Result<Vec<Row>, AllocError>
+    requires { length ops.now ≤ MICRO_OPERATIONS }
+    ensures { IfOk result (λ rows. AreRows (rules.needs ops.now syncs.now) (length ops.now) rows.items) }
+{
+    let found = first_syncs(alloc, ops, syncs)?;
+    let mut rows = Vec::new(alloc);
+    for j in 0..ops.len() {
+        let row = row_of(ops, syncs, &found, j);
+        rows.push(row)?;
+    }
+    Ok(rows)
+}
+
+/// What k needs by any chain: what it needs, and what each of these needs by any chain.
+fn reach_row(rows: &[Row], reach: &[Row], k: usize) -> Row
+    requires inside { k < length rows.now }
+    requires few { length rows.now ≤ MICRO_OPERATIONS }
+    requires made { length reach.now ≡ k }
+    requires reached { AreReach rows.now reach.now k }
+    ensures { (i : ℕ) → has result i ≡ by_chain (bit_in rows.now) i k }
+{
+    let mut row = Row::empty();
+    for m in 0..k {
+        if rows[k].has(m) {
+            row.set(m);
+            row.join(&reach[m]);
+        }
+    }
+    row
+}
+
+/// A row for each micro-operation: what it needs by any chain.
+pub fn reach_of(alloc: Global, rows: &[Row]) -> Result<Vec<Row>, AllocError>
+    requires { length rows.now ≤ MICRO_OPERATIONS }
+    ensures long { IfOk result (λ reach. length reach.items ≡ length rows.now) }
+    ensures reached { IfOk result (λ reach. AreReach rows.now reach.items (length rows.now)) }
+{
+    let mut reach = Vec::new(alloc);
+    for k in 0..rows.len() {
+        let row = reach_row(rows, &reach, k);
+        reach.push(row)?;
+    }
+    Ok(reach)
+}
