@@ -217,3 +217,26 @@ fn a_directory_is_there_for_its_entries(rt: HostRuntime) -> Result<(), Fail> {
     assert!(rt; !order.is_allowed(&[1, 4]));
     Ok(())
 }
+
+/// A file is moved into a directory and out of it again, and the directory is removed.
+#[test]
+fn a_move_is_of_both_its_ends(rt: HostRuntime) -> Result<(), Fail> {
+    let order = order_of(
+        &rt,
+        &[
+            MAKE_D,
+            MAKE_T,
+            r#"{"op":"rename","from":"/t","to":"/d/x"}"#,
+            r#"{"op":"rename","from":"/d/x","to":"/u"}"#,
+            r#"{"op":"rmdir","path":"/d"}"#,
+            r#"{"op":"fsync","path":"/"}"#,
+            r#"{"op":"say","text":"gone"}"#,
+        ],
+    )?;
+    needs_just(
+        &rt,
+        &order,
+        &[&[], &[], &[0, 1], &[0, 2], &[0, 2, 3], &[0, 1, 2, 3, 4]],
+    );
+    Ok(())
+}
