@@ -14,8 +14,8 @@ use Rattle.cs_apm.specs.Rows.{IsRow, AreRows}
 abbrev pub IsFilled : (ℕ → ℕ → Bool) → ℕ → Row → ℕ → Type 0
 IsFilled need j row w = (i : ℕ) → has row i ≡ (nat_lt i w && need i j)
 
-pub filled_none : (need : ℕ → ℕ → Bool) (j : ℕ) (row : Row) → ((k : ℕ) → has row k ≡ false) → IsFilled need j row 0
-filled_none need j row none i = let t : nat_lt i 0 ≡ false = le-ltb i 0 (omega arith) in none i ∙ sym (ap (λ b. b && need i j) t)
+pub filled_none : (need : ℕ → ℕ → Bool) (j : ℕ) (bits : Row) → ((k : ℕ) → has bits k ≡ false) → IsFilled need j bits 0
+filled_none need j bits none i = let t : nat_lt i 0 ≡ false = le-ltb i 0 (omega arith) in none i ∙ sym (ap (λ b. b && need i j) t)
 
 tests_more : (i w : ℕ) → nat_lt i (w + 1) ≡ (i == w || nat_lt i w)
 tests_more i w = ⊎_elim
