@@ -1,0 +1,5 @@
+mod Places
+mod Fresh
+mod Lookups
+mod Entering
+mod Tabling
