@@ -1,10 +1,14 @@
 //! A tree over a lower one.
-ghost use Rattle.std.specs.Prelude.{◌≡◌, IfOk};
+ghost use Rattle.std.specs.Prelude.{◌≡◌, ◌≢◌, None, Some, IfErr, IfOk, IfSome, IsSome, OnErr, OnOk};
 ghost use Rattle.std.specs.Arc.{arc_value};
+ghost use Rattle.cs_tree_model.specs.Fresh.{fresh};
+ghost use Rattle.cs_tree_model.specs.Stores.{changed, CanStamp, CanStampParent};
+ghost use Rattle.cs_tree_model.specs.Tree.{content_numbered, number_in, parent_numbered, record_numbered};
 
 use crate::node::{Node, copied};
 use crate::table::{change, copy_up, make_room, move_name, put, say, say_both, stamp_node, write};
 use crate::{entry, listing};
+use cs_lower::Lower;
 use cs_names::{Name, UserName};
 use cs_tree_model::{Change, Entry, Metadata, New, Stamp, TreeRead, TreeStore};
 use std::alloc::{AllocError, Global};
@@ -55,6 +59,78 @@ impl<L: TreeRead> Overlay<L> {
             greatest,
             count,
         }
+    }
+
+    /// The tree as one that nothing has changed yet: the same paths and contents, with fresh numbers,
+    /// versions, times and users. It copies no file, no record and no byte; after want of memory, which
+    /// only its table of numbers takes, the overlay is given back.
+    pub fn freeze(self, alloc: Global) -> Result<Lower<Overlay<L>>, (Overlay<L>, AllocError)>
+        ensures ok { IfOk result (λ lower. lower ≡ fresh self.files) }
+        ensures err { IfErr result (λ back. back.0 ≡ self) }
+    {
+        cs_lower::freeze(alloc, self)
+    }
+
+    /// Gives a file the fields of a change that has no name: `group` is the change's group.
+    fn set(
+        &mut self,
+        alloc: Global,
+        number: u64,
+        fields: &Change,
+        group: Option<UserName>,
+        stamp: Stamp,
+    ) -> Result<(), AllocError>
+        requires group { group ≡ fields.now.group }
+        requires unnamed { fields.now.name ≡ None }
+        requires there { IsSome (record_numbered self.old number) }
+        requires vers { CanStamp self.old number }
+        requires file { IsSome fields.now.length → IsSome (content_numbered self.old number) }
+        ensures ok { OnOk result (self.new ≡ changed number fields.now stamp self.old) }
+        ensures err { OnErr result (self.new ≡ self.old) }
+    {
+        copy_up(alloc, &*self.lower, &mut self.nodes, number)?;
+        change(&mut self.nodes, number, fields, group, stamp)?;
+        Ok(())
+    }
+
+    /// Gives a file another name and the other fields of the change: `group` and `name` are the
+    /// change's group and name.
+    fn rename(
+        &mut self,
+        alloc: Global,
+        number: u64,
+        fields: &Change,
+        group: Option<UserName>,
+        name: Name,
+        stamp: Stamp,
+    ) -> Result<(), AllocError>
+        requires group { group ≡ fields.now.group }
+        requires named { fields.now.name ≡ Some name }
+        requires not_root { number ≢ 0 }
+        requires there { IsSome (record_numbered self.old number) }
+        requires vers { CanStamp self.old number }
+        requires file { IsSome fields.now.length → IsSome (content_numbered self.old number) }
+        requires free { IfSome (parent_numbered self.old number) (λ d. number_in self.old d name ≡ None) }
+        requires vers_above { CanStampParent self.old number }
+        ensures ok { OnOk result (self.new ≡ changed number fields.now stamp self.old) }
+        ensures err { OnErr result (self.new ≡ self.old) }
+    {
+        let Some(directory) = self.parent_of(number) else {
+            return Ok(());
+        };
+        let Some(old) = self.name_of(number) else {
+            return Ok(());
+        };
+        let old = old.try_clone()?;
+        let said = old.try_clone()?;
+        let free = name.try_clone()?;
+        let moment = stamp.try_clone()?;
+        let (lower, nodes) = (&*self.lower, &mut self.nodes);
+        copy_up(alloc, lower, nodes, number)?;
+        say_both(alloc, lower, nodes, directory, number, said, free)?;
+        change(nodes, number, fields, group, moment)?;
+        move_name(nodes, directory, number, old.as_str(), name, stamp);
+        Ok(())
     }
 }
 
@@ -186,40 +262,10 @@ impl<L: TreeRead> TreeStore for Overlay<L> {
         stamp: Stamp,
     ) -> Result<(), AllocError> {
         let group = copied_user(&fields.group)?;
-        let Some(name) = copied(fields.name.as_ref())? else {
-            copy_up(alloc, &*self.lower, &mut self.nodes, number)?;
-            change(&mut self.nodes, number, fields, group, stamp)?;
-            return Ok(());
-        };
-        let Some(directory) = self.parent_of(number) else {
-            return Ok(());
-        };
-        let Some(old) = self.name_of(number) else {
-            return Ok(());
-        };
-        let old = old.try_clone()?;
-        let moment = stamp.try_clone()?;
-        let said = old.try_clone()?;
-        let free = name.try_clone()?;
-        copy_up(alloc, &*self.lower, &mut self.nodes, number)?;
-        say_both(
-            alloc,
-            &*self.lower,
-            &mut self.nodes,
-            directory,
-            number,
-            said,
-            free,
-        )?;
-        change(&mut self.nodes, number, fields, group, moment)?;
-        move_name(
-            &mut self.nodes,
-            directory,
-            number,
-            old.as_str(),
-            name,
-            stamp,
-        );
+        match copied(fields.name.as_ref())? {
+            None => self.set(alloc, number, fields, group, stamp)?,
+            Some(name) => self.rename(alloc, number, fields, group, name, stamp)?,
+        }
         Ok(())
     }
 }
