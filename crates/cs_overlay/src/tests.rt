@@ -3,6 +3,7 @@
 mod allowed;
 mod calls;
 mod changes;
+mod frozen;
 mod layers;
 mod listings;
 mod shown;

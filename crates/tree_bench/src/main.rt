@@ -1,15 +1,20 @@
 //! The same work on the plain store and on std's maps and vectors: look-ups, adds, removes and listings
-//! in small and large directories, and writes and appends to a file. Run by hand with the word `time`,
-//! it tells how long each takes, and how many times as long on the store.
+//! in small and large directories, and writes and appends to a file. And what is only read, over two
+//! levels in which nothing was changed and on the plain store under them. Run by hand with the word
+//! `time`, it tells how long each takes, and how many times as long on the first of the two.
 #![tactic(auto)]
 
+mod levels;
 mod ordinary;
 mod pair;
 mod store;
 mod subject;
+mod times;
 mod work;
 
-use crate::pair::{Pair, Times, names};
+use crate::levels::{Finds, Levels, Lists, Reads};
+use crate::pair::{Pair, names};
+use crate::times::Times;
 use crate::work::{Adds, Appends, Listing, LookUps, Removes, Writes};
 use cs_names::UserName;
 use std::alloc::Global;
@@ -18,6 +23,12 @@ use std::{env, io};
 
 /// How many names are looked up, added and removed at a time.
 const NAMES: u64 = 16;
+
+/// What the plain store is measured beside.
+const MAPS: &str = "std's maps";
+
+/// What two levels are measured beside.
+const STORE: &str = "the plain store";
 
 fn user(alloc: Global) -> Option<UserName> {
     UserName::read(alloc, b"ann").ok()
@@ -43,7 +54,7 @@ fn look_ups(rt: &(impl Clock + Print + AllocGlobal), files: u64, timed: bool) ->
         names: &names,
         rounds,
     };
-    let mut times = Times::new();
+    let mut times = Times::new(MAPS);
     for _ in 0..rounds {
         times.time(rt, &mut pair, &work)?;
     }
@@ -63,8 +74,8 @@ fn changes(rt: &(impl Clock + Print + AllocGlobal), files: u64, timed: bool) -> 
         return println!(rt; "out of memory");
     };
     let (names, user) = (&names, &user);
-    let mut adds = Times::new();
-    let mut removes = Times::new();
+    let mut adds = Times::new(MAPS);
+    let mut removes = Times::new(MAPS);
     for _ in 0..(if timed { 20_000 } else { 1 }) {
         adds.time(rt, &mut pair, &Adds { names, user })?;
         removes.time(rt, &mut pair, &Removes { count: NAMES, user })?;
@@ -85,7 +96,7 @@ fn listings(
     let Some(mut pair) = directory(rt.alloc(), files) else {
         return println!(rt; "out of memory");
     };
-    let mut times = Times::new();
+    let mut times = Times::new(MAPS);
     for _ in 0..(if timed { rounds } else { 1 }) {
         times.time(rt, &mut pair, &Listing)?;
     }
@@ -101,7 +112,7 @@ fn writes(rt: &(impl Clock + Print + AllocGlobal), timed: bool) -> io::Result<()
     };
     let work = Writes { user: &user };
     pair.run(alloc, &work);
-    let mut times = Times::new();
+    let mut times = Times::new(MAPS);
     for _ in 0..(if timed { 1_000 } else { 1 }) {
         times.time(rt, &mut pair, &work)?;
     }
@@ -119,8 +130,8 @@ fn appends(rt: &(impl Clock + Print + AllocGlobal), timed: bool) -> io::Result<(
         return println!(rt; "out of memory");
     };
     let (names, user) = (&names, &user);
-    let mut small = Times::new();
-    let mut large = Times::new();
+    let mut small = Times::new(MAPS);
+    let mut large = Times::new(MAPS);
     for _ in 0..(if timed { 100 } else { 1 }) {
         pair.run(alloc, &Adds { names, user });
         small.time(rt, &mut pair, &Appends { user })?;
@@ -131,6 +142,53 @@ fn appends(rt: &(impl Clock + Print + AllocGlobal), timed: bool) -> io::Result<(
     }
     small.print(rt, "appends of 64 bytes up to 1 MB", timed)?;
     large.print(rt, "appends of 4 kB up to 1 MB", timed)
+}
+
+/// Two levels over a root with so many files, the newest of 1 MB, and the plain store under them.
+fn two_levels(alloc: Global, files: u64) -> Option<Levels> {
+    let mut pair = directory(alloc, files)?;
+    pair.run(
+        alloc,
+        &Writes {
+            user: &user(alloc)?,
+        },
+    );
+    Levels::over(alloc, pair.into_store())
+}
+
+/// Looks names up in a root of so many files, lists it, and reads a file of 1 MB, over two levels.
+fn read_levels(
+    rt: &(impl Clock + Print + AllocGlobal),
+    files: u64,
+    rounds: u64,
+    timed: bool,
+) -> io::Result<()> {
+    let alloc = rt.alloc();
+    let step = files / NAMES;
+    let (Some(mut levels), Some(names)) = (two_levels(alloc, files), names(alloc, NAMES, step, ""))
+    else {
+        return println!(rt; "out of memory");
+    };
+    let mut finds = Times::new(STORE);
+    let mut lists = Times::new(STORE);
+    let mut reads = Times::new(STORE);
+    let work = Finds {
+        names: &names,
+        rounds: if timed { 1_000 } else { 1 },
+    };
+    for _ in 0..(if timed { 1_000 } else { 1 }) {
+        finds.time(rt, &mut levels, &work)?;
+        reads.time(rt, &mut levels, &Reads)?;
+    }
+    for _ in 0..(if timed { rounds } else { 1 }) {
+        lists.time(rt, &mut levels, &Lists)?;
+    }
+    print!(rt; "over two levels, {files} files: ")?;
+    finds.print(rt, "look-ups", timed)?;
+    print!(rt; "over two levels, {files} files: ")?;
+    lists.print(rt, "entries of listings", timed)?;
+    print!(rt; "over two levels, {files} files: ")?;
+    reads.print(rt, "reads of 4 kB from 1 MB", timed)
 }
 
 fn main(rt: HostRuntime) -> io::Result<()> {
@@ -144,5 +202,9 @@ fn main(rt: HostRuntime) -> io::Result<()> {
     listings(&rt, 16, 40_960, timed)?;
     listings(&rt, 65_536, 10, timed)?;
     writes(&rt, timed)?;
-    appends(&rt, timed)
+    appends(&rt, timed)?;
+    for (files, rounds) in [(16, 40_960), (1_024, 640), (65_536, 10)] {
+        read_levels(&rt, files, rounds, timed)?;
+    }
+    Ok(())
 }

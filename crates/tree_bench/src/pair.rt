@@ -1,15 +1,13 @@
-//! The plain store beside std's maps, and how long each of them takes.
+//! The plain store beside std's maps.
 
 use crate::ordinary::Files;
 use crate::subject::Subject;
+use crate::times::Twins;
 use crate::work::Work;
 use cs_names::{Name, Path, UserName};
 use cs_tree::PlainTree;
 use cs_tree_model::{Content, DMDIR, Record};
 use std::alloc::Global;
-use std::io;
-use std::rt::Clock;
-use std::time::{Duration, Instant};
 
 /// The same files twice, in the root.
 #[derive(Drop)]
@@ -55,56 +53,20 @@ impl Pair {
         work.run(alloc, &mut self.store);
         work.run(alloc, &mut self.plain);
     }
+
+    /// The store.
+    pub fn into_store(self) -> PlainTree {
+        self.store
+    }
 }
 
-/// How long a work took on the store and on std's maps, and how much of it was done.
-#[derive(Drop)]
-pub struct Times {
-    store: Duration,
-    plain: Duration,
-    done: u64,
-    done_plain: u64,
-}
-
-impl Times {
-    pub fn new() -> Times {
-        Times {
-            store: Duration::ZERO,
-            plain: Duration::ZERO,
-            done: 0,
-            done_plain: 0,
-        }
+impl<W: Work> Twins<W> for Pair {
+    fn run_first(&mut self, alloc: Global, work: &W) -> u64 {
+        work.run(alloc, &mut self.store)
     }
 
-    /// Does the work once more on both.
-    pub fn time<R: Clock + AllocGlobal, W: Work>(
-        &mut self,
-        rt: &R,
-        pair: &mut Pair,
-        work: &W,
-    ) -> io::Result<()> {
-        let start = Instant::now(rt)?;
-        let done = work.run(rt.alloc(), &mut pair.store);
-        self.store = self.store.saturating_add(start.elapsed(rt)?);
-        self.done = self.done.wrapping_add(done);
-        let start = Instant::now(rt)?;
-        let done = work.run(rt.alloc(), &mut pair.plain);
-        self.plain = self.plain.saturating_add(start.elapsed(rt)?);
-        self.done_plain = self.done_plain.wrapping_add(done);
-        Ok(())
-    }
-
-    /// Prints how much was done, and with the times how long it took.
-    pub fn print(&self, rt: &impl Print, what: &str, timed: bool) -> io::Result<()> {
-        let done = self.done;
-        let done_plain = self.done_plain;
-        if !timed {
-            return println!(rt; "{what}: {done}, on std's maps {done_plain}");
-        }
-        let store = self.store.as_millis();
-        let plain = self.plain.as_millis();
-        let times = self.store.as_secs_f64() / self.plain.as_secs_f64();
-        println!(rt; "{what}: {done} in {store} ms, on std's maps {plain} ms: {times:.2} times")
+    fn run_second(&mut self, alloc: Global, work: &W) -> u64 {
+        work.run(alloc, &mut self.plain)
     }
 }
 

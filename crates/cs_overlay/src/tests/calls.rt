@@ -73,7 +73,7 @@ fn remove<T: TreeStore>(tree: &mut T, alloc: Global, number: u64, stamp: Stamp) 
     tree.remove(alloc, number, stamp).ok()
 }
 
-fn write<T: TreeStore>(
+pub fn write<T: TreeStore>(
     tree: &mut T,
     alloc: Global,
     number: u64,

@@ -2,7 +2,7 @@
 
 use super::calls::{Call, Fields, NONE, make};
 use super::shown::{lines, listed, new_lines};
-use super::start::start_tree;
+use super::start::{frozen_start, start_tree};
 use cs_names::Path;
 use cs_tree_model::{DMAPPEND, DMDIR, TreeRead, TreeStore, number_of_path};
 use std::alloc::Global;
@@ -30,6 +30,14 @@ fn work<T: TreeStore>(rt: &impl Abort, alloc: Global, tree: &mut T, steps: &[Ste
         let wanted = joined(alloc, changed).expect(rt, "memory");
         assert_eq!(rt; found.as_str(), wanted.as_str(), "at {now}");
     }
+}
+
+/// Makes them over the start tree, and over the start tree as one that was frozen.
+fn work_on_both(rt: &impl Abort, alloc: Global, steps: &[Step]) {
+    let mut tree = start_tree(alloc).expect(rt, "the start tree");
+    work(rt, alloc, &mut tree, steps);
+    let mut tree = frozen_start(alloc).expect(rt, "the frozen tree");
+    work(rt, alloc, &mut tree, steps);
 }
 
 fn found_at<T: TreeRead>(alloc: Global, tree: &T, path: &str) -> Option<u64> {
@@ -112,7 +120,8 @@ const FILES: [Step; 9] = [
 
 #[test]
 fn a_new_file_has_a_number_that_no_file_ever_had(rt: HostRuntime) {
-    let mut tree = start_tree(rt.alloc()).expect(&rt, "the start tree");
+    work_on_both(&rt, rt.alloc(), &FILES);
+    let mut tree = frozen_start(rt.alloc()).expect(&rt, "the frozen tree");
     work(&rt, rt.alloc(), &mut tree, &FILES);
     assert_eq!(&rt; (tree.count(), tree.last_number()), (8, 11));
 }
@@ -158,8 +167,7 @@ const WRITES: [Step; 6] = [
 
 #[test]
 fn a_write_changes_its_file_alone(rt: HostRuntime) {
-    let mut tree = start_tree(rt.alloc()).expect(&rt, "the start tree");
-    work(&rt, rt.alloc(), &mut tree, &WRITES);
+    work_on_both(&rt, rt.alloc(), &WRITES);
 }
 
 const LENGTHS: [Step; 2] = [
@@ -325,8 +333,7 @@ const FIELDS: [Step; 9] = [
 
 #[test]
 fn a_change_gives_the_fields_that_it_names(rt: HostRuntime) {
-    let mut tree = start_tree(rt.alloc()).expect(&rt, "the start tree");
-    work(&rt, rt.alloc(), &mut tree, &FIELDS);
+    work_on_both(&rt, rt.alloc(), &FIELDS);
 }
 
 const RENAMES: [Step; 4] = [
@@ -384,27 +391,34 @@ const RENAMES: [Step; 4] = [
     ),
 ];
 
-#[test]
-fn a_directory_takes_all_below_it_to_its_new_name(rt: HostRuntime) {
-    let mut tree = start_tree(rt.alloc()).expect(&rt, "the start tree");
-    work(&rt, rt.alloc(), &mut tree, &RENAMES[..2]);
+/// Renames directories, and looks up what was below them.
+fn rename_directories<T: TreeStore>(rt: &impl Abort, alloc: Global, tree: &mut T) {
+    work(rt, alloc, tree, &RENAMES[..2]);
     for (path, number) in [
         ("/e/s/z", Some(3)),
         ("/e/g", Some(7)),
         ("/d", None),
         ("/d/s/z", None),
     ] {
-        assert_eq!(&rt; found_at(rt.alloc(), &tree, path), number, "{path}");
+        assert_eq!(rt; found_at(alloc, tree, path), number, "{path}");
     }
-    work(&rt, rt.alloc(), &mut tree, &RENAMES[2..]);
+    work(rt, alloc, tree, &RENAMES[2..]);
     for (path, number) in [
         ("/d", Some(8)),
         ("/d/s", None),
         ("/e/z/z", Some(3)),
         ("/e/s", None),
     ] {
-        assert_eq!(&rt; found_at(rt.alloc(), &tree, path), number, "{path}");
+        assert_eq!(rt; found_at(alloc, tree, path), number, "{path}");
     }
-    let found = listed(rt.alloc(), &tree, 0).expect(&rt, "memory");
-    assert_eq!(&rt; found.as_str(), "d 8, e 1, f 4, n 5, p 6, ");
+    let found = listed(alloc, tree, 0).expect(rt, "memory");
+    assert_eq!(rt; found.as_str(), "d 8, e 1, f 4, n 5, p 6, ");
+}
+
+#[test]
+fn a_directory_takes_all_below_it_to_its_new_name(rt: HostRuntime) {
+    let mut tree = start_tree(rt.alloc()).expect(&rt, "the start tree");
+    rename_directories(&rt, rt.alloc(), &mut tree);
+    let mut tree = frozen_start(rt.alloc()).expect(&rt, "the frozen tree");
+    rename_directories(&rt, rt.alloc(), &mut tree);
 }

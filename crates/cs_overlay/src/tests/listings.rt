@@ -2,7 +2,7 @@
 
 use super::calls::{Call, make};
 use super::shown::listed;
-use super::start::start_tree;
+use super::start::{frozen_start, start_tree};
 use cs_names::Name;
 use cs_tree_model::{TreeRead, TreeStore};
 use std::alloc::Global;
@@ -75,5 +75,7 @@ fn list_and_remove<T: TreeStore>(rt: &impl Abort, alloc: Global, tree: &mut T) {
 #[test]
 fn a_listing_goes_on_behind_a_name_that_is_gone(rt: HostRuntime) {
     let mut tree = start_tree(rt.alloc()).expect(&rt, "the start tree");
+    list_and_remove(&rt, rt.alloc(), &mut tree);
+    let mut tree = frozen_start(rt.alloc()).expect(&rt, "the frozen tree");
     list_and_remove(&rt, rt.alloc(), &mut tree);
 }

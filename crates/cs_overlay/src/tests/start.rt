@@ -1,9 +1,10 @@
 //! The start tree.
 
 use crate::Overlay;
+use cs_lower::Lower;
 use cs_names::{Path, UserName};
 use cs_tree::PlainTree;
-use cs_tree_model::{Content, DMDIR, Record};
+use cs_tree_model::{Content, DMDIR, Record, TreeRead};
 use std::alloc::Global;
 use std::sync::Arc;
 
@@ -63,4 +64,55 @@ pub fn plain_tree(alloc: Global) -> Option<Arc<PlainTree>> {
 /// The start tree with nothing over it yet.
 pub fn start_tree(alloc: Global) -> Option<Overlay<PlainTree>> {
     Some(Overlay::over(alloc, plain_tree(alloc)?))
+}
+
+/// An overlay over a frozen overlay over a plain tree.
+pub type TwoLevels = Overlay<Lower<Overlay<PlainTree>>>;
+
+/// The files of the start tree, numbered in another order.
+const MADE: [Row; 7] = [
+    (0, "/", b"cat", b"staff", DMDIR | 0o775, None),
+    (1, "/p", b"ann", b"staff", DMDIR | 0o750, None),
+    (2, "/f", b"ann", b"staff", 0o664, Some(b"hello")),
+    (3, "/d", b"ann", b"staff", DMDIR | 0o755, None),
+    (5, "/n", b"none", b"none", 0o600, Some(b"")),
+    (6, "/d/s", b"ann", b"ann", DMDIR | 0o700, None),
+    (9, "/d/s/z", b"ann", b"ann", 0o644, Some(b"")),
+];
+
+/// A record that was changed before.
+fn changed(alloc: Global, row: &Row) -> Option<(Path, Record)> {
+    let (path, record) = record(alloc, row)?;
+    let muid = UserName::read(alloc, b"zed").ok()?;
+    let record = Record {
+        number: record.number,
+        vers: 3,
+        owner: record.owner,
+        group: record.group,
+        mode: record.mode,
+        atime: 7,
+        mtime: 8,
+        muid,
+        content: record.content,
+    };
+    Some((path, record))
+}
+
+/// A tree that is frozen, as a lower tree.
+pub fn frozen<L: TreeRead + Drop>(
+    alloc: Global,
+    tree: Overlay<L>,
+) -> Option<Arc<Lower<Overlay<L>>>> {
+    Arc::new(alloc, tree.freeze(alloc).ok()?).ok()
+}
+
+/// The start tree again: files that were made in another order, and changed since, are frozen.
+pub fn frozen_start(alloc: Global) -> Option<TwoLevels> {
+    let mut records = Vec::new(alloc);
+    for row in &MADE {
+        records.push(changed(alloc, row)?).ok()?;
+    }
+    let plain = PlainTree::try_from_records(alloc, records).ok()?;
+    let made = Overlay::over(alloc, Arc::new(alloc, plain).ok()?);
+    Some(Overlay::over(alloc, frozen(alloc, made)?))
 }
