@@ -176,6 +176,8 @@ fn read_levels(
         names: &names,
         rounds: if timed { 1_000 } else { 1 },
     };
+    // untimed: the first read pays for the memory that freezing let go
+    Times::new(STORE).time(rt, &mut levels, &Reads)?;
     for _ in 0..(if timed { 1_000 } else { 1 }) {
         finds.time(rt, &mut levels, &work)?;
         reads.time(rt, &mut levels, &Reads)?;

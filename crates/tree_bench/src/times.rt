@@ -17,6 +17,7 @@ pub trait Twins<W> {
 pub struct Times {
     // what the second is
     second_is: &'static str,
+    second_begins: bool,
     first: Duration,
     second: Duration,
     done: u64,
@@ -27,6 +28,7 @@ impl Times {
     pub fn new(second_is: &'static str) -> Times {
         Times {
             second_is,
+            second_begins: true,
             first: Duration::ZERO,
             second: Duration::ZERO,
             done: 0,
@@ -34,8 +36,24 @@ impl Times {
         }
     }
 
-    /// Does the work once more on both.
+    /// Does the work once more on both, each time in the other order: who comes second finds what it
+    /// reads in the caches.
     pub fn time<R: Clock + AllocGlobal, W, T: Twins<W>>(
+        &mut self,
+        rt: &R,
+        twins: &mut T,
+        work: &W,
+    ) -> io::Result<()> {
+        self.second_begins = !self.second_begins;
+        if self.second_begins {
+            self.time_second(rt, twins, work)?;
+            return self.time_first(rt, twins, work);
+        }
+        self.time_first(rt, twins, work)?;
+        self.time_second(rt, twins, work)
+    }
+
+    fn time_first<R: Clock + AllocGlobal, W, T: Twins<W>>(
         &mut self,
         rt: &R,
         twins: &mut T,
@@ -45,6 +63,15 @@ impl Times {
         let done = twins.run_first(rt.alloc(), work);
         self.first = self.first.saturating_add(start.elapsed(rt)?);
         self.done = self.done.wrapping_add(done);
+        Ok(())
+    }
+
+    fn time_second<R: Clock + AllocGlobal, W, T: Twins<W>>(
+        &mut self,
+        rt: &R,
+        twins: &mut T,
+        work: &W,
+    ) -> io::Result<()> {
         let start = Instant::now(rt)?;
         let done = twins.run_second(rt.alloc(), work);
         self.second = self.second.saturating_add(start.elapsed(rt)?);
