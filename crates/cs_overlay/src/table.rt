@@ -56,10 +56,10 @@ fn say_in(entry: &mut Option<Node>, name: Name, answer: Option<u64>) -> Result<(
     ensures ok { OnOk result (entry.new ≡ option_map (λ d. with_answer d name answer) entry.old) }
     ensures err { OnErr result (entry.new ≡ entry.old) }
 {
-    match entry {
-        Some(node) => node.say(name, answer),
-        None => Ok(()),
+    if let Some(node) = entry {
+        node.say(name, answer)?;
     }
+    Ok(())
 }
 
 /// Says in a directory which file has a name, or that none has it.

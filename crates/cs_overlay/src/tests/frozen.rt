@@ -133,7 +133,7 @@ fn resized(length: u64) -> Call {
 }
 
 #[test]
-fn bytes_of_a_frozen_file_don_t_show_after_a_cut(rt: HostRuntime) {
+fn a_cut_over_a_frozen_file_grows_by_zeros(rt: HostRuntime) {
     let state = with_letters(rt.alloc()).expect(&rt, "a frozen tree");
     let mut first = Overlay::over(rt.alloc(), state.clone().expect(&rt, "a share"));
     let other = Overlay::over(rt.alloc(), state.clone().expect(&rt, "a share"));
