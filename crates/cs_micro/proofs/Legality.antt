@@ -64,22 +64,22 @@ bytes_length block offset bytes begins ends =
     let taken = length-take (to - from) (drop from bytes) in
     omega (arith, dropped, taken, begins, ends)
 
-block_quiet : (m : Paths) (made file offset : ℕ) (bytes : List ℕ) (block : ℕ) → file < made → 0 < length bytes → offset + length bytes ≤ FILE_BYTES
+block_quiet : (m : Paths) (made file offset : ℕ) (bytes : List ℕ) (block : ℕ) → trace.Stands m file → file < made → 0 < length bytes → offset + length bytes ≤ FILE_BYTES
     → start_of block < offset + length bytes → offset < start_of (block + 1) → IsQuiet m made (block_write file offset bytes block)
-block_quiet m made file offset bytes block known some limit begins ends =
+block_quiet m made file offset bytes block stands known some limit begins ends =
     let long = bytes_length block offset bytes begins ends in
     record {
-      legal = (known, omega (arith, some, long, begins, ends), omega (arith, long, begins, ends), omega (arith, long, begins, ends, limit));
+      legal = (known, omega (arith, some, long, begins, ends), omega (arith, long, begins, ends), omega (arith, long, begins, ends, limit), stands);
       paths = refl;
       files = refl;
     }
 
-blocks_leave : (m : Paths) (made file offset : ℕ) (bytes : List ℕ) → file < made → 0 < length bytes → offset + length bytes ≤ FILE_BYTES
+blocks_leave : (m : Paths) (made file offset : ℕ) (bytes : List ℕ) → trace.Stands m file → file < made → 0 < length bytes → offset + length bytes ≤ FILE_BYTES
     → Leaves m made (block_writes file offset bytes) m made
 unfolding block_writes
-blocks_leave m made file offset bytes known some limit =
+blocks_leave m made file offset bytes stands known some limit =
     quiet_leaves m made (block_write file offset bytes) (block_of offset) _
-    (λ block low high. block_quiet m made file offset bytes block known some limit (omega (arith, some, low, high)) (omega (arith, some, low, high)))
+    (λ block low high. block_quiet m made file offset bytes block stands known some limit (omega (arith, some, low, high)) (omega (arith, some, low, high)))
 
 -- ---- one operation
 
@@ -90,16 +90,16 @@ both_leave m made xs ys after last count n one two = record {
   files = fold-append made_after made xs ys ∙ ap (λ i. fold made_after i ys) one.files ∙ two.files;
 }
 
-size_leaves : (m : Paths) (made file to : ℕ) (b : Bool) → file < made → to ≤ FILE_BYTES → Leaves m made (cond b (ChangeFileSize file to ∷ []) []) m made
-size_leaves m made file to true known limit = record { legal = ((known, limit), tt); paths = refl; files = refl }
-size_leaves m made file to false known limit = record { legal = tt; paths = refl; files = refl }
+size_leaves : (m : Paths) (made file to : ℕ) (b : Bool) → trace.Stands m file → file < made → to ≤ FILE_BYTES → Leaves m made (cond b (ChangeFileSize file to ∷ []) []) m made
+size_leaves m made file to true stands known limit = record { legal = ((known, limit, stands), tt); paths = refl; files = refl }
+size_leaves m made file to false stands known limit = record { legal = tt; paths = refl; files = refl }
 
-resized_leaves : (m : Paths) (made file to : ℕ) (b : Bool) → file < made → to ≤ FILE_BYTES → Leaves m made (cond b [] (ChangeFileSize file to ∷ [])) m made
-resized_leaves m made file to true known limit = record { legal = tt; paths = refl; files = refl }
-resized_leaves m made file to false known limit = record { legal = ((known, limit), tt); paths = refl; files = refl }
+resized_leaves : (m : Paths) (made file to : ℕ) (b : Bool) → trace.Stands m file → file < made → to ≤ FILE_BYTES → Leaves m made (cond b [] (ChangeFileSize file to ∷ [])) m made
+resized_leaves m made file to true stands known limit = record { legal = tt; paths = refl; files = refl }
+resized_leaves m made file to false stands known limit = record { legal = ((known, limit, stands), tt); paths = refl; files = refl }
 
-written_leaves : (m : Paths) (made file size offset : ℕ) (bytes : List ℕ) → file < made → (0 < length bytes → offset + length bytes ≤ FILE_BYTES) → Leaves m made (written file size offset bytes) m made
-written_leaves m made file size offset bytes known limit = by (length bytes == 0) refl
+written_leaves : (m : Paths) (made file size offset : ℕ) (bytes : List ℕ) → trace.Stands m file → file < made → (0 < length bytes → offset + length bytes ≤ FILE_BYTES) → Leaves m made (written file size offset bytes) m made
+written_leaves m made file size offset bytes stands known limit = by (length bytes == 0) refl
   where
     by : (b : Bool) → (length bytes == 0) ≡ b → Leaves m made (cond b [] (grown file size (offset + length bytes) ++ block_writes file offset bytes)) m made
     by true e = record { legal = tt; paths = refl; files = refl }
@@ -107,8 +107,8 @@ written_leaves m made file size offset bytes known limit = by (length bytes == 0
         let filled : length bytes ≢ 0 = λ none. false≢true (sym e ∙ eq-eqb (length bytes) 0 none) in
         let some : 0 < length bytes = omega (arith, filled) in
         both_leave m made (grown file size (offset + length bytes)) (block_writes file offset bytes) m m made made
-        (size_leaves m made file (offset + length bytes) (nat_lt size (offset + length bytes)) known (limit some))
-        (blocks_leave m made file offset bytes known some (limit some))
+        (size_leaves m made file (offset + length bytes) (nat_lt size (offset + length bytes)) stands known (limit some))
+        (blocks_leave m made file offset bytes stands known some (limit some))
 
 -- a file that comes to its own path
 moved_itself : (m : Paths) (p : Path) (node : Node) → get m p ≡ Some node → trace.moved p p m ≡ m
@@ -144,9 +144,9 @@ operation_leaves m sizes (Rmdir p) legal = record { legal = (legal, tt); paths =
 operation_leaves m sizes (Rename p q) legal = renamed_leaves m (length sizes) p q legal.0 legal.1
 operation_leaves m sizes (Write file size offset bytes) legal =
     same_count m sizes file (trace.written_size size offset bytes) (written file size offset bytes)
-    (written_leaves m (length sizes) file size offset bytes (slice_get_within sizes file size legal.0) legal.1)
+    (written_leaves m (length sizes) file size offset bytes legal.0 (slice_get_within sizes file size legal.1) legal.2)
 operation_leaves m sizes (Truncate file size to) legal =
-    same_count m sizes file to (resized file size to) (resized_leaves m (length sizes) file to (size == to) (slice_get_within sizes file size legal.0) legal.1)
+    same_count m sizes file to (resized file size to) (resized_leaves m (length sizes) file to (size == to) legal.0 (slice_get_within sizes file size legal.1) legal.2)
 operation_leaves m sizes (Sync covers) legal = record { legal = tt; paths = refl; files = refl }
 operation_leaves m sizes Say legal = record { legal = (tt, tt); paths = refl; files = refl }
 

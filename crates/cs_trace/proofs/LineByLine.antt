@@ -85,4 +85,4 @@ MayWant-line m i all line low is before says =
     }
 
 pub MayWant-last : (all : List (List ℕ)) → 0 < length all → IsOk (state_in all) → IsOk (trace_by all) → MayWant all (length all)
-MayWant-last all some ok start = record { above = some; among = omega arith; before = prefix_ok (length all - 1) all ok; blank = λ _. start }
+MayWant-last all some ok start = record { above = some; among = omega arith; before = prefix_ok (length all - 1) all ok; blank = λ _. (refl, start) }

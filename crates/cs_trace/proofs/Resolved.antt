@@ -19,8 +19,7 @@ use Rattle.cs_trace.specs.Judging.{covered_by, emptied_at, emptied_by, ends_abov
 use Rattle.cs_trace.specs.Lines as line
 use Rattle.cs_trace.specs.Lines.{Claims, OperationLine}
 use Rattle.cs_trace.specs.Names.{below_root, entry_path_of, new_path_of, path_of, rights_of}
-use Rattle.cs_trace.specs.Operations.{HasSize, IsEmptyAt, IsFree, IsLegal, Paths}
-use Rattle.cs_trace.specs.States.{made_by}
+use Rattle.cs_trace.specs.Operations.{HasSize, IsEmptyAt, IsFree, IsLegal, Paths, made_by}
 use Rattle.cs_trace.specs.declared.operation.Node.{Node}
 use Rattle.cs_trace.specs.declared.operation.Node.TheVariants.{Directory, File}
 use Rattle.cs_trace.specs.declared.operation.Operation.{Operation}
@@ -119,7 +118,7 @@ pub record IsTaken (m : Paths) (sizes : List ℕ) (made : ℕ) (o : Operation) :
 short_by : (p : Path) → has_too_many_names p ≡ false → length p ≤ TRACE_PATH_NAMES
 short_by p is = grind (arith, nat_tests)
 
-not_either : (a b : Bool) → a || b ≡ false → (a ≡ false) × (b ≡ false)
+pub not_either : (a b : Bool) → a || b ≡ false → (a ≡ false) × (b ≡ false)
 not_either true b is = absurd (false≢true (sym is))
 not_either false b is = (refl, is)
 
@@ -149,7 +148,7 @@ module _ (m : Paths) (sizes : List ℕ) (made : ℕ) (known : AreKnown m sizes) 
   covered : (node : Option Node) (p : Path) → get m p ≡ node → (o : Operation) → covered_by node p ≡ Ok o → Taken o
   covered None p there o is = absurd (cc)
   covered (Some Directory) p there o is = value_by (Sync (covers.Directory p)) Taken (record { legal = there; short = tt; few = same_made }) o is
-  covered (Some (File file)) p there o is = value_by (Sync (covers.File file)) Taken (record { legal = known p file there; short = tt; few = same_made }) o is
+  covered (Some (File file)) p there o is = value_by (Sync (covers.File file)) Taken (record { legal = ((p, there), known p file there); short = tt; few = same_made }) o is
 
   free_at_is : (p : Path) (u : Unit {0}) → free_by (get m (parent_path p)) (get m p) ≡ Ok u → IsFree m p
   free_at_is p u is = free_is _ _ u is
@@ -177,11 +176,11 @@ module _ (m : Paths) (sizes : List ℕ) (made : ℕ) (known : AreKnown m sizes) 
   resolve_taken (line.Write text offset bytes) octal =
       then_by (legal (entry_path_of text)) _ Taken (λ p _. then_by (file_at m p) _ Taken (λ file there.
       limit_by (ends_above offset bytes) (Write file (size_in sizes file) offset bytes) Taken (λ large.
-      record { legal = (size_of_file p file there, ends_within offset bytes large); short = tt; few = same_made })))
+      record { legal = ((p, file_is _ file there), size_of_file p file there, ends_within offset bytes large); short = tt; few = same_made })))
   resolve_taken (line.Truncate text size) octal =
       then_by (legal (entry_path_of text)) _ Taken (λ p _. then_by (file_at m p) _ Taken (λ file there.
       limit_by (nat_lt FILE_BYTES size) (Truncate file (size_in sizes file) size) Taken (λ large.
-      record { legal = (size_of_file p file there, within size large); short = tt; few = same_made })))
+      record { legal = ((p, file_is _ file there), size_of_file p file there, within size large); short = tt; few = same_made })))
   resolve_taken (line.Fsync text) octal = then_by (legal (path_of text)) _ Taken (λ p _. covered (get m p) p refl)
   resolve_taken line.Sync octal = value_by (Sync covers.All) Taken (record { legal = tt; short = tt; few = same_made })
   resolve_taken (line.Say text) octal = limit_by (nat_lt SAY_BYTES (length text)) Say Taken (λ _. record { legal = tt; short = tt; few = same_made })

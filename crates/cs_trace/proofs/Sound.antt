@@ -1,11 +1,11 @@
 -- What each line that is taken keeps.
 use Rattle.std.proofs.Common.{◌≡◌, ◌≢◌, ◌⊎◌, ℕ, suc, zero, ◌+◌, ◌<◌, ◌≤◌, true, false, cond, List, [], ◌∷◌, ◌++◌, length, map, inl, inr, ⊎_elim, Option, None, Some, option_map, refl, sym, ap, ◌∙◌, subst, arith, length-append}
 use Rattle.std.proofs.lemmas.List.{length-map, map-append}
-use Rattle.std.specs.FinMap.{FinMap, get, insert, get-insert, same_map}
-use Rattle.std.specs.List.{slice_get}
-use Rattle.std.specs.Option.{option_map_or}
+use Rattle.std.specs.FinMap.{FinMap, get, insert, get-insert, len, len-insert, same_map}
+use Rattle.std.specs.List.{slice_get, sum_by}
+use Rattle.std.specs.Option.{is_some, option_map_or}
 use Rattle.std.specs.Ordering.{eq_by_cmp}
-use Rattle.cs_names.specs.declared.limits.TheConstants.{TRACE_PATH_NAMES, TREE_RECORDS}
+use Rattle.cs_names.specs.declared.limits.TheConstants.{FILE_BYTES, TRACE_PATH_NAMES, TREE_RECORDS}
 use Rattle.cs_tree_model.specs.Laws.Fresh.{not_both}
 use Rattle.cs_tree_model.specs.Laws.Paths.{path_cases, path_exact, path_total}
 use Rattle.cs_tree_model.specs.Maps.Changes.{get-insert_same, get-insert_other}
@@ -13,7 +13,7 @@ use Rattle.cs_tree_model.specs.Maps.Values.{get-map_values, map_values}
 use Rattle.cs_tree_model.specs.Tree.{Path, path_cmp, parent_path}
 use Rattle.cs_trace.specs.Entries.{Entries, node_by, node_of, size_of}
 use Rattle.cs_trace.specs.Judging.{AreShort}
-use Rattle.cs_trace.specs.Operations.{AreLegal, IsDirectoryAt, Paths, paths_after_all, sizes_after_all}
+use Rattle.cs_trace.specs.Operations.{AreLegal, IsDirectoryAt, Paths, made_by, paths_after_all, sizes_after_all}
 use Rattle.cs_trace.specs.States.{State, nothing, with_entry}
 use Rattle.cs_trace.specs.declared.entry.Entry.{Entry}
 use Rattle.cs_trace.specs.declared.operation.Node.{Node}
@@ -32,6 +32,10 @@ entry_size e = option_map_or (λ f. size_of f.content) e 0
 abbrev pub sizes_of : State → List ℕ
 sizes_of s = map (λ p. entry_size (get s.start p)) s.files
 
+-- no file at the start has too many bytes
+abbrev pub AreSmall : Entries → Type 0
+AreSmall m = (p : Path) (e : Entry) → get m p ≡ Some e → size_of e.content ≤ FILE_BYTES
+
 pub record IsSound (s : State) : Type 0 where
   pub fresh : s.made ≡ 0 → s ≡ nothing
   pub rooted : s.made ≢ 0 → IsDirectoryAt (start_of s) []
@@ -46,10 +50,12 @@ pub record IsSound (s : State) : Type 0 where
   pub known : AreKnown s.paths s.sizes
   pub few : s.made ≤ TREE_RECORDS
   pub counted : length s.sizes ≤ s.made
+  pub tallied : s.made ≡ len s.start + sum_by made_by s.operations
+  pub small : AreSmall s.start
 
 -- ---- lists that grow
 
-some_same : {X : Type 0} (a b : X) → Some a ≡ Some b → a ≡ b
+pub some_same : {X : Type 0} (a b : X) → Some a ≡ Some b → a ≡ b
 some_same a b is = cc
 
 slice_get-push_old : {X : Type 0} (xs : List X) (x : X) (n : ℕ) (y : X) → slice_get xs n ≡ Some y → slice_get (xs ++ x ∷ []) n ≡ Some y
@@ -113,7 +119,7 @@ file_number a b is = cc
 
 module _ (s : State) (sound : IsSound s) (p : Path) (e : Entry)
     (none : s.operations ≡ []) (free : get (start_of s) p ≡ None) (above : p ≢ [] → IsDirectoryAt (start_of s) (parent_path p))
-    (octal : e.rights.permissions ≤ 511) (short : length p ≤ TRACE_PATH_NAMES) (few : s.made + 1 ≤ TREE_RECORDS) where
+    (octal : e.rights.permissions ≤ 511) (short : length p ≤ TRACE_PATH_NAMES) (few : s.made + 1 ≤ TREE_RECORDS) (small : size_of e.content ≤ FILE_BYTES) where
   abbrev now : Paths
   now = insert (start_of s) p (node_of e)
 
@@ -136,6 +142,22 @@ module _ (s : State) (sound : IsSound s) (p : Path) (e : Entry)
 
   all_octal : (q : Path) (f : Entry) → get (insert s.start p e) q ≡ Some f → f.rights.permissions ≤ 511
   all_octal = each_of s.start p e (λ q f. f.rights.permissions ≤ 511) octal (λ q f apart there. sound.octal q f there)
+
+  all_small : AreSmall (insert s.start p e)
+  all_small = each_of s.start p e (λ q f. size_of f.content ≤ FILE_BYTES) small (λ q f apart there. sound.small q f there)
+
+  no_entry : (o : Option Entry) → option_map node_of o ≡ None → is_some o ≡ false
+  no_entry None is = refl
+  no_entry (Some f) is = absurd (cc)
+
+  -- one entry more at the start
+  one_more : len (insert s.start p e) ≡ len s.start + 1
+  one_more =
+      len-insert path_total s.start p e
+      ∙ ap (λ b. cond b (len s.start) (len s.start + 1)) (no_entry (get s.start p) (sym (get-map_values path_cmp node_of s.start p) ∙ free))
+
+  tallied_now : s.made + 1 ≡ len (insert s.start p e) + sum_by made_by s.operations
+  tallied_now = let old = sound.tallied in omega (arith, old, one_more)
 
   all_short : AreShort (insert s.paths p (node_of e))
   all_short = each_of s.paths p (node_of e) (λ q node. length q ≤ TRACE_PATH_NAMES) short (λ q node apart there. sound.short q node there)
@@ -188,6 +210,8 @@ module _ (s : State) (sound : IsSound s) (p : Path) (e : Entry)
           q (File file) there refl;
       few = few;
       counted = let old = sound.counted in omega arith;
+      tallied = tallied_now;
+      small = all_small;
     }
       where
         here : node_of e ≡ Directory
@@ -224,6 +248,8 @@ module _ (s : State) (sound : IsSound s) (p : Path) (e : Entry)
           q (File file) there refl;
       few = few;
       counted = let old = sound.counted in omega (arith, length-append s.sizes (length bytes ∷ []));
+      tallied = tallied_now;
+      small = all_small;
     }
       where
         here : node_of e ≡ File e.number

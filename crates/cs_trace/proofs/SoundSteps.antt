@@ -1,9 +1,10 @@
 -- Each line that is taken leaves a sound state.
 use Rattle.std.proofs.Common.{◌≡◌, ◌≢◌, ℕ, ◌+◌, ◌<◌, ◌≤◌, ◌==◌, ◌||◌, Bool, true, false, List, [], ◌∷◌, ◌++◌, length, ⊎_elim, Option, option_map, None, Some, refl, sym, ap, ◌∙◌, subst, arith, length-append, Result, Ok, Err}
 use Rattle.std.proofs.lemmas.Bool.{false≢true, eqb-true, eq-eqb}
+use Rattle.std.proofs.lemmas.Bool.Decides.{nat_tests}
 use Rattle.std.proofs.lemmas.List.{length-set}
 use Rattle.std.proofs.lemmas.List.Sums.{fold_push}
-use Rattle.std.specs.FinMap.{get, insert, remove, empty, get-empty, same_map}
+use Rattle.std.specs.FinMap.{get, insert, remove, empty, get-empty, len-empty, same_map}
 use Rattle.std.specs.Option.{option_and_then, option_map_or}
 use Rattle.std.specs.Ordering.{eq_by_cmp}
 use Rattle.std.specs.Prelude.{if◌then◌else◌, nat_lt}
@@ -18,8 +19,9 @@ use Rattle.cs_trace.specs.Judging.{AreShort, and_then, free_at, is_too_much, leg
 use Rattle.cs_trace.specs.Kept.{IsBounded}
 use Rattle.cs_trace.specs.Lines.{Claims, Header, Line, Operation, Start, StartLine, UnknownOperation, UnknownStart, is_blank, line_in}
 use Rattle.cs_trace.specs.Names.{are_user_names, below_root, new_path_of, path_of}
-use Rattle.cs_trace.specs.Operations.{AreLegal, IsDirectoryAt, IsLegal, Paths, moved, paths_after, paths_after_all, sizes_after, sizes_after_all, written_size}
-use Rattle.cs_trace.specs.States.{State, at_line, entry_for, first_step, later_step, line_step, made_by, nothing, start_step, state_from, state_in, step, taken, with_start}
+use Rattle.cs_trace.specs.Operations.{AreLegal, IsDirectoryAt, IsLegal, Paths, made_by, moved, paths_after, paths_after_all, sizes_after, sizes_after_all, written_size}
+use Rattle.cs_trace.specs.States.{State, at_line, entry_for, first_step, later_step, line_step, nothing, start_step, state_from, state_in, step, taken, with_start}
+use Rattle.cs_trace.specs.declared.entry.Entry.{Entry}
 use Rattle.cs_trace.specs.declared.fault.TraceFaultKind.{TraceFaultKind}
 use Rattle.cs_trace.specs.declared.fault.TraceFaultKind.TheVariants.{Syntax, UnknownOp, BadName}
 use Rattle.cs_trace.specs.declared.operation.Node.{Node}
@@ -27,7 +29,7 @@ use Rattle.cs_trace.specs.declared.operation.Node.TheVariants.{Directory, File}
 use Rattle.cs_trace.specs.declared.operation.Operation.{Operation as Resolved}
 use Rattle.cs_trace.specs.declared.operation.Operation.TheVariants as op
 use Rattle.cs_trace.proofs.Octal.{HasOctal, IsOctal, line_octal}
-use Rattle.cs_trace.proofs.Resolved.{AreKnown, IsTaken, MakesShort, free_is, limits_by, resolve_taken}
+use Rattle.cs_trace.proofs.Resolved.{AreKnown, IsTaken, MakesShort, free_is, limits_by, not_either, resolve_taken}
 use Rattle.cs_trace.proofs.Sound.{IsSound, each_of, file_number, sound-directory, sound-file, start_of, sizes_of, stays}
 use Rattle.cs_trace.proofs.Within.{good, limit_by, then_by, value_by}
 
@@ -120,6 +122,8 @@ module _ (s : State) (sound : IsSound s) (made : s.made ≢ 0) where
     known = known_after s.paths s.sizes o sound.known is.legal;
     few = is.few;
     counted = counted_after s.sizes s.made o sound.counted;
+    tallied = let old = sound.tallied in let more = fold_push (λ (a : ℕ) (x : Resolved). a + made_by x) 0 s.operations o in omega (arith, old, more);
+    small = sound.small;
   }
 
   -- ---- one start line more
@@ -133,13 +137,13 @@ module _ (s : State) (sound : IsSound s) (made : s.made ≢ 0) where
 
   module _ (none : s.operations ≡ []) (p : Path) (claims : Claims) (octal : HasOctal claims) (named : p ≢ [])
       (free : get (start_of s) p ≡ None) (above : IsDirectoryAt (start_of s) (parent_path p)) (short : length p ≤ TRACE_PATH_NAMES) (few : s.made + 1 ≤ TREE_RECORDS) where
-    sound-start : (content : Option (List ℕ)) → IsSound (with_start s p claims content)
-    sound-start None =
+    sound-start : (content : Option (List ℕ)) → size_of content ≤ FILE_BYTES → IsSound (with_start s p claims content)
+    sound-start None small =
         let e = entry_for s claims None in
-        sound-directory s sound p e none free (λ _. above) octal short few (stays s sound p e none free (λ _. above) octal short few [] Directory (sound.rooted made)) refl
-    sound-start (Some bytes) =
+        sound-directory s sound p e none free (λ _. above) octal short few small (stays s sound p e none free (λ _. above) octal short few small [] Directory (sound.rooted made)) refl
+    sound-start (Some bytes) small =
         let e = entry_for s claims (Some bytes) in
-        sound-file s sound p e none free (λ _. above) octal short few (stays s sound p e none free (λ _. above) octal short few [] Directory (sound.rooted made)) bytes refl refl
+        sound-file s sound p e none free (λ _. above) octal short few small (stays s sound p e none free (λ _. above) octal short few small [] Directory (sound.rooted made)) bytes refl refl
 
   new_named : (read : Option Path) (t : Bool) (p : Path) → legal (option_and_then (λ q. if t then Some q else None) (option_and_then below_root read)) ≡ Ok p → p ≢ []
   new_named None t p is = absurd (cc)
@@ -147,18 +151,18 @@ module _ (s : State) (sound : IsSound s) (made : s.made ≢ 0) where
   new_named (Some (x ∷ names)) false p is = absurd (cc)
   new_named (Some (x ∷ names)) true p is = λ none. let same : good (x ∷ names) ≡ Ok [] = is ∙ ap good none in absurd (cc)
 
-  not_either : (a b : Bool) → a || b ≡ false → a ≡ false
-  not_either true b is = absurd (false≢true (sym is))
-  not_either false b is = refl
+  small_by : (size : ℕ) → nat_lt FILE_BYTES size ≡ false → size ≤ FILE_BYTES
+  small_by size is = grind (arith, nat_tests)
 
   sound-start_step : (l : StartLine) → HasOctal l.claims → s.operations ≡ [] → (n : State) → start_step s l ≡ Ok n → IsSound n
   sound-start_step l octal none =
       then_by (legal (new_path_of l.path l.claims)) _ IsSound (λ p path. then_by (free_at s.paths p) _ IsSound (λ u free. limit_by (is_too_much s.made p || nat_lt FILE_BYTES (size_of l.content)) (with_start s p l.claims l.content) IsSound (λ large.
       let same : s.paths ≡ start_of s = sound.paths ∙ ap (paths_after_all (start_of s)) none in
       let parts = free_is (get s.paths (parent_path p)) (get s.paths p) u free in
-      let limits = limits_by s.made p (not_either (is_too_much s.made p) _ large) in
+      let both = not_either (is_too_much s.made p) _ large in
+      let limits = limits_by s.made p both.0 in
       sound-start none p l.claims octal (new_named (path_of l.path) (are_user_names l.claims) p path)
-      (ap (λ m. get m p) (sym same) ∙ parts.0) (ap (λ m. get m (parent_path p)) (sym same) ∙ parts.1) limits.0 limits.1 l.content)))
+      (ap (λ m. get m p) (sym same) ∙ parts.0) (ap (λ m. get m (parent_path p)) (sym same) ∙ parts.1) limits.0 limits.1 l.content (small_by _ both.1))))
 
   begun_by : (t : Bool) (l : StartLine) → HasOctal l.claims → length s.operations == 0 ≡ t → (n : State) → (if t then start_step s l else Err Syntax) ≡ Ok n → IsSound n
   begun_by true l octal is n does = sound-start_step l octal (none_left is) n does
@@ -193,6 +197,8 @@ sound-nothing = record {
   known = λ p file there. absurd (not_both _ (File file) (get-empty path_cmp p) there);
   few = omega arith;
   counted = omega arith;
+  tallied = sym (ap (λ n. n + 0) (len-empty path_cmp Entry));
+  small = λ p e there. absurd (not_both _ e (get-empty path_cmp p) there);
 }
   where
     none_at : (p : Path) → get (start_of nothing) p ≡ None
@@ -210,7 +216,7 @@ module _ (claims : Claims) (octal : HasOctal claims) where
 
   sound-root : IsSound (with_start nothing [] claims None)
   sound-root =
-      sound-directory nothing sound-nothing [] (entry_for nothing claims None) refl free_root (λ named. absurd (named refl)) octal (omega arith) (omega arith)
+      sound-directory nothing sound-nothing [] (entry_for nothing claims None) refl free_root (λ named. absurd (named refl)) octal (omega arith) (omega arith) (omega arith)
       (get-insert_same path_total path_exact (start_of nothing) [] Directory) refl
 
 header_by : (t : Bool) (claims : Claims) → HasOctal claims → (n : State) → (if t then Ok (with_start nothing [] claims None) else Err BadName) ≡ Ok n → IsSound n

@@ -1,11 +1,14 @@
 -- What a sound state leaves is a trace.
-use Rattle.std.proofs.Common.{◌≡◌, ◌≢◌, ℕ, ◌+◌, ◌*◌, ◌^◌, ◌<◌, ◌≤◌, List, [], ◌∷◌, length, map, Option, None, Some, option_map, refl, sym, ap, ◌∙◌, subst, arith, lit≤}
+use Rattle.std.proofs.Common.{◌≡◌, ◌≢◌, ℕ, ◌+◌, ◌*◌, ◌^◌, ◌<◌, ◌≤◌, List, [], ◌∷◌, get_or, length, map, Option, None, Some, option_map, refl, sym, ap, ◌∙◌, subst, arith, lit≤}
 use Rattle.std.proofs.lemmas.List.{length-map}
+use Rattle.std.proofs.lemmas.List.Elements.{All-map}
 use Rattle.std.proofs.lemmas.Nat.Bits.{and_pow, bit_at_above, bit_at_cat_high}
-use Rattle.std.specs.FinMap.{entries, from_entries, get, get-entries, get-from_entries, same_map}
-use Rattle.std.specs.List.{slice_get, zip}
+use Rattle.std.specs.FinMap.{entries, entries_sorted, from_entries, get, len, len-entries, get-entries, get-from_entries, same_map}
+use Rattle.std.specs.List.{All, slice_get, zip}
+use Rattle.std.specs.List.Sorted.{IsStrictlySortedBy}
 use Rattle.std.specs.Option.{option_map_or}
 use Rattle.std.specs.Prelude.{bit_and}
+use Rattle.cs_names.specs.declared.limits.TheConstants.{FILE_BYTES, TREE_RECORDS}
 use Rattle.cs_tree_model.specs.Fresh.{IsNested, fresh, fresh_record, numbered, place_in}
 use Rattle.cs_tree_model.specs.Laws.Fresh.{listing-IsListing, record_at-fresh}
 use Rattle.cs_tree_model.specs.Laws.Paths.{path_exact, path_total}
@@ -17,10 +20,12 @@ use Rattle.cs_tree_model.specs.declared.record.Record.{Record}
 use Rattle.cs_trace.specs.Entries.{Entries, node_by, node_of, nodes_in, record_of, records_in, size_of}
 use Rattle.cs_trace.specs.Operations.{AreLegal, AreNested, IsDirectoryAt}
 use Rattle.cs_trace.specs.States.{State}
-use Rattle.cs_trace.specs.Traces.{IsTrace, size_at, standing, start_paths, start_sizes, whole}
+use Rattle.cs_trace.specs.Traces.{IsNodeOf, IsTrace, IsUnchanged, StandsAs, record_in, records_made, size_at, standing, start_paths, start_sizes, whole}
 use Rattle.cs_trace.specs.declared.entry.Entry.{Entry}
+use Rattle.cs_trace.specs.declared.operation.Node.{Node}
 use Rattle.cs_trace.specs.declared.operation.Node.TheVariants.{Directory, File}
 use Rattle.cs_trace.proofs.Sound.{IsSound, entry_size, start_of, sizes_of}
+use Rattle.cs_trace.proofs.Started.{keys_ascend, kind_at, small_by, stands_by, unchanged_at}
 
 -- ---- the records are a tree's
 
@@ -90,11 +95,15 @@ module _ (m : Entries) where
   size_by n None = refl
   size_by n (Some e) = refl
 
-  same_size : (p : Path) → size_at (records_in m) p ≡ entry_size (get m p)
+  same_record : (p : Path) → record_in (records_in m) p ≡ option_map (fresh_record (place_in p (entries (map_values record_of m)))) (option_map record_of (get m p))
   unfolding fresh
+  same_record p =
+      record_at-fresh (map_values record_of m) p
+      ∙ ap (option_map (fresh_record (place_in p (entries (map_values record_of m))))) (get-map_values path_cmp record_of m p)
+
+  same_size : (p : Path) → size_at (records_in m) p ≡ entry_size (get m p)
   same_size p =
-      ap (λ o. option_map_or (λ r. size_of r.content) o 0) (record_at-fresh (map_values record_of m) p)
-      ∙ ap (λ o. option_map_or (λ r. size_of r.content) (option_map (fresh_record (place_in p (entries (map_values record_of m)))) o) 0) (get-map_values path_cmp record_of m p)
+      ap (λ o. option_map_or (λ r. size_of r.content) o 0) (same_record p)
       ∙ size_by (place_in p (entries (map_values record_of m))) (get m p)
 
   same_all : (files : List Path) → map (size_at (records_in m)) files ≡ map (λ p. entry_size (get m p)) files
@@ -117,10 +126,36 @@ module _ (s : State) (sound : IsSound s) (made : s.made ≢ 0) where
   sizes_are : start_sizes (whole s) ≡ sizes_of s
   sizes_are = same_all s.start s.files
 
+  few_records : records_made (whole s) ≤ TREE_RECORDS
+  few_records =
+      let count : length (records_in s.start) ≡ len s.start = ap length (same_listing s.start) ∙ length-numbered s.start 0 (map_entries record_of (entries s.start)) ∙ length-map (entries s.start) (λ e. (e.0, record_of e.1)) ∙ sym (len-entries s.start) in
+      omega (arith, count, sound.tallied, sound.few)
+
+  small_files : All (λ size. size ≤ FILE_BYTES) (start_sizes (whole s))
+  small_files = subst (All (λ size. size ≤ FILE_BYTES)) (sym sizes_are)
+      (All-map (λ size. size ≤ FILE_BYTES) (λ p. entry_size (get s.start p)) s.files (λ n p low. small_by (get s.start (get_or s.files n p)) (sound.small (get_or s.files n p))))
+
+  unchanged_records : (n : ℕ) (e : Path × Record) → slice_get (records_in s.start) n ≡ Some e → IsUnchanged n e.1
+  unchanged_records n e at = unchanged_at s.start sound.octal n e (ap (λ es. slice_get es n) (sym (same_listing s.start)) ∙ at)
+
+  node_records : (n : ℕ) (node : Node) (e : Path × Record) → slice_get (nodes_in s.start) n ≡ Some node → slice_get (records_in s.start) n ≡ Some e → IsNodeOf node e.1
+  node_records n node e there at = kind_at (entries s.start) n node e there (ap (λ es. slice_get es n) (sym (same_listing s.start)) ∙ at)
+
+  standing_records : (p : Path) → StandsAs (get (start_paths (whole s)) p) (record_in (records_in s.start) p)
+  standing_records p =
+      subst (λ o. StandsAs o (record_in (records_in s.start) p)) (sym (ap (λ m. get m p) paths_are ∙ get-map_values path_cmp node_of s.start p))
+      (subst (StandsAs (option_map node_of (get s.start p))) (sym (same_record s.start p)) (stands_by (place_in p (entries (map_values record_of s.start))) (get s.start p)))
+
   pub whole_is : IsTrace (whole s)
   whole_is = record {
     listing = listing-IsListing (map_values record_of s.start) nested_records;
+    ascending = subst (λ es. IsStrictlySortedBy path_cmp (map (λ e. e.0) es)) (sym (same_listing s.start)) (keys_ascend 0 (entries s.start) (entries_sorted s.start));
+    unchanged = unchanged_records;
+    few = few_records;
+    small = small_files;
     each = each_node s.start;
+    kinds = node_records;
+    stands = standing_records;
     nested = subst AreNested (sym paths_are) (record { root = sound.rooted made; nested = sound.nested });
     numbered = subst (λ m. (n : ℕ) (p : Path) → slice_get s.files n ≡ Some p → get m p ≡ Some (File n)) (sym paths_are) sound.numbered;
     found = subst (λ m. (n : ℕ) (p : Path) → get m p ≡ Some (File n) → slice_get s.files n ≡ Some p) (sym paths_are) sound.found;

@@ -40,6 +40,12 @@ sizes_after sizes (Write file size offset bytes) = slice_set sizes file (written
 sizes_after sizes (Truncate file size to) = slice_set sizes file to
 sizes_after sizes _ = sizes
 
+-- how many records an operation makes
+abbrev pub made_by : Operation → ℕ
+made_by (Creat p file rights) = 1
+made_by (Mkdir p rights) = 1
+made_by _ = 0
+
 -- ---- where an operation is legal
 
 abbrev pub IsDirectoryAt : Paths → Path → Type 0
@@ -60,6 +66,10 @@ IsFree m p = (get m p ≡ None) × IsDirectoryAt m (parent_path p)
 abbrev pub MayTake : Paths → Path → Type 0
 MayTake m q = ((get m q ≡ None) ⊎ IsFileAt m q) × IsDirectoryAt m (parent_path q)
 
+-- the file of the number stands at some path
+abbrev pub Stands : Paths → ℕ → Type 0
+Stands m file = (p : Path) × (get m p ≡ Some (File file))
+
 -- the file of the number has this size
 abbrev pub HasSize : List ℕ → ℕ → ℕ → Type 0
 HasSize sizes file size = slice_get sizes file ≡ Some size
@@ -69,17 +79,17 @@ abbrev pub IsOctal : Rights → Type 0
 IsOctal rights = rights.permissions ≤ 511
 
 -- the operation is legal where these paths stand and the files have these sizes: a new file has the next
--- number, and no operation leaves a file that is too large
+-- number, a file that is changed or waited for stands, and no operation leaves a file that is too large
 abbrev pub IsLegal : Paths → List ℕ → Operation → Type 0
 IsLegal m sizes (Creat p file rights) = IsFree m p × (file ≡ length sizes) × IsOctal rights
 IsLegal m sizes (Mkdir p rights) = IsFree m p × IsOctal rights
 IsLegal m sizes (Unlink p) = IsFileAt m p
 IsLegal m sizes (Rmdir p) = (p ≢ []) × IsDirectoryAt m p × IsEmptyAt m p
 IsLegal m sizes (Rename p q) = IsFileAt m p × MayTake m q
-IsLegal m sizes (Write file size offset bytes) = HasSize sizes file size × (0 < length bytes → offset + length bytes ≤ FILE_BYTES)
-IsLegal m sizes (Truncate file size to) = HasSize sizes file size × (to ≤ FILE_BYTES)
+IsLegal m sizes (Write file size offset bytes) = Stands m file × HasSize sizes file size × (0 < length bytes → offset + length bytes ≤ FILE_BYTES)
+IsLegal m sizes (Truncate file size to) = Stands m file × HasSize sizes file size × (to ≤ FILE_BYTES)
 IsLegal m sizes (Sync covers.All) = Unit {0}
-IsLegal m sizes (Sync (covers.File file)) = file < length sizes
+IsLegal m sizes (Sync (covers.File file)) = Stands m file × (file < length sizes)
 IsLegal m sizes (Sync (covers.Directory p)) = IsDirectoryAt m p
 IsLegal m sizes Say = Unit {0}
 

@@ -9,13 +9,12 @@ use Rattle.cs_trace.specs.Entries.{Entries, node_of, size_of}
 use Rattle.cs_trace.specs.Judging.{and_then, free_at, is_too_much, resolve, unless_too_large, with_path}
 use Rattle.cs_trace.specs.Lines.{Claims, Header, Line, Operation, Start, StartLine, UnknownOperation, UnknownStart, is_blank, line_in}
 use Rattle.cs_trace.specs.Names.{are_user_names, new_path_of, rights_of}
-use Rattle.cs_trace.specs.Operations.{Paths, paths_after, sizes_after}
+use Rattle.cs_trace.specs.Operations.{Paths, made_by, paths_after, sizes_after}
 use Rattle.cs_trace.specs.declared.entry.Entry.{Entry}
 use Rattle.cs_trace.specs.declared.fault.TraceFault.{TraceFault}
 use Rattle.cs_trace.specs.declared.fault.TraceFaultKind.{TraceFaultKind}
 use Rattle.cs_trace.specs.declared.fault.TraceFaultKind.TheVariants.{Syntax, UnknownOp, BadName}
 use Rattle.cs_trace.specs.declared.operation.Operation.{Operation as Resolved}
-use Rattle.cs_trace.specs.declared.operation.Operation.TheVariants as op
 
 -- what the lines so far leave: the entries at the start and the paths of its files by their numbers; what
 -- stands now, each file's size by its number, and how many records were ever made; the operations
@@ -61,12 +60,6 @@ start_at s p claims content =
 
 abbrev pub start_step : State → StartLine → Result State TraceFaultKind
 start_step s line = with_path (new_path_of line.path line.claims) (λ p. start_at s p line.claims line.content)
-
--- how many records an operation makes
-abbrev pub made_by : Resolved → ℕ
-made_by (op.Creat p file rights) = 1
-made_by (op.Mkdir p rights) = 1
-made_by _ = 0
 
 abbrev pub taken : State → Resolved → State
 taken s o = record s { paths = paths_after s.paths o; sizes = sizes_after s.sizes o; made = s.made + made_by o; operations = s.operations ++ o ∷ [] }

@@ -1,20 +1,23 @@
 -- A trace: its start tree, and its operations.
-use Rattle.std.specs.Prelude.{◌≡◌, ℕ, ◌-◌, ◌<◌, ◌≤◌, ◌==◌, true, List, [], length, map, take, Some, slice_get, if◌then◌else◌, Result, Ok, Err, IsOk}
+use Rattle.std.specs.Prelude.{◌≡◌, ℕ, ◌+◌, ◌-◌, ◌<◌, ◌≤◌, ◌==◌, true, List, [], length, map, take, Option, None, Some, slice_get, if◌then◌else◌, Result, Ok, Err, IsOk}
 use Rattle.std.specs.FinMap.{from_entries, get}
-use Rattle.std.specs.List.{slice_index_or, zip}
+use Rattle.std.specs.List.{All, slice_index_or, sum_by, zip}
+use Rattle.std.specs.List.Sorted.{IsStrictlySortedBy}
 use Rattle.std.specs.Option.{option_map_or}
+use Rattle.cs_names.specs.declared.limits.TheConstants.{FILE_BYTES, TREE_RECORDS}
+use Rattle.cs_tree_model.specs.Fresh.{fresh_record}
 use Rattle.cs_tree_model.specs.Listing.{IsListing}
 use Rattle.cs_tree_model.specs.Tree.{Path, path_cmp}
 use Rattle.cs_tree_model.specs.declared.record.Record.{Record}
-use Rattle.cs_trace.specs.Entries.{nodes_in, records_in, size_of}
+use Rattle.cs_trace.specs.Entries.{file_mode, nodes_in, records_in, size_of}
 use Rattle.cs_trace.specs.Judging.{and_then}
 use Rattle.cs_trace.specs.Lines.{is_blank}
-use Rattle.cs_trace.specs.Operations.{AreLegal, AreNested, Paths}
+use Rattle.cs_trace.specs.Operations.{AreLegal, AreNested, Paths, made_by}
 use Rattle.cs_trace.specs.States.{State, lines_in, state_in}
 use Rattle.cs_trace.specs.declared.fault.TraceFault.{TraceFault}
 use Rattle.cs_trace.specs.declared.fault.TraceFaultKind.TheVariants.{Syntax}
 use Rattle.cs_trace.specs.declared.operation.Node.{Node}
-use Rattle.cs_trace.specs.declared.operation.Node.TheVariants.{File}
+use Rattle.cs_trace.specs.declared.operation.Node.TheVariants.{Directory, File}
 use Rattle.cs_trace.specs.declared.operation.Operation.{Operation}
 
 -- the records of the start tree in the order of their paths, with fresh numbers; what each of them is, in
@@ -35,19 +38,62 @@ standing records nodes = from_entries (zip (map (λ e. e.0) records) nodes)
 abbrev pub start_paths : Trace → Paths
 start_paths t = standing t.records t.nodes
 
--- how many bytes the record at a path has
+-- the record at a path
+abbrev pub record_in : List (Path × Record) → Path → Option Record
+record_in records p = get (from_entries {R = path_cmp} records) p
+
+-- how many bytes it has
 abbrev pub size_at : List (Path × Record) → Path → ℕ
-size_at records p = option_map_or (λ r. size_of r.content) (get (from_entries {R = path_cmp} records) p) 0
+size_at records p = option_map_or (λ r. size_of r.content) (record_in records p) 0
 
 -- the size of each of the start's files, by its number
 abbrev pub start_sizes : Trace → List ℕ
 start_sizes t = map (size_at t.records) t.files
 
--- a trace that was read: its start is a tree, in which the n-th path of a file has the file of that number;
--- and each operation is legal in what the ones before it leave
+-- how many records were ever made, removed ones too
+abbrev pub records_made : Trace → ℕ
+records_made t = length t.records + sum_by made_by t.operations
+
+-- a record that nobody changed yet, of this number: its version and its times are 0, its owner is who
+-- changed it last, and its mode is three octal digits, with a directory's bit above them
+pub record IsUnchanged (number : ℕ) (r : Record) : Type 0 where
+  pub fresh : r ≡ fresh_record number r
+  pub permissions : ℕ
+  pub octal : permissions ≤ 511
+  pub mode : r.mode ≡ file_mode r.content permissions
+
+-- nobody changed any of them yet, and each has the number of its place
+abbrev pub AreUnchanged : List (Path × Record) → Type 0
+AreUnchanged records = (n : ℕ) (e : Path × Record) → slice_get records n ≡ Some e → IsUnchanged n e.1
+
+-- what the record is: a directory has no bytes, and a file has some, or none yet
+abbrev pub IsNodeOf : Node → Record → Type 0
+IsNodeOf Directory r = r.content ≡ None
+IsNodeOf (File file) r = (bytes : List ℕ) × (r.content ≡ Some bytes)
+
+-- each node is what the record beside it is
+abbrev pub AreNodesOf : List Node → List (Path × Record) → Type 0
+AreNodesOf nodes records = (n : ℕ) (node : Node) (e : Path × Record) → slice_get nodes n ≡ Some node → slice_get records n ≡ Some e → IsNodeOf node e.1
+
+-- what stands at a path, beside its record
+abbrev pub StandsAs : Option Node → Option Record → Type 0
+StandsAs None None = Unit {0}
+StandsAs (Some node) (Some r) = IsNodeOf node r
+StandsAs None (Some r) = ⊥
+StandsAs (Some node) None = ⊥
+
+-- a trace that was read: its start is a tree, whose records nobody changed, in the order of their paths and
+-- numbered from 0; what stands there is what the records are, and the n-th path of a file has the file of
+-- that number; each operation is legal in what the ones before it leave; and no limit is passed
 pub record IsTrace (t : Trace) : Type 0 where
   pub listing : IsListing t.records
+  pub ascending : IsStrictlySortedBy path_cmp (map (λ e. e.0) t.records)
+  pub unchanged : AreUnchanged t.records
+  pub few : records_made t ≤ TREE_RECORDS
+  pub small : All (λ size. size ≤ FILE_BYTES) (start_sizes t)
   pub each : length t.nodes ≡ length t.records
+  pub kinds : AreNodesOf t.nodes t.records
+  pub stands : (p : Path) → StandsAs (get (start_paths t) p) (record_in t.records p)
   pub nested : AreNested (start_paths t)
   pub numbered : (n : ℕ) (p : Path) → slice_get t.files n ≡ Some p → get (start_paths t) p ≡ Some (File n)
   pub found : (n : ℕ) (p : Path) → get (start_paths t) p ≡ Some (File n) → slice_get t.files n ≡ Some p
@@ -70,14 +116,11 @@ trace_by lines = and_then (state_in lines) trace_of
 unfoldable pub trace_in : List ℕ → Result Trace TraceFault
 trace_in text = trace_by (lines_in text)
 
--- the records of its start tree
-unfoldable pub start_in : List ℕ → Result (List (Path × Record)) TraceFault
-start_in text = and_then (trace_by (lines_in text)) (λ t. Ok t.records)
-
 -- memory may be wanted at the line of that number: it is one of the lines, those before it have no
--- fault, and it isn't blank, unless the whole has no fault and only the records are left to keep
+-- fault, and it isn't blank, unless it is the last, the whole has no fault, and only the records are left
+-- to keep
 pub record MayWant (lines : List (List ℕ)) (number : ℕ) : Type 0 where
   pub above : 0 < number
   pub among : number ≤ length lines
   pub before : IsOk (state_in (take (number - 1) lines))
-  pub blank : is_blank (slice_index_or lines (number - 1) []) ≡ true → IsOk (trace_by lines)
+  pub blank : is_blank (slice_index_or lines (number - 1) []) ≡ true → (number ≡ length lines) × IsOk (trace_by lines)

@@ -27,4 +27,4 @@ mod verb;
 
 pub use fault::{TraceFault, TraceFaultKind};
 pub use operation::{Bytes, Covers, Node, Operation, Rights};
-pub use trace::{Trace, read_start, read_trace};
+pub use trace::{Trace, read_trace};

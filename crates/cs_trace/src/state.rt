@@ -2,8 +2,8 @@
 ghost use Rattle.std.specs.Prelude.{◌≡◌, ◌<◌, ◌≤◌, ◌+◌, ◌^◌, IfOk, OnOk, List, ℕ, length, slice_set};
 ghost use Rattle.cs_names.specs.declared.limits.TheConstants.{TREE_RECORDS};
 ghost use Rattle.cs_trace.specs.Kept.{IsWithin, state_of};
-ghost use Rattle.cs_trace.specs.Operations.{paths_after, sizes_after, written_size};
-ghost use Rattle.cs_trace.specs.States.{made_by, nothing, taken};
+ghost use Rattle.cs_trace.specs.Operations.{made_by, paths_after, sizes_after, written_size};
+ghost use Rattle.cs_trace.specs.States.{nothing, taken};
 
 use crate::entries::Entries;
 use crate::operation::{Bytes, Node, Operation};

@@ -1,4 +1,4 @@
-use crate::{TraceFault, TraceFaultKind, read_start};
+use crate::{TraceFault, TraceFaultKind, read_trace};
 use cs_names::Path;
 use cs_tree_model::Record;
 use std::alloc::{AllocError, Global};
@@ -21,6 +21,11 @@ const SHUFFLED: &str = r#"{"trace":1,"owner":"cat","group":"staff","mode":"775"}
 {"start":"file","path":"/d/s/z","owner":"ann","group":"ann","mode":"644","bytes":""}
 "#;
 
+/// The records of the trace's start tree.
+fn start_of(alloc: Global, text: &str) -> Result<Vec<(Path, Record)>, TraceFault> {
+    Ok(read_trace(alloc, text)?.into_records())
+}
+
 fn shown(alloc: Global, records: Vec<(Path, Record)>) -> Result<String, AllocError> {
     let mut whole = String::new(alloc);
     for (path, record) in records {
@@ -38,7 +43,7 @@ fn shown(alloc: Global, records: Vec<(Path, Record)>) -> Result<String, AllocErr
 
 #[test]
 fn records_have_the_numbers_of_their_paths_in_order(rt: HostRuntime) -> Result<(), Fail> {
-    let start = read_start(rt.alloc(), SHUFFLED)?;
+    let start = start_of(rt.alloc(), SHUFFLED)?;
     assert_eq!(rt;
         shown(rt.alloc(), start)?.as_str(),
         "\
@@ -61,7 +66,7 @@ fn fault_of(alloc: Global, lines: &[&str]) -> Result<Option<TraceFault>, AllocEr
         text.push_str(line)?;
         text.push_str("\r\n")?;
     }
-    Ok(read_start(alloc, text.as_str()).err())
+    Ok(read_trace(alloc, text.as_str()).err())
 }
 
 #[test]
@@ -71,7 +76,7 @@ fn lines_of_blanks_are_skipped_and_counted(rt: HostRuntime) -> Result<(), Fail> 
         line: 1,
         kind: TraceFaultKind::Syntax,
     });
-    assert_eq!(rt; read_start(alloc, "").err(), missing);
+    assert_eq!(rt; read_trace(alloc, "").err(), missing);
     assert_eq!(rt; fault_of(alloc, &["", " \t", ""])?, missing);
     assert_eq!(rt;
         fault_of(alloc, &["", HEADER, " ", DIRECTORY, FILE, ""])?,
@@ -279,7 +284,7 @@ fn keys_and_texts_may_have_escapes(rt: HostRuntime) -> Result<(), Fail> {
     let mut text = String::from_str(alloc, HEADER)?;
     text.push_str("\n{\"st\\u0061rt\":\"d\\u0069r\",\"p\\u0061th\":\"\\/\\u00e9\",")?;
     text.push_str("\"owner\":\"\\ud83d\\ude00\",\"group\":\"\\u0061\",\"mode\":\"7\\u00355\"}")?;
-    let start = read_start(alloc, text.as_str())?;
+    let start = start_of(alloc, text.as_str())?;
     assert_eq!(rt;
         shown(alloc, start)?.as_str(),
         "\
@@ -323,9 +328,9 @@ fn file(alloc: Global, length: usize) -> Result<String, AllocError> {
 #[test]
 fn a_path_has_at_most_64_names(rt: HostRuntime) -> Result<(), Fail> {
     let alloc = rt.alloc();
-    let start = read_start(alloc, deep(alloc, 64)?.as_str())?;
+    let start = start_of(alloc, deep(alloc, 64)?.as_str())?;
     assert_eq!(rt; start.len(), 65);
-    let fault = read_start(alloc, deep(alloc, 65)?.as_str()).err();
+    let fault = read_trace(alloc, deep(alloc, 65)?.as_str()).err();
     assert_eq!(rt;
         fault,
         Some(TraceFault {
@@ -345,7 +350,7 @@ fn fault_below(alloc: Global, names: usize, last: &str) -> Result<Option<TraceFa
     }
     path.push_str(last)?;
     push_directory(&mut text, path.as_str())?;
-    Ok(read_start(alloc, text.as_str()).err())
+    Ok(read_trace(alloc, text.as_str()).err())
 }
 
 #[test]
@@ -369,9 +374,9 @@ fn a_path_longer_than_any_directorys_is_judged_by_its_names(rt: HostRuntime) -> 
 #[test]
 fn a_file_has_at_most_1048576_bytes(rt: HostRuntime) -> Result<(), Fail> {
     let alloc = rt.alloc();
-    let start = read_start(alloc, file(alloc, 1_048_576)?.as_str())?;
+    let start = start_of(alloc, file(alloc, 1_048_576)?.as_str())?;
     assert_eq!(rt; start.len(), 2);
-    let fault = read_start(alloc, file(alloc, 1_048_577)?.as_str()).err();
+    let fault = read_trace(alloc, file(alloc, 1_048_577)?.as_str()).err();
     assert_eq!(rt;
         fault,
         Some(TraceFault {

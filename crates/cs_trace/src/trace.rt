@@ -1,11 +1,15 @@
 //! A trace: the tree at its start, and its operations.
-ghost use Rattle.std.specs.Prelude.{◌≡◌, ◌≢◌, ℕ, List, Some, IfErr, IfOk, Ok, Err, slice_get};
+ghost use Rattle.std.specs.Prelude.{◌≡◌, ◌≢◌, ◌≤◌, ℕ, List, Some, IfErr, IfOk, Ok, Err, length, map, slice_get};
 ghost use Rattle.std.specs.FinMap.{get};
+ghost use Rattle.std.specs.List.{All};
+ghost use Rattle.std.specs.List.Sorted.{IsStrictlySortedBy};
+ghost use Rattle.cs_names.specs.declared.limits.TheConstants.{FILE_BYTES, TREE_RECORDS};
 ghost use Rattle.cs_tree_model.specs.Listing.{IsListing};
+ghost use Rattle.cs_tree_model.specs.Tree.{path_cmp};
 ghost use Rattle.cs_trace.specs.Kept.{state_of};
 ghost use Rattle.cs_trace.specs.Operations.{AreLegal, AreNested};
 ghost use Rattle.cs_trace.specs.States.{lines_in};
-ghost use Rattle.cs_trace.specs.Traces.{IsTrace, MayWant, start_in, start_paths, start_sizes, trace_in, whole};
+ghost use Rattle.cs_trace.specs.Traces.{AreNodesOf, AreUnchanged, IsTrace, MayWant, StandsAs, record_in, records_made, start_paths, start_sizes, trace_in, whole};
 ghost use Rattle.cs_trace.specs.declared.fault.TraceFaultKind.TheVariants.{Memory};
 
 use crate::fault::{TraceFault, TraceFaultKind};
@@ -53,13 +57,19 @@ impl Trace {
     pub fn records(&self) -> &[(Path, Record)]
         ensures value { result.now ≡ self.now.records }
         ensures listing { IsListing self.now.records }
+        ensures ascending { IsStrictlySortedBy path_cmp (map (λ e. e.0) self.now.records) }
+        ensures unchanged { AreUnchanged self.now.records }
+        ensures few { length self.now.records ≤ TREE_RECORDS }
     {
         &self.records
     }
 
     /// What each of the records is, in their order.
     pub fn nodes(&self) -> &[Node]
-        ensures { result.now ≡ self.now.nodes }
+        ensures value { result.now ≡ self.now.nodes }
+        ensures each { length self.now.nodes ≡ length self.now.records }
+        ensures kinds { AreNodesOf self.now.nodes self.now.records }
+        ensures stands { (p : List (List ℕ)) → StandsAs (get (start_paths self.now) p) (record_in self.now.records p) }
     {
         &self.nodes
     }
@@ -69,6 +79,7 @@ impl Trace {
         ensures value { result.now ≡ self.now.files }
         ensures numbered { (n : ℕ) (p : List (List ℕ)) → slice_get self.now.files n ≡ Some p → get (start_paths self.now) p ≡ Some (Node.File n) }
         ensures found { (n : ℕ) (p : List (List ℕ)) → get (start_paths self.now) p ≡ Some (Node.File n) → slice_get self.now.files n ≡ Some p }
+        ensures small { All (λ size. size ≤ FILE_BYTES) (start_sizes self.now) }
     {
         &self.files
     }
@@ -78,6 +89,7 @@ impl Trace {
         ensures value { result.now ≡ self.now.operations }
         ensures nested { AreNested (start_paths self.now) }
         ensures legal { AreLegal (start_paths self.now) (start_sizes self.now) self.now.operations }
+        ensures few { records_made self.now ≤ TREE_RECORDS }
     {
         &self.operations
     }
@@ -153,14 +165,4 @@ pub fn read_trace(alloc: Global, text: &str) -> Result<Trace, TraceFault>
         });
     };
     Ok(trace)
-}
-
-/// The start tree of a trace, as `read_trace` gives it, or the same fault.
-pub fn read_start(alloc: Global, text: &str) -> Result<Vec<(Path, Record)>, TraceFault>
-    ensures done { IfOk result (λ records. start_in text.now ≡ Ok records.items) }
-    ensures listing { IfOk result (λ records. IsListing records.items) }
-    ensures fault { IfErr result (λ fault. fault.kind ≢ Memory → start_in text.now ≡ Err fault) }
-    ensures memory { IfErr result (λ fault. fault.kind ≡ Memory → MayWant (lines_in text.now) fault.line) }
-{
-    Ok(read_trace(alloc, text)?.into_records())
 }
