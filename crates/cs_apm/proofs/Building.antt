@@ -11,7 +11,7 @@ use Rattle.cs_trace.specs.Operations.{AreNested}
 use Rattle.cs_trace.specs.Traces.{Trace}
 use Rattle.cs_micro.specs.Micros.{Micros}
 use Rattle.cs_apm.specs.Atlases.{Atlas, IsAtlas, files_left}
-use Rattle.cs_apm.specs.Legal.{AreLegalSteps}
+use Rattle.cs_micro.specs.Legal.{AreLegal}
 use Rattle.cs_apm.specs.Orders.{needs_of}
 use Rattle.cs_apm.specs.Rules.{op_at}
 use Rattle.cs_apm.specs.Sets.{IsAllowed}
@@ -53,12 +53,12 @@ module _ (t : Trace) (m : Micros) (a : Atlas) (is : IsAtlas t m.ops a) where
     nested : AreNested (nodes_in (start_state t).paths)
     nested = subst AreNested (sym (start_nodes t.records t.nodes)) is.nested
 
-    legal : AreLegalSteps (nodes_in (start_state t).paths) m.ops
-    legal = subst (λ n. AreLegalSteps n m.ops) (sym (start_nodes t.records t.nodes)) is.legal
+    legal : AreLegal (nodes_in (start_state t).paths) (length t.files) m.ops
+    legal = subst (λ n. AreLegal n (length t.files) m.ops) (sym (start_nodes t.records t.nodes)) is.legal
 
     state_paths : (state_of (start_state t) m.ops places).paths ≡ mirrored a.rights a.paths left
     state_paths =
-        paths_left (owners_of t m.ops) (start_state t) m.ops m.syncs places nested legal allowed
+        paths_left (owners_of t m.ops) (start_state t) m.ops m.syncs places nested (length t.files) legal allowed
         ∙ ap (λ w. fold entries_after w (map (op_at m.ops) places)) (mirror_is a.rights a.paths a.slots is.ascending (start_state t).paths is.start)
         ∙ fold_mirrored a.rights a.paths (owners_of t m.ops) (files_left t m.ops places) is.ascending m.ops a.steps is.steps a.slots is.long places
 
@@ -67,7 +67,7 @@ module _ (t : Trace) (m : Micros) (a : Atlas) (is : IsAtlas t m.ops a) where
     records_same = ap (map_values (record_of (owners_of t m.ops) (state_of (start_state t) m.ops places).files)) state_paths
 
     pub nested_records_left : IsNested (map_values (record_of (owners_of t m.ops) (files_left t m.ops places)) (mirrored a.rights a.paths left))
-    nested_records_left = subst IsNested records_same (state_nested (owners_of t m.ops) (start_state t) m.ops m.syncs places nested legal allowed)
+    nested_records_left = subst IsNested records_same (state_nested (owners_of t m.ops) (start_state t) m.ops m.syncs places nested (length t.files) legal allowed)
 
     pub tree_left : fresh (map_values (record_of (owners_of t m.ops) (files_left t m.ops places)) (mirrored a.rights a.paths left)) ≡ crash_state_of t m places
     tree_left = sym (ap fresh records_same)

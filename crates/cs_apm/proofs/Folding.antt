@@ -4,18 +4,11 @@ use Rattle.std.proofs.lemmas.Bool.{cases_eq}
 use Rattle.std.proofs.lemmas.List.{length-set, get_or-set_same, get_or-set_other}
 use Rattle.std.specs.List.{All}
 use Rattle.std.specs.Prelude.{fold, slice_set}
-use Rattle.cs_tree_model.specs.Fresh.{IsNested}
-use Rattle.cs_tree_model.specs.Maps.Values.{map_values}
 use Rattle.cs_tree_model.specs.Tree.{Path}
 use Rattle.cs_trace.specs.declared.operation.Rights.{Rights}
-use Rattle.cs_trace.specs.Operations.{AreNested}
 use Rattle.cs_micro.specs.declared.micro_op.MicroOp.{MicroOp}
-use Rattle.cs_micro.specs.declared.sync_point.SyncPoint.{SyncPoint}
-use Rattle.cs_apm.specs.Legal.{AreLegalSteps}
-use Rattle.cs_apm.specs.Rules.{needs, op_at}
-use Rattle.cs_apm.specs.Sets.{IsAllowed}
-use Rattle.cs_apm.specs.States.{Content, entries_after, record_of}
-use Rattle.cs_apm.specs.Laws.Trees.{fold_nested, nested_records, nodes_fold, nodes_in}
+use Rattle.cs_apm.specs.Rules.{op_at}
+use Rattle.cs_apm.specs.States.{Content, entries_after}
 use Rattle.cs_apm.specs.declared.slot.Slot.{Slot}
 use Rattle.cs_apm.specs.declared.slot.Slot.TheVariants.{Nothing, Directory, File}
 use Rattle.cs_apm.specs.declared.slot.Step.{Step}
@@ -50,12 +43,6 @@ module _ (rights : List Rights) (paths : List Path) (owners : List Rights) (file
   pub fold_mirrored : fold entries_after (mirrored rights paths slots) (map (op_at ops) places) ≡ mirrored rights paths (fold slots_after slots (map (step_at steps) places))
   fold_mirrored = mirror_is rights paths (fold slots_after slots (map (step_at steps) places)) up (fold entries_after (mirrored rights paths slots) (map (op_at ops) places))
       (fold_mirror rights paths up ops steps are places slots long (mirrored rights paths slots) (mirror_of rights paths slots up))
-
-  pub nested_after_fold : (syncs : List SyncPoint) → AreNested (nodes_in (mirrored rights paths slots)) → AreLegalSteps (nodes_in (mirrored rights paths slots)) ops → IsAllowed (needs ops syncs) (length ops) places
-      → IsNested (map_values (record_of owners files) (mirrored rights paths (fold slots_after slots (map (step_at steps) places))))
-  nested_after_fold syncs nested legal allowed = nested_records owners files (mirrored rights paths (fold slots_after slots (map (step_at steps) places)))
-      (subst (λ m. AreNested (nodes_in m)) fold_mirrored
-      (subst AreNested (sym (nodes_fold (mirrored rights paths slots) (map (op_at ops) places))) (fold_nested (nodes_in (mirrored rights paths slots)) ops syncs places nested legal allowed)))
 
 same_length : (rights : List Rights) (paths : List Path) (ops : List MicroOp) (steps : List Step) → AreSteps rights paths ops steps → length steps ≡ length ops
 same_length rights paths [] [] h = refl

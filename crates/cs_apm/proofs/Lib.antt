@@ -1,7 +1,7 @@
 pub mod Words
 pub mod Finding
 pub mod Filling
-pub mod Tables
+pub mod Entries
 pub mod Reaching
 pub mod FromRules
 pub mod Admitting
@@ -12,3 +12,7 @@ pub mod Before
 pub mod Listing
 pub mod Standing
 pub mod Building
+pub mod Growing
+pub mod Marking
+pub mod Starting
+pub mod Assembling

@@ -7,7 +7,7 @@ use Rattle.cs_apm.specs.Chains.{IsBackward, by_chain}
 use Rattle.cs_apm.specs.Orders.{needs_in, table}
 use Rattle.cs_apm.specs.Rows.{IsOrder, bit_in}
 use Rattle.cs_apm.specs.Bits.{has}
-use Rattle.cs_apm.proofs.Tables.{bit_read, bits_past, entry, length_table}
+use Rattle.cs_apm.proofs.Entries.{bit_read, bits_past, entry, length_table}
 
 past_table : (need : ℕ → ℕ → Bool) (n i j : ℕ) → n ≤ j → needs_in (table need n) i j ≡ false
 unfolding needs_in

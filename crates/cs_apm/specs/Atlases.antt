@@ -1,18 +1,21 @@
 -- What is found once of a trace, for the states of all its sets.
-use Rattle.std.specs.Prelude.{◌≡◌, ◌<◌, ℕ, ◌++◌, Bool, List, [], Some, None, length, map, slice_get, slice_index_or}
+use Rattle.std.specs.Prelude.{◌≡◌, ◌<◌, ℕ, ◌++◌, Bool, true, List, [], Some, None, length, map, slice_get, slice_index_or, slice_set}
 use Rattle.std.specs.List.{All, Contains, list_any}
 use Rattle.cs_tree_model.specs.declared.record.Record.{Record}
 use Rattle.cs_tree_model.specs.Tree.{Path}
+use Rattle.cs_trace.specs.declared.operation.Node.{Node}
+use Rattle.cs_trace.specs.declared.operation.Node.TheVariants as nodes
 use Rattle.cs_trace.specs.declared.operation.Rights.{Rights}
 use Rattle.cs_trace.specs.Operations.{AreNested}
 use Rattle.cs_trace.specs.Traces.{Trace, start_paths}
 use Rattle.cs_micro.specs.declared.micro_op.MicroOp.{MicroOp}
+use Rattle.cs_micro.specs.declared.micro_op.MicroOp.TheVariants.{ChangeFileSize, WriteBlock}
 use Rattle.cs_apm.specs.Contents.{IsSmall, changes}
-use Rattle.cs_apm.specs.Legal.{AreLegalSteps}
+use Rattle.cs_micro.specs.Legal.{AreLegal}
 use Rattle.cs_apm.specs.Rules.{op_at, touched}
 use Rattle.cs_apm.specs.States.{Content, content_at, content_of, created, no_content, owners_of, start_state, state_of}
 use Rattle.cs_apm.specs.Slots.{AreAscending, AreKnown, AreKnownSteps, AreSteps, Mirror}
-use Rattle.cs_apm.specs.declared.atlas.Tables.{Tables}
+use Rattle.cs_apm.specs.declared.tables.Tables.{Tables}
 use Rattle.cs_apm.specs.declared.slot.Slot.{Slot}
 use Rattle.cs_apm.specs.declared.slot.Step.{Step}
 
@@ -55,7 +58,7 @@ pub record IsAtlas (t : Trace) (ops : List MicroOp) (a : Atlas) : Type 0 where
   pub starts : AreStarts t a.starts
   pub changed : AreChanged ops (length (owners_of t ops)) a.changed
   pub nested : AreNested (start_paths t)
-  pub legal : AreLegalSteps (start_paths t) ops
+  pub legal : AreLegal (start_paths t) (length t.files) ops
   pub small : All IsSmall ops
 
 -- the files after the members of a set
@@ -66,9 +69,9 @@ files_left t ops places = (state_of (start_state t) ops places).files
 abbrev pub content_before : Trace → List MicroOp → ℕ → Content
 content_before t ops n = slice_index_or (map (content_at t.records) t.files ++ created ops) n no_content
 
--- the tables of an atlas, lent
-abbrev pub lent : Tables → Atlas
-lent t = record { paths = t.paths.now; slots = t.slots.now; steps = t.steps.now; rights = t.rights.now; owners = t.owners.now; starts = t.starts.now; changed = t.changed.now }
+-- the tables as an atlas
+abbrev pub atlas_in : Tables → Atlas
+atlas_in t = record { paths = t.paths.items; slots = t.slots.items; steps = t.steps.items; rights = t.rights.items; owners = t.owners.items; starts = t.starts.items; changed = t.changed.items }
 
 -- the paths of the first n records are among these
 abbrev pub HasFirst : List Path → List (Path × Record) → ℕ → Type 0
@@ -80,3 +83,24 @@ HasTouched paths o = (p : Path) → Contains (touched o) p → Contains paths p
 
 abbrev pub HasAllTouched : List Path → List MicroOp → ℕ → Type 0
 HasAllTouched paths ops n = (k : ℕ) → k < n → HasTouched paths (op_at ops k)
+
+-- ---- as the tables of files are made
+
+abbrev pub node_at : List Node → ℕ → Node
+node_at ns i = slice_index_or ns i nodes.Directory
+
+-- the place is noted, if the node is a file's
+abbrev pub noted : List ℕ → Node → ℕ → List ℕ
+noted starts nodes.Directory place = starts
+noted starts (nodes.File file) place = slice_set starts file place
+
+-- of the files, those among the first k nodes are found
+abbrev pub FindsFiles : List Node → ℕ → List ℕ → Type 0
+FindsFiles ns k starts = (n i : ℕ) → n < length starts → i < k → node_at ns i ≡ nodes.File n
+    → (slice_index_or starts n 0 < k) × (node_at ns (slice_index_or starts n 0) ≡ nodes.File n)
+
+-- the flag of the file that is changed is set
+abbrev pub marked : List Bool → MicroOp → List Bool
+marked changed (ChangeFileSize file size) = slice_set changed file true
+marked changed (WriteBlock file block at bytes) = slice_set changed file true
+marked changed _ = changed

@@ -4,9 +4,9 @@ use Rattle.cs_trace.specs.Traces.{Trace}
 use Rattle.cs_micro.specs.declared.micro_op.MicroOp.{MicroOp}
 use Rattle.cs_apm.specs.Atlases.{AreChanged, AreStarts}
 use Rattle.cs_apm.specs.States.{owners_of}
-use Rattle.cs_apm.specs.declared.making.Files.{Files}
+use Rattle.cs_apm.specs.declared.tables.Tables.{Tables}
 
-pub record AreFiles (t : Trace) (ops : List MicroOp) (files : Files) : Type 0 where
-  pub owners : files.owners.now ≡ owners_of t ops
-  pub starts : AreStarts t files.starts.now
-  pub changed : AreChanged ops (length (owners_of t ops)) files.changed.now
+pub record AreFiles (t : Trace) (ops : List MicroOp) (tables : Tables) : Type 0 where
+  pub owners : tables.owners.items ≡ owners_of t ops
+  pub starts : AreStarts t tables.starts.items
+  pub changed : AreChanged ops (length (owners_of t ops)) tables.changed.items

@@ -7,7 +7,6 @@ pub mod Shown
 pub mod Nested
 pub mod Members
 pub mod Allowed
-pub mod Steps
 pub mod Trees
 pub mod Starts
 pub mod Mirrors

@@ -1,37 +1,21 @@
 -- Micro-operations that are legal one after the other, and sets that have what their members need.
 use Rattle.std.specs.Prelude.{◌≡◌, ◌≢◌, ◌<◌, ℕ, suc, zero, Bool, true, false, cond, List, [], ◌∷◌}
-use Rattle.std.specs.FinMap.{insert, remove}
 use Rattle.cs_tree_model.specs.Tree.{Path, parent_path}
-use Rattle.cs_trace.specs.Operations.{IsDirectoryAt, IsEmptyAt, IsFileAt, IsFree, MayTake, Paths, moved}
+use Rattle.cs_trace.specs.Operations.{Paths}
 use Rattle.cs_micro.specs.declared.micro_op.EntryKind.TheVariants as kinds
 use Rattle.cs_micro.specs.declared.micro_op.MicroOp.{MicroOp}
-use Rattle.cs_micro.specs.declared.micro_op.MicroOp.TheVariants.{CreateDirEntry, DeleteDirEntry, MoveDirEntry}
+use Rattle.cs_micro.specs.declared.micro_op.MicroOp.TheVariants.{DeleteDirEntry}
+use Rattle.cs_micro.specs.Legal.{IsLegal, paths_after}
 use Rattle.cs_apm.specs.Rules.{creates, op_at, touches}
 
--- what stands at each path after a micro-operation, by its node
-abbrev pub nodes_after : Paths → MicroOp → Paths
-nodes_after m (CreateDirEntry p node rights) = insert m p node
-nodes_after m (DeleteDirEntry p kind) = remove m p
-nodes_after m (MoveDirEntry p q) = moved p q m
-nodes_after m _ = m
-
--- the micro-operation is legal where these nodes stand
-abbrev pub IsLegalStep : Paths → MicroOp → Type 0
-IsLegalStep m (CreateDirEntry p node rights) = IsFree m p
-IsLegalStep m (DeleteDirEntry p kinds.Directory) = (p ≢ []) × IsDirectoryAt m p × IsEmptyAt m p
-IsLegalStep m (DeleteDirEntry p kinds.File) = IsFileAt m p
-IsLegalStep m (MoveDirEntry p q) = (p ≢ q) × IsFileAt m p × MayTake m q
-IsLegalStep m _ = Unit {0}
-
--- each is legal where those before it were taken
-abbrev pub AreLegalSteps : Paths → List MicroOp → Type 0
-AreLegalSteps m [] = Unit {0}
-AreLegalSteps m (o ∷ ops) = IsLegalStep m o × AreLegalSteps (nodes_after m o) ops
+-- the micro-operation is legal where these nodes stand, however many files have been made
+abbrev pub IsLegalThere : Paths → MicroOp → Type 0
+IsLegalThere m o = (made : ℕ) × IsLegal m made o
 
 -- the nodes after those of the first k operations that the set has
 abbrev pub nodes_of : (ℕ → Bool) → Paths → List MicroOp → ℕ → Paths
 nodes_of has start ops zero = start
-nodes_of has start ops (suc k) = cond (has k) (nodes_after (nodes_of has start ops k) (op_at ops k)) (nodes_of has start ops k)
+nodes_of has start ops (suc k) = cond (has k) (paths_after (nodes_of has start ops k) (op_at ops k)) (nodes_of has start ops k)
 
 -- the set has what its members need, by the rules that speak of paths
 pub record HasNeeds (ops : List MicroOp) (has : ℕ → Bool) : Type 0 where

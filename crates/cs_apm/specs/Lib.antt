@@ -11,4 +11,5 @@ pub mod Contents
 pub mod Slots
 pub mod Atlases
 pub mod Files
+pub mod Wholes
 pub mod Laws

@@ -1,5 +1,5 @@
 -- The paths of a state as slots: one for each path that ever stands, in the order of paths.
-use Rattle.std.specs.Prelude.{◌≡◌, ◌<◌, ℕ, cond, List, [], ◌∷◌, Option, None, Some, length, slice_set, slice_index_or}
+use Rattle.std.specs.Prelude.{◌≡◌, ◌<◌, ◌≤◌, ℕ, cond, List, [], ◌∷◌, Option, None, Some, length, slice_set, slice_index_or}
 use Rattle.std.specs.FinMap.{get, from_sorted}
 use Rattle.std.specs.Option.{option_map_or}
 use Rattle.std.specs.declared.cmp.Ordering.TheVariants.{Less}
@@ -119,3 +119,27 @@ IsKnownStep n rights files Other = Unit {0}
 
 abbrev pub AreKnownSteps : ℕ → ℕ → ℕ → List Step → Type 0
 AreKnownSteps n rights files steps = (k : ℕ) → IsKnownStep n rights files (step_at steps k)
+
+-- ---- as the table of rights grows
+
+-- what stood in the table stands there
+pub record Grows (old new : List Rights) : Type 0 where
+  pub long : length old ≤ length new
+  pub same : (k : ℕ) → k < length old → rights_at new k ≡ rights_at old k
+
+-- a directory's rights are among the first so many
+abbrev pub HasRights : ℕ → Slot → Type 0
+HasRights n Nothing = Unit {0}
+HasRights n (Directory k) = k < n
+HasRights n (File file) = Unit {0}
+
+abbrev pub HaveRights : ℕ → List Slot → Type 0
+HaveRights n slots = (i : ℕ) → HasRights n (slot_at slots i)
+
+abbrev pub HasStepRights : ℕ → Step → Type 0
+HasStepRights n (Set i s) = HasRights n s
+HasStepRights n (Move i j) = Unit {0}
+HasStepRights n Other = Unit {0}
+
+abbrev pub HaveStepRights : ℕ → List Step → Type 0
+HaveStepRights n steps = (k : ℕ) → HasStepRights n (step_at steps k)

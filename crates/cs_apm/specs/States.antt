@@ -12,7 +12,7 @@ use Rattle.cs_tree_model.specs.Tree.{Path, path_cmp, Tree}
 use Rattle.cs_trace.specs.declared.operation.Node.{Node}
 use Rattle.cs_trace.specs.declared.operation.Node.TheVariants as nodes
 use Rattle.cs_trace.specs.declared.operation.Rights.{Rights}
-use Rattle.cs_trace.specs.Traces.{Trace}
+use Rattle.cs_trace.specs.Traces.{Trace, record_in}
 use Rattle.cs_micro.specs.declared.blocks.TheConstants.{BLOCK_BYTES}
 use Rattle.cs_micro.specs.declared.micro_op.MicroOp.{MicroOp}
 use Rattle.cs_micro.specs.declared.micro_op.MicroOp.TheVariants.{CreateDirEntry, DeleteDirEntry, MoveDirEntry, ChangeFileSize, WriteBlock}
@@ -126,10 +126,6 @@ start_entries records nodes = from_entries (map (λ x. (x.0.0, start_entry x.1 x
 
 abbrev pub nobody : Rights
 nobody = record { owner = []; group = []; permissions = 0 }
-
--- the record at a path
-abbrev pub record_in : List (Path × Record) → Path → Option Record
-record_in records p = get (from_entries {R = path_cmp} records) p
 
 abbrev pub bytes_of : Record → List ℕ
 bytes_of r = unwrap_or r.content []

@@ -1,84 +1,99 @@
-//! What is found once of a trace, for the states of all its sets.
-ghost use Rattle.std.specs.Prelude.{◌≡◌, ◌<◌, length, map, fold, IfOk};
-ghost use Rattle.std.specs.List.{All};
+//! A trace with all that its states share, and the state of a set.
+ghost use Rattle.std.specs.Prelude.{◌≡◌, length, IfOk};
 ghost use Rattle.cs_tree_model.specs.Tree.{IsTree};
-ghost use Rattle.cs_apm.specs.Atlases.{IsAtlas, lent};
+ghost use Rattle.cs_trace.specs.Traces.{start_paths};
+ghost use Rattle.cs_micro.specs.Legal.{AreLegal};
+ghost use Rattle.cs_micro.specs.Micros.{micros_in};
 ghost use Rattle.cs_apm.specs.Orders.{needs_of};
 ghost use Rattle.cs_apm.specs.Sets.{IsAllowed};
-ghost use Rattle.cs_apm.specs.Slots.{FitsIn, slots_after, step_at};
 ghost use Rattle.cs_apm.specs.States.{crash_state_of};
 
-use crate::making::{Files, store_of};
-use crate::slot::{Slot, Step, fill};
+use crate::state::state_of;
+use crate::tables::Tables;
 use cs_micro::Micros;
-use cs_names::Path;
-use cs_trace::{Rights, Trace};
+use cs_trace::Trace;
 use cs_tree::PlainTree;
 use std::alloc::{AllocError, Global};
+use std::marker::Model;
 
-/// The tables of an atlas, lent.
-#[derive(Clone, Copy)]
-pub struct Tables<'a> {
-    /// Every path that ever stands, in order.
-    pub paths: &'a [Path],
-    /// What stands there at the start.
-    pub slots: &'a [Slot],
-    /// What each micro-operation does there.
-    pub steps: &'a [Step],
-    /// Owner, group and permissions of directories.
-    pub rights: &'a [Rights],
-    /// The same of the files, by their numbers.
-    pub owners: &'a [Rights],
-    /// The place of the record of each of the start's files.
-    pub starts: &'a [u32],
-    /// Whether an operation changes the file, by its number.
-    pub changed: &'a [bool],
+/// The store of a state.
+pub type Built = PlainTree;
+
+/// A trace with its micro-operations, and with what is found once for all its states: every path that
+/// ever stands, what stands there at the start, and what each micro-operation does there. Contracts see
+/// the trace.
+#[derive(Drop)]
+pub struct Atlas {
+    trace: Trace,
+    micros: Micros,
+    tables: Tables,
 }
 
-/// The slots after the steps of a set.
-fn filled(
-    alloc: Global,
-    slots: &[Slot],
-    steps: &[Step],
-    places: &[u32],
-) -> Result<Vec<Slot>, AllocError>
-    requires fit { All (FitsIn (length slots.now)) steps.now }
-    requires inside { All (λ place. place < length steps.now) places.now }
-    ensures { IfOk result (λ left. left.items ≡ fold slots_after slots.now (map (step_at steps.now) places.now)) }
-{
-    let mut left = Vec::from_slice(alloc, slots)?;
-    fill(&mut left, steps, places);
-    Ok(left)
+impl Model for Atlas {
+    ghost use Rattle.cs_trace.specs.Traces.{Trace};
+    ghost use Rattle.cs_apm.specs.Wholes.{IsWhole};
+
+    ghost Value = { Trace };
+
+    ghost view = { λ atlas. atlas.trace };
+
+    ghost invariant = { λ atlas. IsWhole atlas.trace atlas.micros atlas.tables };
 }
 
-/// The store of the state of a set, which is allowed: the members' steps are taken in the slots, and what
-/// stands then is made a tree.
-pub fn state_of(
+impl Atlas {
+    /// The atlas of a trace and what it breaks into, as `break_up` gives it.
+    pub fn of(alloc: Global, trace: Trace, micros: Micros) -> Result<Atlas, AllocError>
+        requires broken { micros ≡ micros_in trace }
+        requires legal { AreLegal (start_paths trace) (length micros.starts) micros.ops }
+        ensures { IfOk result (λ atlas. atlas ≡ trace) }
+    {
+        let tables = Tables::of(alloc, &trace, &micros)?;
+        Ok(Atlas {
+            trace,
+            micros,
+            tables,
+        })
+    }
+
+    /// The trace.
+    pub fn trace(&self) -> &Trace
+        ensures { result.now ≡ self.now }
+    {
+        &self.trace
+    }
+
+    /// What the trace breaks into.
+    pub fn micros(&self) -> &Micros
+        ensures value { result.now ≡ micros_in self.now }
+        ensures legal { AreLegal (start_paths self.now) (length result.now.starts) result.now.ops }
+    {
+        &self.micros
+    }
+
+    /// The store of the state of a set, which is allowed. A file that the set doesn't change is copied
+    /// once, and one that doesn't stand then is not.
+    pub fn build(&self, alloc: Global, places: &[u32]) -> Result<Built, AllocError>
+        requires { IsAllowed (needs_of (micros_in self.now)) (length (micros_in self.now).ops) places.now }
+        ensures state { IfOk result (λ tree. tree ≡ crash_state_of self.now (micros_in self.now) places.now) }
+        ensures tree { IfOk result IsTree }
+    {
+        state_of(alloc, &self.trace, &self.micros, &self.tables, places)
+    }
+}
+
+/// The store of the state of one set, which is allowed. For many sets of one trace, make its `Atlas` once.
+pub fn build(
     alloc: Global,
-    trace: &Trace,
     micros: &Micros,
-    tables: Tables<'_>,
+    trace: &Trace,
     places: &[u32],
-) -> Result<PlainTree, AllocError>
-    requires atlas { IsAtlas trace.now micros.now.ops (lent tables) }
+) -> Result<Built, AllocError>
+    requires broken { micros.now ≡ micros_in trace.now }
+    requires legal { AreLegal (start_paths trace.now) (length micros.now.starts) micros.now.ops }
     requires allowed { IsAllowed (needs_of micros.now) (length micros.now.ops) places.now }
     ensures state { IfOk result (λ tree. tree ≡ crash_state_of trace.now micros.now places.now) }
     ensures tree { IfOk result IsTree }
 {
-    let slots = filled(alloc, tables.slots, tables.steps, places)?;
-    let files = Files {
-        owners: tables.owners,
-        starts: tables.starts,
-        changed: tables.changed,
-    };
-    store_of(
-        alloc,
-        trace,
-        micros.ops(),
-        tables.paths,
-        tables.rights,
-        files,
-        places,
-        slots.as_slice(),
-    )
+    let tables = Tables::of(alloc, trace, micros)?;
+    state_of(alloc, trace, micros, &tables, places)
 }

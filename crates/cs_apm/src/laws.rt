@@ -1,13 +1,12 @@
 //! Laws of what needs what. A call of a function here does nothing: its contract is the law.
 ghost use Rattle.std.specs.Prelude.{◌≡◌, ◌↔◌, ◌<◌, ℕ, List, length, true};
-ghost use Rattle.std.specs.List.{All};
 ghost use Rattle.cs_apm.specs.Chains.{Chain, by_chain};
-ghost use Rattle.cs_apm.specs.Contents.{IsSmall};
 ghost use Rattle.cs_apm.specs.Orders.{needs_in, needs_of, order_of};
 ghost use Rattle.cs_apm.specs.Reasons.{Needs};
 ghost use Rattle.cs_apm.specs.Sets.{IsAllowed};
 ghost use Rattle.cs_apm.specs.States.{crash_state_of};
-ghost use Rattle.cs_micro.specs.Micros.{micros_in};
+ghost use Rattle.cs_micro.specs.Legal.{AreLegal};
+ghost use Rattle.cs_trace.specs.Traces.{start_paths};
 ghost use Rattle.cs_tree_model.specs.Tree.{IsTree};
 
 use crate::order::Order;
@@ -31,16 +30,10 @@ pub fn chains_are_chains(order: &Order)
     let _count = order.len();
 }
 
-/// The bytes of a block that is written lie within the largest file.
-pub fn blocks_are_small(trace: &Trace)
-    ensures { All IsSmall (micros_in trace.now).ops }
-{
-    let _operations = trace.operations();
-}
-
 /// The state of every allowed set of a trace's micro-operations is a tree.
-pub fn states_are_trees(trace: &Trace)
-    ensures { (places : List ℕ) → IsAllowed (needs_of (micros_in trace.now)) (length (micros_in trace.now).ops) places → IsTree (crash_state_of trace.now (micros_in trace.now) places) }
+pub fn states_are_trees(trace: &Trace, micros: &Micros)
+    requires { AreLegal (start_paths trace.now) (length micros.now.starts) micros.now.ops }
+    ensures { (places : List ℕ) → IsAllowed (needs_of micros.now) (length micros.now.ops) places → IsTree (crash_state_of trace.now micros.now places) }
 {
     let _operations = trace.operations();
 }

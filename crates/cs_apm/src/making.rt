@@ -12,21 +12,13 @@ ghost use Rattle.cs_apm.specs.States.{owners_of, record_of, record_with};
 
 use crate::files::bytes_left;
 use crate::slot::Slot;
+use crate::tables::Tables;
 use cs_micro::MicroOp;
 use cs_names::Path;
 use cs_trace::{Rights, Trace};
 use cs_tree::PlainTree;
 use cs_tree_model::{Content, DMDIR, Record};
 use std::alloc::{AllocError, Global};
-
-/// What is known of the files by their numbers: owner, group and permissions of each; where the record
-/// of each of the start's files stands; and which files an operation changes.
-#[derive(Clone, Copy)]
-pub struct Files<'a> {
-    pub owners: &'a [Rights],
-    pub starts: &'a [u32],
-    pub changed: &'a [bool],
-}
 
 /// A record that was never changed: its owner is the last who changed it.
 fn record_with(
@@ -57,27 +49,34 @@ fn record_at(
     number: u64,
     trace: &Trace,
     ops: &[MicroOp],
-    rights: &[Rights],
-    files: Files<'_>,
+    tables: &Tables,
     places: &[u32],
     slot: Slot,
 ) -> Result<Option<Record>, AllocError>
-    requires files { AreFiles trace.now ops.now files }
-    requires known { IsKnown (length rights.now) (length files.owners.now) slot }
+    requires files { AreFiles trace.now ops.now tables.now }
+    requires known { IsKnown (length tables.now.rights.items) (length tables.now.owners.items) slot }
     requires small { All IsSmall ops.now }
     requires inside { All (λ place. place < length ops.now) places.now }
-    ensures { IfOk result (λ made. made ≡ option_map (λ e. fresh_record number (record_of (owners_of trace.now ops.now) (files_left trace.now ops.now places.now) e)) (entry_of rights.now slot)) }
+    ensures { IfOk result (λ made. made ≡ option_map (λ e. fresh_record number (record_of (owners_of trace.now ops.now) (files_left trace.now ops.now places.now) e)) (entry_of tables.now.rights.items slot)) }
 {
     match slot {
         Slot::Nothing => Ok(None),
         Slot::Directory(k) => {
-            let rights = &rights[k as usize];
+            let rights = &tables.rights[k as usize];
             let record = record_with(number, rights, DMDIR, Content::directory())?;
             Ok(Some(record))
         }
         Slot::File(n) => {
-            let bytes = bytes_left(alloc, trace, ops, files.starts, files.changed, places, n)?;
-            let owner = &files.owners[n as usize];
+            let bytes = bytes_left(
+                alloc,
+                trace,
+                ops,
+                &tables.starts,
+                &tables.changed,
+                places,
+                n,
+            )?;
+            let owner = &tables.owners[n as usize];
             let record = record_with(number, owner, 0, Content::file(bytes))?;
             Ok(Some(record))
         }
@@ -89,25 +88,23 @@ fn records(
     alloc: Global,
     trace: &Trace,
     ops: &[MicroOp],
-    paths: &[Path],
-    rights: &[Rights],
-    files: Files<'_>,
+    tables: &Tables,
     places: &[u32],
     slots: &[Slot],
 ) -> Result<Vec<(Path, Record)>, AllocError>
-    requires files { AreFiles trace.now ops.now files }
-    requires long { length slots.now ≡ length paths.now }
-    requires known { AreKnown (length rights.now) (length files.owners.now) slots.now }
+    requires files { AreFiles trace.now ops.now tables.now }
+    requires long { length slots.now ≡ length tables.now.paths.items }
+    requires known { AreKnown (length tables.now.rights.items) (length tables.now.owners.items) slots.now }
     requires small { All IsSmall ops.now }
     requires inside { All (λ place. place < length ops.now) places.now }
-    ensures { IfOk result (λ records. records.items ≡ numbered 0 (map_entries (record_of (owners_of trace.now ops.now) (files_left trace.now ops.now places.now)) (present rights.now paths.now slots.now))) }
+    ensures { IfOk result (λ records. records.items ≡ numbered 0 (map_entries (record_of (owners_of trace.now ops.now) (files_left trace.now ops.now places.now)) (present tables.now.rights.items tables.now.paths.items slots.now))) }
 {
     let mut records = Vec::new(alloc);
     for (i, slot) in slots.iter().enumerate() {
         let number = records.len() as u64;
-        match record_at(alloc, number, trace, ops, rights, files, places, *slot)? {
+        match record_at(alloc, number, trace, ops, tables, places, *slot)? {
             None => {}
-            Some(record) => records.push((paths[i].try_clone(alloc)?, record))?,
+            Some(record) => records.push((tables.paths[i].try_clone(alloc)?, record))?,
         }
     }
     Ok(records)
@@ -118,21 +115,19 @@ pub fn store_of(
     alloc: Global,
     trace: &Trace,
     ops: &[MicroOp],
-    paths: &[Path],
-    rights: &[Rights],
-    files: Files<'_>,
+    tables: &Tables,
     places: &[u32],
     slots: &[Slot],
 ) -> Result<PlainTree, AllocError>
-    requires files { AreFiles trace.now ops.now files }
-    requires long { length slots.now ≡ length paths.now }
-    requires known { AreKnown (length rights.now) (length files.owners.now) slots.now }
+    requires files { AreFiles trace.now ops.now tables.now }
+    requires long { length slots.now ≡ length tables.now.paths.items }
+    requires known { AreKnown (length tables.now.rights.items) (length tables.now.owners.items) slots.now }
     requires small { All IsSmall ops.now }
     requires inside { All (λ place. place < length ops.now) places.now }
-    requires ascending { AreAscending paths.now }
-    requires nested { IsNested (map_values (record_of (owners_of trace.now ops.now) (files_left trace.now ops.now places.now)) (mirrored rights.now paths.now slots.now)) }
-    ensures { IfOk result (λ tree. tree ≡ fresh (map_values (record_of (owners_of trace.now ops.now) (files_left trace.now ops.now places.now)) (mirrored rights.now paths.now slots.now))) }
+    requires ascending { AreAscending tables.now.paths.items }
+    requires nested { IsNested (map_values (record_of (owners_of trace.now ops.now) (files_left trace.now ops.now places.now)) (mirrored tables.now.rights.items tables.now.paths.items slots.now)) }
+    ensures { IfOk result (λ tree. tree ≡ fresh (map_values (record_of (owners_of trace.now ops.now) (files_left trace.now ops.now places.now)) (mirrored tables.now.rights.items tables.now.paths.items slots.now))) }
 {
-    let records = records(alloc, trace, ops, paths, rights, files, places, slots)?;
+    let records = records(alloc, trace, ops, tables, places, slots)?;
     PlainTree::from_records(alloc, records)
 }

@@ -1,5 +1,5 @@
 //! Every path that ever stands, in order, each with its place.
-ghost use Rattle.std.specs.Prelude.{◌≡◌, ◌<◌, length, IfOk, OnOk};
+ghost use Rattle.std.specs.Prelude.{◌≡◌, ◌<◌, ◌≤◌, ◌+◌, ◌*◌, length, IfOk, OnOk};
 ghost use Rattle.std.specs.List.{Contains};
 ghost use Rattle.cs_tree_model.specs.Tree.{Path as Names};
 ghost use Rattle.cs_apm.specs.Atlases.{HasAllTouched, HasFirst, HasTouched};
@@ -16,6 +16,7 @@ pub fn add_path(alloc: Global, paths: &mut Vec<Path>, path: &Path) -> Result<(),
     ensures ascending { AreAscending paths.new.items }
     ensures there { OnOk result (Contains paths.new.items path.now) }
     ensures others { (p : Names) → Contains paths.old.items p → Contains paths.new.items p }
+    ensures few { length paths.new.items ≤ length paths.old.items + 1 }
 {
     match paths.binary_search(path) {
         Ok(_found) => {}
@@ -33,6 +34,7 @@ fn add_starts(
     requires { AreAscending paths.old.items }
     ensures ascending { OnOk result (AreAscending paths.new.items) }
     ensures there { OnOk result (HasFirst paths.new.items records.now (length records.now)) }
+    ensures few { OnOk result (length paths.new.items ≤ length paths.old.items + length records.now) }
 {
     for record in records {
         add_path(alloc, paths, &record.0)?;
@@ -46,6 +48,7 @@ fn add_touched(alloc: Global, paths: &mut Vec<Path>, op: &MicroOp) -> Result<(),
     ensures ascending { OnOk result (AreAscending paths.new.items) }
     ensures there { OnOk result (HasTouched paths.new.items op.now) }
     ensures others { (p : Names) → Contains paths.old.items p → Contains paths.new.items p }
+    ensures few { OnOk result (length paths.new.items ≤ length paths.old.items + 2) }
 {
     match op {
         MicroOp::CreateDirEntry { path, .. } => add_path(alloc, paths, path)?,
@@ -69,6 +72,7 @@ pub fn paths_of(
     ensures ascending { IfOk result (λ paths. AreAscending paths.items) }
     ensures starts { IfOk result (λ paths. HasFirst paths.items records.now (length records.now)) }
     ensures touched { IfOk result (λ paths. HasAllTouched paths.items ops.now (length ops.now)) }
+    ensures few { IfOk result (λ paths. length paths.items ≤ length records.now + 2 * length ops.now) }
 {
     let mut paths = Vec::new(alloc);
     add_starts(alloc, &mut paths, records)?;

@@ -35,7 +35,7 @@ less_apart : (p q : Path) → path_cmp p q ≡ Less → path_eq p q ≡ false
 less_apart p q h = path_ties p q ∙ ap is_eq h
 
 module _ (rights : List Rights) where
-  at_place : (paths : List Path) (slots : List Slot) → AreAscending paths → length slots ≡ length paths → (i : ℕ) (p : Path) → IsPlace paths i p → slot_entry rights paths slots p ≡ entry_of rights (slot_at slots i)
+  pub at_place : (paths : List Path) (slots : List Slot) → AreAscending paths → length slots ≡ length paths → (i : ℕ) (p : Path) → IsPlace paths i p → slot_entry rights paths slots p ≡ entry_of rights (slot_at slots i)
   at_place [] slots up long i p is = absurd (let l = is.0 in omega (arith, l))
   at_place (q ∷ qs) [] up long i p is = absurd (omega (arith, long))
   at_place (q ∷ qs) (s ∷ ss) up long zero p is = ap (λ b. cond b (entry_of rights s) (slot_entry rights qs ss p)) (ap (path_eq q) (sym is.1) ∙ same_path q)
@@ -82,14 +82,14 @@ module _ (rights : List Rights) where
       (same_cases q p))
       (same_cases p q)
 
-  get_inserted : (m : Entries) (p q : Path) (e : Entry) → get (insert m p e) q ≡ cond (path_eq p q) (Some e) (get m q)
+  pub get_inserted : (m : Entries) (p q : Path) (e : Entry) → get (insert m p e) q ≡ cond (path_eq p q) (Some e) (get m q)
   get_inserted m p q e = get-insert path_total m p e q ∙ ap (λ b. cond b (Some e) (get m q)) (turned p q)
 
   get_removed : (m : Entries) (p q : Path) → get (remove m p) q ≡ cond (path_eq p q) None (get m q)
   get_removed m p q = get-remove path_total m p q ∙ ap (λ b. cond b None (get m q)) (turned p q)
 
   module _ (paths : List Path) (up : AreAscending paths) (slots : List Slot) (long : length slots ≡ length paths) (m : Entries) (mirror : Mirror rights paths slots m) where
-    set_mirror : (i : ℕ) (p : Path) → IsPlace paths i p → (s : Slot) (n : Entries) → ((q : Path) → get n q ≡ cond (path_eq p q) (entry_of rights s) (get m q)) → Mirror rights paths (slice_set slots i s) n
+    pub set_mirror : (i : ℕ) (p : Path) → IsPlace paths i p → (s : Slot) (n : Entries) → ((q : Path) → get n q ≡ cond (path_eq p q) (entry_of rights s) (get m q)) → Mirror rights paths (slice_set slots i s) n
     set_mirror i p is s n h q = h q ∙ ap (cond (path_eq p q) (entry_of rights s)) (mirror q) ∙ sym (with_slot paths slots up long i p is s q)
 
     move_mirror : (i j : ℕ) (p q : Path) → IsPlace paths i p → IsPlace paths j q → (s : Slot) → slot_at slots i ≡ s → Mirror rights paths (moved_slot i j slots s) (moved p q m)
@@ -131,7 +131,7 @@ module _ (rights : List Rights) where
 
   -- ---- the steps of a set
 
-  step_is : (paths : List Path) (ops : List MicroOp) (steps : List Step) → AreSteps rights paths ops steps → (k : ℕ) → IsStep rights paths (op_at ops k) (step_at steps k)
+  pub step_is : (paths : List Path) (ops : List MicroOp) (steps : List Step) → AreSteps rights paths ops steps → (k : ℕ) → IsStep rights paths (op_at ops k) (step_at steps k)
   step_is paths [] [] h zero = tt
   step_is paths [] [] h (suc k) = tt
   step_is paths [] (s ∷ steps) h k = absurd h

@@ -7,7 +7,7 @@ use Rattle.cs_tree_model.specs.Tree.{Path, parent_path}
 use Rattle.cs_trace.specs.declared.operation.Node.{Node}
 use Rattle.cs_micro.specs.declared.micro_op.MicroOp.{MicroOp}
 use Rattle.cs_trace.specs.Operations.{AreNested, IsDirectoryAt, Paths}
-use Rattle.cs_apm.specs.Legal.{HasNeeds, IsLegalStep, nodes_of}
+use Rattle.cs_apm.specs.Legal.{HasNeeds, IsLegalThere, nodes_of}
 use Rattle.cs_apm.specs.Rules.{creates, op_at, touches}
 use Rattle.cs_apm.specs.Laws.One.{apart, made, nested_after, created_touched, Deletes}
 use Rattle.cs_apm.specs.Laws.Search.{NonePass, First, first_of, Last, last_of}
@@ -18,7 +18,7 @@ not_both o a none some = false≢true (ap is_some (sym none ∙ some))
 
 module _ (start : Paths) (ops : List MicroOp) (has : ℕ → Bool) (n : ℕ)
     (nested : (k : ℕ) → k ≤ n → AreNested (nodes_of all start ops k))
-    (legal : (k : ℕ) → k < n → IsLegalStep (nodes_of all start ops k) (op_at ops k))
+    (legal : (k : ℕ) → k < n → IsLegalThere (nodes_of all start ops k) (op_at ops k))
     (needs : HasNeeds ops has) where
   abbrev at : ℕ → Paths
   at k = nodes_of all start ops k
@@ -122,10 +122,10 @@ module _ (start : Paths) (ops : List MicroOp) (has : ℕ → Bool) (n : ℕ)
 -- ---- legal operations, one after the other
 
 module _ (ops : List MicroOp) where
-  legal_nested : (start : Paths) → AreNested start → ((k : ℕ) → k < length ops → IsLegalStep (nodes_of all start ops k) (op_at ops k)) → (k : ℕ) → k ≤ length ops → AreNested (nodes_of all start ops k)
+  legal_nested : (start : Paths) → AreNested start → ((k : ℕ) → k < length ops → IsLegalThere (nodes_of all start ops k) (op_at ops k)) → (k : ℕ) → k ≤ length ops → AreNested (nodes_of all start ops k)
   legal_nested start nested legal zero le = nested
   legal_nested start nested legal (suc k) le = nested_after (nodes_of all start ops k) (op_at ops k) (legal k (omega (arith, le))) (legal_nested start nested legal k (omega (arith, le)))
 
   -- the paths that a set of legal operations leaves are nested, if it has what its members need
-  pub set_nested : (start : Paths) (has : ℕ → Bool) → AreNested start → ((k : ℕ) → k < length ops → IsLegalStep (nodes_of all start ops k) (op_at ops k)) → HasNeeds ops has → AreNested (nodes_of has start ops (length ops))
+  pub set_nested : (start : Paths) (has : ℕ → Bool) → AreNested start → ((k : ℕ) → k < length ops → IsLegalThere (nodes_of all start ops k) (op_at ops k)) → HasNeeds ops has → AreNested (nodes_of has start ops (length ops))
   set_nested start has nested legal needs = nested_left start ops has (length ops) (legal_nested start nested legal) legal needs

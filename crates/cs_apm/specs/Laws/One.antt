@@ -1,5 +1,5 @@
 -- One micro-operation on the map of nodes.
-use Rattle.std.proofs.Common.{◌≡◌, ◌≢◌, Bool, true, false, cond, ◌||◌, [], ◌⊎◌, inl, inr, Option, None, Some, refl, sym, ap, ◌∙◌, subst, ⊎_elim}
+use Rattle.std.proofs.Common.{◌≡◌, ◌≢◌, ℕ, Bool, true, false, cond, ◌||◌, [], ◌⊎◌, inl, inr, Option, None, Some, refl, sym, ap, ◌∙◌, subst, ⊎_elim}
 use Rattle.std.proofs.lemmas.Bool.{false≢true}
 use Rattle.std.specs.FinMap.{get, insert, remove}
 use Rattle.std.specs.Option.{is_some}
@@ -9,11 +9,13 @@ use Rattle.cs_tree_model.specs.Maps.Changes as changes
 use Rattle.cs_tree_model.specs.Tree.{Path, parent_path}
 use Rattle.cs_trace.specs.declared.operation.Node.{Node}
 use Rattle.cs_trace.specs.declared.operation.Node.TheVariants.{Directory, File}
-use Rattle.cs_trace.specs.Operations.{AreNested, IsDirectoryAt, IsEmptyAt, IsFileAt, Paths, moved}
+use Rattle.cs_trace.specs.declared.operation.Rights.{Rights}
+use Rattle.cs_trace.specs.Operations.{AreNested, IsDirectoryAt, IsEmptyAt, IsFileAt, IsFree, Paths, moved}
 use Rattle.cs_micro.specs.declared.micro_op.EntryKind.TheVariants as kinds
 use Rattle.cs_micro.specs.declared.micro_op.MicroOp.{MicroOp}
 use Rattle.cs_micro.specs.declared.micro_op.MicroOp.TheVariants.{CreateDirEntry, DeleteDirEntry, MoveDirEntry, ChangeFileSize, WriteBlock, Say}
-use Rattle.cs_apm.specs.Legal.{IsLegalStep, nodes_after}
+use Rattle.cs_micro.specs.Legal.{IsLegal, paths_after}
+use Rattle.cs_apm.specs.Legal.{IsLegalThere}
 use Rattle.cs_apm.specs.Rules.{creates, touches}
 use Rattle.cs_apm.specs.Laws.Paths.{same_cases, same_path}
 
@@ -82,7 +84,7 @@ move_apart (Some e) here = refl
 -- ---- what stands at a path after an operation
 
 -- a path that isn't touched keeps what stands there
-pub untouched : (m : Paths) (o : MicroOp) (q : Path) → touches o q ≡ false → get (nodes_after m o) q ≡ get m q
+pub untouched : (m : Paths) (o : MicroOp) (q : Path) → touches o q ≡ false → get (paths_after m o) q ≡ get m q
 untouched m (CreateDirEntry p node rights) q h = get-insert_other m q p node (one_apart p q h)
 untouched m (DeleteDirEntry p kind) q h = get-remove_other m q p (one_apart p q h)
 untouched m (MoveDirEntry a b) q h =
@@ -94,7 +96,7 @@ untouched m (WriteBlock file block at bytes) q h = refl
 untouched m Say q h = refl
 
 -- where two maps agree on what an operation touches, they agree there after it
-pub agree : (m n : Paths) (o : MicroOp) → ((q : Path) → touches o q ≡ true → get m q ≡ get n q) → (q : Path) → touches o q ≡ true → get (nodes_after m o) q ≡ get (nodes_after n o) q
+pub agree : (m n : Paths) (o : MicroOp) → ((q : Path) → touches o q ≡ true → get m q ≡ get n q) → (q : Path) → touches o q ≡ true → get (paths_after m o) q ≡ get (paths_after n o) q
 agree m n (CreateDirEntry p node rights) same q h = ap (get (insert m p node)) (sym (one_touched p q h)) ∙ get-insert_same m p node ∙ sym (get-insert_same n p node) ∙ ap (get (insert n p node)) (one_touched p q h)
 agree m n (DeleteDirEntry p kind) same q h = ap (get (remove m p)) (sym (one_touched p q h)) ∙ get-remove_same m p ∙ sym (get-remove_same n p) ∙ ap (get (remove n p)) (one_touched p q h)
 agree m n (MoveDirEntry a b) same q h =
@@ -136,27 +138,31 @@ not_taken m q d h directory = ⊎_elim
 abbrev pub Deletes : Paths → MicroOp → Path → Type 0
 Deletes m o d = (o ≡ DeleteDirEntry d kinds.Directory) × IsEmptyAt m d × (d ≢ [])
 
+free_entry : (m : Paths) (count : ℕ) (p : Path) (node : Node) (rights : Rights) → IsLegal m count (CreateDirEntry p node rights) → IsFree m p
+free_entry m count p Directory rights h = h.0
+free_entry m count p (File file) rights h = h.0
+
 -- a legal operation touches a directory only to delete it, and then it is empty
-pub apart : (m : Paths) (o : MicroOp) (d : Path) → IsLegalStep m o → IsDirectoryAt m d → (touches o d ≡ false) ⊎ Deletes m o d
-apart m (CreateDirEntry p node rights) d h directory = inl (apart_one p d (λ e. not_both (get m p) _ h.0 (ap (get m) e ∙ directory)))
+pub apart : (m : Paths) (o : MicroOp) (d : Path) → IsLegalThere m o → IsDirectoryAt m d → (touches o d ≡ false) ⊎ Deletes m o d
+apart m (CreateDirEntry p node rights) d h directory = inl (apart_one p d (λ e. not_both (get m p) _ (free_entry m h.0 p node rights h.1).0 (ap (get m) e ∙ directory)))
 apart m (DeleteDirEntry p kinds.Directory) d h directory = ⊎_elim
-    (λ (one : (path_eq p d ≡ true) × (p ≡ d)). inr (ap (λ w. DeleteDirEntry w kinds.Directory) one.1, subst (IsEmptyAt m) one.1 h.2, subst (λ w. w ≢ []) one.1 h.0))
+    (λ (one : (path_eq p d ≡ true) × (p ≡ d)). inr (ap (λ w. DeleteDirEntry w kinds.Directory) one.1, subst (IsEmptyAt m) one.1 h.1.2, subst (λ w. w ≢ []) one.1 h.1.0))
     (λ (two : (path_eq p d ≡ false) × (p ≢ d)). inl (ap (λ b. b || false) two.0))
     (same_cases p d)
-apart m (DeleteDirEntry p kinds.File) d h directory = inl (apart_one p d (not_file m p d h directory))
+apart m (DeleteDirEntry p kinds.File) d h directory = inl (apart_one p d (not_file m p d h.1 directory))
 apart m (MoveDirEntry a b) d h directory =
-    let from = apart_one a d (not_file m a d h.1 directory) in
-    let to = apart_one b d (not_taken m b d h.2.0 directory) in
+    let from = apart_one a d (not_file m a d h.1.1 directory) in
+    let to = apart_one b d (not_taken m b d h.1.2.0 directory) in
     inl ((λ i. first_apart (path_eq a d) false from i || (path_eq b d || false)) ∙ to)
 apart m (ChangeFileSize file size) d h directory = inl refl
 apart m (WriteBlock file block at bytes) d h directory = inl refl
 apart m Say d h directory = inl refl
 
 -- and where it leaves one, it made it
-pub made : (m : Paths) (o : MicroOp) (d : Path) → IsLegalStep m o → touches o d ≡ true → IsDirectoryAt (nodes_after m o) d → creates o d ≡ true
+pub made : (m : Paths) (o : MicroOp) (d : Path) → IsLegalThere m o → touches o d ≡ true → IsDirectoryAt (paths_after m o) d → creates o d ≡ true
 made m (CreateDirEntry p node rights) d h t directory = ap (path_eq p) (sym (one_touched p d t)) ∙ same_path p
 made m (DeleteDirEntry p kind) d h t directory = absurd (not_both (get (remove m p) d) _ (ap (get (remove m p)) (sym (one_touched p d t)) ∙ get-remove_same m p) directory)
-made m (MoveDirEntry a b) d h t directory = absurd (false≢true (sym (moves_no_directory m a b d h.1 t) ∙ ap is_directory directory))
+made m (MoveDirEntry a b) d h t directory = absurd (false≢true (sym (moves_no_directory m a b d h.1.1 t) ∙ ap is_directory directory))
   where
     none_of : (f : Option Node) (at_to : Bool) → is_directory f ≡ false → is_directory (cond at_to f None) ≡ false
     none_of f true h = h
@@ -172,7 +178,7 @@ made m (WriteBlock file block at bytes) d h t directory = absurd (false≢true t
 made m Say d h t directory = absurd (false≢true t)
 
 -- what stands somewhere after it has had a directory above it
-pub above : (m : Paths) (o : MicroOp) → IsLegalStep m o → AreNested m → (q : Path) (e : Node) → get (nodes_after m o) q ≡ Some e → q ≢ [] → IsDirectoryAt m (parent_path q)
+pub above : (m : Paths) (o : MicroOp) → IsLegalThere m o → AreNested m → (q : Path) (e : Node) → get (paths_after m o) q ≡ Some e → q ≢ [] → IsDirectoryAt m (parent_path q)
 above m o h nested q e is named = ⊎_elim
     (λ (one : touches o q ≡ true). at_touched o h one is)
     (λ (two : touches o q ≡ false). nested.nested q e (sym (untouched m o q two) ∙ is) named)
@@ -182,13 +188,13 @@ above m o h nested q e is named = ⊎_elim
     cases true = inl refl
     cases false = inr refl
 
-    at_touched : (o : MicroOp) → IsLegalStep m o → touches o q ≡ true → get (nodes_after m o) q ≡ Some e → IsDirectoryAt m (parent_path q)
-    at_touched (CreateDirEntry p node rights) h t is = subst (λ w. IsDirectoryAt m (parent_path w)) (one_touched p q t) h.1
+    at_touched : (o : MicroOp) → IsLegalThere m o → touches o q ≡ true → get (paths_after m o) q ≡ Some e → IsDirectoryAt m (parent_path q)
+    at_touched (CreateDirEntry p node rights) h t is = subst (λ w. IsDirectoryAt m (parent_path w)) (one_touched p q t) (free_entry m h.0 p node rights h.1).1
     at_touched (DeleteDirEntry p kind) h t is = absurd (not_both (get (remove m p) q) e (ap (get (remove m p)) (sym (one_touched p q t)) ∙ get-remove_same m p) is)
     at_touched (MoveDirEntry a b) h t is = ⊎_elim
-        (λ (one : (path_eq b q ≡ true) × (b ≡ q)). subst (λ w. IsDirectoryAt m (parent_path w)) one.1 h.2.1)
+        (λ (one : (path_eq b q ≡ true) × (b ≡ q)). subst (λ w. IsDirectoryAt m (parent_path w)) one.1 h.1.2.1)
         (λ (two : (path_eq b q ≡ false) × (b ≢ q)). ⊎_elim
-        (λ (from : a ≡ q). absurd (not_both (get (moved a b m) q) e (get-moved m a b q ∙ (λ i. move_look (two.0 i) (((ap (path_eq a) (sym from)) ∙ same_path a) i) (h.1.1 i) (get m q))) is))
+        (λ (from : a ≡ q). absurd (not_both (get (moved a b m) q) e (get-moved m a b q ∙ (λ i. move_look (two.0 i) (((ap (path_eq a) (sym from)) ∙ same_path a) i) (h.1.1.1 i) (get m q))) is))
         (λ (to : b ≡ q). absurd (two.1 to))
         (two_touched a b q t))
         (same_cases b q)
@@ -197,21 +203,21 @@ above m o h nested q e is named = ⊎_elim
     at_touched Say h t is = absurd (false≢true t)
 
 -- a legal operation leaves paths nested
-pub nested_after : (m : Paths) (o : MicroOp) → IsLegalStep m o → AreNested m → AreNested (nodes_after m o)
+pub nested_after : (m : Paths) (o : MicroOp) → IsLegalThere m o → AreNested m → AreNested (paths_after m o)
 nested_after m o h nested = record {
   root = kept [] nested.root (λ gone. gone.2 refl);
   nested = λ q e is named. kept (parent_path q) (above m o h nested q e is named) (λ gone.
-      not_both (get (nodes_after m o) q) e (gone_too q named gone) is);
+      not_both (get (paths_after m o) q) e (gone_too q named gone) is);
 }
   where
-    kept : (d : Path) → IsDirectoryAt m d → (Deletes m o d → ⊥) → IsDirectoryAt (nodes_after m o) d
+    kept : (d : Path) → IsDirectoryAt m d → (Deletes m o d → ⊥) → IsDirectoryAt (paths_after m o) d
     kept d directory stays = ⊎_elim
         (λ (free : touches o d ≡ false). untouched m o d free ∙ directory)
         (λ (gone : Deletes m o d). absurd (stays gone))
         (apart m o d h directory)
 
-    gone_too : (q : Path) → q ≢ [] → Deletes m o (parent_path q) → get (nodes_after m o) q ≡ None
-    gone_too q named gone = ap (λ w. get (nodes_after m w) q) gone.0 ∙ ⊎_elim
+    gone_too : (q : Path) → q ≢ [] → Deletes m o (parent_path q) → get (paths_after m o) q ≡ None
+    gone_too q named gone = ap (λ w. get (paths_after m w) q) gone.0 ∙ ⊎_elim
         (λ (one : (path_eq (parent_path q) q ≡ true) × (parent_path q ≡ q)). ap (get (remove m (parent_path q))) (sym one.1) ∙ get-remove_same m (parent_path q))
         (λ (two : (path_eq (parent_path q) q ≡ false) × (parent_path q ≢ q)). get-remove_other m q (parent_path q) (λ e. two.1 (sym e)) ∙ gone.1 q named refl)
         (same_cases (parent_path q) q)

@@ -8,14 +8,13 @@ use Rattle.cs_tree_model.specs.declared.record.Record.{Record}
 use Rattle.cs_tree_model.specs.Laws.Paths.{path_exact, path_total}
 use Rattle.cs_tree_model.specs.Tree.{IsTree, Path, path_cmp}
 use Rattle.cs_trace.specs.declared.operation.Node.{Node}
-use Rattle.cs_trace.specs.Operations.{AreLegal, AreNested}
-use Rattle.cs_trace.specs.Traces.{Trace, standing, start_paths, start_sizes}
-use Rattle.cs_micro.specs.Micros.{micros_in}
-use Rattle.cs_apm.specs.Legal.{AreLegalSteps}
+use Rattle.cs_trace.specs.Operations.{AreNested}
+use Rattle.cs_trace.specs.Traces.{Trace, standing, start_paths}
+use Rattle.cs_micro.specs.Micros.{Micros}
+use Rattle.cs_micro.specs.Legal.{AreLegal}
 use Rattle.cs_apm.specs.Orders.{needs_of}
 use Rattle.cs_apm.specs.Sets.{IsAllowed}
 use Rattle.cs_apm.specs.States.{crash_state_of, owners_of, rights_of, start_entries, start_entry, start_state}
-use Rattle.cs_apm.specs.Laws.Steps.{legal_steps}
 use Rattle.cs_apm.specs.Laws.Trees.{chosen, get_nodes, node_made, node_of, nodes_in, state_is_tree}
 
 find_start : (q : Path) (records : List (Path × Record)) (nodes : List Node)
@@ -33,12 +32,12 @@ start_nodes records nodes = same_map path_total path_exact (nodes_in (start_entr
     ∙ find_start q records nodes
     ∙ sym (get-from_entries path_total (zip (map (λ e. e.0) records) nodes) q))
 
-module _ (t : Trace) (nested : AreNested (start_paths t)) (legal : AreLegal (start_paths t) (start_sizes t) t.operations) where
+module _ (t : Trace) (m : Micros) (nested : AreNested (start_paths t)) (made : ℕ) (legal : AreLegal (start_paths t) made m.ops) where
   pub nested_start : AreNested (nodes_in (start_state t).paths)
   nested_start = subst AreNested (sym (start_nodes t.records t.nodes)) nested
 
-  pub legal_start : AreLegalSteps (nodes_in (start_state t).paths) (micros_in t).ops
-  legal_start = subst (λ m. AreLegalSteps m (micros_in t).ops) (sym (start_nodes t.records t.nodes)) (legal_steps (start_paths t) (start_sizes t) t.operations legal)
+  pub legal_start : AreLegal (nodes_in (start_state t).paths) made m.ops
+  legal_start = subst (λ n. AreLegal n made m.ops) (sym (start_nodes t.records t.nodes)) legal
 
-  pub crash_states_are_trees : (places : List ℕ) → IsAllowed (needs_of (micros_in t)) (length (micros_in t).ops) places → IsTree (crash_state_of t (micros_in t) places)
-  crash_states_are_trees places allowed = state_is_tree (owners_of t (micros_in t).ops) (start_state t) (micros_in t).ops (micros_in t).syncs places nested_start legal_start allowed
+  pub crash_states_are_trees : (places : List ℕ) → IsAllowed (needs_of m) (length m.ops) places → IsTree (crash_state_of t m places)
+  crash_states_are_trees places allowed = state_is_tree (owners_of t m.ops) (start_state t) m.ops m.syncs places nested_start made legal_start allowed

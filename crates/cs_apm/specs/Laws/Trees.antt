@@ -21,7 +21,8 @@ use Rattle.cs_trace.specs.Operations.{AreNested, IsDirectoryAt, Paths}
 use Rattle.cs_micro.specs.declared.micro_op.MicroOp.{MicroOp}
 use Rattle.cs_micro.specs.declared.micro_op.MicroOp.TheVariants.{CreateDirEntry, DeleteDirEntry, MoveDirEntry, ChangeFileSize, WriteBlock, Say}
 use Rattle.cs_micro.specs.declared.sync_point.SyncPoint.{SyncPoint}
-use Rattle.cs_apm.specs.Legal.{AreLegalSteps, IsLegalStep, nodes_after, nodes_of}
+use Rattle.cs_micro.specs.Legal.{AreLegal, made_after, paths_after}
+use Rattle.cs_apm.specs.Legal.{IsLegalThere, nodes_of}
 use Rattle.cs_apm.specs.Rules.{needs, op_at}
 use Rattle.cs_apm.specs.Sets.{IsAllowed, is_member}
 use Rattle.cs_apm.specs.States.{Content, Directory, Entries, Entry, File, State, after, entries_after, entry_made, nobody, permission_bits, record_of, records_of, state_of, tree_of_state}
@@ -35,27 +36,27 @@ pub paths_fold : (s : State) (ops : List MicroOp) → (fold after s ops).paths �
 paths_fold s [] = refl
 paths_fold s (o ∷ ops) = paths_fold (after s o) ops
 
-same_run : (t : ℕ → Bool) (start : Paths) (ops : List MicroOp) (k : ℕ) → run nodes_after t start ops k ≡ nodes_of t start ops k
+same_run : (t : ℕ → Bool) (start : Paths) (ops : List MicroOp) (k : ℕ) → run paths_after t start ops k ≡ nodes_of t start ops k
 same_run t start ops zero = refl
-same_run t start ops (suc k) = ap (λ w. cond (t k) (nodes_after w (op_at ops k)) w) (same_run t start ops k)
+same_run t start ops (suc k) = ap (λ w. cond (t k) (paths_after w (op_at ops k)) w) (same_run t start ops k)
 
 -- ---- legal micro-operations by their places
 
-same_first : (start : Paths) (o : MicroOp) (ops : List MicroOp) (k : ℕ) → nodes_of all start (o ∷ ops) (suc k) ≡ nodes_of all (nodes_after start o) ops k
+same_first : (start : Paths) (o : MicroOp) (ops : List MicroOp) (k : ℕ) → nodes_of all start (o ∷ ops) (suc k) ≡ nodes_of all (paths_after start o) ops k
 same_first start o ops zero = refl
-same_first start o ops (suc k) = ap (λ w. nodes_after w (op_at ops k)) (same_first start o ops k)
+same_first start o ops (suc k) = ap (λ w. paths_after w (op_at ops k)) (same_first start o ops k)
 
-legal_at : (start : Paths) (ops : List MicroOp) → AreLegalSteps start ops → (k : ℕ) → k < length ops → IsLegalStep (nodes_of all start ops k) (op_at ops k)
-legal_at start [] h k lt = absurd (omega (arith, lt))
-legal_at start (o ∷ ops) h zero lt = h.0
-legal_at start (o ∷ ops) h (suc k) lt = subst (λ w. IsLegalStep w (op_at ops k)) (sym (same_first start o ops k)) (legal_at (nodes_after start o) ops h.1 k (omega (arith, lt)))
+legal_at : (start : Paths) (made : ℕ) (ops : List MicroOp) → AreLegal start made ops → (k : ℕ) → k < length ops → IsLegalThere (nodes_of all start ops k) (op_at ops k)
+legal_at start made [] h k lt = absurd (omega (arith, lt))
+legal_at start made (o ∷ ops) h zero lt = (made, h.0)
+legal_at start made (o ∷ ops) h (suc k) lt = subst (λ w. IsLegalThere w (op_at ops k)) (sym (same_first start o ops k)) (legal_at (paths_after start o) (made_after made o) ops h.1 k (omega (arith, lt)))
 
 -- the nodes that an allowed set leaves are nested
-pub fold_nested : (start : Paths) (ops : List MicroOp) (syncs : List SyncPoint) (places : List ℕ) → AreNested start → AreLegalSteps start ops
-    → IsAllowed (needs ops syncs) (length ops) places → AreNested (fold nodes_after start (map (op_at ops) places))
-fold_nested start ops syncs places nested legal allowed =
-    subst AreNested (sym (members_run nodes_after start ops (length ops) places allowed.ascending allowed.in_range ∙ same_run (is_member places) start ops (length ops)))
-    (set_nested ops start (is_member places) nested (legal_at start ops legal) (allowed_has ops syncs (length ops) places allowed))
+pub fold_nested : (start : Paths) (made : ℕ) (ops : List MicroOp) (syncs : List SyncPoint) (places : List ℕ) → AreNested start → AreLegal start made ops
+    → IsAllowed (needs ops syncs) (length ops) places → AreNested (fold paths_after start (map (op_at ops) places))
+fold_nested start made ops syncs places nested legal allowed =
+    subst AreNested (sym (members_run paths_after start ops (length ops) places allowed.ascending allowed.in_range ∙ same_run (is_member places) start ops (length ops)))
+    (set_nested ops start (is_member places) nested (legal_at start made ops legal) (allowed_has ops syncs (length ops) places allowed))
 
 -- ---- the nodes of a state's entries
 
@@ -88,7 +89,7 @@ nodes_removed m p = same_map path_total path_exact (nodes_in (remove m p)) (remo
     get_nodes (remove m p) q ∙ ap (option_map node_of) (get-remove path_total m p q) ∙ chosen (is_eq (path_cmp q p)) None (get m q)
     ∙ sym (get-remove path_total (nodes_in m) p q ∙ ap (cond (is_eq (path_cmp q p)) None) (get_nodes m q)))
 
-nodes_step : (m : Entries) (o : MicroOp) → nodes_in (entries_after m o) ≡ nodes_after (nodes_in m) o
+nodes_step : (m : Entries) (o : MicroOp) → nodes_in (entries_after m o) ≡ paths_after (nodes_in m) o
 nodes_step m (CreateDirEntry p node rights) = nodes_inserted m p (entry_made node rights) ∙ ap (insert (nodes_in m) p) (node_made node rights)
 nodes_step m (DeleteDirEntry p kind) = nodes_removed m p
 nodes_step m (MoveDirEntry p q) = ⊎_elim
@@ -100,9 +101,9 @@ nodes_step m (ChangeFileSize file size) = refl
 nodes_step m (WriteBlock file block at bytes) = refl
 nodes_step m Say = refl
 
-pub nodes_fold : (m : Entries) (ops : List MicroOp) → nodes_in (fold entries_after m ops) ≡ fold nodes_after (nodes_in m) ops
+pub nodes_fold : (m : Entries) (ops : List MicroOp) → nodes_in (fold entries_after m ops) ≡ fold paths_after (nodes_in m) ops
 nodes_fold m [] = refl
-nodes_fold m (o ∷ ops) = nodes_fold (entries_after m o) ops ∙ ap (λ w. fold nodes_after w ops) (nodes_step m o)
+nodes_fold m (o ∷ ops) = nodes_fold (entries_after m o) ops ∙ ap (λ w. fold paths_after w ops) (nodes_step m o)
 
 -- ---- the records of a state
 
@@ -159,7 +160,7 @@ module _ (owners : List Rights) (files : List Content) (m : Entries) (h : AreNes
 -- ---- the tree
 
 module _ (owners : List Rights) (start : State) (ops : List MicroOp) (syncs : List SyncPoint) (places : List ℕ)
-    (nested : AreNested (nodes_in start.paths)) (legal : AreLegalSteps (nodes_in start.paths) ops)
+    (nested : AreNested (nodes_in start.paths)) (made : ℕ) (legal : AreLegal (nodes_in start.paths) made ops)
     (allowed : IsAllowed (needs ops syncs) (length ops) places) where
   pub paths_left : (state_of start ops places).paths ≡ fold entries_after start.paths (map (op_at ops) places)
   unfolding state_of
@@ -167,7 +168,7 @@ module _ (owners : List Rights) (start : State) (ops : List MicroOp) (syncs : Li
 
   pub state_nested : IsNested (records_of owners (state_of start ops places))
   state_nested = nested_records owners (state_of start ops places).files (state_of start ops places).paths
-      (subst AreNested (sym (ap nodes_in paths_left ∙ nodes_fold start.paths (map (op_at ops) places))) (fold_nested (nodes_in start.paths) ops syncs places nested legal allowed))
+      (subst AreNested (sym (ap nodes_in paths_left ∙ nodes_fold start.paths (map (op_at ops) places))) (fold_nested (nodes_in start.paths) made ops syncs places nested legal allowed))
 
   pub state_is_tree : IsTree (tree_of_state owners (state_of start ops places))
   state_is_tree = fresh_is_tree (records_of owners (state_of start ops places)) state_nested

@@ -3,7 +3,7 @@ use Rattle.cs_apm.specs.Laws.Allowed.{same_allowed}
 use Rattle.cs_apm.specs.Laws.Reasons.{needs_exactly, needs_says}
 use Rattle.cs_apm.specs.Orders.{needs_in, needs_of, order_of}
 use Rattle.cs_apm.specs.Sets.{IsAllowed}
-use Rattle.cs_apm.proofs.Tables.{entry_of_rules, length_table}
+use Rattle.cs_apm.proofs.Entries.{entry_of_rules, length_table}
 use Rattle.cs_apm.proofs.laws.rules_are_sentences.Goals as goal
 
 pub returns : goal.returns

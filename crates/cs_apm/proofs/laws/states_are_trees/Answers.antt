@@ -1,5 +1,6 @@
+use Rattle.std.proofs.Common.{length}
 use Rattle.cs_apm.specs.Laws.Starts.{crash_states_are_trees}
 use Rattle.cs_apm.proofs.laws.states_are_trees.Goals as goal
 
 pub returns : goal.returns
-returns c = crash_states_are_trees c.args.trace.now c.operations-operations.ensures.nested c.operations-operations.ensures.legal
+returns c = crash_states_are_trees c.args.trace.now c.args.micros.now c.operations-operations.ensures.nested (length c.args.micros.now.starts) c.requires

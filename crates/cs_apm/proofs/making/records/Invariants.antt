@@ -8,5 +8,5 @@ use Rattle.cs_apm.proofs.making.records.Given as goal
 
 abbrev pub invariant-loop-i : goal.invariant-loop-i
 invariant-loop-i l =
-    l.records.items ++ numbered (length l.records.items) (map_entries (record_of (owners_of l.trace l.ops) (files_left l.trace l.ops l.places)) (present l.rights (drop l.i l.paths) (drop l.i l.slots)))
-    ≡ numbered 0 (map_entries (record_of (owners_of l.trace l.ops) (files_left l.trace l.ops l.places)) (present l.rights l.paths l.slots))
+    l.records.items ++ numbered (length l.records.items) (map_entries (record_of (owners_of l.trace l.ops) (files_left l.trace l.ops l.places)) (present l.tables.rights.items (drop l.i l.tables.paths.items) (drop l.i l.slots)))
+    ≡ numbered 0 (map_entries (record_of (owners_of l.trace l.ops) (files_left l.trace l.ops l.places)) (present l.tables.rights.items l.tables.paths.items l.slots))

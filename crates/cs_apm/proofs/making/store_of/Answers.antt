@@ -13,13 +13,13 @@ pub from_records-requires : goal.from_records-requires
 from_records-requires c =
     let owners = owners_of c.args.trace.now c.args.ops.now in
     let files = files_left c.args.trace.now c.args.ops.now c.args.places.now in
-    subst IsListing (sym (c.in_ok-records.ensures ∙ records_listing c.args.rights.now c.args.paths.now owners files c.args.slots.now c.requires.ascending))
-    (listing-IsListing (map_values (record_of owners files) (mirrored c.args.rights.now c.args.paths.now c.args.slots.now)) c.requires.nested)
+    subst IsListing (sym (c.in_ok-records.ensures ∙ records_listing c.args.tables.now.rights.items c.args.tables.now.paths.items owners files c.args.slots.now c.requires.ascending))
+    (listing-IsListing (map_values (record_of owners files) (mirrored c.args.tables.now.rights.items c.args.tables.now.paths.items c.args.slots.now)) c.requires.nested)
 
 pub returns : goal.returns
 returns c =
     let owners = owners_of c.args.trace.now c.args.ops.now in
     let files = files_left c.args.trace.now c.args.ops.now c.args.places.now in
     subst (λ (w : Tree). IfOk c.from_records.result (λ t. t ≡ w))
-    (ap tree_of_records c.in_ok-records.ensures ∙ records_tree c.args.rights.now c.args.paths.now owners files c.args.slots.now c.requires.ascending)
+    (ap tree_of_records c.in_ok-records.ensures ∙ records_tree c.args.tables.now.rights.items c.args.tables.now.paths.items owners files c.args.slots.now c.requires.ascending)
     c.from_records.ensures

@@ -1,4 +1,4 @@
-use Rattle.std.proofs.Common.{get_or, subst}
+use Rattle.std.proofs.Common.{get_or, subst, arith}
 use Rattle.std.proofs.lemmas.List.{get_or_read}
 use Rattle.std.specs.List.{Contains}
 use Rattle.cs_tree_model.specs.declared.record.Record.{Record}
@@ -15,4 +15,5 @@ loop-record-preserved c =
       ascending = c.add_path.ensures.ascending;
       there = below_more (λ k. Contains now (get_or c.args.records.now k no_record).0) i (λ k low. c.add_path.ensures.others _ (c.loop-record.invariant.there k low))
           (subst (λ (e : Path × Record). Contains now e.0) (get_or_read c.args.records.now i c.record-item.result c.loop-record-test.true c.record-item.is no_record) c.in_ok-add_path.ensures.there);
+      few = omega (arith, c.add_path.ensures.few);
     }

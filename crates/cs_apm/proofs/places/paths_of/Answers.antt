@@ -15,6 +15,7 @@ loop-op-preserved c =
       starts = λ k low. c.in_ok-add_touched.ensures.others _ (c.loop-op.invariant.starts k low);
       touched = below_more (λ k. HasTouched now (op_at c.args.ops.now k)) i (λ k low p h. c.in_ok-add_touched.ensures.others p (c.loop-op.invariant.touched k low p h))
           (subst (HasTouched now) (get_or_read c.args.ops.now i c.op-item.result c.loop-op-test.true c.op-item.is Say) c.in_ok-add_touched.ensures.there);
+      few = omega (arith, c.in_ok-add_touched.ensures.few);
     }
 
 pub returns-clause-touched : goal.returns-clause-touched

@@ -3,7 +3,7 @@ use Rattle.cs_apm.specs.Orders.{table}
 use Rattle.cs_apm.specs.Rules.{needs}
 use Rattle.cs_apm.specs.Rows.{AreReach, bit_in}
 use Rattle.cs_apm.proofs.FromRules.{rows_backward}
-use Rattle.cs_apm.proofs.Tables.{bits_say, table_same}
+use Rattle.cs_apm.proofs.Entries.{bits_say, table_same}
 use Rattle.cs_apm.proofs.order.Order.of.Goals as goal
 
 pub returns : goal.returns

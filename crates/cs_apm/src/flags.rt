@@ -1,0 +1,28 @@
+//! Which files an operation changes.
+ghost use Rattle.std.specs.Prelude.{◌≡◌, IfOk};
+ghost use Rattle.cs_apm.specs.Atlases.{AreChanged, marked};
+
+use cs_micro::MicroOp;
+use std::alloc::{AllocError, Global};
+
+/// Sets the flag of the file that the operation changes, if it changes one.
+fn mark(changed: &mut [bool], op: &MicroOp)
+    ensures { changed.new ≡ marked changed.old op.now }
+{
+    if let MicroOp::ChangeFileSize { file, .. } | MicroOp::WriteBlock { file, .. } = op {
+        if (*file as usize) < changed.len() {
+            changed[*file as usize] = true;
+        }
+    }
+}
+
+/// A flag for each of the first so many files: whether an operation changes it.
+pub fn changed_by(alloc: Global, ops: &[MicroOp], count: usize) -> Result<Vec<bool>, AllocError>
+    ensures { IfOk result (λ changed. AreChanged ops.now count changed.items) }
+{
+    let mut changed = vec![in alloc; false; count]?;
+    for op in ops {
+        mark(&mut changed, op);
+    }
+    Ok(changed)
+}

@@ -1,0 +1,126 @@
+//! Owner, group and permissions of what stands, as a table that grows.
+ghost use Rattle.std.specs.Prelude.{◌≡◌, [], ◌∷◌, ◌+◌, ◌<◌, ◌≤◌, ◌++◌, ◌^◌, Some, length, map, IfOk, OnOk, slice_index_or};
+ghost use Rattle.std.specs.List.{All};
+ghost use Rattle.cs_apm.specs.Atlases.{no_record};
+ghost use Rattle.cs_apm.specs.Slots.{Grows, HasRights, entry_of};
+ghost use Rattle.cs_apm.specs.States.{entry_made, owners_made, rights_of, start_entry};
+
+use crate::slot::Slot;
+use cs_micro::MicroOp;
+use cs_names::Path;
+use cs_trace::{Node, Rights};
+use cs_tree_model::Record;
+use std::alloc::{AllocError, Global};
+
+/// The same again.
+fn copy_rights(rights: &Rights) -> Result<Rights, AllocError>
+    ensures { IfOk result (λ copy. copy ≡ rights.now) }
+{
+    Ok(Rights {
+        owner: rights.owner.try_clone()?,
+        group: rights.group.try_clone()?,
+        permissions: rights.permissions,
+    })
+}
+
+/// Those of a record at the start.
+fn rights_of(start: &Record) -> Result<Rights, AllocError>
+    ensures { IfOk result (λ rights. rights ≡ rights_of start.now) }
+{
+    Ok(Rights {
+        owner: start.owner.try_clone()?,
+        group: start.group.try_clone()?,
+        permissions: (start.mode % 512) as u16,
+    })
+}
+
+/// The slot of a directory, whose rights come behind the others.
+fn push_rights(table: &mut Vec<Rights>, rights: Rights) -> Result<Slot, AllocError>
+    requires { length table.old.items < 2 ^ 32 }
+    ensures entry { IfOk result (λ slot. entry_of table.new.items slot ≡ Some (entry_made Node.Directory rights)) }
+    ensures there { IfOk result (HasRights (length table.new.items)) }
+    ensures grows { OnOk result (Grows table.old.items table.new.items) }
+    ensures few { OnOk result (length table.new.items ≤ length table.old.items + 1) }
+{
+    let place = table.len() as u32;
+    table.push(rights)?;
+    Ok(Slot::Directory(place))
+}
+
+/// The slot of a record at the start.
+pub fn start_slot(table: &mut Vec<Rights>, node: Node, start: &Record) -> Result<Slot, AllocError>
+    requires { length table.old.items < 2 ^ 32 }
+    ensures entry { IfOk result (λ slot. entry_of table.new.items slot ≡ Some (start_entry node start.now)) }
+    ensures there { IfOk result (HasRights (length table.new.items)) }
+    ensures grows { OnOk result (Grows table.old.items table.new.items) }
+    ensures few { OnOk result (length table.new.items ≤ length table.old.items + 1) }
+{
+    match node {
+        Node::File(file) => Ok(Slot::File(file)),
+        Node::Directory => push_rights(table, rights_of(start)?),
+    }
+}
+
+/// The slot of an entry that is made.
+pub fn made_slot(table: &mut Vec<Rights>, node: Node, rights: &Rights) -> Result<Slot, AllocError>
+    requires { length table.old.items < 2 ^ 32 }
+    ensures entry { IfOk result (λ slot. entry_of table.new.items slot ≡ Some (entry_made node rights.now)) }
+    ensures there { IfOk result (HasRights (length table.new.items)) }
+    ensures grows { OnOk result (Grows table.old.items table.new.items) }
+    ensures few { OnOk result (length table.new.items ≤ length table.old.items + 1) }
+{
+    match node {
+        Node::File(file) => Ok(Slot::File(file)),
+        Node::Directory => push_rights(table, copy_rights(rights)?),
+    }
+}
+
+/// Those of the records at these places, behind the others.
+fn push_starts(
+    table: &mut Vec<Rights>,
+    records: &[(Path, Record)],
+    places: &[u32],
+) -> Result<(), AllocError>
+    requires { All (λ place. place < length records.now) places.now }
+    ensures { OnOk result (table.new.items ≡ table.old.items ++ map (λ place. rights_of (slice_index_or records.now place no_record).1) places.now) }
+{
+    for place in places {
+        let rights = rights_of(&records[*place as usize].1)?;
+        table.push(rights)?;
+    }
+    Ok(())
+}
+
+/// Those of the file that an operation makes, if it makes one, behind the others.
+fn push_made(table: &mut Vec<Rights>, op: &MicroOp) -> Result<(), AllocError>
+    ensures { OnOk result (table.new.items ≡ table.old.items ++ owners_made (op.now ∷ [])) }
+{
+    if let MicroOp::CreateDirEntry {
+        node: Node::File(_),
+        rights,
+        ..
+    } = op
+    {
+        table.push(copy_rights(rights)?)?;
+    }
+    Ok(())
+}
+
+/// Those of each file by its number: of the files at the start, whose records are at these places, and
+/// of those that are made.
+pub fn owners_of(
+    alloc: Global,
+    records: &[(Path, Record)],
+    places: &[u32],
+    ops: &[MicroOp],
+) -> Result<Vec<Rights>, AllocError>
+    requires { All (λ place. place < length records.now) places.now }
+    ensures { IfOk result (λ owners. owners.items ≡ map (λ place. rights_of (slice_index_or records.now place no_record).1) places.now ++ owners_made ops.now) }
+{
+    let mut owners = Vec::new(alloc);
+    push_starts(&mut owners, records, places)?;
+    for op in ops {
+        push_made(&mut owners, op)?;
+    }
+    Ok(owners)
+}

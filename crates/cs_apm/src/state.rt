@@ -1,0 +1,46 @@
+//! The state of a set, from the tables of its trace.
+ghost use Rattle.std.specs.Prelude.{◌≡◌, ◌<◌, length, map, fold, IfOk};
+ghost use Rattle.std.specs.List.{All};
+ghost use Rattle.cs_tree_model.specs.Tree.{IsTree};
+ghost use Rattle.cs_apm.specs.Atlases.{IsAtlas, atlas_in};
+ghost use Rattle.cs_apm.specs.Orders.{needs_of};
+ghost use Rattle.cs_apm.specs.Sets.{IsAllowed};
+ghost use Rattle.cs_apm.specs.Slots.{FitsIn, slots_after, step_at};
+ghost use Rattle.cs_apm.specs.States.{crash_state_of};
+
+use crate::making::store_of;
+use crate::slot::{Slot, fill};
+use crate::tables::Tables;
+use cs_micro::Micros;
+use cs_trace::Trace;
+use cs_tree::PlainTree;
+use std::alloc::{AllocError, Global};
+
+/// The slots after the steps of a set.
+fn filled(alloc: Global, tables: &Tables, places: &[u32]) -> Result<Vec<Slot>, AllocError>
+    requires fit { All (FitsIn (length tables.now.slots.items)) tables.now.steps.items }
+    requires inside { All (λ place. place < length tables.now.steps.items) places.now }
+    ensures { IfOk result (λ left. left.items ≡ fold slots_after tables.now.slots.items (map (step_at tables.now.steps.items) places.now)) }
+{
+    let mut left = Vec::from_slice(alloc, &tables.slots)?;
+    fill(&mut left, &tables.steps, places);
+    Ok(left)
+}
+
+/// The store of the state of a set, which is allowed: the members' steps are taken in the slots, and what
+/// stands then is made a tree.
+pub fn state_of(
+    alloc: Global,
+    trace: &Trace,
+    micros: &Micros,
+    tables: &Tables,
+    places: &[u32],
+) -> Result<PlainTree, AllocError>
+    requires atlas { IsAtlas trace.now micros.now.ops (atlas_in tables.now) }
+    requires allowed { IsAllowed (needs_of micros.now) (length micros.now.ops) places.now }
+    ensures state { IfOk result (λ tree. tree ≡ crash_state_of trace.now micros.now places.now) }
+    ensures tree { IfOk result IsTree }
+{
+    let slots = filled(alloc, tables, places)?;
+    store_of(alloc, trace, micros.ops(), tables, places, &slots)
+}

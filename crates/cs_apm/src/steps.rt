@@ -1,0 +1,61 @@
+//! What each micro-operation does to the slots.
+ghost use Rattle.std.specs.Prelude.{◌≡◌, ◌+◌, ◌<◌, ◌≤◌, ◌^◌, length, IfOk, OnOk};
+ghost use Rattle.cs_apm.specs.Atlases.{HasAllTouched, HasTouched};
+ghost use Rattle.cs_apm.specs.Slots.{AreAscending, AreSteps, Grows, HaveStepRights, HasStepRights, IsStep};
+
+use crate::places::place_of;
+use crate::rights::made_slot;
+use crate::slot::{Slot, Step};
+use cs_micro::MicroOp;
+use cs_names::Path;
+use cs_trace::Rights;
+use std::alloc::{AllocError, Global};
+
+/// What the micro-operation does. The rights of a directory that it makes come into the table.
+fn step_of(paths: &[Path], table: &mut Vec<Rights>, op: &MicroOp) -> Result<Step, AllocError>
+    requires few { length table.old.items < 2 ^ 32 }
+    requires short { length paths.now ≤ 2 ^ 32 }
+    requires ascending { AreAscending paths.now }
+    requires there { HasTouched paths.now op.now }
+    ensures step { IfOk result (IsStep table.new.items paths.now op.now) }
+    ensures there { IfOk result (HasStepRights (length table.new.items)) }
+    ensures grows { OnOk result (Grows table.old.items table.new.items) }
+    ensures few { OnOk result (length table.new.items ≤ length table.old.items + 1) }
+{
+    match op {
+        MicroOp::CreateDirEntry { path, node, rights } => {
+            let slot = made_slot(table, *node, rights)?;
+            Ok(Step::Set(place_of(paths, path) as u32, slot))
+        }
+        MicroOp::DeleteDirEntry { path, .. } => {
+            Ok(Step::Set(place_of(paths, path) as u32, Slot::Nothing))
+        }
+        MicroOp::MoveDirEntry { from, to } => Ok(Step::Move(
+            place_of(paths, from) as u32,
+            place_of(paths, to) as u32,
+        )),
+        _ => Ok(Step::Other),
+    }
+}
+
+/// What each micro-operation does, in their order.
+pub fn steps_of(
+    alloc: Global,
+    paths: &[Path],
+    table: &mut Vec<Rights>,
+    ops: &[MicroOp],
+) -> Result<Vec<Step>, AllocError>
+    requires few { length table.old.items + length ops.now < 2 ^ 32 }
+    requires short { length paths.now ≤ 2 ^ 32 }
+    requires ascending { AreAscending paths.now }
+    requires there { HasAllTouched paths.now ops.now (length ops.now) }
+    ensures steps { IfOk result (λ steps. AreSteps table.new.items paths.now ops.now steps.items) }
+    ensures there { IfOk result (λ steps. HaveStepRights (length table.new.items) steps.items) }
+    ensures grows { OnOk result (Grows table.old.items table.new.items) }
+{
+    let mut steps = Vec::new(alloc);
+    for op in ops {
+        steps.push(step_of(paths, table, op)?)?;
+    }
+    Ok(steps)
+}

@@ -1,0 +1,68 @@
+//! What is found once of a trace, for the states of all its sets.
+ghost use Rattle.std.specs.Prelude.{◌≡◌, length, IfOk};
+ghost use Rattle.cs_trace.specs.Traces.{start_paths};
+ghost use Rattle.cs_micro.specs.Legal.{AreLegal};
+ghost use Rattle.cs_micro.specs.Micros.{micros_in};
+
+use crate::flags::changed_by;
+use crate::places::paths_of;
+use crate::rights::owners_of;
+use crate::slot::{Slot, Step};
+use crate::start::{start_slots, starts_of};
+use crate::steps::steps_of;
+use cs_micro::Micros;
+use cs_names::Path;
+use cs_trace::{Rights, Trace};
+use std::alloc::{AllocError, Global};
+
+/// What is found once of a trace.
+#[derive(Debug, Drop)]
+pub struct Tables {
+    /// Every path that ever stands, in order.
+    pub paths: Vec<Path>,
+    /// What stands there at the start.
+    pub slots: Vec<Slot>,
+    /// What each micro-operation does there.
+    pub steps: Vec<Step>,
+    /// Owner, group and permissions of directories.
+    pub rights: Vec<Rights>,
+    /// The same of the files, by their numbers.
+    pub owners: Vec<Rights>,
+    /// The place of the record of each of the start's files.
+    pub starts: Vec<u32>,
+    /// Whether an operation changes the file, by its number.
+    pub changed: Vec<bool>,
+}
+
+impl Tables {
+    ghost use Rattle.cs_apm.specs.Atlases.{IsAtlas, atlas_in};
+
+    /// The tables of a trace and its micro-operations.
+    pub fn of(alloc: Global, trace: &Trace, micros: &Micros) -> Result<Tables, AllocError>
+        requires broken { micros.now ≡ micros_in trace.now }
+        requires legal { AreLegal (start_paths trace.now) (length micros.now.starts) micros.now.ops }
+        ensures { IfOk result (λ tables. IsAtlas trace.now micros.now.ops (atlas_in tables)) }
+    {
+        let records = trace.records();
+        let nodes = trace.nodes();
+        let ops = micros.ops();
+        // that its operations are legal says that what stands at the start is nested
+        let _operations = trace.operations();
+        let paths = paths_of(alloc, records, ops)?;
+        let mut rights = Vec::new(alloc);
+        let slots = start_slots(alloc, records, nodes, &paths, &mut rights)?;
+        let steps = steps_of(alloc, &paths, &mut rights, ops)?;
+        let starts = starts_of(alloc, nodes, trace.files().len())?;
+        let owners = owners_of(alloc, records, &starts, ops)?;
+        let changed = changed_by(alloc, ops, owners.len())?;
+        Ok(Tables {
+            paths,
+            slots,
+            steps,
+            rights,
+            owners,
+            starts,
+            changed,
+        })
+    }
+}
