@@ -1,0 +1,7 @@
+use Rattle.std.proofs.Common.{take}
+use Rattle.std.specs.List.{All}
+use Rattle.cs_plan.specs.Plans.{IsAllowedIn}
+use Rattle.cs_plan.proofs.plan.first_refused.Given as goal
+
+abbrev pub invariant-loop-w : goal.invariant-loop-w
+invariant-loop-w l = All (IsAllowedIn l.order) (take l.w l.picks)

@@ -1,0 +1,19 @@
+-- Why a plan is refused.
+use Rattle.std.specs.Prelude.{◌<◌, ◌≤◌, ℕ, Bool, List, [], length, take, slice_index_or}
+use Rattle.std.specs.List.{All}
+use Rattle.cs_names.specs.declared.limits.TheConstants.{PLAN_STATES}
+use Rattle.cs_plan.specs.Plans.{IsAllowedIn, plan_of}
+use Rattle.cs_plan.specs.declared.fault.PlanFault.{PlanFault}
+use Rattle.cs_plan.specs.declared.fault.PlanFault.TheVariants.{PlanTooLarge, PickNotAllowed, Memory}
+
+-- the first pick that a crash can't leave
+pub record IsFirstRefused (order : List (List Bool)) (picks : List (List ℕ)) (w : ℕ) : Type 0 where
+  pub there : w < length picks
+  pub before : All (IsAllowedIn order) (take w picks)
+  pub refused : ¬ IsAllowedIn order (slice_index_or picks w [])
+
+-- the fault that the plan has: its size comes first, then the picks, and want of memory last
+abbrev pub IsRefused : List (List Bool) → Bool → List (List ℕ) → PlanFault → Type 0
+IsRefused order holes picks PlanTooLarge = PLAN_STATES < length (plan_of order holes picks)
+IsRefused order holes picks (PickNotAllowed w) = (length (plan_of order holes picks) ≤ PLAN_STATES) × IsFirstRefused order picks w
+IsRefused order holes picks Memory = (length (plan_of order holes picks) ≤ PLAN_STATES) × All (IsAllowedIn order) picks

@@ -1,0 +1,103 @@
+//! The two families of states that a plan lists by itself: prefixes, and prefixes with a hole.
+ghost use Rattle.std.specs.Prelude.{◌≡◌, ◌++◌, ◌<◌, ◌≤◌, length, IfOk, OnOk};
+ghost use Rattle.cs_apm.specs.Chains.{IsBackward};
+ghost use Rattle.cs_apm.specs.Orders.{needs_in};
+ghost use Rattle.cs_plan.specs.Plans.{families, holes_at, holes_of, is_kept, prefixes};
+
+use crate::recipe::Recipe;
+use cs_apm::Order;
+use cs_names::limits::MICRO_OPERATIONS;
+use std::alloc::{AllocError, Global};
+
+/// Whether the operation at one place stays where that at another is missing.
+pub fn keeps(order: &Order, missing: usize, place: usize) -> bool
+    requires first { missing < length order.now }
+    requires second { place < length order.now }
+    ensures { result ≡ is_kept (needs_in order.now) missing place }
+{
+    !(missing == place || order.needs_by_chain(missing, place))
+}
+
+/// How many holes have this last place.
+fn count_at(order: &Order, last: usize) -> usize
+    requires { last < length order.now }
+    ensures value { result ≡ length (holes_at (needs_in order.now) last) }
+    ensures small { result ≤ last }
+{
+    let mut count = 0usize;
+    for missing in 0..last {
+        if keeps(order, missing, last) {
+            count += 1;
+        }
+    }
+    count
+}
+
+fn count_holes(order: &Order) -> usize
+    ensures value { result ≡ length (holes_of (needs_in order.now) (length order.now)) }
+    ensures small { result ≤ 1048576 }
+{
+    let mut count = 0usize;
+    for last in 0..order.len() {
+        count += count_at(order, last);
+    }
+    count
+}
+
+/// How many states the families have. It takes no memory.
+pub fn count_states(order: &Order, holes: bool) -> usize
+    ensures backward { IsBackward (needs_in order.now) }
+    ensures value { result ≡ length (families (needs_in order.now) (length order.now) holes) }
+    ensures small { result ≤ 1050000 }
+{
+    let count = order.len() + 1;
+    if holes {
+        count + count_holes(order)
+    } else {
+        count
+    }
+}
+
+fn push_prefixes(recipes: &mut Vec<Recipe>, count: usize) -> Result<(), AllocError>
+    requires { count ≤ MICRO_OPERATIONS }
+    ensures { OnOk result (recipes.new.items ≡ recipes.old.items ++ prefixes count) }
+{
+    for end in 0..count + 1 {
+        recipes.push(Recipe::Prefix(end as u32))?;
+    }
+    Ok(())
+}
+
+fn push_holes_at(recipes: &mut Vec<Recipe>, order: &Order, last: usize) -> Result<(), AllocError>
+    requires inside { last < length order.now }
+    requires few { length order.now ≤ MICRO_OPERATIONS }
+    ensures { OnOk result (recipes.new.items ≡ recipes.old.items ++ holes_at (needs_in order.now) last) }
+{
+    for missing in 0..last {
+        if keeps(order, missing, last) {
+            recipes.push(Recipe::Hole(missing as u32, last as u32 + 1))?;
+        }
+    }
+    Ok(())
+}
+
+fn push_holes(recipes: &mut Vec<Recipe>, order: &Order) -> Result<(), AllocError>
+    ensures { OnOk result (recipes.new.items ≡ recipes.old.items ++ holes_of (needs_in order.now) (length order.now)) }
+{
+    for last in 0..order.len() {
+        push_holes_at(recipes, order, last)?;
+    }
+    Ok(())
+}
+
+/// The recipes of the families, in order.
+pub fn families_of(alloc: Global, order: &Order, holes: bool) -> Result<Vec<Recipe>, AllocError>
+    ensures { IfOk result (λ recipes. recipes.items ≡ families (needs_in order.now) (length order.now) holes) }
+{
+    let mut recipes: Vec<Recipe> = Vec::new(alloc);
+    push_prefixes(&mut recipes, order.len())?;
+    if holes {
+        push_holes(&mut recipes, order)?;
+    }
+    Ok(recipes)
+}

@@ -1,0 +1,75 @@
+//! What makes a state: which of a trace's micro-operations reached the disk.
+ghost use Rattle.std.specs.Prelude.{◌≡◌, Some};
+ghost use Rattle.cs_plan.specs.Texts.{places_text, recipe_text};
+
+use std::fmt;
+use std::marker::Model;
+
+/// Places of micro-operations, which count from 0 in the trace's order.
+#[derive(Debug, Drop)]
+pub struct Places {
+    places: Vec<u32>,
+}
+
+impl Model for Places {
+    ghost use Rattle.std.specs.Prelude.{List, ℕ};
+
+    ghost Value = { List ℕ };
+
+    ghost view = { λ places. places.places.items };
+}
+
+impl Places {
+    /// These places.
+    pub fn of(places: Vec<u32>) -> Places
+        ensures { result ≡ places.items }
+    {
+        Places { places }
+    }
+
+    pub fn as_slice(&self) -> &[u32]
+        ensures { result.now ≡ self.now }
+    {
+        self.places.as_slice()
+    }
+}
+
+/// The places with commas between, or `-` for none.
+impl fmt::Display for Places {
+    ghost output = { λ places. Some (places_text places) };
+
+    fn fmt<W: fmt::Write>(&self, f: &mut fmt::Formatter<W>) -> fmt::Result {
+        let Some((first, others)) = self.places.split_first() else {
+            return f.write_str("-");
+        };
+        write!(f, "{first}")?;
+        for place in others {
+            write!(f, ",{place}")?;
+        }
+        Ok(())
+    }
+}
+
+/// Which micro-operations a state has.
+#[derive(Debug, Drop)]
+pub enum Recipe {
+    /// The first so many.
+    Prefix(u32),
+    /// Those before the second place, without the first place and all that need it by any chain.
+    Hole(u32, u32),
+    /// Those at these places, which ascend.
+    Pick(Places),
+}
+
+/// What the list of a plan says of the state, but for its number: its kind, and its places.
+impl fmt::Display for Recipe {
+    ghost output = { λ recipe. Some (recipe_text recipe) };
+
+    fn fmt<W: fmt::Write>(&self, f: &mut fmt::Formatter<W>) -> fmt::Result {
+        match self {
+            Recipe::Prefix(end) => write!(f, "prefix {end}"),
+            Recipe::Hole(missing, end) => write!(f, "hole {missing} {end}"),
+            Recipe::Pick(places) => write!(f, "pick {places}"),
+        }
+    }
+}
