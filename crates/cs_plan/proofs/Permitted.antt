@@ -8,7 +8,7 @@ use Rattle.cs_plan.specs.declared.recipe.Recipe.{Recipe}
 use Rattle.cs_plan.specs.declared.recipe.Recipe.TheVariants.{Prefix, Hole, Pick}
 use Rattle.cs_apm.specs.Chains.{by_chain, IsBackward}
 use Rattle.cs_apm.specs.Sets.{IsAllowed}
-use Rattle.cs_plan.specs.Plans.{families, hole, holes_at, holes_of, is_kept, prefixes, recipes_of, set_of}
+use Rattle.cs_plan.specs.Plans.{families, hole, holes_at, holes_of, IsWithin, is_kept, prefixes, recipes_of, set_of}
 use Rattle.cs_apm.specs.Laws.Chains.{chain_step, any_at}
 
 -- a filter of a range, in order
@@ -134,3 +134,41 @@ module _ (needs : ℕ → ℕ → Bool) (n : ℕ) (back : IsBackward needs) wher
   pub all_good : (holes : Bool) (picks : List (List ℕ)) → All (IsAllowed needs n) picks → All (λ r. IsAllowed needs n (set_of needs r)) (recipes_of needs n holes picks)
   all_good holes picks allowed = All-append (λ r. IsAllowed needs n (set_of needs r)) (families needs n holes) (map Pick picks) (families_good holes)
       (All-map (λ r. IsAllowed needs n (set_of needs r)) Pick picks allowed)
+
+-- the places of each recipe lie among those of the order
+module _ (needs : ℕ → ℕ → Bool) (n : ℕ) where
+  prefixes_within : All (IsWithin n) (prefixes n)
+  unfolding prefixes
+  prefixes_within = All-map (IsWithin n) Prefix (range_with_len 0 (n + 1)) (all_range (λ k. k ≤ n) 0 (n + 1) (λ k l. omega (arith, l)))
+
+  hole_within : (i k : ℕ) → i < 0 + k → k < 0 + n → IsWithin n (Hole i (k + 1))
+  hole_within i k l m = (omega (arith, l), omega (arith, m))
+
+  holes_within : All (IsWithin n) (holes_of needs n)
+  unfolding holes_of
+  holes_within = all_flat (IsWithin n) (holes_at needs) 0 n (λ k l.
+      All-map (IsWithin n) (λ i. Hole i (k + 1)) (filter (λ i. is_kept needs i k) (range_with_len 0 k))
+      (All-filter (λ i. is_kept needs i k) (λ i. IsWithin n (Hole i (k + 1))) (range_with_len 0 k) (all_range (λ i. IsWithin n (Hole i (k + 1))) 0 k (λ i m. hole_within i k m l))))
+
+  families_within : (holes : Bool) → All (IsWithin n) (families needs n holes)
+  families_within true = All-append (IsWithin n) (prefixes n) (holes_of needs n) prefixes_within holes_within
+  families_within false = All-append (IsWithin n) (prefixes n) [] prefixes_within (All-nil (IsWithin n))
+
+  pick_within : (places : List ℕ) → IsAllowed needs n places → IsWithin n (Pick places)
+  pick_within places allowed = ((λ k d l. subst (λ x. x < n) (get_or_default places k 0 d l) (allowed.in_range k l)), no_more (length places) refl)
+    where
+      -- a place is no lower than the number of those before it
+      above : (a : ℕ) → a < length places → a ≤ get_or places a 0
+      above zero l = omega arith
+      above (suc a) l = (let below = above a (omega (arith, l)) in let up = allowed.ascending a (suc a) (omega arith) l in omega (arith, below, up))
+
+      no_more : (m : ℕ) → length places ≡ m → length places ≤ n
+      no_more zero e = omega (arith, e)
+      no_more (suc a) e = (let low = above a (omega (arith, e)) in let high = allowed.in_range a (omega (arith, e)) in omega (arith, e, low, high))
+
+  picks_within : (picks : List (List ℕ)) → All (IsAllowed needs n) picks → All (λ places. IsWithin n (Pick places)) picks
+  picks_within picks allowed = λ k d l. pick_within (get_or picks k d) (allowed k d l)
+
+  pub all_within : (holes : Bool) (picks : List (List ℕ)) → All (IsAllowed needs n) picks → All (IsWithin n) (recipes_of needs n holes picks)
+  all_within holes picks allowed = All-append (IsWithin n) (families needs n holes) (map Pick picks) (families_within holes)
+      (All-map (IsWithin n) Pick picks (picks_within picks allowed))

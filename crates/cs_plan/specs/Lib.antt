@@ -1,3 +1,6 @@
+pub mod Faults
+pub mod Parts
 pub mod Plans
 pub mod Refusals
+pub mod Scenes
 pub mod Texts

@@ -1,6 +1,6 @@
 -- The plan of an order: the sets whose states are made, in the order of their numbers.
-use Rattle.std.specs.Prelude.{ℕ, ◌+◌, ◌==◌, ◌||◌, not, Bool, List, [], ◌++◌, length, map, if◌then◌else◌}
-use Rattle.std.specs.List.{range_with_len, filter, flat_map}
+use Rattle.std.specs.Prelude.{ℕ, ◌<◌, ◌≤◌, ◌+◌, ◌==◌, ◌||◌, not, Bool, List, [], ◌++◌, length, map, if◌then◌else◌}
+use Rattle.std.specs.List.{All, range_with_len, filter, flat_map}
 use Rattle.cs_apm.specs.Chains.{by_chain}
 use Rattle.cs_apm.specs.Orders.{needs_in}
 use Rattle.cs_apm.specs.Sets.{IsAllowed}
@@ -25,6 +25,12 @@ abbrev pub set_of : (ℕ → ℕ → Bool) → Recipe → List ℕ
 set_of needs (Prefix k) = first k
 set_of needs (Hole i j) = hole needs i j
 set_of needs (Pick places) = places
+
+-- it has no places but the first n, and no more than these
+abbrev pub IsWithin : ℕ → Recipe → Type 0
+IsWithin n (Prefix k) = k ≤ n
+IsWithin n (Hole i j) = (i < j) × (j ≤ n)
+IsWithin n (Pick places) = All (λ k. k < n) places × (length places ≤ n)
 
 -- ---- the recipes
 

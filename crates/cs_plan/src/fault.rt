@@ -1,8 +1,12 @@
-//! Why there is no plan.
+//! Why there is no plan, no scene, or no state.
 ghost use Rattle.std.specs.Prelude.{◌≡◌, Some};
-ghost use Rattle.cs_plan.specs.Texts.{fault_text};
-ghost use Rattle.cs_plan.specs.declared.fault.PlanFault.TheVariants.{Memory};
+ghost use Rattle.cs_micro.specs.declared.fault.MicroFault.{MicroFault};
+ghost use Rattle.cs_plan.specs.Faults.{fault_text, make_fault_text, of_breaking, of_planning, scene_fault_text};
+ghost use Rattle.cs_plan.specs.declared.fault.MakeFault.TheVariants as make;
+ghost use Rattle.cs_plan.specs.declared.fault.PlanFault.TheVariants as plan;
+ghost use Rattle.cs_plan.specs.declared.fault.SceneFault.TheVariants as scene;
 
+use cs_micro::MicroFault;
 use std::alloc::AllocError;
 use std::fmt;
 
@@ -30,7 +34,7 @@ impl fmt::Display for PlanFault {
 }
 
 impl From<AllocError> for PlanFault {
-    ghost from_gives = { λ _ fault. fault ≡ Memory };
+    ghost from_gives = { λ _ fault. fault ≡ plan.Memory };
 
     fn from(_refused: AllocError) -> PlanFault {
         PlanFault::Memory
@@ -38,3 +42,92 @@ impl From<AllocError> for PlanFault {
 }
 
 impl std::error::Error for PlanFault {}
+
+/// Why there is no scene.
+#[derive(Clone, Copy, Debug, PartialEq, Eq)]
+pub enum SceneFault {
+    /// The trace has more than MICRO_OPERATIONS micro-operations.
+    TooMany,
+    /// Its plan would have more than PLAN_STATES states.
+    PlanTooLarge,
+    /// A crash can't leave this pick, by its place from 0; it can leave those before it.
+    PickNotAllowed(u32),
+    /// No memory to keep it.
+    Memory,
+}
+
+impl fmt::Display for SceneFault {
+    ghost output = { λ fault. Some (scene_fault_text fault) };
+
+    fn fmt<W: fmt::Write>(&self, f: &mut fmt::Formatter<W>) -> fmt::Result {
+        match self {
+            SceneFault::TooMany => f.write_str("too many micro-operations"),
+            SceneFault::PlanTooLarge => f.write_str("plan too large"),
+            SceneFault::PickNotAllowed(pick) => write!(f, "pick {pick} not allowed"),
+            SceneFault::Memory => f.write_str("out of memory"),
+        }
+    }
+}
+
+impl From<MicroFault> for SceneFault {
+    ghost from_gives = { λ given fault. fault ≡ of_breaking given };
+
+    fn from(fault: MicroFault) -> SceneFault {
+        match fault {
+            MicroFault::TooMany => SceneFault::TooMany,
+            MicroFault::Memory => SceneFault::Memory,
+        }
+    }
+}
+
+impl From<PlanFault> for SceneFault {
+    ghost from_gives = { λ given fault. fault ≡ of_planning given };
+
+    fn from(fault: PlanFault) -> SceneFault {
+        match fault {
+            PlanFault::PlanTooLarge => SceneFault::PlanTooLarge,
+            PlanFault::PickNotAllowed(pick) => SceneFault::PickNotAllowed(pick),
+            PlanFault::Memory => SceneFault::Memory,
+        }
+    }
+}
+
+impl From<AllocError> for SceneFault {
+    ghost from_gives = { λ _ fault. fault ≡ scene.Memory };
+
+    fn from(_refused: AllocError) -> SceneFault {
+        SceneFault::Memory
+    }
+}
+
+impl std::error::Error for SceneFault {}
+
+/// Why a state is not made.
+#[derive(Clone, Copy, Debug, PartialEq, Eq)]
+pub enum MakeFault {
+    /// The plan has no state of that number.
+    NoSuchState,
+    /// No memory to keep it.
+    Memory,
+}
+
+impl fmt::Display for MakeFault {
+    ghost output = { λ fault. Some (make_fault_text fault) };
+
+    fn fmt<W: fmt::Write>(&self, f: &mut fmt::Formatter<W>) -> fmt::Result {
+        f.write_str(match self {
+            MakeFault::NoSuchState => "no such state",
+            MakeFault::Memory => "out of memory",
+        })
+    }
+}
+
+impl From<AllocError> for MakeFault {
+    ghost from_gives = { λ _ fault. fault ≡ make.Memory };
+
+    fn from(_refused: AllocError) -> MakeFault {
+        MakeFault::Memory
+    }
+}
+
+impl std::error::Error for MakeFault {}

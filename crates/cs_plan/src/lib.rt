@@ -2,10 +2,15 @@
 #![tactic(auto)]
 
 mod families;
-mod fault;
-mod plan;
-mod recipe;
+pub mod fault;
+mod members;
+pub mod plan;
+pub mod published;
+pub mod recipe;
+pub mod scene;
 
-pub use fault::PlanFault;
+pub use fault::{MakeFault, PlanFault, SceneFault};
 pub use plan::Plan;
+pub use published::Published;
 pub use recipe::{Places, Recipe};
+pub use scene::Scene;

@@ -2,7 +2,7 @@
 ghost use Rattle.std.specs.Prelude.{◌≡◌, ◌++◌, ◌≤◌, length, map, slice_get, IfErr, IfOk, MatchOption, OnOk};
 ghost use Rattle.std.specs.List.{All};
 ghost use Rattle.std.specs.Option.{option_copied};
-ghost use Rattle.cs_plan.specs.Plans.{IsAllowedIn, plan_of, set_in};
+ghost use Rattle.cs_plan.specs.Plans.{IsAllowedIn, IsWithin, plan_of, set_in};
 ghost use Rattle.cs_plan.specs.Refusals.{IsFirstRefused, IsRefused};
 ghost use Rattle.cs_plan.specs.declared.recipe.Recipe.TheVariants as forms;
 
@@ -45,6 +45,7 @@ impl Plan {
     ) -> Result<Plan, PlanFault>
         ensures value { IfOk result (λ plan. plan ≡ plan_of order.now holes picks.items) }
         ensures few { IfOk result (λ plan. length plan ≤ PLAN_STATES) }
+        ensures within { IfOk result (All (IsWithin (length order.now))) }
         ensures allowed { IfOk result (λ plan. All (λ recipe. IsAllowedIn order.now (set_in order.now recipe)) plan) }
         ensures fault { IfErr result (IsRefused order.now holes picks.items) }
     {

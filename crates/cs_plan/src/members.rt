@@ -1,0 +1,125 @@
+//! The micro-operations of a state.
+ghost use Rattle.std.specs.Prelude.{◌≡◌, ◌<◌, ◌≤◌, ◌&&◌, length, IfOk};
+ghost use Rattle.std.specs.List.{All};
+ghost use Rattle.cs_apm.specs.Orders.{needs_in};
+ghost use Rattle.cs_apm.specs.Rules.{op_at};
+ghost use Rattle.cs_plan.specs.Plans.{IsWithin, first, hole, is_kept, set_in};
+ghost use Rattle.cs_plan.specs.Scenes.{is_say, says_of};
+
+use crate::families::keeps;
+use crate::recipe::Recipe;
+use cs_apm::Order;
+use cs_micro::MicroOp;
+use cs_names::limits::MICRO_OPERATIONS;
+use std::alloc::{AllocError, Global};
+
+/// The places before the end.
+fn places_before(alloc: Global, end: u32) -> Result<Vec<u32>, AllocError>
+    ensures { IfOk result (λ places. places.items ≡ first end) }
+{
+    (0..end).collect(alloc)
+}
+
+/// The places before the end, without the missing one and all that need it by any chain.
+fn hole_of(alloc: Global, order: &Order, missing: u32, end: u32) -> Result<Vec<u32>, AllocError>
+    requires first { missing < length order.now }
+    requires second { end ≤ length order.now }
+    ensures { IfOk result (λ places. places.items ≡ hole (needs_in order.now) missing end) }
+{
+    let mut places = Vec::new(alloc);
+    for place in 0..end {
+        if keeps(order, missing as usize, place as usize) {
+            places.push(place)?;
+        }
+    }
+    Ok(places)
+}
+
+/// The places of the state's micro-operations, in the trace's order.
+pub fn places_of(alloc: Global, order: &Order, recipe: &Recipe) -> Result<Vec<u32>, AllocError>
+    requires { IsWithin (length order.now) recipe.now }
+    ensures { IfOk result (λ places. places.items ≡ set_in order.now recipe.now) }
+{
+    match recipe {
+        Recipe::Prefix(end) => places_before(alloc, *end),
+        Recipe::Hole(missing, end) => hole_of(alloc, order, *missing, *end),
+        Recipe::Pick(places) => Vec::from_slice(alloc, places.as_slice()),
+    }
+}
+
+/// Whether a text is told there.
+fn is_say_at(ops: &[MicroOp], place: u32) -> bool
+    requires { place < length ops.now }
+    ensures { result ≡ is_say (op_at ops.now place) }
+{
+    matches!(&ops[place as usize], MicroOp::Say)
+}
+
+/// How many texts are told before the end.
+fn says_before(ops: &[MicroOp], end: u32) -> u32
+    requires { end ≤ length ops.now }
+    ensures { result ≡ says_of ops.now (first end) }
+{
+    let mut count = 0;
+    for place in 0..end {
+        if is_say_at(ops, place) {
+            count += 1;
+        }
+    }
+    count
+}
+
+/// Whether a text is told there, and isn't missing.
+fn is_kept_say(ops: &[MicroOp], order: &Order, missing: u32, place: u32) -> bool
+    requires long { length ops.now ≡ length order.now }
+    requires first { missing < length order.now }
+    requires second { place < length order.now }
+    ensures { result ≡ (is_say (op_at ops.now place) && is_kept (needs_in order.now) missing place) }
+{
+    is_say_at(ops, place) && keeps(order, missing as usize, place as usize)
+}
+
+/// How many texts are told in a hole.
+fn says_around(ops: &[MicroOp], order: &Order, missing: u32, end: u32) -> u32
+    requires long { length ops.now ≡ length order.now }
+    requires first { missing < length order.now }
+    requires second { end ≤ length order.now }
+    ensures { result ≡ says_of ops.now (hole (needs_in order.now) missing end) }
+{
+    let mut count = 0;
+    for place in 0..end {
+        if is_kept_say(ops, order, missing, place) {
+            count += 1;
+        }
+    }
+    count
+}
+
+/// How many texts are told at these places.
+fn says_among(ops: &[MicroOp], places: &[u32]) -> u32
+    requires inside { All (λ place. place < length ops.now) places.now }
+    requires few { length places.now ≤ MICRO_OPERATIONS }
+    ensures { result ≡ says_of ops.now places.now }
+{
+    let mut count = 0;
+    for place in places {
+        if is_say_at(ops, *place) {
+            count += 1;
+        }
+    }
+    count
+}
+
+/// How many texts are told in the state.
+pub fn says_in(ops: &[MicroOp], order: &Order, recipe: &Recipe) -> u32
+    requires long { length ops.now ≡ length order.now }
+    requires few { length order.now ≤ MICRO_OPERATIONS }
+    requires within { IsWithin (length order.now) recipe.now }
+    ensures { result ≡ says_of ops.now (set_in order.now recipe.now) }
+{
+    match recipe {
+        Recipe::Prefix(end) => says_before(ops, *end),
+        Recipe::Hole(missing, end) => says_around(ops, order, *missing, *end),
+        Recipe::Pick(places) => says_among(ops, places.as_slice()),
+    }
+}

@@ -1,0 +1,85 @@
+//! A state of a scene that was made, with its number.
+ghost use Rattle.std.specs.Prelude.{◌≡◌, ◌≤◌, ◌↔◌, length, Some, IfOk, IsErrOf};
+ghost use Rattle.std.specs.Arc.{arc_value};
+ghost use Rattle.cs_plan.specs.Scenes.{IsPublished, state_at};
+
+use crate::fault::MakeFault;
+use crate::scene::Scene;
+use cs_apm::Built;
+use std::alloc::Global;
+use std::marker::Model;
+use std::sync::Arc;
+
+/// A state that was made: its tree is that of its number in the scene that it holds. `Scene::make` alone
+/// makes one.
+#[derive(Drop)]
+pub struct Published {
+    number: u32,
+    scene: Arc<Scene>,
+    store: Built,
+}
+
+impl Model for Published {
+    ghost use Rattle.std.specs.Arc.{arc_value};
+    ghost use Rattle.cs_plan.specs.Scenes as model;
+    ghost use Rattle.std.specs.Coded.{codes};
+    ghost use Rattle.cs_tree_model.specs.Tree.{tree_code};
+
+    ghost Value = { model.Published };
+
+    ghost coded = { Prim.hlevel (codes, tree_code) };
+
+    ghost view = { λ p. record { number = p.number; scene = arc_value p.scene; tree = p.store } };
+
+    ghost invariant = { λ p. model.IsPublished (record { number = p.number; scene = arc_value p.scene; tree = p.store }) };
+}
+
+impl Published {
+    pub fn number(&self) -> u32
+        ensures value { result ≡ self.now.number }
+        ensures published { IsPublished self.now }
+    {
+        self.number
+    }
+
+    pub fn scene(&self) -> &Arc<Scene>
+        ensures { arc_value result.now ≡ self.now.scene }
+    {
+        &self.scene
+    }
+
+    /// The state's tree, to be read.
+    pub fn store(&self) -> &Built
+        ensures tree { result.now ≡ self.now.tree }
+        ensures published { IsPublished self.now }
+    {
+        &self.store
+    }
+
+    /// The state's tree, to be kept.
+    pub fn into_store(self) -> Built
+        ensures tree { result ≡ self.tree }
+        ensures published { IsPublished self }
+    {
+        self.store
+    }
+}
+
+impl Scene {
+    /// The state of that number, made anew. NoSuchState is answered where the plan has none, and Memory never
+    /// in its place.
+    pub fn make(alloc: Global, scene: &Arc<Scene>, number: u32) -> Result<Published, MakeFault>
+        ensures number { IfOk result (λ made. made.number ≡ number) }
+        ensures scene { IfOk result (λ made. made.scene ≡ arc_value scene.now) }
+        ensures state { IfOk result (λ made. state_at (arc_value scene.now) number ≡ Some made.tree) }
+        ensures missing { IsErrOf result MakeFault.NoSuchState ↔ (length (arc_value scene.now).plan ≤ number) }
+    {
+        let store = scene.build(alloc, number)?;
+        let scene = Arc::try_clone(scene)?;
+        Ok(Published {
+            number,
+            scene,
+            store,
+        })
+    }
+}

@@ -1,0 +1,110 @@
+//! A trace with the plan of its states.
+ghost use Rattle.std.specs.Prelude.{◌≡◌, ◌≤◌, ◌↔◌, length, Some, IfErr, IfOk, IsErrOf};
+ghost use Rattle.std.specs.Arc.{arc_value};
+ghost use Rattle.cs_tree_model.specs.Tree.{IsTree};
+ghost use Rattle.cs_micro.specs.Micros.{micros_in};
+ghost use Rattle.cs_apm.specs.Orders.{order_of};
+ghost use Rattle.cs_plan.specs.Plans.{plan_of};
+ghost use Rattle.cs_plan.specs.Refusals.{IsRefusedScene};
+ghost use Rattle.cs_plan.specs.Scenes.{IsPlan, micros_of, order_in, says_at, state_at};
+
+use crate::fault::{MakeFault, SceneFault};
+use crate::members::{places_of, says_in};
+use crate::plan::Plan;
+use crate::recipe::Places;
+use cs_apm::laws::rules_are_sentences;
+use cs_apm::{Atlas, Built, Order};
+use cs_micro::{Micros, break_up};
+use cs_trace::Trace;
+use std::alloc::Global;
+use std::marker::Model;
+
+/// A trace with its micro-operations, their order, and the plan of its states. What the states share is
+/// found once, when it is made.
+#[derive(Drop)]
+pub struct Scene {
+    atlas: Atlas,
+    order: Order,
+    plan: Plan,
+}
+
+impl Model for Scene {
+    ghost use Rattle.cs_plan.specs.Scenes as model;
+
+    ghost Value = { model.Scene };
+
+    ghost view = { λ scene. record { trace = scene.atlas; plan = scene.plan } };
+
+    ghost use Rattle.cs_plan.specs.Parts.{AreParts};
+
+    ghost invariant = { λ scene. AreParts scene.atlas scene.order scene.plan };
+}
+
+impl Scene {
+    /// The scene of a trace, whose plan has holes if they are asked for, and these picks.
+    pub fn of(
+        alloc: Global,
+        trace: Trace,
+        holes: bool,
+        picks: Vec<Places>,
+    ) -> Result<Scene, SceneFault>
+        ensures value { IfOk result (λ scene. scene ≡ record { trace = trace; plan = plan_of (order_of (micros_in trace)) holes picks.items }) }
+        ensures fault { IfErr result (IsRefusedScene trace holes picks.items) }
+    {
+        let micros = break_up(alloc, &trace)?;
+        let order = Order::of(alloc, &micros)?;
+        let plan = Plan::make(alloc, &order, holes, picks)?;
+        let atlas = Atlas::of(alloc, trace, micros)?;
+        Ok(Scene { atlas, order, plan })
+    }
+
+    pub fn trace(&self) -> &Trace
+        ensures { result.now ≡ self.now.trace }
+    {
+        self.atlas.trace()
+    }
+
+    pub fn micros(&self) -> &Micros
+        ensures { result.now ≡ micros_of self.now }
+    {
+        self.atlas.micros()
+    }
+
+    pub fn order(&self) -> &Order
+        ensures { result.now ≡ order_in self.now }
+    {
+        &self.order
+    }
+
+    /// The plan. A crash may leave each of its states.
+    pub fn plan(&self) -> &Plan
+        ensures value { result.now ≡ self.now.plan }
+        ensures planned { IsPlan (order_in self.now) self.now.plan }
+    {
+        &self.plan
+    }
+
+    /// How many texts the application has told in the state of that number, if there is one. It takes no
+    /// memory.
+    pub fn says(&self, number: u32) -> Option<u32>
+        ensures { result ≡ says_at self.now number }
+    {
+        let recipe = self.plan.recipe(number)?;
+        Some(says_in(self.atlas.micros().ops(), &self.order, recipe))
+    }
+
+    /// The store of the state of that number.
+    pub(crate) fn build(&self, alloc: Global, number: u32) -> Result<Built, MakeFault>
+        ensures state { IfOk result (λ tree. state_at self.now number ≡ Some tree) }
+        ensures tree { IfOk result IsTree }
+        ensures missing { IsErrOf result MakeFault.NoSuchState ↔ (length self.now.plan ≤ number) }
+    {
+        let Some(recipe) = self.plan.recipe(number) else {
+            return Err(MakeFault::NoSuchState);
+        };
+        rules_are_sentences(self.atlas.micros());
+        let places = places_of(alloc, &self.order, recipe)?;
+        let tree = self.atlas.build(alloc, &places)?;
+        Ok(tree)
+    }
+}
