@@ -1,4 +1,5 @@
 pub mod Counting
+pub mod Lines
 pub mod Listed
 pub mod Orders
 pub mod Permitted

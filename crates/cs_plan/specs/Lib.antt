@@ -1,4 +1,5 @@
 pub mod Faults
+pub mod Lists
 pub mod Parts
 pub mod Plans
 pub mod Refusals

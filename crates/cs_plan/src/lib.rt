@@ -3,6 +3,7 @@
 
 mod families;
 pub mod fault;
+pub mod listing;
 mod members;
 pub mod plan;
 pub mod published;
@@ -10,6 +11,7 @@ pub mod recipe;
 pub mod scene;
 
 pub use fault::{MakeFault, PlanFault, SceneFault};
+pub use listing::Listing;
 pub use plan::Plan;
 pub use published::Published;
 pub use recipe::{Places, Recipe};

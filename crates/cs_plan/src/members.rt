@@ -113,7 +113,7 @@ fn says_among(ops: &[MicroOp], places: &[u32]) -> u32
 /// How many texts are told in the state.
 pub fn says_in(ops: &[MicroOp], order: &Order, recipe: &Recipe) -> u32
     requires long { length ops.now ≡ length order.now }
-    requires few { length order.now ≤ MICRO_OPERATIONS }
+    requires few { length ops.now ≤ MICRO_OPERATIONS }
     requires within { IsWithin (length order.now) recipe.now }
     ensures { result ≡ says_of ops.now (set_in order.now recipe.now) }
 {

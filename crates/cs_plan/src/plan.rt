@@ -71,6 +71,13 @@ impl Plan {
         self.recipes.len()
     }
 
+    /// The recipes in the order of their numbers.
+    pub fn recipes(&self) -> &[Recipe]
+        ensures { result.now ≡ self.now }
+    {
+        self.recipes.as_slice()
+    }
+
     /// The recipe of the state of that number.
     pub fn recipe(&self, number: u32) -> Option<&Recipe>
         ensures { option_copied result ≡ slice_get self.now number }

@@ -71,7 +71,8 @@ impl Scene {
     }
 
     pub fn order(&self) -> &Order
-        ensures { result.now ≡ order_in self.now }
+        ensures value { result.now ≡ order_in self.now }
+        ensures long { length result.now ≡ length (micros_of self.now).ops }
     {
         &self.order
     }
