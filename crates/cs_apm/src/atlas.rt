@@ -70,8 +70,8 @@ impl Atlas {
         &self.micros
     }
 
-    /// The store of the state of a set, which is allowed. A file that the set doesn't change is copied
-    /// once, and one that doesn't stand then is not.
+    /// The store of the state of a set, which is allowed. Each file that stands then is copied once, and no
+    /// other.
     pub fn build(&self, alloc: Global, places: &[u32]) -> Result<Built, AllocError>
         requires { IsAllowed (needs_of (micros_in self.now)) (length (micros_in self.now).ops) places.now }
         ensures state { IfOk result (λ tree. tree ≡ crash_state_of self.now (micros_in self.now) places.now) }
