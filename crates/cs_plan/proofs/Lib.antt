@@ -4,3 +4,4 @@ pub mod Listed
 pub mod Orders
 pub mod Permitted
 pub mod Picking
+pub mod Records

@@ -2,8 +2,9 @@
 use Rattle.std.specs.Prelude.{◌≡◌, ◌<◌, ◌≤◌, ℕ, Bool, true, false, List, length, count_by, Option, Some, slice_get}
 use Rattle.std.specs.List.{All}
 use Rattle.std.specs.Option.{option_map}
-use Rattle.cs_names.specs.declared.limits.TheConstants.{MICRO_OPERATIONS, PLAN_STATES}
-use Rattle.cs_tree_model.specs.Tree.{IsTree, Tree}
+use Rattle.cs_names.specs.declared.limits.TheConstants.{PLAN_STATES, TREE_RECORDS}
+use Rattle.cs_tree_model.specs.declared.record.Record.{Record}
+use Rattle.cs_tree_model.specs.Tree.{IsTree, Path, Tree, record_at}
 use Rattle.cs_trace.specs.Traces.{Trace}
 use Rattle.cs_micro.specs.declared.micro_op.MicroOp.{MicroOp}
 use Rattle.cs_micro.specs.declared.micro_op.MicroOp.TheVariants.{Say}
@@ -64,7 +65,13 @@ pub record Published : Type 0 where
   pub scene : Scene
   pub tree : Tree
 
+-- nothing has changed the tree yet, and it has no more records than a tree may have
+pub record IsNew (t : Tree) : Type 0 where
+  pub versions : (p : Path) (r : Record) → record_at t p ≡ Some r → r.vers ≡ 0
+  pub few : t.next ≤ TREE_RECORDS
+
 -- the tree is that of its number in its scene
 pub record IsPublished (p : Published) : Type 0 where
   pub state : state_at p.scene p.number ≡ Some p.tree
   pub tree : IsTree p.tree
+  pub unchanged : IsNew p.tree

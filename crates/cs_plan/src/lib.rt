@@ -16,3 +16,6 @@ pub use plan::Plan;
 pub use published::Published;
 pub use recipe::{Places, Recipe};
 pub use scene::Scene;
+
+#[cfg(test)]
+mod tests;

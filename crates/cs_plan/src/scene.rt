@@ -6,7 +6,7 @@ ghost use Rattle.cs_micro.specs.Micros.{micros_in};
 ghost use Rattle.cs_apm.specs.Orders.{order_of};
 ghost use Rattle.cs_plan.specs.Plans.{plan_of};
 ghost use Rattle.cs_plan.specs.Refusals.{IsRefusedScene};
-ghost use Rattle.cs_plan.specs.Scenes.{IsPlan, micros_of, order_in, says_at, state_at};
+ghost use Rattle.cs_plan.specs.Scenes.{IsNew, IsPlan, micros_of, order_in, says_at, state_at};
 
 use crate::fault::{MakeFault, SceneFault};
 use crate::members::{places_of, says_in};
@@ -98,12 +98,14 @@ impl Scene {
     pub(crate) fn build(&self, alloc: Global, number: u32) -> Result<Built, MakeFault>
         ensures state { IfOk result (λ tree. state_at self.now number ≡ Some tree) }
         ensures tree { IfOk result IsTree }
+        ensures unchanged { IfOk result IsNew }
         ensures missing { IsErrOf result MakeFault.NoSuchState ↔ (length self.now.plan ≤ number) }
     {
         let Some(recipe) = self.plan.recipe(number) else {
             return Err(MakeFault::NoSuchState);
         };
         rules_are_sentences(self.atlas.micros());
+        let _few = self.atlas.trace().operations();
         let places = places_of(alloc, &self.order, recipe)?;
         let tree = self.atlas.build(alloc, &places)?;
         Ok(tree)
