@@ -1,5 +1,5 @@
 -- The paths below a directory stand right after it in the order of paths.
-use Rattle.std.proofs.Common.{◌≡◌, ◌≢◌, length-append, ◌<◌, ◌||◌, ◌&&◌, Bool, true, false, not, List, Vec, [], ◌∷◌, ◌++◌, length, drop, filter, nat_lt, refl, sym, ap, ◌∙◌, arith}
+use Rattle.std.proofs.Common.{◌≡◌, ◌≢◌, length-append, ◌<◌, ◌||◌, ◌&&◌, Bool, true, false, not, List, [], ◌∷◌, ◌++◌, length, drop, filter, nat_lt, refl, sym, ap, ◌∙◌, arith}
 use Rattle.std.proofs.lemmas.List.{append-nil}
 use Rattle.std.proofs.lemmas.Bool.{false≢true}
 use Rattle.std.proofs.lemmas.Bool.Decides.{nat_tests}
@@ -17,8 +17,6 @@ use Rattle.std.specs.Ordering.{is_lt, is_gt, ordering_then, ordering_reverse}
 use Rattle.cs_names.specs.Texts.{same_bytes}
 use Rattle.cs_tree_model.specs.Tree.{NameBytes, Path, name_cmp, path_cmp}
 use Rattle.cs_trace.specs.Below.{is_below}
-use Rattle.cs_trace.specs.Keys.{by_path}
-use Rattle.cs_trace.proofs.Views.{names_cmp}
 
 names_total : IsTotalOrder name_cmp
 names_total = lists_total nat_cmp_total
@@ -110,51 +108,51 @@ module _ (d : Path) where
   not_after : (p : Path) → is_lt (path_cmp d p) && not false ≡ false → is_below d p ≡ false
   not_after p is = not_after_by p (is_below d p) refl is
 
-  module _ {X Z : Type 0} where
+  module _ {X : Type 0} where
     -- whether an entry comes after the path
-    abbrev after : Vec NameBytes Z × X → Bool
-    after e = is_lt (path_cmp d e.0.items) && not false
+    abbrev after : Path × X → Bool
+    after e = is_lt (path_cmp d e.0) && not false
 
-    abbrev any_below : List (Vec NameBytes Z × X) → Bool
-    any_below es = list_any (λ e. is_below d e.0) (by_path es)
+    abbrev any_below : List (Path × X) → Bool
+    any_below es = list_any (λ e. is_below d e.0) es
 
-    none_by : (k q : Path) (es : List (Vec NameBytes Z × X)) (b : Bool) → path_cmp d k ≡ Less → starts_with same_bytes k d ≡ false → path_cmp k q ≡ Less → is_below d q ≡ b → any_below es ≡ false → b || any_below es ≡ false
+    none_by : (k q : Path) (es : List (Path × X)) (b : Bool) → path_cmp d k ≡ Less → starts_with same_bytes k d ≡ false → path_cmp k q ≡ Less → is_below d q ≡ b → any_below es ≡ false → b || any_below es ≡ false
     none_by k q es true low starts high is rest = absurd (false≢true (sym starts ∙ between k q low high is))
     none_by k q es false low starts high is rest = rest
 
     -- nothing after the path is below it
-    none_below : (k : Path) → path_cmp d k ≡ Less → starts_with same_bytes k d ≡ false → (es : List (Vec NameBytes Z × X)) → AllByRecursion (λ l. path_cmp k l.items ≡ Less) (keys_of es) → any_below es ≡ false
+    none_below : (k : Path) → path_cmp d k ≡ Less → starts_with same_bytes k d ≡ false → (es : List (Path × X)) → AllByRecursion (λ l. path_cmp k l ≡ Less) (keys_of es) → any_below es ≡ false
     none_below k low starts [] all = refl
-    none_below k low starts (e ∷ es) all = none_by k e.0.items es (is_below d e.0.items) low starts all.0 refl (none_below k low starts es all.1)
+    none_below k low starts (e ∷ es) all = none_by k e.0 es (is_below d e.0) low starts all.0 refl (none_below k low starts es all.1)
 
-    none_after : (e : Vec NameBytes Z × X) (es : List (Vec NameBytes Z × X)) (b : Bool) → after e ≡ b → (filter after es ≡ [] → false ≡ any_below es) → (if b then e ∷ filter after es else filter after es) ≡ [] → false ≡ any_below (e ∷ es)
+    none_after : (e : Path × X) (es : List (Path × X)) (b : Bool) → after e ≡ b → (filter after es ≡ [] → false ≡ any_below es) → (if b then e ∷ filter after es else filter after es) ≡ [] → false ≡ any_below (e ∷ es)
     none_after e es true here rest is = absurd (cc)
-    none_after e es false here rest is = rest is ∙ ap (λ b. b || any_below es) (sym (not_after e.0.items here))
+    none_after e es false here rest is = rest is ∙ ap (λ b. b || any_below es) (sym (not_after e.0 here))
 
     -- nothing comes after the path
-    pub below-none : (es : List (Vec NameBytes Z × X)) → filter after es ≡ [] → false ≡ any_below es
+    pub below-none : (es : List (Path × X)) → filter after es ≡ [] → false ≡ any_below es
     below-none [] is = refl
     below-none (e ∷ es) is = none_after e es (after e) refl (below-none es) is
 
-    here_by : (e : Vec NameBytes Z × X) (es : List (Vec NameBytes Z × X)) (b : Bool) → AllByRecursion (λ l. path_cmp e.0.items l.items ≡ Less) (keys_of es)
-        → starts_with same_bytes e.0.items d ≡ b → path_cmp d e.0.items ≡ Less → b ≡ any_below (e ∷ es)
-    here_by e es true all starts low = ap (λ b. b || any_below es) (sym (below_of e.0.items low starts))
+    here_by : (e : Path × X) (es : List (Path × X)) (b : Bool) → AllByRecursion (λ l. path_cmp e.0 l ≡ Less) (keys_of es)
+        → starts_with same_bytes e.0 d ≡ b → path_cmp d e.0 ≡ Less → b ≡ any_below (e ∷ es)
+    here_by e es true all starts low = ap (λ b. b || any_below es) (sym (below_of e.0 low starts))
     here_by e es false all starts low =
-        sym (none_below e.0.items low starts es all)
-        ∙ ap (λ b. b || any_below es) (sym (ap (λ b. nat_lt (length d) (length e.0.items) && b) starts ∙ no_more (nat_lt (length d) (length e.0.items))))
+        sym (none_below e.0 low starts es all)
+        ∙ ap (λ b. b || any_below es) (sym (ap (λ b. nat_lt (length d) (length e.0) && b) starts ∙ no_more (nat_lt (length d) (length e.0))))
 
-    first_by : (e : Vec NameBytes Z × X) (es : List (Vec NameBytes Z × X)) (k : Vec NameBytes Z) (v : X) (rest : List (Vec NameBytes Z × X)) (b : Bool) → after e ≡ b
-        → AllByRecursion (λ l. path_cmp e.0.items l.items ≡ Less) (keys_of es)
-        → (filter after es ≡ (k, v) ∷ rest → starts_with same_bytes k.items d ≡ any_below es)
-        → (if b then e ∷ filter after es else filter after es) ≡ (k, v) ∷ rest → starts_with same_bytes k.items d ≡ any_below (e ∷ es)
+    first_by : (e : Path × X) (es : List (Path × X)) (k : Path) (v : X) (rest : List (Path × X)) (b : Bool) → after e ≡ b
+        → AllByRecursion (λ l. path_cmp e.0 l ≡ Less) (keys_of es)
+        → (filter after es ≡ (k, v) ∷ rest → starts_with same_bytes k d ≡ any_below es)
+        → (if b then e ∷ filter after es else filter after es) ≡ (k, v) ∷ rest → starts_with same_bytes k d ≡ any_below (e ∷ es)
     first_by e es k v rest true here all later is =
         let same : e ≡ (k, v) = cc in
-        ap (λ (f : Vec NameBytes Z × X). starts_with same_bytes f.0.items d) (sym same) ∙ here_by e es _ all refl (is_less _ here)
-    first_by e es k v rest false here all later is = later is ∙ ap (λ b. b || any_below es) (sym (not_after e.0.items here))
+        ap (λ (f : Path × X). starts_with same_bytes f.0 d) (sym same) ∙ here_by e es _ all refl (is_less _ here)
+    first_by e es k v rest false here all later is = later is ∙ ap (λ b. b || any_below es) (sym (not_after e.0 here))
 
     -- the first that comes after the path decides
-    pub below-first : (es : List (Vec NameBytes Z × X)) (k : Vec NameBytes Z) (v : X) (rest : List (Vec NameBytes Z × X)) → IsStrictlySortedBy names_cmp (keys_of es) → filter after es ≡ (k, v) ∷ rest
-        → starts_with same_bytes k.items d ≡ any_below es
+    pub below-first : (es : List (Path × X)) (k : Path) (v : X) (rest : List (Path × X)) → IsStrictlySortedBy path_cmp (keys_of es) → filter after es ≡ (k, v) ∷ rest
+        → starts_with same_bytes k d ≡ any_below es
     unfolding IsStrictlySortedBy
     below-first [] k v rest sorted is = absurd (cc)
     below-first (e ∷ es) k v rest sorted is = first_by e es k v rest (after e) refl sorted.0 (below-first es k v rest sorted.1) is

@@ -1,4 +1,5 @@
 pub mod Beneath
+pub mod Keyed
 pub mod Legal
 pub mod LineByLine
 pub mod Members

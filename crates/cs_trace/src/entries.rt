@@ -4,8 +4,9 @@ ghost use Rattle.std.specs.FinMap as map;
 ghost use Rattle.cs_trace.specs.Entries.{nodes_in, records_in};
 
 use crate::entry::Entry;
+use crate::key::PathKey;
 use crate::operation::Node;
-use cs_names::{Name, Path};
+use cs_names::Path;
 use cs_tree_model::Record;
 use std::alloc::{AllocError, Global};
 use std::collections::BTreeMap;
@@ -14,19 +15,18 @@ use std::marker::Model;
 /// What stands at each path. Contracts see a finite map, in the order of paths.
 #[derive(Drop)]
 pub(crate) struct Entries {
-    by_names: BTreeMap<Vec<Name>, Entry>,
+    by_path: BTreeMap<PathKey, Entry>,
 }
 
 impl Model for Entries {
     ghost use Rattle.std.specs.FinMap as map;
     ghost use Rattle.cs_trace.specs.Entries as model;
-    ghost use Rattle.cs_trace.specs.Keys.{by_path};
 
     ghost Value = { model.Entries };
 
     ghost coded = { model.entries_code };
 
-    ghost view = { λ entries. map.from_entries (by_path entries.by_names.entries) };
+    ghost view = { λ entries. map.from_entries entries.by_path.entries };
 }
 
 impl Entries {
@@ -34,14 +34,14 @@ impl Entries {
         ensures { result ≡ map.empty }
     {
         Entries {
-            by_names: BTreeMap::new(alloc),
+            by_path: BTreeMap::new(alloc),
         }
     }
 
-    pub(crate) fn insert(&mut self, names: Vec<Name>, entry: Entry) -> Result<(), AllocError>
-        ensures { OnOk result (self.new ≡ map.insert self.old names.items entry) }
+    pub(crate) fn insert(&mut self, path: PathKey, entry: Entry) -> Result<(), AllocError>
+        ensures { OnOk result (self.new ≡ map.insert self.old path entry) }
     {
-        self.by_names.insert(names, entry)?;
+        self.by_path.insert(path, entry)?;
         Ok(())
     }
 
@@ -55,10 +55,10 @@ impl Entries {
     {
         let mut records = Vec::new(alloc);
         let mut nodes = Vec::new(alloc);
-        for (names, entry) in self.by_names {
+        for (path, entry) in self.by_path {
             let number = records.len() as u64;
             nodes.push(entry.node())?;
-            records.push((Path::from_names(names), entry.into_record(number)?))?;
+            records.push((path.to_path(alloc)?, entry.into_record(number)?))?;
         }
         Ok((records, nodes))
     }

@@ -1,4 +1,4 @@
-//! What an operation needs of what stands, where its names are kept.
+//! What an operation needs of what stands, where its path is kept.
 ghost use Rattle.std.specs.Prelude.{◌≡◌, ◌≢◌, IfErr, IfOk, IsOk, Ok, Err, length};
 ghost use Rattle.cs_tree_model.specs.Tree.{parent_path};
 ghost use Rattle.cs_trace.specs.Judging.{and_then, creat, emptied_at, ends_above, file_at, free_at, fsync, has_too_many_names, is_too_much, mkdir, rename, rmdir, say, size_in, target_at, truncate, unlink, write};
@@ -7,36 +7,35 @@ ghost use Rattle.cs_trace.specs.declared.fault.TraceFaultKind.TheVariants.{Memor
 
 use crate::digits::Digits;
 use crate::fault::TraceFaultKind;
+use crate::key::PathKey;
 use crate::line::Claims;
 use crate::operation::{Bytes, Covers, Node, Operation, Rights};
+use crate::path_text::Kept;
 use crate::standing::Standing;
 use cs_names::limits::{FILE_BYTES, SAY_BYTES, TRACE_PATH_NAMES, TREE_RECORDS};
-use cs_names::{Name, Path};
 use std::alloc::Global;
 
-/// The names of the directory.
-fn above(names: &[Name]) -> &[Name]
-    ensures { result.now ≡ parent_path names.now }
+/// The number of the file that stands at the path.
+fn file_at(paths: &Standing, path: &PathKey) -> Result<u32, TraceFaultKind>
+    ensures { result ≡ file_at paths.now path.now }
 {
-    &names[..names.len().saturating_sub(1)]
-}
-
-/// The number of the file that stands at the path with these names.
-fn file_at(paths: &Standing, names: &[Name]) -> Result<u32, TraceFaultKind>
-    ensures { result ≡ file_at paths.now names.now }
-{
-    match paths.get(names) {
+    match paths.get(path) {
         None => Err(TraceFaultKind::Missing),
         Some(Node::Directory) => Err(TraceFaultKind::NotFile),
         Some(Node::File(file)) => Ok(file),
     }
 }
 
-/// Whether a new entry may stand at the path.
-pub(crate) fn check_free(paths: &Standing, names: &[Name]) -> Result<(), TraceFaultKind>
-    ensures { result ≡ free_at paths.now names.now }
+/// Whether a new entry may stand at the path, in the directory above.
+pub(crate) fn check_free(
+    paths: &Standing,
+    above: &PathKey,
+    path: &PathKey,
+) -> Result<(), TraceFaultKind>
+    requires { above.now ≡ parent_path path.now }
+    ensures { result ≡ free_at paths.now path.now }
 {
-    match (paths.get(above(names)), paths.get(names)) {
+    match (paths.get(above), paths.get(path)) {
         (None, _) => Err(TraceFaultKind::NoParent),
         (Some(Node::File(_)), _) => Err(TraceFaultKind::NotDir),
         (Some(Node::Directory), Some(_)) => Err(TraceFaultKind::Exists),
@@ -44,11 +43,12 @@ pub(crate) fn check_free(paths: &Standing, names: &[Name]) -> Result<(), TraceFa
     }
 }
 
-/// Whether a file may come to the path, over a file that stands there.
-fn check_target(paths: &Standing, names: &[Name]) -> Result<(), TraceFaultKind>
-    ensures { result ≡ target_at paths.now names.now }
+/// Whether a file may come to the path, over a file that stands there, in the directory above.
+fn check_target(paths: &Standing, above: &PathKey, path: &PathKey) -> Result<(), TraceFaultKind>
+    requires { above.now ≡ parent_path path.now }
+    ensures { result ≡ target_at paths.now path.now }
 {
-    match (paths.get(above(names)), paths.get(names)) {
+    match (paths.get(above), paths.get(path)) {
         (None, _) => Err(TraceFaultKind::NoParent),
         (Some(Node::File(_)), _) => Err(TraceFaultKind::NotDir),
         (Some(Node::Directory), Some(Node::Directory)) => Err(TraceFaultKind::NotFile),
@@ -57,28 +57,28 @@ fn check_target(paths: &Standing, names: &[Name]) -> Result<(), TraceFaultKind>
 }
 
 /// Whether an empty directory stands at the path.
-fn check_emptied(paths: &Standing, names: &Vec<Name>) -> Result<(), TraceFaultKind>
-    ensures { result ≡ emptied_at paths.now names.now.items }
+fn check_emptied(paths: &Standing, path: &PathKey) -> Result<(), TraceFaultKind>
+    ensures { result ≡ emptied_at paths.now path.now }
 {
-    match paths.get(names) {
+    match paths.get(path) {
         None => Err(TraceFaultKind::Missing),
         Some(Node::File(_)) => Err(TraceFaultKind::NotDir),
-        Some(Node::Directory) if paths.has_below(names) => Err(TraceFaultKind::NotEmpty),
+        Some(Node::Directory) if paths.has_below(path) => Err(TraceFaultKind::NotEmpty),
         Some(Node::Directory) => Ok(()),
     }
 }
 
-fn has_too_many_names(names: &[Name]) -> bool
-    ensures { result ≡ has_too_many_names names.now }
+fn has_too_many_names(path: &PathKey) -> bool
+    ensures { result ≡ has_too_many_names path.now }
 {
-    names.len() > TRACE_PATH_NAMES
+    path.len() > TRACE_PATH_NAMES
 }
 
 /// Whether one record more at the path goes past a limit, after so many.
-pub(crate) fn is_too_much(made: usize, names: &[Name]) -> bool
-    ensures { result ≡ is_too_much made names.now }
+pub(crate) fn is_too_much(made: usize, path: &PathKey) -> bool
+    ensures { result ≡ is_too_much made path.now }
 {
-    has_too_many_names(names) || made >= TREE_RECORDS
+    has_too_many_names(path) || made >= TREE_RECORDS
 }
 
 /// Whether a write of so many bytes ends above the greatest size. One of no byte never does.
@@ -101,19 +101,21 @@ pub(crate) fn creat(
     paths: &Standing,
     made: usize,
     file: u32,
-    names: Vec<Name>,
+    kept: Kept,
+    above: &PathKey,
     claims: &Claims<'_>,
 ) -> Result<Operation, TraceFaultKind>
-    ensures done { IfOk result (λ operation. creat paths.now made file names.items (claims_of claims.now) ≡ Ok operation) }
-    ensures fault { IfErr result (λ kind. kind ≢ Memory → creat paths.now made file names.items (claims_of claims.now) ≡ Err kind) }
-    ensures memory { IfErr result (λ kind. kind ≡ Memory → IsOk (creat paths.now made file names.items (claims_of claims.now))) }
+    requires { above.now ≡ parent_path kept }
+    ensures done { IfOk result (λ operation. creat paths.now made file kept (claims_of claims.now) ≡ Ok operation) }
+    ensures fault { IfErr result (λ kind. kind ≢ Memory → creat paths.now made file kept (claims_of claims.now) ≡ Err kind) }
+    ensures memory { IfErr result (λ kind. kind ≡ Memory → IsOk (creat paths.now made file kept (claims_of claims.now))) }
 {
-    check_free(paths, &names)?;
-    if is_too_much(made, &names) {
+    check_free(paths, above, &kept.key)?;
+    if is_too_much(made, &kept.key) {
         return Err(TraceFaultKind::TooLarge);
     }
     let rights = Rights::keep(alloc, claims)?;
-    let path = Path::from_names(names);
+    let path = kept.path;
     Ok(Operation::Creat { path, file, rights })
 }
 
@@ -121,61 +123,65 @@ pub(crate) fn mkdir(
     alloc: Global,
     paths: &Standing,
     made: usize,
-    names: Vec<Name>,
+    kept: Kept,
+    above: &PathKey,
     claims: &Claims<'_>,
 ) -> Result<Operation, TraceFaultKind>
-    ensures done { IfOk result (λ operation. mkdir paths.now made names.items (claims_of claims.now) ≡ Ok operation) }
-    ensures fault { IfErr result (λ kind. kind ≢ Memory → mkdir paths.now made names.items (claims_of claims.now) ≡ Err kind) }
-    ensures memory { IfErr result (λ kind. kind ≡ Memory → IsOk (mkdir paths.now made names.items (claims_of claims.now))) }
+    requires { above.now ≡ parent_path kept }
+    ensures done { IfOk result (λ operation. mkdir paths.now made kept (claims_of claims.now) ≡ Ok operation) }
+    ensures fault { IfErr result (λ kind. kind ≢ Memory → mkdir paths.now made kept (claims_of claims.now) ≡ Err kind) }
+    ensures memory { IfErr result (λ kind. kind ≡ Memory → IsOk (mkdir paths.now made kept (claims_of claims.now))) }
 {
-    check_free(paths, &names)?;
-    if is_too_much(made, &names) {
+    check_free(paths, above, &kept.key)?;
+    if is_too_much(made, &kept.key) {
         return Err(TraceFaultKind::TooLarge);
     }
     let rights = Rights::keep(alloc, claims)?;
-    let path = Path::from_names(names);
+    let path = kept.path;
     Ok(Operation::Mkdir { path, rights })
 }
 
-pub(crate) fn unlink(paths: &Standing, names: Vec<Name>) -> Result<Operation, TraceFaultKind>
-    ensures { result ≡ unlink paths.now names.items }
+pub(crate) fn unlink(paths: &Standing, kept: Kept) -> Result<Operation, TraceFaultKind>
+    ensures { result ≡ unlink paths.now kept }
 {
-    file_at(paths, &names)?;
-    let path = Path::from_names(names);
+    file_at(paths, &kept.key)?;
+    let path = kept.path;
     Ok(Operation::Unlink { path })
 }
 
-pub(crate) fn rmdir(paths: &Standing, names: Vec<Name>) -> Result<Operation, TraceFaultKind>
-    ensures { result ≡ rmdir paths.now names.items }
+pub(crate) fn rmdir(paths: &Standing, kept: Kept) -> Result<Operation, TraceFaultKind>
+    ensures { result ≡ rmdir paths.now kept }
 {
-    check_emptied(paths, &names)?;
-    let path = Path::from_names(names);
+    check_emptied(paths, &kept.key)?;
+    let path = kept.path;
     Ok(Operation::Rmdir { path })
 }
 
-/// A file's entry, whose path stands for a file, at its new path.
+/// A file's entry at its new path, in the directory above.
 pub(crate) fn rename(
     paths: &Standing,
-    names: Vec<Name>,
-    new_names: Vec<Name>,
+    from: Kept,
+    to: Kept,
+    above: &PathKey,
 ) -> Result<Operation, TraceFaultKind>
-    ensures { result ≡ rename paths.now names.items new_names.items }
+    requires { above.now ≡ parent_path to }
+    ensures { result ≡ rename paths.now from to }
 {
-    file_at(paths, &names)?;
-    check_target(paths, &new_names)?;
-    if has_too_many_names(&new_names) {
+    file_at(paths, &from.key)?;
+    check_target(paths, above, &to.key)?;
+    if has_too_many_names(&to.key) {
         return Err(TraceFaultKind::TooLarge);
     }
-    let from = Path::from_names(names);
-    let to = Path::from_names(new_names);
+    let from = from.path;
+    let to = to.path;
     Ok(Operation::Rename { from, to })
 }
 
 /// The fault of a file's entry at a new path whose directory can't stand.
-pub(crate) fn rename_far(paths: &Standing, names: &[Name]) -> Result<Operation, TraceFaultKind>
-    ensures { result ≡ and_then (file_at paths.now names.now) (λ _. Err TraceFaultKind.NoParent) }
+pub(crate) fn rename_far(paths: &Standing, from: &PathKey) -> Result<Operation, TraceFaultKind>
+    ensures { result ≡ and_then (file_at paths.now from.now) (λ _. Err TraceFaultKind.NoParent) }
 {
-    file_at(paths, names)?;
+    file_at(paths, from)?;
     Err(TraceFaultKind::NoParent)
 }
 
@@ -183,15 +189,15 @@ pub(crate) fn write(
     alloc: Global,
     paths: &Standing,
     sizes: &[u64],
-    names: &[Name],
+    path: &PathKey,
     offset: u64,
     bytes: &Digits<'_>,
 ) -> Result<Operation, TraceFaultKind>
-    ensures done { IfOk result (λ operation. write paths.now sizes.now names.now offset bytes.now ≡ Ok operation) }
-    ensures fault { IfErr result (λ kind. kind ≢ Memory → write paths.now sizes.now names.now offset bytes.now ≡ Err kind) }
-    ensures memory { IfErr result (λ kind. kind ≡ Memory → IsOk (write paths.now sizes.now names.now offset bytes.now)) }
+    ensures done { IfOk result (λ operation. write paths.now sizes.now path.now offset bytes.now ≡ Ok operation) }
+    ensures fault { IfErr result (λ kind. kind ≢ Memory → write paths.now sizes.now path.now offset bytes.now ≡ Err kind) }
+    ensures memory { IfErr result (λ kind. kind ≡ Memory → IsOk (write paths.now sizes.now path.now offset bytes.now)) }
 {
-    let file = file_at(paths, names)?;
+    let file = file_at(paths, path)?;
     if ends_above(offset, bytes) {
         return Err(TraceFaultKind::TooLarge);
     }
@@ -208,12 +214,12 @@ pub(crate) fn write(
 pub(crate) fn truncate(
     paths: &Standing,
     sizes: &[u64],
-    names: &[Name],
+    path: &PathKey,
     length: u64,
 ) -> Result<Operation, TraceFaultKind>
-    ensures { result ≡ truncate paths.now sizes.now names.now length }
+    ensures { result ≡ truncate paths.now sizes.now path.now length }
 {
-    let file = file_at(paths, names)?;
+    let file = file_at(paths, path)?;
     if length > FILE_BYTES {
         return Err(TraceFaultKind::TooLarge);
     }
@@ -221,12 +227,12 @@ pub(crate) fn truncate(
     Ok(Operation::Truncate { file, size, length })
 }
 
-pub(crate) fn fsync(paths: &Standing, names: Vec<Name>) -> Result<Operation, TraceFaultKind>
-    ensures { result ≡ fsync paths.now names.items }
+pub(crate) fn fsync(paths: &Standing, kept: Kept) -> Result<Operation, TraceFaultKind>
+    ensures { result ≡ fsync paths.now kept }
 {
-    match paths.get(&names) {
+    match paths.get(&kept.key) {
         None => Err(TraceFaultKind::Missing),
-        Some(Node::Directory) => Ok(Operation::Sync(Covers::Directory(Path::from_names(names)))),
+        Some(Node::Directory) => Ok(Operation::Sync(Covers::Directory(kept.path))),
         Some(Node::File(file)) => Ok(Operation::Sync(Covers::File(file))),
     }
 }

@@ -7,6 +7,7 @@ mod entry;
 pub mod fault;
 mod fields;
 mod judge;
+mod key;
 mod line;
 mod lines;
 mod names;

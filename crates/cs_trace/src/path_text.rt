@@ -1,11 +1,11 @@
 //! A path that a line spells: judged without memory, and kept.
-ghost use Rattle.std.specs.Prelude.{◌≡◌, ◌<◌, ◌+◌, IfOk, IsSome, MatchOption, length};
-ghost use Rattle.cs_names.specs.Pieces.{pieces};
+ghost use Rattle.std.specs.Prelude.{◌≡◌, ◌<◌, ◌+◌, ◌↔◌, IfOk, IsSome, IsTrue, MatchOption, length};
 ghost use Rattle.cs_names.specs.declared.limits.TheConstants.{TRACE_PATH_NAMES};
 ghost use Rattle.cs_trace.specs.Names.{entry_path_of, path_of};
 
+use crate::key::PathKey;
+use cs_names::Path;
 use cs_names::limits::TRACE_PATH_NAMES;
-use cs_names::{Name, Path, Pieces};
 use std::alloc::{AllocError, Global};
 use std::marker::Model;
 
@@ -27,28 +27,31 @@ impl<'a> Model for PathText<'a> {
     ghost invariant = { λ path. (path_of path.text.now ≡ Some (spelled_path path.text.now)) × (path.count ≡ length (spelled_path path.text.now)) };
 }
 
-/// The pieces between the slashes, which are known to be legal names.
-fn keep_pieces(alloc: Global, bytes: &[u8]) -> Result<Vec<Name>, AllocError>
-    ensures { IfOk result (λ names. names.items ≡ pieces 47 bytes.now) }
-{
-    let mut names = Vec::new(alloc);
-    for piece in Pieces::of(bytes, b'/') {
-        let Ok(name) = Name::read(alloc, piece) else {
-            return Err(AllocError);
-        };
-        names.push(name)?;
-    }
-    Ok(names)
+/// A path that is kept, with its key. Contracts see the path.
+#[derive(Drop)]
+pub(crate) struct Kept {
+    pub(crate) path: Path,
+    pub(crate) key: PathKey,
 }
 
-/// The names of the path of an entry.
-fn keep_names(alloc: Global, text: &str) -> Result<Vec<Name>, AllocError>
+impl Model for Kept {
+    ghost use Rattle.std.specs.Prelude.{◌≡◌, List, ℕ};
+
+    ghost Value = { List (List ℕ) };
+
+    ghost view = { λ kept. kept.path };
+
+    ghost invariant = { λ kept. kept.key ≡ kept.path };
+}
+
+/// The key of the path of an entry.
+fn key_of(alloc: Global, text: &str) -> Result<PathKey, AllocError>
     requires { IsSome (entry_path_of text.now) }
-    ensures { IfOk result (λ names. entry_path_of text.now ≡ Some names.items) }
+    ensures { IfOk result (λ key. entry_path_of text.now ≡ Some key) }
 {
     match text.as_bytes().split_first() {
-        Some((_, rest)) => keep_pieces(alloc, rest),
-        None => Ok(Vec::new(alloc)),
+        Some((_, rest)) => PathKey::between_slashes(alloc, rest),
+        None => Ok(PathKey::root(alloc)),
     }
 }
 
@@ -80,24 +83,43 @@ impl<'a> PathText<'a> {
         self.count
     }
 
-    /// The names of the path.
-    pub(crate) fn keep(&self, alloc: Global) -> Result<Vec<Name>, AllocError>
-        ensures { IfOk result (λ names. names.items ≡ self.now) }
+    /// The path's key.
+    pub(crate) fn key(&self, alloc: Global) -> Result<PathKey, AllocError>
+        ensures { IfOk result (λ key. key ≡ self.now) }
     {
         if self.count == 0 {
-            return Ok(Vec::new(alloc));
+            return Ok(PathKey::root(alloc));
         }
-        keep_names(alloc, self.text)
+        key_of(alloc, self.text)
     }
 
-    /// The names of a path that may stand in a trace's tree, or in a directory of it. None of a longer
-    /// one, which takes no memory.
-    pub(crate) fn keep_short(&self, alloc: Global) -> Result<Option<Vec<Name>>, AllocError>
-        ensures { IfOk result (λ kept. MatchOption kept (TRACE_PATH_NAMES + 1 < length self.now) (λ names. names.items ≡ self.now)) }
+    /// Whether no path of a trace's tree, or of a directory of it, has so many names.
+    pub(crate) fn is_long(&self) -> bool
+        ensures { IsTrue result ↔ (TRACE_PATH_NAMES + 1 < length self.now) }
     {
-        if self.len() > TRACE_PATH_NAMES + 1 {
+        self.len() > TRACE_PATH_NAMES + 1
+    }
+
+    /// The key of a path that may stand in a trace's tree, or in a directory of it. None of a longer
+    /// one, which takes no memory.
+    pub(crate) fn short_key(&self, alloc: Global) -> Result<Option<PathKey>, AllocError>
+        ensures { IfOk result (λ key. MatchOption key (TRACE_PATH_NAMES + 1 < length self.now) (λ key. key ≡ self.now)) }
+    {
+        if self.is_long() {
             return Ok(None);
         }
-        Ok(Some(self.keep(alloc)?))
+        Ok(Some(self.key(alloc)?))
+    }
+
+    /// The same with the path.
+    pub(crate) fn keep_short(&self, alloc: Global) -> Result<Option<Kept>, AllocError>
+        ensures { IfOk result (λ kept. MatchOption kept (TRACE_PATH_NAMES + 1 < length self.now) (λ kept. kept ≡ self.now)) }
+    {
+        if self.is_long() {
+            return Ok(None);
+        }
+        let key = self.key(alloc)?;
+        let path = key.to_path(alloc)?;
+        Ok(Some(Kept { path, key }))
     }
 }

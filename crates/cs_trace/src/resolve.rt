@@ -1,4 +1,4 @@
-//! An operation's line in what stands: its names are judged, then kept, and then what it needs is asked.
+//! An operation's line in what stands: its paths are judged, then kept, and then what it needs is asked.
 ghost use Rattle.std.specs.Prelude.{◌≡◌, ◌≢◌, ◌<◌, ◌^◌, IfErr, IfOk, Ok, Err, length};
 ghost use Rattle.cs_trace.specs.Judging.{AreShort, IsPastNames, creat, fsync, legal, mkdir, rename, resolve, rmdir, truncate, unlink, write};
 ghost use Rattle.cs_trace.specs.Kept.{IsWithin};
@@ -58,11 +58,12 @@ fn creat(
     ensures fault { IfErr result (λ kind. kind ≢ Memory → creat state.now.paths state.now.made (length state.now.sizes.items) path.now (claims_of claims.now) ≡ Err kind) }
     ensures memory { IfErr result (λ kind. kind ≡ Memory → IsPastNames (creat state.now.paths state.now.made (length state.now.sizes.items) path.now (claims_of claims.now))) }
 {
-    let Some(names) = path.keep_short(alloc)? else {
+    let Some(kept) = path.keep_short(alloc)? else {
         return Err(TraceFaultKind::NoParent);
     };
+    let above = kept.key.parent(alloc)?;
     let file = state.sizes.len() as u32;
-    judge::creat(alloc, &state.paths, state.made, file, names, claims)
+    judge::creat(alloc, &state.paths, state.made, file, kept, &above, claims)
 }
 
 #[tactic(auto, using(crate::proofs::Past::nothing_above, crate::proofs::Past::past_mkdir))]
@@ -78,10 +79,11 @@ fn mkdir(
     ensures fault { IfErr result (λ kind. kind ≢ Memory → mkdir paths.now made path.now (claims_of claims.now) ≡ Err kind) }
     ensures memory { IfErr result (λ kind. kind ≡ Memory → IsPastNames (mkdir paths.now made path.now (claims_of claims.now))) }
 {
-    let Some(names) = path.keep_short(alloc)? else {
+    let Some(kept) = path.keep_short(alloc)? else {
         return Err(TraceFaultKind::NoParent);
     };
-    judge::mkdir(alloc, paths, made, names, claims)
+    let above = kept.key.parent(alloc)?;
+    judge::mkdir(alloc, paths, made, kept, &above, claims)
 }
 
 #[tactic(auto, using(crate::proofs::Past::nothing_at, crate::proofs::Past::past_unlink))]
@@ -91,10 +93,10 @@ fn unlink(alloc: Global, paths: &Standing, path: &PathText<'_>) -> Result<Operat
     ensures fault { IfErr result (λ kind. kind ≢ Memory → unlink paths.now path.now ≡ Err kind) }
     ensures memory { IfErr result (λ kind. kind ≡ Memory → IsPastNames (unlink paths.now path.now)) }
 {
-    let Some(names) = path.keep_short(alloc)? else {
+    let Some(kept) = path.keep_short(alloc)? else {
         return Err(TraceFaultKind::Missing);
     };
-    judge::unlink(paths, names)
+    judge::unlink(paths, kept)
 }
 
 #[tactic(auto, using(crate::proofs::Past::nothing_at, crate::proofs::Past::past_rmdir))]
@@ -104,10 +106,10 @@ fn rmdir(alloc: Global, paths: &Standing, path: &PathText<'_>) -> Result<Operati
     ensures fault { IfErr result (λ kind. kind ≢ Memory → rmdir paths.now path.now ≡ Err kind) }
     ensures memory { IfErr result (λ kind. kind ≡ Memory → IsPastNames (rmdir paths.now path.now)) }
 {
-    let Some(names) = path.keep_short(alloc)? else {
+    let Some(kept) = path.keep_short(alloc)? else {
         return Err(TraceFaultKind::Missing);
     };
-    judge::rmdir(paths, names)
+    judge::rmdir(paths, kept)
 }
 
 #[tactic(auto, using(crate::proofs::Past::nothing_at, crate::proofs::Past::past_write))]
@@ -123,10 +125,10 @@ fn write(
     ensures fault { IfErr result (λ kind. kind ≢ Memory → write state.now.paths state.now.sizes.items path.now offset bytes.now ≡ Err kind) }
     ensures memory { IfErr result (λ kind. kind ≡ Memory → IsPastNames (write state.now.paths state.now.sizes.items path.now offset bytes.now)) }
 {
-    let Some(names) = path.keep_short(alloc)? else {
+    let Some(key) = path.short_key(alloc)? else {
         return Err(TraceFaultKind::Missing);
     };
-    judge::write(alloc, &state.paths, &state.sizes, &names, offset, bytes)
+    judge::write(alloc, &state.paths, &state.sizes, &key, offset, bytes)
 }
 
 #[tactic(auto, using(crate::proofs::Past::nothing_at, crate::proofs::Past::past_truncate))]
@@ -141,10 +143,10 @@ fn truncate(
     ensures fault { IfErr result (λ kind. kind ≢ Memory → truncate state.now.paths state.now.sizes.items path.now length ≡ Err kind) }
     ensures memory { IfErr result (λ kind. kind ≡ Memory → IsPastNames (truncate state.now.paths state.now.sizes.items path.now length)) }
 {
-    let Some(names) = path.keep_short(alloc)? else {
+    let Some(key) = path.short_key(alloc)? else {
         return Err(TraceFaultKind::Missing);
     };
-    judge::truncate(&state.paths, &state.sizes, &names, length)
+    judge::truncate(&state.paths, &state.sizes, &key, length)
 }
 
 #[tactic(auto, using(crate::proofs::Past::nothing_at, crate::proofs::Past::past_fsync))]
@@ -154,10 +156,10 @@ fn fsync(alloc: Global, paths: &Standing, path: &PathText<'_>) -> Result<Operati
     ensures fault { IfErr result (λ kind. kind ≢ Memory → fsync paths.now path.now ≡ Err kind) }
     ensures memory { IfErr result (λ kind. kind ≡ Memory → IsPastNames (fsync paths.now path.now)) }
 {
-    let Some(names) = path.keep_short(alloc)? else {
+    let Some(kept) = path.keep_short(alloc)? else {
         return Err(TraceFaultKind::Missing);
     };
-    judge::fsync(paths, names)
+    judge::fsync(paths, kept)
 }
 
 #[tactic(auto, using(crate::proofs::Past::nothing_at, crate::proofs::Past::nothing_above, crate::proofs::Past::past_rename))]
@@ -172,13 +174,14 @@ fn rename(
     ensures fault { IfErr result (λ kind. kind ≢ Memory → rename paths.now from.now to.now ≡ Err kind) }
     ensures memory { IfErr result (λ kind. kind ≡ Memory → IsPastNames (rename paths.now from.now to.now)) }
 {
-    let Some(names) = from.keep_short(alloc)? else {
+    let Some(from) = from.keep_short(alloc)? else {
         return Err(TraceFaultKind::Missing);
     };
-    let Some(new_names) = to.keep_short(alloc)? else {
-        return judge::rename_far(paths, &names);
+    let Some(to) = to.keep_short(alloc)? else {
+        return judge::rename_far(paths, &from.key);
     };
-    judge::rename(paths, names, new_names)
+    let above = to.key.parent(alloc)?;
+    judge::rename(paths, from, to, &above)
 }
 
 /// The operation of a line where the state stands, or its first fault.

@@ -3,8 +3,8 @@ ghost use Rattle.std.specs.Prelude.{◌≡◌, OnOk};
 ghost use Rattle.std.specs.FinMap as map;
 ghost use Rattle.cs_trace.specs.Below.{has_below};
 
+use crate::key::PathKey;
 use crate::operation::Node;
-use cs_names::Name;
 use std::alloc::{AllocError, Global};
 use std::collections::BTreeMap;
 use std::marker::Model;
@@ -13,7 +13,7 @@ use std::ops::Bound;
 /// What stands at each path. Contracts see a finite map, in the order of paths.
 #[derive(Drop)]
 pub(crate) struct Standing {
-    by_names: BTreeMap<Vec<Name>, Node>,
+    by_path: BTreeMap<PathKey, Node>,
 }
 
 impl Model for Standing {
@@ -21,13 +21,12 @@ impl Model for Standing {
     ghost use Rattle.std.specs.Coded.{coded_list, coded_ℕ};
     ghost use Rattle.cs_trace.specs.Below as model;
     ghost use Rattle.cs_trace.specs.Operations.{Paths};
-    ghost use Rattle.cs_trace.specs.Keys.{by_path};
 
     ghost Value = { Paths };
 
     ghost coded = { model.paths_code };
 
-    ghost view = { λ standing. map.from_entries (by_path standing.by_names.entries) };
+    ghost view = { λ standing. map.from_entries standing.by_path.entries };
 }
 
 impl Standing {
@@ -35,42 +34,42 @@ impl Standing {
         ensures { result ≡ map.empty }
     {
         Standing {
-            by_names: BTreeMap::new(alloc),
+            by_path: BTreeMap::new(alloc),
         }
     }
 
-    /// What stands at the path with these names. It takes no memory.
-    pub(crate) fn get(&self, names: &[Name]) -> Option<Node>
-        ensures { result ≡ map.get self.now names.now }
+    /// What stands at the path. It takes no memory.
+    pub(crate) fn get(&self, path: &PathKey) -> Option<Node>
+        ensures { result ≡ map.get self.now path.now }
     {
-        self.by_names.get(names).copied()
+        self.by_path.get(path).copied()
     }
 
     /// Whether something stands below the path: it would come right after it. It takes no memory.
-    pub(crate) fn has_below(&self, names: &Vec<Name>) -> bool
-        ensures { result ≡ has_below self.now names.now.items }
+    pub(crate) fn has_below(&self, path: &PathKey) -> bool
+        ensures { result ≡ has_below self.now path.now }
     {
         match self
-            .by_names
-            .range((Bound::Excluded(names), Bound::Unbounded))
+            .by_path
+            .range((Bound::Excluded(path), Bound::Unbounded))
             .next()
         {
             None => false,
-            Some((next, _)) => next.as_slice().starts_with(names.as_slice()),
+            Some((next, _)) => next.begins_with(path),
         }
     }
 
-    pub(crate) fn insert(&mut self, names: Vec<Name>, node: Node) -> Result<(), AllocError>
-        ensures { OnOk result (self.new ≡ map.insert self.old names.items node) }
+    pub(crate) fn insert(&mut self, path: PathKey, node: Node) -> Result<(), AllocError>
+        ensures { OnOk result (self.new ≡ map.insert self.old path node) }
     {
-        self.by_names.insert(names, node)?;
+        self.by_path.insert(path, node)?;
         Ok(())
     }
 
     /// Nothing stands at the path any more.
-    pub(crate) fn remove(&mut self, names: &[Name])
-        ensures { self.new ≡ map.remove self.old names.now }
+    pub(crate) fn remove(&mut self, path: &PathKey)
+        ensures { self.new ≡ map.remove self.old path.now }
     {
-        self.by_names.remove(names);
+        self.by_path.remove(path);
     }
 }

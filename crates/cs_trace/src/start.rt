@@ -1,5 +1,6 @@
 //! The header and the start lines, each where the state stands.
 ghost use Rattle.std.specs.Prelude.{◌≡◌, ◌≢◌, ◌<◌, ◌^◌, IfErr, IfOk, IsOk, OnOk, None, Ok, Err, length};
+ghost use Rattle.cs_tree_model.specs.Tree.{parent_path};
 ghost use Rattle.cs_trace.specs.Entries.{size_of};
 ghost use Rattle.cs_trace.specs.Judging.{IsPastNames};
 ghost use Rattle.cs_trace.specs.Kept.{IsBounded, state_of};
@@ -12,13 +13,13 @@ use crate::digits::Digits;
 use crate::entry::Entry;
 use crate::fault::TraceFaultKind;
 use crate::judge::{check_free, is_too_much};
+use crate::key::PathKey;
 use crate::line::{Claims, StartLine};
 use crate::names::are_user_names;
 use crate::operation::Rights;
 use crate::resolve::new_path;
-use crate::state::{State, copied};
+use crate::state::State;
 use cs_names::limits::FILE_BYTES;
-use cs_names::{Name, Path};
 use cs_tree_model::{Content, Kind};
 use std::alloc::{AllocError, Global};
 
@@ -57,38 +58,40 @@ fn keep_entry(
 }
 
 /// One entry more at the start.
-fn place(alloc: Global, state: &mut State, names: Vec<Name>, entry: Entry) -> Result<(), AllocError>
+fn place(alloc: Global, state: &mut State, path: PathKey, entry: Entry) -> Result<(), AllocError>
     requires { state.old.made < 2 ^ 32 }
-    ensures { OnOk result (state_of state.new ≡ with_entry (state_of state.old) names.items entry entry.content) }
+    ensures { OnOk result (state_of state.new ≡ with_entry (state_of state.old) path entry entry.content) }
 {
     if let Kind::File { length } = entry.content.kind() {
-        state.files.push(Path::from_names(copied(alloc, &names)?))?;
+        state.files.push(path.to_path(alloc)?)?;
         state.sizes.push(length)?;
     }
-    state.paths.insert(copied(alloc, &names)?, entry.node())?;
-    state.start.insert(names, entry)?;
+    state.paths.insert(path.try_clone()?, entry.node())?;
+    state.start.insert(path, entry)?;
     state.made += 1;
     Ok(())
 }
 
-/// One entry more at the path with these names. Memory is wanted only where there is no fault.
+/// One entry more at the path, in the directory above. Memory is wanted only where there is no fault.
 fn start_at(
     alloc: Global,
     state: &mut State,
-    names: Vec<Name>,
+    path: PathKey,
+    above: &PathKey,
     line: &StartLine<'_>,
 ) -> Result<(), TraceFaultKind>
-    requires { IsBounded (state_of state.old) }
-    ensures done { OnOk result (start_at (state_of state.old) names.items (claims_of line.now.claims) line.now.content ≡ Ok (state_of state.new)) }
-    ensures fault { IfErr result (λ kind. kind ≢ Memory → start_at (state_of state.old) names.items (claims_of line.now.claims) line.now.content ≡ Err kind) }
-    ensures memory { IfErr result (λ kind. kind ≡ Memory → IsOk (start_at (state_of state.old) names.items (claims_of line.now.claims) line.now.content)) }
+    requires bounded { IsBounded (state_of state.old) }
+    requires above { above.now ≡ parent_path path }
+    ensures done { OnOk result (start_at (state_of state.old) path (claims_of line.now.claims) line.now.content ≡ Ok (state_of state.new)) }
+    ensures fault { IfErr result (λ kind. kind ≢ Memory → start_at (state_of state.old) path (claims_of line.now.claims) line.now.content ≡ Err kind) }
+    ensures memory { IfErr result (λ kind. kind ≡ Memory → IsOk (start_at (state_of state.old) path (claims_of line.now.claims) line.now.content)) }
 {
-    check_free(&state.paths, &names)?;
-    if is_too_much(state.made, &names) || size_of(&line.content) > FILE_BYTES {
+    check_free(&state.paths, above, &path)?;
+    if is_too_much(state.made, &path) || size_of(&line.content) > FILE_BYTES {
         return Err(TraceFaultKind::TooLarge);
     }
     let entry = keep_entry(alloc, state, &line.claims, &line.content)?;
-    place(alloc, state, names, entry)?;
+    place(alloc, state, path, entry)?;
     Ok(())
 }
 
@@ -105,10 +108,11 @@ pub(crate) fn take_start(
     ensures memory { IfErr result (λ kind. kind ≡ Memory → IsPastNames (start_step (state_of state.old) (start_of line.now))) }
 {
     let path = new_path(line.path, &line.claims)?;
-    let Some(names) = path.keep_short(alloc)? else {
+    let Some(key) = path.short_key(alloc)? else {
         return Err(TraceFaultKind::NoParent);
     };
-    start_at(alloc, state, names, line)
+    let above = key.parent(alloc)?;
+    start_at(alloc, state, key, &above, line)
 }
 
 /// The first line that isn't blank: the header gives the root.
@@ -126,6 +130,6 @@ pub(crate) fn take_header(
         return Err(TraceFaultKind::BadName);
     }
     let root = keep_entry(alloc, state, claims, &None)?;
-    place(alloc, state, Vec::new(alloc), root)?;
+    place(alloc, state, PathKey::root(alloc), root)?;
     Ok(())
 }

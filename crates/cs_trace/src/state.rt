@@ -6,9 +6,10 @@ ghost use Rattle.cs_trace.specs.Operations.{made_by, paths_after, sizes_after, w
 ghost use Rattle.cs_trace.specs.States.{nothing, taken};
 
 use crate::entries::Entries;
+use crate::key::PathKey;
 use crate::operation::{Bytes, Node, Operation};
 use crate::standing::Standing;
-use cs_names::{Name, Path};
+use cs_names::Path;
 use std::alloc::{AllocError, Global};
 
 /// What the lines so far leave.
@@ -27,26 +28,16 @@ pub(crate) struct State {
     pub(crate) operations: Vec<Operation>,
 }
 
-/// The same names again.
-pub(crate) fn copied(alloc: Global, names: &[Name]) -> Result<Vec<Name>, AllocError>
-    ensures { IfOk result (λ copy. copy.items ≡ names.now) }
-{
-    let mut copy = Vec::new(alloc);
-    for name in names {
-        copy.push(name.try_clone()?)?;
-    }
-    Ok(copy)
-}
-
 /// What stands after a file's entry was moved.
 fn rename(alloc: Global, paths: &mut Standing, from: &Path, to: &Path) -> Result<(), AllocError>
     ensures { OnOk result (paths.new ≡ paths_after paths.old (Operation.Rename from.now to.now)) }
 {
-    let Some(node) = paths.get(from.names()) else {
+    let from = PathKey::of(alloc, from)?;
+    let Some(node) = paths.get(&from) else {
         return Ok(());
     };
-    paths.remove(from.names());
-    paths.insert(copied(alloc, to.names())?, node)
+    paths.remove(&from);
+    paths.insert(PathKey::of(alloc, to)?, node)
 }
 
 /// What stands after the operation.
@@ -55,12 +46,14 @@ fn move_paths(alloc: Global, paths: &mut Standing, operation: &Operation) -> Res
 {
     match operation {
         Operation::Creat { path, file, .. } => {
-            paths.insert(copied(alloc, path.names())?, Node::File(*file))?;
+            paths.insert(PathKey::of(alloc, path)?, Node::File(*file))?;
         }
         Operation::Mkdir { path, .. } => {
-            paths.insert(copied(alloc, path.names())?, Node::Directory)?;
+            paths.insert(PathKey::of(alloc, path)?, Node::Directory)?;
         }
-        Operation::Unlink { path } | Operation::Rmdir { path } => paths.remove(path.names()),
+        Operation::Unlink { path } | Operation::Rmdir { path } => {
+            paths.remove(&PathKey::of(alloc, path)?);
+        }
         Operation::Rename { from, to } => rename(alloc, paths, from, to)?,
         Operation::Write { .. }
         | Operation::Truncate { .. }

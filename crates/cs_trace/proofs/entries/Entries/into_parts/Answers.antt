@@ -4,20 +4,19 @@ use Rattle.cs_tree_model.specs.Fresh.{numbered}
 use Rattle.cs_tree_model.specs.Maps.Values.{map_entries, entries-map_values}
 use Rattle.cs_tree_model.specs.Tree.{path_cmp}
 use Rattle.cs_trace.specs.Entries.{node_of, record_of}
-use Rattle.cs_trace.specs.Keys.{by_path}
-use Rattle.cs_trace.proofs.Views.{entries-by_path}
+use Rattle.cs_trace.proofs.Views.{entries-keyed}
 use Rattle.cs_trace.proofs.entries.Entries.into_parts.Goals as goal
 
-pub loop-names-init : goal.loop-names-init
-loop-names-init c =
-    let gives = c.into_iter-names-iterator.ensures.into_iter_gives in
-    let same = sym (entries-by_path _ gives.5) ∙ ap map.entries c.self.view_is in
+pub loop-path-init : goal.loop-path-init
+loop-path-init c =
+    let gives = c.into_iter-path-iterator.ensures.into_iter_gives in
+    let same = sym (entries-keyed _ gives.5) ∙ ap map.entries c.self.view_is in
     record {
       records =
-          (λ i. c.new-records.ensures.items i ++ numbered (length (c.new-records.ensures.items i)) (map_entries record_of (by_path (gives.0 i))))
+          (λ i. c.new-records.ensures.items i ++ numbered (length (c.new-records.ensures.items i)) (map_entries record_of (gives.0 i)))
           ∙ ap (λ es. numbered 0 (map_entries record_of es)) same
           ∙ ap (numbered 0) (sym (entries-map_values path_cmp record_of c.args.self));
       nodes =
-          (λ i. c.new-nodes.ensures.items i ++ map (λ e. node_of e.1) (by_path (gives.0 i)))
+          (λ i. c.new-nodes.ensures.items i ++ map (λ e. node_of e.1) (gives.0 i))
           ∙ ap (λ es. map (λ e. node_of e.1) es) same;
     }

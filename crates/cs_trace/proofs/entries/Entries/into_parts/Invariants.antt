@@ -2,11 +2,10 @@ use Rattle.std.proofs.Common.{◌≡◌, ◌++◌, length, map}
 use Rattle.cs_tree_model.specs.Fresh.{numbered}
 use Rattle.cs_tree_model.specs.Maps.Values.{map_entries}
 use Rattle.cs_trace.specs.Entries.{node_of, nodes_in, record_of, records_in}
-use Rattle.cs_trace.specs.Keys.{by_path}
 use Rattle.cs_trace.proofs.entries.Entries.into_parts.Given as goal
 
-abbrev pub invariant-loop-names : goal.invariant-loop-names
-invariant-loop-names l = record {
-  records : l.records.items ++ numbered (length l.records.items) (map_entries record_of (by_path l.names-iterator)) ≡ records_in l.fn.self;
-  nodes : l.nodes.items ++ map (λ e. node_of e.1) (by_path l.names-iterator) ≡ nodes_in l.fn.self;
+abbrev pub invariant-loop-path : goal.invariant-loop-path
+invariant-loop-path l = record {
+  records : l.records.items ++ numbered (length l.records.items) (map_entries record_of l.path-iterator) ≡ records_in l.fn.self;
+  nodes : l.nodes.items ++ map (λ e. node_of e.1) l.path-iterator ≡ nodes_in l.fn.self;
 }

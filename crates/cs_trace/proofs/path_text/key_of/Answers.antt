@@ -3,7 +3,7 @@ use Rattle.std.proofs.lemmas.Result.{IfOk-weaker}
 use Rattle.cs_names.specs.Pieces.{pieces}
 use Rattle.cs_trace.specs.Names.{entry_path_of}
 use Rattle.cs_trace.proofs.Legal.{entry_path_of-pieces}
-use Rattle.cs_trace.proofs.path_text.keep_names.Goals as goal
+use Rattle.cs_trace.proofs.path_text.key_of.Goals as goal
 
 kept : (text : List ℕ) (c : ℕ) (rest : List ℕ) → text ≡ (c ∷ rest) → IsSome (entry_path_of text) → entry_path_of text ≡ Some (pieces 47 rest)
 kept text c rest is some =
@@ -13,4 +13,4 @@ kept text c rest is some =
 pub returns-in-Some : goal.returns-in-Some
 returns-in-Some c =
     let path = kept c.args.text.now _ _ (sym c.as_bytes.ensures.value ∙ c.in-Some.ensures.cases.0) c.requires in
-    IfOk-weaker c.keep_pieces.result _ _ (λ names are. path ∙ ap Some (sym are)) c.keep_pieces.ensures
+    IfOk-weaker c.between_slashes.result _ _ (λ key are. path ∙ ap Some (sym are)) c.between_slashes.ensures
