@@ -54,9 +54,14 @@ fn take_line(alloc: Global, state: &mut State, line: &Line<'_>) -> Result<(), Tr
     }
 }
 
-/// One line more.
+/// One line more. What `scratch` holds of the line before is written over.
 #[tactic(auto, unfolding(crate::specs::Lines::line_in))]
-fn take(alloc: Global, state: &mut State, text: &str) -> Result<(), TraceFaultKind>
+fn take(
+    alloc: Global,
+    state: &mut State,
+    text: &str,
+    scratch: &mut Scratch,
+) -> Result<(), TraceFaultKind>
     requires { IsBounded (state_of state.old) }
     ensures done { OnOk result (step (state_of state.old) text.now ≡ Ok (state_of state.new)) }
     ensures fault { IfErr result (λ kind. kind ≢ Memory → step (state_of state.old) text.now ≡ Err kind) }
@@ -65,8 +70,7 @@ fn take(alloc: Global, state: &mut State, text: &str) -> Result<(), TraceFaultKi
     if is_blank(text) {
         return Ok(());
     }
-    let mut scratch = Scratch::new(alloc);
-    let Some(fields) = fields_in(text, &mut scratch)? else {
+    let Some(fields) = fields_in(text, scratch)? else {
         return Err(TraceFaultKind::Syntax);
     };
     let Some(line) = line_of(&fields) else {
@@ -82,8 +86,9 @@ pub(crate) fn take_lines(alloc: Global, text: &str) -> Result<State, TraceFault>
     ensures memory { IfErr result (λ fault. fault.kind ≡ Memory → MayWant (lines_in text.now) fault.line) }
 {
     let mut state = State::new(alloc);
+    let mut scratch = Scratch::new(alloc);
     for (i, line) in text.split('\n').enumerate() {
-        if let Err(kind) = take(alloc, &mut state, line) {
+        if let Err(kind) = take(alloc, &mut state, line, &mut scratch) {
             return Err(TraceFault { line: i + 1, kind });
         }
     }
