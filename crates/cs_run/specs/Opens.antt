@@ -1,8 +1,21 @@
 -- The opens of a run: each has a number and the pass that made it.
-use Rattle.std.specs.Prelude.{ℕ, ◌==◌, ◌&&◌, Bool, List, Option, None, Some, option_and_then, slice_get, remove}
+use Rattle.std.specs.Prelude.{ℕ, ◌<◌, ◌==◌, ◌&&◌, Bool, List, Option, None, Some, option_and_then, slice_get, remove}
 use Rattle.std.specs.Option.{option_map_or}
-use Rattle.std.specs.List.{position}
+use Rattle.std.specs.List.{All, AllPairs, position}
 use Rattle.cs_permit.specs.declared.call.OpenFile.{OpenFile}
+
+-- the opens, and how many more there is room for
+pub record OpensKept : Type 0 where
+  pub items : List OpenFile
+  pub room : ℕ
+
+-- each has a greater number than those before it
+abbrev pub IsAscending : List OpenFile → Type 0
+IsAscending opens = AllPairs (λ one later. one.number < later.number) opens
+
+-- this number is above all of theirs
+abbrev pub AreBelow : ℕ → List OpenFile → Type 0
+AreBelow n opens = All (λ o. o.number < n) opens
 
 -- it has the number, and the pass made it
 abbrev pub is_open : ℕ → ℕ → OpenFile → Bool

@@ -5,7 +5,7 @@ ghost use Rattle.cs_permit.specs.Refusals.{AllPass};
 ghost use Rattle.cs_run.specs.Effects.{effect_of, left};
 ghost use Rattle.cs_run.specs.Laws.{FitsCall};
 ghost use Rattle.cs_run.specs.Marks.{CallMark};
-ghost use Rattle.cs_run.specs.Opens.{released_if};
+ghost use Rattle.cs_run.specs.Opens.{AreBelow, released_if};
 ghost use Rattle.cs_run.specs.Outcomes.{closes, outcome, stepped, takes_memory};
 ghost use Rattle.cs_tree_model.specs.Stores.{CanStamp};
 
@@ -13,7 +13,7 @@ use crate::answer::{Answer, Outcome};
 use crate::closing::act_close;
 use crate::creating::act_create;
 use crate::opening::act_open;
-use crate::opens::release_if;
+use crate::opens::Opens;
 use crate::reading::read;
 use crate::removing::act_remove;
 use crate::stating::act_stat;
@@ -21,7 +21,7 @@ use crate::turn::Turn;
 use crate::walking::{act_walk, walk};
 use crate::writing::act_write;
 use crate::wstating::act_wstat;
-use cs_permit::{Call, OpenFile, first_failing, first_rule_that_fails, qid_at};
+use cs_permit::{Call, first_failing, first_rule_that_fails, qid_at};
 use cs_tree_model::TreeStore;
 use cs_users::Users;
 use std::alloc::{AllocError, Global};
@@ -31,13 +31,14 @@ fn grant<T: TreeStore>(
     alloc: Global,
     call: &Call,
     tree: &mut T,
-    opens: &mut Vec<OpenFile>,
+    opens: &mut Opens,
     users: &Users,
     turn: Turn,
 ) -> Result<Answer, AllocError>
     requires granted { AllPass (rules_of (state (T.tree tree.old) opens.old.items users.now) call.now) }
     requires vers { (n : ℕ) → CanStamp (T.tree tree.old) n }
     requires next { (T.tree tree.old).next < 2 ^ 64 }
+    requires above { AreBelow turn.place opens.old.items }
     ensures ok { IfOk result (λ answer. left (T.tree tree.new) opens.new.items answer ≡ effect_of (state (T.tree tree.old) opens.old.items users.now) turn call.now) }
     ensures memory { OnErr result (takes_memory (state (T.tree tree.old) opens.old.items users.now) turn call.now ≡ true) }
     ensures err { OnErr result ((T.tree tree.new ≡ T.tree tree.old) × (opens.new.items ≡ released_if (closes call.now) turn.pass opens.old.items)) }
@@ -82,17 +83,18 @@ fn act_by_rules<T: TreeStore>(
     alloc: Global,
     call: &Call,
     tree: &mut T,
-    opens: &mut Vec<OpenFile>,
+    opens: &mut Opens,
     users: &Users,
     turn: Turn,
 ) -> (Outcome, Answer)
     requires vers { (n : ℕ) → CanStamp (T.tree tree.old) n }
     requires next { (T.tree tree.old).next < 2 ^ 64 }
+    requires above { AreBelow turn.place opens.old.items }
     ensures step { (mark : CallMark) × ((result.0 ≡ outcome (state (T.tree tree.old) opens.old.items users.now) turn call.now mark) × (left (T.tree tree.new) opens.new.items result.1 ≡ stepped (state (T.tree tree.old) opens.old.items users.now) turn call.now mark)) }
     ensures fits { FitsCall call.now result.1 }
 {
     if let Some(rule) = first_failing(call, tree, opens.as_slice(), users) {
-        release_if(opens, closes(call), turn.pass);
+        opens.release_if(closes(call), turn.pass);
         return (Outcome::Denied(rule), Answer::Denied(rule));
     }
     first_rule_that_fails();
@@ -110,12 +112,13 @@ pub fn act<T: TreeStore>(
     alloc: Global,
     call: &Call,
     tree: &mut T,
-    opens: &mut Vec<OpenFile>,
+    opens: &mut Opens,
     users: &Users,
     turn: Turn,
 ) -> (Outcome, Answer)
     requires vers { (n : ℕ) → CanStamp (T.tree tree.old) n }
     requires next { (T.tree tree.old).next < 2 ^ 64 }
+    requires above { AreBelow turn.place opens.old.items }
     ensures step { (mark : CallMark) × ((result.0 ≡ outcome (state (T.tree tree.old) opens.old.items users.now) turn call.now mark) × (left (T.tree tree.new) opens.new.items result.1 ≡ stepped (state (T.tree tree.old) opens.old.items users.now) turn call.now mark)) }
     ensures fits { FitsCall call.now result.1 }
 {

@@ -6,7 +6,7 @@ ghost use Rattle.cs_tree_model.specs.Stores.{CanStamp};
 ghost use Rattle.cs_tree_model.specs.Tree.{IsTree};
 
 use crate::answer::Answer;
-use crate::opens::release;
+use crate::opens::Opens;
 use crate::turn::{Turn, stamp_of};
 use crate::writing::has_bytes;
 use cs_permit::mode::removes_on_close;
@@ -53,7 +53,7 @@ pub fn act_close<T: TreeStore>(
     alloc: Global,
     call: &CloseCall,
     tree: &mut T,
-    opens: &mut Vec<OpenFile>,
+    opens: &mut Opens,
     turn: Turn,
 ) -> Result<Answer, AllocError>
     requires { (n : ℕ) → CanStamp (T.tree tree.old) n }
@@ -61,7 +61,7 @@ pub fn act_close<T: TreeStore>(
     ensures memory { OnErr result (removes (T.tree tree.old) (open_numbered call.now.open_number turn.pass opens.old.items) ≡ true) }
     ensures err { OnErr result ((T.tree tree.new ≡ T.tree tree.old) × (opens.new.items ≡ released call.now.open_number turn.pass opens.old.items)) }
 {
-    let closed = release(opens, call.open_number, turn.pass);
+    let closed = opens.release(call.open_number, turn.pass);
     remove_closed(alloc, call, tree, closed, turn)?;
     Ok(Answer::Closed)
 }

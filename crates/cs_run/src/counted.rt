@@ -1,8 +1,9 @@
 //! A run without a journal: a tree, its opens and the users, on which calls are made in turn.
 ghost use Rattle.std.specs.Prelude.{◌+◌};
 ghost use Rattle.cs_run.specs.Laws.{AllVersBelow};
+ghost use Rattle.cs_run.specs.Opens.{AreBelow};
 
-use cs_permit::OpenFile;
+use crate::opens::Opens;
 use cs_tree_model::TreeStore;
 use cs_users::Users;
 
@@ -11,9 +12,10 @@ use cs_users::Users;
 #[derive(Drop)]
 pub struct CountedRun<T: TreeStore + Drop> {
     pub(crate) tree: T,
-    pub(crate) opens: Vec<OpenFile>,
+    pub(crate) opens: Opens,
     pub(crate) users: Users,
     /// The greatest version at the start, and the calls made since.
     pub(crate) count: u32,
     ghost bounded: { AllVersBelow (count + 1) (T.TreeRead.tree tree) },
+    ghost below: { AreBelow count opens.items },
 }

@@ -11,6 +11,7 @@ use crate::acting::act;
 use crate::answer::{Answer, Outcome};
 use crate::counted::CountedRun;
 use crate::laws::{calls_raise_by_one, versions_can_grow};
+use crate::opens::Opens;
 use crate::turn::Turn;
 use cs_permit::Call;
 use cs_tree_model::{TreeRead, TreeStore};
@@ -52,7 +53,7 @@ impl<T: TreeStore + Drop> CountedRun<T> {
         let count = greatest_version(&tree);
         CountedRun {
             tree,
-            opens: Vec::new(alloc),
+            opens: Opens::new(alloc),
             users,
             count,
         }

@@ -3,9 +3,11 @@ ghost use Rattle.std.specs.Prelude.{◌≡◌, ◌<◌, ◌^◌, IfOk, OnOk, OnE
 ghost use Rattle.cs_permit.specs.Creates.{create_rules};
 ghost use Rattle.cs_permit.specs.Refusals.{AllPass};
 ghost use Rattle.cs_run.specs.Effects.{all_but, create_effect, created_mode, created_tree, left, mode_at, new_file};
+ghost use Rattle.cs_run.specs.Opens.{AreBelow};
 ghost use Rattle.cs_tree_model.specs.Stores.{CanStamp};
 
 use crate::answer::Answer;
+use crate::opens::Opens;
 use crate::turn::{Turn, stamp_of};
 use cs_permit::{CreateCall, OpenFile, qid_at};
 use cs_tree_model::{New, TreeRead, TreeStore, is_directory_mode};
@@ -66,17 +68,18 @@ pub fn act_create<T: TreeStore>(
     alloc: Global,
     call: &CreateCall,
     tree: &mut T,
-    opens: &mut Vec<OpenFile>,
+    opens: &mut Opens,
     users: &Users,
     turn: Turn,
 ) -> Result<Answer, AllocError>
     requires granted { AllPass (create_rules (T.tree tree.old) users.now call.now) }
     requires vers { CanStamp (T.tree tree.old) call.now.number }
     requires next { (T.tree tree.old).next < 2 ^ 64 }
+    requires above { AreBelow turn.place opens.old.items }
     ensures ok { IfOk result (λ answer. left (T.tree tree.new) opens.new.items answer ≡ create_effect (T.tree tree.old) opens.old.items turn call.now) }
     ensures err { OnErr result ((T.tree tree.new ≡ T.tree tree.old) × (opens.new.items ≡ opens.old.items)) }
 {
-    opens.reserve(1)?;
+    opens.reserve()?;
     let number = add_created(alloc, call, tree, users, turn)?;
     let open = OpenFile {
         number: turn.place,
@@ -84,7 +87,7 @@ pub fn act_create<T: TreeStore>(
         mode: call.mode,
         pass: turn.pass,
     };
-    opens.push_reserved(open);
+    opens.add(open);
     Ok(Answer::Opened {
         qid: qid_at(tree, number),
         open_number: turn.place,

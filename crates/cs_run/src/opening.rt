@@ -3,9 +3,11 @@ ghost use Rattle.std.specs.Prelude.{◌≡◌, ◌<◌, ◌^◌, IfOk, OnOk, OnE
 ghost use Rattle.cs_permit.specs.Opens.{open_rules};
 ghost use Rattle.cs_permit.specs.Refusals.{AllPass};
 ghost use Rattle.cs_run.specs.Effects.{emptying, empties, left, open_effect, opened_tree};
+ghost use Rattle.cs_run.specs.Opens.{AreBelow};
 ghost use Rattle.cs_tree_model.specs.Stores.{CanStamp};
 
 use crate::answer::Answer;
+use crate::opens::Opens;
 use crate::turn::{Turn, stamp_of};
 use cs_permit::mode::truncates;
 use cs_permit::rules::is_append_only;
@@ -67,16 +69,17 @@ pub fn act_open<T: TreeStore>(
     alloc: Global,
     call: &OpenCall,
     tree: &mut T,
-    opens: &mut Vec<OpenFile>,
+    opens: &mut Opens,
     users: &Users,
     turn: Turn,
 ) -> Result<Answer, AllocError>
     requires granted { AllPass (open_rules (T.tree tree.old) opens.old.items users.now call.now) }
     requires vers { CanStamp (T.tree tree.old) call.now.number }
+    requires above { AreBelow turn.place opens.old.items }
     ensures ok { IfOk result (λ answer. left (T.tree tree.new) opens.new.items answer ≡ open_effect (T.tree tree.old) opens.old.items turn call.now) }
     ensures err { OnErr result ((T.tree tree.new ≡ T.tree tree.old) × (opens.new.items ≡ opens.old.items)) }
 {
-    opens.reserve(1)?;
+    opens.reserve()?;
     empty_opened(alloc, call, tree, opens.as_slice(), users, turn)?;
     let open = OpenFile {
         number: turn.place,
@@ -84,7 +87,7 @@ pub fn act_open<T: TreeStore>(
         mode: call.mode,
         pass: turn.pass,
     };
-    opens.push_reserved(open);
+    opens.add(open);
     Ok(Answer::Opened {
         qid: qid_at(tree, call.number),
         open_number: turn.place,

@@ -7,9 +7,9 @@ ghost use Rattle.cs_run.specs.Opens.{released_if};
 ghost use Rattle.cs_tree_model.specs.Stores.{CanStampParent, removed};
 
 use crate::answer::Answer;
-use crate::opens::release_if;
+use crate::opens::Opens;
 use crate::turn::{Turn, stamp_of};
-use cs_permit::{OpenFile, RemoveCall, first_entry_tells};
+use cs_permit::{RemoveCall, first_entry_tells};
 use cs_tree_model::TreeStore;
 use cs_users::Users;
 use std::alloc::{AllocError, Global};
@@ -38,7 +38,7 @@ pub fn act_remove<T: TreeStore>(
     alloc: Global,
     call: &RemoveCall,
     tree: &mut T,
-    opens: &mut Vec<OpenFile>,
+    opens: &mut Opens,
     users: &Users,
     turn: Turn,
 ) -> Result<Answer, AllocError>
@@ -47,7 +47,7 @@ pub fn act_remove<T: TreeStore>(
     ensures ok { IfOk result (λ answer. left (T.tree tree.new) opens.new.items answer ≡ remove_effect (T.tree tree.old) opens.old.items turn call.now) }
     ensures err { OnErr result ((T.tree tree.new ≡ T.tree tree.old) × (opens.new.items ≡ released_if call.now.open_number turn.pass opens.old.items)) }
 {
-    release_if(opens, call.open_number, turn.pass);
+    opens.release_if(call.open_number, turn.pass);
     remove_file(alloc, call, tree, users, turn)?;
     Ok(Answer::Removed)
 }

@@ -7,9 +7,10 @@ ghost use Rattle.cs_tree_model.specs.Stores.{CanStamp};
 ghost use Rattle.cs_tree_model.specs.Tree.{IsTree, content_numbered};
 
 use crate::answer::Answer;
+use crate::opens::Opens;
 use crate::turn::{Turn, stamp_of};
 use cs_permit::rules::{is_append_only, is_directory};
-use cs_permit::{OpenFile, WriteCall, told_length};
+use cs_permit::{WriteCall, told_length};
 use cs_tree_model::{TreeRead, TreeStore};
 use std::alloc::{AllocError, Global};
 
@@ -68,7 +69,7 @@ pub fn act_write<T: TreeStore>(
     alloc: Global,
     call: &WriteCall,
     tree: &mut T,
-    opens: &mut Vec<OpenFile>,
+    opens: &mut Opens,
     turn: Turn,
 ) -> Result<Answer, AllocError>
     requires granted { AllPass (write_rules (T.tree tree.old) call.now) }

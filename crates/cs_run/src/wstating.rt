@@ -9,9 +9,10 @@ ghost use Rattle.cs_tree_model.specs.Record.{lent};
 ghost use Rattle.cs_tree_model.specs.Stores.{CanStamp};
 
 use crate::answer::Answer;
+use crate::opens::Opens;
 use crate::turn::{Turn, stamp_of};
 use cs_names::{Name, UserName};
-use cs_permit::{OpenFile, WstatCall, new_group, new_length, new_mode, new_mtime, new_name};
+use cs_permit::{WstatCall, new_group, new_length, new_mode, new_mtime, new_name};
 use cs_tree_model::{Change, Metadata, TreeRead, TreeStore};
 use cs_users::Users;
 use std::alloc::{AllocError, Global};
@@ -127,7 +128,7 @@ pub fn act_wstat<T: TreeStore>(
     alloc: Global,
     call: &WstatCall,
     tree: &mut T,
-    opens: &mut Vec<OpenFile>,
+    opens: &mut Opens,
     users: &Users,
     turn: Turn,
 ) -> Result<Answer, AllocError>

@@ -1,15 +1,12 @@
 //! A run over the start tree, made by hand, with the users of the worked examples.
-ghost use Rattle.std.specs.Prelude.{◌≡◌, ◌<◌, ◌^◌, ℕ, IsTrue};
-ghost use Rattle.cs_tree_model.specs.Stores.{CanStamp};
 
 use super::asks::{Ask, call_of, said};
-use crate::{Answer, Turn, act};
+use crate::{Answer, CountedRun};
 use cs_fids::Place;
 use cs_names::{Path, UserName};
-use cs_permit::{Call, OpenFile};
+use cs_permit::Call;
 use cs_tree::PlainTree;
-use cs_tree_model::laws::numbers_are_given_once;
-use cs_tree_model::{Content, DMDIR, Record, TreeRead};
+use cs_tree_model::{Content, DMDIR, Record};
 use cs_users::Users;
 use std::alloc::{AllocGlobal, Global};
 use std::process::Abort;
@@ -65,67 +62,31 @@ fn start_tree(alloc: Global) -> Option<PlainTree> {
     PlainTree::try_from_records(alloc, records).ok()
 }
 
-/// Whether each version and the next number can grow by one.
-fn can_grow<T: TreeRead>(tree: &T) -> bool
-    ensures vers { IsTrue result → (n : ℕ) → CanStamp (T.tree tree.now) n }
-    ensures next { IsTrue result → (T.tree tree.now).next < 2 ^ 64 }
-{
-    let last = tree.last_number();
-    if last == u64::MAX {
-        return false;
-    }
-    for number in 0..last + 1 {
-        if let Some(file) = tree.record(number) {
-            if file.vers == u32::MAX {
-                return false;
-            }
-        }
-    }
-    let _count = tree.count();
-    numbers_are_given_once(tree);
-    true
-}
-
-/// A run, the place of a fid's reads of a directory, and how many calls were made.
+/// A run, and the place of a fid's reads of a directory.
 #[derive(Drop)]
 pub struct World {
-    tree: PlainTree,
-    opens: Vec<OpenFile>,
-    users: Users,
+    run: CountedRun<PlainTree>,
     place: Place,
-    turns: u32,
 }
 
 impl World {
     fn start(alloc: Global) -> Option<World> {
         Some(World {
-            tree: start_tree(alloc)?,
-            opens: Vec::new(alloc),
-            users: Users::read(alloc, USERS.as_bytes()).ok()?,
+            run: CountedRun::new(
+                alloc,
+                start_tree(alloc)?,
+                Users::read(alloc, USERS.as_bytes()).ok()?,
+            ),
             place: Place::start(),
-            turns: 0,
         })
     }
 
-    /// Makes a call at second 1000, in the turn of its number, where versions have room.
+    /// Makes a call at second 1000, in the turn of its number.
     fn step(&mut self, alloc: Global, pass: u32, call: &Call) -> Option<Answer> {
-        if !can_grow(&self.tree) {
+        if self.run.is_full() {
             return None;
         }
-        let turn = Turn {
-            moment: 1000,
-            place: self.turns,
-            pass,
-        };
-        self.turns = self.turns.checked_add(1)?;
-        let (_outcome, answer) = act(
-            alloc,
-            call,
-            &mut self.tree,
-            &mut self.opens,
-            &self.users,
-            turn,
-        );
+        let (_outcome, answer) = self.run.step(alloc, 1000, pass, call);
         Some(answer)
     }
 

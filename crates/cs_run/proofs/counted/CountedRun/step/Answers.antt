@@ -1,6 +1,11 @@
 use Rattle.std.proofs.Common.{◌+◌, ap, subst, sym}
 use Rattle.cs_run.proofs.Bounding.{room_left}
+use Rattle.cs_run.proofs.Ascending.{stays_below}
 use Rattle.cs_run.specs.Laws.{AllVersBelow}
+use Rattle.cs_run.specs.Opens.{AreBelow}
+use Rattle.cs_run.specs.Outcomes.{outcome}
+use Rattle.cs_run.specs.declared.turn.Turn.{Turn}
+use Rattle.cs_permit.specs.Calls.{state}
 use Rattle.cs_run.proofs.counted.CountedRun.step.Goals as goal
 
 pub act-requires-clause-vers : goal.act-requires-clause-vers
@@ -10,4 +15,9 @@ act-requires-clause-vers g c =
 pub invariant_of-self : goal.invariant_of-self
 invariant_of-self g c =
     let raised = c.calls_raise_by_one.ensures _ _ _ _ in
-    record { bounded = subst (AllVersBelow (c.args.self.now.count + 1 + 1)) (sym (ap (λ l. l.tree) c.act.ensures.step.1.1)) (raised.versions (c.args.self.now.count + 1) c.args.self.now.bounded) }
+    let s = state (g.T.TreeRead.tree c.args.self.now.tree) c.args.self.now.opens.items c.args.self.now.users in
+    let turn : Turn = record { moment = c.args.moment; place = c.args.self.now.count; pass = c.args.pass } in
+    record {
+      bounded = subst (AllVersBelow (c.args.self.now.count + 1 + 1)) (sym (ap (λ l. l.tree) c.act.ensures.step.1.1)) (raised.versions (c.args.self.now.count + 1) c.args.self.now.bounded);
+      below = subst (AreBelow (c.args.self.now.count + 1)) (sym (ap (λ l. l.opens) c.act.ensures.step.1.1)) (stays_below s turn c.args.call.now (outcome s turn c.args.call.now c.act.ensures.step.0) c.args.self.now.below);
+    }
