@@ -1,4 +1,4 @@
-mod Ascending
+pub mod Ascending
 pub mod Bounding
 pub mod Fitting
 pub mod OpenLaws

@@ -58,7 +58,7 @@ fn grant<T: TreeStore>(
 }
 
 /// The open that a call ends, whatever comes of it.
-fn closes(call: &Call) -> Option<u32>
+pub fn closes(call: &Call) -> Option<u32>
     ensures { result ≡ closes call.now }
 {
     match call {

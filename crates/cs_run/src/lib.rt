@@ -21,7 +21,7 @@ mod walking;
 mod writing;
 mod wstating;
 
-pub use acting::act;
+pub use acting::{act, closes};
 pub use answer::{Answer, Data, FileStat, Outcome, Walk};
 pub use closing::act_close;
 pub use counted::CountedRun;

@@ -50,6 +50,14 @@ impl Opens {
         self.opens.as_slice()
     }
 
+    /// The open of that number and pass, if it stands.
+    pub fn get(&self, number: u32, pass: u32) -> Option<OpenFile>
+        ensures { result ≡ open_numbered number pass self.now.items }
+    {
+        let place = place_of(self.opens.as_slice(), number, pass)?;
+        self.opens.get(place).copied()
+    }
+
     /// Makes room for one open more.
     pub fn reserve(&mut self) -> Result<(), AllocError>
         ensures opens { self.new.items ≡ self.old.items }

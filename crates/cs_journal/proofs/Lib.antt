@@ -1,0 +1,4 @@
+pub mod Moves
+pub mod Journals
+pub mod Fitting
+pub mod Steps

@@ -1,0 +1,78 @@
+-- A run's state, and what the entries of a journal make of it.
+use Rattle.std.specs.Prelude.{◌≡◌, ℕ, ◌+◌, ◌≤◌, ◌==◌, Bool, List, [], ◌∷◌, length, filter}
+use Rattle.cs_names.specs.declared.limits.TheConstants.{JOURNAL_ENTRIES}
+use Rattle.cs_permit.specs.Calls.{State, state}
+use Rattle.cs_permit.specs.declared.call.Call.{Call}
+use Rattle.cs_permit.specs.declared.call.OpenFile.{OpenFile}
+use Rattle.cs_run.specs.declared.answer.Answer.{Answer}
+use Rattle.cs_run.specs.declared.answer.Outcome.{Outcome}
+use Rattle.cs_run.specs.declared.turn.Turn.{Turn}
+use Rattle.cs_run.specs.Effects.{Left}
+use Rattle.cs_run.specs.Marks.{CallMark}
+use Rattle.cs_run.specs.Outcomes.{applied, outcome}
+use Rattle.cs_tree_model.specs.Tree.{Tree}
+use Rattle.cs_users.specs.Rows.{Row}
+
+-- What a journal keeps of a call: its pass, its moment, the call with the bytes that it writes, and how it ended.
+pub record EntryOf : Type 0 where
+  pub pass : ℕ
+  pub moment : ℕ
+  pub call : Call
+  pub outcome : Outcome
+
+-- A run's state: its tree, its opens, the users, and how many entries there are.
+pub record RunState : Type 0 where
+  pub tree : Tree
+  pub opens : List OpenFile
+  pub users : List Row
+  pub entries : ℕ
+
+-- the state of a run that no call was made on
+abbrev pub start : Tree → List Row → RunState
+start t us = record { tree = t; opens = []; users = us; entries = 0 }
+
+-- what the rules look at
+abbrev pub seen : RunState → State
+seen s = state s.tree s.opens s.users
+
+-- the turn of a call that comes next: its place is how many entries are before it
+abbrev pub turn_in : RunState → ℕ → ℕ → Turn
+turn_in s pass moment = record { moment = moment; place = s.entries; pass = pass }
+
+-- what an entry's call leaves, by its outcome
+abbrev pub left_by : RunState → EntryOf → Left
+left_by s e = applied (seen s) (turn_in s e.pass e.moment) e.call e.outcome
+
+-- the answer to an entry's call
+abbrev pub answer_to : RunState → EntryOf → Answer
+answer_to s e = (left_by s e).answer
+
+-- the state after an entry
+abbrev pub apply : RunState → EntryOf → RunState
+apply s e = record { tree = (left_by s e).tree; opens = (left_by s e).opens; users = s.users; entries = s.entries + 1 }
+
+-- the state after the entries of a journal, one after the other
+abbrev pub replay : RunState → List EntryOf → RunState
+replay s [] = s
+replay s (e ∷ es) = replay (apply s e) es
+
+-- the outcome is the one of the entry's place: the first rule that fails denies the call; else it is granted, or short where it takes memory
+abbrev pub IsOutcome : RunState → EntryOf → Type 0
+IsOutcome s e = (mark : CallMark) × (e.outcome ≡ outcome (seen s) (turn_in s e.pass e.moment) e.call mark)
+
+-- there is room for the entries, and for that of each open's close
+abbrev pub HasRoom : RunState → Type 0
+HasRoom s = s.entries + length s.opens ≤ JOURNAL_ENTRIES
+
+-- a legal journal: each outcome is the one of its place, and there is always that room
+abbrev pub IsLegal : RunState → List EntryOf → Type 0
+IsLegal s [] = Unit {0}
+IsLegal s (e ∷ es) = IsOutcome s e × HasRoom (apply s e) × IsLegal (apply s e) es
+
+-- the entry carries the pass's number
+abbrev pub is_of_pass : ℕ → EntryOf → Bool
+is_of_pass pass e = e.pass == pass
+
+-- the pass's entries, in order
+abbrev pub entries_of_pass : ℕ → List EntryOf → List EntryOf
+entries_of_pass pass journal = filter (is_of_pass pass) journal

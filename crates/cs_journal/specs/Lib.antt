@@ -1,0 +1,11 @@
+pub mod Journals
+pub mod Asked
+pub mod Kept
+pub mod Calls
+pub mod Runs
+pub mod Marks
+pub mod Steps
+pub mod Bounds
+pub mod Holding
+pub mod Small
+pub mod Ready

@@ -1,0 +1,79 @@
+-- What contracts see of a run and of a pass.
+use Rattle.std.specs.Prelude.{◌≡◌, ℕ, ◌+◌, ◌-◌, ◌<◌, ◌==◌, Bool, List, [], ◌∷◌, length, filter, slice_get, Option, if◌then◌else◌, refl}
+use Rattle.std.specs.Coded.{Coded, code_by, coded×, coded_ℕ, coded_list}
+use Rattle.cs_permit.specs.declared.call.OpenFile.{OpenFile}
+use Rattle.cs_run.specs.declared.answer.Outcome.{Outcome}
+use Rattle.cs_tree_model.specs.Tree.{Tree, tree_code}
+use Rattle.cs_users.specs.Rows.{Row}
+use Rattle.cs_users.specs.contracts.users.Users as users
+use Rattle.cs_journal.specs.contracts.entry.Entry as entry
+use Rattle.cs_journal.specs.Asked.{Asked, asked}
+use Rattle.cs_journal.specs.Journals.{EntryOf, RunState, entries_of_pass, is_of_pass, replay, start}
+
+-- A run: the tree and the users that it began with, its journal, and how many passes it gave. Its state is what the journal's replay gives.
+pub record RunOf : Type 0 where
+  pub fresh : Tree
+  pub users : List Row
+  pub journal : List EntryOf
+  pub passes : ℕ
+
+abbrev pub run_code : Coded RunOf
+run_code = code_by (Tree × (List Row × (List EntryOf × ℕ))) (coded× tree_code (coded× users.the_row.coded (coded× (coded_list entry.the_row.coded) coded_ℕ))) (λ r. (r.fresh, (r.users, (r.journal, r.passes)))) (λ p. record { fresh = p.0; users = p.1.0; journal = p.1.1.0; passes = p.1.1.1 }) (λ _. refl)
+
+-- a run that no call was made on, and that gave no pass
+abbrev pub fresh_run : Tree → List Row → RunOf
+fresh_run t us = record { fresh = t; users = us; journal = []; passes = 0 }
+
+-- a run's first state, and its state
+abbrev pub first_state : RunOf → RunState
+first_state r = start r.fresh r.users
+
+abbrev pub state_of : RunOf → RunState
+state_of r = replay (first_state r) r.journal
+
+-- What a pass keeps of an entry: its place, what its call asked, and how it ended.
+pub record ReceiptOf : Type 0 where
+  pub place : ℕ
+  pub asked : Asked
+  pub outcome : Outcome
+
+-- the receipt of the entry at a place
+abbrev pub receipt_of : ℕ → EntryOf → ReceiptOf
+receipt_of place e = record { place = place; asked = asked e.call; outcome = e.outcome }
+
+-- A pass: its number, its receipts, and for how many closes it has a place.
+pub record PassOf : Type 0 where
+  pub number : ℕ
+  pub receipts : List ReceiptOf
+  pub reserved : ℕ
+
+-- a pass under which no call was made
+abbrev pub fresh_pass : ℕ → PassOf
+fresh_pass number = record { number = number; receipts = []; reserved = 0 }
+
+-- the receipts of a pass's entries, where the first entry has that place
+abbrev pub receipts_from : ℕ → ℕ → List EntryOf → List ReceiptOf
+receipts_from pass place [] = []
+receipts_from pass place (e ∷ es) =
+    if is_of_pass pass e then receipt_of place e ∷ receipts_from pass (place + 1) es else receipts_from pass (place + 1) es
+
+abbrev pub receipts_in : ℕ → List EntryOf → List ReceiptOf
+receipts_in pass journal = receipts_from pass 0 journal
+
+-- the opens under a pass
+abbrev pub is_under : ℕ → OpenFile → Bool
+is_under pass o = o.pass == pass
+
+abbrev pub opens_under : ℕ → List OpenFile → List OpenFile
+opens_under pass opens = filter (is_under pass) opens
+
+-- the last of a list, if any
+abbrev pub last_of : {A : Type 0} → List A → Option A
+last_of xs = slice_get xs (length xs - 1)
+
+-- The run gave the pass; the pass has as many receipts and reserved places as the run has entries and opens of it; its last receipt, if any, is of its last entry.
+pub record Fits (r : RunOf) (p : PassOf) : Type 0 where
+  pub known : p.number < r.passes
+  pub entries : length p.receipts ≡ length (entries_of_pass p.number r.journal)
+  pub opens : p.reserved ≡ length (opens_under p.number (state_of r).opens)
+  pub last : last_of p.receipts ≡ last_of (receipts_in p.number r.journal)

@@ -1,0 +1,9 @@
+//! How far the passes of a run have come.
+
+/// How many entries and opens a pass has, and the place of its last entry.
+#[derive(Clone, Copy, Debug, PartialEq, Eq)]
+pub(crate) struct Counts {
+    pub(crate) entries: usize,
+    pub(crate) opens: usize,
+    pub(crate) last: Option<u32>,
+}

@@ -1,0 +1,23 @@
+//! The entries of a journal.
+
+use crate::kept::{Kept, Noted};
+use cs_run::Outcome;
+use std::marker::Model;
+
+/// An entry of a journal. Contracts see the pass, the moment, the call, and how it ended.
+#[derive(Drop)]
+pub struct Entry {
+    pub(crate) pass: u32,
+    pub(crate) moment: u32,
+    pub(crate) kept: Kept,
+    pub(crate) outcome: Outcome,
+}
+
+impl Model for Entry {
+    ghost use Rattle.cs_journal.specs.Journals.{EntryOf};
+    ghost use Rattle.cs_journal.specs.Kept.{call_of};
+
+    ghost Value = { EntryOf };
+
+    ghost view = { λ e. record { pass = e.pass; moment = e.moment; call = call_of e.kept; outcome = e.outcome } };
+}

@@ -1,0 +1,20 @@
+//! Runs with journals: a working copy of a tree that several users change together, and that keeps every
+//! call as an entry.
+#![tactic(auto)]
+
+mod counts;
+mod entering;
+mod entry;
+mod kept;
+mod pass;
+mod ready;
+mod receipt;
+mod room;
+mod run;
+mod stepping;
+mod user_text;
+
+pub use entry::Entry;
+pub use pass::Pass;
+pub use receipt::Receipt;
+pub use run::{PassFault, Run};

@@ -1,0 +1,48 @@
+//! The passes of a run.
+ghost use Rattle.std.specs.Prelude.{◌≡◌};
+
+use crate::receipt::Receipt;
+use std::marker::Model;
+
+/// What one user of a run has: a number, a receipt of each of its entries, and a place for that of each
+/// open's close. Contracts see these three.
+#[derive(Drop)]
+pub struct Pass {
+    pub(crate) number: u32,
+    pub(crate) receipts: Vec<Receipt>,
+    pub(crate) reserved: usize,
+}
+
+impl Model for Pass {
+    ghost use Rattle.std.specs.Prelude.{◌+◌, ◌≤◌, vec_capacity, vec_len};
+    ghost use Rattle.cs_journal.specs.Runs.{PassOf};
+
+    ghost Value = { PassOf };
+
+    ghost view = { λ p. record { number = p.number; receipts = p.receipts.items; reserved = p.reserved } };
+
+    ghost invariant = { λ p. vec_len p.receipts + p.reserved ≤ vec_capacity p.receipts };
+}
+
+impl Pass {
+    /// Its number among the passes of its run, from 0.
+    pub fn number(&self) -> u32
+        ensures { result ≡ self.now.number }
+    {
+        self.number
+    }
+
+    /// The receipts of its entries, in order.
+    pub fn receipts(&self) -> &[Receipt]
+        ensures { result.now ≡ self.now.receipts }
+    {
+        self.receipts.as_slice()
+    }
+
+    /// For how many opens it has a place for the close's receipt.
+    pub fn reserved(&self) -> usize
+        ensures { result ≡ self.now.reserved }
+    {
+        self.reserved
+    }
+}

@@ -1,0 +1,109 @@
+//! A run: a working copy of a tree, which keeps every call as an entry.
+ghost use Rattle.std.specs.Prelude.{◌≡◌, ◌≢◌, ◌↔◌, ◌≤◌, ◌+◌, Err, IfOk, IsTrue, OnErr, OnOk, length, true};
+ghost use Rattle.std.specs.Arc.{arc_value};
+ghost use Rattle.cs_names.specs.declared.limits.TheConstants.{RUN_ATTACHES};
+ghost use Rattle.cs_journal.specs.Bounds.{CanGrow};
+ghost use Rattle.cs_journal.specs.Journals.{IsLegal};
+ghost use Rattle.cs_journal.specs.Runs.{Fits, PassOf, first_state, fresh_pass, fresh_run};
+
+use crate::counts::Counts;
+use crate::entry::Entry;
+use crate::pass::Pass;
+use cs_names::limits::RUN_ATTACHES;
+use cs_overlay::Overlay;
+use cs_run::opens::Opens;
+use cs_tree_model::TreeRead;
+use cs_users::Users;
+use std::alloc::{AllocError, Global};
+use std::marker::Model;
+use std::sync::Arc;
+
+/// A working copy of a tree, which its users change together by calls under passes, each in its turn.
+/// The tree that it began with is shared and never changes. Contracts see what it began with, its
+/// journal, and how many passes it gave; its state is what replaying the journal gives.
+#[derive(Drop)]
+pub struct Run<L: TreeRead + Drop> {
+    pub(crate) lower: Arc<L>,
+    pub(crate) users: Arc<Users>,
+    pub(crate) tree: Overlay<L>,
+    pub(crate) opens: Opens,
+    pub(crate) journal: Vec<Entry>,
+    pub(crate) passes: Vec<Counts>,
+}
+
+impl<L: TreeRead + Drop> Model for Run<L> {
+    ghost use Rattle.std.specs.Arc.{arc_value};
+    ghost use Rattle.std.specs.Prelude.{◌+◌, ◌≤◌, length, vec_capacity, vec_len};
+    ghost use Rattle.cs_journal.specs.Holding.{IsHeld};
+    ghost use Rattle.cs_journal.specs.Runs.{RunOf, run_code};
+
+    ghost Value = { RunOf };
+
+    ghost coded = { run_code };
+
+    ghost view = { λ r. record { fresh = L.TreeRead.tree (arc_value r.lower); users = arc_value r.users; journal = r.journal.items; passes = length r.passes.items } };
+
+    ghost invariant = { λ r. IsHeld (L.TreeRead.tree (arc_value r.lower)) r.tree (arc_value r.users) r.opens.items r.journal.items r.passes.items × (vec_len r.journal + length r.opens.items ≤ vec_capacity r.journal) };
+}
+
+/// Why a run gives no pass.
+#[derive(Clone, Copy, Debug, PartialEq, Eq, Drop)]
+pub enum PassFault {
+    /// It gave as many as it gives in its life.
+    Room,
+    Memory,
+}
+
+impl<L: TreeRead + Drop> Run<L> {
+    /// A run over this tree, with no open and no entry. It copies nothing of the tree.
+    pub fn fresh(alloc: Global, lower: Arc<L>, users: Arc<Users>) -> Result<Run<L>, AllocError>
+        requires grows { CanGrow (L.TreeRead.tree (arc_value lower)) }
+        ensures { IfOk result (λ run. run ≡ fresh_run (L.TreeRead.tree (arc_value lower)) (arc_value users)) }
+    {
+        let tree = Overlay::over(alloc, lower.clone()?);
+        Ok(Run {
+            lower,
+            users,
+            tree,
+            opens: Opens::new(alloc),
+            journal: Vec::new(alloc),
+            passes: Vec::new(alloc),
+        })
+    }
+
+    /// How many entries its journal has.
+    pub fn entries(&self) -> usize
+        ensures count { result ≡ length self.now.journal }
+        ensures legal { IsLegal (first_state self.now) self.now.journal }
+    {
+        self.journal.len()
+    }
+
+    /// Gives a pass, under which calls can be made: Room where it gave RUN_ATTACHES already.
+    pub fn new_pass(&mut self, alloc: Global) -> Result<Pass, PassFault>
+        ensures pass { IfOk result (λ pass. pass ≡ fresh_pass self.old.passes) }
+        ensures run { OnOk result (self.new ≡ record self.old { passes = self.old.passes + 1 }) }
+        ensures fits { IfOk result (λ pass. Fits self.new pass) }
+        ensures others { (q : PassOf) → Fits self.old q → Fits self.new q }
+        ensures room { (result ≡ Err PassFault.Room) ↔ (RUN_ATTACHES ≤ self.old.passes) }
+        ensures unchanged { OnErr result (self.new ≡ self.old) }
+    {
+        let number = self.passes.len();
+        if number >= RUN_ATTACHES as usize {
+            return Err(PassFault::Room);
+        }
+        let none = Counts {
+            entries: 0,
+            opens: 0,
+            last: None,
+        };
+        if self.passes.push(none).is_err() {
+            return Err(PassFault::Memory);
+        }
+        Ok(Pass {
+            number: number as u32,
+            receipts: Vec::new(alloc),
+            reserved: 0,
+        })
+    }
+}

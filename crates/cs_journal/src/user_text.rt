@@ -1,0 +1,45 @@
+//! A user's name that takes no memory of its own.
+ghost use Rattle.std.specs.Prelude.{◌≡◌};
+
+use cs_names::UserName;
+use cs_names::limits::USER_NAME_BYTES;
+use std::marker::Model;
+
+/// The bytes of a user's name, in place.
+#[derive(Drop)]
+pub(crate) struct UserText {
+    bytes: [u8; USER_NAME_BYTES],
+    len: usize,
+}
+
+impl Model for UserText {
+    ghost use Rattle.std.specs.Prelude.{List, ℕ, ◌≤◌, take};
+    ghost use Rattle.cs_names.specs.declared.limits.TheConstants.{USER_NAME_BYTES};
+
+    ghost Value = { List ℕ };
+
+    ghost view = { λ text. take text.len text.bytes };
+
+    ghost invariant = { λ text. text.len ≤ USER_NAME_BYTES };
+}
+
+impl UserText {
+    /// The same bytes. It takes no memory.
+    pub(crate) fn of(user: &UserName) -> UserText
+        ensures { result ≡ user.now }
+    {
+        let text = user.as_bytes();
+        let mut bytes = [0; USER_NAME_BYTES];
+        bytes[..text.len()].copy_from_slice(text);
+        UserText {
+            bytes,
+            len: text.len(),
+        }
+    }
+
+    pub(crate) fn as_bytes(&self) -> &[u8]
+        ensures { result.now ≡ self.now }
+    {
+        &self.bytes[..self.len]
+    }
+}
