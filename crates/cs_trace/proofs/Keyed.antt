@@ -1,18 +1,18 @@
 -- A text of names with a NUL between two of them: its names, and its order.
-use Rattle.std.proofs.Common.{◌≡◌, ◌≢◌, ℕ, zero, suc, ◌+◌, ◌-◌, ◌<◌, ◌==◌, ◌||◌, ◌&&◌, Bool, true, false, cond, List, [], ◌∷◌, ◌++◌, length, take, drop, get_or, nat_cmp, refl, sym, ap, ◌∙◌, subst, arith, length-append, append_assoc}
+use Rattle.std.proofs.Common.{◌≡◌, ◌≢◌, ℕ, suc, ◌-◌, ◌<◌, ◌==◌, ◌||◌, Bool, true, false, cond, List, [], ◌∷◌, ◌++◌, length, take, drop, get_or, nat_cmp, refl, sym, ap, ◌∙◌, subst, arith, length-append, append_assoc}
 use Rattle.std.proofs.Math.Seq.{take-append_seam}
 use Rattle.std.proofs.lemmas.Bool.{false≢true, eqb-true, eq-eqb}
 use Rattle.std.proofs.lemmas.List.{append-nil}
 use Rattle.std.proofs.lemmas.Slice.Eq.{bytes_eq-Decides, starts_is}
-use Rattle.std.specs.Cmp.{ranked, tied_itself, nat_cmp_total}
-use Rattle.std.specs.Cmp.Lexicographic.{lists_total, pointwise, slice_cmp, texts_ties}
+use Rattle.std.specs.Cmp.{tied_itself, nat_cmp_total}
+use Rattle.std.specs.Cmp.Lexicographic.{pointwise, slice_cmp, texts_ties}
 use Rattle.std.specs.List.{flat_map, list_any, starts_with}
-use Rattle.std.specs.Ordering.{eq_by_cmp, is_eq, ordering_then}
+use Rattle.std.specs.Ordering.{is_eq, ordering_then}
 use Rattle.std.specs.Prelude.{if◌then◌else◌, nat_eq, OnOk, Result, Ok, Err, is_ok}
 use Rattle.std.specs.declared.cmp.Ordering.{Ordering}
 use Rattle.std.specs.declared.cmp.Ordering.TheVariants.{Less, Equal, Greater}
 use Rattle.cs_names.proofs.Naming.{flat_map-pieces}
-use Rattle.cs_names.specs.Legal.{IsLegalName, is_forbidden}
+use Rattle.cs_names.specs.Legal.{IsLegalName}
 use Rattle.cs_names.specs.Paths.{path_eq, path_ties}
 use Rattle.cs_names.specs.Pieces.{pieces, put_first}
 use Rattle.cs_names.specs.Texts.{same_bytes}

@@ -16,7 +16,7 @@ use Rattle.cs_tree_model.specs.Fresh.{fresh_record, numbered}
 use Rattle.cs_tree_model.specs.Laws.Paths.{path_cases, path_total}
 use Rattle.cs_tree_model.specs.Tree.{Path, path_cmp}
 use Rattle.cs_tree_model.specs.declared.record.Record.{Record}
-use Rattle.cs_trace.specs.Entries.{Entries, file_mode, node_by, node_of, record_of, size_of}
+use Rattle.cs_trace.specs.Entries.{Entries, node_by, node_of, record_of, size_of}
 use Rattle.cs_trace.specs.Traces.{IsNodeOf, IsUnchanged, StandsAs}
 use Rattle.cs_trace.specs.declared.entry.Entry.{Entry}
 use Rattle.cs_trace.specs.declared.operation.Node.{Node}

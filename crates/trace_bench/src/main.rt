@@ -63,27 +63,41 @@ fn main(rt: HostRuntime) -> io::Result<()> {
     let alloc: Global = rt.alloc();
     let timed = env::args(&rt)?.count() > 1;
     let scale = if timed { 1_000 } else { 1 };
-    let only = env::args(&rt)?.count();
-    if only == 3 {
-        for _ in 0..10 {
-            measure(&rt, "start files", start_files(alloc, 65 * scale, 0), timed)?;
-        }
-    }
-    if only == 4 {
-        for _ in 0..3 {
-            measure(&rt, "start files, 60 deep", start_files(alloc, 65 * scale, 60), timed)?;
-        }
-    }
-    if only == 5 {
-        measure(&rt, "files made and renamed", small_files(alloc, 60 * scale), timed)?;
-        measure(&rt, "files made and renamed", small_files(alloc, 60 * scale), timed)?;
-        measure(&rt, "files made and renamed", small_files(alloc, 60 * scale), timed)?;
-    }
-    if only == 6 {
-        measure(&rt, "large writes", large_writes(alloc, scale / 20 + 1, 1_000_000), timed)?;
-        measure(&rt, "large writes", large_writes(alloc, scale / 20 + 1, 1_000_000), timed)?;
-        measure(&rt, "large writes", large_writes(alloc, scale / 20 + 1, 1_000_000), timed)?;
-    }
-    measure(&rt, "start files, 8 deep", start_files(alloc, 65 * scale, 8), timed)?;
-    measure(&rt, "small writes", small_writes(alloc, 100 * scale), timed)
+    measure(
+        &rt,
+        "small writes",
+        small_writes(alloc, 1_000 * scale),
+        timed,
+    )?;
+    measure(
+        &rt,
+        "twice as many",
+        small_writes(alloc, 2_000 * scale),
+        timed,
+    )?;
+    measure(
+        &rt,
+        "files made and renamed",
+        small_files(alloc, 60 * scale),
+        timed,
+    )?;
+    measure(
+        &rt,
+        "large writes",
+        large_writes(alloc, scale / 20 + 1, 1_000_000),
+        timed,
+    )?;
+    measure(&rt, "start files", start_files(alloc, 65 * scale, 0), timed)?;
+    measure(
+        &rt,
+        "start files, 8 deep",
+        start_files(alloc, 65 * scale, 8),
+        timed,
+    )?;
+    measure(
+        &rt,
+        "start files, 60 deep",
+        start_files(alloc, 65 * scale, 60),
+        timed,
+    )
 }

@@ -1,7 +1,6 @@
-use Rattle.std.proofs.Common.{◌≡◌, ◌+◌, ◌-◌, ◌∷◌, ◌++◌, List, ℕ, [], length, take, drop, lit<, ap, sym, subst, arith, length-append, ◌∙◌}
+use Rattle.std.proofs.Common.{◌≡◌, ◌∷◌, ◌++◌, List, ℕ, [], length, take, drop, lit<, ap, sym, subst, arith, length-append, ◌∙◌}
 use Rattle.std.proofs.lemmas.List.{take-append-drop}
 use Rattle.std.proofs.lemmas.Str.Pattern.{NoCharPasses-char, drop_at_char}
-use Rattle.std.specs.String.{string_bytes}
 use Rattle.std.specs.Str.Pattern.{HasCharAt}
 use Rattle.cs_tree_model.specs.Tree.{parent_path}
 use Rattle.cs_trace.specs.Keys.{BeginsWithName, path_at}
