@@ -1,0 +1,11 @@
+//! The picks file: sets of micro-operations that are asked for, a line each.
+#![tactic(auto)]
+
+pub mod fault;
+mod line;
+pub mod picks;
+#[cfg(test)]
+mod tests;
+
+pub use fault::PicksFault;
+pub use picks::read_picks;
