@@ -1,7 +1,10 @@
 pub mod Fields
+pub mod Framing
+pub mod Holding
 pub mod Loop
 pub mod Messages
 pub mod Numbers
+pub mod OneCut
 pub mod Putting
 pub mod Sizes
 pub mod Texts

@@ -1,6 +1,11 @@
 pub mod Answers
 pub mod Bodies
+pub mod Buffers
+pub mod Cutting
 pub mod Few
 pub mod Fields
+pub mod Framing
+pub mod Held
+pub mod Lending
 pub mod Messages
 pub mod Reading

@@ -2,10 +2,12 @@
 #![tactic(auto)]
 
 mod cursor;
+mod cutting;
 mod display;
 mod fault;
 mod few;
 mod fitting;
+mod framer;
 mod kind;
 mod message;
 mod reading;
@@ -17,7 +19,9 @@ mod table;
 mod tests;
 mod writing;
 
+pub use cutting::{any_cutting, what_fits_is_whole};
 pub use fault::WireFault;
+pub use framer::{FrameFault, Framer};
 pub use kind::{RKind, TKind};
 pub use message::{Qid, RBody, RMessage, Stat, TBody, TMessage};
 pub use reading::{decode, decode_r, one_spelling, what_is_written_is_read};

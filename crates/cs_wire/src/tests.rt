@@ -1,5 +1,7 @@
 //! Messages as they stand on the wire, from outside.
 
+mod framing;
+
 use super::*;
 use std::borrow::CowStr;
 use std::test::*;

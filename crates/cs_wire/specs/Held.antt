@@ -1,0 +1,24 @@
+-- The buffer of a framer.
+use Rattle.std.specs.Prelude.{ℕ, ◌+◌, List, ◌++◌, length, take, drop}
+
+-- The bytes that came, how many of them were given, and what lies in the room behind them.
+pub record Held : Type 0 where
+  pub bytes : List ℕ
+  pub place : ℕ
+  pub room : List ℕ
+
+-- the bytes that were not given yet
+abbrev pub left : Held → List ℕ
+left held = drop held.place held.bytes
+
+-- how many bytes the buffer is long
+abbrev pub size_of : Held → ℕ
+size_of held = length held.bytes + length held.room
+
+-- the room with these bytes in it from its front on; it stays as long as it is
+abbrev pub written : List ℕ → List ℕ → List ℕ
+written room bytes = take (length room) (bytes ++ drop (length bytes) room)
+
+-- so many bytes of the room have come
+abbrev pub taken : Held → ℕ → Held
+taken held count = record { bytes = held.bytes ++ take count held.room; place = held.place; room = drop count held.room }

@@ -1,0 +1,202 @@
+//! A stream of messages in one buffer: bytes come in pieces, and whole messages are lent from where they lie.
+
+ghost use Rattle.std.specs.Prelude.{◌≡◌, ◌≢◌, ◌+◌, ◌≤◌, ◌<◌, ℕ, List, [], ◌++◌, length, take, drop, vec_len, IsOk, OnOk, OnErr, MatchResult, MatchOption, IfOk, IfErr};
+ghost use Rattle.std.specs.Borrow.{sem};
+ghost use Rattle.std.specs.Io.BufRead.{Rests};
+ghost use Rattle.cs_wire.specs.Framing.{size_in};
+ghost use Rattle.cs_wire.specs.Held.{left, size_of, taken};
+ghost use Rattle.cs_wire.specs.Buffers.{NextGives, FrontIs};
+
+use cs_names::limits::MESSAGE_BYTES;
+use std::alloc::{AllocError, Global};
+use std::fmt;
+use std::marker::Model;
+
+/// Why a stream has no further message.
+#[derive(Clone, Copy, Debug, PartialEq, Eq)]
+pub enum FrameFault {
+    /// The next size is below 7, the bytes of size, type and tag.
+    Undersize,
+    /// The next size is above 65,536.
+    Oversize,
+    /// The stream ended inside a message.
+    Cut,
+}
+
+impl fmt::Display for FrameFault {
+    fn fmt<W: fmt::Write>(&self, f: &mut fmt::Formatter<W>) -> fmt::Result {
+        match self {
+            FrameFault::Undersize => write!(f, "a message's size is below 7"),
+            FrameFault::Oversize => write!(f, "a message's size is above 65536"),
+            FrameFault::Cut => write!(f, "the stream ended inside a message"),
+        }
+    }
+}
+
+/// Bytes of size, type and tag, which each message has.
+const LEAST_MESSAGE: usize = 7;
+
+/// The size in front, if its four bytes are there.
+#[tactic(auto, unfolding(crate::specs::Framing::size_in))]
+fn size_in_front(bytes: &[u8]) -> Option<usize>
+    ensures { result ≡ size_in bytes.now }
+{
+    match bytes.split_first_chunk::<4>() {
+        None => None,
+        Some((size, _)) => Some(u32::from_le_bytes(*size) as usize),
+    }
+}
+
+/// The size of the whole message in front, if it is there.
+fn whole_in_front(bytes: &[u8]) -> Result<Option<usize>, FrameFault>
+    ensures { FrontIs result bytes.now }
+{
+    match size_in_front(bytes) {
+        None => Ok(None),
+        Some(size) => {
+            if size < LEAST_MESSAGE {
+                return Err(FrameFault::Undersize);
+            }
+            if size > MESSAGE_BYTES as usize {
+                return Err(FrameFault::Oversize);
+            }
+            if bytes.len() < size {
+                return Ok(None);
+            }
+            Ok(Some(size))
+        }
+    }
+}
+
+/// The bytes of a stream that came, in one buffer, and the place up to which they were given.
+///
+/// Bytes move only where the room behind them doesn't do: then those that weren't given yet move to
+/// the front, and the buffer grows if that isn't enough. A caller that takes every whole message
+/// before it feeds again moves each byte at most once.
+#[derive(Drop)]
+pub struct Framer {
+    buffer: Vec<u8>,
+    place: usize,
+    filled: usize,
+}
+
+impl Model for Framer {
+    ghost use Rattle.std.specs.Prelude.{◌≤◌, take, drop, vec_len};
+    ghost use Rattle.cs_wire.specs.Held.{Held};
+
+    ghost Value = { Held };
+
+    ghost view = { λ f. record { bytes = take f.filled f.buffer.items; place = f.place; room = drop f.filled f.buffer.items } };
+
+    ghost invariant = { λ f. (f.place ≤ f.filled) × (f.filled ≤ vec_len f.buffer) };
+}
+
+impl Framer {
+    ghost use Rattle.cs_wire.specs.contracts.framer.Framer.{the_row};
+    ghost use Rattle.cs_wire.specs.Lending.{LendsRoom};
+
+    /// No bytes, and no memory.
+    pub fn new(alloc: Global) -> Framer
+        ensures { result ≡ record { bytes = []; place = 0; room = [] } }
+    {
+        Framer {
+            buffer: Vec::new(alloc),
+            place: 0,
+            filled: 0,
+        }
+    }
+
+    /// The bytes that are kept, and how many of them were given: the rest were not given yet.
+    pub fn buffered(&self) -> (&[u8], usize)
+        ensures bytes { result.0.now ≡ self.now.bytes }
+        ensures place { result.1 ≡ self.now.place }
+        ensures within { self.now.place ≤ length self.now.bytes }
+    {
+        (&self.buffer[..self.filled], self.place)
+    }
+
+    /// Sees to room for so many bytes behind those that came. Where it is there nothing moves; else the
+    /// bytes that weren't given yet move to the front, and the buffer grows if that isn't enough. After
+    /// an `Err` the framer is as it was.
+    pub fn reserve(&mut self, count: usize) -> Result<(), AllocError>
+        ensures ok { OnOk result (count ≤ length self.new.room) }
+        ensures left { left self.new ≡ left self.old }
+        ensures stays { count ≤ length self.old.room → IsOk result × (self.new ≡ self.old) }
+        // A buffer that holds what is left and so many bytes more neither grows nor shrinks.
+        ensures enough { length (left self.old) + count ≤ size_of self.old → IsOk result × (size_of self.new ≡ size_of self.old) }
+        ensures err { OnErr result (self.new ≡ self.old) }
+    {
+        if count <= self.buffer.len() - self.filled {
+            return Ok(());
+        }
+        let kept = self.filled - self.place;
+        let needed = kept.checked_add(count).ok_or(AllocError)?;
+        if needed > self.buffer.len() {
+            self.buffer.resize(needed, 0)?;
+        }
+        self.buffer.copy_within(self.place..self.filled, 0);
+        self.place = 0;
+        self.filled = kept;
+        Ok(())
+    }
+
+    /// The room behind the bytes that came, to be written to: `took` then says how much of it was.
+    pub fn room(&mut self) -> &mut [u8]
+        ensures* writes_back { sem 𝓛 (LendsRoom self.entry result) }
+        ensures value { result.now ≡ self.old.room }
+    {
+        self.buffer.slice_mut(self.filled..)
+    }
+
+    /// So many bytes that were written to the room have come.
+    pub fn took(&mut self, count: usize)
+        requires { count ≤ length self.old.room }
+        ensures left { left self.new ≡ left self.old ++ take count self.old.room }
+        ensures exact { self.new ≡ taken self.old count }
+    {
+        self.filled += count;
+    }
+
+    /// Takes the next piece of the stream. Where the room does, nothing moves and no memory is taken.
+    /// After an `Err` the framer is as it was.
+    pub fn feed(&mut self, piece: &[u8]) -> Result<(), AllocError>
+        ensures ok { OnOk result (left self.new ≡ left self.old ++ piece.now) }
+        ensures enough { length (left self.old) + length piece.now ≤ size_of self.old → IsOk result }
+        ensures stays { length piece.now ≤ length self.old.room → IsOk result × (self.new.bytes ≡ self.old.bytes ++ piece.now) × (self.new.place ≡ self.old.place) }
+        ensures err { OnErr result (self.new ≡ self.old) }
+    {
+        self.reserve(piece.len())?;
+        let (front, _) = self.room().split_at_mut(piece.len());
+        front.copy_from_slice(piece);
+        self.took(piece.len());
+        Ok(())
+    }
+
+    /// That the stream may end here: Cut where bytes are left that weren't given.
+    pub fn end(&self) -> Result<(), FrameFault>
+        ensures { MatchResult result (λ _. left self.now ≡ []) (λ fault. (fault ≡ FrameFault.Cut) × (left self.now ≢ [])) }
+    {
+        if self.place < self.filled {
+            return Err(FrameFault::Cut);
+        }
+        Ok(())
+    }
+
+    /// The next whole message, lent from where it lies; None where it hasn't come yet (intro(5)).
+    ///
+    /// A size below 7 is Undersize and one above 65,536 Oversize, as soon as its four bytes are there.
+    /// After these, and after None, the framer is as it was, and answers the same again.
+    pub fn next(&mut self) -> Result<Option<&[u8]>, FrameFault>
+        ensures* { sem 𝓛 (Rests the_row self.entry (λ new. NextGives result self.old new)) }
+    {
+        match whole_in_front(&self.buffer[self.place..self.filled]) {
+            Err(fault) => Err(fault),
+            Ok(None) => Ok(None),
+            Ok(Some(size)) => {
+                let start = self.place;
+                self.place = start + size;
+                Ok(Some(&self.buffer[start..start + size]))
+            }
+        }
+    }
+}
