@@ -1,7 +1,12 @@
+pub mod Conversing
+pub mod Counting
+pub mod Fitting
+pub mod Known
+pub mod Listening
 pub mod Maps
 pub mod Marking
-pub mod Turns
-pub mod Trailing
 pub mod Sizing
-pub mod Fitting
+pub mod Trailing
+pub mod Turns
 pub mod Unread
+pub mod Writing

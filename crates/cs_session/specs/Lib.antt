@@ -18,3 +18,7 @@ pub mod Messages
 pub mod Trails
 pub mod Sizes
 pub mod Receipts
+pub mod Streams
+pub mod Transfers
+pub mod Overs
+pub mod Serving

@@ -6,6 +6,8 @@ mod answering;
 mod asked;
 mod attaching;
 mod changing;
+pub mod clock;
+pub mod counted;
 pub mod laws;
 pub mod message;
 mod opening;
@@ -14,10 +16,14 @@ pub mod port;
 pub mod reading;
 mod receiving;
 pub mod reply;
+pub mod serving;
 pub mod session;
+pub mod stream;
 mod versions;
 mod walking;
 
+pub use clock::Clock;
+pub use counted::{Counted, TwoEnded};
 pub use laws::message_is_steps;
 pub use message::{
     AttachMessage, CallMessage, CreateMessage, Message, OpenMessage, ReadMessage, TableStep,
@@ -25,7 +31,9 @@ pub use message::{
 };
 pub use port::{FindFault, PassFault, Port};
 pub use reply::{Bytes, Reply};
+pub use serving::{ServeFault, serve_stream};
 pub use session::Session;
+pub use stream::{Counts, Stream, Transfer, WriteFault, write_all};
 
 #[cfg(test)]
 mod tests;

@@ -134,10 +134,23 @@ impl Framer {
         if needed > self.buffer.len() {
             self.buffer.resize(needed, 0)?;
         }
-        self.buffer.copy_within(self.place..self.filled, 0);
-        self.place = 0;
-        self.filled = kept;
+        self.make_room();
         Ok(())
+    }
+
+    /// Moves the bytes that weren't given yet to the front, so that all behind them is room. It takes
+    /// no memory.
+    pub fn make_room(&mut self)
+        ensures left { left self.new ≡ left self.old }
+        ensures size { size_of self.new ≡ size_of self.old }
+        ensures room { length (left self.new) + length self.new.room ≡ size_of self.new }
+    {
+        if self.place == 0 {
+            return;
+        }
+        self.buffer.copy_within(self.place..self.filled, 0);
+        self.filled -= self.place;
+        self.place = 0;
     }
 
     /// The room behind the bytes that came, to be written to: `took` then says how much of it was.

@@ -148,7 +148,8 @@ fn put_data(out: &mut Vec<u8>, bytes: &[u8])
 fn put_stat_texts(out: &mut Vec<u8>, stat: &StatRef)
     requires fits { IsIn (Text ▸ Text ▸ Text ▸ Text) (users_in stat.now) }
     requires room { vec_len out.old + length (spelled (Text ▸ Text ▸ Text ▸ Text) (users_in stat.now)) ≤ vec_capacity out.old }
-    ensures { out.new.items ≡ out.old.items ++ spelled (Text ▸ Text ▸ Text ▸ Text) (users_in stat.now) }
+    ensures items { out.new.items ≡ out.old.items ++ spelled (Text ▸ Text ▸ Text ▸ Text) (users_in stat.now) }
+    ensures capacity { vec_capacity out.old ≤ vec_capacity out.new }
 {
     put_text(out, stat.name);
     put_text(out, stat.uid);
@@ -159,7 +160,8 @@ fn put_stat_texts(out: &mut Vec<u8>, stat: &StatRef)
 fn put_stat_fields(out: &mut Vec<u8>, stat: &StatRef)
     requires fits { IsIn (Text ▸ Text ▸ Text ▸ Text) (users_in stat.now) }
     requires room { vec_len out.old + (39 + length (spelled (Text ▸ Text ▸ Text ▸ Text) (users_in stat.now))) ≤ vec_capacity out.old }
-    ensures { out.new.items ≡ out.old.items ++ spelled stat_shape (stat_in stat.now) }
+    ensures items { out.new.items ≡ out.old.items ++ spelled stat_shape (stat_in stat.now) }
+    ensures capacity { vec_capacity out.old ≤ vec_capacity out.new }
 {
     put_two(out, stat.kind);
     put_four(out, stat.dev);
@@ -174,7 +176,8 @@ fn put_stat_fields(out: &mut Vec<u8>, stat: &StatRef)
 fn put_entry(out: &mut Vec<u8>, stat: &StatRef)
     requires fits { IsEntry (stat_in stat.now) }
     requires room { vec_len out.old + length (stat_entry (stat_in stat.now)) ≤ vec_capacity out.old }
-    ensures { out.new.items ≡ out.old.items ++ stat_entry (stat_in stat.now) }
+    ensures items { out.new.items ≡ out.old.items ++ stat_entry (stat_in stat.now) }
+    ensures capacity { vec_capacity out.old ≤ vec_capacity out.new }
 {
     put_two(out, (stat.entry_length() - 2) as u16);
     put_stat_fields(out, stat);
@@ -183,7 +186,8 @@ fn put_entry(out: &mut Vec<u8>, stat: &StatRef)
 fn put_stat(out: &mut Vec<u8>, stat: &StatRef)
     requires fits { IsIn (Boxed stat_shape) (stat_in stat.now) }
     requires room { vec_len out.old + length (spelled (Boxed stat_shape) (stat_in stat.now)) ≤ vec_capacity out.old }
-    ensures { out.new.items ≡ out.old.items ++ spelled (Boxed stat_shape) (stat_in stat.now) }
+    ensures items { out.new.items ≡ out.old.items ++ spelled (Boxed stat_shape) (stat_in stat.now) }
+    ensures capacity { vec_capacity out.old ≤ vec_capacity out.new }
 {
     put_two(out, stat.entry_length() as u16);
     put_entry(out, stat);
@@ -215,7 +219,8 @@ macro_rules! put_body {
 fn put_request(out: &mut Vec<u8>, body: &TBody)
     requires fits { RequestFits body.now }
     requires room { vec_len out.old + length (request_bytes body.now) ≤ vec_capacity out.old }
-    ensures { out.new.items ≡ out.old.items ++ request_bytes body.now }
+    ensures items { out.new.items ≡ out.old.items ++ request_bytes body.now }
+    ensures capacity { vec_capacity out.old ≤ vec_capacity out.new }
 {
     each_request!(put_body (body TBody out))
 }
@@ -224,7 +229,8 @@ fn put_request(out: &mut Vec<u8>, body: &TBody)
 fn put_reply(out: &mut Vec<u8>, body: &RBody)
     requires fits { ReplyFits body.now }
     requires room { vec_len out.old + length (reply_bytes body.now) ≤ vec_capacity out.old }
-    ensures { out.new.items ≡ out.old.items ++ reply_bytes body.now }
+    ensures items { out.new.items ≡ out.old.items ++ reply_bytes body.now }
+    ensures capacity { vec_capacity out.old ≤ vec_capacity out.new }
 {
     each_reply!(put_body (body RBody out))
 }
@@ -268,6 +274,7 @@ pub fn encode(message: &RMessage, out: &mut Vec<u8>) -> Result<(), AllocError>
     requires { Fits (r_view message.now) }
     ensures ok { OnOk result (out.new.items ≡ out.old.items ++ spelling (r_view message.now)) }
     ensures room { vec_len out.old + length (spelling (r_view message.now)) ≤ vec_capacity out.old → IsOk result }
+    ensures capacity { vec_capacity out.old ≤ vec_capacity out.new }
     ensures err { OnErr result (out.new.items ≡ out.old.items) }
 {
     let size = message.spelled_length();
@@ -282,6 +289,7 @@ pub fn encode_t(message: &TMessage, out: &mut Vec<u8>) -> Result<(), AllocError>
     requires { Fits (t_view message.now) }
     ensures ok { OnOk result (out.new.items ≡ out.old.items ++ spelling (t_view message.now)) }
     ensures room { vec_len out.old + length (spelling (t_view message.now)) ≤ vec_capacity out.old → IsOk result }
+    ensures capacity { vec_capacity out.old ≤ vec_capacity out.new }
     ensures err { OnErr result (out.new.items ≡ out.old.items) }
 {
     let size = message.spelled_length();

@@ -25,4 +25,4 @@ returns-clause-ok c =
     let m = c.args.message.now in
     let size = c.spelled_length-size.result in
     let header = c.put_header.ensures.items ∙ ap (λ (kind : ℕ). c.reserve.new.self.items ++ (spelled Four size ++ (spelled One kind ++ spelled Two m.tag))) c.request_kind.ensures in
-    written c.reserve.new.self.items (request_bytes m.body) (spelling (t_view m)) c.put_header.new.out.items c.put_request.new.out.items size (request_number m.body) m.tag (t_parts m) c.spelled_length-size.ensures header c.put_request.ensures ∙ ap (λ z. z ++ spelling (t_view m)) c.in_ok-reserve.ensures.items
+    written c.reserve.new.self.items (request_bytes m.body) (spelling (t_view m)) c.put_header.new.out.items c.put_request.new.out.items size (request_number m.body) m.tag (t_parts m) c.spelled_length-size.ensures header c.put_request.ensures.items ∙ ap (λ z. z ++ spelling (t_view m)) c.in_ok-reserve.ensures.items

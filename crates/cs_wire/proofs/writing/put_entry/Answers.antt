@@ -20,9 +20,9 @@ put_stat_fields-requires-clause-fits c = users_fit c.args.stat.now c.requires.fi
 pub put_stat_fields-requires-clause-room : goal.put_stat_fields-requires-clause-room
 put_stat_fields-requires-clause-room c = omega (arith, c.requires.room, entry_size_is (stat_in c.args.stat.now), stat_len c.args.stat.now, c.put_two.ensures.len, c.put_two.ensures.capacity)
 
-pub returns : goal.returns
-returns c =
+pub returns-clause-items : goal.returns-clause-items
+returns-clause-items c =
     let v = stat_in c.args.stat.now in
     let size : c.entry_length.result - 2 ≡ length (spelled stat_shape v) = omega (arith, c.entry_length.ensures, entry_size_is v) in
     let first : c.put_two.new.out.items ≡ c.args.out.now.items ++ spelled Two (length (spelled stat_shape v)) = c.put_two.ensures.items ∙ ap (λ (n : ℕ). c.args.out.now.items ++ spelled Two n) size in
-    then_put c.args.out.now.items (spelled Two (length (spelled stat_shape v))) (spelled stat_shape v) first c.put_stat_fields.ensures ∙ ap (λ (z : List ℕ). c.args.out.now.items ++ z) (sym (entry_is v))
+    then_put c.args.out.now.items (spelled Two (length (spelled stat_shape v))) (spelled stat_shape v) first c.put_stat_fields.ensures.items ∙ ap (λ (z : List ℕ). c.args.out.now.items ++ z) (sym (entry_is v))

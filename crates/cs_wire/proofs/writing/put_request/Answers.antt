@@ -3,16 +3,16 @@ use Rattle.cs_wire.specs.Fields.{Four, Eight, Raw, spelled}
 use Rattle.cs_wire.proofs.Putting.{then_put}
 use Rattle.cs_wire.proofs.writing.put_request.Goals as goal
 
-pub returns-in-Read : goal.returns-in-Read
+pub returns-in-Read-clause-items : goal.returns-in-Read-clause-items
 unfolding spelled
-returns-in-Read c =
+returns-in-Read-clause-items c =
     let count = spelled Four c.in-Read.count in
     let offset = spelled Eight c.in-Read.offset in
     rw c.in-Read.is (then_put c.args.out.now.items (spelled Four c.in-Read.fid) (offset ++ count) c.put_four-in-Read.ensures.items (then_put c.put_four-in-Read.new.out.items offset count c.put_eight.ensures.items c.put_four-in-Read-2.ensures.items))
 
-pub returns-in-Write : goal.returns-in-Write
+pub returns-in-Write-clause-items : goal.returns-in-Write-clause-items
 unfolding spelled
-returns-in-Write c =
+returns-in-Write-clause-items c =
     let fid = spelled Four c.in-Write.fid in
     let offset = spelled Eight c.in-Write.offset in
     let bytes = spelled Raw c.deref-in-Write.result.now in

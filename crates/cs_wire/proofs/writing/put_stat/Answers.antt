@@ -26,8 +26,8 @@ put_entry-requires-clause-room c =
     let v = stat_in c.args.stat.now in
     omega (arith, c.requires.room, ap length (boxed_is v), length-append (spelled Two (length (stat_entry v))) (stat_entry v), c.put_two.ensures.len, c.put_two.ensures.capacity)
 
-pub returns : goal.returns
-returns c =
+pub returns-clause-items : goal.returns-clause-items
+returns-clause-items c =
     let v = stat_in c.args.stat.now in
     let first : c.put_two.new.out.items ≡ c.args.out.now.items ++ spelled Two (length (stat_entry v)) = c.put_two.ensures.items ∙ ap (λ (n : ℕ). c.args.out.now.items ++ spelled Two n) c.entry_length.ensures in
-    then_put c.args.out.now.items (spelled Two (length (stat_entry v))) (stat_entry v) first c.put_entry.ensures ∙ ap (λ (z : List ℕ). c.args.out.now.items ++ z) (sym (boxed_is v))
+    then_put c.args.out.now.items (spelled Two (length (stat_entry v))) (stat_entry v) first c.put_entry.ensures.items ∙ ap (λ (z : List ℕ). c.args.out.now.items ++ z) (sym (boxed_is v))

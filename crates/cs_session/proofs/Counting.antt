@@ -1,0 +1,68 @@
+-- Counts over several calls.
+use Rattle.std.proofs.Common.{◌≡◌, ℕ, ◌+◌, ◌-◌, ◌<◌, ◌≤◌, Bool, true, false, cond, eqb, ltb, ◌&&◌, min, refl, sym, ap, ◌∙◌, inl, inr, arith}
+use Rattle.std.proofs.lemmas.Bool.{lt-ltb}
+use Rattle.cs_session.specs.declared.stream.Counts.{Counts}
+use Rattle.cs_session.specs.declared.stream.Transfer.{Transfer}
+use Rattle.cs_session.specs.declared.stream.Transfer.TheVariants.{Bytes, Interrupted, Failed}
+use Rattle.cs_session.specs.Streams.{up, counted_read, counted_write, KeepsReads, KeepsFaults, BlamesWrites}
+
+pub keeps_reads_same : (c : Counts) → KeepsReads c c
+keeps_reads_same c = record { reads = refl; failed = refl; interrupted = refl; ends = refl }
+
+pub keeps_reads_then : (a b c : Counts) → KeepsReads a b → KeepsReads b c → KeepsReads a c
+keeps_reads_then a b c p q = record { reads = q.reads ∙ p.reads; failed = q.failed ∙ p.failed; interrupted = q.interrupted ∙ p.interrupted; ends = q.ends ∙ p.ends }
+
+counted_write_keeps : (done : Transfer) (bytes : ℕ) (c : Counts) → KeepsReads c (counted_write done bytes c)
+counted_write_keeps (Bytes count) bytes c = record { reads = refl; failed = refl; interrupted = refl; ends = refl }
+counted_write_keeps Interrupted bytes c = record { reads = refl; failed = refl; interrupted = refl; ends = refl }
+counted_write_keeps Failed bytes c = record { reads = refl; failed = refl; interrupted = refl; ends = refl }
+
+-- a write makes no read
+pub keeps_reads_more : (a b c : Counts) (done : Transfer) (bytes : ℕ) → KeepsReads a b → c ≡ counted_write done bytes b → KeepsReads a c
+keeps_reads_more a b c done bytes p e = rw e (keeps_reads_then a b (counted_write done bytes b) p (counted_write_keeps done bytes b))
+
+-- a count that may rise doesn't fall
+pub up_if : (test : Bool) (was count : ℕ) → was ≤ count → was ≤ cond test (up 1 count) count
+up_if true was count le = omega (arith, le)
+up_if false was count le = le
+
+pub keeps_faults_same : (c : Counts) → KeepsFaults c c
+keeps_faults_same c = record { failed = omega arith; idle = omega arith }
+
+pub keeps_faults_then : (a b c : Counts) → KeepsFaults a b → KeepsFaults b c → KeepsFaults a c
+keeps_faults_then a b c p q = record { failed = omega (arith, p.failed, q.failed); idle = omega (arith, p.idle, q.idle) }
+
+-- a fault that came later came since
+pub blames_writes : (a b c : Counts) → KeepsFaults a b → BlamesWrites b c → BlamesWrites a c
+blames_writes a b c p (inl failed) = inl (omega (arith, p.failed, failed))
+blames_writes a b c p (inr (inl idle)) = inr (inl (omega (arith, p.idle, idle)))
+blames_writes a b c p (inr (inr waits)) = inr (inr waits)
+
+-- what a server knows of its reads so far
+pub record Reading (count : ℕ) (was is : Counts) : Type 0 where
+  pub reads : up count was.reads ≤ is.reads
+  pub failed : was.failed_reads ≤ is.failed_reads
+  pub ends : was.ends ≤ is.ends
+  pub faults : KeepsFaults was is
+
+counted_reading : (count : ℕ) (was is : Counts) (done : Transfer) (room : ℕ) → Reading count was is → Reading (count + 1) was (counted_read done room is)
+counted_reading count was is (Bytes n) room r = record { reads = omega (arith, r.reads); failed = r.failed; ends = up_if (eqb n 0 && ltb 0 room) was.ends is.ends r.ends; faults = record { failed = r.faults.failed; idle = r.faults.idle } }
+counted_reading count was is Interrupted room r = record { reads = omega (arith, r.reads); failed = r.failed; ends = r.ends; faults = record { failed = r.faults.failed; idle = r.faults.idle } }
+counted_reading count was is Failed room r = record { reads = omega (arith, r.reads); failed = omega (arith, r.failed); ends = r.ends; faults = record { failed = r.faults.failed; idle = r.faults.idle } }
+
+-- one read more
+pub reading_more : (count : ℕ) (was is : Counts) (done : Transfer) (room : ℕ) (new : Counts) → Reading count was is → new ≡ counted_read done room is → Reading (count + 1) was new
+reading_more count was is done room new r e = rw e (counted_reading count was is done room r)
+
+-- and no more
+pub reading_kept : (count : ℕ) (was is new : Counts) → Reading count was is → KeepsReads is new → KeepsFaults is new → Reading count was new
+reading_kept count was is new r keeps faults = record {
+  reads = omega (arith, r.reads, keeps.reads);
+  failed = omega (arith, r.failed, keeps.failed);
+  ends = omega (arith, r.ends, keeps.ends);
+  faults = keeps_faults_then was is new r.faults faults;
+}
+
+-- an end was met
+pub ends_up : (was is room : ℕ) → was ≤ is → 0 < room → up 1 was ≤ cond (eqb 0 0 && ltb 0 room) (up 1 is) is
+ends_up was is room le some = rw (lt-ltb 0 room some) (omega (arith, le))

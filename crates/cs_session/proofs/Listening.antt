@@ -1,0 +1,127 @@
+-- Bytes that were read and answered, and more of them.
+use Rattle.std.proofs.Common.{◌≡◌, ◌≢◌, ℕ, ◌+◌, ◌<◌, ◌≤◌, List, [], ◌++◌, length, take, drop, Option, refl, sym, ap, subst, ◌∙◌, append_assoc, arith}
+use Rattle.std.specs.Prelude.{Result, Ok, Err}
+use Rattle.std.specs.Io.KnownBytes.{Appends, Consumes, Keeps, IsAtEnd}
+use Rattle.std.proofs.lemmas.List.{append-nil, take_at, take-append-drop, length-append, length-drop, length-take-le}
+use Rattle.cs_wire.specs.declared.framer.FrameFault.TheVariants.{Undersize, Oversize, Cut}
+use Rattle.cs_wire.specs.Framing.{IsUnfinished, size_in}
+use Rattle.cs_wire.specs.Held.{Held, left, size_of, taken, written}
+use Rattle.cs_names.specs.declared.limits.TheConstants.{MESSAGE_BYTES}
+use Rattle.cs_wire.proofs.OneCut.{short}
+use Rattle.cs_session.specs.declared.serving.ServeFault.{ServeFault}
+use Rattle.cs_session.specs.declared.serving.ServeFault.TheVariants.{ReadFault, WriteFault, FrameFault, Memory}
+use Rattle.cs_session.specs.Marks.{PortMark}
+use Rattle.cs_session.specs.Questions.{Question, Told}
+use Rattle.cs_session.specs.Sessions.{Sess}
+use Rattle.cs_session.specs.Serving.{Served, Handled, Conversed, StopsAt, EndsAt}
+use Rattle.cs_session.proofs.Known.{Appends-none, Appends-then, Consumes-none, Consumes-keep, Consumes-then}
+use Rattle.cs_session.proofs.Conversing.{served_none, served_on, served_then}
+
+-- what fills the room is all of it
+pub written-whole : (room bytes : List ℕ) → length bytes ≡ length room → written room bytes ≡ bytes
+written-whole room bytes long = take_at bytes (drop (length bytes) room) (length room) long
+
+pub length-written : (room bytes : List ℕ) → length (written room bytes) ≡ length room
+length-written room bytes =
+    length-take-le (length room) (bytes ++ drop (length bytes) room) (omega (arith, length-append bytes (drop (length bytes) room), length-drop (length bytes) room))
+
+pub size-written : (held : Held) (bytes : List ℕ) → size_of (record held { room = written held.room bytes }) ≡ size_of held
+size-written held bytes = ap (λ (n : ℕ). length held.bytes + n) (length-written held.room bytes)
+
+pub size-taken : (held : Held) (count : ℕ) → size_of (taken held count) ≡ size_of held
+size-taken held count = omega (arith, length-append held.bytes (take count held.room), length-append (take count held.room) (drop count held.room), ap length (take-append-drop count held.room))
+
+-- behind less than a message there is room for more of it
+pub room_some : (was is : Held) → left is ≡ left was → size_of is ≡ size_of was → length (left is) + length is.room ≡ size_of is → MESSAGE_BYTES ≤ size_of was → IsUnfinished (left was) → 0 < length is.room
+room_some was is same size all enough part = omega (arith, ap length same, size, all, enough, short (left was) part)
+
+pub unfinished_none : IsUnfinished []
+unfolding size_in
+unfinished_none = tt
+
+-- a fault of the answers ends the whole
+stops_ends : (fault : ServeFault) (came left unsent : List ℕ) (rest : Option (List ℕ)) → StopsAt (Err fault) left unsent → EndsAt (Err fault) came left unsent rest
+stops_ends (FrameFault Undersize) came left unsent rest h = h
+stops_ends (FrameFault Oversize) came left unsent rest h = h
+stops_ends (FrameFault Cut) came left unsent rest h = absurd h.0
+stops_ends WriteFault came left unsent rest h = tt
+stops_ends ReadFault came left unsent rest h = absurd h
+stops_ends Memory came left unsent rest h = absurd h
+
+module _ {P : Type 0} (gives : P → PortMark → Question → Told → P → Type 0) where
+  -- so far, with every whole message answered and every reply written
+  pub record Listening (s : Sess) (p : P) (left : List ℕ) (rem rem' con con' : Option (List ℕ)) (s' : Sess) (p' : P) : Type 0 where
+    pub came : List ℕ
+    pub sent : List ℕ
+    pub consumes : Consumes rem rem' came
+    pub appends : Appends con con' sent
+    pub served : Served gives s p came left sent s' p'
+
+  pub listening_none : (s : Sess) (p : P) (left : List ℕ) (rem con : Option (List ℕ)) → left ≡ [] → Listening s p left rem rem con con s p
+  listening_none s p left rem con e = record { came = []; sent = []; consumes = Consumes-none rem; appends = Appends-none con; served = subst (λ (z : List ℕ). Served gives s p [] z [] s p) (sym e) (served_none gives s p []) }
+
+  -- nothing came
+  pub listening_same : (s : Sess) (p : P) (left : List ℕ) (rem rem' rem'' con con' con'' : Option (List ℕ)) (t : Sess) (q : P)
+      → Listening s p left rem rem' con con' t q → Keeps rem' rem'' → con'' ≡ con' → Listening s p left rem rem'' con con'' t q
+  listening_same s p left rem rem' rem'' con con' con'' t q h keeps e =
+      subst (λ (z : Option (List ℕ)). Listening s p left rem rem'' con z t q) (sym e) (record { came = h.came; sent = h.sent; consumes = Consumes-keep rem rem' rem'' h.came h.consumes keeps; appends = h.appends; served = h.served })
+
+  -- a piece came
+  pub listening_on : (s : Sess) (p : P) (left : List ℕ) (rem rem' rem'' con con' con'' : Option (List ℕ)) (t : Sess) (q : P) (piece : List ℕ)
+      → Listening s p left rem rem' con con' t q → Consumes rem' rem'' piece → con'' ≡ con' → Listening s p (left ++ piece) rem rem'' con con'' t q
+  listening_on s p left rem rem' rem'' con con' con'' t q piece h consumes e =
+      subst (λ (z : Option (List ℕ)). Listening s p (left ++ piece) rem rem'' con z t q) (sym e) (record { came = h.came ++ piece; sent = h.sent; consumes = Consumes-then rem rem' rem'' h.came piece h.consumes consumes; appends = h.appends; served = served_on gives s p h.came left h.sent t q piece h.served })
+
+  -- it was answered
+  pub listening_more : (s : Sess) (p : P) (mid left : List ℕ) (rem rem' con con' con'' : Option (List ℕ)) (t : Sess) (q : P) (u : Sess) (r : P)
+      → Listening s p mid rem rem' con con' t q → Handled gives (Ok tt) t q mid left con' con'' u r → Listening s p left rem rem' con con'' u r
+  listening_more s p mid left rem rem' con con' con'' t q u r h a =
+      let all : a.sent ++ a.unsent ≡ a.sent = ap (λ (z : List ℕ). a.sent ++ z) a.stops.1 ∙ append-nil a.sent in
+      record {
+        came = h.came;
+        sent = h.sent ++ a.sent;
+        consumes = h.consumes;
+        appends = Appends-then con con' con'' h.sent a.sent h.appends a.appends;
+        served = served_then gives s p h.came mid h.sent t q left a.sent u r h.served (subst (λ (z : List ℕ). Served gives t q mid left z u r) all a.served);
+      }
+
+  -- it was answered up to a fault
+  pub conversed_part : (fault : ServeFault) (s : Sess) (p : P) (mid left : List ℕ) (rem rem' con con' con'' : Option (List ℕ)) (t : Sess) (q : P) (u : Sess) (r : P)
+      → Listening s p mid rem rem' con con' t q → Handled gives (Err fault) t q mid left con' con'' u r → Conversed gives (Err fault) s p rem rem' con con'' u r
+  conversed_part fault s p mid left rem rem' con con' con'' t q u r h a = record {
+    came = h.came;
+    left = left;
+    sent = h.sent ++ a.sent;
+    unsent = a.unsent;
+    consumes = h.consumes;
+    appends = Appends-then con con' con'' h.sent a.sent h.appends a.appends;
+    served = subst (λ (z : List ℕ). Served gives s p h.came left z u r) (sym (append_assoc h.sent a.sent a.unsent)) (served_then gives s p h.came mid h.sent t q left (a.sent ++ a.unsent) u r h.served a.served);
+    ends = stops_ends fault h.came left a.unsent rem' a.stops;
+  }
+
+  -- it ended with every reply written
+  pub conversed_whole : (result : Result (Unit {0}) ServeFault) (s : Sess) (p : P) (left : List ℕ) (rem rem' con con' : Option (List ℕ)) (t : Sess) (q : P)
+      → Listening s p left rem rem' con con' t q → ((came : List ℕ) → EndsAt result came left [] rem') → Conversed gives result s p rem rem' con con' t q
+  conversed_whole result s p left rem rem' con con' t q h ends = record {
+    came = h.came;
+    left = left;
+    sent = h.sent;
+    unsent = [];
+    consumes = h.consumes;
+    appends = h.appends;
+    served = subst (λ (z : List ℕ). Served gives s p h.came left z t q) (sym (append-nil h.sent)) h.served;
+    ends = ends h.came;
+  }
+
+  -- nothing was read
+  pub conversed_nothing : (s : Sess) (p : P) (rem con : Option (List ℕ)) → Conversed gives (Err Memory) s p rem rem con con s p
+  conversed_nothing s p rem con = record {
+    came = [];
+    left = [];
+    sent = [];
+    unsent = [];
+    consumes = Consumes-none rem;
+    appends = Appends-none con;
+    served = served_none gives s p [];
+    ends = (refl, refl);
+  }

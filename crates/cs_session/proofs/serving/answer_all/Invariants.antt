@@ -1,0 +1,23 @@
+use Rattle.std.proofs.Common.{◌≡◌, ◌≤◌, ◌*◌, ℕ, None, length, vec_capacity}
+use Rattle.cs_names.specs.declared.limits.TheConstants.{MESSAGE_BYTES}
+use Rattle.cs_wire.specs.Held.{left, size_of}
+use Rattle.cs_session.specs.Streams.{KeepsReads, KeepsFaults}
+use Rattle.cs_session.proofs.Writing.{Handling}
+use Rattle.cs_session.proofs.serving.answer_all.Given as goal
+
+abbrev pub invariant-loop-fault : goal.invariant-loop-fault
+invariant-loop-fault g l =
+    let was = g.S.Stream.counts l.fn.stream in
+    let is = g.S.Stream.counts l.stream in
+    record {
+      handling : Handling g.P.Port.gives l.fn.session l.fn.port (left l.fn.framer) (left l.framer) (g.S.Stream.contents l.fn.stream) (g.S.Stream.contents l.stream) l.session l.port;
+      faults : KeepsFaults was is;
+      reads : KeepsReads was is;
+      remaining : g.S.Stream.remaining l.stream ≡ g.S.Stream.remaining l.fn.stream;
+      size : size_of l.framer ≡ size_of l.fn.framer;
+      room : 2 * MESSAGE_BYTES ≤ vec_capacity l.replies;
+      idle : l.session.pending ≡ None;
+    }
+
+abbrev pub decreases-loop-fault : goal.decreases-loop-fault
+decreases-loop-fault g l = length (left l.framer)

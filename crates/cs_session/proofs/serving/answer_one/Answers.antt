@@ -1,0 +1,10 @@
+use Rattle.std.proofs.Common.{arith}
+use Rattle.cs_session.proofs.Conversing.{on_ok}
+use Rattle.cs_session.proofs.serving.answer_one.Goals as goal
+
+pub returns-clause-answered : goal.returns-clause-answered
+returns-clause-answered g c = record {
+  told = _;
+  replied = c.reply-reply.ensures.replied;
+  adds = on_ok _ _ (c.encode.ensures.room (omega (arith, c.requires.room, c.reply-reply.ensures.fits.fits.is_small))) c.encode.ensures.ok;
+}

@@ -1,0 +1,96 @@
+use Rattle.std.proofs.Common.{◌≡◌, ◌≤◌, ◌<◌, ◌+◌, ◌++◌, ℕ, List, length, take, ◌∙◌, refl, sym, ap, arith}
+use Rattle.cs_wire.specs.Held.{left, size_of, taken, written}
+use Rattle.cs_session.specs.declared.stream.Transfer.TheVariants.{Bytes, Interrupted}
+use Rattle.cs_session.proofs.Known.{Consumes-keeps}
+use Rattle.cs_session.proofs.Counting.{keeps_faults_same, ends_up, reading_more, reading_kept}
+use Rattle.cs_session.proofs.Listening.{written-whole, size-written, size-taken, room_some, unfinished_none, listening_none, listening_same, listening_on, listening_more, conversed_part, conversed_whole}
+use Rattle.cs_session.proofs.serving.converse.Goals as goal
+
+pub loop-init : goal.loop-init
+loop-init g c = record {
+  listening = listening_none g.P.Port.gives _ _ _ _ _ c.requires.left;
+  unfinished = rw c.requires.left unfinished_none;
+  size = c.requires.size;
+  room = c.requires.room;
+  idle = c.requires.idle;
+  few = omega arith;
+  waits = omega arith;
+  reads = omega arith;
+  failed = omega arith;
+  ends = omega arith;
+  faults = keeps_faults_same _;
+}
+
+pub returns-in-Err-clause-conversed : goal.returns-in-Err-clause-conversed
+returns-in-Err-clause-conversed g c =
+    let was = c.loop.invariant in
+    let said = rw c.in-Bytes-eq0.field-0-test at c.in-Bytes-eq0.ensures in
+    let same = listening_same g.P.Port.gives _ _ _ _ _ _ _ _ _ _ _ was.listening (Consumes-keeps _ _ said.bytes.1) said.contents in
+    let room = room_some c.loop.framer c.make_room.new.self c.make_room.ensures.left c.make_room.ensures.size c.make_room.ensures.room was.size was.unfinished in
+    let some : 0 < length c.read.new.buf = omega (arith, room, c.read.auto.buf, ap length c.room.ensures.value) in
+    let left_over = rw c.make_room.ensures.left at c.in-Err.ensures.1 in
+    rw c.in-Err.ensures.0 (conversed_whole g.P.Port.gives _ _ _ _ _ _ _ _ _ _ same (λ _. (was.unfinished, left_over, refl, said.bytes.2 refl some)))
+
+pub returns-in-Err-clause-cut : goal.returns-in-Err-clause-cut
+returns-in-Err-clause-cut g c =
+    let was = c.loop.invariant in
+    let said = rw c.in-Bytes-eq0.field-0-test at c.in-Bytes-eq0.ensures in
+    let room = room_some c.loop.framer c.make_room.new.self c.make_room.ensures.left c.make_room.ensures.size c.make_room.ensures.room was.size was.unfinished in
+    λ _. rw said.counted (ends_up _ _ (length c.room.result.now) was.ends (omega (arith, room, ap length c.room.ensures.value)))
+
+pub returns-in-Err-answer_all-clause-conversed : goal.returns-in-Err-answer_all-clause-conversed
+returns-in-Err-answer_all-clause-conversed g c =
+    let was = c.loop.invariant in
+    let said = c.in-Bytes.ensures in
+    let on = listening_on g.P.Port.gives _ _ _ _ _ _ _ _ _ _ _ _ was.listening said.bytes.1 said.contents in
+    let full = written-whole c.make_room.new.self.room c.read.new.buf (c.read.auto.buf ∙ ap length c.room.ensures.value) in
+    let here : left c.took.new.self ≡ left c.loop.framer ++ take c.in-Bytes.count c.read.new.buf =
+    c.took.ensures.left ∙ ap (λ (z : List ℕ). z ++ take c.in-Bytes.count (written c.make_room.new.self.room c.read.new.buf)) c.make_room.ensures.left ∙ ap (λ (z : List ℕ). left c.loop.framer ++ take c.in-Bytes.count z) full in
+    let handled = rw here at c.in-Err-answer_all.ensures.handled in
+    rw c.in-Err-answer_all.ensures.remaining (conversed_part g.P.Port.gives _ _ _ _ _ _ _ _ _ _ _ _ _ _ on handled)
+
+pub loop-preserved-in-Interrupted : goal.loop-preserved-in-Interrupted
+loop-preserved-in-Interrupted g c =
+    let was = c.loop.invariant in
+    let said = c.in-Interrupted.ensures in
+    let reading = reading_more c.loop.counter (g.S.Stream.counts c.args.stream.now) (g.S.Stream.counts c.loop.stream) Interrupted (length c.room.result.now) (g.S.Stream.counts c.read.new.self) (record { reads = was.reads; failed = was.failed; ends = was.ends; faults = was.faults }) said.counted in
+    record {
+      listening = rw c.make_room.ensures.left (listening_same g.P.Port.gives _ _ _ _ _ _ _ _ _ _ _ was.listening said.bytes said.contents);
+      unfinished = rw c.make_room.ensures.left was.unfinished;
+      size = rw (size-written c.make_room.new.self c.read.new.buf, c.make_room.ensures.size) was.size;
+      room = was.room;
+      idle = was.idle;
+      few = omega arith;
+      waits = rw said.counted (omega (arith, was.waits, was.few));
+      reads = reading.reads;
+      failed = reading.failed;
+      ends = reading.ends;
+      faults = reading.faults;
+    }
+
+pub loop-preserved : goal.loop-preserved
+loop-preserved g c =
+    let was = c.loop.invariant in
+    let said = c.in-Bytes.ensures in
+    let answered = c.in-Ok-answer_all.ensures in
+    let on = listening_on g.P.Port.gives _ _ _ _ _ _ _ _ _ _ _ _ was.listening said.bytes.1 said.contents in
+    let full = written-whole c.make_room.new.self.room c.read.new.buf (c.read.auto.buf ∙ ap length c.room.ensures.value) in
+    let here : left c.took.new.self ≡ left c.loop.framer ++ take c.in-Bytes.count c.read.new.buf =
+    c.took.ensures.left ∙ ap (λ (z : List ℕ). z ++ take c.in-Bytes.count (written c.make_room.new.self.room c.read.new.buf)) c.make_room.ensures.left ∙ ap (λ (z : List ℕ). left c.loop.framer ++ take c.in-Bytes.count z) full in
+    let handled = rw here at answered.handled in
+    let more = reading_more c.loop.counter (g.S.Stream.counts c.args.stream.now) (g.S.Stream.counts c.loop.stream) (Bytes c.in-Bytes.count) (length c.room.result.now) (g.S.Stream.counts c.read.new.self) (record { reads = was.reads; failed = was.failed; ends = was.ends; faults = was.faults }) said.counted in
+    let reading = reading_kept _ _ _ _ more answered.reads answered.faults in
+    let size = answered.size ∙ ap size_of c.took.ensures.exact ∙ size-taken (record c.make_room.new.self { room = written c.make_room.new.self.room c.read.new.buf }) c.in-Bytes.count ∙ size-written c.make_room.new.self c.read.new.buf ∙ c.make_room.ensures.size in
+    record {
+      listening = rw answered.remaining (listening_more g.P.Port.gives _ _ _ _ _ _ _ _ _ _ _ _ _ on handled);
+      unfinished = handled.stops.0;
+      size = rw size was.size;
+      room = answered.room;
+      idle = answered.idle;
+      few = omega arith;
+      waits = omega arith;
+      reads = reading.reads;
+      failed = reading.failed;
+      ends = reading.ends;
+      faults = reading.faults;
+    }

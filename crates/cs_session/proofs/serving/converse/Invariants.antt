@@ -1,0 +1,25 @@
+use Rattle.std.proofs.Common.{◌≡◌, ◌≤◌, ◌<◌, ◌*◌, ℕ, None, length, vec_capacity}
+use Rattle.cs_names.specs.declared.limits.TheConstants.{MESSAGE_BYTES}
+use Rattle.cs_wire.specs.Framing.{IsUnfinished}
+use Rattle.cs_wire.specs.Held.{left, size_of}
+use Rattle.cs_session.specs.Streams.{KeepsFaults, up}
+use Rattle.cs_session.proofs.Listening.{Listening}
+use Rattle.cs_session.proofs.serving.converse.Given as goal
+
+abbrev pub invariant-loop : goal.invariant-loop
+invariant-loop g l =
+    let was = g.S.Stream.counts l.fn.stream in
+    let is = g.S.Stream.counts l.stream in
+    record {
+      listening : Listening g.P.Port.gives l.fn.session l.fn.port (left l.framer) (g.S.Stream.remaining l.fn.stream) (g.S.Stream.remaining l.stream) (g.S.Stream.contents l.fn.stream) (g.S.Stream.contents l.stream) l.session l.port;
+      unfinished : IsUnfinished (left l.framer);
+      size : MESSAGE_BYTES ≤ size_of l.framer;
+      room : 2 * MESSAGE_BYTES ≤ vec_capacity l.replies;
+      idle : l.session.pending ≡ None;
+      few : l.waits < 1000;
+      waits : l.waits ≤ is.interrupted_reads;
+      reads : up l.counter was.reads ≤ is.reads;
+      failed : was.failed_reads ≤ is.failed_reads;
+      ends : was.ends ≤ is.ends;
+      faults : KeepsFaults was is;
+    }

@@ -1,0 +1,15 @@
+use Rattle.cs_session.proofs.Listening.{conversed_nothing}
+use Rattle.cs_session.proofs.serving.serve_stream.Goals as goal
+use Rattle.cs_session.proofs.serving.serve_stream.Goals.{in-Ok, in-Err}
+
+pub returns-clause-serves : goal.returns-clause-serves
+returns-clause-serves g c = record {
+  last = c.match-buffers.session;
+  there = c.match-buffers.port;
+  moment = c.now.result;
+  conversed = elim c.match-buffers.branch [
+    | in-Ok w ↦ rw (w.result-is, w.stream-is, w.session-is, w.port-is, ← c.new-session.ensures) w.converse-result.ensures.conversed
+    | in-Err w ↦ rw (w.result-is, w.stream-is, w.session-is, w.port-is, c.new-session.ensures) (conversed_nothing g.P.Port.gives _ _ _ _)
+  ];
+  hung_up = rw c.hang_up.ensures.ended at c.hang_up.ensures.answered;
+}

@@ -1,0 +1,7 @@
+//! What tells a connection the time.
+
+/// A clock, in seconds since 1970. A moment may come before an earlier one.
+pub trait Clock {
+    /// This moment.
+    fn now(&mut self) -> u32;
+}

@@ -1,0 +1,238 @@
+//! A connection over a stream: its messages are answered until the stream ends.
+ghost use Rattle.std.specs.Prelude.{◌≡◌, ◌+◌, ◌*◌, ◌<◌, ◌≤◌, ℕ, [], length, vec_len, vec_capacity, IfOk, None, Ok, Err};
+ghost use Rattle.cs_names.specs.declared.limits.TheConstants.{MESSAGE_BYTES};
+ghost use Rattle.cs_wire.specs.Framing.{IsUnfinished};
+ghost use Rattle.cs_wire.specs.Held.{left, size_of};
+ghost use Rattle.cs_session.specs.Serving.{Adds, Served, Handled, Conversed, Serves, StopsFor};
+ghost use Rattle.cs_session.specs.Streams.{KeepsReads, KeepsFaults, BlamesReads, BlamesWrites, up};
+
+use crate::clock::Clock;
+use crate::port::Port;
+use crate::session::Session;
+use crate::stream::{Stream, Transfer, write_all};
+use cs_names::limits::{CONNECTION_READS, INTERRUPTIONS, MESSAGE_BYTES};
+use cs_wire::{FrameFault, Framer, encode};
+use std::alloc::{AllocError, Global};
+use std::fmt;
+
+/// Why a stream was not served to its end.
+#[derive(Clone, Copy, Debug, PartialEq, Eq)]
+pub enum ServeFault {
+    /// A read failed, too many in a row were interrupted, or too many were made.
+    ReadFault,
+    /// A write failed, took no byte, or too many in a row were interrupted.
+    WriteFault,
+    /// No message stands next.
+    FrameFault(FrameFault),
+    /// There was no memory for the buffers: nothing was read.
+    Memory,
+}
+
+impl fmt::Display for ServeFault {
+    fn fmt<W: fmt::Write>(&self, f: &mut fmt::Formatter<W>) -> fmt::Result {
+        match self {
+            ServeFault::ReadFault => write!(f, "the stream cannot be read"),
+            ServeFault::WriteFault => write!(f, "the stream cannot be written"),
+            ServeFault::FrameFault(fault) => write!(f, "{fault}"),
+            ServeFault::Memory => write!(f, "out of memory"),
+        }
+    }
+}
+
+/// Why no more messages were answered.
+#[derive(Clone, Copy, Debug, PartialEq, Eq)]
+pub(crate) enum Progress {
+    /// The replies fill their room.
+    More,
+    /// No whole message is left.
+    Done,
+    /// No message stands next.
+    Stopped(FrameFault),
+}
+
+/// The buffers of a connection: for what comes, and for the replies. They never grow.
+fn buffers(alloc: Global) -> Result<(Framer, Vec<u8>), AllocError>
+    ensures left { IfOk result (λ x. left x.0 ≡ []) }
+    ensures size { IfOk result (λ x. MESSAGE_BYTES ≤ size_of x.0) }
+    ensures room { IfOk result (λ x. 2 * MESSAGE_BYTES ≤ vec_capacity x.1) }
+{
+    let mut framer = Framer::new(alloc);
+    framer.reserve(MESSAGE_BYTES as usize)?;
+    let replies = Vec::with_capacity(alloc, 2 * MESSAGE_BYTES as usize)?;
+    Ok((framer, replies))
+}
+
+/// Answers a message, and puts its reply behind the others.
+fn answer_one<P: Port>(
+    alloc: Global,
+    session: &mut Session,
+    replies: &mut Vec<u8>,
+    port: &mut P,
+    now: u32,
+    message: &[u8],
+)
+    requires whole { 7 ≤ length message.now }
+    requires room { vec_len replies.old + MESSAGE_BYTES ≤ vec_capacity replies.old }
+    requires idle { session.old.pending ≡ None }
+    ensures answered { Adds P.gives now message.now session.old port.old replies.old.items replies.new.items session.new port.new }
+    ensures room { vec_capacity replies.old ≤ vec_capacity replies.new }
+    ensures idle { session.new.pending ≡ None }
+{
+    let reply = session.reply(alloc, port, now, message);
+    encode(&reply, replies).unwrap();
+}
+
+/// Answers whole messages in place, with each reply at its final place behind the others, while there
+/// is room for a reply.
+fn answer_some<P: Port, C: Clock>(
+    alloc: Global,
+    framer: &mut Framer,
+    session: &mut Session,
+    replies: &mut Vec<u8>,
+    port: &mut P,
+    clock: &mut C,
+) -> Progress
+    requires empty { replies.old.items ≡ [] }
+    requires room { 2 * MESSAGE_BYTES ≤ vec_capacity replies.old }
+    requires idle { session.old.pending ≡ None }
+    ensures served { Served P.gives session.old port.old (left framer.old) (left framer.new) replies.new.items session.new port.new }
+    ensures stops { StopsFor result (left framer.old) (left framer.new) }
+    ensures size { size_of framer.new ≡ size_of framer.old }
+    ensures room { 2 * MESSAGE_BYTES ≤ vec_capacity replies.new }
+    ensures idle { session.new.pending ≡ None }
+{
+    while replies.len() <= MESSAGE_BYTES as usize {
+        match framer.next() {
+            Err(fault) => return Progress::Stopped(fault),
+            Ok(None) => return Progress::Done,
+            Ok(Some(message)) => {
+                answer_one(alloc, session, replies, port, clock.now(), message);
+            }
+        }
+    }
+    Progress::More
+}
+
+/// Answers every whole message, and writes the replies that are ready in one write.
+fn answer_all<S: Stream, P: Port, C: Clock>(
+    alloc: Global,
+    framer: &mut Framer,
+    session: &mut Session,
+    replies: &mut Vec<u8>,
+    stream: &mut S,
+    port: &mut P,
+    clock: &mut C,
+) -> Result<(), ServeFault>
+    requires room { 2 * MESSAGE_BYTES ≤ vec_capacity replies.old }
+    requires idle { session.old.pending ≡ None }
+    ensures handled { Handled P.gives result session.old port.old (left framer.old) (left framer.new) (S.contents stream.old) (S.contents stream.new) session.new port.new }
+    ensures blamed { result ≡ Err ServeFault.WriteFault → BlamesWrites (S.counts stream.old) (S.counts stream.new) }
+    ensures faults { KeepsFaults (S.counts stream.old) (S.counts stream.new) }
+    ensures reads { KeepsReads (S.counts stream.old) (S.counts stream.new) }
+    ensures remaining { S.remaining stream.new ≡ S.remaining stream.old }
+    ensures size { size_of framer.new ≡ size_of framer.old }
+    ensures room { 2 * MESSAGE_BYTES ≤ vec_capacity replies.new }
+    ensures idle { session.new.pending ≡ None }
+{
+    loop {
+        replies.clear();
+        let progress = answer_some(alloc, framer, session, replies, port, clock);
+        match write_all(stream, replies) {
+            Err(_) => return Err(ServeFault::WriteFault),
+            Ok(()) => {}
+        }
+        match progress {
+            Progress::More => continue,
+            Progress::Done => return Ok(()),
+            Progress::Stopped(fault) => return Err(ServeFault::FrameFault(fault)),
+        }
+    }
+}
+
+/// Reads and answers until the stream ends.
+fn converse<S: Stream, P: Port, C: Clock>(
+    alloc: Global,
+    framer: &mut Framer,
+    session: &mut Session,
+    replies: &mut Vec<u8>,
+    stream: &mut S,
+    port: &mut P,
+    clock: &mut C,
+) -> Result<(), ServeFault>
+    requires left { left framer.old ≡ [] }
+    requires size { MESSAGE_BYTES ≤ size_of framer.old }
+    requires room { 2 * MESSAGE_BYTES ≤ vec_capacity replies.old }
+    requires idle { session.old.pending ≡ None }
+    ensures conversed { Conversed P.gives result session.old port.old (S.remaining stream.old) (S.remaining stream.new) (S.contents stream.old) (S.contents stream.new) session.new port.new }
+    ensures read_fault { result ≡ Err ServeFault.ReadFault → BlamesReads (S.counts stream.old) (S.counts stream.new) }
+    ensures write_fault { result ≡ Err ServeFault.WriteFault → BlamesWrites (S.counts stream.old) (S.counts stream.new) }
+    ensures ended { result ≡ Ok tt → up 1 (S.counts stream.old).ends ≤ (S.counts stream.new).ends }
+    ensures cut { result ≡ Err (ServeFault.FrameFault FrameFault.Cut) → up 1 (S.counts stream.old).ends ≤ (S.counts stream.new).ends }
+    ensures idle { session.new.pending ≡ None }
+{
+    let mut waits = 0;
+    for _ in 0..CONNECTION_READS {
+        framer.make_room();
+        match stream.read(framer.room()) {
+            Transfer::Failed => return Err(ServeFault::ReadFault),
+            Transfer::Interrupted => {
+                waits += 1;
+                if waits >= INTERRUPTIONS {
+                    return Err(ServeFault::ReadFault);
+                }
+                continue;
+            }
+            Transfer::Bytes(0) => {
+                return match framer.end() {
+                    Ok(()) => Ok(()),
+                    Err(fault) => Err(ServeFault::FrameFault(fault)),
+                };
+            }
+            Transfer::Bytes(count) => {
+                waits = 0;
+                framer.took(count);
+                match answer_all(alloc, framer, session, replies, stream, port, clock) {
+                    Err(fault) => return Err(fault),
+                    Ok(()) => {}
+                }
+            }
+        }
+    }
+    Err(ServeFault::ReadFault)
+}
+
+/// Serves a stream to its end: answers each whole message at its moment, and writes the replies in
+/// order. Then it hangs up, whatever it returns.
+///
+/// It ends with `Ok` where the stream ended between two messages. An interrupted read or write is
+/// tried again, up to 1,000 in a row; a connection has 4,294,967,295 reads. Memory for its buffers is
+/// taken once, before the first read; a message that memory is wanting for is answered by an Rerror.
+pub fn serve_stream<S: Stream, P: Port, C: Clock>(
+    alloc: Global,
+    stream: &mut S,
+    port: &mut P,
+    clock: &mut C,
+) -> Result<(), ServeFault>
+    ensures serves { Serves P.gives result port.old (S.remaining stream.old) (S.remaining stream.new) (S.contents stream.old) (S.contents stream.new) port.new }
+    // Each fault comes only for its cause, by the stream's counts.
+    ensures read_fault { result ≡ Err ServeFault.ReadFault → BlamesReads (S.counts stream.old) (S.counts stream.new) }
+    ensures write_fault { result ≡ Err ServeFault.WriteFault → BlamesWrites (S.counts stream.old) (S.counts stream.new) }
+    ensures ended { result ≡ Ok tt → up 1 (S.counts stream.old).ends ≤ (S.counts stream.new).ends }
+    ensures cut { result ≡ Err (ServeFault.FrameFault FrameFault.Cut) → up 1 (S.counts stream.old).ends ≤ (S.counts stream.new).ends }
+{
+    let mut session = Session::new(alloc);
+    let result = match buffers(alloc) {
+        Ok((mut framer, mut replies)) => converse(
+            alloc,
+            &mut framer,
+            &mut session,
+            &mut replies,
+            stream,
+            port,
+            clock,
+        ),
+        Err(_) => Err(ServeFault::Memory),
+    };
+    session.hang_up(alloc, port, clock.now());
+    result
+}
