@@ -6,8 +6,8 @@ mod command_line;
 ghost use Rattle.std.specs.Prelude.{◌≡◌};
 
 use clap::error::ErrorKind;
-use command_line::{Ask, ask_of};
-use cs_serve::{Inputs, script_of};
+use command_line::{Ask, Wanted, ask_of};
+use cs_serve::{Inputs, list_of, script_of};
 use std::fs;
 use std::io::{self, BufWriter, Write};
 use std::process::ExitCode;
@@ -38,21 +38,52 @@ fn read_file<R: Files + Eprint + AllocGlobal>(rt: &R, path: &str) -> Result<Vec<
     }
 }
 
+/// The bytes of the trace, and of the picks, of which there are none where no file is given.
+fn read_wanted<R: Files + Eprint + AllocGlobal>(
+    rt: &R,
+    wanted: Wanted,
+) -> Result<(Vec<u8>, Vec<u8>), u8> {
+    let trace = read_file(rt, wanted.trace)?;
+    let picks = match wanted.picks {
+        Some(path) => read_file(rt, path)?,
+        None => Vec::new(rt.alloc()),
+    };
+    Ok((trace, picks))
+}
+
+fn run_list<R: Files + Print + Eprint + AllocGlobal, E: Write>(
+    rt: &R,
+    err: &mut E,
+    wanted: Wanted,
+) -> Result<u8, u8> {
+    let (trace, picks) = read_wanted(rt, wanted)?;
+    let inputs = Inputs {
+        users: &[],
+        trace: &trace,
+        picks: &picks,
+        holes: wanted.holes,
+        verbose: false,
+    };
+    let Ok(mut out) = BufWriter::new(rt.alloc(), io::writer(rt)) else {
+        return Err(out_of_memory(rt));
+    };
+    Ok(list_of(rt.alloc(), &inputs, &mut out, err))
+}
+
 fn run_script<R: Files + Input + Print + Eprint + AllocGlobal, E: Write>(
     rt: &R,
     err: &mut E,
-    ask: &Ask,
+    wanted: Wanted,
+    users: &str,
+    verbose: bool,
 ) -> Result<u8, u8> {
-    let Ask::Script {
-        users,
-        trace,
-        verbose,
-    } = *ask;
-    let trace = read_file(rt, trace)?;
+    let (trace, picks) = read_wanted(rt, wanted)?;
     let users = read_file(rt, users)?;
     let inputs = Inputs {
         users: &users,
         trace: &trace,
+        picks: &picks,
+        holes: wanted.holes,
         verbose,
     };
     let Ok(mut out) = BufWriter::new(rt.alloc(), io::writer(rt)) else {
@@ -67,15 +98,24 @@ fn run<R: Files + Input + Print + Eprint + AllocGlobal, E: Write>(
     err: &mut E,
     words: &[&str],
 ) -> u8 {
-    match ask_of(rt.alloc(), words) {
-        Ok(ask) => match run_script(rt, err, &ask) {
-            Ok(status) | Err(status) => status,
-        },
-        Err(error) if error.kind() == ErrorKind::OutOfMemory => out_of_memory(rt),
+    let ask = match ask_of(rt.alloc(), words) {
+        Ok(ask) => ask,
+        Err(error) if error.kind() == ErrorKind::OutOfMemory => return out_of_memory(rt),
         Err(error) => {
             let _unheard = error.print(rt);
-            if error.use_stderr() { REFUSED } else { 0 }
+            return if error.use_stderr() { REFUSED } else { 0 };
         }
+    };
+    let ended = match ask {
+        Ask::List { wanted } => run_list(rt, err, wanted),
+        Ask::Script {
+            wanted,
+            users,
+            verbose,
+        } => run_script(rt, err, wanted, users, verbose),
+    };
+    match ended {
+        Ok(status) | Err(status) => status,
     }
 }
 

@@ -1,4 +1,6 @@
 //! Why the program ends with a fault.
+use cs_picks::PicksFault;
+use cs_plan::SceneFault;
 use cs_trace::TraceFault;
 use cs_users::UsersFault;
 use thiserror::Error;
@@ -15,6 +17,12 @@ pub enum ProgramFault {
     /// The users file, or a line of it, is at fault.
     #[error("{0}")]
     Users(UsersFault),
+    /// A line of the picks is at fault.
+    #[error("{0}")]
+    Picks(PicksFault),
+    /// The trace has no plan of states.
+    #[error("{0}")]
+    Scene(SceneFault),
     /// A line of the script is at fault; lines count from 1.
     #[error("script line {0}: Syntax")]
     Script(usize),
@@ -24,4 +32,22 @@ pub enum ProgramFault {
     Output,
     #[error("out of memory")]
     Memory,
+}
+
+impl From<PicksFault> for ProgramFault {
+    fn from(fault: PicksFault) -> ProgramFault {
+        match fault {
+            PicksFault::Memory => ProgramFault::Memory,
+            fault => ProgramFault::Picks(fault),
+        }
+    }
+}
+
+impl From<SceneFault> for ProgramFault {
+    fn from(fault: SceneFault) -> ProgramFault {
+        match fault {
+            SceneFault::Memory => ProgramFault::Memory,
+            fault => ProgramFault::Scene(fault),
+        }
+    }
 }

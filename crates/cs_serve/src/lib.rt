@@ -5,7 +5,9 @@
 mod fault;
 mod first_run;
 mod first_world;
+mod inputs;
 mod laws;
+mod listing;
 mod printing;
 mod program;
 mod script;
@@ -15,6 +17,8 @@ mod world;
 
 pub use fault::ProgramFault;
 pub use first_run::FirstRun;
+pub use inputs::Inputs;
 pub use laws::{attach_is_a_call, step_is_function};
-pub use program::{Inputs, script_of};
+pub use listing::list_of;
+pub use program::script_of;
 pub use world::FirstWorld;

@@ -1,49 +1,17 @@
-//! The commands of the program, after their files were read.
+//! The command `script`, after its files were read.
 ghost use Rattle.std.specs.Prelude.{◌≤◌};
 
 use crate::fault::ProgramFault;
+use crate::inputs::{Inputs, scene_of, users_of};
 use crate::printing::Printer;
 use crate::script::{Action, ScriptLine, read_script};
 use crate::world::FirstWorld;
-use cs_trace::{TraceFaultKind, read_trace};
+use cs_plan::{Published, Scene};
 use cs_tree::PlainTree;
-use cs_users::{Users, UsersFault};
 use cs_wire::{RMessage, decode};
 use std::alloc::Global;
 use std::io::{ErrorKind, Read, Write};
-
-/// What the command line gave: the bytes of the files that it named, and whether each message is told
-/// on standard error too.
-#[derive(Clone, Copy, Debug)]
-pub struct Inputs<'a> {
-    pub users: &'a [u8],
-    pub trace: &'a [u8],
-    pub verbose: bool,
-}
-
-fn read_tree(alloc: Global, trace: &[u8]) -> Result<PlainTree, ProgramFault> {
-    let Ok(text) = std::str::from_utf8(trace) else {
-        return Err(ProgramFault::TraceNotText);
-    };
-    let trace = match read_trace(alloc, text) {
-        Ok(trace) => trace,
-        Err(fault) => {
-            if fault.kind == TraceFaultKind::Memory {
-                return Err(ProgramFault::Memory);
-            }
-            return Err(ProgramFault::Trace(fault));
-        }
-    };
-    PlainTree::from_records(alloc, trace.into_records()).map_err(|_| ProgramFault::Memory)
-}
-
-fn read_users(alloc: Global, users: &[u8]) -> Result<Users, ProgramFault> {
-    match Users::read(alloc, users) {
-        Ok(users) => Ok(users),
-        Err(UsersFault::Memory) => Err(ProgramFault::Memory),
-        Err(fault) => Err(ProgramFault::Users(fault)),
-    }
-}
+use std::sync::Arc;
 
 fn read_all<R: Read>(alloc: Global, input: &mut R) -> Result<Vec<u8>, ProgramFault> {
     let mut bytes = Vec::new(alloc);
@@ -88,6 +56,20 @@ fn run_line<W: Write, E: Write>(
     }
 }
 
+/// State 0 of the plan, which every plan has.
+fn first_state(alloc: Global, scene: Scene) -> Result<Published, ProgramFault> {
+    let scene = Arc::new(alloc, scene).map_err(|_| ProgramFault::Memory)?;
+    Scene::make(alloc, &scene, 0).map_err(|_| ProgramFault::Memory)
+}
+
+/// The world over state 0, with the users of the inputs.
+fn first_world(alloc: Global, inputs: &Inputs) -> Result<FirstWorld<PlainTree>, ProgramFault> {
+    let scene = scene_of(alloc, inputs)?;
+    let users = users_of(alloc, inputs.users)?;
+    let state = first_state(alloc, scene)?;
+    FirstWorld::new(alloc, state.into_store(), users).map_err(|_| ProgramFault::Memory)
+}
+
 fn run_script<R: Read, W: Write, E: Write>(
     alloc: Global,
     inputs: &Inputs,
@@ -95,11 +77,7 @@ fn run_script<R: Read, W: Write, E: Write>(
     out: &mut W,
     err: &mut E,
 ) -> Result<(), ProgramFault> {
-    let tree = read_tree(alloc, inputs.trace)?;
-    let users = read_users(alloc, inputs.users)?;
-    let Ok(mut world) = FirstWorld::new(alloc, tree, users) else {
-        return Err(ProgramFault::Memory);
-    };
+    let mut world = first_world(alloc, inputs)?;
     let script = read_all(alloc, input)?;
     let lines = read_script(alloc, &script)?;
     let mut printer = Printer::new(alloc);

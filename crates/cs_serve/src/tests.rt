@@ -3,6 +3,7 @@ mod asking;
 mod exchange;
 mod files;
 mod fixture;
+mod lists;
 mod program;
 mod sessions;
 mod walks;

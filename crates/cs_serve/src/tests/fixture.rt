@@ -106,6 +106,8 @@ pub fn run(
     let inputs = Inputs {
         users,
         trace,
+        picks: &[],
+        holes: false,
         verbose: false,
     };
     let mut input = script;

@@ -27,6 +27,8 @@ fn tells_each_message_as_text(rt: HostRuntime) -> Result<(), Fail> {
     let inputs = Inputs {
         users: USERS.as_bytes(),
         trace: TRACE.as_bytes(),
+        picks: &[],
+        holes: false,
         verbose: true,
     };
     let mut input =
@@ -239,6 +241,8 @@ fn tells_an_input_or_an_output_that_fails(rt: HostRuntime) -> Result<(), Fail> {
     let inputs = Inputs {
         users: USERS.as_bytes(),
         trace: TRACE.as_bytes(),
+        picks: &[],
+        holes: false,
         verbose: false,
     };
     let mut err: Vec<u8> = Vec::new(rt.alloc());

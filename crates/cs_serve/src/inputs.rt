@@ -1,0 +1,45 @@
+//! What the command line gave: the bytes of the files that it named.
+use crate::fault::ProgramFault;
+use cs_picks::read_picks;
+use cs_plan::Scene;
+use cs_trace::{Trace, TraceFaultKind, read_trace};
+use cs_users::{Users, UsersFault};
+use std::alloc::Global;
+
+/// What the command line gave: the bytes of each file that it named, none of one that it didn't name.
+#[derive(Clone, Copy, Debug)]
+pub struct Inputs<'a> {
+    pub users: &'a [u8],
+    pub trace: &'a [u8],
+    pub picks: &'a [u8],
+    /// Whether the states of prefixes with a hole are asked for.
+    pub holes: bool,
+    /// Whether each message is told on standard error too.
+    pub verbose: bool,
+}
+
+fn trace_of(alloc: Global, trace: &[u8]) -> Result<Trace, ProgramFault> {
+    let Ok(text) = std::str::from_utf8(trace) else {
+        return Err(ProgramFault::TraceNotText);
+    };
+    match read_trace(alloc, text) {
+        Ok(trace) => Ok(trace),
+        Err(fault) if fault.kind == TraceFaultKind::Memory => Err(ProgramFault::Memory),
+        Err(fault) => Err(ProgramFault::Trace(fault)),
+    }
+}
+
+/// The scene of the inputs: the trace is judged first, then the picks' lines, then what is made of them.
+pub(crate) fn scene_of(alloc: Global, inputs: &Inputs) -> Result<Scene, ProgramFault> {
+    let trace = trace_of(alloc, inputs.trace)?;
+    let picks = read_picks(alloc, inputs.picks)?;
+    Ok(Scene::of(alloc, trace, inputs.holes, picks)?)
+}
+
+pub(crate) fn users_of(alloc: Global, users: &[u8]) -> Result<Users, ProgramFault> {
+    match Users::read(alloc, users) {
+        Ok(users) => Ok(users),
+        Err(UsersFault::Memory) => Err(ProgramFault::Memory),
+        Err(fault) => Err(ProgramFault::Users(fault)),
+    }
+}
