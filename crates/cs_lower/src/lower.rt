@@ -51,9 +51,9 @@ impl<T: TreeRead> Lower<T> {
     }
 }
 
-/// The tree as one that nothing has changed yet. It copies no file, no record and no byte. After want
-/// of memory, which only the table of numbers and the paths by which it is made take, the tree is
-/// given back.
+/// The tree as one that nothing has changed yet. It copies no record and no byte of a file. After want
+/// of memory, which only the table of numbers takes, and the paths by which it is made and which are
+/// then let go, the tree is given back.
 pub fn freeze<T: TreeRead>(alloc: Global, tree: T) -> Result<Lower<T>, (T, AllocError)>
     ensures ok { IfOk result (λ lower. lower ≡ fresh (T.tree tree).files) }
     ensures err { IfErr result (λ back. back.0 ≡ tree) }

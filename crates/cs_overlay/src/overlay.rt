@@ -62,8 +62,8 @@ impl<L: TreeRead> Overlay<L> {
     }
 
     /// The tree as one that nothing has changed yet: the same paths and contents, with fresh numbers,
-    /// versions, times and users. It copies no file, no record and no byte; after want of memory, which
-    /// only its table of numbers takes, the overlay is given back.
+    /// versions, times and users. It copies no record and no byte of a file, and keeps a table of
+    /// numbers; after want of memory the overlay is given back.
     pub fn freeze(self, alloc: Global) -> Result<Lower<Overlay<L>>, (Overlay<L>, AllocError)>
         ensures ok { IfOk result (λ lower. lower ≡ fresh self.files) }
         ensures err { IfErr result (λ back. back.0 ≡ self) }
