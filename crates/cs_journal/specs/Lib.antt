@@ -9,3 +9,4 @@ pub mod Bounds
 pub mod Holding
 pub mod Small
 pub mod Ready
+pub mod Codes

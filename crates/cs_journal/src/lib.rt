@@ -5,6 +5,7 @@
 mod counts;
 mod entering;
 mod entry;
+mod growing;
 mod kept;
 mod pass;
 mod ready;
@@ -12,9 +13,12 @@ mod receipt;
 mod room;
 mod run;
 mod stepping;
+#[cfg(test)]
+mod tests;
 mod user_text;
 
 pub use entry::Entry;
+pub use growing::can_grow;
 pub use pass::Pass;
 pub use receipt::Receipt;
 pub use run::{PassFault, Run};

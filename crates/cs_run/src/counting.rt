@@ -31,7 +31,7 @@ fn version_of<T: TreeRead>(tree: &T, number: u64) -> u32
 }
 
 /// The greatest version of the tree's files.
-fn greatest_version<T: TreeRead>(tree: &T) -> u32
+pub fn greatest_version<T: TreeRead>(tree: &T) -> u32
     ensures { IsGreatestVersion (T.tree tree.now) result }
 {
     let last = tree.last_number();

@@ -25,6 +25,7 @@ pub use acting::{act, closes};
 pub use answer::{Answer, Data, FileStat, Outcome, Walk};
 pub use closing::act_close;
 pub use counted::CountedRun;
+pub use counting::greatest_version;
 pub use creating::act_create;
 pub use opening::act_open;
 pub use opens::Opens;

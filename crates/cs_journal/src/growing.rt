@@ -1,0 +1,17 @@
+//! Trees whose versions and numbers can't overflow while a journal grows.
+ghost use Rattle.std.specs.Prelude.{◌↔◌, IsTrue};
+ghost use Rattle.cs_journal.specs.Bounds.{CanGrow};
+
+use cs_names::limits::JOURNAL_ENTRIES;
+use cs_run::greatest_version;
+use cs_tree_model::TreeRead;
+
+/// Whether each version, and the next number, can grow by one with every entry of a journal: so it is of
+/// a tree that is fresh, and of any but one that was changed some four thousand million times.
+pub fn can_grow<L: TreeRead>(tree: &L) -> bool
+    ensures { IsTrue result ↔ CanGrow (L.tree tree.now) }
+{
+    let entries = JOURNAL_ENTRIES as u64;
+    u64::from(greatest_version(tree)) < (1 << 32) - entries
+        && tree.last_number() < u64::MAX - entries + 1
+}

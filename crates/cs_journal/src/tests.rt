@@ -1,0 +1,4 @@
+//! Runs by hand.
+
+mod journals;
+mod side;
