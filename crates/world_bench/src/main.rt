@@ -1,6 +1,6 @@
 //! Messages to a world beside what decoding them, their calls and encoding their replies take alone: a
 //! stat, a read and a write of 4 kB, and walks of one name; then opens and clunks with few and with
-//! many fids. Run by hand with the word `time`, it tells how long each takes.
+//! many fids, and hang-ups. Run by hand with the word `time`, it tells how long each takes.
 #![tactic(auto)]
 
 mod files;
@@ -94,11 +94,28 @@ fn crowded(rt: &(impl Clock + Print + AllocGlobal), fids: u32, timed: bool) -> i
     println!(rt; "a walk, an open and a clunk beside {fids} open fids: {took} ns")
 }
 
+/// Ends the connection, with so many other open fids.
+fn ended(rt: &(impl Clock + Print + AllocGlobal), fids: u32, timed: bool) -> io::Result<()> {
+    let Some(mut sides) = sides(rt.alloc()) else {
+        return println!(rt; "out of memory");
+    };
+    let done = crowd(rt.alloc(), &mut sides, fids).is_some();
+    let start = Instant::now(rt)?;
+    sides.world.hang_up(rt.alloc(), 0, 1);
+    let took = start.elapsed(rt)?.as_nanos() / u128::from(fids.max(1));
+    if !timed {
+        return println!(rt; "a hang-up of {fids}: {done}");
+    }
+    println!(rt; "a hang-up of {fids} open fids: {took} ns each")
+}
+
 fn main(rt: HostRuntime) -> io::Result<()> {
     let timed = env::args(&rt)?.count() > 1;
     for kind in [Kind::Stats, Kind::Reads, Kind::Writes, Kind::Walks] {
         measure(&rt, kind, timed)?;
     }
     crowded(&rt, 1, timed)?;
-    crowded(&rt, MANY, timed)
+    crowded(&rt, MANY, timed)?;
+    ended(&rt, 100, timed)?;
+    ended(&rt, MANY, timed)
 }
