@@ -1,5 +1,5 @@
 //! A connection: each message is a few steps, and each step asks its port at most one question.
-//! Messages come here one at a time: streams of them are not served yet.
+//! A stream of messages is served to its end, with its replies in order.
 #![tactic(auto)]
 
 mod answering;

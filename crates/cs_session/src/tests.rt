@@ -1,4 +1,6 @@
 //! Examples of a connection over a port that keeps no runs, and answers each call by its kind.
+mod streams;
+
 use crate::{
     AttachMessage, Bytes, CallMessage, CreateMessage, FindFault, Message, OpenMessage, PassFault,
     Port, ReadMessage, Reply, Session, TableStep, WalkMessage, WriteMessage, WstatMessage,
