@@ -5,3 +5,4 @@ pub mod Orders
 pub mod Permitted
 pub mod Picking
 pub mod Records
+pub mod Deciding

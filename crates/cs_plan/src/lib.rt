@@ -8,6 +8,7 @@ mod members;
 pub mod plan;
 pub mod published;
 pub mod recipe;
+mod same;
 pub mod scene;
 
 pub use fault::{MakeFault, PlanFault, SceneFault};

@@ -1,5 +1,8 @@
 //! What makes a state: which of a trace's micro-operations reached the disk.
 ghost use Rattle.std.specs.Prelude.{◌≡◌, Some};
+ghost use Rattle.std.specs.Cmp.{partial_equiv_from_equiv};
+ghost use Rattle.std.specs.Cmp.Lexicographic.{nat_list_eq_equiv};
+ghost use Rattle.cs_names.specs.Texts.{same_bytes};
 ghost use Rattle.cs_plan.specs.Texts.{places_text, recipe_text};
 
 use std::fmt;
@@ -34,6 +37,16 @@ impl Places {
     }
 }
 
+impl PartialEq for Places {
+    ghost eq = { same_bytes };
+
+    ghost laws = { partial_equiv_from_equiv nat_list_eq_equiv };
+
+    fn eq(&self, other: &Places) -> bool {
+        self.places == other.places
+    }
+}
+
 /// The places with commas between, or `-` for none.
 impl fmt::Display for Places {
     ghost output = { λ places. Some (places_text places) };
@@ -51,7 +64,7 @@ impl fmt::Display for Places {
 }
 
 /// Which micro-operations a state has.
-#[derive(Debug, Drop)]
+#[derive(Debug, Drop, PartialEq)]
 pub enum Recipe {
     /// The first so many.
     Prefix(u32),

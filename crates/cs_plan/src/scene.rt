@@ -1,5 +1,5 @@
 //! A trace with the plan of its states.
-ghost use Rattle.std.specs.Prelude.{◌≡◌, ◌≤◌, ◌↔◌, length, Some, IfErr, IfOk, IsErrOf};
+ghost use Rattle.std.specs.Prelude.{◌≡◌, ◌≤◌, ◌↔◌, length, Some, IfErr, IfOk, IsErrOf, IsTrue};
 ghost use Rattle.std.specs.Arc.{arc_value};
 ghost use Rattle.cs_tree_model.specs.Tree.{IsTree};
 ghost use Rattle.cs_micro.specs.Micros.{micros_in};
@@ -12,6 +12,7 @@ use crate::fault::{MakeFault, SceneFault};
 use crate::members::{places_of, says_in};
 use crate::plan::Plan;
 use crate::recipe::Places;
+use crate::same::{are_same_recipes, is_same_trace};
 use cs_apm::laws::rules_are_sentences;
 use cs_apm::{Atlas, Built, Order};
 use cs_micro::{Micros, break_up};
@@ -92,6 +93,14 @@ impl Scene {
     {
         let recipe = self.plan.recipe(number)?;
         Some(says_in(self.atlas.micros().ops(), &self.order, recipe))
+    }
+
+    /// Whether two scenes have the same trace and the same plan. It takes no memory, but looks at all of both.
+    pub fn has_content_of(&self, other: &Scene) -> bool
+        ensures { IsTrue result ↔ (self.now ≡ other.now) }
+    {
+        is_same_trace(self.trace(), other.trace())
+            && are_same_recipes(self.plan.recipes(), other.plan.recipes())
     }
 
     /// The store of the state of that number.

@@ -1,5 +1,8 @@
 //! The operations of a trace, with the files that they name found.
 ghost use Rattle.std.specs.Prelude.{◌≡◌, IfOk};
+ghost use Rattle.std.specs.Cmp.{partial_equiv_from_equiv};
+ghost use Rattle.std.specs.Cmp.Lexicographic.{nat_list_eq_equiv};
+ghost use Rattle.cs_names.specs.Texts.{same_bytes};
 ghost use Rattle.cs_trace.specs.Names.{rights_of};
 ghost use Rattle.cs_trace.specs.Said.{claims_of};
 
@@ -19,7 +22,7 @@ pub enum Node {
 }
 
 /// Who has a file, and what they and others may do with it.
-#[derive(Debug, Drop)]
+#[derive(Debug, Drop, PartialEq)]
 pub struct Rights {
     pub owner: UserName,
     pub group: UserName,
@@ -34,7 +37,7 @@ pub struct Bytes {
 }
 
 /// What an operation waits for until it is on the disk.
-#[derive(Debug, Drop)]
+#[derive(Debug, Drop, PartialEq)]
 pub enum Covers {
     /// Everything.
     All,
@@ -45,7 +48,7 @@ pub enum Covers {
 }
 
 /// An operation of a trace. A file that stands is told by its number, and an entry by its path.
-#[derive(Debug, Drop)]
+#[derive(Debug, Drop, PartialEq)]
 pub enum Operation {
     /// A new file without a byte, with the next number.
     Creat {
@@ -114,6 +117,16 @@ impl Bytes {
         ensures { result.now ≡ self.now }
     {
         self.items.as_slice()
+    }
+}
+
+impl PartialEq for Bytes {
+    ghost eq = { same_bytes };
+
+    ghost laws = { partial_equiv_from_equiv nat_list_eq_equiv };
+
+    fn eq(&self, other: &Bytes) -> bool {
+        self.items == other.items
     }
 }
 

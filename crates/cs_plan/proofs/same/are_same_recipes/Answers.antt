@@ -1,0 +1,6 @@
+use Rattle.std.proofs.lemmas.Slice.Eq.{slice_eq-Decides}
+use Rattle.cs_plan.proofs.Deciding.{recipe_decides}
+use Rattle.cs_plan.proofs.same.are_same_recipes.Goals as goal
+
+pub returns : goal.returns
+returns c = slice_eq-Decides recipe_decides _ _ _ c.eq.ensures

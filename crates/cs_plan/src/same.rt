@@ -1,0 +1,53 @@
+//! Whether two scenes have the same content.
+ghost use Rattle.std.specs.Prelude.{◌≡◌, ◌↔◌, IsTrue};
+
+use crate::recipe::Recipe;
+use cs_names::Path;
+use cs_trace::{Node, Operation, Trace};
+use cs_tree_model::Record;
+
+pub fn are_same_recipes(recipes: &[Recipe], others: &[Recipe]) -> bool
+    ensures { IsTrue result ↔ (recipes.now ≡ others.now) }
+{
+    recipes == others
+}
+
+fn are_same_operations(operations: &[Operation], others: &[Operation]) -> bool
+    ensures { IsTrue result ↔ (operations.now ≡ others.now) }
+{
+    operations == others
+}
+
+fn are_same_records(records: &[(Path, Record)], others: &[(Path, Record)]) -> bool
+    ensures { IsTrue result ↔ (records.now ≡ others.now) }
+{
+    records == others
+}
+
+fn are_same_nodes(nodes: &[Node], others: &[Node]) -> bool
+    ensures { IsTrue result ↔ (nodes.now ≡ others.now) }
+{
+    nodes == others
+}
+
+fn are_same_paths(paths: &[Path], others: &[Path]) -> bool
+    ensures { IsTrue result ↔ (paths.now ≡ others.now) }
+{
+    paths == others
+}
+
+/// Whether two traces have the same start and the same operations. It takes no memory.
+pub fn is_same_trace(trace: &Trace, other: &Trace) -> bool
+    ensures { IsTrue result ↔ (trace.now ≡ other.now) }
+{
+    if !are_same_operations(trace.operations(), other.operations()) {
+        return false;
+    }
+    if !are_same_records(trace.records(), other.records()) {
+        return false;
+    }
+    if !are_same_nodes(trace.nodes(), other.nodes()) {
+        return false;
+    }
+    are_same_paths(trace.files(), other.files())
+}
