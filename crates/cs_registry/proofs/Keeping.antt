@@ -1,0 +1,130 @@
+-- What is stored for a registry, as it changes.
+use Rattle.std.proofs.Common.{◌≡◌, ◌∙◌, ℕ, zero, suc, ◌+◌, ◌-◌, ◌<◌, ◌≤◌, Bool, true, false, not, cond, List, [], ◌∷◌, length, Option, None, Some, is_some, refl, sym, ap, subst, arith, add-one, ◌⊎◌, inl, inr, get_or}
+use Rattle.std.specs.Prelude.{count_by, map, filter, replicate, slice_get, slice_set, slice_index_or}
+use Rattle.std.proofs.lemmas.List.{length-replicate, length-set, map-set}
+use Rattle.std.proofs.lemmas.List.Sums.{length-filter}
+use Rattle.std.proofs.lemmas.Option.{slice_get_read, slice_get_within}
+use Rattle.cs_names.specs.declared.limits.TheConstants.{RUNS}
+use Rattle.cs_plan.specs.Scenes.{Scene, Published, IsPublished, state_at}
+use Rattle.cs_tree_model.specs.Tree.{Tree}
+use Rattle.cs_registry.specs.Runs.{Runs}
+use Rattle.cs_users.specs.Rows.{Row}
+use Rattle.cs_registry.specs.Publishing.{with_published}
+use Rattle.cs_registry.specs.Registries.{AdmitsAll, IsKept, Registry, empty}
+
+-- ---- no state
+
+no_state : {A : Type 0} (n k : ℕ) (x : A) → slice_get (replicate n None) k ≡ Some (Some x) → ⊥
+no_state zero k x h = cc
+no_state (suc n) zero x h = cc
+no_state (suc n) (suc k) x h = no_state n k x h
+
+module _ (A : Type 0) where
+  pub none_there : (n : ℕ) → map (is_some {T = A}) (replicate n None) ≡ replicate n false
+  none_there zero = refl
+  none_there (suc n) = ap (λ xs. false ∷ xs) (none_there n)
+
+none_passes : (n : ℕ) → length (filter not (replicate n false)) ≡ n
+none_passes zero = refl
+none_passes (suc n) = ap suc (none_passes n)
+
+module _ {H A : Type 0} (scene : Scene) (states : List (Option A)) (runs : Runs H) (n : ℕ) (is : n ≡ length scene.plan) (blank : states ≡ replicate n None) (none : runs ≡ []) where
+  -- a registry in which nothing is published
+  pub none_kept : (admits : ℕ → Tree → Type 0) (tree_of : A → Tree) → AdmitsAll admits scene → IsKept {H = H} admits scene tree_of states n runs
+  none_kept admits tree_of all = record {
+    each = ap length blank ∙ (length-replicate n None ∙ is);
+    made = λ k x h. absurd (no_state n k x (ap (λ xs. slice_get xs k) (sym blank) ∙ h));
+    admitted = all;
+    left = sym (none_passes n) ∙ (length-filter not (replicate n false) ∙ ap (count_by not) (sym (none_there A n) ∙ ap (map is_some) (sym blank)));
+    few = (let count : length runs ≡ 0 = ap length none in omega arith);
+  }
+
+  -- is the empty one
+  pub none_is_empty : (users : List Row) → ◌≡◌ {A = Registry H} (record { scene = scene; users = users; published = map is_some states; runs = runs }) (empty scene users)
+  none_is_empty users i = record {
+    scene = scene;
+    users = users;
+    published = (ap (map is_some) blank ∙ (none_there A n ∙ ap (λ k. replicate k false) is)) i;
+    runs = none i;
+  }
+
+-- ---- one state more
+
+module _ {A : Type 0} (x : A) where
+  there_now : (states : List (Option A)) (n : ℕ) → slice_get states n ≡ Some None → length (filter not (map is_some (slice_set states n (Some x)))) + 1 ≡ length (filter not (map is_some states))
+  there_now [] n h = cc
+  there_now (s ∷ states) zero h =
+      let none : s ≡ None = cc in
+      add-one _ ∙ ap (λ (o : Option A). length (filter not (is_some o ∷ map is_some states))) (sym none)
+  there_now (None ∷ states) (suc n) h = omega (arith, there_now states n h)
+  there_now (Some y ∷ states) (suc n) h = there_now states n h
+
+  -- one state less is missing
+  pub one_less : (states : List (Option A)) (n : ℕ) → slice_get states n ≡ Some None → count_by not (map is_some (slice_set states n (Some x))) + 1 ≡ count_by not (map is_some states)
+  one_less states n h = ap (λ k. k + 1) (sym (length-filter not (map is_some (slice_set states n (Some x))))) ∙ (there_now states n h ∙ length-filter not (map is_some states))
+
+  -- each state is the one of its place, or the new one at its own
+  set_there : (states : List (Option A)) (n k : ℕ) (y : A) → slice_get (slice_set states n (Some x)) k ≡ Some (Some y) → ((k ≡ n) × (y ≡ x)) ⊎ (slice_get states k ≡ Some (Some y))
+  set_there [] n k y h = inr h
+  set_there (s ∷ states) zero zero y h = inl (refl, cc)
+  set_there (s ∷ states) zero (suc k) y h = inr h
+  set_there (s ∷ states) (suc n) zero y h = inr h
+  set_there (s ∷ states) (suc n) (suc k) y h = elim (set_there states n k y h) [ inl p ↦ inl (ap suc p.0, p.1) | inr q ↦ inr q ]
+
+  module _ {H : Type 0} (states : List (Option A)) (n : ℕ) (none : slice_get states n ≡ Some None) (runs : Runs H) where
+    pub published_kept : (admits : ℕ → Tree → Type 0) (scene : Scene) (tree_of : A → Tree) (missing : ℕ) → IsKept admits scene tree_of states missing runs
+        → IsPublished (record { number = n; scene = scene; tree = tree_of x }) → IsKept admits scene tree_of (slice_set states n (Some x)) (missing - 1) runs
+    published_kept admits scene tree_of missing kept is = record {
+      each = length-set states n (Some x) ∙ kept.each;
+      made = λ k y h. elim (set_there states n k y h) [
+        | inl p ↦ subst (λ (q : ℕ × A). IsPublished (record { number = q.0; scene = scene; tree = tree_of q.1 })) (λ i. (sym p.0 i, sym p.1 i)) is
+        | inr q ↦ kept.made k y q
+      ];
+      admitted = kept.admitted;
+      left = omega (arith, one_less states n none, kept.left);
+      few = kept.few;
+    }
+
+    pub some_missing : (missing : ℕ) → missing ≡ count_by not (map is_some states) → 1 ≤ missing
+    some_missing missing left = omega (arith, one_less states n none)
+
+    pub is_published_now : (scene : Scene) (users : List Row) (now : Registry H) → record { scene = scene; users = users; published = map is_some states; runs = runs } ≡ now
+        → ◌≡◌ {A = Registry H} (record { scene = scene; users = users; published = map is_some (slice_set states n (Some x)); runs = runs }) (with_published now n)
+    is_published_now scene users now v i = record {
+      scene = (v i).scene;
+      users = (v i).users;
+      published = (map-set is_some states n (Some x) ∙ ap (λ (r : Registry H). slice_set r.published n true) v) i;
+      runs = (v i).runs;
+    }
+
+is_none : {A : Type 0} (o : Option A) → is_some o ≡ false → o ≡ None
+is_none None h = refl
+is_none (Some x) h = cc
+
+-- the place that was read is blank
+pub blank_at : {A : Type 0} (states : List (Option A)) (n : ℕ) (o : Option A) → n < length states → o ≡ get_or states n o → is_some o ≡ false → slice_get states n ≡ Some None
+blank_at states n o inside read blank = slice_get_read states _ n o refl inside read ∙ ap Some (is_none o blank)
+
+-- a blank state isn't published
+pub blank_now : {A : Type 0} (states : List (Option A)) (n : ℕ) → slice_get states n ≡ Some None → slice_index_or (map is_some states) n false ≡ false
+blank_now [] n h = cc
+blank_now (s ∷ states) zero h = let none : s ≡ None = cc in ap is_some none
+blank_now (s ∷ states) (suc n) h = blank_now states n h
+
+-- the runs change, and are as many
+pub runs_kept : {H A : Type 0} {admits : ℕ → Tree → Type 0} {scene : Scene} {tree_of : A → Tree} {states : List (Option A)} {missing : ℕ} (old new : Runs H)
+    → length new ≡ length old → IsKept admits scene tree_of states missing old → IsKept admits scene tree_of states missing new
+runs_kept old new same kept = record { each = kept.each; made = kept.made; admitted = kept.admitted; left = kept.left; few = omega (arith, kept.few) }
+
+-- a state's number is one of the plan
+pub state_within : (scene : Scene) (number : ℕ) (tree : Tree) → state_at scene number ≡ Some tree → number < length scene.plan
+state_within scene number tree is = by (slice_get scene.plan number) refl
+  where
+    by : (o : Option _) → slice_get scene.plan number ≡ o → number < length scene.plan
+    by (Some recipe) there = slice_get_within scene.plan number recipe there
+    by None none = (let no = rw none at is in cc)
+
+-- so it has a place
+pub has_place : {H A : Type 0} {admits : ℕ → Tree → Type 0} {scene : Scene} {tree_of : A → Tree} {states : List (Option A)} {missing : ℕ} {runs : Runs H}
+    → IsKept admits scene tree_of states missing runs → (state : Published) → IsPublished state → state.scene ≡ scene → state.number < length states
+has_place kept state is own = omega (arith, state_within state.scene state.number state.tree is.state, ap (λ (s : Scene). length s.plan) own, kept.each)

@@ -1,0 +1,4 @@
+pub mod Changing
+pub mod Finding
+pub mod Keeping
+pub mod Telling

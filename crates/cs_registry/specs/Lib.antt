@@ -1,0 +1,5 @@
+pub mod Finds
+pub mod Keys
+pub mod Publishing
+pub mod Registries
+pub mod Runs

@@ -1,0 +1,29 @@
+//! What a registry keeps of a run.
+ghost use Rattle.std.specs.Prelude.{ℕ, IfOk, List};
+ghost use Rattle.std.specs.Arc.{arc_value};
+ghost use Rattle.cs_tree_model.specs.Tree.{Tree};
+ghost use Rattle.cs_users.specs.Rows.{Row};
+
+use cs_apm::Built;
+use cs_users::Users;
+use std::alloc::{AllocError, Global};
+use std::sync::Arc;
+
+/// What a registry keeps of each run, made when the run is found for the first time.
+pub trait Held: Drop {
+    /// Which trees may be published under a number.
+    ghost admits: { ℕ → Tree → Type 0 };
+
+    /// The value is new: of that number, over that tree, with those users.
+    ghost is_fresh: { ℕ → Tree → List Row → Self → Type 0 };
+
+    /// What is kept of a new run of a state, over its tree, which all its runs share.
+    fn fresh(
+        alloc: Global,
+        number: u32,
+        lower: Arc<Built>,
+        users: Arc<Users>,
+    ) -> Result<Self, AllocError>
+        requires { admits number (arc_value lower) }
+        ensures { IfOk result (is_fresh number (arc_value lower) (arc_value users)) };
+}

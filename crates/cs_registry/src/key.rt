@@ -1,0 +1,109 @@
+//! The key of a run.
+ghost use Rattle.std.specs.Prelude.{◌≡◌, ◌≤◌, ◌++◌, MatchOption, false, length, true};
+ghost use Rattle.std.specs.Cmp.{partial_equiv_from_equiv};
+ghost use Rattle.std.specs.Cmp.Rules.{hashing};
+ghost use Rattle.std.specs.Hash as fed;
+ghost use Rattle.std.proofs.Common.{rules};
+ghost use Rattle.cs_names.specs.Legal.{is_run_name};
+ghost use Rattle.cs_registry.specs.Keys.{same_key, same_key-laws};
+
+use arrayvec::ArrayString;
+use cs_names::RunName;
+use cs_names::limits::RUN_NAME_BYTES;
+use std::hash::{Hash, Hasher};
+use std::marker::Model;
+
+/// What names a run: the number of its state, and its own name. It takes no memory, so a run can be
+/// looked for without any.
+#[derive(Drop)]
+pub struct RunKey {
+    number: u32,
+    name: ArrayString<RUN_NAME_BYTES>,
+}
+
+impl Model for RunKey {
+    ghost use Rattle.cs_names.specs.Legal.{is_run_name};
+    ghost use Rattle.cs_registry.specs.Keys.{Key};
+
+    ghost Value = { Key };
+
+    ghost view = { λ key. record { number = key.number; name = key.name.bytes } };
+}
+
+impl RunKey {
+    /// The key of the run of that name.
+    pub fn new(number: u32, name: &RunName) -> RunKey
+        ensures { result ≡ record { number = number; name = name.now } }
+    {
+        RunKey {
+            number,
+            name: short_name(name.as_str()),
+        }
+    }
+
+    /// The key of the run whose name the bytes spell; None where they spell none.
+    pub fn read(number: u32, name: &[u8]) -> Option<RunKey>
+        ensures { MatchOption result (is_run_name name.now ≡ false) (λ key. (is_run_name name.now ≡ true) × (key ≡ record { number = number; name = name.now })) }
+    {
+        if !RunName::is_legal(name) {
+            return None;
+        }
+        match RunName::check(name) {
+            Ok(name) => Some(RunKey {
+                number,
+                name: short_name(name),
+            }),
+            Err(_) => unreachable!(),
+        }
+    }
+
+    /// The number of its state.
+    pub fn number(&self) -> u32
+        ensures { result ≡ self.now.number }
+    {
+        self.number
+    }
+
+    /// Its own name.
+    pub fn name(&self) -> &str
+        ensures { result.now ≡ self.now.name }
+    {
+        self.name.as_str()
+    }
+}
+
+impl PartialEq for RunKey {
+    ghost eq = { same_key };
+
+    ghost laws = { partial_equiv_from_equiv same_key-laws };
+
+    fn eq(&self, other: &RunKey) -> bool {
+        self.number == other.number && self.name.as_str() == other.name.as_str()
+    }
+}
+
+impl Eq for RunKey {
+    ghost laws = { same_key-laws };
+}
+
+impl Hash for RunKey {
+    ghost hash_input = { λ key. fed.u32 key.number ++ fed.str key.name };
+
+    ghost respects_eq = { Prim.search (hashing, rules) };
+
+    fn hash<H: Hasher>(&self, state: &mut H) {
+        state.write_u32(self.number);
+        self.name.hash(state);
+    }
+}
+
+/// A name of a run, kept where it stands.
+fn short_name(name: &str) -> ArrayString<RUN_NAME_BYTES>
+    requires { length name.now ≤ RUN_NAME_BYTES }
+    ensures { result.bytes ≡ name.now }
+{
+    match ArrayString::from(name) {
+        Ok(name) => name,
+        Err(_) => unreachable!(),
+    }
+}

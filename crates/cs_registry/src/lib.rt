@@ -1,0 +1,17 @@
+//! The published states of a scene, and the runs that were made of them.
+#![tactic(auto)]
+
+mod fault;
+mod found;
+mod held;
+mod key;
+mod states;
+
+pub use fault::{FindFault, PublishFault};
+pub use found::Found;
+pub use held::Held;
+pub use key::RunKey;
+pub use states::States;
+
+#[cfg(test)]
+mod tests;
