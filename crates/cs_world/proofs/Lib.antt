@@ -1,0 +1,9 @@
+pub mod Digits
+pub mod Finding
+pub mod Growing
+pub mod Judging
+pub mod Keeping
+pub mod Moving
+pub mod Placing
+pub mod Reached
+pub mod Stepping

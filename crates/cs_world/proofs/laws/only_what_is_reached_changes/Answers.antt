@@ -1,0 +1,10 @@
+use Rattle.std.proofs.Common.{refl}
+use Rattle.cs_world.proofs.Reached.{connections_stay, publish_keeps, runs_stay}
+use Rattle.cs_world.proofs.laws.only_what_is_reached_changes.Goals as goal
+
+pub returns : goal.returns
+returns c = record {
+  runs = runs_stay;
+  connections = connections_stay;
+  publish = λ w number mark. (publish_keeps w.registry number mark, refl);
+}

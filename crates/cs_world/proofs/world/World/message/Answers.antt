@@ -1,0 +1,13 @@
+use Rattle.std.proofs.Common.{◌≡◌, ◌∙◌, rules, refl, sym, None}
+use Rattle.std.specs.Prelude.{slice_index_or}
+use Rattle.std.proofs.lemmas.List.{get_or_default}
+use Rattle.cs_session.specs.Sessions.{Sess, blank}
+use Rattle.cs_world.proofs.Keeping.{replied}
+use Rattle.cs_world.specs.Asking.{IsGiven}
+use Rattle.cs_world.proofs.world.World.message.Goals as goal
+
+pub returns-then-awaits-clause-fits : goal.returns-then-awaits-clause-fits
+returns-then-awaits-clause-fits c = rw (← c.self.view_is, get_or_default c.self.inside.sessions.items c.args.conn (blank None) c.index_mut-session.result.now (search rules) ∙ sym c.index_mut-session.ensures.value, ← c.msize-agreed.ensures.value) (c.out_of_turn.ensures.fits c.msize-agreed.result c.msize-agreed.ensures.agreed)
+
+pub returns-clause-replied : goal.returns-clause-replied
+returns-clause-replied c = λ idle. rw (← c.self.view_is) (replied c.args.now c.args.bytes.now _ _ _ _ _ _ _ (get_or_default c.self.inside.sessions.items c.args.conn _ _ (search rules) ∙ sym c.index_mut-session.ensures.value) (search rules) c.reply.ensures.replied)

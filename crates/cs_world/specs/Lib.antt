@@ -1,0 +1,9 @@
+pub mod Marks
+pub mod Passes
+pub mod Runs
+pub mod Asking
+pub mod Worlds
+pub mod Publishing
+pub mod Steps
+pub mod Turns
+pub mod Reaching

@@ -1,0 +1,24 @@
+-- The states of a scene and the runs of them, and the connections by their numbers.
+use Rattle.std.specs.Prelude.{ℕ, List, None, replicate, slice_index_or, slice_set}
+use Rattle.cs_names.specs.declared.limits.TheConstants.{CONNECTIONS}
+use Rattle.cs_plan.specs.Scenes.{Scene}
+use Rattle.cs_registry.specs.Registries.{Registry, empty}
+use Rattle.cs_session.specs.Sessions.{Sess, blank}
+use Rattle.cs_users.specs.Rows.{Row}
+use Rattle.cs_world.specs.Runs.{Run}
+
+pub record World : Type 0 where
+  pub registry : Registry Run
+  pub connections : List Sess
+
+-- nothing is published, and no connection has a session
+abbrev pub new_world : Scene → List Row → World
+new_world scene users = record { registry = empty scene users; connections = replicate CONNECTIONS (blank None) }
+
+-- the connection of that number
+abbrev pub connection : World → ℕ → Sess
+connection w conn = slice_index_or w.connections conn (blank None)
+
+-- with that connection, and these runs
+abbrev pub with_both : World → ℕ → Sess → Registry Run → World
+with_both w conn s registry = record { registry = registry; connections = slice_set w.connections conn s }

@@ -1,0 +1,111 @@
+//! The runs of a world, as the port of its connections.
+ghost use Rattle.std.specs.Prelude.{◌≡◌};
+ghost use Rattle.cs_session.specs.Questions.{Found};
+ghost use Rattle.cs_world.specs.Asking.{fault_told, place_told};
+
+use crate::attended::AttendedRun;
+use crate::key::key_of;
+use crate::reply::{Reply, StateFault};
+use cs_names::RuleId;
+use cs_permit::{Call, TreeName};
+use cs_plan::{MakeFault, Scene};
+use cs_registry::{PublishFault, States};
+use cs_run::Answer;
+use cs_session::{FindFault, PassFault, Port};
+use std::alloc::Global;
+use std::marker::Model;
+
+/// The published states of a scene, and their runs. Contracts see the registry.
+#[derive(Drop)]
+pub struct Runs {
+    pub(crate) states: States<AttendedRun>,
+}
+
+impl Model for Runs {
+    ghost use Rattle.cs_registry.specs.Registries.{Registry};
+    ghost use Rattle.std.specs.Coded.{codes};
+    ghost use Rattle.cs_world.specs.Runs as model;
+
+    ghost Value = { Registry model.Run };
+
+    ghost coded = { Prim.hlevel (codes, model.run_code) };
+
+    ghost view = { λ r. r.states };
+}
+
+/// What a find is told.
+fn told(found: Result<u32, cs_registry::FindFault>) -> Result<u32, FindFault>
+    ensures { Found result ≡ place_told found }
+{
+    match found {
+        Ok(place) => Ok(place),
+        Err(fault) => Err(fault_told(fault)),
+    }
+}
+
+fn fault_told(fault: cs_registry::FindFault) -> FindFault
+    ensures { result ≡ fault_told fault }
+{
+    match fault {
+        cs_registry::FindFault::Unpublished => FindFault::Unpublished,
+        cs_registry::FindFault::Full => FindFault::Full,
+        cs_registry::FindFault::Memory => FindFault::Memory,
+    }
+}
+
+impl Runs {
+    ghost use Rattle.std.specs.Prelude.{◌≡◌};
+    ghost use Rattle.cs_world.specs.Marks.{Mark};
+    ghost use Rattle.cs_world.specs.Publishing.{published};
+
+    /// Makes the state of that number and publishes it.
+    pub(crate) fn publish(&mut self, alloc: Global, number: u32) -> Reply
+        ensures { (mark : Mark) × ((result, self.new) ≡ published self.old number mark) }
+    {
+        let state = match Scene::make(alloc, self.states.scene(), number) {
+            Ok(state) => state,
+            Err(MakeFault::NoSuchState) => return Reply::Unpublished(StateFault::NoSuchState),
+            Err(MakeFault::Memory) => return Reply::Unpublished(StateFault::Memory),
+        };
+        match self.states.publish(alloc, state) {
+            Ok(()) => Reply::Published,
+            Err(PublishFault::Twice) => Reply::Unpublished(StateFault::Twice),
+            Err(PublishFault::Memory) => Reply::Unpublished(StateFault::Memory),
+            // the state was made in the registry's own scene
+            Err(PublishFault::Stranger) => unreachable!(),
+        }
+    }
+}
+
+impl Port for Runs {
+    ghost use Rattle.cs_world.specs.Asking.{IsGiven};
+
+    ghost gives = { λ old mark question told new. IsGiven old mark question told new };
+
+    fn find(&mut self, alloc: Global, name: &TreeName) -> Result<u32, FindFault> {
+        let Some(key) = key_of(name) else {
+            return Err(FindFault::Unpublished);
+        };
+        told(self.states.find_key(alloc, key))
+    }
+
+    fn attach(
+        &mut self,
+        alloc: Global,
+        now: u32,
+        run: u32,
+        user: String,
+    ) -> Result<(u32, Answer), PassFault> {
+        if run >= self.states.run_count() {
+            return Err(PassFault::Foreign);
+        }
+        self.states.at_mut(run).attach(alloc, now, user)
+    }
+
+    fn call(&mut self, alloc: Global, now: u32, run: u32, pass: u32, call: Call) -> Answer {
+        if run >= self.states.run_count() {
+            return Answer::Denied(RuleId::S5);
+        }
+        self.states.at_mut(run).call(alloc, now, pass, call)
+    }
+}
