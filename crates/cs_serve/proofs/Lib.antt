@@ -1,4 +1,0 @@
-pub mod Keeping
-pub mod Mapping
-pub mod Serving
-pub mod Stepping

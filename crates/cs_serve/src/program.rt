@@ -4,14 +4,12 @@ ghost use Rattle.std.specs.Prelude.{◌≤◌};
 use crate::fault::ProgramFault;
 use crate::inputs::{Inputs, scene_of, users_of};
 use crate::printing::Printer;
+use crate::publishing::world_of;
 use crate::script::{Action, ScriptLine, read_script};
-use crate::world::FirstWorld;
-use cs_plan::{Published, Scene};
-use cs_tree::PlainTree;
 use cs_wire::{RMessage, decode};
+use cs_world::World;
 use std::alloc::Global;
 use std::io::{ErrorKind, Read, Write};
-use std::sync::Arc;
 
 fn read_all<R: Read>(alloc: Global, input: &mut R) -> Result<Vec<u8>, ProgramFault> {
     let mut bytes = Vec::new(alloc);
@@ -34,7 +32,7 @@ fn tell<E: Write>(alloc: Global, conn: u32, bytes: &[u8], reply: &RMessage, err:
 /// Does what a line asks, and prints what it came to; with `told` also what was asked, as text.
 fn run_line<W: Write, E: Write>(
     alloc: Global,
-    world: &mut FirstWorld<PlainTree>,
+    world: &mut World,
     printer: &mut Printer,
     line: &ScriptLine,
     out: &mut W,
@@ -50,24 +48,10 @@ fn run_line<W: Write, E: Write>(
             printer.reply(conn, &reply, out)
         }
         Action::HangUp => {
-            world.hang_up(alloc, conn, line.now);
+            let _closed = world.hang_up(alloc, conn, line.now);
             writeln!(out, "{conn} closed").map_err(|_| ProgramFault::Output)
         }
     }
-}
-
-/// State 0 of the plan, which every plan has.
-fn first_state(alloc: Global, scene: Scene) -> Result<Published, ProgramFault> {
-    let scene = Arc::new(alloc, scene).map_err(|_| ProgramFault::Memory)?;
-    Scene::make(alloc, &scene, 0).map_err(|_| ProgramFault::Memory)
-}
-
-/// The world over state 0, with the users of the inputs.
-fn first_world(alloc: Global, inputs: &Inputs) -> Result<FirstWorld<PlainTree>, ProgramFault> {
-    let scene = scene_of(alloc, inputs)?;
-    let users = users_of(alloc, inputs.users)?;
-    let state = first_state(alloc, scene)?;
-    FirstWorld::new(alloc, state.into_store(), users).map_err(|_| ProgramFault::Memory)
 }
 
 fn run_script<R: Read, W: Write, E: Write>(
@@ -77,7 +61,9 @@ fn run_script<R: Read, W: Write, E: Write>(
     out: &mut W,
     err: &mut E,
 ) -> Result<(), ProgramFault> {
-    let mut world = first_world(alloc, inputs)?;
+    let scene = scene_of(alloc, inputs)?;
+    let users = users_of(alloc, inputs.users)?;
+    let mut world = world_of(alloc, scene, users)?;
     let script = read_all(alloc, input)?;
     let lines = read_script(alloc, &script)?;
     let mut printer = Printer::new(alloc);
@@ -92,7 +78,7 @@ fn run_script<R: Read, W: Write, E: Write>(
     out.flush().map_err(|_| ProgramFault::Output)
 }
 
-/// The command `script`: publishes the start tree, reads all of the input, checks every line, and then
+/// The command `script`: publishes all states, reads all of the input, checks every line, and then
 /// runs the lines one after the other, with a line of output for each. Its status: 0, or 1 where a
 /// fault ended it, which is told by one line on `err`; what was printed before stands. Where the inputs
 /// ask for it, `err` also gets each message and its reply as text, the connection's number and `<-` or

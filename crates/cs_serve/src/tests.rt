@@ -6,5 +6,6 @@ mod fixture;
 mod lists;
 mod program;
 mod sessions;
+mod states;
 mod walks;
 mod wstats;

@@ -1,9 +1,13 @@
 //! What the messages are about.
 
 use cs_names::{Name, Path, UserName};
+use cs_plan::Scene;
+use cs_serve::world_of;
+use cs_trace::read_trace;
 use cs_tree::PlainTree;
 use cs_tree_model::{Content, DMDIR, Record};
 use cs_users::Users;
+use cs_world::World;
 use std::alloc::Global;
 
 /// How many bytes the file has.
@@ -15,6 +19,23 @@ pub fn user(alloc: Global) -> Option<UserName> {
 
 pub fn users(alloc: Global) -> Option<Users> {
     Users::read(alloc, b"1:ann::\n").ok()
+}
+
+/// A root with a directory and a file, as a trace has them, up to the file's bytes.
+const TRACE: &str = "{\"trace\":1,\"owner\":\"ann\",\"group\":\"ann\",\"mode\":\"755\"}
+{\"start\":\"dir\",\"path\":\"/d\",\"owner\":\"ann\",\"group\":\"ann\",\"mode\":\"755\"}
+{\"start\":\"file\",\"path\":\"/f\",\"owner\":\"ann\",\"group\":\"ann\",\"mode\":\"644\",\"bytes\":\"";
+
+/// A world of one state, which has the same files as the tree.
+pub fn world(alloc: Global) -> Option<World> {
+    let mut text = String::from_str(alloc, TRACE).ok()?;
+    for _ in 0..FILE_LENGTH {
+        text.push_str("07").ok()?;
+    }
+    text.push_str("\"}\n").ok()?;
+    let trace = read_trace(alloc, text.as_str()).ok()?;
+    let scene = Scene::of(alloc, trace, false, Vec::new(alloc)).ok()?;
+    world_of(alloc, scene, users(alloc)?).ok()
 }
 
 fn record(alloc: Global, number: u64, mode: u32, content: Content) -> Option<Record> {

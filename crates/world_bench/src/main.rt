@@ -8,27 +8,32 @@ mod messages;
 mod times;
 mod works;
 
-use crate::files::{tree, users};
+use crate::files::{tree, users, world};
 use crate::messages::{ask, join, walk};
 use crate::times::Times;
 use crate::works::{Kind, Sides, opens};
 use cs_run::CountedRun;
-use cs_serve::FirstWorld;
 use cs_wire::TBody;
 use std::alloc::Global;
 use std::rt::Clock;
 use std::time::Instant;
 use std::{env, io};
 
-/// How often each work is done, and how often it is timed.
+/// How often each work is done in a round.
 const REPEATS: u64 = 1_000;
+
+/// How many rounds are timed. A run's journal has room for their messages.
+const ROUNDS: u64 = 30;
+
+/// How often a file is opened beside many others.
+const OPENS: u64 = 15_000;
 
 /// How many more fids there are in the last measure, each open.
 const MANY: u32 = 4_000;
 
 /// A world with fids on the root (0 and 1) and on the file (2, and 3, which is open), and a run alone.
 fn sides(alloc: Global) -> Option<Sides> {
-    let mut world = FirstWorld::new(alloc, tree(alloc)?, users(alloc)?).ok()?;
+    let mut world = world(alloc)?;
     let mut out = Vec::new(alloc);
     join(alloc, &mut world, &mut out)?;
     ask(alloc, &mut world, walk(alloc, 0, 1, None)?, &mut out)?;
@@ -48,7 +53,7 @@ fn measure(rt: &(impl Clock + Print + AllocGlobal), kind: Kind, timed: bool) -> 
         return println!(rt; "out of memory");
     };
     let mut times = Times::new();
-    for _ in 0..(if timed { REPEATS } else { 1 }) {
+    for _ in 0..(if timed { ROUNDS } else { 1 }) {
         times.time(rt, &mut sides, &work, if timed { REPEATS } else { 1 })?;
     }
     times.print(rt, kind.name(), timed)
@@ -81,7 +86,7 @@ fn crowded(rt: &(impl Clock + Print + AllocGlobal), fids: u32, timed: bool) -> i
     };
     let mut done = u64::from(crowd(rt.alloc(), &mut sides, fids).is_some());
     let start = Instant::now(rt)?;
-    let repeats = if timed { REPEATS.wrapping_mul(100) } else { 1 };
+    let repeats = if timed { OPENS } else { 1 };
     for _ in 0..repeats {
         if opens(rt.alloc(), &mut sides.world, &mut sides.out).is_some() {
             done = done.wrapping_add(1);
@@ -101,7 +106,7 @@ fn ended(rt: &(impl Clock + Print + AllocGlobal), fids: u32, timed: bool) -> io:
     };
     let done = crowd(rt.alloc(), &mut sides, fids).is_some();
     let start = Instant::now(rt)?;
-    sides.world.hang_up(rt.alloc(), 0, 1);
+    let _closed = sides.world.hang_up(rt.alloc(), 0, 1);
     let took = start.elapsed(rt)?.as_nanos() / u128::from(fids.max(1));
     if !timed {
         return println!(rt; "a hang-up of {fids}: {done}");

@@ -1,8 +1,7 @@
 //! Messages as bytes, and what they come to.
 
-use cs_serve::FirstWorld;
-use cs_tree::PlainTree;
 use cs_wire::{RBody, RMessage, TBody, TMessage, encode, encode_t};
+use cs_world::World;
 use std::alloc::Global;
 
 /// The bytes of a message; of none where memory is wanting.
@@ -20,7 +19,7 @@ pub fn spelled(alloc: Global, body: TBody) -> Option<Vec<u8>> {
 /// is denied.
 pub fn send(
     alloc: Global,
-    world: &mut FirstWorld<PlainTree>,
+    world: &mut World,
     bytes: &[u8],
     out: &mut Vec<u8>,
 ) -> Option<()> {
@@ -38,7 +37,7 @@ pub fn send(
 /// Sends a message whose words are these.
 pub fn ask(
     alloc: Global,
-    world: &mut FirstWorld<PlainTree>,
+    world: &mut World,
     body: TBody,
     out: &mut Vec<u8>,
 ) -> Option<()> {
@@ -64,7 +63,7 @@ pub fn walk(alloc: Global, fid: u32, newfid: u32, name: Option<&str>) -> Option<
 }
 
 /// A session begins, and a user stands on the root with the fid 0.
-pub fn join(alloc: Global, world: &mut FirstWorld<PlainTree>, out: &mut Vec<u8>) -> Option<()> {
+pub fn join(alloc: Global, world: &mut World, out: &mut Vec<u8>) -> Option<()> {
     let version = TBody::Version {
         msize: 65_536,
         version: String::from_str(alloc, "9P2000").ok()?,

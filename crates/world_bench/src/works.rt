@@ -7,9 +7,9 @@ use cs_fids::Place;
 use cs_names::UserName;
 use cs_permit::{Call, ReadCall, StatCall, WalkCall, WriteCall};
 use cs_run::{CountedRun, Outcome};
-use cs_serve::FirstWorld;
 use cs_tree::PlainTree;
 use cs_wire::{RMessage, TBody, decode};
+use cs_world::World;
 use std::alloc::Global;
 
 /// Bytes of a read and of a write.
@@ -32,7 +32,7 @@ pub struct Work {
 /// What the works are done on: a world, and a run of the same files, each with a buffer that is kept.
 #[derive(Drop)]
 pub struct Sides {
-    pub world: FirstWorld<PlainTree>,
+    pub world: World,
     pub run: CountedRun<PlainTree>,
     pub out: Vec<u8>,
 }
@@ -50,7 +50,7 @@ impl Exchange {
     /// A message, its call, and the reply that the world gives it.
     fn new(
         alloc: Global,
-        world: &mut FirstWorld<PlainTree>,
+        world: &mut World,
         body: TBody,
         call: Call,
     ) -> Option<Exchange> {
@@ -122,7 +122,7 @@ impl Kind {
     }
 
     /// The work on this world.
-    pub fn work(self, alloc: Global, world: &mut FirstWorld<PlainTree>) -> Option<Work> {
+    pub fn work(self, alloc: Global, world: &mut World) -> Option<Work> {
         match self {
             Kind::Stats => stats(alloc, world),
             Kind::Reads => reads(alloc, world),
@@ -133,14 +133,14 @@ impl Kind {
 }
 
 /// A stat of the file that the fid 2 stands on.
-fn stats(alloc: Global, world: &mut FirstWorld<PlainTree>) -> Option<Work> {
+fn stats(alloc: Global, world: &mut World) -> Option<Work> {
     let call = Call::Stat(StatCall { number: 2 });
     let stat = Exchange::new(alloc, world, TBody::Stat { fid: 2 }, call)?;
     Work::of(alloc, [Some(stat), None])
 }
 
 /// A read of a block of the file that is open as the fid 3.
-fn reads(alloc: Global, world: &mut FirstWorld<PlainTree>) -> Option<Work> {
+fn reads(alloc: Global, world: &mut World) -> Option<Work> {
     let body = TBody::Read {
         fid: 3,
         offset: 8_192,
@@ -157,7 +157,7 @@ fn reads(alloc: Global, world: &mut FirstWorld<PlainTree>) -> Option<Work> {
 }
 
 /// A write of a block into the file that is open as the fid 3.
-fn writes(alloc: Global, world: &mut FirstWorld<PlainTree>) -> Option<Work> {
+fn writes(alloc: Global, world: &mut World) -> Option<Work> {
     let body = TBody::Write {
         fid: 3,
         offset: 8_192,
@@ -184,7 +184,7 @@ fn walk_call(alloc: Global, number: u64, user: UserName, name: &str) -> Option<C
 }
 
 /// Walks of one name of the fid 1: into the directory, and back up.
-fn walks(alloc: Global, world: &mut FirstWorld<PlainTree>) -> Option<Work> {
+fn walks(alloc: Global, world: &mut World) -> Option<Work> {
     let down = walk_call(alloc, 0, user(alloc)?, "d")?;
     let down = Exchange::new(alloc, world, walk(alloc, 1, 1, Some("d"))?, down)?;
     let up = walk_call(alloc, 1, user(alloc)?, "..")?;
@@ -193,7 +193,7 @@ fn walks(alloc: Global, world: &mut FirstWorld<PlainTree>) -> Option<Work> {
 }
 
 /// An open and a clunk of the fid 1, which stands on the file.
-pub fn opens(alloc: Global, world: &mut FirstWorld<PlainTree>, out: &mut Vec<u8>) -> Option<()> {
+pub fn opens(alloc: Global, world: &mut World, out: &mut Vec<u8>) -> Option<()> {
     let open = spelled(alloc, TBody::Open { fid: 4, mode: 0 })?;
     let clunk = spelled(alloc, TBody::Clunk { fid: 4 })?;
     let walk = spelled(alloc, walk(alloc, 2, 4, None)?)?;

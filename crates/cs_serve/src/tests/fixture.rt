@@ -1,9 +1,10 @@
 //! The start tree of the worked examples, its users, and worlds over it.
 use crate::tests::asking::{shown, spelled};
-use crate::{FirstWorld, Inputs, script_of};
+use crate::{Inputs, script_of, world_of};
+use cs_plan::Scene;
 use cs_trace::read_trace;
-use cs_tree::PlainTree;
 use cs_users::Users;
+use cs_world::World;
 use std::alloc::Global;
 use std::process::Abort;
 use std::test::Fail;
@@ -22,19 +23,19 @@ pub const VERSIONED: &str = "Rversion tag 1 msize 8192 version \"9P2000\"";
 /// An attach is granted.
 pub const ATTACHED: &str = "Rattach tag 1 qid (80 0 0)";
 
-/// A world over the start tree of a trace, with no session.
-pub fn world_over(alloc: Global, trace: &str) -> Result<FirstWorld<PlainTree>, Fail> {
-    let records = read_trace(alloc, trace)?.into_records();
-    let tree = PlainTree::from_records(alloc, records)?;
+/// A world of the states of a trace's prefixes, with no session.
+pub fn world_over(alloc: Global, trace: &str) -> Result<World, Fail> {
+    let trace = read_trace(alloc, trace)?;
+    let scene = Scene::of(alloc, trace, false, Vec::new(alloc))?;
     let users = Users::read(alloc, USERS.as_bytes())?;
-    Ok(FirstWorld::new(alloc, tree, users)?)
+    Ok(world_of(alloc, scene, users)?)
 }
 
 /// Does what a line asks: a connection's number, and words of a message, or `hangup`. The reply as
 /// text; a hang-up has none.
 pub fn ask(
     rt: &(impl Abort + AllocGlobal),
-    world: &mut FirstWorld<PlainTree>,
+    world: &mut World,
     line: &str,
 ) -> Result<String, Fail> {
     let words: Vec<&str> = line.split_whitespace().collect(rt.alloc())?;
@@ -44,7 +45,7 @@ pub fn ask(
     let conn = conn.parse::<u32>()?;
     assert!(rt; conn < 64);
     if words.first() == Some(&"hangup") {
-        world.hang_up(rt.alloc(), conn, 7);
+        let _closed = world.hang_up(rt.alloc(), conn, 7);
         return Ok(String::new(rt.alloc()));
     }
     let bytes = spelled(rt.alloc(), words)?;
@@ -56,7 +57,7 @@ pub fn ask(
 /// Asks line by line in a world, and looks for the replies.
 pub fn expect_in(
     rt: &(impl Abort + AllocGlobal),
-    world: &mut FirstWorld<PlainTree>,
+    world: &mut World,
     exchange: &[(&str, &str)],
 ) -> Result<(), Fail> {
     for (line, wanted) in exchange {
@@ -69,7 +70,7 @@ pub fn expect_in(
 /// Begins a session on a connection and attaches a user as the fid 0.
 pub fn join(
     rt: &(impl Abort + AllocGlobal),
-    world: &mut FirstWorld<PlainTree>,
+    world: &mut World,
     conn: u32,
     user: &str,
 ) -> Result<(), Fail> {

@@ -80,20 +80,12 @@ fn attach_is_refused_by_its_rules(rt: HostRuntime) -> Result<(), Fail> {
                 "0 attach 0 zed 0/x",
                 "Rerror tag 1 ename \"A6 unknown user\"",
             ),
-            (
-                "0 attach 0 ann 0/y",
-                "Rerror tag 1 ename \"A5 no room for the attach\"",
-            ),
-            ("0 attach 0 ann 0/x", ATTACHED),
+            ("0 attach 0 ann 0/y", ATTACHED),
             (
                 "0 attach 0 ann 0/x",
                 "Rerror tag 1 ename \"A1 fid not free\"",
             ),
             ("5 version 8192 9P2000", VERSIONED),
-            (
-                "5 attach 0 bob 0/y",
-                "Rerror tag 1 ename \"A5 no room for the attach\"",
-            ),
             ("5 attach 0 bob 0/x", ATTACHED),
         ],
     )

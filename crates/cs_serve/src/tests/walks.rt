@@ -96,16 +96,3 @@ fn fid_follows_a_renamed_directory(rt: HostRuntime) -> Result<(), Fail> {
         ],
     )
 }
-
-#[test]
-fn start_tree_is_served_whatever_the_operations_are(rt: HostRuntime) -> Result<(), Fail> {
-    let mut trace = String::from_str(rt.alloc(), TRACE)?;
-    trace.push_str("{\"op\":\"unlink\",\"path\":\"/f\"}\n")?;
-    let mut world = world_over(rt.alloc(), trace.as_str())?;
-    join(&rt, &mut world, 0, "ann")?;
-    expect_in(
-        &rt,
-        &mut world,
-        &[("0 walk 0 1 f", "Rwalk tag 1 wqid [(00 0 4)]")],
-    )
-}
