@@ -1,8 +1,8 @@
 -- What is read of the fresh tree, by the table of numbers.
-use Rattle.std.proofs.Common.{◌≡◌, ◌+◌, ◌-◌, ◌<◌, ◌^◌, ℕ, suc, List, [], ◌∷◌, ◌++◌, map, Option, None, Some, IsSome, refl, sym, ap, ◌∙◌, subst, arith, length, slice_get, take, drop}
+use Rattle.std.proofs.Common.{◌≡◌, ◌+◌, ◌<◌, ℕ, List, [], ◌∷◌, ◌++◌, map, Option, None, Some, IsSome, refl, sym, ap, ◌∙◌, subst, arith, length, slice_get, take, drop}
 use Rattle.std.proofs.lemmas.Bool.{false≢true}
 use Rattle.std.proofs.lemmas.List.{length-map}
-use Rattle.std.specs.FinMap.{FinMap, get, find, entries, entries_sorted, get-entries, len, len-entries}
+use Rattle.std.specs.FinMap.{get, entries, entries_sorted, get-entries, len, len-entries}
 use Rattle.std.specs.List as list
 use Rattle.std.specs.List.{filter_map}
 use Rattle.std.specs.Option.{option_map, option_and_then, is_some}
@@ -12,7 +12,7 @@ use Rattle.cs_tree_model.specs.Effects.{after_prefix, comes_after, entry_after, 
 use Rattle.cs_tree_model.specs.Fresh.{fresh, fresh_record, numbered, place_in}
 use Rattle.cs_tree_model.specs.Nexts.{entry_below, next_name, IsEntryBelow}
 use Rattle.cs_tree_model.specs.Record.{metadata_of}
-use Rattle.cs_tree_model.specs.Tree.{NameBytes, Path, path_cmp, Tree, IsTree, bytes_at, content_numbered, last_name, name_numbered, number_at, number_in, parent_numbered, parent_path, path_numbered, record_at, record_numbered}
+use Rattle.cs_tree_model.specs.Tree.{NameBytes, Path, Tree, IsTree, bytes_at, content_numbered, last_name, name_numbered, number_at, number_in, parent_numbered, parent_path, path_numbered, record_numbered}
 use Rattle.cs_tree_model.specs.Laws.FreshReads.{count-fresh, entries-fresh, next-fresh, number_at-fresh, path_numbered-fresh, record_numbered-fresh}
 use Rattle.cs_tree_model.specs.Laws.Nexts.{entry_holds}
 use Rattle.cs_tree_model.specs.Laws.Round.{numbered_in}

@@ -1,5 +1,5 @@
 -- Sorted entries by their places.
-use Rattle.std.proofs.Common.{◌≡◌, ◌≢◌, ◌+◌, ◌<◌, ℕ, zero, suc, true, false, cond, T, List, [], ◌∷◌, map, length, Option, None, Some, refl, sym, ap, ◌∙◌, subst, ⊎_elim, arith, add-one, slice_get}
+use Rattle.std.proofs.Common.{◌≡◌, ◌≢◌, ◌+◌, ◌<◌, ℕ, zero, suc, true, false, cond, T, List, [], ◌∷◌, map, length, Some, refl, sym, ap, ◌∙◌, subst, ⊎_elim, arith, add-one, slice_get}
 use Rattle.std.proofs.lemmas.Bool.{false≢true}
 use Rattle.std.specs.FinMap.{find, is_sorted}
 use Rattle.std.specs.FinMap.Entries.{below_all}

@@ -1,16 +1,15 @@
-use Rattle.std.proofs.Common.{◌≡◌, nat_eq, IsSome, IfSome, None, Some, refl, sym, ap, ◌∙◌, subst}
+use Rattle.std.proofs.Common.{◌≡◌, nat_eq, IsSome, IfSome, None, Some, sym, ap, ◌∙◌, subst}
 use Rattle.std.proofs.lemmas.Result.{err_from_is_err_and}
 use Rattle.std.specs.Arc.{arc_value}
 use Rattle.std.specs.HashMap.{get}
 use Rattle.std.specs.Option.{IsSomeAnd, option_copied}
-use Rattle.cs_tree_model.specs.Laws.Stores.{directory_stays, number_stays}
 use Rattle.cs_tree_model.specs.Record.{IsDirectory}
 use Rattle.cs_tree_model.specs.Stores.{changed_record}
-use Rattle.cs_tree_model.specs.Tree.{number_in, parent_numbered}
+use Rattle.cs_tree_model.specs.Tree.{number_in}
 use Rattle.cs_overlay.specs.Layers.{SameLayers, StepsAt, found, layers, own_in}
-use Rattle.cs_overlay.proofs.Holding.{above_in, file_if_in, over_same, over_step, parent_stamps_in, stamps_in, there_in, tree_same, tree_step}
+use Rattle.cs_overlay.proofs.Holding.{above_in, file_if_in, over_same, parent_stamps_in, stamps_in, there_in, tree_same}
 use Rattle.cs_overlay.proofs.Removing.{apart, own_found}
-use Rattle.cs_overlay.proofs.Renaming.{over_renamed, tree_renamed, unnamed}
+use Rattle.cs_overlay.proofs.Renaming.{over_renamed, tree_renamed}
 use Rattle.cs_overlay.proofs.Unseen.{same_step}
 use Rattle.cs_overlay.proofs.Views.{found_is, name_there, parent_there}
 use Rattle.cs_overlay.proofs.overlay.Overlay.rename.Goals as goal
