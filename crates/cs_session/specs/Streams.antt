@@ -1,5 +1,5 @@
 -- What a stream's calls do to its bytes, where these are known, and to its counts.
-use Rattle.std.specs.Prelude.{◌≡◌, ℕ, ◌+◌, ◌-◌, ◌<◌, ◌≤◌, ◌⊎◌, ◌==◌, ◌&&◌, min, nat_lt, if◌then◌else◌, List, [], ◌++◌, length, take, Option}
+use Rattle.std.specs.Prelude.{◌≡◌, ℕ, ◌+◌, ◌-◌, ◌<◌, ◌≤◌, ◌⊎◌, ◌==◌, ◌&&◌, min, nat_lt, if◌then◌else◌, List, ◌++◌, length, take, Option}
 use Rattle.std.specs.Io.KnownBytes.{Appends, Consumes, IsAtEnd, Keeps}
 use Rattle.cs_names.specs.declared.limits.TheConstants.{CONNECTION_READS, INTERRUPTIONS}
 use Rattle.cs_session.specs.declared.stream.Counts.{Counts}

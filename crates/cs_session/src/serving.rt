@@ -191,10 +191,7 @@ fn converse<S: Stream, P: Port, C: Clock>(
             Transfer::Bytes(count) => {
                 waits = 0;
                 framer.took(count);
-                match answer_all(alloc, framer, session, replies, stream, port, clock) {
-                    Err(fault) => return Err(fault),
-                    Ok(()) => {}
-                }
+                answer_all(alloc, framer, session, replies, stream, port, clock)?;
             }
         }
     }

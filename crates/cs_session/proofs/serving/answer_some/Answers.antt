@@ -1,4 +1,4 @@
-use Rattle.std.proofs.Common.{◌≡◌, ◌≤◌, ◌<◌, ◌∙◌, ap, arith, length, length-append}
+use Rattle.std.proofs.Common.{◌∙◌, ap, arith, length, length-append}
 use Rattle.cs_wire.specs.Held.{left, size_of}
 use Rattle.cs_session.proofs.Conversing.{served_more}
 use Rattle.cs_session.proofs.serving.answer_some.Goals as goal

@@ -1,5 +1,6 @@
-use Rattle.std.proofs.Common.{◌≡◌, ◌≤◌, ◌<◌, ◌+◌, ◌++◌, ℕ, List, length, take, ◌∙◌, refl, sym, ap, arith}
-use Rattle.cs_wire.specs.Held.{left, size_of, taken, written}
+use Rattle.std.proofs.Common.{◌≡◌, ◌<◌, ◌++◌, ℕ, List, length, take, ◌∙◌, refl, ap, arith}
+use Rattle.std.proofs.lemmas.Result.{err_from_is_err_and}
+use Rattle.cs_wire.specs.Held.{left, size_of, written}
 use Rattle.cs_session.specs.declared.stream.Transfer.TheVariants.{Bytes, Interrupted}
 use Rattle.cs_session.proofs.Known.{Consumes-keeps}
 use Rattle.cs_session.proofs.Counting.{keeps_faults_same, ends_up, reading_more, reading_kept}
@@ -38,16 +39,17 @@ returns-in-Err-clause-cut g c =
     let room = room_some c.loop.framer c.make_room.new.self c.make_room.ensures.left c.make_room.ensures.size c.make_room.ensures.room was.size was.unfinished in
     λ _. rw said.counted (ends_up _ _ (length c.room.result.now) was.ends (omega (arith, room, ap length c.room.ensures.value)))
 
-pub returns-in-Err-answer_all-clause-conversed : goal.returns-in-Err-answer_all-clause-conversed
-returns-in-Err-answer_all-clause-conversed g c =
+pub returns-in_err-answer_all-in-Bytes-clause-conversed : goal.returns-in_err-answer_all-in-Bytes-clause-conversed
+returns-in_err-answer_all-in-Bytes-clause-conversed g c =
     let was = c.loop.invariant in
     let said = c.in-Bytes.ensures in
     let on = listening_on g.P.Port.gives _ _ _ _ _ _ _ _ _ _ _ _ was.listening said.bytes.1 said.contents in
     let full = written-whole c.make_room.new.self.room c.read.new.buf (c.read.auto.buf ∙ ap length c.room.ensures.value) in
     let here : left c.took.new.self ≡ left c.loop.framer ++ take c.in-Bytes.count c.read.new.buf =
     c.took.ensures.left ∙ ap (λ (z : List ℕ). z ++ take c.in-Bytes.count (written c.make_room.new.self.room c.read.new.buf)) c.make_room.ensures.left ∙ ap (λ (z : List ℕ). left c.loop.framer ++ take c.in-Bytes.count z) full in
-    let handled = rw here at c.in-Err-answer_all.ensures.handled in
-    rw c.in-Err-answer_all.ensures.remaining (conversed_part g.P.Port.gives _ _ _ _ _ _ _ _ _ _ _ _ _ _ on handled)
+    let fault = err_from_is_err_and c.from_residual.result c.from_residual.ensures.1 in
+    let handled = rw here at c.in_err-answer_all-in-Bytes.ensures.handled in
+    rw (fault.1, fault.2, c.in_err-answer_all-in-Bytes.ensures.remaining) (conversed_part g.P.Port.gives _ _ _ _ _ _ _ _ _ _ _ _ _ _ on handled)
 
 pub loop-preserved-in-Interrupted : goal.loop-preserved-in-Interrupted
 loop-preserved-in-Interrupted g c =
@@ -72,7 +74,7 @@ pub loop-preserved : goal.loop-preserved
 loop-preserved g c =
     let was = c.loop.invariant in
     let said = c.in-Bytes.ensures in
-    let answered = c.in-Ok-answer_all.ensures in
+    let answered = c.in_ok-answer_all-in-Bytes.ensures in
     let on = listening_on g.P.Port.gives _ _ _ _ _ _ _ _ _ _ _ _ was.listening said.bytes.1 said.contents in
     let full = written-whole c.make_room.new.self.room c.read.new.buf (c.read.auto.buf ∙ ap length c.room.ensures.value) in
     let here : left c.took.new.self ≡ left c.loop.framer ++ take c.in-Bytes.count c.read.new.buf =

@@ -1,4 +1,4 @@
-use Rattle.std.proofs.Common.{◌≡◌, ◌≤◌, ◌<◌, ℕ, length, ◌+◌, ◌-◌, ◌*◌}
+use Rattle.std.proofs.Common.{◌≡◌, ◌≤◌, ◌<◌, length, ◌+◌, ◌-◌, ◌*◌}
 use Rattle.cs_session.specs.Streams.{KeepsReads}
 use Rattle.cs_session.proofs.Known.{Wrote}
 use Rattle.cs_session.proofs.stream.write_all.Given as goal
