@@ -1,5 +1,5 @@
 -- The tables that are made of a trace are its atlas.
-use Rattle.std.proofs.Common.{◌≡◌, ℕ, zero, suc, ◌+◌, ◌<◌, ◌≤◌, Bool, List, [], ◌∷◌, Option, None, Some, refl, sym, ap, ◌∙◌, subst, arith, ⊎_elim, length, get_or}
+use Rattle.std.proofs.Common.{◌≡◌, ℕ, zero, suc, ◌+◌, ◌<◌, ◌≤◌, Bool, List, [], ◌∷◌, Some, refl, sym, ap, ◌∙◌, subst, arith, ⊎_elim, length}
 use Rattle.std.proofs.lemmas.Bool.{cases_lt, false≢true}
 use Rattle.std.proofs.lemmas.List.{get_or_past}
 use Rattle.std.proofs.lemmas.Option.{slice_get_within}
@@ -7,7 +7,6 @@ use Rattle.std.specs.FinMap.{get}
 use Rattle.std.specs.Option.{is_some, option_map}
 use Rattle.std.specs.Prelude.{slice_get}
 use Rattle.cs_tree_model.specs.Tree.{Path}
-use Rattle.cs_trace.specs.declared.operation.Node.{Node}
 use Rattle.cs_trace.specs.declared.operation.Node.TheVariants as nodes
 use Rattle.cs_trace.specs.declared.operation.Rights.{Rights}
 use Rattle.cs_trace.specs.Operations.{Paths}
@@ -22,10 +21,10 @@ use Rattle.cs_apm.specs.declared.slot.Slot.{Slot}
 use Rattle.cs_apm.specs.declared.slot.Slot.TheVariants.{Nothing, Directory, File}
 use Rattle.cs_apm.specs.declared.slot.Step.{Step}
 use Rattle.cs_apm.specs.declared.slot.Step.TheVariants.{Set, Move, Other}
-use Rattle.cs_apm.specs.Slots.{AreAscending, AreKnown, AreKnownSteps, AreSteps, HasRights, HasStepRights, HaveRights, HaveStepRights, IsKnown, IsKnownStep, IsStep, Mirror, entry_of, path_at, slot_at, slot_entry, step_at}
+use Rattle.cs_apm.specs.Slots.{AreAscending, AreKnown, AreKnownSteps, AreSteps, HasRights, HasStepRights, HaveRights, HaveStepRights, IsKnown, IsKnownStep, IsStep, Mirror, entry_of, path_at, slot_at, step_at}
 use Rattle.cs_apm.specs.Laws.Mirrors.{at_place, step_is}
 use Rattle.cs_apm.specs.Laws.Starts.{start_nodes}
-use Rattle.cs_apm.specs.Laws.Trees.{get_nodes, node_of, nodes_in}
+use Rattle.cs_apm.specs.Laws.Trees.{get_nodes, node_of}
 
 -- ---- the slots at the start
 

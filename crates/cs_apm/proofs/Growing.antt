@@ -1,5 +1,5 @@
 -- Slots and steps, as the table of rights grows.
-use Rattle.std.proofs.Common.{◌≡◌, ◌≢◌, ℕ, zero, suc, ◌+◌, ◌-◌, ◌<◌, ◌≤◌, Bool, true, false, cond, List, [], ◌∷◌, ◌++◌, Option, None, Some, refl, sym, ap, ◌∙◌, subst, arith, ⊎_elim, length, take, drop, get_or, replicate}
+use Rattle.std.proofs.Common.{◌≡◌, ◌≢◌, ℕ, zero, suc, ◌-◌, ◌<◌, ◌≤◌, Bool, true, false, cond, List, [], ◌∷◌, ◌++◌, Option, None, Some, refl, sym, ap, ◌∙◌, subst, arith, ⊎_elim, length, drop, get_or, replicate}
 use Rattle.std.proofs.Math.Seq.{drop-cons, drop-length}
 use Rattle.std.proofs.lemmas.Bool.{cases_eq}
 use Rattle.std.proofs.lemmas.List.{get_or-set_same, get_or-set_other}
@@ -19,7 +19,7 @@ use Rattle.cs_apm.specs.declared.slot.Slot.{Slot}
 use Rattle.cs_apm.specs.declared.slot.Slot.TheVariants.{Nothing, Directory, File}
 use Rattle.cs_apm.specs.declared.slot.Step.{Step}
 use Rattle.cs_apm.specs.declared.slot.Step.TheVariants.{Set, Move, Other}
-use Rattle.cs_apm.specs.Slots.{AreAscending, AreSteps, Grows, HasRights, HasStepRights, HaveRights, HaveStepRights, IsPlace, IsStep, Mirror, entry_of, slot_at, slot_entry, step_at}
+use Rattle.cs_apm.specs.Slots.{AreAscending, AreSteps, Grows, HasRights, HasStepRights, HaveRights, HaveStepRights, IsPlace, IsStep, Mirror, entry_of, slot_at, slot_entry}
 use Rattle.cs_apm.specs.Laws.Mirrors.{get_inserted, set_mirror}
 
 -- ---- one entry more

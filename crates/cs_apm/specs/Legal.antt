@@ -1,5 +1,5 @@
 -- Micro-operations that are legal one after the other, and sets that have what their members need.
-use Rattle.std.specs.Prelude.{◌≡◌, ◌≢◌, ◌<◌, ℕ, suc, zero, Bool, true, false, cond, List, [], ◌∷◌}
+use Rattle.std.specs.Prelude.{◌≡◌, ◌≢◌, ◌<◌, ℕ, suc, zero, Bool, true, false, cond, List, []}
 use Rattle.cs_tree_model.specs.Tree.{Path, parent_path}
 use Rattle.cs_trace.specs.Operations.{Paths}
 use Rattle.cs_micro.specs.declared.micro_op.EntryKind.TheVariants as kinds

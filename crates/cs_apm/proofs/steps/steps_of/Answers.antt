@@ -1,4 +1,4 @@
-use Rattle.std.proofs.Common.{◌∷◌, [], ◌++◌, ◌∙◌, arith, ap, subst, sym, length, take, get_or}
+use Rattle.std.proofs.Common.{◌∷◌, [], ◌++◌, ◌∙◌, arith, ap, subst, sym, length, take}
 use Rattle.std.proofs.lemmas.List.{get_or_read, take_more}
 use Rattle.cs_micro.specs.declared.micro_op.MicroOp.TheVariants.{Say}
 use Rattle.cs_apm.specs.Atlases.{HasTouched}
