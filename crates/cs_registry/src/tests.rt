@@ -1,5 +1,6 @@
 //! States that are published, and runs that are found: values from outside, for what is kept of a run in general.
-ghost use Rattle.std.specs.Prelude.{◌≡◌};
+ghost use Rattle.std.specs.Arc.{arc_value};
+ghost use Rattle.std.specs.Prelude.{◌≡◌, IfOk};
 
 use crate::{FindFault, Held, PublishFault, RunKey, States};
 use cs_apm::Built;
@@ -49,7 +50,9 @@ fn state_of(
     rt: &(impl Abort + AllocGlobal),
     scene: &Arc<Scene>,
     number: u32,
-) -> Result<Published, Fail> {
+) -> Result<Published, Fail>
+    ensures { IfOk result (λ made. made.scene ≡ arc_value scene.now) }
+{
     Ok(Scene::make(rt.alloc(), scene, number)?)
 }
 
@@ -137,13 +140,18 @@ fn a_run_is_what_was_left_of_it_and_no_other_is(rt: HostRuntime) -> Result<(), F
     for (number, place) in [(0, 0), (1, 1), (0, 0)] {
         assert_eq!(rt; states.find(rt.alloc(), number, &a), Ok(place));
     }
-    if 1 < states.run_count() {
+    if 0 < states.run_count() {
         states.at_mut(0).text = 7;
-        let (first, second) = (states.at(0), states.at(1));
-        assert_eq!(rt; (first.number, first.text), (0, 7));
-        assert_eq!(rt; (second.number, second.text), (1, 0));
-        let key = states.key_at(1);
-        assert_eq!(rt; (key.number(), key.name()), (1, "a"));
+    }
+    assert_eq!(rt; states.run_count(), 2);
+    for place in 0..states.run_count() {
+        let note = states.at(place);
+        assert_eq!(rt;
+            (note.number, note.text),
+            (place, if place == 0 { 7 } else { 0 })
+        );
+        let key = states.key_at(place);
+        assert_eq!(rt; (key.number(), key.name()), (place, "a"));
     }
     Ok(())
 }
