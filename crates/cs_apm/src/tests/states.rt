@@ -1,5 +1,6 @@
 //! Worked examples of the states of sets, as whole trees.
 
+use super::ONE_FILE;
 use crate::laws::rules_are_sentences;
 use crate::{Atlas, Built, Order, build};
 use cs_micro::break_up;
@@ -138,14 +139,6 @@ fn state_of(
     assert_eq!(rt; lines(rt.alloc(), &tree).ok_or("no memory")?, shown);
     Ok(tree)
 }
-
-/// A file of five bytes grows over a block's end, is cut, written again and moved: six micro-operations.
-const ONE_FILE: [&str; 4] = [
-    r#"{"op":"write","path":"/f","offset":4095,"bytes":"4849"}"#,
-    r#"{"op":"truncate","path":"/f","length":1}"#,
-    r#"{"op":"write","path":"/f","offset":0,"bytes":"78"}"#,
-    r#"{"op":"rename","from":"/f","to":"/n"}"#,
-];
 
 #[test]
 fn bytes_of_a_state_are_those_that_its_members_wrote(rt: HostRuntime) -> Result<(), Fail> {
