@@ -48,22 +48,22 @@ find_zip (p ∷ ps) (x ∷ xs) (suc i) d up low long =
     ap (λ b. cond b (Some x) (find path_cmp (get_or ps i []) (zip ps xs))) (behind p (get_or ps i []) (above_at p ps [] up.0 i (omega (arith, low))))
     ∙ find_zip ps xs i d up.1 (omega (arith, low)) (omega (arith, long))
 
+names_length : (es : List (Path × Record)) → length (map (λ e. e.0) es) ≡ length es
+names_length [] = refl
+names_length (e ∷ es) = ap suc (names_length es)
+
+named_at : (es : List (Path × Record)) (i : ℕ) → i < length es → get_or (map (λ e. e.0) es) i [] ≡ (get_or es i no_record).0
+named_at [] i low = absurd (omega (arith, low))
+named_at (e ∷ es) zero low = refl
+named_at (e ∷ es) (suc i) low = named_at es i (omega (arith, low))
+
 find_record : (es : List (Path × Record)) (i : ℕ) → AreAscending (map (λ e. e.0) es) → i < length es → find path_cmp (get_or es i no_record).0 es ≡ Some (get_or es i no_record).1
 find_record [] i up low = absurd (omega (arith, low))
 find_record (e ∷ es) zero up low = ap (λ b. cond b (Some e.1) (find path_cmp e.0 es)) (itself e.0)
 find_record (e ∷ es) (suc i) up low =
     ap (λ b. cond b (Some e.1) (find path_cmp (get_or es i no_record).0 es))
-    (behind e.0 (get_or es i no_record).0 (subst (λ q. path_cmp e.0 q ≡ Less) (named es i (omega (arith, low))) (above_at e.0 (map (λ e. e.0) es) [] up.0 i (omega (arith, low, length-names es)))))
+    (behind e.0 (get_or es i no_record).0 (subst (λ q. path_cmp e.0 q ≡ Less) (named_at es i (omega (arith, low))) (above_at e.0 (map (λ e. e.0) es) [] up.0 i (omega (arith, low, names_length es)))))
     ∙ find_record es i up.1 (omega (arith, low))
-  where
-    length-names : (es : List (Path × Record)) → length (map (λ e. e.0) es) ≡ length es
-    length-names [] = refl
-    length-names (e ∷ es) = ap suc (length-names es)
-
-    named : (es : List (Path × Record)) (i : ℕ) → i < length es → get_or (map (λ e. e.0) es) i [] ≡ (get_or es i no_record).0
-    named [] i low = absurd (omega (arith, low))
-    named (e ∷ es) zero low = refl
-    named (e ∷ es) (suc i) low = named es i (omega (arith, low))
 
 -- what is found stands at some place
 found_node : (q : Path) (records : List (Path × Record)) (ns : List Node) (node : Node) → find path_cmp q (zip (map (λ e. e.0) records) ns) ≡ Some node → (i : ℕ) × (i < length ns) × (node_at ns i ≡ node)
@@ -92,15 +92,6 @@ module _ (t : Trace) (each : length t.nodes ≡ length t.records) (up : AreAscen
 
     pub inside : get_or starts n 0 < length t.records
     inside = subst (λ k. get_or starts n 0 < k) each noted_at.0
-
-    names_length : (es : List (Path × Record)) → length (map (λ e. e.0) es) ≡ length es
-    names_length [] = refl
-    names_length (e ∷ es) = ap suc (names_length es)
-
-    named_at : (es : List (Path × Record)) (i : ℕ) → i < length es → get_or (map (λ e. e.0) es) i [] ≡ (get_or es i no_record).0
-    named_at [] i l = absurd (omega (arith, l))
-    named_at (e ∷ es) zero l = refl
-    named_at (e ∷ es) (suc i) l = named_at es i (omega (arith, l))
 
     stands : get (start_paths t) (get_or t.records (get_or starts n 0) no_record).0 ≡ Some (nodes.File n)
     stands =
