@@ -1,9 +1,9 @@
 -- How many records a state has: no more than the trace ever makes.
-use Rattle.std.proofs.Common.{◌≡◌, ◌<◌, ◌≤◌, ℕ, zero, suc, ◌+◌, ◌-◌, Bool, true, false, cond, List, [], ◌∷◌, ◌++◌, Option, None, Some, count_by, get_or, length, map, refl, sym, ap, ◌∙◌, subst, take, ⊎_elim, arith}
-use Rattle.std.proofs.lemmas.Bool.{cases_Bool, cases_eq}
+use Rattle.std.proofs.Common.{◌≡◌, ◌≤◌, ℕ, zero, suc, ◌+◌, ◌-◌, Bool, true, false, cond, List, [], ◌∷◌, ◌++◌, Option, None, Some, count_by, length, map, refl, sym, ap, ◌∙◌, subst, take, ⊎_elim, arith}
+use Rattle.std.proofs.lemmas.Bool.{cases_eq}
 use Rattle.std.proofs.lemmas.List.{length-map, take_all, take_more}
 use Rattle.std.proofs.lemmas.List.Sums.{sum_by-append, sum_by-cons}
-use Rattle.std.specs.FinMap.{FinMap, contains_key, empty, empty_of_len, entries, len-entries, from_entries, get, get-empty, insert, len, len-empty, len-insert, len-remove, remove}
+use Rattle.std.specs.FinMap.{FinMap, contains_key, empty_of_len, entries, len-entries, from_entries, get, get-empty, insert, len, len-empty, len-insert, len-remove, remove}
 use Rattle.std.specs.List.{flat_map, range_with_len, sum_by, zip}
 use Rattle.std.specs.Option.{is_some, option_map, option_map_or}
 use Rattle.std.specs.Prelude.{fold, nat_eq, nat_lt}
@@ -23,7 +23,7 @@ use Rattle.cs_trace.specs.declared.operation.Operation.{Operation}
 use Rattle.cs_trace.specs.declared.operation.Operation.TheVariants.{Creat, Mkdir, Unlink, Rmdir, Rename, Write, Truncate, Sync}
 use Rattle.cs_trace.specs.declared.operation.Operation.TheVariants as operations
 use Rattle.cs_micro.specs.Blocks.{block_write, block_writes, touched_blocks}
-use Rattle.cs_micro.specs.MicroOperations.{grown, micro_operations_of, micros_of, moved, resized, written}
+use Rattle.cs_micro.specs.MicroOperations.{grown, micro_operations_of, micros_of}
 use Rattle.cs_micro.specs.Micros.{micros_in}
 use Rattle.cs_micro.specs.declared.micro_op.MicroOp.{MicroOp}
 use Rattle.cs_micro.specs.declared.micro_op.MicroOp.TheVariants.{CreateDirEntry, DeleteDirEntry, MoveDirEntry, ChangeFileSize, WriteBlock, Say}

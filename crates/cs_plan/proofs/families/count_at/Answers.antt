@@ -1,4 +1,4 @@
-use Rattle.std.proofs.Common.{arith, ap, sym, subst, ◌∙◌, length, ◌+◌, ◌≡◌}
+use Rattle.std.proofs.Common.{arith, ap, sym, ◌∙◌, length, ◌+◌, ◌≡◌}
 use Rattle.std.proofs.lemmas.List.{length_push}
 use Rattle.cs_apm.specs.Orders.{needs_in}
 use Rattle.cs_plan.specs.declared.recipe.Recipe.TheVariants.{Hole}

@@ -1,4 +1,4 @@
-use Rattle.std.proofs.Common.{arith, rules, ap, sym, subst, ◌∙◌, length, ◌+◌, ◌≡◌, ◌++◌, map, ◌∷◌, []}
+use Rattle.std.proofs.Common.{arith, ap, sym, ◌∙◌, length, ◌≡◌, ◌++◌}
 use Rattle.std.proofs.lemmas.List.{append-nil}
 use Rattle.cs_apm.specs.Orders.{needs_in}
 use Rattle.cs_plan.specs.Plans.{holes_of, holes_at}

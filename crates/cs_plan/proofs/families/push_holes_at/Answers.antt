@@ -1,4 +1,4 @@
-use Rattle.std.proofs.Common.{arith, rules, ap, sym, subst, ◌∙◌, length, ◌+◌, ◌≡◌, ◌++◌, map, ◌∷◌, []}
+use Rattle.std.proofs.Common.{arith, ap, sym, ◌∙◌, ◌+◌, ◌≡◌, ◌++◌, ◌∷◌, []}
 use Rattle.cs_apm.specs.Orders.{needs_in}
 use Rattle.cs_plan.specs.declared.recipe.Recipe.TheVariants.{Hole}
 use Rattle.cs_plan.proofs.Listed.{holes_below, below_more, below_same, push_after}

@@ -1,4 +1,4 @@
-use Rattle.std.proofs.Common.{arith, rules, ap, sym, subst, ◌∙◌, length, ◌+◌, ◌≡◌, ◌++◌, map, ◌∷◌, []}
+use Rattle.std.proofs.Common.{arith, ap, sym, ◌∙◌, ◌+◌, ◌≡◌, ◌++◌, map, ◌∷◌, []}
 use Rattle.std.specs.List.{range_with_len}
 use Rattle.cs_plan.specs.Plans.{prefixes}
 use Rattle.cs_plan.specs.declared.recipe.Recipe.TheVariants.{Prefix}

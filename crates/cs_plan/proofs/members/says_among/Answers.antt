@@ -1,4 +1,4 @@
-use Rattle.std.proofs.Common.{arith, ap, get_or, length, sym, take, ◌∙◌, ◌<◌, ℕ, Bool, true, false}
+use Rattle.std.proofs.Common.{arith, ap, length, sym, ◌∙◌, ◌<◌, ℕ, Bool}
 use Rattle.std.proofs.lemmas.List.{take_all}
 use Rattle.std.proofs.lemmas.List.Sums.{count_by_more_no, count_by_more_yes}
 use Rattle.cs_apm.specs.Rules.{op_at}

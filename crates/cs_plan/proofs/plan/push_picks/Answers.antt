@@ -1,4 +1,4 @@
-use Rattle.std.proofs.Common.{arith, rules, ap, sym, subst, ◌∙◌, length, ◌+◌, ◌≡◌, ◌++◌, map, ◌∷◌, []}
+use Rattle.std.proofs.Common.{ap, sym, ◌∙◌, ◌++◌, map, ◌∷◌, []}
 use Rattle.std.proofs.lemmas.List.{map_push}
 use Rattle.cs_plan.specs.declared.recipe.Recipe.TheVariants.{Pick}
 use Rattle.cs_plan.proofs.Listed.{push_after}

@@ -1,4 +1,4 @@
-use Rattle.std.proofs.Common.{ap, length, subst, sym, ◌∙◌, ◌≡◌, ◌≤◌, Some}
+use Rattle.std.proofs.Common.{length, subst, sym, ◌∙◌, ◌≡◌, ◌≤◌, Some}
 use Rattle.std.specs.List.{slice_get}
 use Rattle.cs_names.specs.declared.limits.TheConstants.{TREE_RECORDS}
 use Rattle.cs_trace.specs.Traces.{records_made}

@@ -1,4 +1,4 @@
-use Rattle.std.proofs.Common.{ap, length, ◌∙◌, ◌≡◌, sym, subst}
+use Rattle.std.proofs.Common.{ap, length, ◌∙◌, sym, subst}
 use Rattle.cs_micro.specs.Micros.{micros_in}
 use Rattle.cs_apm.specs.Orders.{order_of}
 use Rattle.cs_plan.specs.Parts.{AreParts}
