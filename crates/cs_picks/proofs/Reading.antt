@@ -1,5 +1,5 @@
 -- Places and picks that are read one after another.
-use Rattle.std.proofs.Common.{◌≡◌, ◌<◌, ◌≤◌, ℕ, ◌+◌, Bool, true, false, List, [], ◌∷◌, ◌++◌, Option, None, Some, refl, sym, ap, ◌∙◌, append_assoc, drop, get_or, length, map}
+use Rattle.std.proofs.Common.{◌≡◌, ◌<◌, ◌≤◌, ℕ, ◌+◌, Bool, true, false, List, [], ◌∷◌, ◌++◌, Option, None, Some, refl, sym, ap, ◌∙◌, append_assoc, drop, get_or, length}
 use Rattle.std.proofs.lemmas.List.{append-nil, drop_all, drop_more}
 use Rattle.std.specs.Option.{option_map}
 use Rattle.std.specs.Prelude.{Result, Ok, Err}
@@ -8,7 +8,7 @@ use Rattle.std.proofs.lemmas.Str.{IsUtf8-from_is_utf8}
 use Rattle.serde_json.specs.View.{items_view, view}
 use Rattle.serde_json.specs.declared.value.Value.{Value}
 use Rattle.cs_picks.specs.Lines.{place_of, places_of, with_place}
-use Rattle.cs_picks.specs.Picks.{behind, picks_from, picks_on, with_line}
+use Rattle.cs_picks.specs.Picks.{behind, with_line}
 use Rattle.cs_picks.specs.declared.fault.PicksFault.{PicksFault}
 use Rattle.cs_picks.specs.declared.fault.PicksFault.TheVariants.{Syntax}
 

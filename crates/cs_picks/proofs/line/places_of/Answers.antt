@@ -1,6 +1,5 @@
-use Rattle.std.proofs.Common.{◌≡◌, ◌+◌, ap, arith, sym, ◌∙◌, refl, Some, None}
-use Rattle.serde_json.specs.View.{items_view, view}
-use Rattle.cs_picks.specs.Lines.{places_of, with_place}
+use Rattle.std.proofs.Common.{◌+◌, ap, sym, ◌∙◌, Some}
+use Rattle.cs_picks.specs.Lines.{with_place}
 use Rattle.cs_picks.proofs.Reading.{placed, placed_more, place_next, places_end, places_from}
 use Rattle.cs_picks.proofs.line.places_of.Goals as goal
 

@@ -1,10 +1,9 @@
-use Rattle.std.proofs.Common.{◌≡◌, ◌+◌, ap, arith, length, sym, ◌∙◌}
+use Rattle.std.proofs.Common.{◌+◌, ap, arith, length, sym, ◌∙◌}
 use Rattle.std.proofs.lemmas.List.{append-nil}
 use Rattle.std.specs.Prelude.{Err, Ok}
 use Rattle.cs_names.proofs.Cutting.{length-pieces}
-use Rattle.cs_names.specs.Pieces.{pieces}
 use Rattle.cs_names.specs.PiecesLeft.{pieces_left}
-use Rattle.cs_picks.specs.Picks.{behind, picks_from, picks_in, picks_on, with_line}
+use Rattle.cs_picks.specs.Picks.{behind, picks_from, picks_in, picks_on}
 use Rattle.cs_picks.proofs.Reading.{line_kept, line_refused}
 use Rattle.cs_picks.proofs.picks.read_picks.Goals as goal
 
