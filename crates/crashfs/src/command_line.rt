@@ -17,7 +17,9 @@ pub struct Wanted<'a> {
 #[derive(Clone, Copy, Debug, PartialEq, Eq)]
 pub enum Ask<'a> {
     /// To list the micro-operations and the crash states.
-    List { wanted: Wanted<'a> },
+    List {
+        wanted: Wanted<'a>,
+    },
     /// To run a script from standard input.
     Script {
         wanted: Wanted<'a>,
@@ -46,11 +48,7 @@ fn flag<'a>(alloc: Global, name: &'a str, help: &'a str) -> Arg<'a> {
 /// The command with the arguments that say which states are wanted.
 fn with_states<'a>(alloc: Global, command: Command<'a>) -> Result<Command<'a>, AllocError> {
     let trace = file_argument(alloc, "trace", "The trace, one JSON object a line").required(true);
-    let holes = flag(
-        alloc,
-        "holes",
-        "Adds the states of prefixes with a hole",
-    );
+    let holes = flag(alloc, "holes", "Adds the states of prefixes with a hole");
     let picks = file_argument(
         alloc,
         "picks",
@@ -60,13 +58,14 @@ fn with_states<'a>(alloc: Global, command: Command<'a>) -> Result<Command<'a>, A
 }
 
 fn list_command<'a>(alloc: Global) -> Result<Command<'a>, AllocError> {
-    let list = Command::new(alloc, "list").about("Prints the micro-operations and the crash states");
+    let list = Command::new(alloc, "list").about(
+        "Prints the micro-operations and the crash states",
+    );
     with_states(alloc, list)
 }
 
 fn script_command<'a>(alloc: Global) -> Result<Command<'a>, AllocError> {
-    let users =
-        file_argument(alloc, "users", "The users file, as users(6) has it").required(true);
+    let users = file_argument(alloc, "users", "The users file, as users(6) has it").required(true);
     let verbose = flag(
         alloc,
         "verbose",

@@ -17,12 +17,7 @@ pub fn spelled(alloc: Global, body: TBody) -> Option<Vec<u8>> {
 
 /// Sends a message on the connection 0, and encodes its reply in a buffer that is kept. None where it
 /// is denied.
-pub fn send(
-    alloc: Global,
-    world: &mut World,
-    bytes: &[u8],
-    out: &mut Vec<u8>,
-) -> Option<()> {
+pub fn send(alloc: Global, world: &mut World, bytes: &[u8], out: &mut Vec<u8>) -> Option<()> {
     if bytes.len() < 7 {
         return None;
     }
@@ -35,12 +30,7 @@ pub fn send(
 }
 
 /// Sends a message whose words are these.
-pub fn ask(
-    alloc: Global,
-    world: &mut World,
-    body: TBody,
-    out: &mut Vec<u8>,
-) -> Option<()> {
+pub fn ask(alloc: Global, world: &mut World, body: TBody, out: &mut Vec<u8>) -> Option<()> {
     let bytes = spelled(alloc, body)?;
     send(alloc, world, &bytes, out)
 }

@@ -48,12 +48,7 @@ fn granted(alloc: Global, run: &mut CountedRun<PlainTree>, call: &Call) -> Optio
 
 impl Exchange {
     /// A message, its call, and the reply that the world gives it.
-    fn new(
-        alloc: Global,
-        world: &mut World,
-        body: TBody,
-        call: Call,
-    ) -> Option<Exchange> {
+    fn new(alloc: Global, world: &mut World, body: TBody, call: Call) -> Option<Exchange> {
         let bytes = spelled(alloc, body)?;
         if bytes.len() < 7 {
             return None;

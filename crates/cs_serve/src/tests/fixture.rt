@@ -33,11 +33,7 @@ pub fn world_over(alloc: Global, trace: &str) -> Result<World, Fail> {
 
 /// Does what a line asks: a connection's number, and words of a message, or `hangup`. The reply as
 /// text; a hang-up has none.
-pub fn ask(
-    rt: &(impl Abort + AllocGlobal),
-    world: &mut World,
-    line: &str,
-) -> Result<String, Fail> {
+pub fn ask(rt: &(impl Abort + AllocGlobal), world: &mut World, line: &str) -> Result<String, Fail> {
     let words: Vec<&str> = line.split_whitespace().collect(rt.alloc())?;
     let [conn, words @ ..] = words.as_slice() else {
         return Ok(String::new(rt.alloc()));

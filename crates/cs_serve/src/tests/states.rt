@@ -3,7 +3,8 @@ use crate::tests::fixture::{ATTACHED, TRACE, VERSIONED, ask, expect_in, join, wo
 use std::test::Fail;
 
 /// The vectors' start tree, and then: `/f` loses its last three bytes, and is removed.
-const CUT: &str = "{\"op\":\"truncate\",\"path\":\"/f\",\"length\":2}\n{\"op\":\"unlink\",\"path\":\"/f\"}\n";
+const CUT: &str =
+    "{\"op\":\"truncate\",\"path\":\"/f\",\"length\":2}\n{\"op\":\"unlink\",\"path\":\"/f\"}\n";
 
 #[test]
 fn each_state_is_served_under_its_number(rt: HostRuntime) -> Result<(), Fail> {
@@ -36,7 +37,11 @@ fn each_state_is_served_under_its_number(rt: HostRuntime) -> Result<(), Fail> {
 #[test]
 fn what_is_written_in_a_run_is_read_in_that_run_alone(rt: HostRuntime) -> Result<(), Fail> {
     let mut world = world_over(rt.alloc(), TRACE)?;
-    let runs = [("0", "ann", "0/a"), ("1", "bob", "0/b"), ("2", "cat", "0/a")];
+    let runs = [
+        ("0", "ann", "0/a"),
+        ("1", "bob", "0/b"),
+        ("2", "cat", "0/a"),
+    ];
     for (conn, user, run) in runs {
         let version = format!(in rt.alloc(); "{conn} version 8192 9P2000")?;
         let attach = format!(in rt.alloc(); "{conn} attach 0 {user} {run}")?;
