@@ -67,7 +67,7 @@ impl Runs {
             Err(MakeFault::NoSuchState) => return Reply::Unpublished(StateFault::NoSuchState),
             Err(MakeFault::Memory) => return Reply::Unpublished(StateFault::Memory),
         };
-        match self.states.publish(alloc, state) {
+        match self.states.publish_own(alloc, state) {
             Ok(()) => Reply::Published,
             Err(PublishFault::Twice) => Reply::Unpublished(StateFault::Twice),
             Err(PublishFault::Memory) => Reply::Unpublished(StateFault::Memory),

@@ -174,6 +174,12 @@ fn steps_come_in_their_turn(rt: HostRuntime) -> Result<(), Fail> {
         fid: 0,
     };
     assert_eq!(rt; take(rt.alloc(), &mut world, close)?.as_str(), OUT_OF_TURN);
+    Ok(())
+}
+
+#[test]
+fn nothing_comes_between_a_find_and_its_attach(rt: HostRuntime) -> Result<(), Fail> {
+    let mut world = ready(&rt, 1)?;
     let found = find(rt.alloc(), 0, 0, "ann", "0/x")?;
     assert_eq!(rt;
         take(rt.alloc(), &mut world, found)?.as_str(),
