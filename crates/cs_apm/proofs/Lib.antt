@@ -16,3 +16,4 @@ pub mod Growing
 pub mod Marking
 pub mod Starting
 pub mod Assembling
+pub mod Closing

@@ -40,7 +40,7 @@ itself : (p : Path) → eq_by_cmp path_cmp p p ≡ true
 itself p = ap is_eq (tied_itself path_total p)
 
 -- what is kept beside the i-th path
-find_zip : {X : Type 0} (ps : List Path) (xs : List X) (i : ℕ) (d : X) → AreAscending ps → i < length ps → length xs ≡ length ps → find path_cmp (get_or ps i []) (zip ps xs) ≡ Some (get_or xs i d)
+pub find_zip : {X : Type 0} (ps : List Path) (xs : List X) (i : ℕ) (d : X) → AreAscending ps → i < length ps → length xs ≡ length ps → find path_cmp (get_or ps i []) (zip ps xs) ≡ Some (get_or xs i d)
 find_zip [] xs i d up low long = absurd (omega (arith, low))
 find_zip (p ∷ ps) [] i d up low long = absurd (omega (arith, long))
 find_zip (p ∷ ps) (x ∷ xs) zero d up low long = ap (λ b. cond b (Some x) (find path_cmp p (zip ps xs))) (itself p)
@@ -48,11 +48,11 @@ find_zip (p ∷ ps) (x ∷ xs) (suc i) d up low long =
     ap (λ b. cond b (Some x) (find path_cmp (get_or ps i []) (zip ps xs))) (behind p (get_or ps i []) (above_at p ps [] up.0 i (omega (arith, low))))
     ∙ find_zip ps xs i d up.1 (omega (arith, low)) (omega (arith, long))
 
-names_length : (es : List (Path × Record)) → length (map (λ e. e.0) es) ≡ length es
+pub names_length : (es : List (Path × Record)) → length (map (λ e. e.0) es) ≡ length es
 names_length [] = refl
 names_length (e ∷ es) = ap suc (names_length es)
 
-named_at : (es : List (Path × Record)) (i : ℕ) → i < length es → get_or (map (λ e. e.0) es) i [] ≡ (get_or es i no_record).0
+pub named_at : (es : List (Path × Record)) (i : ℕ) → i < length es → get_or (map (λ e. e.0) es) i [] ≡ (get_or es i no_record).0
 named_at [] i low = absurd (omega (arith, low))
 named_at (e ∷ es) zero low = refl
 named_at (e ∷ es) (suc i) low = named_at es i (omega (arith, low))

@@ -1,8 +1,8 @@
 -- What is found once of a trace, for the states of all its sets.
-use Rattle.std.specs.Prelude.{◌≡◌, ◌<◌, ℕ, ◌++◌, Bool, true, List, [], Some, None, length, map, slice_get, slice_index_or, slice_set}
+use Rattle.std.specs.Prelude.{◌≡◌, ◌≢◌, ◌<◌, ◌≤◌, ℕ, ◌+◌, ◌*◌, ◌++◌, ◌⊎◌, Bool, true, List, [], Some, None, length, map, slice_get, slice_index_or, slice_set}
 use Rattle.std.specs.List.{All, Contains, list_any}
 use Rattle.cs_tree_model.specs.declared.record.Record.{Record}
-use Rattle.cs_tree_model.specs.Tree.{Path}
+use Rattle.cs_tree_model.specs.Tree.{Path, parent_path}
 use Rattle.cs_trace.specs.declared.operation.Node.{Node}
 use Rattle.cs_trace.specs.declared.operation.Node.TheVariants as nodes
 use Rattle.cs_trace.specs.declared.operation.Rights.{Rights}
@@ -49,6 +49,9 @@ pub record AreChanged (ops : List MicroOp) (n : ℕ) (changed : List Bool) : Typ
 -- the atlas is of the trace, whose micro-operations these are
 pub record IsAtlas (t : Trace) (ops : List MicroOp) (a : Atlas) : Type 0 where
   pub ascending : AreAscending a.paths
+  pub few : length a.paths ≤ length t.records + 2 * length ops
+  pub rooted : Contains a.paths []
+  pub closed : (p : Path) → Contains a.paths p → p ≢ [] → Contains a.paths (parent_path p)
   pub long : length a.slots ≡ length a.paths
   pub start : Mirror a.rights a.paths a.slots (start_state t).paths
   pub steps : AreSteps a.rights a.paths ops a.steps
@@ -83,6 +86,11 @@ HasTouched paths o = (p : Path) → Contains (touched o) p → Contains paths p
 
 abbrev pub HasAllTouched : List Path → List MicroOp → ℕ → Type 0
 HasAllTouched paths ops n = (k : ℕ) → k < n → HasTouched paths (op_at ops k)
+
+-- the path is that of a record, or one of the first n micro-operations touches it
+abbrev pub IsKnownPath : List (Path × Record) → List MicroOp → ℕ → Path → Type 0
+IsKnownPath records ops n p =
+    ((k : ℕ) × (k < length records) × ((slice_index_or records k no_record).0 ≡ p)) ⊎ ((k : ℕ) × (k < n) × Contains (touched (op_at ops k)) p)
 
 -- ---- as the tables of files are made
 

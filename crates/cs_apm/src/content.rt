@@ -113,7 +113,7 @@ fn pad(bytes: &mut Vec<u8>, end: usize) -> Result<(), AllocError>
 }
 
 /// Puts the piece over the bytes from an offset on.
-fn put_at(bytes: &mut [u8], at: usize, piece: &[u8])
+pub fn put_at(bytes: &mut [u8], at: usize, piece: &[u8])
     requires { at + length piece.now ≤ length bytes.old }
     ensures { bytes.new ≡ put at piece.now bytes.old }
 {

@@ -2,26 +2,25 @@
 //! their members need, and what each of these sets leaves.
 #![tactic(auto)]
 
-pub mod atlas;
-mod content;
+pub mod content;
 mod files;
 mod flags;
 mod found;
 pub mod laws;
-mod making;
+pub mod making;
 pub mod order;
 mod places;
 mod rights;
 mod row;
 mod rows;
 mod rules;
-mod slot;
+pub mod slot;
 mod start;
-mod state;
+pub mod state;
 mod steps;
-mod tables;
+pub mod tables;
 #[cfg(test)]
 mod tests;
 
-pub use atlas::{Atlas, Built, build};
 pub use order::Order;
+pub use state::build;

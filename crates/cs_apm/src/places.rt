@@ -1,8 +1,9 @@
 //! Every path that ever stands, in order, each with its place.
-ghost use Rattle.std.specs.Prelude.{◌≡◌, ◌<◌, ◌≤◌, ◌+◌, ◌*◌, length, IfOk, OnOk};
+ghost use Rattle.std.specs.Prelude.{◌≡◌, ◌<◌, ◌≤◌, ◌+◌, ◌*◌, ◌⊎◌, ℕ, length, slice_index_or, IfOk, OnOk};
 ghost use Rattle.std.specs.List.{Contains};
 ghost use Rattle.cs_tree_model.specs.Tree.{Path as Names};
-ghost use Rattle.cs_apm.specs.Atlases.{HasAllTouched, HasFirst, HasTouched};
+ghost use Rattle.cs_apm.specs.Atlases.{HasAllTouched, HasFirst, HasTouched, IsKnownPath, no_record};
+ghost use Rattle.cs_apm.specs.Rules.{touched};
 ghost use Rattle.cs_apm.specs.Slots.{AreAscending, IsPlace};
 
 use cs_micro::MicroOp;
@@ -16,6 +17,7 @@ pub fn add_path(alloc: Global, paths: &mut Vec<Path>, path: &Path) -> Result<(),
     ensures ascending { AreAscending paths.new.items }
     ensures there { OnOk result (Contains paths.new.items path.now) }
     ensures others { (p : Names) → Contains paths.old.items p → Contains paths.new.items p }
+    ensures only { (p : Names) → Contains paths.new.items p → Contains paths.old.items p ⊎ (path.now ≡ p) }
     ensures few { length paths.new.items ≤ length paths.old.items + 1 }
 {
     match paths.binary_search(path) {
@@ -34,6 +36,7 @@ fn add_starts(
     requires { AreAscending paths.old.items }
     ensures ascending { OnOk result (AreAscending paths.new.items) }
     ensures there { OnOk result (HasFirst paths.new.items records.now (length records.now)) }
+    ensures only { OnOk result ((p : Names) → Contains paths.new.items p → Contains paths.old.items p ⊎ ((k : ℕ) × (k < length records.now) × ((slice_index_or records.now k no_record).0 ≡ p))) }
     ensures few { OnOk result (length paths.new.items ≤ length paths.old.items + length records.now) }
 {
     for record in records {
@@ -48,6 +51,7 @@ fn add_touched(alloc: Global, paths: &mut Vec<Path>, op: &MicroOp) -> Result<(),
     ensures ascending { OnOk result (AreAscending paths.new.items) }
     ensures there { OnOk result (HasTouched paths.new.items op.now) }
     ensures others { (p : Names) → Contains paths.old.items p → Contains paths.new.items p }
+    ensures only { OnOk result ((p : Names) → Contains paths.new.items p → Contains paths.old.items p ⊎ Contains (touched op.now) p) }
     ensures few { OnOk result (length paths.new.items ≤ length paths.old.items + 2) }
 {
     match op {
@@ -72,6 +76,7 @@ pub fn paths_of(
     ensures ascending { IfOk result (λ paths. AreAscending paths.items) }
     ensures starts { IfOk result (λ paths. HasFirst paths.items records.now (length records.now)) }
     ensures touched { IfOk result (λ paths. HasAllTouched paths.items ops.now (length ops.now)) }
+    ensures only { IfOk result (λ paths. (p : Names) → Contains paths.items p → IsKnownPath records.now ops.now (length ops.now) p) }
     ensures few { IfOk result (λ paths. length paths.items ≤ length records.now + 2 * length ops.now) }
 {
     let mut paths = Vec::new(alloc);

@@ -13,8 +13,7 @@ use cs_trace::Covers;
 pub fn is_parent(directory: &Path, path: &Path) -> bool
     ensures { result ≡ path_eq directory.now (parent_path path.now) }
 {
-    let names = path.names();
-    directory.names() == &names[..names.len().saturating_sub(1)]
+    directory.names() == path.names().parent()
 }
 
 /// Whether the operation touches the path.

@@ -2,6 +2,9 @@
 ghost use Rattle.std.specs.Prelude.{◌≡◌, ◌<◌, length, map, fold, IfOk};
 ghost use Rattle.std.specs.List.{All};
 ghost use Rattle.cs_tree_model.specs.Tree.{IsTree};
+ghost use Rattle.cs_trace.specs.Traces.{start_paths};
+ghost use Rattle.cs_micro.specs.Legal.{AreLegal};
+ghost use Rattle.cs_micro.specs.Micros.{micros_in};
 ghost use Rattle.cs_apm.specs.Atlases.{IsAtlas, atlas_in};
 ghost use Rattle.cs_apm.specs.Orders.{needs_of};
 ghost use Rattle.cs_apm.specs.Sets.{IsAllowed};
@@ -17,7 +20,7 @@ use cs_tree::PlainTree;
 use std::alloc::{AllocError, Global};
 
 /// The slots after the steps of a set.
-fn filled(alloc: Global, tables: &Tables, places: &[u32]) -> Result<Vec<Slot>, AllocError>
+pub fn filled(alloc: Global, tables: &Tables, places: &[u32]) -> Result<Vec<Slot>, AllocError>
     requires fit { All (FitsIn (length tables.now.slots.items)) tables.now.steps.items }
     requires inside { All (λ place. place < length tables.now.steps.items) places.now }
     ensures { IfOk result (λ left. left.items ≡ fold slots_after tables.now.slots.items (map (step_at tables.now.steps.items) places.now)) }
@@ -43,4 +46,22 @@ pub fn state_of(
 {
     let slots = filled(alloc, tables, places)?;
     store_of(alloc, trace, micros.ops(), tables, places, &slots)
+}
+
+/// The state of one set, which is allowed, as a plain store. The states of one trace share what is
+/// unchanged as `cs_state` makes them.
+pub fn build(
+    alloc: Global,
+    micros: &Micros,
+    trace: &Trace,
+    places: &[u32],
+) -> Result<PlainTree, AllocError>
+    requires broken { micros.now ≡ micros_in trace.now }
+    requires legal { AreLegal (start_paths trace.now) (length micros.now.starts) micros.now.ops }
+    requires allowed { IsAllowed (needs_of micros.now) (length micros.now.ops) places.now }
+    ensures state { IfOk result (λ tree. tree ≡ crash_state_of trace.now micros.now places.now) }
+    ensures tree { IfOk result IsTree }
+{
+    let tables = Tables::of(alloc, trace, micros)?;
+    state_of(alloc, trace, micros, &tables, places)
 }

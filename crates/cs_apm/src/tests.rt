@@ -3,8 +3,6 @@ ghost use Rattle.std.specs.Prelude.{◌<◌, IsTrue};
 ghost use Rattle.std.specs.List.{All};
 ghost use Rattle.cs_apm.specs.Contents.{IsSmall};
 
-mod states;
-
 use crate::Order;
 use crate::content::FileContent;
 use cs_micro::{MicroOp, Micros, break_up};

@@ -1,4 +1,6 @@
 pub mod Changes
+pub mod Keeping
 pub mod Leasts
 pub mod Maps
+pub mod Numbers
 pub mod Results

@@ -1,13 +1,9 @@
 -- What holds of a result or of an option, taken further.
-use Rattle.std.proofs.Common.{◌≡◌, Bor, Option, None, Some, option_copied, is_some, IfSome, false, refl, Result, Ok, Err, IfOk, OnErr}
+use Rattle.std.proofs.Common.{◌≡◌, Bor, Option, None, Some, option_copied, is_some, false, refl, Result, Ok, Err, IfOk, OnErr}
 
 pub if_ok : {A F : Type 0} (r : Result A F) (P Q : A → Type 0) → ((x : A) → P x → Q x) → IfOk r P → IfOk r Q
 if_ok (Ok x) P Q further h = further x h
 if_ok (Err e) P Q further h = h
-
-pub if_some : {A : Type 0} (o : Option A) (P Q : A → Type 0) → ((x : A) → P x → Q x) → IfSome o P → IfSome o Q
-if_some None P Q further h = h
-if_some (Some x) P Q further h = further x h
 
 pub on_err : {A F : Type 0} (r : Result A F) (P Q : Type 0) → (P → Q) → OnErr r P → OnErr r Q
 on_err (Ok x) P Q further h = h

@@ -2,6 +2,6 @@ pub mod Entries
 pub mod Faults
 pub mod FidOf
 pub mod Fids
-pub mod Leasts
+pub mod Opens
 pub mod Slots
 pub mod Tables

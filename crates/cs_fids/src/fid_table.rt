@@ -1,40 +1,41 @@
-//! The fids of a connection.
+//! The fids of a connection, and which of them are open.
 ghost use Rattle.std.specs.Prelude.{◌≡◌, ◌≢◌, ◌+◌, ◌<◌, ◌≤◌, ◌↔◌, IfErr, IfOk, IfSome, IsErr, IsNone, IsOk, IsOkUnless, IsSome, IsTrue, MatchResult, None, OnErr, OnOk, option_copied};
 ghost use Rattle.std.specs.FinMap.{empty, insert, len, remove};
 ghost use Rattle.std.specs.Option.{ok_or};
-ghost use Rattle.cs_fids.specs.Entries.{is_open};
 ghost use Rattle.cs_fids.specs.Fids.{moved_to, opened, with_place};
-ghost use Rattle.cs_fids.specs.Leasts.{least_from};
 ghost use Rattle.cs_fids.specs.Tables.{FailsAs, fid_at, least_open, opened_in, walked_in};
 
 use crate::entry::Entry;
 use crate::fault::FidFault;
 use crate::fid::{Fid, NOFID, Opened, Walked};
+use crate::opens::{put_in, take_out};
 use crate::place::Place;
-use crate::slot::Slot;
+use crate::table::Table;
 use cs_names::limits::FIDS;
-use indexmap::IndexMap;
 use std::alloc::Global;
 use std::marker::Model;
 
 /// The fids of a connection, by their numbers: at most FIDS, and NOFID is none of them. Contracts see
-/// a finite map, without an order, and the room for more.
+/// a finite map, without an order, and the room for more. The numbers of the open fids are kept beside them, so
+/// that the least is found at once.
 #[derive(Drop)]
 pub struct FidTable {
-    fids: IndexMap<u32, Slot>,
+    table: Table,
+    opens: Vec<u32>,
 }
 
 impl Model for FidTable {
-    ghost use Rattle.cs_fids.specs.Tables.{AreFids, Fids, fids_code, map_of, room_beside};
-    ghost use Rattle.indexmap.specs.IndexMap.{spare};
+    ghost use Rattle.std.specs.Prelude.{vec_capacity};
+    ghost use Rattle.cs_fids.specs.Opens.{AreOpens, beside_opens};
+    ghost use Rattle.cs_fids.specs.Tables.{Fids, fids_code};
 
     ghost Value = { Fids };
 
     ghost coded = { fids_code };
 
-    ghost view = { λ table. record { fids = map_of table.fids.entries; room = room_beside table.fids.entries (spare table.fids) } };
+    ghost view = { λ fids. beside_opens fids.table (vec_capacity fids.opens) };
 
-    ghost invariant = { λ table. AreFids table.fids.entries };
+    ghost invariant = { λ fids. AreOpens fids.table.fids fids.opens.items (vec_capacity fids.opens) };
 }
 
 impl FidTable {
@@ -43,7 +44,8 @@ impl FidTable {
         ensures { result.fids ≡ empty }
     {
         FidTable {
-            fids: IndexMap::new(alloc),
+            table: Table::new(alloc),
+            opens: Vec::new(alloc),
         }
     }
 
@@ -52,7 +54,7 @@ impl FidTable {
         ensures value { result ≡ len self.now.fids }
         ensures few { result ≤ FIDS }
     {
-        self.fids.len()
+        self.table.len()
     }
 
     /// What the number stands for, lent; NOFID stands for nothing.
@@ -60,10 +62,7 @@ impl FidTable {
         ensures value { option_copied result ≡ fid_at self.now fid }
         ensures nofid { fid ≡ NOFID → IsNone result }
     {
-        match self.fids.get(&fid) {
-            Some(slot) => Some(slot.entry()),
-            None => None,
-        }
+        self.table.look(fid)
     }
 
     /// The least number that stands for an open fid, if any.
@@ -71,14 +70,14 @@ impl FidTable {
         ensures least { result ≡ least_open self.now.fids }
         ensures found { IfSome result (λ fid. IsOk (opened_in (fid_at self.now fid))) }
     {
-        least_of(&self.fids)
+        self.opens.last().copied()
     }
 
     /// Whether one fid more can be put, with no memory taken.
     pub fn has_room(&self) -> bool
         ensures { IsTrue result ↔ (0 < self.now.room) }
     {
-        self.fids.len() < FIDS && self.fids.len() < self.fids.capacity()
+        self.table.has_room() && self.table.len() < self.opens.capacity()
     }
 
     /// Makes room for one fid more. TableFull where there are FIDS fids; Memory only where there was no
@@ -91,10 +90,9 @@ impl FidTable {
         ensures fids { self.new.fids ≡ self.old.fids }
         ensures kept { self.old.room ≤ self.new.room }
     {
-        if self.fids.len() >= FIDS {
-            return Err(FidFault::TableFull);
-        }
-        self.fids.reserve(1)?;
+        self.table.reserve()?;
+        let wanted = self.table.len() + 1;
+        self.opens.reserve(wanted.saturating_sub(self.opens.len()))?;
         Ok(())
     }
 
@@ -109,13 +107,12 @@ impl FidTable {
         ensures unchanged { OnErr result (self.new ≡ self.old) }
         ensures room { self.old.room ≤ self.new.room + 1 }
     {
-        if self.look(fid).is_some() {
-            return Err((FidFault::InUse, entry));
+        let opened = entry.as_opened().is_some();
+        self.table.put(fid, entry)?;
+        if opened {
+            put_in(&mut self.opens, fid);
         }
-        match self.fids.insert(fid, Slot::new(entry)) {
-            Ok(_) => Ok(()),
-            Err(_) => unreachable!(),
-        }
+        Ok(())
     }
 
     /// Takes out what the number stands for, in any state. Unknown where it stands for nothing: the
@@ -126,13 +123,11 @@ impl FidTable {
         ensures unchanged { OnErr result (self.new ≡ self.old) }
         ensures room { self.old.room ≤ self.new.room }
     {
-        if self.look(fid).is_none() {
-            return Err(FidFault::Unknown);
+        let entry = self.table.take_any(fid)?;
+        if entry.as_opened().is_some() {
+            take_out(&mut self.opens, fid);
         }
-        match self.fids.swap_remove(&fid) {
-            Some(slot) => Ok(slot.into_entry()),
-            None => unreachable!(),
-        }
+        Ok(entry)
     }
 
     /// Takes out the fid that was walked to. Unknown where the number stands for nothing, AlreadyOpen
@@ -143,16 +138,7 @@ impl FidTable {
         ensures unchanged { OnErr result (self.new ≡ self.old) }
         ensures room { self.old.room ≤ self.new.room }
     {
-        match self.look(fid) {
-            None => return Err(FidFault::Unknown),
-            Some(Entry::Opened(_)) => return Err(FidFault::AlreadyOpen),
-            Some(Entry::Walked(_)) => {}
-        }
-        match self.take_any(fid) {
-            Ok(Entry::Walked(walked)) => Ok(walked),
-            Ok(Entry::Opened(_)) => unreachable!(),
-            Err(_) => unreachable!(),
-        }
+        self.table.take_walked(fid)
     }
 
     /// The open fid, lent. Unknown where the number stands for nothing, NotOpen where the fid isn't
@@ -160,11 +146,7 @@ impl FidTable {
     pub fn get_opened(&self, fid: u32) -> Result<&Fid<Opened>, FidFault>
         ensures { MatchResult result (λ found. opened_in (fid_at self.now fid) ≡ Ok found.now) (λ fault. opened_in (fid_at self.now fid) ≡ Err fault) }
     {
-        match self.look(fid) {
-            None => Err(FidFault::Unknown),
-            Some(Entry::Walked(_)) => Err(FidFault::NotOpen),
-            Some(Entry::Opened(open)) => Ok(open),
-        }
+        self.table.get_opened(fid)
     }
 
     /// Opens the fid in its place. Unknown where the number stands for nothing, AlreadyOpen where the
@@ -175,10 +157,9 @@ impl FidTable {
         ensures unchanged { OnErr result (self.new ≡ self.old) }
         ensures room { self.new.room ≡ self.old.room }
     {
-        let Some(slot) = self.fids.get_mut(&fid) else {
-            return Err(FidFault::Unknown);
-        };
-        slot.open(mode, open_number)
+        self.table.open(fid, mode, open_number)?;
+        put_in(&mut self.opens, fid);
+        Ok(())
     }
 
     /// Has the fid stand for another file of its run, in its place. Unknown where the number stands for
@@ -189,10 +170,7 @@ impl FidTable {
         ensures unchanged { OnErr result (self.new ≡ self.old) }
         ensures room { self.new.room ≡ self.old.room }
     {
-        let Some(slot) = self.fids.get_mut(&fid) else {
-            return Err(FidFault::Unknown);
-        };
-        slot.move_to(number)
+        self.table.move_to(fid, number)
     }
 
     /// Has the reads of a directory of the open fid go on at that place. Unknown where the number
@@ -203,10 +181,7 @@ impl FidTable {
         ensures unchanged { OnErr result (self.new ≡ self.old) }
         ensures room { self.new.room ≡ self.old.room }
     {
-        let Some(slot) = self.fids.get_mut(&fid) else {
-            return Err(FidFault::Unknown);
-        };
-        slot.set_place(place)
+        self.table.set_place(fid, place)
     }
 
     /// Takes every fid out.
@@ -214,28 +189,7 @@ impl FidTable {
         ensures fids { self.new.fids ≡ empty }
         ensures room { self.old.room ≤ self.new.room }
     {
-        self.fids.clear();
+        self.table.clear();
+        self.opens.clear();
     }
-}
-
-fn is_open(slot: &Slot) -> bool
-    ensures { result ≡ is_open slot.now }
-{
-    matches!(slot.entry(), Entry::Opened(_))
-}
-
-/// The least number of an open fid, in whatever order they come.
-fn least_of(fids: &IndexMap<u32, Slot>) -> Option<u32>
-    ensures { result ≡ least_from None fids.now.entries }
-{
-    let mut found: Option<u32> = None;
-    for (fid, slot) in fids.iter() {
-        if is_open(slot) {
-            found = match found {
-                Some(least) => Some(least.min(*fid)),
-                None => Some(*fid),
-            };
-        }
-    }
-    found
 }

@@ -5,8 +5,10 @@ mod entry;
 mod fault;
 mod fid;
 mod fid_table;
+mod opens;
 mod place;
 mod slot;
+mod table;
 
 pub use entry::Entry;
 pub use fault::FidFault;

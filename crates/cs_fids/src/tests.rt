@@ -156,6 +156,13 @@ fn finds_the_least_open_fid(rt: HostRuntime) -> Result<(), Fail> {
         table.open(fid, 0, fid)?;
         assert_eq!(rt; table.least_open(), Some(least));
     }
+    let opened = fid_of(rt.alloc(), 0)?.open(0, 5);
+    table.reserve()?;
+    assert!(rt; table.put(5, Entry::Opened(opened)).is_ok());
+    for (fid, least) in [(3, Some(5)), (7, Some(5)), (5, Some(9))] {
+        let _taken = table.take_any(fid)?;
+        assert_eq!(rt; table.least_open(), least);
+    }
     table.clear();
     assert_eq!(rt; (table.least_open(), table.len()), (None, 0));
     Ok(())

@@ -1,9 +1,60 @@
--- Which passes fit after an entry.
-use Rattle.std.proofs.Common.{◌≡◌, ◌≢◌, ◌∙◌, ◌+◌, [], ◌∷◌, length, length-append, sym, ap}
+-- Which passes fit a run, and which after an entry.
+use Rattle.std.proofs.Common.{◌≡◌, ◌≢◌, ◌∙◌, ◌↔◌, ℕ, ◌+◌, ◌<◌, Bool, true, List, [], ◌∷◌, length, length-append, Some, sym, ap}
+use Rattle.std.proofs.lemmas.Option.{get_or_from_slice_get, slice_get_within}
+use Rattle.std.specs.Prelude.{slice_get}
+use Rattle.cs_permit.specs.declared.call.OpenFile.{OpenFile}
+use Rattle.cs_tree_model.specs.Tree.{Tree}
+use Rattle.cs_users.specs.Rows.{Row}
 use Rattle.cs_journal.proofs.Journals.{last-push, other_entries, other_receipts, own_entries, own_receipts, replay-push}
-use Rattle.cs_journal.specs.Journals.{EntryOf, RunState, apply}
+use Rattle.cs_journal.proofs.Last.{told_by_place}
+use Rattle.cs_journal.specs.declared.counts.Counts.{Counts}
+use Rattle.cs_journal.specs.Asked.{Asked, asked}
+use Rattle.cs_journal.specs.Fitting.{Tallies, receipt_at}
+use Rattle.cs_journal.specs.Holding.{IsHeld, counts_of, no_counts}
+use Rattle.cs_journal.specs.Journals.{EntryOf, RunState, apply, entries_of_pass}
 use Rattle.cs_journal.specs.Runs.{Fits, PassOf, ReceiptOf, RunOf, first_state, last_of, opens_under, receipt_of, receipts_in, state_of}
 use Rattle.cs_journal.specs.Steps.{entered, noted}
+
+-- what a run counts of a pass
+record Counted (r : RunOf) (p : PassOf) (k : Counts) : Type 0 where
+  known : p.number < r.passes
+  entries : k.entries ≡ length (entries_of_pass p.number r.journal)
+  opens : k.opens ≡ length (opens_under p.number (state_of r).opens)
+  last : receipt_at r.journal k.last ≡ last_of (receipts_in p.number r.journal)
+
+counted_in : (fresh tree : Tree) (us : List Row) (opens : List OpenFile) (journal : List EntryOf) (counts : List Counts) → IsHeld fresh tree us opens journal counts → (p : PassOf) (k : Counts) → slice_get counts p.number ≡ Some k
+    → Counted (record { fresh = fresh; users = us; journal = journal; passes = length counts }) p k
+counted_in fresh tree us opens journal counts h p k there =
+    let its : k ≡ counts_of p.number opens journal = sym (get_or_from_slice_get counts p.number k no_counts there) ∙ h.counted p.number in
+    record {
+      known = slice_get_within counts p.number k there;
+      entries = ap (λ (x : Counts). x.entries) its;
+      opens = ap (λ (x : Counts). x.opens) its ∙ ap (λ os. length (opens_under p.number os)) h.opens_are;
+      last = ap (λ (x : Counts). receipt_at journal x.last) its ∙ told_by_place p.number journal;
+    }
+
+-- the counts and the last receipt tell whether a pass fits
+pub fits_where_counted : (fresh tree : Tree) (us : List Row) (opens : List OpenFile) (journal : List EntryOf) (counts : List Counts) → IsHeld fresh tree us opens journal counts → (p : PassOf) (k : Counts) → slice_get counts p.number ≡ Some k
+    → Tallies k journal p → Fits (record { fresh = fresh; users = us; journal = journal; passes = length counts }) p
+fits_where_counted fresh tree us opens journal counts h p k there t =
+    let c = counted_in fresh tree us opens journal counts h p k there in
+    record { known = c.known; entries = sym t.entries ∙ c.entries; opens = sym t.opens ∙ c.opens; last = t.last ∙ c.last }
+
+pub counted_where_fits : (fresh tree : Tree) (us : List Row) (opens : List OpenFile) (journal : List EntryOf) (counts : List Counts) → IsHeld fresh tree us opens journal counts → (p : PassOf) (k : Counts) → slice_get counts p.number ≡ Some k
+    → Fits (record { fresh = fresh; users = us; journal = journal; passes = length counts }) p → Tallies k journal p
+counted_where_fits fresh tree us opens journal counts h p k there f =
+    let c = counted_in fresh tree us opens journal counts h p k there in
+    record { entries = c.entries ∙ sym f.entries; opens = c.opens ∙ sym f.opens; last = f.last ∙ sym c.last }
+
+-- a receipt is of an entry where place, outcome and what the call asks are the entry's
+pub is_receipt_of : (place : ℕ) (r s : ReceiptOf) (e d : EntryOf) (x y : Asked) (b : Bool) → s ≡ r → d ≡ e → s.place ≡ place → s.outcome ≡ d.outcome → x ≡ s.asked → y ≡ asked d.call → ((b ≡ true) ↔ (x ≡ y)) → (b ≡ true) ↔ (r ≡ receipt_of place e)
+is_receipt_of place r s e d x y b sr de at ends xs ys same =
+    let told : x ≡ y → s ≡ receipt_of place d = λ both i. record { place = at i; asked = (sym xs ∙ both ∙ ys) i; outcome = ends i } in (
+      λ yes. sym sr ∙ told (same.0 yes) ∙ ap (receipt_of place) de,
+      λ its. same.1 (xs ∙ ap (λ (t : ReceiptOf). t.asked) (sr ∙ its ∙ sym (ap (receipt_of place) de)) ∙ sym ys),
+    )
+
+-- ---- after an entry
 
 pub state_entered : (r : RunOf) (e : EntryOf) → state_of (entered r e) ≡ apply (state_of r) e
 state_entered r e = replay-push (first_state r) r.journal e

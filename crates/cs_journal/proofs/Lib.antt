@@ -1,4 +1,5 @@
 pub mod Moves
 pub mod Journals
 pub mod Fitting
+pub mod Last
 pub mod Steps

@@ -1,9 +1,12 @@
 pub mod Journals
 pub mod Asked
+pub mod Texts
 pub mod Kept
 pub mod Calls
 pub mod Runs
+pub mod Fitting
 pub mod Marks
+pub mod Said
 pub mod Steps
 pub mod Bounds
 pub mod Holding

@@ -1,9 +1,14 @@
 -- The calls that an entry keeps with no memory of its own.
-use Rattle.std.specs.Prelude.{Bool, true, false}
+use Rattle.std.specs.Prelude.{◌==◌, ◌&&◌, not, Bool, true, false, is_some}
+use Rattle.cs_fids.specs.declared.place.Place.{Place}
 use Rattle.cs_permit.specs.declared.call.Call.{Call}
 use Rattle.cs_permit.specs.declared.call.Call.TheVariants as call
 
--- a call that an entry keeps whole: a close, a remove, or a stat
+-- the place before the first entry of a directory
+abbrev pub is_start : Place → Bool
+is_start place = place.end == 0 && not (is_some place.last)
+
+-- a call that an entry keeps whole: a close, a remove, a stat, or a read that goes on at the start, as each of a file does
 abbrev pub is_small : Call → Bool
 is_small (call.Close c) = true
 is_small (call.Remove c) = true
@@ -12,6 +17,6 @@ is_small (call.Attach c) = false
 is_small (call.Walk c) = false
 is_small (call.Open c) = false
 is_small (call.Create c) = false
-is_small (call.Read c) = false
+is_small (call.Read c) = is_start c.place
 is_small (call.Write c) = false
 is_small (call.Wstat c) = false

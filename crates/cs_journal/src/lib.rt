@@ -2,11 +2,13 @@
 //! call as an entry.
 #![tactic(auto)]
 
+mod asked;
 mod counts;
 mod entering;
 mod entry;
 mod growing;
 mod kept;
+mod matching;
 mod pass;
 mod ready;
 mod receipt;

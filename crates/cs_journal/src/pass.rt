@@ -2,6 +2,7 @@
 ghost use Rattle.std.specs.Prelude.{◌≡◌};
 
 use crate::receipt::Receipt;
+use crate::user_text::UserText;
 use std::marker::Model;
 
 /// What one user of a run has: a number, a receipt of each of its entries, and a place for that of each
@@ -11,6 +12,8 @@ pub struct Pass {
     pub(crate) number: u32,
     pub(crate) receipts: Vec<Receipt>,
     pub(crate) reserved: usize,
+    /// For the users of the closes to come.
+    pub(crate) blanks: Vec<Box<UserText>>,
 }
 
 impl Model for Pass {
@@ -21,7 +24,7 @@ impl Model for Pass {
 
     ghost view = { λ p. record { number = p.number; receipts = p.receipts.items; reserved = p.reserved } };
 
-    ghost invariant = { λ p. vec_len p.receipts + p.reserved ≤ vec_capacity p.receipts };
+    ghost invariant = { λ p. (vec_len p.receipts + p.reserved ≤ vec_capacity p.receipts) × (p.reserved ≤ vec_len p.blanks) };
 }
 
 impl Pass {

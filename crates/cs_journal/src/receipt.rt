@@ -1,6 +1,10 @@
 //! The receipts of a pass.
+ghost use Rattle.std.specs.Prelude.{◌≡◌, ◌↔◌, IsTrue};
 
+use crate::asked::ask_the_same;
+use crate::entry::Entry;
 use crate::kept::Noted;
+use cs_names::RuleId;
 use cs_run::Outcome;
 use std::marker::Model;
 
@@ -8,8 +12,8 @@ use std::marker::Model;
 /// bytes that it wrote, and how it ended.
 #[derive(Drop)]
 pub struct Receipt {
-    pub(crate) place: u32,
     pub(crate) noted: Noted,
+    pub(crate) place: u32,
     pub(crate) outcome: Outcome,
 }
 
@@ -20,4 +24,39 @@ impl Model for Receipt {
     ghost Value = { ReceiptOf };
 
     ghost view = { λ r. record { place = r.place; asked = asked_of r.noted; outcome = r.outcome } };
+}
+
+fn is_same_rule(rule: RuleId, other: RuleId) -> bool
+    ensures { IsTrue result ↔ (rule ≡ other) }
+{
+    rule == other
+}
+
+/// Whether two calls ended the same way.
+fn is_same_end(outcome: Outcome, other: Outcome) -> bool
+    ensures { IsTrue result ↔ (outcome ≡ other) }
+{
+    match (outcome, other) {
+        (Outcome::Granted, Outcome::Granted) | (Outcome::Short, Outcome::Short) => true,
+        (Outcome::Denied(rule), Outcome::Denied(other)) => is_same_rule(rule, other),
+        _ => false,
+    }
+}
+
+impl Receipt {
+    ghost use Rattle.cs_journal.specs.Runs.{receipt_of};
+
+    /// Whether it is the receipt of the entry at that place: of what its call asks, and how it ended.
+    /// It takes no memory.
+    pub(crate) fn is_of(&self, place: u32, entry: &Entry) -> bool
+        ensures { IsTrue result ↔ (self.now ≡ receipt_of place entry.now) }
+    {
+        if self.place != place {
+            return false;
+        }
+        if !is_same_end(self.outcome, entry.outcome) {
+            return false;
+        }
+        ask_the_same(self.noted.asked(), entry.kept.asked())
+    }
 }

@@ -104,6 +104,7 @@ impl<L: TreeRead + Drop> Run<L> {
             number: number as u32,
             receipts: Vec::new(alloc),
             reserved: 0,
+            blanks: Vec::new(alloc),
         })
     }
 }

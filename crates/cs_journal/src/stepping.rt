@@ -42,7 +42,9 @@ impl<L: TreeRead + Drop> Run<L> {
         }
         let more = pass.reserved + charge;
         let (journal, receipts) = (&mut self.journal, &mut pass.receipts);
-        let Some((ready, noted)) = make_ready(alloc, call, journal, receipts, entries, more) else {
+        let blanks = &mut pass.blanks;
+        let Some((ready, noted)) = make_ready(alloc, call, journal, receipts, blanks, entries, more)
+        else {
             return Answer::Short;
         };
         let turn = Turn {

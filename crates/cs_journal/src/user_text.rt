@@ -24,6 +24,14 @@ impl Model for UserText {
 }
 
 impl UserText {
+    /// No bytes.
+    pub(crate) fn blank() -> UserText {
+        UserText {
+            bytes: [0; USER_NAME_BYTES],
+            len: 0,
+        }
+    }
+
     /// The same bytes. It takes no memory.
     pub(crate) fn of(user: &UserName) -> UserText
         ensures { result ≡ user.now }

@@ -17,6 +17,8 @@ pub use plan::Plan;
 pub use published::Published;
 pub use recipe::{Places, Recipe};
 pub use scene::Scene;
+// the store of a state
+pub use cs_state::Built;
 
 #[cfg(test)]
 mod tests;

@@ -5,7 +5,7 @@ ghost use Rattle.cs_plan.specs.Scenes.{IsPublished, state_at};
 
 use crate::fault::MakeFault;
 use crate::scene::Scene;
-use cs_apm::Built;
+use cs_state::Built;
 use std::alloc::Global;
 use std::marker::Model;
 use std::sync::Arc;

@@ -4,7 +4,7 @@ ghost use Rattle.std.specs.Arc.{arc_value};
 ghost use Rattle.cs_tree_model.specs.Tree.{Tree};
 ghost use Rattle.cs_users.specs.Rows.{Row};
 
-use cs_apm::Built;
+use cs_plan::Built;
 use cs_users::Users;
 use std::alloc::{AllocError, Global};
 use std::sync::Arc;

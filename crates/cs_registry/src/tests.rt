@@ -3,9 +3,8 @@ ghost use Rattle.std.specs.Arc.{arc_value};
 ghost use Rattle.std.specs.Prelude.{◌≡◌, IfOk};
 
 use crate::{FindFault, Held, PublishFault, RunKey, States};
-use cs_apm::Built;
 use cs_names::RunName;
-use cs_plan::{Published, Scene};
+use cs_plan::{Built, Published, Scene};
 use cs_trace::read_trace;
 use cs_users::Users;
 use std::alloc::{AllocError, Global};

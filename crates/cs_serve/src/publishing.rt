@@ -7,7 +7,7 @@ use std::alloc::Global;
 use std::sync::Arc;
 
 /// Publishes the states of the numbers below this one.
-fn publish_all(alloc: Global, world: &mut World, count: u32) -> Result<(), ProgramFault> {
+fn publish_each(alloc: Global, world: &mut World, count: u32) -> Result<(), ProgramFault> {
     for number in 0..count {
         match world.step(alloc, Step::Publish(number)) {
             Reply::Published => {}
@@ -27,6 +27,6 @@ pub fn world_of(alloc: Global, scene: Scene, users: Users) -> Result<World, Prog
     let Ok(mut world) = World::new(alloc, scene, users) else {
         return Err(ProgramFault::Memory);
     };
-    publish_all(alloc, &mut world, count)?;
+    publish_each(alloc, &mut world, count)?;
     Ok(world)
 }

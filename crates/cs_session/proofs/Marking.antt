@@ -1,6 +1,8 @@
 -- A step from what was judged and what was told.
 use Rattle.std.proofs.Common.{◌≡◌, ◌∙◌, ℕ, Bool, true, false, Result, Ok, Err, Option, None, Some, List, refl, ap}
 use Rattle.cs_fids.specs.Tables.{FidMap}
+use Rattle.std.specs.Prelude.{string_bytes}
+use Rattle.cs_permit.specs.declared.call.AttachCall.{AttachCall}
 use Rattle.cs_run.specs.declared.answer.Answer.{Answer}
 use Rattle.cs_run.specs.Marks.{Ample}
 use Rattle.cs_session.specs.declared.message.CallMessage.{CallMessage}
@@ -44,6 +46,6 @@ module _ {P : Type 0} (gives : P → PortMark → Question → Told → P → Ty
   closed fid is q e answer p' g reply fids a s' left = asks gives now (CloseStep fid) s t same p j is q e (Got answer) p' g reply s' (rw left (ap (leaves t) a))
 
 -- a granted pass, by what its answer leaves of the fids
-pub attached : (t : Sess) (fid run : ℕ) (uname : List ℕ) → t.pending ≡ Some (record { fid = fid; run = run; user = uname }) → (user : Option (List ℕ)) → user ≡ user_in uname → (told : Result (ℕ × Answer) PassFault) (pass : ℕ) (answer : Answer) → told ≡ Ok (pass, answer)
+pub attached : (t : Sess) (fid run : ℕ) (call : AttachCall) → t.pending ≡ Some (record { fid = fid; run = run; call = call }) → (user : Option (List ℕ)) → user ≡ user_in (string_bytes call.user) → (told : Result (ℕ × Answer) PassFault) (pass : ℕ) (answer : Answer) → told ≡ Ok (pass, answer)
     → (reply : Reply) (fids : FidMap) → (reply, fids) ≡ entered t.fids fid run user pass answer → (s' : Sess) → s' ≡ with_fids fids (with_pending None t) → (reply, s') ≡ attach_after t t.pending (Entered told)
-attached t fid run uname is user u told pass answer o reply fids a s' left = rw (left, is, o, ← u) (ap (leaves (with_pending None t)) a)
+attached t fid run call is user u told pass answer o reply fids a s' left = rw (left, is, o, ← u) (ap (leaves (with_pending None t)) a)

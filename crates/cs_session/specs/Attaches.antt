@@ -38,7 +38,7 @@ find_refusal f.Memory = r.Memory
 
 -- the run awaits its attach
 abbrev pub find_after : Sess → AttachMessage → Told → Reply × Sess
-find_after s x (Found (Ok run)) = (r.Found, with_pending (Some (record { fid = x.fid; run = run; user = string_bytes x.uname })) s)
+find_after s x (Found (Ok run)) = (r.Found, with_pending (Some (record { fid = x.fid; run = run; call = record { user = x.uname } })) s)
 find_after s x (Found (Err fault)) = (find_refusal fault, s)
 find_after s x told = (r.Memory, s)
 
@@ -46,7 +46,7 @@ find_after s x told = (r.Memory, s)
 
 abbrev pub attach_judged : ℕ → Option Awaited → Result Question Reply
 attach_judged now None = Err (r.Error S5)
-attach_judged now (Some p) = Ok (Enter now p.run p.user)
+attach_judged now (Some p) = Ok (Enter now p.run p.call)
 
 abbrev pub pass_refusal : PassFault → Reply
 pass_refusal p.Room = r.Error A5
@@ -66,6 +66,6 @@ entered fids fid run user pass answer = (refusal answer, fids)
 -- the run awaits its attach no more
 abbrev pub attach_after : Sess → Option Awaited → Told → Reply × Sess
 attach_after s None told = (r.Memory, s)
-attach_after s (Some x) (Entered (Ok pass)) = leaves (with_pending None s) (entered s.fids x.fid x.run (user_in x.user) pass.0 pass.1)
+attach_after s (Some x) (Entered (Ok pass)) = leaves (with_pending None s) (entered s.fids x.fid x.run (user_in (string_bytes x.call.user)) pass.0 pass.1)
 attach_after s (Some x) (Entered (Err fault)) = (pass_refusal fault, with_pending None s)
 attach_after s (Some x) told = (r.Memory, with_pending None s)

@@ -1,17 +1,19 @@
 -- What a connection keeps from one step to the next.
 use Rattle.std.specs.Prelude.{ℕ, List, Option, None, refl}
-use Rattle.std.specs.Coded.{Coded, code_by, coded×, coded_ℕ, coded_list, coded_option}
+use Rattle.std.specs.Coded.{Coded, code_by, coded×, coded_ℕ, coded_option}
 use Rattle.std.specs.FinMap.{code, empty, get}
 use Rattle.cs_fids.specs.contracts.entry.Entry as row
 use Rattle.cs_fids.specs.declared.entry.Entry.{Entry}
 use Rattle.cs_fids.specs.Tables.{FidMap}
+use Rattle.cs_permit.specs.contracts.call.AttachCall as attach
+use Rattle.cs_permit.specs.declared.call.AttachCall.{AttachCall}
 use Rattle.cs_session.specs.declared.reply.Reply.{Reply}
 
--- a run that was found, and awaits its attach: the fid and the user of the attach, and the run's place at the port
+-- a run that was found, and awaits its attach: the fid of the attach, the run's place at the port, and the call, which names the user
 pub record Awaited : Type 0 where
   pub fid : ℕ
   pub run : ℕ
-  pub user : List ℕ
+  pub call : AttachCall
 
 -- the message size, if a session stands; the run that awaits its attach, if one does; and the fids
 pub record Sess : Type 0 where
@@ -20,7 +22,7 @@ pub record Sess : Type 0 where
   pub fids : FidMap
 
 abbrev pub awaited_code : Coded Awaited
-awaited_code = code_by (ℕ × (ℕ × List ℕ)) (coded× coded_ℕ (coded× coded_ℕ (coded_list coded_ℕ))) (λ p. (p.fid, (p.run, p.user))) (λ parts. record { fid = parts.0; run = parts.1.0; user = parts.1.1 }) (λ _. refl)
+awaited_code = code_by (ℕ × (ℕ × AttachCall)) (coded× coded_ℕ (coded× coded_ℕ attach.the_row.coded)) (λ p. (p.fid, (p.run, p.call))) (λ parts. record { fid = parts.0; run = parts.1.0; call = parts.1.1 }) (λ _. refl)
 
 abbrev pub sess_code : Coded Sess
 sess_code = code_by (Option ℕ × (Option Awaited × FidMap)) (coded× (coded_option coded_ℕ) (coded× (coded_option awaited_code) (code coded_ℕ row.the_row.coded))) (λ s. (s.msize, (s.pending, s.fids))) (λ parts. record { msize = parts.0; pending = parts.1.0; fids = parts.1.1 }) (λ _. refl)

@@ -48,15 +48,20 @@ pub record KeepsReads (old new : Counts) : Type 0 where
   pub interrupted : new.interrupted_reads ≡ old.interrupted_reads
   pub ends : new.ends ≡ old.ends
 
--- no fault of a write is forgotten
+-- no write is forgotten, and no fault of one
 pub record KeepsFaults (old new : Counts) : Type 0 where
+  pub writes : old.writes ≤ new.writes
   pub failed : old.failed_writes ≤ new.failed_writes
   pub idle : old.idle_writes ≤ new.idle_writes
 
--- a write failed, or took no byte, or as many in a row were interrupted as are borne
-abbrev pub BlamesWrites : Counts → Counts → Type 0
-BlamesWrites old new = (up 1 old.failed_writes ≤ new.failed_writes) ⊎ (up 1 old.idle_writes ≤ new.idle_writes) ⊎ (INTERRUPTIONS ≤ new.interrupted_writes)
+-- the last INTERRUPTIONS calls were all interrupted, and all of them made since: calls before and by now, and the last ones that were interrupted
+abbrev pub GaveUp : ℕ → ℕ → ℕ → Type 0
+GaveUp before now interrupted = (up INTERRUPTIONS before ≤ now) × (INTERRUPTIONS ≤ interrupted)
 
--- a read failed, or as many in a row were interrupted as are borne, or as many were made
+-- a write failed, or took no byte, or the last ones were all interrupted
+abbrev pub BlamesWrites : Counts → Counts → Type 0
+BlamesWrites old new = (up 1 old.failed_writes ≤ new.failed_writes) ⊎ (up 1 old.idle_writes ≤ new.idle_writes) ⊎ GaveUp old.writes new.writes new.interrupted_writes
+
+-- a read failed, or the last ones were all interrupted, or as many were made as a connection has
 abbrev pub BlamesReads : Counts → Counts → Type 0
-BlamesReads old new = (up 1 old.failed_reads ≤ new.failed_reads) ⊎ (INTERRUPTIONS ≤ new.interrupted_reads) ⊎ (up CONNECTION_READS old.reads ≤ new.reads)
+BlamesReads old new = (up 1 old.failed_reads ≤ new.failed_reads) ⊎ GaveUp old.reads new.reads new.interrupted_reads ⊎ (up CONNECTION_READS old.reads ≤ new.reads)

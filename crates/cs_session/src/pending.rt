@@ -3,7 +3,7 @@
 use cs_names::UserName;
 use std::marker::Model;
 
-/// A run that was found, and awaits its attach. Contracts see the fid and the user of the attach, and
+/// A run that was found, and awaits its attach. Contracts see the fid and the call of the attach, and
 /// the run's place; the user's name stands here twice, so that the attach takes no memory.
 #[derive(Debug, Drop)]
 pub(crate) struct Pending {
@@ -22,7 +22,7 @@ impl Model for Pending {
 
     ghost coded = { awaited_code };
 
-    ghost view = { λ p. record { fid = p.fid; run = p.run; user = string_bytes p.uname } };
+    ghost view = { λ p. record { fid = p.fid; run = p.run; call = record { user = p.uname } } };
 
     ghost invariant = { λ p. p.user ≡ user_in (string_bytes p.uname) };
 }

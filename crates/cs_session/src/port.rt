@@ -1,5 +1,5 @@
 //! What keeps the runs of a connection's fids.
-ghost use Rattle.std.specs.Prelude.{ℕ, string_bytes};
+ghost use Rattle.std.specs.Prelude.{ℕ};
 ghost use Rattle.cs_run.specs.Laws.{FitsCall};
 ghost use Rattle.cs_session.specs.Marks.{PortMark};
 ghost use Rattle.cs_session.specs.Questions.{Question, Told};
@@ -48,7 +48,7 @@ pub trait Port {
         run: u32,
         user: String,
     ) -> Result<(u32, Answer), PassFault>
-        ensures given { (mark : PortMark) × gives self.old mark (q.Enter now run (string_bytes user)) (q.Entered result) self.new };
+        ensures given { (mark : PortMark) × gives self.old mark (q.Enter now run (record { user = user })) (q.Entered result) self.new };
 
     /// Does a call on the run at that place, at that moment, under the pass at that place.
     fn call(&mut self, alloc: Global, now: u32, run: u32, pass: u32, call: Call) -> Answer

@@ -1,5 +1,5 @@
 //! A connection over a stream: its messages are answered until the stream ends.
-ghost use Rattle.std.specs.Prelude.{◌≡◌, ◌+◌, ◌*◌, ◌<◌, ◌≤◌, ℕ, [], length, vec_len, vec_capacity, IfOk, None, Ok, Err};
+ghost use Rattle.std.specs.Prelude.{◌≡◌, ◌≢◌, ◌+◌, ◌*◌, ◌<◌, ◌≤◌, ℕ, [], length, vec_len, vec_capacity, IfOk, None, Ok, Err};
 ghost use Rattle.cs_names.specs.declared.limits.TheConstants.{MESSAGE_BYTES};
 ghost use Rattle.cs_wire.specs.Framing.{IsUnfinished};
 ghost use Rattle.cs_wire.specs.Held.{left, size_of};
@@ -18,9 +18,9 @@ use std::fmt;
 /// Why a stream was not served to its end.
 #[derive(Clone, Copy, Debug, PartialEq, Eq)]
 pub enum ServeFault {
-    /// A read failed, too many in a row were interrupted, or too many were made.
+    /// A read failed, 1,000 in a row were interrupted, or 4,294,967,295 were made.
     ReadFault,
-    /// A write failed, took no byte, or too many in a row were interrupted.
+    /// A write failed, took no byte, or 1,000 in a row were interrupted.
     WriteFault,
     /// No message stands next.
     FrameFault(FrameFault),
@@ -166,8 +166,11 @@ fn converse<S: Stream, P: Port, C: Clock>(
     ensures conversed { Conversed P.gives result session.old port.old (S.remaining stream.old) (S.remaining stream.new) (S.contents stream.old) (S.contents stream.new) session.new port.new }
     ensures read_fault { result ≡ Err ServeFault.ReadFault → BlamesReads (S.counts stream.old) (S.counts stream.new) }
     ensures write_fault { result ≡ Err ServeFault.WriteFault → BlamesWrites (S.counts stream.old) (S.counts stream.new) }
-    ensures ended { result ≡ Ok tt → up 1 (S.counts stream.old).ends ≤ (S.counts stream.new).ends }
-    ensures cut { result ≡ Err (ServeFault.FrameFault FrameFault.Cut) → up 1 (S.counts stream.old).ends ≤ (S.counts stream.new).ends }
+    ensures ended { result ≡ Ok tt → (S.counts stream.new).ends ≡ up 1 (S.counts stream.old).ends }
+    ensures cut { result ≡ Err (ServeFault.FrameFault FrameFault.Cut) → (S.counts stream.new).ends ≡ up 1 (S.counts stream.old).ends }
+    ensures no_end { result ≡ Err ServeFault.ReadFault → (S.counts stream.new).ends ≡ (S.counts stream.old).ends }
+    ensures bounded { (S.counts stream.new).reads ≤ up CONNECTION_READS (S.counts stream.old).reads }
+    ensures memory { result ≢ Err ServeFault.Memory }
     ensures idle { session.new.pending ≡ None }
 {
     let mut waits = 0;
@@ -202,8 +205,9 @@ fn converse<S: Stream, P: Port, C: Clock>(
 /// order. Then it hangs up, whatever it returns.
 ///
 /// It ends with `Ok` where the stream ended between two messages. An interrupted read or write is
-/// tried again, up to 1,000 in a row; a connection has 4,294,967,295 reads. Memory for its buffers is
-/// taken once, before the first read; a message that memory is wanting for is answered by an Rerror.
+/// tried again, up to 999 in a row: the thousandth in a row is a fault. A connection has 4,294,967,295
+/// reads, those that are interrupted among them. Memory for its buffers is taken once, before the first
+/// read; a message that memory is wanting for is answered by an Rerror.
 pub fn serve_stream<S: Stream, P: Port, C: Clock>(
     alloc: Global,
     stream: &mut S,
@@ -214,8 +218,11 @@ pub fn serve_stream<S: Stream, P: Port, C: Clock>(
     // Each fault comes only for its cause, by the stream's counts.
     ensures read_fault { result ≡ Err ServeFault.ReadFault → BlamesReads (S.counts stream.old) (S.counts stream.new) }
     ensures write_fault { result ≡ Err ServeFault.WriteFault → BlamesWrites (S.counts stream.old) (S.counts stream.new) }
-    ensures ended { result ≡ Ok tt → up 1 (S.counts stream.old).ends ≤ (S.counts stream.new).ends }
-    ensures cut { result ≡ Err (ServeFault.FrameFault FrameFault.Cut) → up 1 (S.counts stream.old).ends ≤ (S.counts stream.new).ends }
+    ensures ended { result ≡ Ok tt → (S.counts stream.new).ends ≡ up 1 (S.counts stream.old).ends }
+    ensures cut { result ≡ Err (ServeFault.FrameFault FrameFault.Cut) → (S.counts stream.new).ends ≡ up 1 (S.counts stream.old).ends }
+    ensures no_end { result ≡ Err ServeFault.ReadFault → (S.counts stream.new).ends ≡ (S.counts stream.old).ends }
+    ensures bounded { (S.counts stream.new).reads ≤ up CONNECTION_READS (S.counts stream.old).reads }
+    ensures memory { result ≡ Err ServeFault.Memory → S.counts stream.new ≡ S.counts stream.old }
 {
     let mut session = Session::new(alloc);
     let result = match buffers(alloc) {

@@ -120,12 +120,12 @@ pub trait Stream {
         ensures counted { counts self.new ≡ counted_write result (length buf.now) (counts self.old) };
 }
 
-/// The bytes were not all written: a write failed, took no byte, or too many in a row were interrupted.
+/// The bytes were not all written: a write failed, took no byte, or 1,000 in a row were interrupted.
 #[derive(Clone, Copy, Debug, PartialEq, Eq)]
 pub struct WriteFault;
 
-/// Writes all of the bytes. An interrupted write is tried again, up to 1,000 in a row. After a fault
-/// some of them, from the front, were written.
+/// Writes all of the bytes. An interrupted write is tried again, up to 999 in a row: the thousandth in
+/// a row is a fault. After a fault some of them, from the front, were written.
 pub fn write_all<S: Stream>(stream: &mut S, bytes: &[u8]) -> Result<(), WriteFault>
     ensures ok { OnOk result (Appends (S.contents stream.old) (S.contents stream.new) bytes.now) }
     ensures err { OnErr result (AppendsFront (S.contents stream.old) (S.contents stream.new) bytes.now) }

@@ -22,7 +22,7 @@ const QID: Qid = Qid {
     path: 3,
 };
 
-/// Answers each call by its kind, and keeps which opens were closed.
+/// Answers each call by its kind, and keeps which opens were closed and at which moments it was asked.
 #[derive(Drop)]
 struct Fake {
     /// No user is known.
@@ -31,6 +31,7 @@ struct Fake {
     is_short: bool,
     opens: u32,
     closed: Vec<u32>,
+    moments: Vec<u32>,
 }
 
 impl Fake {
@@ -40,6 +41,7 @@ impl Fake {
             is_short: false,
             opens: 0,
             closed: Vec::new(alloc),
+            moments: Vec::new(alloc),
         }
     }
 
@@ -76,18 +78,23 @@ impl Port for Fake {
     fn attach(
         &mut self,
         _alloc: Global,
-        _now: u32,
+        now: u32,
         _run: u32,
         _user: String,
     ) -> Result<(u32, Answer), PassFault> {
-        if self.knows_none {
+        if self.moments.push(now).is_err() {
+            Err(PassFault::Memory)
+        } else if self.knows_none {
             Ok((1, Answer::Denied(RuleId::A6)))
         } else {
             Ok((1, Answer::Attached(QID)))
         }
     }
 
-    fn call(&mut self, _alloc: Global, _now: u32, _run: u32, _pass: u32, call: Call) -> Answer {
+    fn call(&mut self, _alloc: Global, now: u32, _run: u32, _pass: u32, call: Call) -> Answer {
+        if self.moments.push(now).is_err() {
+            return Answer::Short;
+        }
         match call {
             Call::Attach(_) => Answer::Short,
             Call::Walk(_) => Answer::Denied(RuleId::K8),

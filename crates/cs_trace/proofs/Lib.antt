@@ -1,6 +1,4 @@
 pub mod Beneath
-pub mod Keyed
-pub mod Legal
 pub mod LineByLine
 pub mod Members
 pub mod Octal

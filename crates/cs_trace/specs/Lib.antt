@@ -4,7 +4,6 @@ pub mod Faults
 pub mod Fields
 pub mod Judging
 pub mod Kept
-pub mod Keys
 pub mod Lines
 pub mod Names
 pub mod Operations

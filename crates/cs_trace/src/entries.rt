@@ -4,7 +4,6 @@ ghost use Rattle.std.specs.FinMap as map;
 ghost use Rattle.cs_trace.specs.Entries.{nodes_in, records_in};
 
 use crate::entry::Entry;
-use crate::key::PathKey;
 use crate::operation::Node;
 use cs_names::Path;
 use cs_tree_model::Record;
@@ -15,7 +14,7 @@ use std::marker::Model;
 /// What stands at each path. Contracts see a finite map, in the order of paths.
 #[derive(Drop)]
 pub(crate) struct Entries {
-    by_path: BTreeMap<PathKey, Entry>,
+    by_path: BTreeMap<Path, Entry>,
 }
 
 impl Model for Entries {
@@ -38,7 +37,7 @@ impl Entries {
         }
     }
 
-    pub(crate) fn insert(&mut self, path: PathKey, entry: Entry) -> Result<(), AllocError>
+    pub(crate) fn insert(&mut self, path: Path, entry: Entry) -> Result<(), AllocError>
         ensures { OnOk result (self.new ≡ map.insert self.old path entry) }
     {
         self.by_path.insert(path, entry)?;
@@ -58,7 +57,7 @@ impl Entries {
         for (path, entry) in self.by_path {
             let number = records.len() as u64;
             nodes.push(entry.node())?;
-            records.push((path.to_path(alloc)?, entry.into_record(number)?))?;
+            records.push((path, entry.into_record(number)?))?;
         }
         Ok((records, nodes))
     }

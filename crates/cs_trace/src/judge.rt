@@ -7,16 +7,15 @@ ghost use Rattle.cs_trace.specs.declared.fault.TraceFaultKind.TheVariants.{Memor
 
 use crate::digits::Digits;
 use crate::fault::TraceFaultKind;
-use crate::key::PathKey;
 use crate::line::Claims;
 use crate::operation::{Bytes, Covers, Node, Operation, Rights};
-use crate::path_text::Kept;
 use crate::standing::Standing;
+use cs_names::Path;
 use cs_names::limits::{FILE_BYTES, SAY_BYTES, TRACE_PATH_NAMES, TREE_RECORDS};
 use std::alloc::Global;
 
 /// The number of the file that stands at the path.
-fn file_at(paths: &Standing, path: &PathKey) -> Result<u32, TraceFaultKind>
+fn file_at(paths: &Standing, path: &Path) -> Result<u32, TraceFaultKind>
     ensures { result ≡ file_at paths.now path.now }
 {
     match paths.get(path) {
@@ -27,11 +26,7 @@ fn file_at(paths: &Standing, path: &PathKey) -> Result<u32, TraceFaultKind>
 }
 
 /// Whether a new entry may stand at the path, in the directory above.
-pub(crate) fn check_free(
-    paths: &Standing,
-    above: &PathKey,
-    path: &PathKey,
-) -> Result<(), TraceFaultKind>
+pub(crate) fn check_free(paths: &Standing, above: &Path, path: &Path) -> Result<(), TraceFaultKind>
     requires { above.now ≡ parent_path path.now }
     ensures { result ≡ free_at paths.now path.now }
 {
@@ -44,7 +39,7 @@ pub(crate) fn check_free(
 }
 
 /// Whether a file may come to the path, over a file that stands there, in the directory above.
-fn check_target(paths: &Standing, above: &PathKey, path: &PathKey) -> Result<(), TraceFaultKind>
+fn check_target(paths: &Standing, above: &Path, path: &Path) -> Result<(), TraceFaultKind>
     requires { above.now ≡ parent_path path.now }
     ensures { result ≡ target_at paths.now path.now }
 {
@@ -57,7 +52,7 @@ fn check_target(paths: &Standing, above: &PathKey, path: &PathKey) -> Result<(),
 }
 
 /// Whether an empty directory stands at the path.
-fn check_emptied(paths: &Standing, path: &PathKey) -> Result<(), TraceFaultKind>
+fn check_emptied(paths: &Standing, path: &Path) -> Result<(), TraceFaultKind>
     ensures { result ≡ emptied_at paths.now path.now }
 {
     match paths.get(path) {
@@ -68,14 +63,14 @@ fn check_emptied(paths: &Standing, path: &PathKey) -> Result<(), TraceFaultKind>
     }
 }
 
-fn has_too_many_names(path: &PathKey) -> bool
+fn has_too_many_names(path: &Path) -> bool
     ensures { result ≡ has_too_many_names path.now }
 {
-    path.len() > TRACE_PATH_NAMES
+    path.names().len() > TRACE_PATH_NAMES
 }
 
 /// Whether one record more at the path goes past a limit, after so many.
-pub(crate) fn is_too_much(made: usize, path: &PathKey) -> bool
+pub(crate) fn is_too_much(made: usize, path: &Path) -> bool
     ensures { result ≡ is_too_much made path.now }
 {
     has_too_many_names(path) || made >= TREE_RECORDS
@@ -101,21 +96,20 @@ pub(crate) fn creat(
     paths: &Standing,
     made: usize,
     file: u32,
-    kept: Kept,
-    above: &PathKey,
+    path: Path,
+    above: &Path,
     claims: &Claims<'_>,
 ) -> Result<Operation, TraceFaultKind>
-    requires { above.now ≡ parent_path kept }
-    ensures done { IfOk result (λ operation. creat paths.now made file kept (claims_of claims.now) ≡ Ok operation) }
-    ensures fault { IfErr result (λ kind. kind ≢ Memory → creat paths.now made file kept (claims_of claims.now) ≡ Err kind) }
-    ensures memory { IfErr result (λ kind. kind ≡ Memory → IsOk (creat paths.now made file kept (claims_of claims.now))) }
+    requires { above.now ≡ parent_path path }
+    ensures done { IfOk result (λ operation. creat paths.now made file path (claims_of claims.now) ≡ Ok operation) }
+    ensures fault { IfErr result (λ kind. kind ≢ Memory → creat paths.now made file path (claims_of claims.now) ≡ Err kind) }
+    ensures memory { IfErr result (λ kind. kind ≡ Memory → IsOk (creat paths.now made file path (claims_of claims.now))) }
 {
-    check_free(paths, above, &kept.key)?;
-    if is_too_much(made, &kept.key) {
+    check_free(paths, above, &path)?;
+    if is_too_much(made, &path) {
         return Err(TraceFaultKind::TooLarge);
     }
     let rights = Rights::keep(alloc, claims)?;
-    let path = kept.path;
     Ok(Operation::Creat { path, file, rights })
 }
 
@@ -123,62 +117,57 @@ pub(crate) fn mkdir(
     alloc: Global,
     paths: &Standing,
     made: usize,
-    kept: Kept,
-    above: &PathKey,
+    path: Path,
+    above: &Path,
     claims: &Claims<'_>,
 ) -> Result<Operation, TraceFaultKind>
-    requires { above.now ≡ parent_path kept }
-    ensures done { IfOk result (λ operation. mkdir paths.now made kept (claims_of claims.now) ≡ Ok operation) }
-    ensures fault { IfErr result (λ kind. kind ≢ Memory → mkdir paths.now made kept (claims_of claims.now) ≡ Err kind) }
-    ensures memory { IfErr result (λ kind. kind ≡ Memory → IsOk (mkdir paths.now made kept (claims_of claims.now))) }
+    requires { above.now ≡ parent_path path }
+    ensures done { IfOk result (λ operation. mkdir paths.now made path (claims_of claims.now) ≡ Ok operation) }
+    ensures fault { IfErr result (λ kind. kind ≢ Memory → mkdir paths.now made path (claims_of claims.now) ≡ Err kind) }
+    ensures memory { IfErr result (λ kind. kind ≡ Memory → IsOk (mkdir paths.now made path (claims_of claims.now))) }
 {
-    check_free(paths, above, &kept.key)?;
-    if is_too_much(made, &kept.key) {
+    check_free(paths, above, &path)?;
+    if is_too_much(made, &path) {
         return Err(TraceFaultKind::TooLarge);
     }
     let rights = Rights::keep(alloc, claims)?;
-    let path = kept.path;
     Ok(Operation::Mkdir { path, rights })
 }
 
-pub(crate) fn unlink(paths: &Standing, kept: Kept) -> Result<Operation, TraceFaultKind>
-    ensures { result ≡ unlink paths.now kept }
+pub(crate) fn unlink(paths: &Standing, path: Path) -> Result<Operation, TraceFaultKind>
+    ensures { result ≡ unlink paths.now path }
 {
-    file_at(paths, &kept.key)?;
-    let path = kept.path;
+    file_at(paths, &path)?;
     Ok(Operation::Unlink { path })
 }
 
-pub(crate) fn rmdir(paths: &Standing, kept: Kept) -> Result<Operation, TraceFaultKind>
-    ensures { result ≡ rmdir paths.now kept }
+pub(crate) fn rmdir(paths: &Standing, path: Path) -> Result<Operation, TraceFaultKind>
+    ensures { result ≡ rmdir paths.now path }
 {
-    check_emptied(paths, &kept.key)?;
-    let path = kept.path;
+    check_emptied(paths, &path)?;
     Ok(Operation::Rmdir { path })
 }
 
 /// A file's entry at its new path, in the directory above.
 pub(crate) fn rename(
     paths: &Standing,
-    from: Kept,
-    to: Kept,
-    above: &PathKey,
+    from: Path,
+    to: Path,
+    above: &Path,
 ) -> Result<Operation, TraceFaultKind>
     requires { above.now ≡ parent_path to }
     ensures { result ≡ rename paths.now from to }
 {
-    file_at(paths, &from.key)?;
-    check_target(paths, above, &to.key)?;
-    if has_too_many_names(&to.key) {
+    file_at(paths, &from)?;
+    check_target(paths, above, &to)?;
+    if has_too_many_names(&to) {
         return Err(TraceFaultKind::TooLarge);
     }
-    let from = from.path;
-    let to = to.path;
     Ok(Operation::Rename { from, to })
 }
 
 /// The fault of a file's entry at a new path whose directory can't stand.
-pub(crate) fn rename_far(paths: &Standing, from: &PathKey) -> Result<Operation, TraceFaultKind>
+pub(crate) fn rename_far(paths: &Standing, from: &Path) -> Result<Operation, TraceFaultKind>
     ensures { result ≡ and_then (file_at paths.now from.now) (λ _. Err TraceFaultKind.NoParent) }
 {
     file_at(paths, from)?;
@@ -189,7 +178,7 @@ pub(crate) fn write(
     alloc: Global,
     paths: &Standing,
     sizes: &[u64],
-    path: &PathKey,
+    path: &Path,
     offset: u64,
     bytes: &Digits<'_>,
 ) -> Result<Operation, TraceFaultKind>
@@ -214,7 +203,7 @@ pub(crate) fn write(
 pub(crate) fn truncate(
     paths: &Standing,
     sizes: &[u64],
-    path: &PathKey,
+    path: &Path,
     length: u64,
 ) -> Result<Operation, TraceFaultKind>
     ensures { result ≡ truncate paths.now sizes.now path.now length }
@@ -227,12 +216,12 @@ pub(crate) fn truncate(
     Ok(Operation::Truncate { file, size, length })
 }
 
-pub(crate) fn fsync(paths: &Standing, kept: Kept) -> Result<Operation, TraceFaultKind>
-    ensures { result ≡ fsync paths.now kept }
+pub(crate) fn fsync(paths: &Standing, path: Path) -> Result<Operation, TraceFaultKind>
+    ensures { result ≡ fsync paths.now path }
 {
-    match paths.get(&kept.key) {
+    match paths.get(&path) {
         None => Err(TraceFaultKind::Missing),
-        Some(Node::Directory) => Ok(Operation::Sync(Covers::Directory(kept.path))),
+        Some(Node::Directory) => Ok(Operation::Sync(Covers::Directory(path))),
         Some(Node::File(file)) => Ok(Operation::Sync(Covers::File(file))),
     }
 }

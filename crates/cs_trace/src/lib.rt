@@ -7,7 +7,6 @@ mod entry;
 pub mod fault;
 mod fields;
 mod judge;
-mod key;
 mod line;
 mod lines;
 mod names;

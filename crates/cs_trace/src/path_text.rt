@@ -1,9 +1,8 @@
 //! A path that a line spells: judged without memory, and kept.
-ghost use Rattle.std.specs.Prelude.{◌≡◌, ◌<◌, ◌+◌, ◌↔◌, IfOk, IsSome, IsTrue, MatchOption, length};
+ghost use Rattle.std.specs.Prelude.{◌≡◌, ◌<◌, ◌+◌, ◌↔◌, IfOk, IsTrue, MatchOption, length};
 ghost use Rattle.cs_names.specs.declared.limits.TheConstants.{TRACE_PATH_NAMES};
 ghost use Rattle.cs_trace.specs.Names.{entry_path_of, path_of};
 
-use crate::key::PathKey;
 use cs_names::Path;
 use cs_names::limits::TRACE_PATH_NAMES;
 use std::alloc::{AllocError, Global};
@@ -25,34 +24,6 @@ impl<'a> Model for PathText<'a> {
     ghost view = { λ path. spelled_path path.text.now };
 
     ghost invariant = { λ path. (path_of path.text.now ≡ Some (spelled_path path.text.now)) × (path.count ≡ length (spelled_path path.text.now)) };
-}
-
-/// A path that is kept, with its key. Contracts see the path.
-#[derive(Drop)]
-pub(crate) struct Kept {
-    pub(crate) path: Path,
-    pub(crate) key: PathKey,
-}
-
-impl Model for Kept {
-    ghost use Rattle.std.specs.Prelude.{◌≡◌, List, ℕ};
-
-    ghost Value = { List (List ℕ) };
-
-    ghost view = { λ kept. kept.path };
-
-    ghost invariant = { λ kept. kept.key ≡ kept.path };
-}
-
-/// The key of the path of an entry.
-fn key_of(alloc: Global, text: &str) -> Result<PathKey, AllocError>
-    requires { IsSome (entry_path_of text.now) }
-    ensures { IfOk result (λ key. entry_path_of text.now ≡ Some key) }
-{
-    match text.as_bytes().split_first() {
-        Some((_, rest)) => PathKey::between_slashes(alloc, rest),
-        None => Ok(PathKey::root(alloc)),
-    }
 }
 
 impl<'a> PathText<'a> {
@@ -83,14 +54,11 @@ impl<'a> PathText<'a> {
         self.count
     }
 
-    /// The path's key.
-    pub(crate) fn key(&self, alloc: Global) -> Result<PathKey, AllocError>
-        ensures { IfOk result (λ key. key ≡ self.now) }
+    /// The path, kept.
+    pub(crate) fn keep(&self, alloc: Global) -> Result<Path, AllocError>
+        ensures { IfOk result (λ path. path ≡ self.now) }
     {
-        if self.count == 0 {
-            return Ok(PathKey::root(alloc));
-        }
-        key_of(alloc, self.text)
+        Path::keep(alloc, self.text)
     }
 
     /// Whether no path of a trace's tree, or of a directory of it, has so many names.
@@ -100,26 +68,14 @@ impl<'a> PathText<'a> {
         self.len() > TRACE_PATH_NAMES + 1
     }
 
-    /// The key of a path that may stand in a trace's tree, or in a directory of it. None of a longer
-    /// one, which takes no memory.
-    pub(crate) fn short_key(&self, alloc: Global) -> Result<Option<PathKey>, AllocError>
-        ensures { IfOk result (λ key. MatchOption key (TRACE_PATH_NAMES + 1 < length self.now) (λ key. key ≡ self.now)) }
+    /// A path that may stand in a trace's tree, or in a directory of it, kept. None of a longer one,
+    /// which takes no memory.
+    pub(crate) fn keep_short(&self, alloc: Global) -> Result<Option<Path>, AllocError>
+        ensures { IfOk result (λ path. MatchOption path (TRACE_PATH_NAMES + 1 < length self.now) (λ path. path ≡ self.now)) }
     {
         if self.is_long() {
             return Ok(None);
         }
-        Ok(Some(self.key(alloc)?))
-    }
-
-    /// The same with the path.
-    pub(crate) fn keep_short(&self, alloc: Global) -> Result<Option<Kept>, AllocError>
-        ensures { IfOk result (λ kept. MatchOption kept (TRACE_PATH_NAMES + 1 < length self.now) (λ kept. kept ≡ self.now)) }
-    {
-        if self.is_long() {
-            return Ok(None);
-        }
-        let key = self.key(alloc)?;
-        let path = key.to_path(alloc)?;
-        Ok(Some(Kept { path, key }))
+        Ok(Some(self.keep(alloc)?))
     }
 }

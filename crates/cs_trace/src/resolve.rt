@@ -15,6 +15,7 @@ use crate::operation::{Covers, Operation};
 use crate::path_text::PathText;
 use crate::standing::Standing;
 use crate::state::State;
+use cs_names::Path;
 use std::alloc::Global;
 
 /// A path, which may be the root's.
@@ -58,12 +59,12 @@ fn creat(
     ensures fault { IfErr result (λ kind. kind ≢ Memory → creat state.now.paths state.now.made (length state.now.sizes.items) path.now (claims_of claims.now) ≡ Err kind) }
     ensures memory { IfErr result (λ kind. kind ≡ Memory → IsPastNames (creat state.now.paths state.now.made (length state.now.sizes.items) path.now (claims_of claims.now))) }
 {
-    let Some(kept) = path.keep_short(alloc)? else {
+    let Some(path) = path.keep_short(alloc)? else {
         return Err(TraceFaultKind::NoParent);
     };
-    let above = kept.key.parent(alloc)?;
+    let above = Path::of(alloc, &path.names().parent())?;
     let file = state.sizes.len() as u32;
-    judge::creat(alloc, &state.paths, state.made, file, kept, &above, claims)
+    judge::creat(alloc, &state.paths, state.made, file, path, &above, claims)
 }
 
 #[tactic(auto, using(crate::proofs::Past::nothing_above, crate::proofs::Past::past_mkdir))]
@@ -79,11 +80,11 @@ fn mkdir(
     ensures fault { IfErr result (λ kind. kind ≢ Memory → mkdir paths.now made path.now (claims_of claims.now) ≡ Err kind) }
     ensures memory { IfErr result (λ kind. kind ≡ Memory → IsPastNames (mkdir paths.now made path.now (claims_of claims.now))) }
 {
-    let Some(kept) = path.keep_short(alloc)? else {
+    let Some(path) = path.keep_short(alloc)? else {
         return Err(TraceFaultKind::NoParent);
     };
-    let above = kept.key.parent(alloc)?;
-    judge::mkdir(alloc, paths, made, kept, &above, claims)
+    let above = Path::of(alloc, &path.names().parent())?;
+    judge::mkdir(alloc, paths, made, path, &above, claims)
 }
 
 #[tactic(auto, using(crate::proofs::Past::nothing_at, crate::proofs::Past::past_unlink))]
@@ -93,10 +94,10 @@ fn unlink(alloc: Global, paths: &Standing, path: &PathText<'_>) -> Result<Operat
     ensures fault { IfErr result (λ kind. kind ≢ Memory → unlink paths.now path.now ≡ Err kind) }
     ensures memory { IfErr result (λ kind. kind ≡ Memory → IsPastNames (unlink paths.now path.now)) }
 {
-    let Some(kept) = path.keep_short(alloc)? else {
+    let Some(path) = path.keep_short(alloc)? else {
         return Err(TraceFaultKind::Missing);
     };
-    judge::unlink(paths, kept)
+    judge::unlink(paths, path)
 }
 
 #[tactic(auto, using(crate::proofs::Past::nothing_at, crate::proofs::Past::past_rmdir))]
@@ -106,10 +107,10 @@ fn rmdir(alloc: Global, paths: &Standing, path: &PathText<'_>) -> Result<Operati
     ensures fault { IfErr result (λ kind. kind ≢ Memory → rmdir paths.now path.now ≡ Err kind) }
     ensures memory { IfErr result (λ kind. kind ≡ Memory → IsPastNames (rmdir paths.now path.now)) }
 {
-    let Some(kept) = path.keep_short(alloc)? else {
+    let Some(path) = path.keep_short(alloc)? else {
         return Err(TraceFaultKind::Missing);
     };
-    judge::rmdir(paths, kept)
+    judge::rmdir(paths, path)
 }
 
 #[tactic(auto, using(crate::proofs::Past::nothing_at, crate::proofs::Past::past_write))]
@@ -125,10 +126,10 @@ fn write(
     ensures fault { IfErr result (λ kind. kind ≢ Memory → write state.now.paths state.now.sizes.items path.now offset bytes.now ≡ Err kind) }
     ensures memory { IfErr result (λ kind. kind ≡ Memory → IsPastNames (write state.now.paths state.now.sizes.items path.now offset bytes.now)) }
 {
-    let Some(key) = path.short_key(alloc)? else {
+    let Some(path) = path.keep_short(alloc)? else {
         return Err(TraceFaultKind::Missing);
     };
-    judge::write(alloc, &state.paths, &state.sizes, &key, offset, bytes)
+    judge::write(alloc, &state.paths, &state.sizes, &path, offset, bytes)
 }
 
 #[tactic(auto, using(crate::proofs::Past::nothing_at, crate::proofs::Past::past_truncate))]
@@ -143,10 +144,10 @@ fn truncate(
     ensures fault { IfErr result (λ kind. kind ≢ Memory → truncate state.now.paths state.now.sizes.items path.now length ≡ Err kind) }
     ensures memory { IfErr result (λ kind. kind ≡ Memory → IsPastNames (truncate state.now.paths state.now.sizes.items path.now length)) }
 {
-    let Some(key) = path.short_key(alloc)? else {
+    let Some(path) = path.keep_short(alloc)? else {
         return Err(TraceFaultKind::Missing);
     };
-    judge::truncate(&state.paths, &state.sizes, &key, length)
+    judge::truncate(&state.paths, &state.sizes, &path, length)
 }
 
 #[tactic(auto, using(crate::proofs::Past::nothing_at, crate::proofs::Past::past_fsync))]
@@ -156,10 +157,10 @@ fn fsync(alloc: Global, paths: &Standing, path: &PathText<'_>) -> Result<Operati
     ensures fault { IfErr result (λ kind. kind ≢ Memory → fsync paths.now path.now ≡ Err kind) }
     ensures memory { IfErr result (λ kind. kind ≡ Memory → IsPastNames (fsync paths.now path.now)) }
 {
-    let Some(kept) = path.keep_short(alloc)? else {
+    let Some(path) = path.keep_short(alloc)? else {
         return Err(TraceFaultKind::Missing);
     };
-    judge::fsync(paths, kept)
+    judge::fsync(paths, path)
 }
 
 #[tactic(auto, using(crate::proofs::Past::nothing_at, crate::proofs::Past::nothing_above, crate::proofs::Past::past_rename))]
@@ -178,9 +179,9 @@ fn rename(
         return Err(TraceFaultKind::Missing);
     };
     let Some(to) = to.keep_short(alloc)? else {
-        return judge::rename_far(paths, &from.key);
+        return judge::rename_far(paths, &from);
     };
-    let above = to.key.parent(alloc)?;
+    let above = Path::of(alloc, &to.names().parent())?;
     judge::rename(paths, from, to, &above)
 }
 

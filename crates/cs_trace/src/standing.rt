@@ -3,8 +3,8 @@ ghost use Rattle.std.specs.Prelude.{◌≡◌, OnOk};
 ghost use Rattle.std.specs.FinMap as map;
 ghost use Rattle.cs_trace.specs.Below.{has_below};
 
-use crate::key::PathKey;
 use crate::operation::Node;
+use cs_names::Path;
 use std::alloc::{AllocError, Global};
 use std::collections::BTreeMap;
 use std::marker::Model;
@@ -13,7 +13,7 @@ use std::ops::Bound;
 /// What stands at each path. Contracts see a finite map, in the order of paths.
 #[derive(Drop)]
 pub(crate) struct Standing {
-    by_path: BTreeMap<PathKey, Node>,
+    by_path: BTreeMap<Path, Node>,
 }
 
 impl Model for Standing {
@@ -39,14 +39,14 @@ impl Standing {
     }
 
     /// What stands at the path. It takes no memory.
-    pub(crate) fn get(&self, path: &PathKey) -> Option<Node>
+    pub(crate) fn get(&self, path: &Path) -> Option<Node>
         ensures { result ≡ map.get self.now path.now }
     {
         self.by_path.get(path).copied()
     }
 
     /// Whether something stands below the path: it would come right after it. It takes no memory.
-    pub(crate) fn has_below(&self, path: &PathKey) -> bool
+    pub(crate) fn has_below(&self, path: &Path) -> bool
         ensures { result ≡ has_below self.now path.now }
     {
         match self
@@ -59,7 +59,7 @@ impl Standing {
         }
     }
 
-    pub(crate) fn insert(&mut self, path: PathKey, node: Node) -> Result<(), AllocError>
+    pub(crate) fn insert(&mut self, path: Path, node: Node) -> Result<(), AllocError>
         ensures { OnOk result (self.new ≡ map.insert self.old path node) }
     {
         self.by_path.insert(path, node)?;
@@ -67,7 +67,7 @@ impl Standing {
     }
 
     /// Nothing stands at the path any more.
-    pub(crate) fn remove(&mut self, path: &PathKey)
+    pub(crate) fn remove(&mut self, path: &Path)
         ensures { self.new ≡ map.remove self.old path.now }
     {
         self.by_path.remove(path);

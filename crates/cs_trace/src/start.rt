@@ -13,12 +13,12 @@ use crate::digits::Digits;
 use crate::entry::Entry;
 use crate::fault::TraceFaultKind;
 use crate::judge::{check_free, is_too_much};
-use crate::key::PathKey;
 use crate::line::{Claims, StartLine};
 use crate::names::are_user_names;
 use crate::operation::Rights;
 use crate::resolve::new_path;
 use crate::state::State;
+use cs_names::Path;
 use cs_names::limits::FILE_BYTES;
 use cs_tree_model::{Content, Kind};
 use std::alloc::{AllocError, Global};
@@ -58,15 +58,15 @@ fn keep_entry(
 }
 
 /// One entry more at the start.
-fn place(alloc: Global, state: &mut State, path: PathKey, entry: Entry) -> Result<(), AllocError>
+fn place(alloc: Global, state: &mut State, path: Path, entry: Entry) -> Result<(), AllocError>
     requires { state.old.made < 2 ^ 32 }
     ensures { OnOk result (state_of state.new ≡ with_entry (state_of state.old) path entry entry.content) }
 {
     if let Kind::File { length } = entry.content.kind() {
-        state.files.push(path.to_path(alloc)?)?;
+        state.files.push(path.try_clone(alloc)?)?;
         state.sizes.push(length)?;
     }
-    state.paths.insert(path.try_clone()?, entry.node())?;
+    state.paths.insert(path.try_clone(alloc)?, entry.node())?;
     state.start.insert(path, entry)?;
     state.made += 1;
     Ok(())
@@ -76,8 +76,8 @@ fn place(alloc: Global, state: &mut State, path: PathKey, entry: Entry) -> Resul
 fn start_at(
     alloc: Global,
     state: &mut State,
-    path: PathKey,
-    above: &PathKey,
+    path: Path,
+    above: &Path,
     line: &StartLine<'_>,
 ) -> Result<(), TraceFaultKind>
     requires bounded { IsBounded (state_of state.old) }
@@ -108,11 +108,11 @@ pub(crate) fn take_start(
     ensures memory { IfErr result (λ kind. kind ≡ Memory → IsPastNames (start_step (state_of state.old) (start_of line.now))) }
 {
     let path = new_path(line.path, &line.claims)?;
-    let Some(key) = path.short_key(alloc)? else {
+    let Some(path) = path.keep_short(alloc)? else {
         return Err(TraceFaultKind::NoParent);
     };
-    let above = key.parent(alloc)?;
-    start_at(alloc, state, key, &above, line)
+    let above = Path::of(alloc, &path.names().parent())?;
+    start_at(alloc, state, path, &above, line)
 }
 
 /// The first line that isn't blank: the header gives the root.
@@ -130,6 +130,6 @@ pub(crate) fn take_header(
         return Err(TraceFaultKind::BadName);
     }
     let root = keep_entry(alloc, state, claims, &None)?;
-    place(alloc, state, PathKey::root(alloc), root)?;
+    place(alloc, state, Path::root(alloc), root)?;
     Ok(())
 }

@@ -6,7 +6,6 @@ ghost use Rattle.cs_trace.specs.Operations.{made_by, paths_after, sizes_after, w
 ghost use Rattle.cs_trace.specs.States.{nothing, taken};
 
 use crate::entries::Entries;
-use crate::key::PathKey;
 use crate::operation::{Bytes, Node, Operation};
 use crate::standing::Standing;
 use cs_names::Path;
@@ -32,12 +31,11 @@ pub(crate) struct State {
 fn rename(alloc: Global, paths: &mut Standing, from: &Path, to: &Path) -> Result<(), AllocError>
     ensures { OnOk result (paths.new ≡ paths_after paths.old (Operation.Rename from.now to.now)) }
 {
-    let from = PathKey::of(alloc, from)?;
-    let Some(node) = paths.get(&from) else {
+    let Some(node) = paths.get(from) else {
         return Ok(());
     };
-    paths.remove(&from);
-    paths.insert(PathKey::of(alloc, to)?, node)
+    paths.remove(from);
+    paths.insert(to.try_clone(alloc)?, node)
 }
 
 /// What stands after the operation.
@@ -46,13 +44,13 @@ fn move_paths(alloc: Global, paths: &mut Standing, operation: &Operation) -> Res
 {
     match operation {
         Operation::Creat { path, file, .. } => {
-            paths.insert(PathKey::of(alloc, path)?, Node::File(*file))?;
+            paths.insert(path.try_clone(alloc)?, Node::File(*file))?;
         }
         Operation::Mkdir { path, .. } => {
-            paths.insert(PathKey::of(alloc, path)?, Node::Directory)?;
+            paths.insert(path.try_clone(alloc)?, Node::Directory)?;
         }
         Operation::Unlink { path } | Operation::Rmdir { path } => {
-            paths.remove(&PathKey::of(alloc, path)?);
+            paths.remove(path);
         }
         Operation::Rename { from, to } => rename(alloc, paths, from, to)?,
         Operation::Write { .. }

@@ -32,5 +32,5 @@ pub fn path_of<T: TreeRead>(
         at = parent;
     }
     names.reverse();
-    Ok(Some(Path::from_names(names)))
+    Ok(Some(Path::from_names(alloc, &names)?))
 }

@@ -72,7 +72,7 @@ fn whole_in_front(bytes: &[u8]) -> Result<Option<usize>, FrameFault>
 ///
 /// Bytes move only where the room behind them doesn't do: then those that weren't given yet move to
 /// the front, and the buffer grows if that isn't enough. A caller that takes every whole message
-/// before it feeds again moves each byte at most once.
+/// before it feeds again moves each byte at most once, unless the buffer grows, which moves all of them.
 #[derive(Drop)]
 pub struct Framer {
     buffer: Vec<u8>,
@@ -185,7 +185,8 @@ impl Framer {
         Ok(())
     }
 
-    /// That the stream may end here: Cut where bytes are left that weren't given.
+    /// Whether the stream may end here: Cut where bytes are left that weren't given, be they a part of a
+    /// message or whole messages that `next` wasn't asked for. The framer stays.
     pub fn end(&self) -> Result<(), FrameFault>
         ensures { MatchResult result (λ _. left self.now ≡ []) (λ fault. (fault ≡ FrameFault.Cut) × (left self.now ≢ [])) }
     {

@@ -1,36 +1,112 @@
 -- How a call ends, by its rules and by what memory gives.
-use Rattle.std.proofs.Common.{◌≡◌, ℕ, Bool, true, false, not, ◌&&◌, Option, None, Some, refl}
+use Rattle.std.proofs.Common.{◌≡◌, ◌∙◌, ℕ, ◌+◌, ◌≤◌, Bool, true, false, not, ◌&&◌, length, Option, None, Some, refl, sym, ap, subst, arith}
 use Rattle.std.specs.Prelude.{is_some}
+use Rattle.std.proofs.lemmas.Bool.Decides.{nat_tests}
+use Rattle.cs_names.specs.declared.limits.TheConstants.{JOURNAL_ENTRIES}
 use Rattle.cs_names.specs.declared.rule_id.RuleId.{RuleId}
-use Rattle.cs_names.specs.declared.rule_id.RuleId.TheVariants.{L1}
 use Rattle.cs_permit.specs.Calls.{first}
 use Rattle.cs_permit.specs.declared.call.Call.{Call}
-use Rattle.cs_run.specs.declared.answer.Answer.TheVariants.{Denied, Short}
-use Rattle.cs_run.specs.Effects.{effect_of}
+use Rattle.cs_permit.specs.declared.call.OpenFile.{OpenFile}
+use Rattle.cs_run.specs.declared.answer.Answer.{Answer}
+use Rattle.cs_run.specs.declared.answer.Outcome.{Outcome}
+use Rattle.cs_run.specs.declared.answer.Outcome.TheVariants as o
+use Rattle.cs_run.specs.Effects.{Left}
 use Rattle.cs_run.specs.Marks.{is_refused}
-use Rattle.cs_run.specs.Outcomes.{outcome, takes_memory}
-use Rattle.cs_journal.specs.Calls.{ended, is_full}
-use Rattle.cs_journal.specs.Journals.{RunState, seen, turn_in}
+use Rattle.cs_run.specs.Outcomes.{applied, outcome, outcome_by, takes_memory}
+use Rattle.cs_journal.specs.Calls.{charge, ended, is_full}
+use Rattle.cs_journal.specs.Journals.{EntryOf, HasRoom, RunState, answer_to, replay, seen, start, turn_in}
 use Rattle.cs_journal.specs.Marks.{StepMark, call_mark, refuses_entry}
-use Rattle.cs_world.specs.Runs.{called}
+use Rattle.cs_journal.specs.Runs.{RunOf, first_state, state_of}
+use Rattle.cs_journal.specs.Steps.{entered, step}
+use Rattle.cs_journal.proofs.Journals.{replay-push}
+use Rattle.cs_journal.proofs.Moves.{call_moves}
+use Rattle.cs_world.specs.Judged.{IsEntered, IsJudged, Full, NoEntry, Denied, Short, Granted}
+use Rattle.cs_world.specs.Runs.{run_step}
 
-module _ (s : RunState) (now pass : ℕ) (call : Call) (mark : StepMark) where
-  pub full : is_full s pass call ≡ true → called s now pass call mark ≡ (Denied L1, s)
-  full f = rw f refl
+ends_none : (x : Option OpenFile) (b : Bool) → (b && not (is_some x)) ≡ true → x ≡ None
+ends_none None b e = refl
+ends_none (Some x) true e = absurd (cc)
+ends_none (Some x) false e = absurd (cc)
 
-  pub no_entry : is_full s pass call ≡ false → (refuses_entry mark && not (is_some (ended s.opens pass call))) ≡ true → called s now pass call mark ≡ (Short, s)
-  no_entry f e = rw (f, e) refl
+takes : (a b : Bool) → (a && b) ≡ true → b ≡ true
+takes true b e = e
+takes false b e = absurd (cc)
 
-  module _ (f : is_full s pass call ≡ false) (e : (refuses_entry mark && not (is_some (ended s.opens pass call))) ≡ false) where
-    pub denied : (rule : RuleId) → first (seen s) call ≡ Some rule → ((called s now pass call mark).0 ≡ Denied rule) × ((called s now pass call mark).1.tree ≡ s.tree)
-    unfolding outcome
-    denied rule d = rw (f, e, d) (refl, refl)
+module _ (run : RunOf) (now pass : ℕ) (call : Call) where
+  entry : Outcome → EntryOf
+  entry outcome = record { pass = pass; moment = now; call = call; outcome = outcome }
 
-    pub short : first (seen s) call ≡ None → (is_refused (call_mark mark) && takes_memory (seen s) (turn_in s pass now) call) ≡ true → ((called s now pass call mark).0 ≡ Short) × ((called s now pass call mark).1.tree ≡ s.tree)
-    unfolding outcome
-    short none taken = rw (f, e, none, taken) (refl, refl)
+  made : (outcome : Outcome) → IsEntered run now pass call outcome (applied (seen (state_of run)) (turn_in (state_of run) pass now) call outcome) (answer_to (state_of run) (entry outcome)) (entered run (entry outcome))
+  unfolding entry
+  made outcome =
+      let next = replay-push (first_state run) run.journal (entry outcome) in
+      record {
+        answer_is = refl;
+        entry = refl;
+        tree = ap (λ (s : RunState). s.tree) next;
+        opens = ap (λ (s : RunState). s.opens) next;
+        fresh = refl;
+        users = refl;
+        passes = refl;
+      }
 
-    pub granted : first (seen s) call ≡ None → (is_refused (call_mark mark) && takes_memory (seen s) (turn_in s pass now) call) ≡ false
-        → ((called s now pass call mark).0 ≡ (effect_of (seen s) (turn_in s pass now) call).answer) × ((called s now pass call mark).1.tree ≡ (effect_of (seen s) (turn_in s pass now) call).tree) × ((called s now pass call mark).1.opens ≡ (effect_of (seen s) (turn_in s pass now) call).opens)
-    unfolding outcome
-    granted none taken = rw (f, e, none, taken) (refl, refl, refl)
+  ends_by : (fails : Option RuleId) (short : Bool) (refused : Bool) → is_full (state_of run) pass call ≡ false → first (seen (state_of run)) call ≡ fails → (refused && takes_memory (seen (state_of run)) (turn_in (state_of run) pass now) call) ≡ short
+      → IsJudged run now pass call (answer_to (state_of run) (entry (outcome_by fails short))) (entered run (entry (outcome_by fails short)))
+  ends_by (Some rule) short refused room fails takes_some = Denied rule room fails (made (o.Denied rule))
+  ends_by None true refused room fails takes_some = Short room fails (takes refused _ takes_some) (made o.Short)
+  ends_by None false refused room fails takes_some = Granted room fails (made o.Granted)
+
+  module _ (mark : StepMark) where
+    judged_by : (full short : Bool) → is_full (state_of run) pass call ≡ full → (refuses_entry mark && not (is_some (ended (state_of run).opens pass call))) ≡ short → IsJudged run now pass call (run_step run now pass call mark).0 (run_step run now pass call mark).1
+    unfolding step outcome entry
+    judged_by true short f e = rw f (Full f refl refl)
+    judged_by false true f e = rw (f, e) (NoEntry f (ends_none (ended (state_of run).opens pass call) (refuses_entry mark) e) refl refl)
+    judged_by false false f e = rw (f, e) (ends_by _ _ (is_refused (call_mark mark)) f refl refl)
+
+    -- each call ends in one of these ways
+    pub judged : IsJudged run now pass call (run_step run now pass call mark).0 (run_step run now pass call mark).1
+    judged = judged_by _ _ refl refl
+
+-- ---- what stays of the run
+
+module _ (run : RunOf) (now pass : ℕ) (call : Call) (answer : Answer) (run' : RunOf) where
+  entered_state : (outcome : Outcome) (leaves : Left) → IsEntered run now pass call outcome leaves answer run' → (state_of run').entries ≡ (state_of run).entries + 1
+  entered_state outcome leaves m = (λ i. (replay (start (m.fresh i) (m.users i)) (m.entry i)).entries) ∙ ap (λ (s : RunState). s.entries) (replay-push (first_state run) run.journal _)
+
+  entered_room : (outcome : Outcome) → is_full (state_of run) pass call ≡ false → IsEntered run now pass call outcome (applied (seen (state_of run)) (turn_in (state_of run) pass now) call outcome) answer run' → HasRoom (state_of run')
+  entered_room outcome room m =
+      let more = call_moves (seen (state_of run)) (turn_in (state_of run) pass now) call outcome in
+      let limit : (state_of run).entries + length (state_of run).opens + charge (state_of run).opens pass call ≤ JOURNAL_ENTRIES = grind (arith, nat_tests) in
+      let entries : (state_of run').entries ≡ (state_of run).entries + 1 = entered_state outcome _ m in
+      let opens : length (state_of run').opens ≡ length (applied (seen (state_of run)) (turn_in (state_of run) pass now) call outcome).opens = ap length m.opens in
+      omega (arith, limit, entries, opens, more.room)
+
+  -- there is room still
+  pub keeps_room : IsJudged run now pass call answer run' → HasRoom (state_of run) → HasRoom (state_of run')
+  keeps_room (Full f is same) h = subst (λ r. HasRoom (state_of r)) (sym same) h
+  keeps_room (NoEntry f none is same) h = subst (λ r. HasRoom (state_of r)) (sym same) h
+  keeps_room (Denied rule f fails m) h = entered_room (o.Denied rule) f m
+  keeps_room (Short f fails takes m) h = entered_room o.Short f m
+  keeps_room (Granted f fails m) h = entered_room o.Granted f m
+
+  -- nor its beginning and its passes
+  pub keeps_fresh : IsJudged run now pass call answer run' → run'.fresh ≡ run.fresh
+  keeps_fresh (Full f is same) = ap (λ (r : RunOf). r.fresh) same
+  keeps_fresh (NoEntry f none is same) = ap (λ (r : RunOf). r.fresh) same
+  keeps_fresh (Denied rule f fails m) = m.fresh
+  keeps_fresh (Short f fails takes m) = m.fresh
+  keeps_fresh (Granted f fails m) = m.fresh
+
+  pub keeps_users : IsJudged run now pass call answer run' → run'.users ≡ run.users
+  keeps_users (Full f is same) = ap (λ (r : RunOf). r.users) same
+  keeps_users (NoEntry f none is same) = ap (λ (r : RunOf). r.users) same
+  keeps_users (Denied rule f fails m) = m.users
+  keeps_users (Short f fails takes m) = m.users
+  keeps_users (Granted f fails m) = m.users
+
+  pub keeps_passes : IsJudged run now pass call answer run' → run'.passes ≡ run.passes
+  keeps_passes (Full f is same) = ap (λ (r : RunOf). r.passes) same
+  keeps_passes (NoEntry f none is same) = ap (λ (r : RunOf). r.passes) same
+  keeps_passes (Denied rule f fails m) = m.passes
+  keeps_passes (Short f fails takes m) = m.passes
+  keeps_passes (Granted f fails m) = m.passes

@@ -8,11 +8,11 @@ use Rattle.cs_session.specs.Receipts.{IsReplied}
 use Rattle.cs_session.specs.Sessions.{Sess}
 use Rattle.cs_wire.specs.Messages.{Message as Spelled, replies}
 use Rattle.cs_world.specs.Asking.{IsGiven}
-use Rattle.cs_world.specs.Runs.{Run}
+use Rattle.cs_journal.specs.Runs.{RunOf}
 
 module _ (now : ℕ) where
-  pub replied : (bytes : List ℕ) (s t : Sess) (p : Registry Run) (told : Spelled replies) (s' t' : Sess) (p' : Registry Run) → t ≡ s → t' ≡ s' → IsReplied IsGiven now bytes s p told s' p' → IsReplied IsGiven now bytes t p told t' p'
+  pub replied : (bytes : List ℕ) (s t : Sess) (p : Registry RunOf) (told : Spelled replies) (s' t' : Sess) (p' : Registry RunOf) → t ≡ s → t' ≡ s' → IsReplied IsGiven now bytes s p told s' p' → IsReplied IsGiven now bytes t p told t' p'
   replied bytes s t p told s' t' p' e e' r = rw (e, e') r
 
-  pub answered : (message : Message) (s t : Sess) (p : Registry Run) (reply : Reply) (s' t' : Sess) (p' : Registry Run) → t ≡ s → t' ≡ s' → IsAnswered IsGiven now message s p reply s' p' → IsAnswered IsGiven now message t p reply t' p'
+  pub answered : (message : Message) (s t : Sess) (p : Registry RunOf) (reply : Reply) (s' t' : Sess) (p' : Registry RunOf) → t ≡ s → t' ≡ s' → IsAnswered IsGiven now message s p reply s' p' → IsAnswered IsGiven now message t p reply t' p'
   answered message s t p reply s' t' p' e e' a = rw (e, e') a

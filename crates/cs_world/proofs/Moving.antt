@@ -1,49 +1,32 @@
--- What a step on a run leaves of what contracts see.
-use Rattle.std.proofs.Common.{◌≡◌, ◌≢◌, ◌∙◌, ℕ, ◌+◌, ◌<◌, ◌≤◌, Bool, true, false, not, ◌&&◌, cond, List, [], ◌∷◌, ◌++◌, length, length-append, length-set, Some, None, Ok, string_bytes, refl, sym, ap, subst, arith, ◌⊎◌, inl, inr}
-use Rattle.std.specs.Prelude.{is_some, nat_le, nat_lt, slice_get, slice_set, if◌then◌else◌}
+-- A step on a run, under a pass that it gave.
+use Rattle.std.proofs.Common.{◌≡◌, ◌≢◌, ◌∙◌, ℕ, ◌+◌, ◌<◌, Bool, true, false, not, ◌&&◌, List, [], ◌∷◌, ◌++◌, length, length-append, length-set, Some, Ok, refl, sym, ap, subst, arith, inl, inr}
+use Rattle.std.specs.Prelude.{is_some, nat_le, nat_lt, slice_get, slice_set}
 use Rattle.std.proofs.lemmas.Bool.Decides.{nat_tests}
-use Rattle.cs_names.specs.declared.limits.TheConstants.{JOURNAL_ENTRIES, RUN_ATTACHES}
-use Rattle.cs_permit.specs.Calls.{first}
+use Rattle.cs_names.specs.declared.limits.TheConstants.{RUN_ATTACHES}
 use Rattle.cs_permit.specs.declared.call.AttachCall.{AttachCall}
 use Rattle.cs_permit.specs.declared.call.Call.{Call}
 use Rattle.cs_permit.specs.declared.call.Call.TheVariants as call
 use Rattle.cs_run.specs.declared.answer.Answer.{Answer}
-use Rattle.cs_run.specs.Outcomes.{outcome}
-use Rattle.cs_users.specs.Members.{is_known}
 use Rattle.cs_journal.specs.Calls.{ended, is_full}
-use Rattle.cs_journal.specs.Journals.{EntryOf, RunState, answer_to, apply, replay}
-use Rattle.cs_journal.specs.Marks.{StepMark, Ample, NoEntry, NoRoom, refuses_entry}
-use Rattle.cs_journal.specs.Runs.{Fits, PassOf, RunOf, first_state, fresh_pass, state_of}
+use Rattle.cs_journal.specs.Marks.{StepMark, refuses_entry}
+use Rattle.cs_journal.specs.Runs.{Fits, PassOf, RunOf, fresh_pass, state_of}
 use Rattle.cs_journal.specs.Steps.{Stepped, step}
 use Rattle.cs_world.specs.Marks.{RunMark, InRun}
 use Rattle.cs_world.specs.Passes.{AreOf}
-use Rattle.cs_world.specs.Runs.{Run, asked, attached, called, entered, entry_of, with_state}
+use Rattle.cs_world.specs.Runs.{attached, called, ran, run_step, under}
 use Rattle.cs_world.proofs.Placing.{get_pushed, get_set}
 
--- ---- what contracts see
-
-abbrev pub view : RunOf → Run
-view r = record { fresh = r.fresh; state = state_of r; passes = r.passes }
-
-seen : Stepped → Answer × Run
-seen s = (s.answer, view s.run)
-
-replay-push : (s : RunState) (es : List EntryOf) (e : EntryOf) → replay s (es ++ e ∷ []) ≡ apply (replay s es) e
-replay-push s [] e = refl
-replay-push s (x ∷ es) e = replay-push (apply s x) es e
+-- ---- what a step leaves of its run doesn't hang on the pass's receipts
 
 module _ (r : RunOf) (p : PassOf) (now : ℕ) (c : Call) (mark : StepMark) where
-  step_by : (full short : Bool) → is_full (state_of r) p.number c ≡ full → (refuses_entry mark && not (is_some (ended (state_of r).opens p.number c))) ≡ short → seen (step r p now c mark) ≡ with_state (view r) (called (state_of r) now p.number c mark)
-  unfolding step seen
-  step_by true short f e = rw f refl
-  step_by false true f e = rw (f, e) refl
-  step_by false false f e =
-      let entry : EntryOf = entry_of (state_of r) now p.number c mark in
-      let more : RunState → Answer × Run = λ s. (answer_to (state_of r) entry, record { fresh = r.fresh; state = s; passes = r.passes }) in
-      rw (f, e) (ap more (replay-push (first_state r) r.journal entry))
+  same_by : (full short : Bool) → is_full (state_of r) p.number c ≡ full → (refuses_entry mark && not (is_some (ended (state_of r).opens p.number c))) ≡ short → ran (step r p now c mark) ≡ run_step r now p.number c mark
+  unfolding step
+  same_by true short f e = rw f refl
+  same_by false true f e = rw (f, e) refl
+  same_by false false f e = rw (f, e) refl
 
-  step_seen : seen (step r p now c mark) ≡ with_state (view r) (called (state_of r) now p.number c mark)
-  step_seen = step_by _ _ refl refl
+  same_step : ran (step r p now c mark) ≡ run_step r now p.number c mark
+  same_step = same_by _ _ refl refl
 
   keeps_by : (full short : Bool) → is_full (state_of r) p.number c ≡ full → (refuses_entry mark && not (is_some (ended (state_of r).opens p.number c))) ≡ short → ((step r p now c mark).run.passes ≡ r.passes) × ((step r p now c mark).pass.number ≡ p.number)
   unfolding step
@@ -61,9 +44,8 @@ Stepping r p now c answer r' p' = (mark : StepMark) × (◌≡◌ {A = Stepped} 
 
 module _ (r : RunOf) (p : PassOf) (now : ℕ) (c : Call) (answer : Answer) (r' : RunOf) (p' : PassOf) (t : Stepping r p now c answer r' p') where
   -- it is the definition's
-  pub taken : ◌≡◌ {A = Answer × Run} (answer, view r') (with_state (view r) (called (state_of r) now p.number c t.0))
-  unfolding seen
-  taken = ap seen t.1 ∙ step_seen r p now c t.0
+  pub taken : ◌≡◌ {A = Answer × RunOf} (answer, r') (run_step r now p.number c t.0)
+  taken = ap ran t.1 ∙ same_step r p now c t.0
 
   pub same_passes : r'.passes ≡ r.passes
   same_passes = ap (λ (s : Stepped). s.run.passes) t.1 ∙ (keeps r p now c t.0).0
@@ -77,12 +59,12 @@ below_is : (n m : ℕ) → n < m → nat_lt n m ≡ true
 below_is n m h = grind (arith, nat_tests)
 
 module _ (r : RunOf) (ps : List PassOf) (all : AreOf r ps) (n : ℕ) (p : PassOf) (there : slice_get ps n ≡ Some p) (now : ℕ) (c : Call) (answer : Answer) (r' : RunOf) (p' : PassOf) (t : Stepping r p now c answer r' p') where
-  pub asks : (mark : StepMark) × (◌≡◌ {A = Answer × Run} (answer, view r') (asked (view r) now n c mark))
+  pub asks : (mark : StepMark) × (◌≡◌ {A = Answer × RunOf} (answer, r') (called r now n c mark))
   asks =
       let number : p.number ≡ n = all.numbered n p there in
       let known : p.number < r.passes = (all.fit n p there).known in
       let inside : nat_lt n r.passes ≡ true = below_is n r.passes (omega arith) in
-      (t.0, taken r p now c answer r' p' t ∙ rw inside (ap (λ k. with_state (view r) (called (state_of r) now k c t.0)) number))
+      (t.0, taken r p now c answer r' p' t ∙ rw inside (ap (λ k. run_step r now k c t.0) number))
 
   -- the passes still fit
   pub fitting : Fits r' p' → ((q : PassOf) → q.number ≢ p.number → Fits r q → Fits r' q) → AreOf r' (slice_set ps n p')
@@ -101,28 +83,15 @@ module _ (r : RunOf) (ps : List PassOf) (all : AreOf r ps) (n : ℕ) (p : PassOf
 
 -- ---- an attach
 
-attach_by : (s : RunState) (now pass : ℕ) (c : AttachCall) (mark : StepMark) (full known : Bool) → nat_lt JOURNAL_ENTRIES (s.entries + length s.opens + 1) ≡ full → is_known s.users (string_bytes c.user) ≡ known → called s now pass (call.Attach c) mark ≡ attached s (string_bytes c.user) mark
-unfolding outcome first
-attach_by s now pass c mark true known f k = rw f refl
-attach_by s now pass c NoEntry false known f k = rw f refl
-attach_by s now pass c Ample false true f k = rw (f, k) refl
-attach_by s now pass c Ample false false f k = rw (f, k) refl
-attach_by s now pass c NoRoom false true f k = rw (f, k) refl
-attach_by s now pass c NoRoom false false f k = rw (f, k) refl
-
--- the run's call of that name, of a user of that name
-pub attach_is_called : (s : RunState) (now pass : ℕ) (c : AttachCall) (mark : StepMark) → called s now pass (call.Attach c) mark ≡ attached s (string_bytes c.user) mark
-attach_is_called s now pass c mark = attach_by s now pass c mark _ _ refl refl
-
 module _ (r : RunOf) (ps : List PassOf) (all : AreOf r ps) (r1 : RunOf) (p : PassOf) (new : r1 ≡ record r { passes = r.passes + 1 }) (made : p ≡ fresh_pass r.passes) (now : ℕ) (c : AttachCall) (answer : Answer) (r' : RunOf) (p' : PassOf) (t : Stepping r1 p now (call.Attach c) answer r' p') where
-  pub enters : length ps < RUN_ATTACHES → (number : ℕ) → number ≡ p.number → (mark : RunMark) × (◌≡◌ (Ok (number, answer), view r') (entered (view r) (string_bytes c.user) mark))
+  pub enters : length ps < RUN_ATTACHES → (number : ℕ) → number ≡ p.number → (mark : RunMark) × (◌≡◌ (Ok (number, answer), r') (attached r now c mark))
   enters few number is =
       let count : length ps ≡ r.passes = all.all in
       let room : nat_le RUN_ATTACHES r.passes ≡ false = grind (arith, nat_tests) in
-      let its : number ≡ r.passes = is ∙ ap (λ (x : PassOf). x.number) made in
-      let state : state_of r1 ≡ state_of r = ap state_of new in
-      let step : ◌≡◌ {A = Answer × Run} (answer, view r') (with_state (view r1) (called (state_of r1) now p.number (call.Attach c) t.0)) = taken r1 p now (call.Attach c) answer r' p' t in
-      (InRun t.0, rw (room, its) (ap (λ (x : Answer × Run). (Ok (r.passes, x.0), x.1)) (step ∙ rw (attach_is_called (state_of r1) now p.number c t.0, new) refl)))
+      let own : p.number ≡ r.passes = ap (λ (x : PassOf). x.number) made in
+      let its : number ≡ r.passes = is ∙ own in
+      let step : ◌≡◌ {A = Answer × RunOf} (answer, r') (run_step r1 now p.number (call.Attach c) t.0) = taken r1 p now (call.Attach c) answer r' p' t in
+      (InRun t.0, rw (room, its) (ap (under r.passes) (step ∙ (λ i. run_step (new i) now (own i) (call.Attach c) t.0))))
 
   -- the passes still fit
   pub fitting_more : Fits r' p' → ((q : PassOf) → Fits r q → Fits r1 q) → ((q : PassOf) → q.number ≢ p.number → Fits r1 q → Fits r' q) → AreOf r' (ps ++ p' ∷ [])

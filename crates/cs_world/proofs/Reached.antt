@@ -1,15 +1,15 @@
 -- What a step leaves as it is, and the run that it makes.
-use Rattle.std.proofs.Common.{◌≡◌, ◌≢◌, ◌∙◌, ℕ, zero, suc, ◌+◌, ◌<◌, ◌≤◌, Bool, true, false, not, cond, List, [], ◌∷◌, ◌++◌, length, length-append, Option, None, Some, Ok, Err, refl, sym, ap, arith}
-use Rattle.std.specs.Prelude.{Result, nat_lt, unwrap_or, slice_get, slice_set, slice_index_or}
+use Rattle.std.proofs.Common.{◌≡◌, ◌≢◌, ◌∙◌, ℕ, zero, suc, ◌+◌, ◌<◌, Bool, true, false, not, cond, List, [], ◌∷◌, length, Option, None, Some, Err, refl, sym, ap, arith}
+use Rattle.std.specs.Prelude.{Result, nat_lt, unwrap_or, slice_get, slice_set}
 use Rattle.std.specs.Option.{option_map, option_map_or}
 use Rattle.std.proofs.lemmas.Option.{slice_get_past}
 use Rattle.cs_names.specs.declared.limits.TheConstants.{CONNECTIONS}
 use Rattle.cs_names.specs.declared.rule_id.RuleId.TheVariants.{S5}
 use Rattle.cs_plan.specs.Scenes.{state_at}
 use Rattle.cs_registry.specs.declared.fault.FindFault.{FindFault}
-use Rattle.cs_registry.specs.declared.fault.FindFault.TheVariants.{Unpublished, Full, Memory}
+use Rattle.cs_registry.specs.declared.fault.FindFault.TheVariants.{Unpublished, Full}
 use Rattle.cs_registry.specs.declared.found.Found.{Found}
-use Rattle.cs_registry.specs.Finds.{found, found_again, made}
+use Rattle.cs_registry.specs.Finds.{found_again, made}
 use Rattle.cs_registry.specs.Keys.{Key}
 use Rattle.cs_registry.specs.Registries.{Registry, is_published}
 use Rattle.cs_registry.specs.Runs.{Runs, change, has_no_room, held_at, place_of}
@@ -17,19 +17,21 @@ use Rattle.cs_session.specs.declared.reply.Reply.TheVariants.{Error}
 use Rattle.cs_run.specs.declared.answer.Answer.TheVariants.{Denied}
 use Rattle.cs_session.specs.declared.port.PassFault.TheVariants.{Foreign}
 use Rattle.cs_session.specs.Questions.{Question, Find, Enter, Ask, Told, Entered, Got}
-use Rattle.cs_session.specs.Sessions.{Sess, blank}
+use Rattle.cs_session.specs.Sessions.{blank}
 use Rattle.cs_session.specs.Steps.{Front, Done, Asks, Step, front_by}
 use Rattle.cs_tree_model.specs.Tree.{Tree}
 use Rattle.cs_world.specs.declared.reply.Reply.{Reply}
 use Rattle.cs_world.specs.declared.reply.Reply.TheVariants.{Connection, Published, Unpublished}
 use Rattle.cs_world.specs.declared.reply.StateFault.TheVariants as f
-use Rattle.cs_world.specs.Asking.{answered, found_by, given_run, key_in, with_run}
+use Rattle.cs_world.specs.Asking.{answered, found_by, given_run, key_in, put_run}
 use Rattle.cs_world.specs.Marks.{Mark, RunMark, below, in_run, refuses_run, refuses_table}
 use Rattle.cs_world.specs.Publishing.{published}
 use Rattle.cs_world.specs.Reaching.{IsMade, run_asked, run_reached}
-use Rattle.cs_world.specs.Runs.{Run, asked, entered, new_run}
+use Rattle.cs_journal.specs.Runs.{RunOf, fresh_run}
+use Rattle.cs_world.specs.Runs.{attached, called}
 use Rattle.cs_world.specs.Steps.{goes_from, on_connection}
 use Rattle.cs_world.specs.Worlds.{World, connection}
+use Rattle.cs_world.proofs.Placing.{get_below, get_end, get_set_same, index_set_other}
 
 -- ---- lists of which one place changes, or to which one more comes
 
@@ -40,29 +42,13 @@ get_set_other (a ∷ xs) zero (suc k) x other = refl
 get_set_other (a ∷ xs) (suc n) zero x other = refl
 get_set_other (a ∷ xs) (suc n) (suc k) x other = get_set_other xs n k x (λ e. other (ap suc e))
 
-index_set_other : {A : Type 0} (xs : List A) (n k : ℕ) (x d : A) → k ≢ n → slice_index_or (slice_set xs n x) k d ≡ slice_index_or xs k d
-index_set_other [] n k x d other = refl
-index_set_other (a ∷ xs) zero zero x d other = absurd (other refl)
-index_set_other (a ∷ xs) zero (suc k) x d other = refl
-index_set_other (a ∷ xs) (suc n) zero x d other = refl
-index_set_other (a ∷ xs) (suc n) (suc k) x d other = index_set_other xs n k x d (λ e. other (ap suc e))
-
-get_below : {A : Type 0} (xs ys : List A) (k : ℕ) → k < length xs → slice_get (xs ++ ys) k ≡ slice_get xs k
-get_below [] ys k inside = absurd (omega arith)
-get_below (x ∷ xs) ys zero inside = refl
-get_below (x ∷ xs) ys (suc k) inside = get_below xs ys k (omega arith)
-
-get_end : {A : Type 0} (xs : List A) (x : A) → slice_get (xs ++ x ∷ []) (length xs) ≡ Some x
-get_end [] x = refl
-get_end (y ∷ xs) x = get_end xs x
-
 length_set : {A : Type 0} (xs : List A) (n : ℕ) (x : A) → length (slice_set xs n x) ≡ length xs
 length_set [] n x = refl
 length_set (a ∷ xs) zero x = refl
 length_set (a ∷ xs) (suc n) x = ap suc (length_set xs n x)
 
 module _ {H : Type 0} where
-  change_other : (new : Found H → Found H) (runs : Runs H) (n k : ℕ) → k ≢ n → slice_get (change new n runs) k ≡ slice_get runs k
+  pub change_other : (new : Found H → Found H) (runs : Runs H) (n k : ℕ) → k ≢ n → slice_get (change new n runs) k ≡ slice_get runs k
   change_other new runs n k other =
       elim (slice_get runs n) as (λ o. slice_get (option_map_or (λ run. slice_set runs n (run.0, new run.1)) o runs) k ≡ slice_get runs k) [
         | None ↦ refl
@@ -91,28 +77,28 @@ module _ {H : Type 0} where
 
 -- ---- a find
 
-found_cases : (r : Registry Run) (key : Key) (unpublished full : Bool) (o : Option ℕ) (g : Option Run) (place : ℕ) → place < length r.runs
-    → held_at (cond {A = Result ℕ FindFault × Registry Run} unpublished (Err Unpublished, r) (cond full (Err Full, r) (option_map_or (found_again r) o (made r key g)))).1.runs place ≡ held_at r.runs place
+found_cases : (r : Registry RunOf) (key : Key) (unpublished full : Bool) (o : Option ℕ) (g : Option RunOf) (place : ℕ) → place < length r.runs
+    → held_at (cond {A = Result ℕ FindFault × Registry RunOf} unpublished (Err Unpublished, r) (cond full (Err Full, r) (option_map_or (found_again r) o (made r key g)))).1.runs place ≡ held_at r.runs place
 found_cases r key true full o g place inside = refl
 found_cases r key false true o g place inside = refl
 found_cases r key false false (Some n) g place inside = by_there (λ run. record run { finds = run.finds + 1 }) (λ v. refl) r.runs n place (slice_get r.runs n) refl
 found_cases r key false false None None place inside = refl
-found_cases r key false false None (Some held) place inside = ap (option_map (λ (run : Key × Found Run). run.1.held)) (get_below r.runs _ place inside)
+found_cases r key false false None (Some held) place inside = ap (option_map (λ (run : Key × Found RunOf). run.1.held)) (get_below r.runs _ place inside)
 
-find_keeps : (r : Registry Run) (mark : RunMark) (o : Option Key) (place : ℕ) → place < length r.runs → held_at (found_by r mark o).1.runs place ≡ held_at r.runs place
+find_keeps : (r : Registry RunOf) (mark : RunMark) (o : Option Key) (place : ℕ) → place < length r.runs → held_at (found_by r mark o).1.runs place ≡ held_at r.runs place
 find_keeps r mark None place inside = refl
 find_keeps r mark (Some key) place inside = found_cases r key (not (is_published r key.number)) (has_no_room r.runs key) (place_of key r.runs) (given_run r key.number mark) place inside
 
 -- ---- any question
 
-put_keeps : (r : Registry Run) (n place : ℕ) → place ≢ n → (o : Option Run) (new : Run → Run) (told : Run → Told) (none : Told) → held_at (option_map_or {T = Run} {U = Told × Registry Run} (λ run. (told run, with_run r n (new run))) o (none, r)).1.runs place ≡ held_at r.runs place
+put_keeps : (r : Registry RunOf) (n place : ℕ) → place ≢ n → (o : Option RunOf) (new : RunOf → RunOf) (told : RunOf → Told) (none : Told) → held_at (option_map_or {T = RunOf} {U = Told × Registry RunOf} (λ run. (told run, put_run r n (new run))) o (none, r)).1.runs place ≡ held_at r.runs place
 put_keeps r n place other None new told none = refl
-put_keeps r n place other (Some run) new told none = ap (option_map (λ (run : Key × Found Run). run.1.held)) (change_other (λ (found : Found Run). record found { held = new run }) r.runs n place other)
+put_keeps r n place other (Some run) new told none = ap (option_map (λ (run : Key × Found RunOf). run.1.held)) (change_other (λ (found : Found RunOf). record found { held = new run }) r.runs n place other)
 
-keeps : (r : Registry Run) (q : Question) (m : RunMark) (place : ℕ) → run_asked q ≢ Some place → place < length r.runs → held_at (answered r q m).1.runs place ≡ held_at r.runs place
+pub keeps : (r : Registry RunOf) (q : Question) (m : RunMark) (place : ℕ) → run_asked q ≢ Some place → place < length r.runs → held_at (answered r q m).1.runs place ≡ held_at r.runs place
 keeps r (Find state name) m place other inside = find_keeps r m (key_in state name) place inside
-keeps r (Enter now n user) m place other inside = put_keeps r n place (λ e. other (ap Some (sym e))) (held_at r.runs n) (λ run. (entered run user m).1) (λ run. Entered (entered run user m).0) (Entered (Err Foreign))
-keeps r (Ask now n pass call) m place other inside = put_keeps r n place (λ e. other (ap Some (sym e))) (held_at r.runs n) (λ run. (asked run now pass call (in_run m)).1) (λ run. Got (asked run now pass call (in_run m)).0) (Got (Denied S5))
+keeps r (Enter now n call) m place other inside = put_keeps r n place (λ e. other (ap Some (sym e))) (held_at r.runs n) (λ run. (attached run now call m).1) (λ run. Entered (attached run now call m).0) (Entered (Err Foreign))
+keeps r (Ask now n pass call) m place other inside = put_keeps r n place (λ e. other (ap Some (sym e))) (held_at r.runs n) (λ run. (called run now pass call (in_run m)).1) (λ run. Got (called run now pass call (in_run m)).0) (Got (Denied S5))
 
 by_front : (w : World) (conn : ℕ) (x : Step) (m : RunMark) (f : Front) (place : ℕ) → run_reached f ≢ Some place → place < length w.registry.runs → held_at (goes_from w conn x m f).1.registry.runs place ≡ held_at w.registry.runs place
 by_front w conn x m (Done reply s) place other inside = refl
@@ -141,72 +127,84 @@ connections_stay w conn now x mark other is =
 
 -- ---- a publish
 
-publish_cases : (r p : Registry Run) (same : p.runs ≡ r.runs) (a b c d : Bool) → (cond {A = Reply × Registry Run} a (Unpublished f.NoSuchState, r) (cond b (Unpublished f.Memory, r) (cond c (Unpublished f.Twice, r) (cond d (Unpublished f.Memory, r) (Published, p))))).1.runs ≡ r.runs
+publish_cases : (r p : Registry RunOf) (same : p.runs ≡ r.runs) (a b c d : Bool) → (cond {A = Reply × Registry RunOf} a (Unpublished f.NoSuchState, r) (cond b (Unpublished f.Memory, r) (cond c (Unpublished f.Twice, r) (cond d (Unpublished f.Memory, r) (Published, p))))).1.runs ≡ r.runs
 publish_cases r p same true b c d = refl
 publish_cases r p same false true c d = refl
 publish_cases r p same false false true d = refl
 publish_cases r p same false false false true = refl
 publish_cases r p same false false false false = same
 
-pub publish_keeps : (r : Registry Run) (number : ℕ) (mark : Mark) → (published r number mark).1.runs ≡ r.runs
+pub publish_keeps : (r : Registry RunOf) (number : ℕ) (mark : Mark) → (published r number mark).1.runs ≡ r.runs
 publish_keeps r number mark = publish_cases r _ refl _ _ _ _
 
 -- ---- a run that is made
 
-given_is : (r : Registry Run) (number : ℕ) (refused : Bool) (o : Option Tree) (run : Run) → cond refused None (option_map (λ tree. new_run tree r.users) o) ≡ Some run → (tree : Tree) × ((o ≡ Some tree) × (run ≡ new_run tree r.users))
+pub given_is : (r : Registry RunOf) (number : ℕ) (refused : Bool) (o : Option Tree) (run : RunOf) → cond refused None (option_map (λ tree. fresh_run tree r.users) o) ≡ Some run → (tree : Tree) × ((o ≡ Some tree) × (run ≡ fresh_run tree r.users))
 given_is r number true o run e = absurd (cc)
 given_is r number false None run e = absurd (cc)
 given_is r number false (Some tree) run e = (tree, (refl, cc))
 
-module _ (r : Registry Run) (key : Key) (entry : Found Run) where
-  not_there : (runs : Runs Run) → length runs ≡ length r.runs → slice_get runs (length r.runs) ≡ Some (key, entry) → ⊥
+module _ (r : Registry RunOf) (key : Key) (entry : Found RunOf) where
+  not_there : (runs : Runs RunOf) → length runs ≡ length r.runs → slice_get runs (length r.runs) ≡ Some (key, entry) → ⊥
   not_there runs same there =
       let none : slice_get runs (length r.runs) ≡ None = slice_get_past runs (length r.runs) (omega arith) in
       cc
 
-  made_cases : (own : Key) (mark : RunMark) (b full : Bool) (o : Option ℕ) (g : Option Run) → is_published r own.number ≡ b → given_run r own.number mark ≡ g
-      → slice_get (cond {A = Result ℕ FindFault × Registry Run} (not b) (Err Unpublished, r) (cond full (Err Full, r) (option_map_or (found_again r) o (made r own g)))).1.runs (length r.runs) ≡ Some (key, entry) → IsMade r key entry
+  made_cases : (own : Key) (mark : RunMark) (b full : Bool) (o : Option ℕ) (g : Option RunOf) → is_published r own.number ≡ b → given_run r own.number mark ≡ g
+      → slice_get (cond {A = Result ℕ FindFault × Registry RunOf} (not b) (Err Unpublished, r) (cond full (Err Full, r) (option_map_or (found_again r) o (made r own g)))).1.runs (length r.runs) ≡ Some (key, entry) → IsMade r key entry
   made_cases own mark false full o g p e there = absurd (not_there r.runs refl there)
   made_cases own mark true true o g p e there = absurd (not_there r.runs refl there)
   made_cases own mark true false (Some n) g p e there = absurd (not_there _ (length_change (λ run. record run { finds = run.finds + 1 }) r.runs n) there)
   made_cases own mark true false None None p e there = absurd (not_there r.runs refl there)
   made_cases own mark true false None (Some held) p e there =
-      let one : Found Run = record { finds = 1; held = held } in
-      let its : ◌≡◌ {A = Key × Found Run} (own, one) (key, entry) = ap (λ (o : Option (Key × Found Run)). unwrap_or o (own, one)) (sym (get_end r.runs (own, one)) ∙ there) in
-      let same : own ≡ key = ap (λ (x : Key × Found Run). x.0) its in
-      let is : one ≡ entry = ap (λ (x : Key × Found Run). x.1) its in
+      let one : Found RunOf = record { finds = 1; held = held } in
+      let its : ◌≡◌ {A = Key × Found RunOf} (own, one) (key, entry) = ap (λ (o : Option (Key × Found RunOf)). unwrap_or o (own, one)) (sym (get_end r.runs (own, one)) ∙ there) in
+      let same : own ≡ key = ap (λ (x : Key × Found RunOf). x.0) its in
+      let is : one ≡ entry = ap (λ (x : Key × Found RunOf). x.1) its in
       let made = given_is r own.number (refuses_run mark) (state_at r.scene own.number) held e in
       record {
         published = ap (λ (k : Key). is_published r k.number) (sym same) ∙ p;
         tree = made.0;
         state = ap (λ (k : Key). state_at r.scene k.number) (sym same) ∙ made.1.0;
-        fresh = ap (λ (x : Found Run). x.held) (sym is) ∙ made.1.1;
-        once = ap (λ (x : Found Run). x.finds) (sym is);
+        fresh = ap (λ (x : Found RunOf). x.held) (sym is) ∙ made.1.1;
+        once = ap (λ (x : Found RunOf). x.finds) (sym is);
       }
 
   made_by_find : (mark : RunMark) (o : Option Key) → slice_get (found_by r mark o).1.runs (length r.runs) ≡ Some (key, entry) → IsMade r key entry
   made_by_find mark None there = absurd (not_there r.runs refl there)
   made_by_find mark (Some own) there = made_cases own mark (is_published r own.number) (has_no_room r.runs own) (place_of own r.runs) (given_run r own.number mark) refl refl there
 
-  changed_one : (new : Found Run → Found Run) (n : ℕ) → slice_get (change new n r.runs) (length r.runs) ≡ Some (key, entry) → IsMade r key entry
+  changed_one : (new : Found RunOf → Found RunOf) (n : ℕ) → slice_get (change new n r.runs) (length r.runs) ≡ Some (key, entry) → IsMade r key entry
   changed_one new n there = absurd (not_there _ (length_change new r.runs n) there)
 
-  put_made : (n : ℕ) (o : Option Run) (new : Run → Run) (told : Run → Told) (none : Told) → slice_get (option_map_or {T = Run} {U = Told × Registry Run} (λ run. (told run, with_run r n (new run))) o (none, r)).1.runs (length r.runs) ≡ Some (key, entry) → IsMade r key entry
+  put_made : (n : ℕ) (o : Option RunOf) (new : RunOf → RunOf) (told : RunOf → Told) (none : Told) → slice_get (option_map_or {T = RunOf} {U = Told × Registry RunOf} (λ run. (told run, put_run r n (new run))) o (none, r)).1.runs (length r.runs) ≡ Some (key, entry) → IsMade r key entry
   put_made n None new told none there = absurd (not_there r.runs refl there)
-  put_made n (Some run) new told none there = changed_one (λ (found : Found Run). record found { held = new run }) n there
+  put_made n (Some run) new told none there = changed_one (λ (found : Found RunOf). record found { held = new run }) n there
 
   made_by : (q : Question) (m : RunMark) → slice_get (answered r q m).1.runs (length r.runs) ≡ Some (key, entry) → IsMade r key entry
   made_by (Find state name) m there = made_by_find m (key_in state name) there
-  made_by (Enter now n user) m there = put_made n (held_at r.runs n) (λ run. (entered run user m).1) (λ run. Entered (entered run user m).0) (Entered (Err Foreign)) there
-  made_by (Ask now n pass call) m there = put_made n (held_at r.runs n) (λ run. (asked run now pass call (in_run m)).1) (λ run. Got (asked run now pass call (in_run m)).0) (Got (Denied S5)) there
+  made_by (Enter now n call) m there = put_made n (held_at r.runs n) (λ run. (attached run now call m).1) (λ run. Entered (attached run now call m).0) (Entered (Err Foreign)) there
+  made_by (Ask now n pass call) m there = put_made n (held_at r.runs n) (λ run. (called run now pass call (in_run m)).1) (λ run. Got (called run now pass call (in_run m)).0) (Got (Denied S5)) there
 
-made_front : (w : World) (conn : ℕ) (x : Step) (m : RunMark) (f : Front) (key : Key) (entry : Found Run) → slice_get (goes_from w conn x m f).1.registry.runs (length w.registry.runs) ≡ Some (key, entry) → IsMade w.registry key entry
+made_front : (w : World) (conn : ℕ) (x : Step) (m : RunMark) (f : Front) (key : Key) (entry : Found RunOf) → slice_get (goes_from w conn x m f).1.registry.runs (length w.registry.runs) ≡ Some (key, entry) → IsMade w.registry key entry
 made_front w conn x m (Done reply s) key entry there = absurd (not_there w.registry key entry w.registry.runs refl there)
 made_front w conn x m (Asks q) key entry there = made_by w.registry key entry q m there
 
-pub run_is_made : (w : World) (conn now : ℕ) (x : Step) (mark : Mark) (key : Key) (entry : Found Run) → slice_get (on_connection w conn now x mark).1.registry.runs (length w.registry.runs) ≡ Some (key, entry) → IsMade w.registry key entry
+pub run_is_made : (w : World) (conn now : ℕ) (x : Step) (mark : Mark) (key : Key) (entry : Found RunOf) → slice_get (on_connection w conn now x mark).1.registry.runs (length w.registry.runs) ≡ Some (key, entry) → IsMade w.registry key entry
 run_is_made w conn now x mark key entry =
     elim (nat_lt conn CONNECTIONS) as (λ b. slice_get (cond {A = Reply × World} b (goes_from w conn x (below mark) (front_by now (connection w conn) x (refuses_table mark))) (Connection (Error S5), w)).1.registry.runs (length w.registry.runs) ≡ Some (key, entry) → IsMade w.registry key entry) [
       | true ↦ λ there. made_front w conn x (below mark) (front_by now (connection w conn) x (refuses_table mark)) key entry there
       | false ↦ λ there. absurd (not_there w.registry key entry w.registry.runs refl there)
     ]
+
+-- ---- the run at a place, after it was put there
+
+pub put_other : (r : Registry RunOf) (n : ℕ) (new : RunOf) (place : ℕ) → place ≢ n → held_at (put_run r n new).runs place ≡ held_at r.runs place
+put_other r n new place other = ap (option_map (λ (run : Key × Found RunOf). run.1.held)) (change_other (λ (found : Found RunOf). record found { held = new }) r.runs n place other)
+
+put_by : (runs : Runs RunOf) (n : ℕ) (new run : RunOf) (o : Option (Key × Found RunOf)) → slice_get runs n ≡ o → option_map (λ (run : Key × Found RunOf). run.1.held) o ≡ Some run → held_at (change (λ (found : Found RunOf). record found { held = new }) n runs) n ≡ Some new
+put_by runs n new run None is there = absurd (cc)
+put_by runs n new run (Some e) is there = rw is (ap (option_map (λ (run : Key × Found RunOf). run.1.held)) (get_set_same runs n (e.0, record { finds = e.1.finds; held = new }) e is))
+
+pub put_same : (r : Registry RunOf) (n : ℕ) (new run : RunOf) → held_at r.runs n ≡ Some run → held_at (put_run r n new).runs n ≡ Some new
+put_same r n new run there = put_by r.runs n new run (slice_get r.runs n) refl there

@@ -1,6 +1,6 @@
 -- A step of a connection that was taken is the function's.
-use Rattle.std.proofs.Common.{◌≡◌, ◌∙◌, ℕ, Bool, true, false, ◌&&◌, List, Option, None, Some, is_some, Result, Ok, Err, refl, sym, ap}
-use Rattle.std.specs.Prelude.{nat_lt, slice_set}
+use Rattle.std.proofs.Common.{◌≡◌, ◌∙◌, ℕ, Bool, true, false, Option, None, Some, refl, ap}
+use Rattle.std.specs.Prelude.{nat_lt}
 use Rattle.cs_names.specs.declared.limits.TheConstants.{CONNECTIONS}
 use Rattle.cs_names.specs.declared.rule_id.RuleId.{RuleId}
 use Rattle.cs_journal.specs.Marks.{Ample}
@@ -10,15 +10,15 @@ use Rattle.cs_session.specs.declared.message.CallMessage.TheVariants as call
 use Rattle.cs_session.specs.declared.reply.Reply.{Reply as Said}
 use Rattle.cs_session.specs.Judgements.{judge}
 use Rattle.cs_session.specs.Marks as c
-use Rattle.cs_session.specs.Questions.{Question, Told}
+use Rattle.cs_session.specs.Questions.{Question}
 use Rattle.cs_session.specs.Sessions.{Sess}
-use Rattle.cs_session.specs.Steps.{Step, FindStep, AttachStep, CallStep, CloseStep, Table, Front, Done, Asks, Goes, IsTaken, after, front, front_by, fronted}
+use Rattle.cs_session.specs.Steps.{Step, FindStep, AttachStep, CallStep, CloseStep, Table, Front, Done, Asks, Goes, IsTaken, front, front_by, fronted}
 use Rattle.cs_world.specs.declared.reply.Reply.{Reply}
 use Rattle.cs_world.specs.declared.reply.Reply.TheVariants.{Connection}
-use Rattle.cs_world.specs.Asking.{IsGiven, answered}
-use Rattle.cs_world.specs.Marks.{Mark, RunMark, NoTable, Below, InRun, below, refuses_table}
-use Rattle.cs_world.specs.Runs.{Run}
-use Rattle.cs_world.specs.Steps.{goes_from, on_connection, replied, told}
+use Rattle.cs_world.specs.Asking.{IsGiven}
+use Rattle.cs_world.specs.Marks.{Mark, NoTable, Below, InRun, refuses_table}
+use Rattle.cs_journal.specs.Runs.{RunOf}
+use Rattle.cs_world.specs.Steps.{on_connection, replied, told}
 use Rattle.cs_world.specs.Worlds.{World, connection, with_both}
 
 -- ---- a step that asks where memory refuses a growth of its table asks the same where it refuses none
@@ -64,7 +64,7 @@ unfolding mark_of
 same_table c.NoTable = refl
 same_table (c.Below m) = refl
 
-module _ (w : World) (conn now : ℕ) (x : Step) (inside : nat_lt conn CONNECTIONS ≡ true) (reply : Said) (s' : Sess) (r' : Registry Run) where
+module _ (w : World) (conn now : ℕ) (x : Step) (inside : nat_lt conn CONNECTIONS ≡ true) (reply : Said) (s' : Sess) (r' : Registry RunOf) where
   abbrev IsIt : Type 0
   IsIt = (mark : Mark) × (◌≡◌ {A = Reply × World} (Connection reply, with_both w conn s' r') (on_connection w conn now x mark))
 

@@ -4,7 +4,6 @@ use Rattle.std.specs.List.{list_all}
 use Rattle.std.specs.Option.{option_map, option_map_or}
 use Rattle.cs_names.specs.declared.rule_id.RuleId.TheVariants.{S5}
 use Rattle.cs_names.specs.Legal.{is_run_name}
-use Rattle.cs_permit.specs.declared.call.Call.{Call}
 use Rattle.cs_permit.specs.TreeNames.{is_digit}
 use Rattle.cs_plan.specs.Scenes.{state_at}
 use Rattle.cs_registry.specs.declared.fault.FindFault.{FindFault}
@@ -22,7 +21,8 @@ use Rattle.cs_session.specs.declared.port.PassFault.TheVariants.{Foreign}
 use Rattle.cs_session.specs.Marks.{PortMark}
 use Rattle.cs_session.specs.Questions.{Question, Find, Enter, Ask, Told, Found, Entered, Got}
 use Rattle.cs_world.specs.Marks.{RunMark, in_run, refuses_run}
-use Rattle.cs_world.specs.Runs.{Run, asked, entered, new_run}
+use Rattle.cs_journal.specs.Runs.{RunOf, fresh_run}
+use Rattle.cs_world.specs.Runs.{attached, called}
 
 -- ---- find
 
@@ -39,8 +39,8 @@ abbrev pub key_in : List ℕ → List ℕ → Option Key
 key_in state name = if are_few_digits state && is_run_name name then Some (record { number = number_in state; name = name }) else None
 
 -- a new run of the state of a number, over its tree, if memory gives one
-abbrev pub given_run : Registry Run → ℕ → RunMark → Option Run
-given_run registry number mark = if refuses_run mark then None else option_map (λ tree. new_run tree registry.users) (state_at registry.scene number)
+abbrev pub given_run : Registry RunOf → ℕ → RunMark → Option RunOf
+given_run registry number mark = if refuses_run mark then None else option_map (λ tree. fresh_run tree registry.users) (state_at registry.scene number)
 
 abbrev pub fault_told : FindFault → NotFound
 fault_told Unpublished = f.Unpublished
@@ -51,32 +51,32 @@ abbrev pub place_told : Result ℕ FindFault → Told
 place_told (Ok place) = Found (Ok place)
 place_told (Err fault) = Found (Err (fault_told fault))
 
-abbrev pub find_told : Result ℕ FindFault × Registry Run → Told × Registry Run
+abbrev pub find_told : Result ℕ FindFault × Registry RunOf → Told × Registry RunOf
 find_told x = (place_told x.0, x.1)
 
-abbrev pub found_by : Registry Run → RunMark → Option Key → Told × Registry Run
+abbrev pub found_by : Registry RunOf → RunMark → Option Key → Told × Registry RunOf
 found_by registry mark None = (Found (Err f.Unpublished), registry)
 found_by registry mark (Some key) = find_told (found registry key (given_run registry key.number mark))
 
 -- ---- attach and call, on the run at a place
 
-abbrev pub with_run : Registry Run → ℕ → Run → Registry Run
-with_run registry place run = record registry { runs = with_held registry.runs place run }
+abbrev pub put_run : Registry RunOf → ℕ → RunOf → Registry RunOf
+put_run registry place run = record registry { runs = with_held registry.runs place run }
 
-abbrev pub enter_told : Registry Run → ℕ → Result (ℕ × Answer) PassFault × Run → Told × Registry Run
-enter_told registry place x = (Entered x.0, with_run registry place x.1)
+abbrev pub enter_told : Registry RunOf → ℕ → Result (ℕ × Answer) PassFault × RunOf → Told × Registry RunOf
+enter_told registry place x = (Entered x.0, put_run registry place x.1)
 
-abbrev pub call_told : Registry Run → ℕ → Answer × Run → Told × Registry Run
-call_told registry place x = (Got x.0, with_run registry place x.1)
+abbrev pub call_told : Registry RunOf → ℕ → Answer × RunOf → Told × Registry RunOf
+call_told registry place x = (Got x.0, put_run registry place x.1)
 
 -- the answer to a question where memory refuses that growth, and the registry then
-abbrev pub answered : Registry Run → Question → RunMark → Told × Registry Run
+abbrev pub answered : Registry RunOf → Question → RunMark → Told × Registry RunOf
 answered registry (Find state name) mark = found_by registry mark (key_in state name)
-answered registry (Enter now place user) mark =
-    option_map_or (λ run. enter_told registry place (entered run user mark)) (held_at registry.runs place) (Entered (Err Foreign), registry)
+answered registry (Enter now place call) mark =
+    option_map_or (λ run. enter_told registry place (attached run now call mark)) (held_at registry.runs place) (Entered (Err Foreign), registry)
 answered registry (Ask now place pass call) mark =
-    option_map_or (λ run. call_told registry place (asked run now pass call (in_run mark))) (held_at registry.runs place) (Got (Denied S5), registry)
+    option_map_or (λ run. call_told registry place (called run now pass call (in_run mark))) (held_at registry.runs place) (Got (Denied S5), registry)
 
 -- the answer is the definition's, with some growth refused
-abbrev pub IsGiven : Registry Run → PortMark → Question → Told → Registry Run → Type 0
+abbrev pub IsGiven : Registry RunOf → PortMark → Question → Told → Registry RunOf → Type 0
 IsGiven registry _ question told registry' = (mark : RunMark) × ((told, registry') ≡ answered registry question mark)

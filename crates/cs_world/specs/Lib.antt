@@ -1,9 +1,13 @@
 pub mod Marks
 pub mod Passes
 pub mod Runs
+pub mod Judged
 pub mod Asking
 pub mod Worlds
 pub mod Publishing
 pub mod Steps
 pub mod Turns
 pub mod Reaching
+pub mod Reached
+pub mod Lists
+pub mod Comes

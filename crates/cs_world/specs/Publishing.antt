@@ -6,10 +6,10 @@ use Rattle.cs_world.specs.declared.reply.Reply.{Reply}
 use Rattle.cs_world.specs.declared.reply.Reply.TheVariants.{Published, Unpublished}
 use Rattle.cs_world.specs.declared.reply.StateFault.TheVariants.{NoSuchState, Twice, Memory}
 use Rattle.cs_world.specs.Marks.{Mark, refuses_shelf, refuses_state}
-use Rattle.cs_world.specs.Runs.{Run}
+use Rattle.cs_journal.specs.Runs.{RunOf}
 
 -- the plan has to have the number; then the state is made; then it must not be published; then it is kept
-abbrev pub published : Registry Run → ℕ → Mark → Reply × Registry Run
+abbrev pub published : Registry RunOf → ℕ → Mark → Reply × Registry RunOf
 published registry number mark =
     if not (nat_lt number (length registry.scene.plan)) then (Unpublished NoSuchState, registry) else
     if refuses_state mark then (Unpublished Memory, registry) else

@@ -16,16 +16,16 @@ use Rattle.cs_world.specs.declared.step.Step.TheVariants.{Publish, Find, Attach,
 use Rattle.cs_world.specs.Asking.{answered}
 use Rattle.cs_world.specs.Marks.{Mark, RunMark, below, refuses_table}
 use Rattle.cs_world.specs.Publishing.{published}
-use Rattle.cs_world.specs.Runs.{Run}
+use Rattle.cs_journal.specs.Runs.{RunOf}
 use Rattle.cs_world.specs.Worlds.{World, connection, with_both}
 
 -- ---- a step of a connection
 
-abbrev pub replied : World → ℕ → Registry Run → Said × Sess → Reply × World
+abbrev pub replied : World → ℕ → Registry RunOf → Said × Sess → Reply × World
 replied w conn registry x = (Connection x.0, with_both w conn x.1 registry)
 
 -- the connection goes on from what it is told
-abbrev pub told : World → ℕ → c.Step → Told × Registry Run → Reply × World
+abbrev pub told : World → ℕ → c.Step → Told × Registry RunOf → Reply × World
 told w conn x answer = replied w conn answer.1 (after (connection w conn) x answer.0)
 
 -- it answers by itself, or asks the runs
@@ -41,7 +41,7 @@ on_connection w conn now x mark =
 
 -- ---- a step
 
-abbrev pub by_registry : World → Reply × Registry Run → Reply × World
+abbrev pub by_registry : World → Reply × Registry RunOf → Reply × World
 by_registry w x = (x.0, record w { registry = x.1 })
 
 -- a find and a change of the table have no moment

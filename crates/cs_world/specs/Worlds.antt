@@ -5,10 +5,10 @@ use Rattle.cs_plan.specs.Scenes.{Scene}
 use Rattle.cs_registry.specs.Registries.{Registry, empty}
 use Rattle.cs_session.specs.Sessions.{Sess, blank}
 use Rattle.cs_users.specs.Rows.{Row}
-use Rattle.cs_world.specs.Runs.{Run}
+use Rattle.cs_journal.specs.Runs.{RunOf}
 
 pub record World : Type 0 where
-  pub registry : Registry Run
+  pub registry : Registry RunOf
   pub connections : List Sess
 
 -- nothing is published, and no connection has a session
@@ -20,5 +20,5 @@ abbrev pub connection : World → ℕ → Sess
 connection w conn = slice_index_or w.connections conn (blank None)
 
 -- with that connection, and these runs
-abbrev pub with_both : World → ℕ → Sess → Registry Run → World
+abbrev pub with_both : World → ℕ → Sess → Registry RunOf → World
 with_both w conn s registry = record { registry = registry; connections = slice_set w.connections conn s }

@@ -1,16 +1,15 @@
 //! A run, with the passes that it gave.
-ghost use Rattle.std.specs.Prelude.{◌≡◌, ◌<◌, ◌≤◌, Err, IfErr, IfOk, Ok, length, string_bytes};
-ghost use Rattle.std.specs.Arc.{arc_value};
+ghost use Rattle.std.specs.Prelude.{◌≡◌};
 ghost use Rattle.cs_journal.specs.Marks.{StepMark};
 ghost use Rattle.cs_run.specs.Laws.{FitsCall};
 ghost use Rattle.cs_world.specs.Marks.{RunMark};
-ghost use Rattle.cs_world.specs.Runs.{asked, entered, new_run};
+ghost use Rattle.cs_world.specs.Runs.{attached, called};
 
-use cs_apm::Built;
 use cs_journal::{Pass, Run};
 use cs_names::RuleId;
 use cs_names::limits::RUN_ATTACHES;
 use cs_permit::{AttachCall, Call};
+use cs_plan::Built;
 use cs_registry::Held;
 use cs_run::Answer;
 use cs_session::PassFault;
@@ -19,8 +18,8 @@ use std::alloc::{AllocError, Global};
 use std::marker::Model;
 use std::sync::Arc;
 
-/// A run, with the passes that it gave, each at the place of its number. Contracts see the tree that the
-/// run began with, its state, and how many passes it gave.
+/// A run, with the passes that it gave, each at the place of its number. Contracts see the run, as its
+/// journal tells it.
 #[derive(Drop)]
 pub struct AttendedRun {
     run: Run<Built>,
@@ -28,15 +27,14 @@ pub struct AttendedRun {
 }
 
 impl Model for AttendedRun {
-    ghost use Rattle.cs_journal.specs.Runs.{state_of};
+    ghost use Rattle.cs_journal.specs.Runs.{RunOf, run_code};
     ghost use Rattle.cs_world.specs.Passes.{AreOf};
-    ghost use Rattle.cs_world.specs.Runs as model;
 
-    ghost Value = { model.Run };
+    ghost Value = { RunOf };
 
-    ghost coded = { model.run_code };
+    ghost coded = { run_code };
 
-    ghost view = { λ r. record { fresh = r.run.fresh; state = state_of r.run; passes = r.run.passes } };
+    ghost view = { λ r. r.run };
 
     ghost invariant = { λ r. AreOf r.run r.passes.items };
 }
@@ -44,11 +42,11 @@ impl Model for AttendedRun {
 impl Held for AttendedRun {
     ghost use Rattle.std.specs.Prelude.{◌≡◌};
     ghost use Rattle.cs_journal.specs.Bounds.{CanGrow};
-    ghost use Rattle.cs_world.specs.Runs.{new_run};
+    ghost use Rattle.cs_journal.specs.Runs.{fresh_run};
 
     ghost admits = { λ number tree. CanGrow tree };
 
-    ghost is_fresh = { λ number tree users run. run ≡ new_run tree users };
+    ghost is_fresh = { λ number tree users run. run ≡ fresh_run tree users };
 
     fn fresh(
         alloc: Global,
@@ -72,7 +70,7 @@ impl AttendedRun {
         now: u32,
         user: String,
     ) -> Result<(u32, Answer), PassFault>
-        ensures { (mark : RunMark) × ((result, self.new) ≡ entered self.old (string_bytes user) mark) }
+        ensures { (mark : RunMark) × ((result, self.new) ≡ attached self.old now (record { user = user }) mark) }
     {
         if self.passes.len() >= RUN_ATTACHES as usize {
             return Err(PassFault::Room);
@@ -92,7 +90,7 @@ impl AttendedRun {
 
     /// Does a call under the pass of that number, at that moment; S5 where it gave no such pass.
     pub(crate) fn call(&mut self, alloc: Global, now: u32, pass: u32, call: Call) -> Answer
-        ensures asked { (mark : StepMark) × ((result, self.new) ≡ asked self.old now pass call mark) }
+        ensures called { (mark : StepMark) × ((result, self.new) ≡ called self.old now pass call mark) }
         ensures fits { FitsCall call result }
     {
         let Some(pass) = self.passes.get_mut(pass as usize) else {

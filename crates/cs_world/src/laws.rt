@@ -1,45 +1,43 @@
 //! What the definitions of steps say, as laws. A call of a function here does nothing: its contract is
 //! the law.
-ghost use Rattle.std.specs.Prelude.{◌≡◌, ◌≢◌, ◌+◌, ◌<◌, ◌&&◌, ℕ, false, is_some, length, None, not, slice_get, Some, string_bytes, true};
-ghost use Rattle.cs_journal.specs.Calls.{ended, is_full};
-ghost use Rattle.cs_journal.specs.Journals.{RunState, seen, turn_in};
-ghost use Rattle.cs_journal.specs.Marks.{StepMark, call_mark, refuses_entry};
-ghost use Rattle.cs_names.specs.declared.rule_id.RuleId.{RuleId};
-ghost use Rattle.cs_names.specs.declared.rule_id.RuleId.TheVariants.{L1};
-ghost use Rattle.cs_permit.specs.Calls.{first};
-ghost use Rattle.cs_permit.specs.declared.call.AttachCall.{AttachCall};
+ghost use Rattle.std.specs.Prelude.{◌≡◌, ◌≢◌, ◌<◌, ℕ, Bool, length, List, slice_get, Some};
+ghost use Rattle.cs_journal.specs.Marks.{StepMark};
+ghost use Rattle.cs_journal.specs.Runs.{RunOf};
+ghost use Rattle.cs_names.specs.declared.limits.TheConstants.{CONNECTIONS};
 ghost use Rattle.cs_permit.specs.declared.call.Call.{Call};
-ghost use Rattle.cs_permit.specs.declared.call.Call.TheVariants as call;
+ghost use Rattle.cs_plan.specs.Scenes.{Scene};
 ghost use Rattle.cs_registry.specs.declared.found.Found.{Found};
 ghost use Rattle.cs_registry.specs.Keys.{Key};
+ghost use Rattle.cs_registry.specs.Registries.{Registry};
 ghost use Rattle.cs_registry.specs.Runs.{held_at};
-ghost use Rattle.cs_run.specs.declared.answer.Answer.TheVariants.{Denied, Short};
-ghost use Rattle.cs_run.specs.Effects.{effect_of};
-ghost use Rattle.cs_run.specs.Marks.{is_refused};
-ghost use Rattle.cs_run.specs.Outcomes.{takes_memory};
+ghost use Rattle.cs_session.specs.declared.message.Message.{Message};
+ghost use Rattle.cs_session.specs.declared.reply.Reply.{Reply as Said};
+ghost use Rattle.cs_session.specs.Messages.{IsAnswered};
+ghost use Rattle.cs_session.specs.Questions.{Question};
+ghost use Rattle.cs_session.specs.Receipts.{IsReplied, tag_in};
+ghost use Rattle.cs_session.specs.Sessions.{Sess};
 ghost use Rattle.cs_session.specs.Steps as c;
+ghost use Rattle.cs_users.specs.Rows.{Row};
+ghost use Rattle.cs_world.specs.declared.step.Step.{Step};
 ghost use Rattle.cs_world.specs.declared.step.Step.TheVariants.{Publish};
+ghost use Rattle.cs_wire.specs.Messages.{Message as Spelled, replies};
+ghost use Rattle.cs_world.specs.Asking.{IsGiven};
+ghost use Rattle.cs_world.specs.Comes.{Comes};
+ghost use Rattle.cs_world.specs.Judged.{IsJudged};
+ghost use Rattle.cs_world.specs.Lists.{IsTold, IsTurns, steps_of};
 ghost use Rattle.cs_world.specs.Marks.{Mark, refuses_table};
+ghost use Rattle.cs_world.specs.Reached.{CanBeAsked, IsReached};
 ghost use Rattle.cs_world.specs.Reaching.{IsMade, run_reached};
-ghost use Rattle.cs_world.specs.Runs.{Run, attached, called};
+ghost use Rattle.cs_world.specs.Runs.{run_step};
 ghost use Rattle.cs_world.specs.Steps.{on_connection, step_of};
-ghost use Rattle.cs_world.specs.Worlds.{World, connection};
+ghost use Rattle.cs_world.specs.Worlds.{World, connection, new_world, with_both};
 
-/// A call is L1 where its run's journal is full, and short where no memory is there for its entry; else
-/// it is denied by the first rule that fails on the run's tree, opens and users then, and changes no
-/// tree; and where none fails it is short of memory that it takes, and changes no tree, or it is
-/// granted, with the effect of its kind.
+/// A call on a run ends in one of five ways: L1 where its journal is full; want of memory for its entry,
+/// which isn't reserved; and with an entry, the last of the journal, under that pass and of that moment:
+/// denied by the first rule that fails on the run's tree, opens and users, or, where none fails, short of
+/// memory that it takes, or granted with the effect of its kind. Only a grant changes the tree.
 pub fn calls_are_judged()
-    ensures full { (s : RunState) (now pass : ℕ) (call : Call) (mark : StepMark) → is_full s pass call ≡ true → called s now pass call mark ≡ (Denied L1, s) }
-    ensures no_entry { (s : RunState) (now pass : ℕ) (call : Call) (mark : StepMark) → is_full s pass call ≡ false → (refuses_entry mark && not (is_some (ended s.opens pass call))) ≡ true → called s now pass call mark ≡ (Short, s) }
-    ensures denied { (s : RunState) (now pass : ℕ) (call : Call) (mark : StepMark) → is_full s pass call ≡ false → (refuses_entry mark && not (is_some (ended s.opens pass call))) ≡ false → (rule : RuleId) → first (seen s) call ≡ Some rule → ((called s now pass call mark).0 ≡ Denied rule) × ((called s now pass call mark).1.tree ≡ s.tree) }
-    ensures short { (s : RunState) (now pass : ℕ) (call : Call) (mark : StepMark) → is_full s pass call ≡ false → (refuses_entry mark && not (is_some (ended s.opens pass call))) ≡ false → first (seen s) call ≡ None → (is_refused (call_mark mark) && takes_memory (seen s) (turn_in s pass now) call) ≡ true → ((called s now pass call mark).0 ≡ Short) × ((called s now pass call mark).1.tree ≡ s.tree) }
-    ensures granted { (s : RunState) (now pass : ℕ) (call : Call) (mark : StepMark) → is_full s pass call ≡ false → (refuses_entry mark && not (is_some (ended s.opens pass call))) ≡ false → first (seen s) call ≡ None → (is_refused (call_mark mark) && takes_memory (seen s) (turn_in s pass now) call) ≡ false → ((called s now pass call mark).0 ≡ (effect_of (seen s) (turn_in s pass now) call).answer) × ((called s now pass call mark).1.tree ≡ (effect_of (seen s) (turn_in s pass now) call).tree) × ((called s now pass call mark).1.opens ≡ (effect_of (seen s) (turn_in s pass now) call).opens) }
-{}
-
-/// An attach is the run's call of that name, of a user of that name.
-pub fn attach_is_a_call()
-    ensures { (s : RunState) (now pass : ℕ) (c : AttachCall) (mark : StepMark) → called s now pass (call.Attach c) mark ≡ attached s (string_bytes c.user) mark }
+    ensures { (run : RunOf) (now pass : ℕ) (call : Call) (mark : StepMark) → IsJudged run now pass call (run_step run now pass call mark).0 (run_step run now pass call mark).1 }
 {}
 
 /// A step of a connection changes no run but the one that it reaches, and no other connection; a
@@ -53,5 +51,30 @@ pub fn only_what_is_reached_changes()
 /// A run that a step made is new, over the tree that is the state of its number, and that state is
 /// published.
 pub fn new_runs_are_states()
-    ensures { (w : World) (conn now : ℕ) (x : c.Step) (mark : Mark) (key : Key) (run : Found Run) → slice_get (on_connection w conn now x mark).1.registry.runs (length w.registry.runs) ≡ Some (key, run) → IsMade w.registry key run }
+    ensures { (w : World) (conn now : ℕ) (x : c.Step) (mark : Mark) (key : Key) (run : Found RunOf) → slice_get (on_connection w conn now x mark).1.registry.runs (length w.registry.runs) ≡ Some (key, run) → IsMade w.registry key run }
+{}
+
+/// A new world is reached, and each step leads from a reached world to a reached one. In a reached world a
+/// connection attaches to a run that is there and can give a pass, and calls on a run that is there, under
+/// a pass that it gave: so no attach that was found is A5 or S5, nor a call S5 for want of a run or a pass.
+pub fn reached_worlds()
+    ensures new { (scene : Scene) (users : List Row) → IsReached (new_world scene users) }
+    ensures step { (w : World) → IsReached w → (step : Step) (mark : Mark) → IsReached (step_of w step mark).1 }
+    ensures steps { (w : World) → IsReached w → (marked : List (Step × Mark)) → IsReached (steps_of w marked).1 }
+    ensures asked { (w : World) → IsReached w → (conn : ℕ) → conn < CONNECTIONS → (now : ℕ) (step : c.Step) (refused : Bool) (question : Question) → c.front_by now (connection w conn) step refused ≡ c.Asks question → CanBeAsked w.registry question }
+{}
+
+/// What a step of a connection comes to in a reached world: it is S5 where nobody has the number; the
+/// connection answers by itself, and no run changes; the registry finds a run; or the call, which an attach
+/// is too, is judged on its run under its pass, no other run changes, and the connection goes on from the
+/// answer.
+pub fn steps_are_judged()
+    ensures { (w : World) → IsReached w → (conn now : ℕ) (x : c.Step) (mark : Mark) → Comes w conn now x (refuses_table mark) (on_connection w conn now x mark).0 (on_connection w conn now x mark).1 }
+{}
+
+/// What a message is told, and a hang-up, is the reply of the last of some steps of the world, all of that
+/// connection at that moment, taken one after the other; or no step was taken.
+pub fn messages_are_steps()
+    ensures message { (w : World) (conn now : ℕ) → conn < CONNECTIONS → conn < length w.connections → (bytes : List ℕ) (told : Spelled replies) (s : Sess) (registry : Registry RunOf) → IsReplied IsGiven now bytes (connection w conn) w.registry told s registry → IsTold w conn now (tag_in bytes) told (with_both w conn s registry) }
+    ensures answered { (w : World) (conn now : ℕ) → conn < CONNECTIONS → conn < length w.connections → (message : Message) (reply : Said) (s : Sess) (registry : Registry RunOf) → IsAnswered IsGiven now message (connection w conn) w.registry reply s registry → IsTurns w conn now reply (with_both w conn s registry) }
 {}

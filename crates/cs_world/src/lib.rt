@@ -6,6 +6,7 @@ mod key;
 pub mod laws;
 mod message;
 mod reply;
+mod running;
 mod runs;
 mod step;
 mod taking;

@@ -12,6 +12,7 @@ ghost use Rattle.cs_session.specs.Sessions.{blank};
 ghost use Rattle.cs_session.specs.Sizes.{FitsWithin, room_of};
 ghost use Rattle.cs_wire.specs.Messages.{r_view};
 ghost use Rattle.cs_world.specs.Asking.{IsGiven};
+ghost use Rattle.cs_world.specs.Reached.{IsReached};
 ghost use Rattle.cs_world.specs.Worlds.{connection};
 
 use crate::world::World;
@@ -48,6 +49,7 @@ impl World {
         ensures replied { (connection self.old conn).pending ≡ None → IsReplied IsGiven now bytes.now (connection self.old conn) self.old.registry (r_view result) (connection self.new conn) self.new.registry }
         ensures out_of_turn { (connection self.old conn).pending ≢ None → (r_view result ≡ said (tag_in bytes.now) (r.Error S5)) × (self.new ≡ self.old) }
         ensures others { self.new.connections ≡ slice_set self.old.connections conn (connection self.new conn) }
+        ensures reached { IsReached self.old → IsReached self.new }
         ensures fits { FitsWithin (room_of (connection self.old conn).msize) (r_view result) }
     {
         let session = &mut self.sessions[conn as usize];
@@ -67,6 +69,7 @@ impl World {
         ensures ended { (connection self.old conn).pending ≡ None → connection self.new conn ≡ blank None }
         ensures out_of_turn { (connection self.old conn).pending ≢ None → (result ≡ r.Error S5) × (self.new ≡ self.old) }
         ensures others { self.new.connections ≡ slice_set self.old.connections conn (connection self.new conn) }
+        ensures reached { IsReached self.old → IsReached self.new }
     {
         let session = &mut self.sessions[conn as usize];
         if session.awaits() {

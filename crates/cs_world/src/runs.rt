@@ -22,13 +22,13 @@ pub struct Runs {
 }
 
 impl Model for Runs {
+    ghost use Rattle.cs_journal.specs.Runs.{RunOf, run_code};
     ghost use Rattle.cs_registry.specs.Registries.{Registry};
     ghost use Rattle.std.specs.Coded.{codes};
-    ghost use Rattle.cs_world.specs.Runs as model;
 
-    ghost Value = { Registry model.Run };
+    ghost Value = { Registry RunOf };
 
-    ghost coded = { Prim.hlevel (codes, model.run_code) };
+    ghost coded = { Prim.hlevel (codes, run_code) };
 
     ghost view = { λ r. r.states };
 }

@@ -143,20 +143,19 @@ fn read_f(alloc: Global, world: &mut World, conn: u32) -> Result<String, Fail> {
 #[test]
 fn two_users_attach_to_one_run(rt: HostRuntime) -> Result<(), Fail> {
     let mut world = ready(&rt, 2)?;
-    let found = find(rt.alloc(), 0, 0, "ann", "0/x")?;
-    assert_eq!(rt;
-        take(rt.alloc(), &mut world, found)?.as_str(),
-        "Connection(Found)"
-    );
-    let found = find(rt.alloc(), 1, 0, "bob", "0/x")?;
-    assert_eq!(rt;
-        take(rt.alloc(), &mut world, found)?.as_str(),
-        "Connection(Found)"
-    );
-    let first = take(rt.alloc(), &mut world, Step::Attach { conn: 0, now: 7 })?;
-    assert_eq!(rt; first.as_str(), ATTACHED);
-    let second = take(rt.alloc(), &mut world, Step::Attach { conn: 1, now: 8 })?;
-    assert_eq!(rt; second.as_str(), ATTACHED);
+    let ann = find(rt.alloc(), 0, 0, "ann", "0/x")?;
+    let bob = find(rt.alloc(), 1, 0, "bob", "0/x")?;
+    let first = Step::Attach { conn: 0, now: 7 };
+    let second = Step::Attach { conn: 1, now: 8 };
+    let steps = vec![in rt.alloc(); ann, bob, first, second]?;
+    let Ok(replies) = world.run(rt.alloc(), steps) else {
+        panic!(rt; "want of memory");
+    };
+    let said = format!(in rt.alloc(); "{replies:?}")?;
+    let both = format!(in rt.alloc();
+        "[Connection(Found), Connection(Found), {ATTACHED}, {ATTACHED}]"
+    )?;
+    assert_eq!(rt; said.as_str(), both.as_str());
     assert_eq!(rt; world.run_count(), 1);
     Ok(())
 }

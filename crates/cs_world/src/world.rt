@@ -5,6 +5,7 @@ ghost use Rattle.cs_names.specs.declared.limits.TheConstants.{CONNECTIONS};
 ghost use Rattle.cs_plan.specs.Scenes.{IsPlan, order_in};
 ghost use Rattle.cs_session.specs.Sessions.{blank};
 ghost use Rattle.cs_world.specs.Marks.{Mark};
+ghost use Rattle.cs_world.specs.Reached.{IsReached};
 ghost use Rattle.cs_world.specs.Steps.{IsStep, on_connection};
 ghost use Rattle.cs_world.specs.Turns.{step_in};
 ghost use Rattle.cs_world.specs.Worlds.{new_world};
@@ -36,7 +37,7 @@ impl Model for World {
     ghost use Rattle.cs_names.specs.declared.limits.TheConstants.{CONNECTIONS};
     ghost use Rattle.std.specs.Coded.{codes};
     ghost use Rattle.cs_session.specs.Sessions.{sess_code};
-    ghost use Rattle.cs_world.specs.Runs.{run_code};
+    ghost use Rattle.cs_journal.specs.Runs.{run_code};
     ghost use Rattle.cs_world.specs.Worlds as model;
 
     ghost Value = { model.World };
@@ -63,7 +64,8 @@ impl World {
     /// A world of a scene's states, of which none is published, whose runs have these users, and whose
     /// connections have no session.
     pub fn new(alloc: Global, scene: Arc<Scene>, users: Arc<Users>) -> Result<World, AllocError>
-        ensures { IfOk result (λ world. world ≡ new_world (arc_value scene) (arc_value users)) }
+        ensures new { IfOk result (λ world. world ≡ new_world (arc_value scene) (arc_value users)) }
+        ensures reached { IfOk result IsReached }
     {
         let states = States::new(alloc, scene, users)?;
         Ok(World {
@@ -92,6 +94,13 @@ impl World {
     /// Takes a step: one of the definition, with some growth refused or none. S5 where a connection
     /// can't take it now, or none has the number: nothing changes then.
     pub fn step(&mut self, alloc: Global, step: Step) -> Reply
+        ensures steps { IsStep self.old step result self.new }
+        ensures reached { IsReached self.old → IsReached self.new }
+    {
+        self.do_step(alloc, step)
+    }
+
+    fn do_step(&mut self, alloc: Global, step: Step) -> Reply
         ensures { IsStep self.old step result self.new }
     {
         let (conn, now, turn) = match step {

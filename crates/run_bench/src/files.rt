@@ -27,7 +27,7 @@ pub fn user(alloc: Global) -> Option<UserName> {
     UserName::read(alloc, b"ann").ok()
 }
 
-fn users(alloc: Global) -> Option<Users> {
+pub fn users(alloc: Global) -> Option<Users> {
     Users::read(alloc, b"1:ann::\n").ok()
 }
 
@@ -50,37 +50,30 @@ pub fn name(alloc: Global, number: u64) -> Option<Name> {
     Name::from_text(format!(in alloc; "file{number:05}").ok()?).ok()
 }
 
-/// The path of the names up to the last one.
-fn path(alloc: Global, names: &[Name]) -> Option<Path> {
-    let mut copies = Vec::new(alloc);
-    for name in names {
-        copies.push(name.try_clone().ok()?).ok()?;
-    }
-    Some(Path::from_names(copies))
-}
-
 fn root(alloc: Global) -> Option<Vec<(Path, Record)>> {
     let mut records = Vec::new(alloc);
     let root = record(alloc, 0, DMDIR | 0o755, Content::directory())?;
-    records
-        .push((Path::from_names(Vec::new(alloc)), root))
-        .ok()?;
+    records.push((Path::root(alloc), root)).ok()?;
     Some(records)
 }
 
 /// A root with a file of 1 MB, and directories in one another.
-fn tree(alloc: Global) -> Option<PlainTree> {
+pub fn tree(alloc: Global) -> Option<PlainTree> {
     let mut records = root(alloc)?;
     let bytes = Content::file(vec![in alloc; 7u8; FILE_LENGTH].ok()?);
     let file = record(alloc, FILE, 0o644, bytes)?;
     let mut names = Vec::new(alloc);
     names.push(name(alloc, 0)?).ok()?;
-    records.push((path(alloc, &names)?, file)).ok()?;
+    records
+        .push((Path::from_names(alloc, &names).ok()?, file))
+        .ok()?;
     names.clear();
     for depth in 1..DEPTH + 1 {
         names.push(name(alloc, depth)?).ok()?;
         let directory = record(alloc, FILE + depth, DMDIR | 0o755, Content::directory())?;
-        records.push((path(alloc, &names)?, directory)).ok()?;
+        records
+            .push((Path::from_names(alloc, &names).ok()?, directory))
+            .ok()?;
     }
     PlainTree::try_from_records(alloc, records).ok()
 }
@@ -93,15 +86,21 @@ pub fn files(alloc: Global) -> Option<Sides> {
     })
 }
 
-/// A run over a root with so many empty files.
-pub fn directory(alloc: Global, entries: u64) -> Option<CountedRun<PlainTree>> {
+/// A root with so many empty files.
+pub fn wide_tree(alloc: Global, entries: u64) -> Option<PlainTree> {
     let mut records = root(alloc)?;
     for number in 1..entries.checked_add(1)? {
         let file = record(alloc, number, 0o644, Content::file(Vec::new(alloc)))?;
         let mut names = Vec::new(alloc);
         names.push(name(alloc, number)?).ok()?;
-        records.push((Path::from_names(names), file)).ok()?;
+        records
+            .push((Path::from_names(alloc, &names).ok()?, file))
+            .ok()?;
     }
-    let tree = PlainTree::try_from_records(alloc, records).ok()?;
-    Some(CountedRun::new(alloc, tree, users(alloc)?))
+    PlainTree::try_from_records(alloc, records).ok()
+}
+
+/// A run over a root with so many empty files.
+pub fn directory(alloc: Global, entries: u64) -> Option<CountedRun<PlainTree>> {
+    Some(CountedRun::new(alloc, wide_tree(alloc, entries)?, users(alloc)?))
 }

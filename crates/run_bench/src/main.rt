@@ -5,11 +5,14 @@
 
 mod files;
 mod listing;
+mod side;
+mod steps;
 mod times;
 mod works;
 
 use crate::files::{directory, files};
 use crate::listing::list;
+use crate::steps::Kind;
 use crate::times::Times;
 use crate::works::{Read, Stat, Walk, Work, Write};
 use std::alloc::Global;
@@ -66,6 +69,9 @@ fn main(rt: HostRuntime) -> io::Result<()> {
     measure(&rt, "writes of 4 kB", Write::new(alloc), timed)?;
     measure(&rt, "walks of 1 name", Walk::new(alloc, 1), timed)?;
     measure(&rt, "walks of 16 names", Walk::new(alloc, 16), timed)?;
+    for kind in [Kind::Stats, Kind::Reads, Kind::Writes] {
+        steps::measure(&rt, kind, timed)?;
+    }
     listings(&rt, 1_000, timed)?;
     listings(&rt, 10_000, timed)
 }

@@ -4,21 +4,26 @@
 #![tactic(auto)]
 
 mod fold;
+mod keeping;
 mod making;
+mod memory;
 mod orders;
 mod plain;
 mod plans;
 mod record;
 mod traces;
 
+use crate::keeping::{keep_block_writes, keep_creats};
 use crate::making::{make_block_writes, make_creats};
 use crate::orders::order_renames;
 use crate::plans::plan_creats;
-use std::rt::Clock;
+use std::rt::{Clock, Files};
 use std::{env, io};
 
 /// How large the traces are.
 struct Sizes {
+    starts: u32,
+    start_bytes: u32,
     files: u32,
     writes: u64,
     bytes: u64,
@@ -26,6 +31,8 @@ struct Sizes {
 }
 
 const SMALL: Sizes = Sizes {
+    starts: 10,
+    start_bytes: 100,
     files: 18,
     writes: 16,
     bytes: 65_536,
@@ -33,6 +40,8 @@ const SMALL: Sizes = Sizes {
 };
 
 const LARGE: Sizes = Sizes {
+    starts: 1_000,
+    start_bytes: 10_000,
     files: 180,
     writes: 1_024,
     bytes: 1_048_576,
@@ -40,10 +49,16 @@ const LARGE: Sizes = Sizes {
 };
 
 /// Measures each, on traces of these sizes.
-fn measure(rt: &(impl Clock + Print + AllocGlobal), sizes: &Sizes, timed: bool) -> io::Result<()> {
+fn measure(
+    rt: &(impl Clock + Files + Print + AllocGlobal),
+    sizes: &Sizes,
+    timed: bool,
+) -> io::Result<()> {
     plan_creats(rt, sizes.files, timed)?;
     make_creats(rt, sizes.files, timed)?;
     make_block_writes(rt, sizes.writes, sizes.bytes, timed)?;
+    keep_creats(rt, sizes.starts, sizes.start_bytes, sizes.files, timed)?;
+    keep_block_writes(rt, sizes.writes, sizes.bytes, timed)?;
     order_renames(rt, sizes.moves, timed)
 }
 

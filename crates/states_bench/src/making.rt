@@ -22,7 +22,7 @@ fn make_one(alloc: Global, scene: &Arc<Scene>, number: u32) -> u64 {
 }
 
 /// How many records a state has by a plain fold.
-fn fold_one(alloc: Global, scene: &Scene, start: &Start<'_>, number: u32) -> Option<u64> {
+pub fn fold_one(alloc: Global, scene: &Scene, start: &Start<'_>, number: u32) -> Option<u64> {
     let recipe = scene.plan().recipe(number)?;
     let places = places_of(alloc, scene.order(), recipe)?;
     let state = start.state(alloc, scene.micros().ops(), &places)?;
@@ -108,7 +108,7 @@ fn print_times(rt: &impl Print, what: &str, made: &Made) -> io::Result<()> {
 }
 
 /// The scene of a trace, to be shared by its states.
-fn shared_scene(alloc: Global, trace: Option<Trace>, holes: bool) -> Option<Arc<Scene>> {
+pub fn shared_scene(alloc: Global, trace: Option<Trace>, holes: bool) -> Option<Arc<Scene>> {
     let scene = scene_of(alloc, trace?, holes)?;
     Arc::new(alloc, scene).ok()
 }

@@ -28,6 +28,35 @@ fn text_of_creats(alloc: Global, files: u32) -> Result<String, AllocError> {
     Ok(text)
 }
 
+/// A file of so many bytes that stands at the start.
+fn start_line(alloc: Global, file: u32, bytes: u32) -> Result<String, AllocError> {
+    let mut text = format!(in alloc;
+        "\n{{\"start\":\"file\",\"path\":\"/start{file:05}\",\"owner\":\"ann\",\"group\":\"staff\",\"mode\":\"644\",\"bytes\":\""
+    )?;
+    for _ in 0..bytes {
+        text.push_str("61")?;
+    }
+    text.push_str("\"}")?;
+    Ok(text)
+}
+
+fn text_over(alloc: Global, starts: u32, bytes: u32, files: u32) -> Result<String, AllocError> {
+    let mut text = String::from_str(alloc, HEADER)?;
+    for file in 0..starts {
+        text.push_str(start_line(alloc, file, bytes)?.as_str())?;
+    }
+    for file in 0..files {
+        text.push_str(creat_line(alloc, file)?.as_str())?;
+    }
+    Ok(text)
+}
+
+/// Files that are made in the root, beside some of so many bytes that stand there at the start.
+pub fn creats_over(alloc: Global, starts: u32, bytes: u32, files: u32) -> Option<Trace> {
+    let text = text_over(alloc, starts, bytes, files).ok()?;
+    read_trace(alloc, text.as_str()).ok()
+}
+
 /// Files that are made in the root.
 pub fn creats(alloc: Global, files: u32) -> Option<Trace> {
     let text = text_of_creats(alloc, files).ok()?;

@@ -30,9 +30,7 @@ fn root(alloc: Global, user: &UserName) -> Option<PlainTree> {
         content: Content::directory(),
     };
     let mut records = Vec::new(alloc);
-    records
-        .push((Path::from_names(Vec::new(alloc)), root))
-        .ok()?;
+    records.push((Path::root(alloc), root)).ok()?;
     PlainTree::try_from_records(alloc, records).ok()
 }
 

@@ -58,7 +58,7 @@ fn path(alloc: Global, name: Option<&[u8]>) -> Option<Path> {
     if let Some(name) = name {
         names.push(Name::read(alloc, name).ok()?).ok()?;
     }
-    Some(Path::from_names(names))
+    Path::from_names(alloc, &names).ok()
 }
 
 /// A root with a directory `d`, number 1, and a file `f` of 1 MB, number 2.

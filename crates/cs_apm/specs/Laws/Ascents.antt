@@ -1,5 +1,5 @@
 -- Ascending paths: what a search finds among them, and one more among them.
-use Rattle.std.proofs.Common.{◌≡◌, ℕ, zero, suc, ◌+◌, ◌<◌, ◌≤◌, false, List, [], ◌∷◌, length, get_or, sym, ap, ◌∙◌, ⊎_elim, arith}
+use Rattle.std.proofs.Common.{◌≡◌, ℕ, zero, suc, ◌+◌, ◌<◌, ◌≤◌, false, List, [], ◌∷◌, ◌⊎◌, inl, inr, length, get_or, sym, ap, ◌∙◌, ⊎_elim, arith}
 use Rattle.std.proofs.lemmas.Bool.{cases_lt, false≢true}
 use Rattle.std.proofs.lemmas.List.Sorted.{searchable_from_sorted}
 use Rattle.std.specs.Cmp.{tied_itself}
@@ -80,3 +80,18 @@ contained (r ∷ ps) (suc i) q p (suc k) low is = (let w = contained ps i q p k 
 
 pub contains_insert : (ps : List Path) (i : ℕ) (q p : Path) → Contains ps p → Contains (insert ps i q) p
 contains_insert ps i q p there = contained ps i q p there.0 there.1 there.2
+
+-- what is there after one more is that one, or was there
+inserted : (ps : List Path) (i : ℕ) (q p : Path) (k : ℕ) → k < length (insert ps i q) → get_or (insert ps i q) k p ≡ p → Contains ps p ⊎ (q ≡ p)
+inserted ps zero q p zero low is = inr is
+inserted ps zero q p (suc k) low is = inl (k, omega (arith, low), is)
+inserted [] (suc i) q p zero low is = inr is
+inserted [] (suc i) q p (suc k) low is = absurd (omega (arith, low))
+inserted (r ∷ ps) (suc i) q p zero low is = inl (0, omega arith, is)
+inserted (r ∷ ps) (suc i) q p (suc k) low is = ⊎_elim
+    (λ (w : Contains ps p). inl (let l = w.1 in (suc w.0, omega (arith, l), w.2)))
+    (λ (e : q ≡ p). inr e)
+    (inserted ps i q p k (omega (arith, low)) is)
+
+pub insert_contains : (ps : List Path) (i : ℕ) (q p : Path) → Contains (insert ps i q) p → Contains ps p ⊎ (q ≡ p)
+insert_contains ps i q p there = inserted ps i q p there.0 there.1 there.2

@@ -122,7 +122,7 @@ module _ (start : Paths) (ops : List MicroOp) (has : ℕ → Bool) (n : ℕ)
 -- ---- legal operations, one after the other
 
 module _ (ops : List MicroOp) where
-  legal_nested : (start : Paths) → AreNested start → ((k : ℕ) → k < length ops → IsLegalThere (nodes_of all start ops k) (op_at ops k)) → (k : ℕ) → k ≤ length ops → AreNested (nodes_of all start ops k)
+  pub legal_nested : (start : Paths) → AreNested start → ((k : ℕ) → k < length ops → IsLegalThere (nodes_of all start ops k) (op_at ops k)) → (k : ℕ) → k ≤ length ops → AreNested (nodes_of all start ops k)
   legal_nested start nested legal zero le = nested
   legal_nested start nested legal (suc k) le = nested_after (nodes_of all start ops k) (op_at ops k) (legal k (omega (arith, le))) (legal_nested start nested legal k (omega (arith, le)))
 

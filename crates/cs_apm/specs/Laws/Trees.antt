@@ -46,7 +46,7 @@ same_first : (start : Paths) (o : MicroOp) (ops : List MicroOp) (k : ℕ) → no
 same_first start o ops zero = refl
 same_first start o ops (suc k) = ap (λ w. paths_after w (op_at ops k)) (same_first start o ops k)
 
-legal_at : (start : Paths) (made : ℕ) (ops : List MicroOp) → AreLegal start made ops → (k : ℕ) → k < length ops → IsLegalThere (nodes_of all start ops k) (op_at ops k)
+pub legal_at : (start : Paths) (made : ℕ) (ops : List MicroOp) → AreLegal start made ops → (k : ℕ) → k < length ops → IsLegalThere (nodes_of all start ops k) (op_at ops k)
 legal_at start made [] h k lt = absurd (omega (arith, lt))
 legal_at start made (o ∷ ops) h zero lt = (made, h.0)
 legal_at start made (o ∷ ops) h (suc k) lt = subst (λ w. IsLegalThere w (op_at ops k)) (sym (same_first start o ops k)) (legal_at (paths_after start o) (made_after made o) ops h.1 k (omega (arith, lt)))

@@ -74,7 +74,7 @@ fn an_open_reserves_the_entry_of_its_close(rt: HostRuntime) -> Result<(), Fail> 
 fn every_call_makes_an_entry(rt: HostRuntime) -> Result<(), Fail> {
     let alloc = rt.alloc();
     let mut side = begin(alloc).ok_or("the run")?;
-    assert_eq!(rt; ask(alloc, &mut side, write(alloc, b"hi")), "written");
+    assert_eq!(rt; ask(alloc, &mut side, write(alloc, 0, b"hi")), "written");
     assert_eq!(rt; ask(alloc, &mut side, close(alloc, 7)), "closed");
     assert_eq!(rt; side.counts(), (5, 5, 1));
     assert_eq!(rt; ask(alloc, &mut side, open(alloc, 1)), "opened");
@@ -84,6 +84,49 @@ fn every_call_makes_an_entry(rt: HostRuntime) -> Result<(), Fail> {
     assert_eq!(rt; ask(alloc, &mut side, Some(stat())), "H2 file is gone");
     assert_eq!(rt; ask(alloc, &mut side, close(alloc, 2)), "closed");
     assert_eq!(rt; side.counts(), (9, 9, 0));
+    Ok(())
+}
+
+/// A run on which these calls were made.
+fn after(alloc: Global, calls: [Option<Call>; 3]) -> Option<Side> {
+    let mut side = Side::new(alloc)?;
+    for call in calls {
+        let _answer = side.step(alloc, call?);
+    }
+    Some(side)
+}
+
+/// Whether a pass under which the second calls were made fits a run on which the first were.
+fn fits(alloc: Global, made: [Option<Call>; 3], asked: [Option<Call>; 3]) -> Option<bool> {
+    let run = after(alloc, made)?;
+    let pass = after(alloc, asked)?;
+    Some(run.fits(&pass))
+}
+
+/// An attach, a stat, and a write of bytes at an offset.
+fn writes(alloc: Global, offset: u64, bytes: &[u8]) -> [Option<Call>; 3] {
+    [attach(alloc), Some(stat()), write(alloc, offset, bytes)]
+}
+
+/// An attach, a stat, and an open.
+fn opens(alloc: Global) -> [Option<Call>; 3] {
+    [attach(alloc), Some(stat()), open(alloc, 0)]
+}
+
+#[test]
+fn a_pass_fits_where_its_last_receipt_is_the_last_entry(rt: HostRuntime) -> Result<(), Fail> {
+    let alloc = rt.alloc();
+    let turned = [attach(alloc), write(alloc, 0, b"hi"), Some(stat())];
+    let last = fits(alloc, writes(alloc, 0, b"hi"), turned);
+    assert_eq!(rt; last, Some(false));
+    let place = fits(alloc, opens(alloc), writes(alloc, 0, b"hi"));
+    assert_eq!(rt; place, Some(false));
+    let offset = fits(alloc, writes(alloc, 0, b"hi"), writes(alloc, 1, b"hi"));
+    assert_eq!(rt; offset, Some(false));
+    let bytes = fits(alloc, writes(alloc, 0, b"hi"), writes(alloc, 0, b"ho"));
+    assert_eq!(rt; bytes, Some(true));
+    let own = fits(alloc, opens(alloc), opens(alloc));
+    assert_eq!(rt; own, Some(true));
     Ok(())
 }
 

@@ -36,9 +36,7 @@ fn record(alloc: Global, number: u64, mode: u32, content: Content) -> Option<Rec
 fn tree(alloc: Global) -> Option<PlainTree> {
     let mut records = Vec::new(alloc);
     let root = record(alloc, 0, DMDIR | 0o755, Content::directory())?;
-    records
-        .push((Path::from_names(Vec::new(alloc)), root))
-        .ok()?;
+    records.push((Path::root(alloc), root)).ok()?;
     let file = record(
         alloc,
         FILE,
@@ -47,7 +45,9 @@ fn tree(alloc: Global) -> Option<PlainTree> {
     )?;
     let mut names = Vec::new(alloc);
     names.push(Name::read(alloc, b"f").ok()?).ok()?;
-    records.push((Path::from_names(names), file)).ok()?;
+    records
+        .push((Path::from_names(alloc, &names).ok()?, file))
+        .ok()?;
     PlainTree::try_from_records(alloc, records).ok()
 }
 
@@ -94,6 +94,11 @@ impl Side {
         self.run.step(alloc, &mut self.pass, 1000, call)
     }
 
+    /// Whether the pass of the other side fits the run of this one.
+    pub fn fits(&self, other: &Side) -> bool {
+        self.run.fits(&other.pass)
+    }
+
     /// How many entries there are, receipts, and places for closes.
     pub fn counts(&self) -> (usize, usize, usize) {
         (
@@ -127,11 +132,11 @@ pub fn open(alloc: Global, mode: u8) -> Option<Call> {
     }))
 }
 
-pub fn write(alloc: Global, bytes: &[u8]) -> Option<Call> {
+pub fn write(alloc: Global, offset: u64, bytes: &[u8]) -> Option<Call> {
     Some(Call::Write(WriteCall {
         number: FILE,
         user: user(alloc)?,
-        offset: 0,
+        offset,
         bytes: Vec::from_slice(alloc, bytes).ok()?,
     }))
 }

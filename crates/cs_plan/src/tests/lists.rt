@@ -50,6 +50,7 @@ fn a_pick_that_lacks_what_it_needs_is_not_allowed(rt: HostRuntime) -> Result<(),
         (&[&[], &[0, 3], &[3, 0]], 2),
         (&[&[1, 1]], 0),
         (&[&[3], &[0, 1, 2, 3, 4], &[5]], 2),
+        (&[&[3], &[4], &[1, 1]], 1),
     ] {
         let fault = fault_of(&rt, &lines, false, picks)?;
         assert_eq!(rt; fault, Some(SceneFault::PickNotAllowed(wanted)));
@@ -169,8 +170,10 @@ fn a_plan_that_is_too_large_is_told_before_a_pick(rt: HostRuntime) -> Result<(),
 
 #[test]
 fn more_than_1024_micro_operations_make_no_scene(rt: HostRuntime) -> Result<(), Fail> {
+    let mut picks = empty_picks(&rt, 1)?;
+    picks.push(Places::of(vec![in rt.alloc(); 1_024]?))?;
     let trace = creats(&rt, 1_025)?;
-    let fault = Scene::of(rt.alloc(), trace, false, Vec::new(rt.alloc())).err();
+    let fault = Scene::of(rt.alloc(), trace, true, picks).err();
     assert_eq!(rt; fault, Some(SceneFault::TooMany));
     Ok(())
 }

@@ -1,8 +1,8 @@
 //! The states that are made, by their numbers.
 use crate::tests::scenes::{HEADER, fault_of, scene_of, whole_file};
 use crate::{MakeFault, Published, Scene, SceneFault};
-use cs_apm::Built;
 use cs_names::Path;
+use cs_state::Built;
 use cs_tree_model::{TreeRead, number_of_path};
 use std::process::Abort;
 use std::sync::Arc;
@@ -158,7 +158,10 @@ fn a_file_that_grows_is_cut_written_and_moved(rt: HostRuntime) -> Result<(), Fai
     grown.resize(4_097, 0)?;
     has_bytes(&rt, made(&rt, &scene, 1)?.store(), "/f", &grown)?;
     grown.truncate(4_095);
-    grown.extend_from_slice(b"HI")?;
+    grown.extend_from_slice(b"H\0")?;
+    has_bytes(&rt, made(&rt, &scene, 2)?.store(), "/f", &grown)?;
+    grown.truncate(4_096);
+    grown.push(b'I')?;
     has_bytes(&rt, made(&rt, &scene, 3)?.store(), "/f", &grown)?;
 
     for (number, path, wanted) in [

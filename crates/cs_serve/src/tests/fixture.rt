@@ -6,6 +6,7 @@ use cs_trace::read_trace;
 use cs_users::Users;
 use cs_world::World;
 use std::alloc::Global;
+use std::io::{self, ErrorKind, Write};
 use std::process::Abort;
 use std::test::Fail;
 
@@ -112,4 +113,30 @@ pub fn run(
     let mut err: Vec<u8> = Vec::new(alloc);
     let status = script_of(alloc, &inputs, &mut input, &mut out, &mut err);
     Ok((String::from_utf8(out)?, String::from_utf8(err)?, status))
+}
+
+/// A writer that takes some bytes, and whose writes fail from then on; its flushes too, where it doesn't
+/// flush.
+#[derive(Drop)]
+pub struct BrokenOutput {
+    pub left: usize,
+    pub flushes: bool,
+}
+
+impl Write for BrokenOutput {
+    fn write(&mut self, buf: &[u8]) -> io::Result<usize> {
+        let taken = buf.len().min(self.left);
+        if taken == 0 && !buf.is_empty() {
+            return Err(io::Error::from(ErrorKind::BrokenPipe));
+        }
+        self.left -= taken;
+        Ok(taken)
+    }
+
+    fn flush(&mut self) -> io::Result<()> {
+        if self.flushes {
+            return Ok(());
+        }
+        Err(io::Error::from(ErrorKind::BrokenPipe))
+    }
 }

@@ -1,5 +1,5 @@
 //! What `list` prints of traces.
-use crate::tests::fixture::HEADER;
+use crate::tests::fixture::{BrokenOutput, HEADER};
 use crate::{Inputs, list_of};
 use std::alloc::{AllocError, Global};
 use std::process::Abort;
@@ -201,4 +201,23 @@ fn lists_up_to_16_384_states(rt: HostRuntime) -> Result<(), Fail> {
     assert_eq!(rt; status, 0);
     let more = creats(rt.alloc(), 181)?;
     expect_fault(&rt, more.as_str(), true, "", "crashfs: plan too large\n")
+}
+
+#[test]
+fn tells_an_output_that_fails(rt: HostRuntime) -> Result<(), Fail> {
+    let inputs = Inputs {
+        users: &[],
+        trace: HEADER.as_bytes(),
+        picks: &[],
+        holes: false,
+        verbose: false,
+    };
+    for (left, flushes) in [(0, true), (10, true), (1_000, false)] {
+        let mut out = BrokenOutput { left, flushes };
+        let mut err: Vec<u8> = Vec::new(rt.alloc());
+        let status = list_of(rt.alloc(), &inputs, &mut out, &mut err);
+        assert_eq!(rt; err.as_slice(), b"crashfs: output failed\n".as_slice());
+        assert_eq!(rt; status, 1);
+    }
+    Ok(())
 }

@@ -1,7 +1,7 @@
 //! The command `script`: what it prints, and each of its faults.
-use crate::tests::fixture::{HEADER, TRACE, USERS, run};
+use crate::tests::fixture::{BrokenOutput, HEADER, TRACE, USERS, run};
 use crate::{Inputs, script_of};
-use std::io::{self, ErrorKind, Read, Write};
+use std::io::{self, ErrorKind, Read};
 use std::process::Abort;
 use std::test::Fail;
 
@@ -215,27 +215,6 @@ impl Read for BrokenInput {
     }
 }
 
-/// A writer that takes some bytes, and whose writes fail from then on.
-#[derive(Drop)]
-struct BrokenOutput {
-    left: usize,
-}
-
-impl Write for BrokenOutput {
-    fn write(&mut self, buf: &[u8]) -> io::Result<usize> {
-        let taken = buf.len().min(self.left);
-        if taken == 0 && !buf.is_empty() {
-            return Err(io::Error::from(ErrorKind::BrokenPipe));
-        }
-        self.left -= taken;
-        Ok(taken)
-    }
-
-    fn flush(&mut self) -> io::Result<()> {
-        Ok(())
-    }
-}
-
 #[test]
 fn tells_an_input_or_an_output_that_fails(rt: HostRuntime) -> Result<(), Fail> {
     let inputs = Inputs {
@@ -253,10 +232,38 @@ fn tells_an_input_or_an_output_that_fails(rt: HostRuntime) -> Result<(), Fail> {
     for left in [0, 5, 12] {
         let mut err: Vec<u8> = Vec::new(rt.alloc());
         let mut input = "0 0 hangup\n0 0 hangup\n".as_bytes();
-        let mut out = BrokenOutput { left };
+        let mut out = BrokenOutput {
+            left,
+            flushes: true,
+        };
         let status = script_of(rt.alloc(), &inputs, &mut input, &mut out, &mut err);
         assert_eq!(rt; err.as_slice(), b"crashfs: output failed\n".as_slice());
         assert_eq!(rt; status, 1);
+    }
+    Ok(())
+}
+
+#[test]
+fn tells_of_the_trace_and_then_the_picks_and_then_the_users(rt: HostRuntime) -> Result<(), Fail> {
+    let header = HEADER.as_bytes();
+    for (trace, picks, wanted) in [
+        (&b"{}"[..], &b"x"[..], "crashfs: trace line 1: Syntax\n"),
+        (header, b"[0]\nx", "crashfs: picks line 2: Syntax\n"),
+        (header, b"[0]", "crashfs: pick 0 not allowed\n"),
+        (header, b"[]", "crashfs: users line 1: FieldCount\n"),
+    ] {
+        let inputs = Inputs {
+            users: b"1:ann:",
+            trace,
+            picks,
+            holes: false,
+            verbose: false,
+        };
+        let mut out: Vec<u8> = Vec::new(rt.alloc());
+        let mut err: Vec<u8> = Vec::new(rt.alloc());
+        let status = script_of(rt.alloc(), &inputs, &mut BrokenInput, &mut out, &mut err);
+        assert_eq!(rt; String::from_utf8(err)?.as_str(), wanted);
+        assert!(rt; status == 1 && out.is_empty());
     }
     Ok(())
 }

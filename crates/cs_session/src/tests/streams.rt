@@ -38,6 +38,20 @@ impl Clock for Standing {
     }
 }
 
+/// A clock that goes on by a minute each time it is asked.
+#[derive(Drop)]
+struct Ticking {
+    moment: u32,
+}
+
+impl Clock for Ticking {
+    fn now(&mut self) -> u32 {
+        let now = self.moment;
+        self.moment = now.wrapping_add(60);
+        now
+    }
+}
+
 /// Gives its bytes in pieces of at most so many, after so many reads that are interrupted.
 #[derive(Drop)]
 struct Pieces<'a> {
@@ -61,19 +75,62 @@ impl Read for Pieces<'_> {
     }
 }
 
-/// A writer that takes so many bytes at a time.
+/// A writer that takes so many bytes at a time, after so many writes that are interrupted.
 #[derive(Drop)]
 struct Narrow {
     taken: Vec<u8>,
     most: usize,
+    interruptions: u32,
 }
 
 impl Write for Narrow {
     fn write(&mut self, buf: &[u8]) -> io::Result<usize> {
+        if self.interruptions > 0 {
+            self.interruptions -= 1;
+            return Err(Error::from(ErrorKind::Interrupted));
+        }
         let count = self.most.min(buf.len());
         let (front, _) = buf.split_at(count);
         match self.taken.extend_from_slice(front) {
             Ok(()) => Ok(count),
+            Err(_) => Err(Error::from(ErrorKind::OutOfMemory)),
+        }
+    }
+
+    fn flush(&mut self) -> io::Result<()> {
+        Ok(())
+    }
+}
+
+/// A client that sends each request once the reply to the one before was written, and then is gone.
+#[derive(Drop)]
+struct Client {
+    sent: usize,
+    replied: usize,
+    replies: Vec<u8>,
+}
+
+impl Read for Client {
+    fn read(&mut self, buf: &mut [u8]) -> io::Result<usize> {
+        let Some(request) = REQUESTS.get(self.sent) else {
+            return Err(Error::from(ErrorKind::ConnectionReset));
+        };
+        if self.replied != self.sent {
+            return Err(Error::from(ErrorKind::WouldBlock));
+        }
+        self.sent = self.sent.wrapping_add(1);
+        let count = request.len().min(buf.len());
+        let (front, _) = buf.split_at_mut(count);
+        front.copy_from_slice(&request[..count]);
+        Ok(count)
+    }
+}
+
+impl Write for Client {
+    fn write(&mut self, buf: &[u8]) -> io::Result<usize> {
+        self.replied = self.replied.wrapping_add(1);
+        match self.replies.extend_from_slice(buf) {
+            Ok(()) => Ok(buf.len()),
             Err(_) => Err(Error::from(ErrorKind::OutOfMemory)),
         }
     }
@@ -154,6 +211,52 @@ fn a_thousand_interruptions_in_a_row_are_too_many(rt: HostRuntime) -> Result<(),
         let (result, _) = served(rt.alloc(), pieces);
         assert_eq!(rt; result, expected);
     }
+    for (interruptions, expected) in [(999, Ok(())), (1_000, Err(ServeFault::WriteFault))] {
+        let narrow = Narrow {
+            taken: Vec::new(rt.alloc()),
+            most: 64,
+            interruptions,
+        };
+        let mut stream = TwoEnded::new(bytes.as_slice(), narrow);
+        let mut port = Fake::new(rt.alloc());
+        let result = serve_stream(rt.alloc(), &mut stream, &mut port, &mut Standing);
+        assert_eq!(rt; result, expected);
+    }
+    Ok(())
+}
+
+#[test]
+fn a_client_has_each_reply_before_it_sends_more(rt: HostRuntime) -> Result<(), Fail> {
+    let mut stream = Counted::new(Client {
+        sent: 0,
+        replied: 0,
+        replies: Vec::new(rt.alloc()),
+    });
+    let mut port = Fake::new(rt.alloc());
+    let result = serve_stream(rt.alloc(), &mut stream, &mut port, &mut Standing);
+    assert_eq!(rt; result, Err(ServeFault::ReadFault));
+    let counts = stream.counts();
+    assert_eq!(rt;
+        (counts.reads, counts.failed_reads, counts.writes),
+        (5, 1, 4)
+    );
+    assert_eq!(rt; stream.into_inner().replies.as_slice(), REPLIES);
+    Ok(())
+}
+
+#[test]
+fn each_message_is_answered_at_a_moment_of_its_own(rt: HostRuntime) -> Result<(), Fail> {
+    let mut bytes = Vec::new(rt.alloc());
+    for request in [REQUESTS[0], REQUESTS[1], REQUESTS[2]] {
+        bytes.extend_from_slice(request)?;
+    }
+    let mut stream = TwoEnded::new(bytes.as_slice(), Vec::new(rt.alloc()));
+    let mut port = Fake::new(rt.alloc());
+    let mut clock = Ticking { moment: 720 };
+    let result = serve_stream(rt.alloc(), &mut stream, &mut port, &mut clock);
+    assert_eq!(rt; result, Ok(()));
+    // A version asks nothing; the attach, the open, and the close at the hang-up.
+    assert_eq!(rt; port.moments.as_slice(), [780, 840, 900].as_slice());
     Ok(())
 }
 
@@ -164,6 +267,7 @@ fn writes_go_on_until_one_takes_no_byte(rt: HostRuntime) -> Result<(), Fail> {
         let narrow = Narrow {
             taken: Vec::new(rt.alloc()),
             most,
+            interruptions: 0,
         };
         let mut stream = TwoEnded::new(bytes.as_slice(), narrow);
         let mut port = Fake::new(rt.alloc());

@@ -20,7 +20,7 @@ fn numbers_are_found_by_path_and_paths_by_number(rt: HostRuntime) {
         let found = number_of_path(&tree, path.names());
         assert_eq!(&rt; found, Some(number), "walk to {text}");
         let name = tree.name_of(number).map(Name::as_str);
-        let last = path.names().last().map(Name::as_str);
+        let last = path.names().last();
         assert!(&rt; name == last, "name of {number}");
         let found = path_of(rt.alloc(), &tree, number).expect(&rt, "memory");
         assert!(&rt; found == Some(path), "path of {number}");
@@ -98,7 +98,9 @@ fn wide_tree(alloc: Global, files: u64) -> Option<PlainTree> {
         names.push(Name::read(alloc, name.as_bytes()).ok()?).ok()?;
         let file: Row = (number, "/f", b"ann", b"staff", 0o664, Some(b""));
         let (_, file) = record(alloc, &file)?;
-        records.push((Path::from_names(names), file)).ok()?;
+        records
+            .push((Path::from_names(alloc, &names).ok()?, file))
+            .ok()?;
     }
     PlainTree::try_from_records(alloc, records).ok()
 }

@@ -63,10 +63,13 @@ fn records_that_are_known_to_make_a_tree_are_taken(rt: HostRuntime) {
         muid: UserName::read(rt.alloc(), b"cat").expect(&rt, "a user's name"),
         content: Content::directory(),
     };
-    let path = Path::from_names(Vec::new(rt.alloc()));
+    let path = Path::root(rt.alloc());
     let mut records = Vec::new(rt.alloc());
     records.push((path, root)).expect(&rt, "memory");
     let tree = PlainTree::from_records(rt.alloc(), records).expect(&rt, "memory");
     assert_eq!(&rt; tree.count(), 1);
-    assert_eq!(&rt; number_of_path(&tree, &[]), Some(0));
+    assert_eq!(&rt;
+        number_of_path(&tree, Path::root(rt.alloc()).names()),
+        Some(0)
+    );
 }

@@ -1,7 +1,7 @@
 use Rattle.std.proofs.Common.{ap, ◌∙◌, subst, sym}
 use Rattle.std.specs.List.{Contains, insert}
 use Rattle.cs_apm.specs.Slots.{AreAscending}
-use Rattle.cs_apm.specs.Laws.Ascents.{ascending_between, contains_insert, found_there, searchable}
+use Rattle.cs_apm.specs.Laws.Ascents.{ascending_between, contains_insert, found_there, insert_contains, searchable}
 use Rattle.cs_apm.proofs.places.add_path.Goals as goal
 
 pub returns-in-Ok-clause-there : goal.returns-in-Ok-clause-there
@@ -20,3 +20,8 @@ pub returns-in_ok-insert-in-Err-clause-others : goal.returns-in_ok-insert-in-Err
 returns-in_ok-insert-in-Err-clause-others c = λ p there.
     subst (λ ps. Contains ps p) (sym (c.in_ok-insert-in-Err.ensures.items ∙ ap (insert c.args.paths.now.items c.in-Err.place) c.in_ok-try_clone-in-Err.ensures))
     (contains_insert c.args.paths.now.items c.in-Err.place c.args.path.now p there)
+
+pub returns-in_ok-insert-in-Err-clause-only : goal.returns-in_ok-insert-in-Err-clause-only
+returns-in_ok-insert-in-Err-clause-only c = λ p there.
+    insert_contains c.args.paths.now.items c.in-Err.place c.args.path.now p
+    (subst (λ ps. Contains ps p) (c.in_ok-insert-in-Err.ensures.items ∙ ap (insert c.args.paths.now.items c.in-Err.place) c.in_ok-try_clone-in-Err.ensures) there)

@@ -3,7 +3,7 @@ use Rattle.std.proofs.lemmas.Result.{err_from_is_err_and}
 use Rattle.cs_wire.specs.Held.{left, size_of, written}
 use Rattle.cs_session.specs.declared.stream.Transfer.TheVariants.{Bytes, Interrupted}
 use Rattle.cs_session.proofs.Known.{Consumes-keeps}
-use Rattle.cs_session.proofs.Counting.{keeps_faults_same, ends_up, reading_more, reading_kept}
+use Rattle.cs_session.proofs.Counting.{keeps_faults_same, no_end, one_end, reading_more, reading_kept}
 use Rattle.cs_session.proofs.Listening.{written-whole, size-written, size-taken, room_some, unfinished_none, listening_none, listening_same, listening_on, listening_more, conversed_part, conversed_whole}
 use Rattle.cs_session.proofs.serving.converse.Goals as goal
 
@@ -16,9 +16,10 @@ loop-init g c = record {
   idle = c.requires.idle;
   few = omega arith;
   waits = omega arith;
+  made = omega arith;
   reads = omega arith;
   failed = omega arith;
-  ends = omega arith;
+  ends = refl;
   faults = keeps_faults_same _;
 }
 
@@ -37,7 +38,7 @@ returns-in-Err-clause-cut g c =
     let was = c.loop.invariant in
     let said = rw c.in-Bytes-eq0.field-0-test at c.in-Bytes-eq0.ensures in
     let room = room_some c.loop.framer c.make_room.new.self c.make_room.ensures.left c.make_room.ensures.size c.make_room.ensures.room was.size was.unfinished in
-    λ _. rw said.counted (ends_up _ _ (length c.room.result.now) was.ends (omega (arith, room, ap length c.room.ensures.value)))
+    λ _. rw said.counted (one_end _ _ (length c.room.result.now) was.ends (omega (arith, room, ap length c.room.ensures.value)))
 
 pub returns-in_err-answer_all-in-Bytes-clause-conversed : goal.returns-in_err-answer_all-in-Bytes-clause-conversed
 returns-in_err-answer_all-in-Bytes-clause-conversed g c =
@@ -55,7 +56,7 @@ pub loop-preserved-in-Interrupted : goal.loop-preserved-in-Interrupted
 loop-preserved-in-Interrupted g c =
     let was = c.loop.invariant in
     let said = c.in-Interrupted.ensures in
-    let reading = reading_more c.loop.counter (g.S.Stream.counts c.args.stream.now) (g.S.Stream.counts c.loop.stream) Interrupted (length c.room.result.now) (g.S.Stream.counts c.read.new.self) (record { reads = was.reads; failed = was.failed; ends = was.ends; faults = was.faults }) said.counted in
+    let reading = reading_more c.loop.counter (g.S.Stream.counts c.args.stream.now) (g.S.Stream.counts c.loop.stream) Interrupted (length c.room.result.now) (g.S.Stream.counts c.read.new.self) (record { reads = was.reads; failed = was.failed; ends = was.ends; faults = was.faults }) said.counted refl in
     record {
       listening = rw c.make_room.ensures.left (listening_same g.P.Port.gives _ _ _ _ _ _ _ _ _ _ _ was.listening said.bytes said.contents);
       unfinished = rw c.make_room.ensures.left was.unfinished;
@@ -64,6 +65,7 @@ loop-preserved-in-Interrupted g c =
       idle = was.idle;
       few = omega arith;
       waits = rw said.counted (omega (arith, was.waits, was.few));
+      made = omega (arith, was.made);
       reads = reading.reads;
       failed = reading.failed;
       ends = reading.ends;
@@ -80,7 +82,7 @@ loop-preserved g c =
     let here : left c.took.new.self ≡ left c.loop.framer ++ take c.in-Bytes.count c.read.new.buf =
     c.took.ensures.left ∙ ap (λ (z : List ℕ). z ++ take c.in-Bytes.count (written c.make_room.new.self.room c.read.new.buf)) c.make_room.ensures.left ∙ ap (λ (z : List ℕ). left c.loop.framer ++ take c.in-Bytes.count z) full in
     let handled = rw here at answered.handled in
-    let more = reading_more c.loop.counter (g.S.Stream.counts c.args.stream.now) (g.S.Stream.counts c.loop.stream) (Bytes c.in-Bytes.count) (length c.room.result.now) (g.S.Stream.counts c.read.new.self) (record { reads = was.reads; failed = was.failed; ends = was.ends; faults = was.faults }) said.counted in
+    let more = reading_more c.loop.counter (g.S.Stream.counts c.args.stream.now) (g.S.Stream.counts c.loop.stream) (Bytes c.in-Bytes.count) (length c.room.result.now) (g.S.Stream.counts c.read.new.self) (record { reads = was.reads; failed = was.failed; ends = was.ends; faults = was.faults }) said.counted (no_end c.in-Bytes.count (length c.room.result.now) (g.S.Stream.counts c.loop.stream).ends (omega (arith, c.in-Bytes.count-test))) in
     let reading = reading_kept _ _ _ _ more answered.reads answered.faults in
     let size = answered.size ∙ ap size_of c.took.ensures.exact ∙ size-taken (record c.make_room.new.self { room = written c.make_room.new.self.room c.read.new.buf }) c.in-Bytes.count ∙ size-written c.make_room.new.self c.read.new.buf ∙ c.make_room.ensures.size in
     record {
@@ -91,6 +93,7 @@ loop-preserved g c =
       idle = answered.idle;
       few = omega arith;
       waits = omega arith;
+      made = omega arith;
       reads = reading.reads;
       failed = reading.failed;
       ends = reading.ends;

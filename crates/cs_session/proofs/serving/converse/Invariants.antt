@@ -18,8 +18,9 @@ invariant-loop g l =
       idle : l.session.pending ≡ None;
       few : l.waits < 1000;
       waits : l.waits ≤ is.interrupted_reads;
-      reads : up l.counter was.reads ≤ is.reads;
+      made : l.waits ≤ l.counter;
+      reads : is.reads ≡ up l.counter was.reads;
       failed : was.failed_reads ≤ is.failed_reads;
-      ends : was.ends ≤ is.ends;
+      ends : is.ends ≡ was.ends;
       faults : KeepsFaults was is;
     }

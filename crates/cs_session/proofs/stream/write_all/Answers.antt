@@ -12,6 +12,7 @@ loop-rest-preserved-in-Bytes g c =
       wrote = rw c.split_at.ensures.back (wrote_more _ _ _ _ _ _ was.wrote now.bytes.1);
       waits = omega arith;
       interrupted = omega arith;
+      writes = rw now.counted (omega (arith, was.writes));
       failed = rw now.counted was.failed;
       idle = rw now.counted (up_if _ _ _ was.idle);
       reads = keeps_reads_more _ _ _ (Bytes c.in-Bytes.count) (length c.loop-rest.rest.now) was.reads now.counted;

@@ -1,5 +1,5 @@
 use Rattle.std.proofs.Common.{◌≡◌, ◌≤◌, ◌<◌, length, ◌+◌, ◌-◌, ◌*◌}
-use Rattle.cs_session.specs.Streams.{KeepsReads}
+use Rattle.cs_session.specs.Streams.{KeepsReads, up}
 use Rattle.cs_session.proofs.Known.{Wrote}
 use Rattle.cs_session.proofs.stream.write_all.Given as goal
 
@@ -11,6 +11,7 @@ invariant-loop-rest g l =
       wrote : Wrote (g.S.Stream.contents l.fn.stream) (g.S.Stream.contents l.stream) l.bytes l.rest;
       waits : l.waits < 1000;
       interrupted : l.waits ≤ is.interrupted_writes;
+      writes : up l.waits was.writes ≤ is.writes;
       failed : was.failed_writes ≤ is.failed_writes;
       idle : was.idle_writes ≤ is.idle_writes;
       reads : KeepsReads was is;

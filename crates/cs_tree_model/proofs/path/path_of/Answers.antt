@@ -1,4 +1,5 @@
-use Rattle.std.proofs.Common.{◌≡◌, ◌++◌, Some, sym, ap, ◌∙◌, arith, reverse}
+use Rattle.std.proofs.Common.{◌≡◌, ◌≢◌, ◌++◌, [], Some, refl, sym, ap, subst, ◌∙◌, arith, reverse}
+use Rattle.std.specs.Option.{IsSomeAnd}
 use Rattle.std.proofs.lemmas.List.{append-nil}
 use Rattle.cs_tree_model.specs.Table.{path_of, node_in}
 use Rattle.cs_tree_model.specs.Laws.Paths.{path_of_root}
@@ -36,9 +37,17 @@ pub returns-clause-value : goal.returns-clause-value
 returns-clause-value g c =
     let nodes = node_in (g.T.TreeRead.tree c.args.tree.now) in
     let at_root : c.loop-at.at ≡ 0 = omega (arith, c.loop-at-test.false) in
-    ap Some (c.from_names.ensures ∙ c.reverse.ensures.items
+    ap Some (c.in_ok-from_names.ensures.value ∙ c.deref.ensures.value ∙ c.reverse.ensures.items
     ∙ sym (c.loop-at.invariant.path ∙ ap (λ k. path_of nodes k ++ reverse c.loop-at.names.items) at_root ∙ ap (λ p. p ++ reverse c.loop-at.names.items) (path_of_root nodes)))
-    ∙ some_path (g.T.TreeRead.tree c.args.tree.now) c.record.ensures.is_tree c.args.number (node_there (g.T.TreeRead.tree c.args.tree.now) c.record.ensures.is_tree c.args.number c.record.result c.record.ensures.value c.if-is_none.ensures)
+    ∙ some_path (g.T.TreeRead.tree c.args.tree.now) c.record.ensures.is_tree c.args.number c.loop-at.invariant.whole
+
+pub returns-in_err-from_names-clause-memory : goal.returns-in_err-from_names-clause-memory
+returns-in_err-from_names-clause-memory g c = λ _.
+    let nodes = node_in (g.T.TreeRead.tree c.args.tree.now) in
+    let at_root : c.loop-at.at ≡ 0 = omega (arith, c.loop-at-test.false) in
+    let names = c.loop-at.invariant.path ∙ ap (λ k. path_of nodes k ++ reverse c.loop-at.names.items) at_root ∙ ap (λ p. p ++ reverse c.loop-at.names.items) (path_of_root nodes) in
+    subst (λ o. IsSomeAnd o (λ p. p ≢ [])) (some_path (g.T.TreeRead.tree c.args.tree.now) c.record.ensures.is_tree c.args.number c.loop-at.invariant.whole)
+    (λ none. c.in_err-from_names.ensures.memory refl (c.deref.ensures.value ∙ c.reverse.ensures.items ∙ sym names ∙ none))
 
 pub returns-in_err-try_clone-clause-memory : goal.returns-in_err-try_clone-clause-memory
 returns-in_err-try_clone-clause-memory g c = λ _. has_names (g.T.TreeRead.tree c.args.tree.now) c.record.ensures.is_tree c.loop-at.at c.loop-at-test.true c.in-Some-parent_of.parent c.in-Some-parent_of.ensures

@@ -1,6 +1,4 @@
-use Rattle.std.proofs.Common.{◌≡◌, ◌∙◌, ℕ, ◌+◌, ◌*◌, ◌-◌, ◌<◌, ◌≤◌, ◌^◌, length, take, refl, sym, ap, arith, slice_index_or}
-use Rattle.std.proofs.lemmas.Grind.{common_steps}
-use Rattle.cs_world.specs.Asking.{number_in}
+use Rattle.std.proofs.Common.{◌∙◌, ◌+◌, ◌*◌, ◌-◌, ◌≤◌, ◌^◌, sym, ap, arith, slice_index_or}
 use Rattle.cs_world.proofs.Digits.{all_digits, digit_at, few, number-take, power_more, power_small}
 use Rattle.cs_world.proofs.key.number_in.Goals as goal
 

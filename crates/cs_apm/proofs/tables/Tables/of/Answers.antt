@@ -1,13 +1,16 @@
-use Rattle.std.proofs.Common.{◌≡◌, ◌+◌, ◌<◌, ◌++◌, map, length, get_or, sym, ap, ◌∙◌, subst, arith, length-append}
+use Rattle.std.proofs.Common.{◌≡◌, ◌+◌, ◌*◌, ◌<◌, ◌≤◌, ◌++◌, map, length, get_or, sym, ap, ◌∙◌, subst, arith, length-append}
 use Rattle.std.proofs.lemmas.List.{get_or_default, length-map}
+use Rattle.std.specs.List.{Contains}
 use Rattle.std.specs.Prelude.{slice_index_or}
+use Rattle.cs_tree_model.specs.Tree.{Path}
 use Rattle.cs_trace.specs.Traces.{start_paths}
 use Rattle.cs_micro.specs.Legal.{AreLegal}
-use Rattle.cs_apm.specs.Atlases.{AreChanged, FindsFiles, HasAllTouched, HasFirst, no_record}
+use Rattle.cs_apm.specs.Atlases.{AreChanged, FindsFiles, HasAllTouched, HasFirst, IsKnownPath, no_record}
 use Rattle.cs_apm.specs.Slots.{AreKnownSteps, AreSteps, HaveRights, Mirror, slot_at}
 use Rattle.cs_apm.specs.States.{owner_at, owners_made, owners_of, rights_of, start_entries}
 use Rattle.cs_apm.specs.Laws.Small.{small_steps}
 use Rattle.cs_apm.proofs.Assembling.{known_start, known_steps}
+use Rattle.cs_apm.proofs.Closing.{parent_there, root_there}
 use Rattle.cs_apm.proofs.Growing.{mirror_kept, more_rights}
 use Rattle.cs_apm.proofs.Starting.{are_starts, ascending_of, inside, start_owners}
 use Rattle.cs_apm.proofs.tables.Tables.of.Goals as goal
@@ -63,8 +66,15 @@ returns c =
     ∙ ap (λ os. os ++ owners_made m.ops) (start_owners t c.nodes-nodes.ensures.each sorted c.files.ensures.numbered c.files.ensures.found starts long finds) in
     let count : length t.files + length (owners_made m.ops) ≡ length owners =
     sym (ap length owners_are ∙ length-append (map (owner_at t.records) t.files) (owners_made m.ops) ∙ ap (λ n. n + length (owners_made m.ops)) (length-map t.files (owner_at t.records))) in
+    let nested = c.operations-operations.ensures.nested in
+    let touched : HasAllTouched paths m.ops (length m.ops) = subst (λ os. HasAllTouched paths os (length os)) ops c.in_ok-paths.ensures.touched in
+    let known : (p : Path) → Contains paths p → IsKnownPath t.records m.ops (length m.ops) p =
+    λ p there. subst (λ os. IsKnownPath t.records os (length os) p) ops (subst (λ es. IsKnownPath es c.ops-ops.result.now (length c.ops-ops.result.now) p) records (c.in_ok-paths.ensures.only p there)) in
     record {
       ascending = up;
+      few = subst (λ os. length paths ≤ length t.records + 2 * length os) ops (subst (λ es. length paths ≤ length es + 2 * length c.ops-ops.result.now) records c.in_ok-paths.ensures.few);
+      rooted = root_there t m.ops rights paths slots (length t.files) start nested legal touched;
+      closed = λ p there. parent_there t m.ops rights paths slots (length t.files) start nested legal touched sorted c.nodes-nodes.ensures.each p (known p there);
       long = slots_long;
       start = start;
       steps = steps_are;
@@ -73,7 +83,7 @@ returns c =
       owners = owners_are;
       starts = are_starts t c.nodes-nodes.ensures.each sorted c.files.ensures.numbered c.files.ensures.found starts long finds;
       changed = subst (λ n. AreChanged m.ops n c.in_ok-changed.changed.items) (c.len.ensures ∙ c.in_ok-owners.owners.ok.0 ∙ ap length owners_are) (subst (λ os. AreChanged os c.len.result c.in_ok-changed.changed.items) ops c.in_ok-changed.ensures);
-      nested = c.operations-operations.ensures.nested;
+      nested = nested;
       legal = legal;
       small = small_steps (start_paths t) (length m.starts) m.ops c.requires.legal;
     }

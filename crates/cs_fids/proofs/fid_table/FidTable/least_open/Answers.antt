@@ -1,12 +1,13 @@
-use Rattle.std.proofs.Common.{◌∙◌, ap}
-use Rattle.cs_fids.specs.Tables.{Fids, least_open}
-use Rattle.cs_fids.proofs.Leasts.{is_least, least_is_open}
+use Rattle.std.proofs.Common.{◌∙◌, ◌-◌, ap, length, slice_get}
+use Rattle.cs_fids.proofs.Leasts.{is_least, is_open_there}
 use Rattle.cs_fids.proofs.fid_table.FidTable.least_open.Goals as goal
 
 pub returns-clause-least : goal.returns-clause-least
-returns-clause-least c = rw (← c.self.view_is) (c.least_of.ensures ∙ is_least c.self.inside.fids.entries c.self.invariant.distinct)
+returns-clause-least c =
+    let last = c.copied.ensures ∙ c.last.ensures.value ∙ ap (λ xs. slice_get xs (length xs - 1)) c.deref.ensures.value in
+    rw (← c.self.view_is) (last ∙ is_least c.self.inside.table.fids c.self.inside.opens.items c.self.invariant.descending c.self.invariant.among)
 
 pub returns-clause-found : goal.returns-clause-found
 returns-clause-found c =
-    let least = c.least_of.ensures ∙ is_least c.self.inside.fids.entries c.self.invariant.distinct ∙ ap (λ (t : Fids). least_open t.fids) c.self.view_is in
-    rw least (least_is_open c.args.self.now)
+    let last = c.copied.ensures ∙ c.last.ensures.value ∙ ap (λ xs. slice_get xs (length xs - 1)) c.deref.ensures.value in
+    rw (last, ← c.self.view_is) (is_open_there c.self.inside.table.fids c.self.inside.opens.items c.self.invariant.descending c.self.invariant.among)

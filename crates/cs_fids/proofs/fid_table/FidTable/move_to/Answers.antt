@@ -1,33 +1,27 @@
-use Rattle.std.proofs.Common.{◌∙◌, ap, refl, None, Some}
-use Rattle.std.specs.FinMap.{insert}
-use Rattle.indexmap.specs.IndexMap.{spare}
-use Rattle.cs_fids.specs.Tables.{walked_in}
-use Rattle.cs_fids.proofs.Changes.{now_at, stays, was_at}
-use Rattle.cs_fids.proofs.Maps.{found_at}
-use Rattle.cs_fids.proofs.Results.{if_ok, on_err}
+use Rattle.std.proofs.Common.{◌≡◌, ◌-◌, ap, arith, min, refl, sym, vec_capacity}
+use Rattle.std.specs.FinMap.{get, len}
+use Rattle.cs_fids.specs.Fids.{moved_to}
+use Rattle.cs_fids.specs.Tables.{Fids, walked_in}
+use Rattle.cs_fids.specs.declared.entry.Entry.TheVariants.{Walked}
+use Rattle.cs_fids.proofs.Keeping.{InPlace, found_or_left, in_place, left_alone, was_walked}
 use Rattle.cs_fids.proofs.fid_table.FidTable.move_to.Goals as goal
 
-pub returns-in_default-clause-faults : goal.returns-in_default-clause-faults
-returns-in_default-clause-faults c =
-    let none = found_at c.self.inside.fids.entries (spare c.self.inside.fids) c.args.self.now c.args.fid None c.self.view_is c.in_default.ensures.value in
-    rw none refl
+kept : (c : goal.After-move_to) → InPlace c.self.inside.table.fids c.move_to.new.self.fids c.self.inside.opens.items (vec_capacity c.self.inside.opens)
+kept c =
+    let old = c.self.inside.table.fids in
+    let new = c.move_to.new.self.fids in
+    let numbers = c.self.inside.opens.items in
+    let capacity = vec_capacity c.self.inside.opens in
+    found_or_left c.move_to.result (walked_in (get old c.args.fid)) _ _ (InPlace old new numbers capacity) c.move_to.ensures.faults c.move_to.ensures.fids c.move_to.ensures.unchanged
+    (λ w found inserts. in_place old numbers capacity c.self.invariant c.args.fid new (Walked w) (Walked (moved_to w c.args.number)) (was_walked (get old c.args.fid) w found) refl inserts)
+    (λ left. left_alone old numbers capacity c.self.invariant c.args.fid new (ap (λ (t : Fids). t.fids) left))
 
-pub returns-in_default-clause-fids : goal.returns-in_default-clause-fids
-returns-in_default-clause-fids c =
-    let none = found_at c.self.inside.fids.entries (spare c.self.inside.fids) c.args.self.now c.args.fid None c.self.view_is c.in_default.ensures.value in
-    rw none tt
+pub invariant_of-self : goal.invariant_of-self
+invariant_of-self c = (kept c).are
 
-pub returns-clause-faults : goal.returns-clause-faults
-returns-clause-faults c =
-    let there = was_at c.self.inside.fids c.args.self.now c.args.fid c.in-Some.slot.now c.self.view_is c.in-Some.ensures.value in
-    rw there c.move_to.ensures.faults
-
-pub returns-clause-fids : goal.returns-clause-fids
-returns-clause-fids c =
-    let there = was_at c.self.inside.fids c.args.self.now c.args.fid c.in-Some.slot.now c.self.view_is c.in-Some.ensures.value in
-    let after = now_at c.self.inside.fids c.args.self.now c.args.fid c.in-Some.slot.now c.self.view_is c.in-Some.ensures.value c.move_to.new.self _ (c.get_mut.follows.holds c.move_to.new.self) in
-    rw there (if_ok (walked_in (Some c.in-Some.slot.now)) _ _ (λ x e. after ∙ ap (insert c.args.self.now.fids c.args.fid) e) c.move_to.ensures.entry)
-
-pub returns-clause-unchanged : goal.returns-clause-unchanged
-returns-clause-unchanged c =
-    on_err c.move_to.result _ _ (stays c.self.inside.fids c.args.self.now c.args.fid c.in-Some.slot.now c.self.view_is c.in-Some.ensures.value c.move_to.new.self _ (c.get_mut.follows.holds c.move_to.new.self)) c.move_to.ensures.unchanged
+pub returns-clause-room : goal.returns-clause-room
+returns-clause-room c =
+    let was : c.args.self.now.room ≡ min c.self.inside.table.room (vec_capacity c.self.inside.opens - len c.self.inside.table.fids) = ap (λ (t : Fids). t.room) (sym c.self.view_is) in
+    let same : c.move_to.new.self.room ≡ c.self.inside.table.room = c.move_to.ensures.room in
+    let long : len c.move_to.new.self.fids ≡ len c.self.inside.table.fids = (kept c).long in
+    omega arith

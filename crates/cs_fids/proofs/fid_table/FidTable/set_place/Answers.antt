@@ -1,33 +1,27 @@
-use Rattle.std.proofs.Common.{◌∙◌, ap, refl, None, Some}
-use Rattle.std.specs.FinMap.{insert}
-use Rattle.indexmap.specs.IndexMap.{spare}
-use Rattle.cs_fids.specs.Tables.{opened_in}
-use Rattle.cs_fids.proofs.Changes.{now_at, stays, was_at}
-use Rattle.cs_fids.proofs.Maps.{found_at}
-use Rattle.cs_fids.proofs.Results.{if_ok, on_err}
+use Rattle.std.proofs.Common.{◌≡◌, ◌-◌, ap, arith, min, refl, sym, vec_capacity}
+use Rattle.std.specs.FinMap.{get, len}
+use Rattle.cs_fids.specs.Fids.{with_place}
+use Rattle.cs_fids.specs.Tables.{Fids, opened_in}
+use Rattle.cs_fids.specs.declared.entry.Entry.TheVariants.{Opened}
+use Rattle.cs_fids.proofs.Keeping.{InPlace, found_or_left, in_place, left_alone, was_opened}
 use Rattle.cs_fids.proofs.fid_table.FidTable.set_place.Goals as goal
 
-pub returns-in_default-clause-faults : goal.returns-in_default-clause-faults
-returns-in_default-clause-faults c =
-    let none = found_at c.self.inside.fids.entries (spare c.self.inside.fids) c.args.self.now c.args.fid None c.self.view_is c.in_default.ensures.value in
-    rw none refl
+kept : (c : goal.After-set_place) → InPlace c.self.inside.table.fids c.set_place.new.self.fids c.self.inside.opens.items (vec_capacity c.self.inside.opens)
+kept c =
+    let old = c.self.inside.table.fids in
+    let new = c.set_place.new.self.fids in
+    let numbers = c.self.inside.opens.items in
+    let capacity = vec_capacity c.self.inside.opens in
+    found_or_left c.set_place.result (opened_in (get old c.args.fid)) _ _ (InPlace old new numbers capacity) c.set_place.ensures.faults c.set_place.ensures.fids c.set_place.ensures.unchanged
+    (λ f found inserts. in_place old numbers capacity c.self.invariant c.args.fid new (Opened f) (Opened (with_place f c.args.place)) (was_opened (get old c.args.fid) f found) refl inserts)
+    (λ left. left_alone old numbers capacity c.self.invariant c.args.fid new (ap (λ (t : Fids). t.fids) left))
 
-pub returns-in_default-clause-fids : goal.returns-in_default-clause-fids
-returns-in_default-clause-fids c =
-    let none = found_at c.self.inside.fids.entries (spare c.self.inside.fids) c.args.self.now c.args.fid None c.self.view_is c.in_default.ensures.value in
-    rw none tt
+pub invariant_of-self : goal.invariant_of-self
+invariant_of-self c = (kept c).are
 
-pub returns-clause-faults : goal.returns-clause-faults
-returns-clause-faults c =
-    let there = was_at c.self.inside.fids c.args.self.now c.args.fid c.in-Some.slot.now c.self.view_is c.in-Some.ensures.value in
-    rw there c.set_place.ensures.faults
-
-pub returns-clause-fids : goal.returns-clause-fids
-returns-clause-fids c =
-    let there = was_at c.self.inside.fids c.args.self.now c.args.fid c.in-Some.slot.now c.self.view_is c.in-Some.ensures.value in
-    let after = now_at c.self.inside.fids c.args.self.now c.args.fid c.in-Some.slot.now c.self.view_is c.in-Some.ensures.value c.set_place.new.self _ (c.get_mut.follows.holds c.set_place.new.self) in
-    rw there (if_ok (opened_in (Some c.in-Some.slot.now)) _ _ (λ x e. after ∙ ap (insert c.args.self.now.fids c.args.fid) e) c.set_place.ensures.entry)
-
-pub returns-clause-unchanged : goal.returns-clause-unchanged
-returns-clause-unchanged c =
-    on_err c.set_place.result _ _ (stays c.self.inside.fids c.args.self.now c.args.fid c.in-Some.slot.now c.self.view_is c.in-Some.ensures.value c.set_place.new.self _ (c.get_mut.follows.holds c.set_place.new.self)) c.set_place.ensures.unchanged
+pub returns-clause-room : goal.returns-clause-room
+returns-clause-room c =
+    let was : c.args.self.now.room ≡ min c.self.inside.table.room (vec_capacity c.self.inside.opens - len c.self.inside.table.fids) = ap (λ (t : Fids). t.room) (sym c.self.view_is) in
+    let same : c.set_place.new.self.room ≡ c.self.inside.table.room = c.set_place.ensures.room in
+    let long : len c.set_place.new.self.fids ≡ len c.self.inside.table.fids = (kept c).long in
+    omega arith

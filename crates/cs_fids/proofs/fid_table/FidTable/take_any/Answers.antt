@@ -1,18 +1,35 @@
-use Rattle.std.proofs.Common.{◌∙◌, ap, sym, Ok, not, true≢false}
-use Rattle.std.specs.Option.{ok_or}
-use Rattle.indexmap.specs.IndexMap.{spare}
-use Rattle.cs_fids.specs.declared.fault.FidFault.TheVariants.{Unknown}
-use Rattle.cs_fids.proofs.Maps.{found_at, get_is, taken}
-use Rattle.cs_fids.proofs.Results.{none_lent}
+use Rattle.std.proofs.Common.{◌≡◌, ◌∙◌, ◌-◌, ◌≤◌, ap, arith, min, sym, vec_capacity}
+use Rattle.std.specs.FinMap.{get, len}
+use Rattle.cs_fids.specs.Opens.{is_open_in}
+use Rattle.cs_fids.specs.Tables.{Fids}
+use Rattle.cs_fids.proofs.Keeping.{len_taken, lent_alike, was_taken, without_open, without_walked}
 use Rattle.cs_fids.proofs.fid_table.FidTable.take_any.Goals as goal
+use Rattle.cs_fids.proofs.fid_table.FidTable.take_any.Goals.{then-is_some, else-is_some}
 
-pub unreachable-requires : goal.unreachable-requires
-unreachable-requires c =
-    let none = found_at c.self.inside.fids.entries (spare c.self.inside.fids) c.args.self.now c.args.fid _ c.self.view_is c.in-None.ensures.value in
-    absurd (true≢false (sym (c.is_none.ensures ∙ ap not c.if-is_none.false) ∙ none_lent c.look.result (c.look.ensures.value ∙ none)))
+pub take_out-requires-clause-there : goal.take_out-requires-clause-there
+take_out-requires-clause-there c =
+    let was = was_taken (get c.self.inside.table.fids c.args.fid) c.in_ok-entry.entry c.in_ok-entry.ensures.value in
+    let is = sym (lent_alike c.in_ok-entry.entry c.as_opened.result c.as_opened.ensures) ∙ sym c.if-is_some.ensures in
+    c.self.invariant.among c.args.fid ∙ ap is_open_in was ∙ is
 
-pub returns-clause-value : goal.returns-clause-value
-returns-clause-value c = rw (← c.self.view_is) (ap Ok c.into_entry.ensures ∙ ap (λ found. ok_or found Unknown) (c.in-Some.ensures.value ∙ sym (get_is c.args.fid c.self.inside.fids.entries)))
+pub invariant_of-self-then-is_some : goal.invariant_of-self-then-is_some
+invariant_of-self-then-is_some c =
+    without_open c.self.inside.table.fids c.self.inside.opens.items (vec_capacity c.self.inside.opens) c.self.invariant c.args.fid c.take_any.new.self.fids c.in_ok-entry.ensures.fids c.take_out.new.opens.items (vec_capacity c.take_out.new.opens) c.take_out.ensures.among c.take_out.ensures.descending c.take_out.ensures.capacity
 
-pub returns-clause-fids : goal.returns-clause-fids
-returns-clause-fids c = rw (← c.self.view_is) (taken c.args.fid c.self.inside.fids.entries c.swap_remove.new.self.entries c.in-Some.ensures.updates.0)
+pub invariant_of-self-else-is_some : goal.invariant_of-self-else-is_some
+invariant_of-self-else-is_some c =
+    let was = was_taken (get c.self.inside.table.fids c.args.fid) c.in_ok-entry.entry c.in_ok-entry.ensures.value in
+    let is = sym (lent_alike c.in_ok-entry.entry c.as_opened.result c.as_opened.ensures) ∙ sym c.if-is_some.ensures in
+    without_walked c.self.inside.table.fids c.self.inside.opens.items (vec_capacity c.self.inside.opens) c.self.invariant c.args.fid c.take_any.new.self.fids c.in_ok-entry.ensures.fids (ap is_open_in was ∙ is)
+
+pub returns-clause-room : goal.returns-clause-room
+returns-clause-room c =
+    let old = c.self.inside.table.fids in
+    let new = c.take_any.new.self.fids in
+    let was : c.args.self.now.room ≡ min c.self.inside.table.room (vec_capacity c.self.inside.opens - len old) = ap (λ (t : Fids). t.room) (sym c.self.view_is) in
+    let fewer : len new ≤ len old = rw c.in_ok-entry.ensures.fids (len_taken old c.args.fid) in
+    let room : c.self.inside.table.room ≤ c.take_any.new.self.room = c.in_ok-entry.ensures.room in
+    elim c.if-is_some.branch [
+      | then-is_some w ↦ (let now : c.if-is_some.self.room ≡ min c.take_any.new.self.room (vec_capacity w.take_out.new.opens - len new) = ap (λ (t : Fids). t.room) w.self-is in let same : vec_capacity w.take_out.new.opens ≡ vec_capacity c.self.inside.opens = w.take_out.ensures.capacity in omega arith)
+      | else-is_some w ↦ (let now : c.if-is_some.self.room ≡ min c.take_any.new.self.room (vec_capacity c.self.inside.opens - len new) = ap (λ (t : Fids). t.room) w.self-is in omega arith)
+    ]

@@ -38,6 +38,13 @@ act-outcome-requires-clause-above g c =
 pub enter-requires-clause-entry_room : goal.enter-requires-clause-entry_room
 enter-requires-clause-entry_room g c = omega (arith, c.charge_of-charge.ensures.value, c.in-Some.ensures.journal_room.1 refl, some_room c.self.inside.opens.items c.pass.inside.number c.args.call)
 
+pub make_ready-requires : goal.make_ready-requires
+make_ready-requires g c =
+    let i = c.self.inside in
+    let f = inside _ c.args.self.now _ c.args.pass.now c.self.view_is c.pass.view_is c.requires.fits in
+    let here = reserved_here _ i.tree _ i.opens.items i.journal.items i.passes.items c.self.invariant.0 (record { number = c.pass.inside.number; receipts = c.pass.inside.receipts.items; reserved = c.pass.inside.reserved }) f in
+    omega (arith, c.charge_of-charge.ensures.value, here, some_own_room i.opens.items c.pass.inside.number c.args.call)
+
 pub enter-requires-clause-receipt_room : goal.enter-requires-clause-receipt_room
 enter-requires-clause-receipt_room g c =
     let i = c.self.inside in
@@ -123,8 +130,10 @@ invariant_of-pass-2 g c =
     let f = inside _ c.args.self.now p c.args.pass.now c.self.view_is c.pass.view_is c.requires.fits in
     let limit : length i.journal.items + (length i.opens.items + charge i.opens.items p.number c.args.call) ≤ JOURNAL_ENTRIES = omega (arith, c.charge_of-charge.ensures.value, i.journal.ok) in
     let m = moved _ i.tree _ i.opens.items i.journal.items i.passes.items c.self.invariant.0 p.number c.args.now c.args.call limit _ _ _ _ (effect_of g c) in
-    let here = reserved_here _ i.tree _ i.opens.items i.journal.items i.passes.items c.self.invariant.0 p f in
-    omega (arith, c.enter.ensures.receipts_len, c.enter.ensures.receipts_capacity, c.in-Some.ensures.receipts_room.1 refl, m.own_room, m.own, here, c.charge_of-charge.ensures.value, c.len-before.ensures, c.len-3.ensures)
+    let here = reserved_here _ i.tree _ i.opens.items i.journal.items i.passes.items c.self.invariant.0 p f in (
+      omega (arith, c.enter.ensures.receipts_len, c.enter.ensures.receipts_capacity, c.in-Some.ensures.receipts_room.1 refl, m.own_room, m.own, here, c.charge_of-charge.ensures.value, c.len-before.ensures, c.len-3.ensures),
+      omega (arith, c.in-Some.ensures.blanks_left refl, m.own_room, m.own, here, c.charge_of-charge.ensures.value, c.len-before.ensures, c.len-3.ensures),
+    )
 
 -- the run and the pass that are left
 run_is : (g : Over) (c : goal.After-self-1 g) (v : Counts) → ◌≡◌ {A = RunOf} (record { fresh = g.L.TreeRead.tree (arc_value c.self.inside.lower); users = arc_value c.self.inside.users; journal = c.enter.new.journal.items; passes = length (set c.self.inside.passes.items c.pass.inside.number v) }) (entered (record { fresh = g.L.TreeRead.tree (arc_value c.self.inside.lower); users = arc_value c.self.inside.users; journal = c.self.inside.journal.items; passes = length c.self.inside.passes.items }) (entry_is g c))
@@ -192,7 +201,7 @@ returns-in_default-clause-stepped g c =
     let same_run : ◌≡◌ {A = RunOf} (record { fresh = g.L.TreeRead.tree (arc_value i.lower); users = arc_value i.users; journal = c.make_ready.new.journal.items; passes = length i.passes.items }) c.args.self.now = (λ j. record { fresh = g.L.TreeRead.tree (arc_value i.lower); users = arc_value i.users; journal = c.in_default.ensures.journal.0 j; passes = length i.passes.items }) ∙ c.self.view_is in
     let same_pass : ◌≡◌ {A = PassOf} (record { number = p.number; receipts = c.make_ready.new.receipts.items; reserved = p.reserved }) c.args.pass.now = (λ j. record { number = p.number; receipts = c.in_default.ensures.receipts.0 j; reserved = p.reserved }) ∙ c.pass.view_is in
     let none : is_some (ended i.opens.items p.number c.args.call) ≡ false = ⊎_elim (λ large. ends_small i.opens.items p.number c.args.call large) (λ full. ends_none_if i.opens.items p.number c.args.call (λ charged.
-    ⊎_elim (λ entries. omega (arith, entries, charged, c.self.invariant.1, c.charge_of-charge.ensures.value, c.len-before.ensures)) (λ receipts. omega (arith, receipts, charged, c.pass.invariant, c.charge_of-charge.ensures.value)) full)) (c.in_default.ensures.refused refl) in
+    ⊎_elim (λ entries. omega (arith, entries, charged, c.self.invariant.1, c.charge_of-charge.ensures.value, c.len-before.ensures)) (λ rest. ⊎_elim (λ receipts. omega (arith, receipts, charged, c.pass.invariant.0, c.charge_of-charge.ensures.value)) (λ blanks. omega (arith, blanks, charged, c.pass.invariant.1, c.charge_of-charge.ensures.value)) rest) full)) (c.in_default.ensures.refused refl) in
     let there = subst (λ (s : RunState). is_some (ended s.opens p.number c.args.call) ≡ false) (sym (state_here _ i.tree _ i.opens.items i.journal.items i.passes.items c.self.invariant.0)) none in
     let room = not_full _ i.tree _ i.opens.items i.journal.items i.passes.items c.self.invariant.0 p.number c.args.now c.args.call limit in
     let short = short_step c.args.self.now c.args.pass.now c.args.now c.args.call

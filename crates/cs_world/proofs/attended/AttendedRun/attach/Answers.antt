@@ -1,4 +1,4 @@
-use Rattle.std.proofs.Common.{◌∙◌, rules, sym, arith}
+use Rattle.std.proofs.Common.{arith}
 use Rattle.cs_world.proofs.Moving.{enters, fitting_more}
 use Rattle.cs_world.proofs.attended.AttendedRun.attach.Goals as goal
 

@@ -18,8 +18,8 @@ invariant_of-self-2 c =
     let there : slice_get c.self.inside.passes.items c.args.pass ≡ Some c.in-Some.pass.now = slice_get-get_or c.self.inside.passes.items c.args.pass c.in-Some.pass.now (omega arith) ∙ ap Some (sym c.in-Some.ensures.value) in
     fitting c.self.inside.run c.self.inside.passes.items c.self.invariant c.args.pass c.in-Some.pass.now there c.args.now c.args.call c.step.result c.step.new.self c.step.new.pass c.step.ensures.stepped c.step.ensures.fits c.step.ensures.others
 
-pub returns-clause-asked : goal.returns-clause-asked
-returns-clause-asked c =
+pub returns-clause-called : goal.returns-clause-called
+returns-clause-called c =
     let low : c.args.pass < vec_len c.self.inside.passes = c.in-Some.ensures.variant.0 refl in
     let ok = c.self.inside.passes.ok in
     let there : slice_get c.self.inside.passes.items c.args.pass ≡ Some c.in-Some.pass.now = slice_get-get_or c.self.inside.passes.items c.args.pass c.in-Some.pass.now (omega arith) ∙ ap Some (sym c.in-Some.ensures.value) in

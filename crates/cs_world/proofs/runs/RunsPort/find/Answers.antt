@@ -1,4 +1,4 @@
-use Rattle.std.proofs.Common.{◌∙◌, rules, refl, sym, ap}
+use Rattle.std.proofs.Common.{◌∙◌, ap}
 use Rattle.cs_session.specs.Marks as p
 use Rattle.cs_run.specs.Marks as r
 use Rattle.cs_world.specs.Asking.{find_told, found_by}

@@ -1,9 +1,8 @@
-use Rattle.std.proofs.Common.{◌≡◌, ◌∙◌, rules, refl, sym, None}
-use Rattle.std.specs.Prelude.{slice_index_or}
+use Rattle.std.proofs.Common.{◌∙◌, rules, sym, None}
 use Rattle.std.proofs.lemmas.List.{get_or_default}
-use Rattle.cs_session.specs.Sessions.{Sess, blank}
+use Rattle.cs_session.specs.Sessions.{blank}
 use Rattle.cs_world.proofs.Keeping.{replied}
-use Rattle.cs_world.specs.Asking.{IsGiven}
+use Rattle.cs_world.proofs.Listing.{by_message}
 use Rattle.cs_world.proofs.world.World.message.Goals as goal
 
 pub returns-then-awaits-clause-fits : goal.returns-then-awaits-clause-fits
@@ -11,3 +10,6 @@ returns-then-awaits-clause-fits c = rw (← c.self.view_is, get_or_default c.sel
 
 pub returns-clause-replied : goal.returns-clause-replied
 returns-clause-replied c = λ idle. rw (← c.self.view_is) (replied c.args.now c.args.bytes.now _ _ _ _ _ _ _ (get_or_default c.self.inside.sessions.items c.args.conn _ _ (search rules) ∙ sym c.index_mut-session.ensures.value) (search rules) c.reply.ensures.replied)
+
+pub returns-clause-reached : goal.returns-clause-reached
+returns-clause-reached c = rw (← c.self.view_is) (λ ok. by_message _ c.args.conn c.args.now c.requires.connection c.index_mut-session.result.now c.reply.new.self (get_or_default c.self.inside.sessions.items c.args.conn _ _ (search rules) ∙ sym c.index_mut-session.ensures.value) c.reply.new.port c.args.bytes.now _ c.reply.ensures.replied ok)

@@ -1,0 +1,42 @@
+//! The numbers of a connection's open fids, from the greatest to the least.
+ghost use Rattle.std.specs.Prelude.{◌≡◌, ℕ, ◌<◌, ◌≤◌, ◌==◌, ◌&&◌, ◌||◌, false, length, not, true, vec_capacity, vec_len};
+ghost use Rattle.std.specs.List.{AllWithin};
+ghost use Rattle.cs_fids.specs.Opens.{IsDescending, is_among};
+
+/// Puts a number in, at its place. It takes no memory.
+pub(crate) fn put_in(opens: &mut Vec<u32>, fid: u32)
+    requires descending { IsDescending opens.old.items }
+    requires new { is_among fid opens.old.items ≡ false }
+    requires room { vec_len opens.old < vec_capacity opens.old }
+    ensures among { (n : ℕ) → is_among n opens.new.items ≡ (n == fid || is_among n opens.old.items) }
+    ensures descending { IsDescending opens.new.items }
+    ensures capacity { vec_capacity opens.new ≡ vec_capacity opens.old }
+{
+    let place = place_of(opens.as_slice(), fid);
+    match opens.insert(place, fid) {
+        Ok(()) => {}
+        Err(_) => unreachable!(),
+    }
+}
+
+/// Takes a number out.
+pub(crate) fn take_out(opens: &mut Vec<u32>, fid: u32)
+    requires descending { IsDescending opens.old.items }
+    requires there { is_among fid opens.old.items ≡ true }
+    ensures among { (n : ℕ) → is_among n opens.new.items ≡ (not (n == fid) && is_among n opens.old.items) }
+    ensures descending { IsDescending opens.new.items }
+    ensures capacity { vec_capacity opens.new ≡ vec_capacity opens.old }
+{
+    let place = place_of(opens.as_slice(), fid);
+    opens.remove(place);
+}
+
+/// The place of the first number that isn't greater.
+fn place_of(opens: &[u32], fid: u32) -> usize
+    requires { IsDescending opens.now }
+    ensures within { result ≤ length opens.now }
+    ensures greater { AllWithin (λ n. fid < n) opens.now 0 result }
+    ensures rest { AllWithin (λ n. n ≤ fid) opens.now result (length opens.now) }
+{
+    opens.partition_point(|number| *number > fid)
+}

@@ -1,0 +1,209 @@
+//! The fids of a connection by their numbers, whatever their states.
+ghost use Rattle.std.specs.Prelude.{◌≡◌, ◌≢◌, ◌+◌, ◌<◌, ◌≤◌, ◌↔◌, IfErr, IfOk, IfSome, IsErr, IsNone, IsOk, IsOkUnless, IsSome, IsTrue, MatchResult, None, OnErr, OnOk, option_copied};
+ghost use Rattle.std.specs.FinMap.{empty, insert, len, remove};
+ghost use Rattle.std.specs.Option.{ok_or};
+ghost use Rattle.cs_fids.specs.Fids.{moved_to, opened, with_place};
+ghost use Rattle.cs_fids.specs.Tables.{FailsAs, fid_at, opened_in, walked_in};
+
+use crate::entry::Entry;
+use crate::fault::FidFault;
+use crate::fid::{Fid, NOFID, Opened, Walked};
+use crate::place::Place;
+use crate::slot::Slot;
+use cs_names::limits::FIDS;
+use indexmap::IndexMap;
+use std::alloc::Global;
+use std::marker::Model;
+
+/// The fids of a connection, by their numbers: at most FIDS, and NOFID is none of them. Contracts see
+/// a finite map, without an order, and the room for more.
+#[derive(Drop)]
+pub(crate) struct Table {
+    fids: IndexMap<u32, Slot>,
+}
+
+impl Model for Table {
+    ghost use Rattle.cs_fids.specs.Tables.{AreFids, Fids, fids_code, map_of, room_beside};
+    ghost use Rattle.indexmap.specs.IndexMap.{spare};
+
+    ghost Value = { Fids };
+
+    ghost coded = { fids_code };
+
+    ghost view = { λ table. record { fids = map_of table.fids.entries; room = room_beside table.fids.entries (spare table.fids) } };
+
+    ghost invariant = { λ table. AreFids table.fids.entries };
+}
+
+impl Table {
+    /// A table with no fid.
+    pub(crate) fn new(alloc: Global) -> Table
+        ensures { result.fids ≡ empty }
+    {
+        Table {
+            fids: IndexMap::new(alloc),
+        }
+    }
+
+    /// How many fids there are.
+    pub(crate) fn len(&self) -> usize
+        ensures value { result ≡ len self.now.fids }
+        ensures few { result ≤ FIDS }
+    {
+        self.fids.len()
+    }
+
+    /// What the number stands for, lent; NOFID stands for nothing.
+    pub(crate) fn look(&self, fid: u32) -> Option<&Entry>
+        ensures value { option_copied result ≡ fid_at self.now fid }
+        ensures nofid { fid ≡ NOFID → IsNone result }
+    {
+        match self.fids.get(&fid) {
+            Some(slot) => Some(slot.entry()),
+            None => None,
+        }
+    }
+
+    /// Whether one fid more can be put, with no memory taken.
+    pub(crate) fn has_room(&self) -> bool
+        ensures { IsTrue result ↔ (0 < self.now.room) }
+    {
+        self.fids.len() < FIDS && self.fids.len() < self.fids.capacity()
+    }
+
+    /// Makes room for one fid more. TableFull where there are FIDS fids; Memory only where there was no
+    /// room yet.
+    pub(crate) fn reserve(&mut self) -> Result<(), FidFault>
+        ensures room { OnOk result (0 < self.new.room) }
+        ensures full { FIDS ≤ len self.old.fids → result ≡ Err FidFault.TableFull }
+        ensures memory { len self.old.fids < FIDS → IsOkUnless result FidFault.Memory }
+        ensures succeeds { 0 < self.old.room → IsOk result }
+        ensures fids { self.new.fids ≡ self.old.fids }
+        ensures kept { self.old.room ≤ self.new.room }
+    {
+        if self.fids.len() >= FIDS {
+            return Err(FidFault::TableFull);
+        }
+        self.fids.reserve(1)?;
+        Ok(())
+    }
+
+    /// Has the number stand for this entry. InUse where it stands for one already: the new entry is
+    /// given back, and the table stays. It takes no memory.
+    pub(crate) fn put(&mut self, fid: u32, entry: Entry) -> Result<(), (FidFault, Entry)>
+        requires room { 0 < self.old.room }
+        requires named { fid ≢ NOFID }
+        ensures in_use { IsErr result ↔ IsSome (fid_at self.old fid) }
+        ensures fids { OnOk result (self.new.fids ≡ insert self.old.fids fid entry) }
+        ensures given_back { IfErr result (λ refused. refused ≡ (FidFault.InUse, entry)) }
+        ensures unchanged { OnErr result (self.new ≡ self.old) }
+        ensures room { self.old.room ≤ self.new.room + 1 }
+    {
+        if self.look(fid).is_some() {
+            return Err((FidFault::InUse, entry));
+        }
+        match self.fids.insert(fid, Slot::new(entry)) {
+            Ok(_) => Ok(()),
+            Err(_) => unreachable!(),
+        }
+    }
+
+    /// Takes out what the number stands for, in any state. Unknown where it stands for nothing: the
+    /// table stays.
+    pub(crate) fn take_any(&mut self, fid: u32) -> Result<Entry, FidFault>
+        ensures value { result ≡ ok_or (fid_at self.old fid) FidFault.Unknown }
+        ensures fids { OnOk result (self.new.fids ≡ remove self.old.fids fid) }
+        ensures unchanged { OnErr result (self.new ≡ self.old) }
+        ensures room { self.old.room ≤ self.new.room }
+    {
+        if self.look(fid).is_none() {
+            return Err(FidFault::Unknown);
+        }
+        match self.fids.swap_remove(&fid) {
+            Some(slot) => Ok(slot.into_entry()),
+            None => unreachable!(),
+        }
+    }
+
+    /// Takes out the fid that was walked to. Unknown where the number stands for nothing, AlreadyOpen
+    /// where the fid is open: the table stays.
+    pub(crate) fn take_walked(&mut self, fid: u32) -> Result<Fid<Walked>, FidFault>
+        ensures value { result ≡ walked_in (fid_at self.old fid) }
+        ensures fids { OnOk result (self.new.fids ≡ remove self.old.fids fid) }
+        ensures unchanged { OnErr result (self.new ≡ self.old) }
+        ensures room { self.old.room ≤ self.new.room }
+    {
+        match self.look(fid) {
+            None => return Err(FidFault::Unknown),
+            Some(Entry::Opened(_)) => return Err(FidFault::AlreadyOpen),
+            Some(Entry::Walked(_)) => {}
+        }
+        match self.take_any(fid) {
+            Ok(Entry::Walked(walked)) => Ok(walked),
+            Ok(Entry::Opened(_)) => unreachable!(),
+            Err(_) => unreachable!(),
+        }
+    }
+
+    /// The open fid, lent. Unknown where the number stands for nothing, NotOpen where the fid isn't
+    /// open.
+    pub(crate) fn get_opened(&self, fid: u32) -> Result<&Fid<Opened>, FidFault>
+        ensures { MatchResult result (λ found. opened_in (fid_at self.now fid) ≡ Ok found.now) (λ fault. opened_in (fid_at self.now fid) ≡ Err fault) }
+    {
+        match self.look(fid) {
+            None => Err(FidFault::Unknown),
+            Some(Entry::Walked(_)) => Err(FidFault::NotOpen),
+            Some(Entry::Opened(open)) => Ok(open),
+        }
+    }
+
+    /// Opens the fid in its place. Unknown where the number stands for nothing, AlreadyOpen where the
+    /// fid is open: the table stays. It takes no memory.
+    pub(crate) fn open(&mut self, fid: u32, mode: u8, open_number: u32) -> Result<(), FidFault>
+        ensures faults { FailsAs result (walked_in (fid_at self.old fid)) }
+        ensures fids { IfOk (walked_in (fid_at self.old fid)) (λ walked. self.new.fids ≡ insert self.old.fids fid (Entry.Opened (opened walked mode open_number))) }
+        ensures unchanged { OnErr result (self.new ≡ self.old) }
+        ensures room { self.new.room ≡ self.old.room }
+    {
+        let Some(slot) = self.fids.get_mut(&fid) else {
+            return Err(FidFault::Unknown);
+        };
+        slot.open(mode, open_number)
+    }
+
+    /// Has the fid stand for another file of its run, in its place. Unknown where the number stands for
+    /// nothing, AlreadyOpen where the fid is open: the table stays. It takes no memory.
+    pub(crate) fn move_to(&mut self, fid: u32, number: u64) -> Result<(), FidFault>
+        ensures faults { FailsAs result (walked_in (fid_at self.old fid)) }
+        ensures fids { IfOk (walked_in (fid_at self.old fid)) (λ walked. self.new.fids ≡ insert self.old.fids fid (Entry.Walked (moved_to walked number))) }
+        ensures unchanged { OnErr result (self.new ≡ self.old) }
+        ensures room { self.new.room ≡ self.old.room }
+    {
+        let Some(slot) = self.fids.get_mut(&fid) else {
+            return Err(FidFault::Unknown);
+        };
+        slot.move_to(number)
+    }
+
+    /// Has the reads of a directory of the open fid go on at that place. Unknown where the number
+    /// stands for nothing, NotOpen where the fid isn't open: the table stays. It takes no memory.
+    pub(crate) fn set_place(&mut self, fid: u32, place: Place) -> Result<(), FidFault>
+        ensures faults { FailsAs result (opened_in (fid_at self.old fid)) }
+        ensures fids { IfOk (opened_in (fid_at self.old fid)) (λ found. self.new.fids ≡ insert self.old.fids fid (Entry.Opened (with_place found place))) }
+        ensures unchanged { OnErr result (self.new ≡ self.old) }
+        ensures room { self.new.room ≡ self.old.room }
+    {
+        let Some(slot) = self.fids.get_mut(&fid) else {
+            return Err(FidFault::Unknown);
+        };
+        slot.set_place(place)
+    }
+
+    /// Takes every fid out.
+    pub(crate) fn clear(&mut self)
+        ensures fids { self.new.fids ≡ empty }
+        ensures room { self.old.room ≤ self.new.room }
+    {
+        self.fids.clear();
+    }
+}

@@ -1,0 +1,53 @@
+//! Whether a pass is one of a run's, at its present state.
+ghost use Rattle.std.specs.Prelude.{◌≡◌, ◌↔◌, IsTrue};
+ghost use Rattle.cs_journal.specs.Fitting.{Tallies, receipt_at};
+ghost use Rattle.cs_journal.specs.Runs.{Fits, last_of};
+
+use crate::counts::Counts;
+use crate::entry::Entry;
+use crate::pass::Pass;
+use crate::receipt::Receipt;
+use crate::run::Run;
+use cs_tree_model::TreeRead;
+
+/// Whether the last receipt is that of the entry at the place, if there is one.
+fn is_last(receipts: &[Receipt], journal: &[Entry], last: Option<u32>) -> bool
+    ensures { IsTrue result ↔ (last_of receipts.now ≡ receipt_at journal.now last) }
+{
+    let Some(place) = last else {
+        return receipts.is_empty();
+    };
+    let Some(entry) = journal.get(place as usize) else {
+        return receipts.is_empty();
+    };
+    match receipts.last() {
+        Some(receipt) => receipt.is_of(place, entry),
+        None => false,
+    }
+}
+
+/// Whether what is counted of a pass is what this one has, its last receipt too.
+fn tallies(counts: &Counts, journal: &[Entry], pass: &Pass) -> bool
+    ensures { IsTrue result ↔ Tallies counts.now journal.now pass.now }
+{
+    if counts.entries != pass.receipts.len() {
+        return false;
+    }
+    if counts.opens != pass.reserved {
+        return false;
+    }
+    is_last(&pass.receipts, journal, counts.last)
+}
+
+impl<L: TreeRead + Drop> Run<L> {
+    /// Whether calls can be made under the pass: the run gave it, with as many entries and opens as it
+    /// has receipts and reserved places, and its last receipt is of its last entry. It takes no memory.
+    pub fn fits(&self, pass: &Pass) -> bool
+        ensures { IsTrue result ↔ Fits self.now pass.now }
+    {
+        match self.passes.get(pass.number as usize) {
+            Some(counts) => tallies(counts, &self.journal, pass),
+            None => false,
+        }
+    }
+}

@@ -1,0 +1,119 @@
+//! All states of a scene, made by several workers.
+ghost use Rattle.std.specs.Prelude.{◌≡◌, ◌↔◌, false, true, IfOk, IsErrOf};
+ghost use Rattle.std.specs.Arc.{arc_value};
+ghost use Rattle.cs_publish.specs.Crews.{IsOnly, all_published, is_crew};
+ghost use Rattle.cs_registry.specs.Registries.{AdmitsAll, empty};
+
+use crate::crew::{hire, is_crew, next_made, numbers_below};
+use crate::fault::{Lost, PublishAllFault, told};
+use crate::gate::Gate;
+use crate::stage::{Stage, Staged, Told};
+use crossbeam_channel::Receiver;
+use cs_plan::Scene;
+use cs_registry::{Held, PublishFault, States};
+use cs_users::Users;
+use std::alloc::Global;
+use std::marker::Brand;
+use std::sync::{Arc, Wait};
+use std::thread;
+use std::thread::Threads;
+
+/// Publishes what the workers make, until nothing is missing.
+fn collect<H: Held, N: Staged, R: Wait>(
+    rt: &R,
+    alloc: Global,
+    mut states: States<H>,
+    made: Receiver<Told<N>>,
+) -> Result<States<H>, Lost>
+    requires own { IsOnly N.is_scene states.scene }
+    requires new { states ≡ empty states.scene states.users }
+    ensures { IfOk result (λ all. all ≡ all_published states.scene states.users) }
+{
+    'missing: while states.missing() > 0 {
+        let state = next_made(rt, &made)?;
+        match states.publish_own(alloc, state.into_state()) {
+            Ok(()) => continue,
+            Err(PublishFault::Memory) => return Err(Lost::Memory),
+            Err(PublishFault::Twice | PublishFault::Stranger) => {
+                return Err(Lost::Channel);
+            }
+        }
+    }
+    Ok(states)
+}
+
+/// Publishes the states of these numbers, made by so many workers.
+fn gather<'s, H: Held, N: Staged, R: Threads + Wait + Sync, G: Gate>(
+    rt: &'s R,
+    alloc: Global,
+    states: States<H>,
+    stage: &'s Stage<N>,
+    numbers: &'s Receiver<u32>,
+    workers: u32,
+    gate: &'s G,
+) -> Result<States<H>, Lost>
+    requires own { IsOnly N.is_scene states.scene }
+    requires new { states ≡ empty states.scene states.users }
+    ensures { IfOk result (λ all. all ≡ all_published states.scene states.users) }
+{
+    thread::scope(
+        thread::scope_env(),
+        rt,
+        move |scope| -> Result<States<H>, Lost>
+            requires own { IsOnly N.is_scene states.scene }
+            requires new { states ≡ empty states.scene states.users }
+            ensures { IfOk result (λ all. all ≡ all_published states.scene states.users) }
+        {
+            let made = hire(scope, rt, alloc, stage, numbers, workers, gate)?;
+            collect(rt, alloc, states, made)
+        },
+    )
+}
+
+/// The same for a scene that the type names.
+fn publish_scene<H: Held, N: Staged, R: Threads + Wait + Sync, G: Gate>(
+    rt: &R,
+    alloc: Global,
+    scene: Arc<Scene>,
+    users: Arc<Users>,
+    workers: u32,
+    gate: &G,
+) -> Result<States<H>, Lost>
+    requires admitted { AdmitsAll H.admits (arc_value scene) }
+    requires here { N.is_scene (arc_value scene) }
+    requires own { IsOnly N.is_scene (arc_value scene) }
+    ensures { IfOk result (λ all. all ≡ all_published (arc_value scene) (arc_value users)) }
+{
+    let count = scene.plan().len() as u32;
+    let Ok(own) = Arc::try_clone(&scene) else {
+        return Err(Lost::Memory);
+    };
+    let Ok(states) = States::<H>::new(alloc, own, users) else {
+        return Err(Lost::Memory);
+    };
+    let numbers = numbers_below(rt, alloc, count)?;
+    let stage = Stage::<N>::new(scene);
+    gather(rt, alloc, states, &stage, &numbers, workers, gate)
+}
+
+/// A registry of the scene's states, every one of which is published, whose runs have these users. The
+/// states are made by so many workers: each takes the next number, calls the gate with it, and makes
+/// its state. Workers is answered where there are none or more than WORKERS; then Memory, also where no
+/// thread can be made; then Channel, where a number or a state is lost on its way.
+pub fn publish_all<H: Held, R: Threads + Wait + Sync, G: Gate>(
+    rt: &R,
+    alloc: Global,
+    scene: Arc<Scene>,
+    users: Arc<Users>,
+    workers: u32,
+    gate: &G,
+) -> Result<States<H>, PublishAllFault>
+    requires { AdmitsAll H.admits (arc_value scene) }
+    ensures all { IfOk result (λ all. all ≡ all_published (arc_value scene) (arc_value users)) }
+    ensures crew { IsErrOf result PublishAllFault.Workers ↔ (is_crew workers ≡ false) }
+{
+    if !is_crew(workers) {
+        return Err(PublishAllFault::Workers);
+    }
+    publish_scene::<H, Brand, R, G>(rt, alloc, scene, users, workers, gate).map_err(told)
+}

@@ -1,0 +1,99 @@
+//! A scene that a type names, and the states that are made in it.
+ghost use Rattle.std.specs.Prelude.{◌≡◌, IfOk};
+ghost use Rattle.std.specs.Arc.{arc_value};
+ghost use Rattle.cs_plan.specs.Scenes as model;
+
+use cs_plan::{MakeFault, Published, Scene};
+use std::alloc::Global;
+use std::marker::{Brand, Model, PhantomData};
+use std::sync::Arc;
+
+/// Names a scene, so that what a thread is sent can say by its type in which scene it was made.
+pub(crate) trait Staged: Send + Sync {
+    /// Whether it is the scene.
+    ghost is_scene: { model.Scene → Type 0 };
+}
+
+impl Staged for Brand {
+    ghost is_scene = { λ scene. Unit {0} };
+}
+
+/// The scene that the type names.
+#[derive(Drop)]
+pub(crate) struct Stage<N: Staged> {
+    scene: Arc<Scene>,
+    of: PhantomData<N>,
+}
+
+impl<N: Staged> Model for Stage<N> {
+    ghost use Rattle.std.specs.Arc.{arc_value};
+    ghost use Rattle.cs_plan.specs.Scenes as model;
+
+    ghost Value = { model.Scene };
+
+    ghost view = { λ stage. arc_value stage.scene };
+
+    ghost invariant = { λ stage. N.is_scene (arc_value stage.scene) };
+}
+
+/// A state that was made in the scene that the type names. It may come from any thread.
+#[derive(Drop)]
+pub(crate) struct Made<N: Staged> {
+    state: Published,
+    of: PhantomData<N>,
+}
+
+impl<N: Staged> Model for Made<N> {
+    ghost use Rattle.cs_plan.specs.Scenes as model;
+    ghost use Rattle.std.specs.Coded.{codes};
+    ghost use Rattle.cs_tree_model.specs.Tree.{tree_code};
+
+    ghost Value = { model.Published };
+
+    ghost coded = { Prim.hlevel (codes, tree_code) };
+
+    ghost view = { λ made. made.state };
+
+    ghost invariant = { λ made. N.is_scene made.state.scene };
+}
+
+/// What a worker tells of a number: the state, or that memory refused it.
+#[derive(Drop)]
+pub(crate) enum Told<N: Staged> {
+    State(Made<N>),
+    NoMemory,
+}
+
+impl<N: Staged> Stage<N> {
+    pub(crate) fn new(scene: Arc<Scene>) -> Stage<N>
+        requires { N.is_scene (arc_value scene) }
+        ensures { result ≡ arc_value scene }
+    {
+        Stage {
+            scene,
+            of: PhantomData,
+        }
+    }
+
+    /// The state of that number, made anew.
+    pub(crate) fn make(&self, alloc: Global, number: u32) -> Result<Made<N>, MakeFault>
+        ensures number { IfOk result (λ made. made.number ≡ number) }
+        ensures scene { IfOk result (λ made. made.scene ≡ self.now) }
+    {
+        let state = Scene::make(alloc, &self.scene, number)?;
+        Ok(Made {
+            state,
+            of: PhantomData,
+        })
+    }
+}
+
+impl<N: Staged> Made<N> {
+    /// The state, to be published.
+    pub(crate) fn into_state(self) -> Published
+        ensures value { result ≡ self }
+        ensures own { N.is_scene result.scene }
+    {
+        self.state
+    }
+}

@@ -1,0 +1,3 @@
+pub mod Admitting
+pub mod Numbers
+pub mod Telling

@@ -1,0 +1,5 @@
+pub mod Serving
+pub mod Locks
+pub mod Told
+pub mod Finding
+pub mod Naming

@@ -1,0 +1,18 @@
+//! Runs that threads share, each under a lock of its own, and the registry of them under another.
+//! No call holds two locks.
+#![tactic(auto)]
+
+mod locked;
+mod named;
+mod registry;
+mod served;
+mod shared_registry;
+mod shared_run;
+
+pub use named::NamedRun;
+pub use served::{AnyScene, Served};
+pub use shared_registry::SharedRegistry;
+pub use shared_run::{AttachFault, SharedRun};
+
+#[cfg(test)]
+mod tests;

@@ -1,0 +1,114 @@
+//! What the registry's lock keeps.
+ghost use Rattle.std.specs.Prelude.{◌≡◌, IfOk};
+ghost use Rattle.std.specs.Arc.{arc_value};
+ghost use Rattle.std.specs.List.Sorted.{IsPermutation, IsSorted};
+ghost use Rattle.std.specs.Map.{keys_of};
+ghost use Rattle.cs_registry.specs.Publishing.{Publishes};
+ghost use Rattle.cs_registry.specs.Registries.{empty, missing_of};
+ghost use Rattle.cs_shared.specs.Finding.{AreNumbered, FindsShared};
+ghost use Rattle.cs_shared.specs.Naming.{key_cmp};
+ghost use Rattle.cs_shared.specs.Serving.{ServesAll};
+
+use crate::named::NamedRun;
+use crate::served::Served;
+use crate::shared_run::SharedRun;
+use cs_names::RunName;
+use cs_plan::{Published, Scene};
+use cs_registry::{FindFault, PublishFault, States};
+use cs_users::Users;
+use std::alloc::{AllocError, Global};
+use std::marker::Model;
+use std::sync::Arc;
+
+/// The published states of a scene and their shared runs, each of which carries the number of its key.
+/// Contracts see it as cs_registry's, and of a run the number of its state.
+#[derive(Drop)]
+pub(crate) struct Registry<S: Served> {
+    states: States<SharedRun<S>>,
+}
+
+impl<S: Served> Model for Registry<S> {
+    ghost use Rattle.std.specs.Prelude.{ℕ};
+    ghost use Rattle.cs_registry.specs.Registries as model;
+    ghost use Rattle.cs_shared.specs.Finding.{AreNumbered};
+
+    ghost Value = { model.Registry ℕ };
+
+    ghost view = { λ r. r.states };
+
+    ghost invariant = { λ r. AreNumbered r.states.runs };
+}
+
+impl<S: Served> Registry<S> {
+    /// A registry of a scene's states, of which none is published.
+    pub(crate) fn new(
+        alloc: Global,
+        scene: Arc<Scene>,
+        users: Arc<Users>,
+    ) -> Result<Registry<S>, AllocError>
+        requires { ServesAll S.serves (arc_value scene) }
+        ensures { IfOk result (λ registry. registry ≡ empty (arc_value scene) (arc_value users)) }
+    {
+        Ok(Registry {
+            states: States::new(alloc, scene, users)?,
+        })
+    }
+
+    /// How many states of the plan aren't published.
+    pub(crate) fn missing(&self) -> u32
+        ensures { result ≡ missing_of self.now }
+    {
+        self.states.missing()
+    }
+
+    /// Publishes a state under its number.
+    pub(crate) fn publish(&mut self, alloc: Global, state: Published) -> Result<(), PublishFault>
+        ensures { Publishes self.old state result self.new }
+    {
+        self.states.publish(alloc, state)
+    }
+
+    /// Finds the run of that name of the state of that number.
+    pub(crate) fn find(
+        &mut self,
+        alloc: Global,
+        number: u32,
+        name: &RunName,
+    ) -> Result<SharedRun<S>, FindFault>
+        ensures finds { FindsShared self.old (record { number = number; name = name.now }) result self.new }
+        ensures number { IfOk result (λ shared. shared ≡ number) }
+    {
+        let place = self.states.find(alloc, number, name)?;
+        match self.states.at(place).again() {
+            Ok(shared) => Ok(shared),
+            Err(_) => Err(FindFault::Memory),
+        }
+    }
+
+    /// All runs, in the order of their keys.
+    pub(crate) fn runs(&self, alloc: Global) -> Result<Vec<NamedRun<S>>, AllocError>
+        ensures all { IfOk result (λ runs. IsPermutation (keys_of self.now.runs) runs.items) }
+        ensures sorted { IfOk result (λ runs. IsSorted key_cmp runs.items) }
+    {
+        let mut runs = named_runs(alloc, &self.states)?;
+        runs.sort()?;
+        Ok(runs)
+    }
+}
+
+/// The runs with their names, in the order in which they were made.
+fn named_runs<S: Served>(
+    alloc: Global,
+    states: &States<SharedRun<S>>,
+) -> Result<Vec<NamedRun<S>>, AllocError>
+    requires { AreNumbered states.now.runs }
+    ensures { IfOk result (λ runs. runs.items ≡ keys_of states.now.runs) }
+{
+    let mut runs = Vec::new(alloc);
+    for place in 0..states.run_count() {
+        let name = states.key_at(place).name().to_string(alloc)?;
+        let run = states.at(place).again()?;
+        runs.push(NamedRun::new(name, run))?;
+    }
+    Ok(runs)
+}

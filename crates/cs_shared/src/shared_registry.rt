@@ -1,0 +1,99 @@
+//! A registry that threads share.
+ghost use Rattle.std.specs.Prelude.{◌≡◌, IfOk};
+ghost use Rattle.std.specs.Arc.{arc_value};
+ghost use Rattle.std.specs.List.Sorted.{IsSorted};
+ghost use Rattle.cs_shared.specs.Naming.{key_cmp};
+ghost use Rattle.cs_shared.specs.Serving.{ServesAll};
+
+use crate::named::NamedRun;
+use crate::registry::Registry;
+use crate::served::Served;
+use crate::shared_run::SharedRun;
+use cs_names::RunName;
+use cs_plan::{Published, Scene};
+use cs_registry::{FindFault, PublishFault};
+use cs_users::Users;
+use std::alloc::{AllocError, Global};
+use std::marker::Model;
+use std::sync::{Arc, Mutex, Wait};
+
+/// The published states of a scene, and their runs, which threads share. Contracts see the scene. Each
+/// call takes the registry's lock once, and no run's.
+#[derive(Drop)]
+pub struct SharedRegistry<S: Served> {
+    scene: Arc<Scene>,
+    inside: Mutex<Registry<S>>,
+}
+
+impl<S: Served> Model for SharedRegistry<S> {
+    ghost use Rattle.std.specs.Arc.{arc_value};
+    ghost use Rattle.cs_plan.specs.Scenes as model;
+
+    ghost Value = { model.Scene };
+
+    ghost view = { λ r. arc_value r.scene };
+}
+
+impl<S: Served> SharedRegistry<S> {
+    /// A registry of a scene's states, of which none is published, whose runs have these users.
+    pub fn new(
+        alloc: Global,
+        scene: Arc<Scene>,
+        users: Arc<Users>,
+    ) -> Result<SharedRegistry<S>, AllocError>
+        requires { ServesAll S.serves (arc_value scene) }
+        ensures { IfOk result (λ registry. registry ≡ arc_value scene) }
+    {
+        let own = Arc::try_clone(&scene)?;
+        let inside = Registry::new(alloc, own, users)?;
+        Ok(SharedRegistry {
+            scene,
+            inside: Mutex::new(inside),
+        })
+    }
+
+    /// The scene.
+    pub fn scene(&self) -> &Arc<Scene>
+        ensures { arc_value result.now ≡ self.now }
+    {
+        &self.scene
+    }
+
+    /// How many states of the plan aren't published.
+    pub fn missing(&self, rt: &impl Wait) -> u32 {
+        self.inside.lock(rt).missing()
+    }
+
+    /// Publishes a state under its number: Stranger where the plan has no such number, or the state was
+    /// made in a scene of other content; then Twice; then Memory.
+    pub fn publish(
+        &self,
+        rt: &impl Wait,
+        alloc: Global,
+        state: Published,
+    ) -> Result<(), PublishFault> {
+        self.inside.lock(rt).publish(alloc, state)
+    }
+
+    /// Finds the run of that name of the state of that number, and counts the find: the run is made at
+    /// the first. Unpublished (A4), Full (A5) and Memory are as `States::find` has them; Memory also
+    /// where the run has as many handles as can be.
+    pub fn find(
+        &self,
+        rt: &impl Wait,
+        alloc: Global,
+        number: u32,
+        name: &RunName,
+    ) -> Result<SharedRun<S>, FindFault>
+        ensures { IfOk result (λ shared. shared ≡ number) }
+    {
+        self.inside.lock(rt).find(alloc, number, name)
+    }
+
+    /// All runs, by the numbers of their states and then by name.
+    pub fn runs(&self, rt: &impl Wait, alloc: Global) -> Result<Vec<NamedRun<S>>, AllocError>
+        ensures { IfOk result (λ runs. IsSorted key_cmp runs.items) }
+    {
+        self.inside.lock(rt).runs(alloc)
+    }
+}

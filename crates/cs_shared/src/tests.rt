@@ -1,0 +1,195 @@
+//! Runs that users share, of a state that is published.
+
+use crate::{AnyScene, SharedRegistry, SharedRun};
+use cs_fids::Place;
+use cs_journal::Pass;
+use cs_names::{RuleId, RunName, UserName};
+use cs_permit::{Call, OpenCall, ReadCall, StatCall, WriteCall};
+use cs_plan::{Published, Scene};
+use cs_registry::FindFault;
+use cs_run::Answer;
+use cs_trace::read_trace;
+use cs_users::Users;
+use std::alloc::Global;
+use std::sync::atomic::{AtomicBool, Ordering};
+use std::sync::{Arc, Wait};
+use std::test::Fail;
+use std::thread;
+
+const TRACE: &str =
+    "{\"trace\":1,\"owner\":\"cat\",\"group\":\"staff\",\"mode\":\"775\"}\n{\"start\":\"file\",\"path\":\"/f\",\"owner\":\"ann\",\"group\":\"staff\",\"mode\":\"664\",\"bytes\":\"68656c6c6f\"}\n";
+
+const USERS: &[u8] = b"1:ann::\n2:bob::\n3:cat::\n4:staff:ann:ann,bob\n";
+
+/// The number of the file.
+const F: u64 = 1;
+
+/// How often a thread looks for what another is to do.
+const TURNS: u32 = 10_000_000;
+
+fn registry_of(alloc: Global) -> Option<(SharedRegistry<AnyScene>, Published)> {
+    let trace = read_trace(alloc, TRACE).ok()?;
+    let scene = Scene::of(alloc, trace, false, Vec::new(alloc)).ok()?;
+    let scene = Arc::new(alloc, scene).ok()?;
+    let state = Scene::make(alloc, &scene, 0).ok()?;
+    let users = Arc::new(alloc, Users::read(alloc, USERS).ok()?).ok()?;
+    let registry = SharedRegistry::<AnyScene>::new(alloc, scene, users).ok()?;
+    Some((registry, state))
+}
+
+fn find<R: Wait>(
+    rt: &R,
+    alloc: Global,
+    registry: &SharedRegistry<AnyScene>,
+    name: &str,
+) -> Option<SharedRun<AnyScene>> {
+    let name = RunName::read(alloc, name.as_bytes()).ok()?;
+    registry.find(rt, alloc, 0, &name).ok()
+}
+
+fn attach<R: Wait>(rt: &R, alloc: Global, run: &SharedRun<AnyScene>, user: &str) -> Option<Pass> {
+    match run.attach(rt, alloc, 1, user.to_string(alloc).ok()?) {
+        Ok((pass, Answer::Attached(_))) => Some(pass),
+        _ => None,
+    }
+}
+
+fn open(alloc: Global, user: &str, mode: u8) -> Option<Call> {
+    let user = UserName::read(alloc, user.as_bytes()).ok()?;
+    Some(Call::Open(OpenCall {
+        number: F,
+        user,
+        mode,
+    }))
+}
+
+fn write(alloc: Global, user: &str, text: &str) -> Option<Call> {
+    let user = UserName::read(alloc, user.as_bytes()).ok()?;
+    let bytes = text.to_string(alloc).ok()?.into_bytes();
+    Some(Call::Write(WriteCall {
+        number: F,
+        user,
+        offset: 0,
+        bytes,
+    }))
+}
+
+/// Whether the user opens the file and reads this.
+fn reads<R: Wait>(
+    rt: &R,
+    alloc: Global,
+    run: &SharedRun<AnyScene>,
+    user: &str,
+    text: &str,
+) -> Option<bool> {
+    let mut pass = attach(rt, alloc, run, user)?;
+    let opened = run.call(rt, alloc, &mut pass, 2, open(alloc, user, 0)?);
+    let read = Call::Read(ReadCall {
+        number: F,
+        offset: 0,
+        count: 64,
+        place: Place::start(),
+    });
+    match (opened, run.call(rt, alloc, &mut pass, 2, read)) {
+        (Answer::Opened { .. }, Answer::Data(data)) => Some(data.bytes() == text.as_bytes()),
+        _ => None,
+    }
+}
+
+#[test]
+fn what_is_written_in_a_run_is_read_there_and_nowhere_else(rt: HostRuntime) -> Result<(), Fail> {
+    let alloc = rt.alloc();
+    let (registry, state) = registry_of(alloc).ok_or("the registry")?;
+    assert_eq!(rt; registry.missing(&rt), 1);
+    let name = RunName::read(alloc, b"a")?;
+    let early = registry.find(&rt, alloc, 0, &name);
+    assert!(rt; matches!(early, Err(FindFault::Unpublished)));
+    assert!(rt; registry.publish(&rt, alloc, state).is_ok());
+    let b = find(&rt, alloc, &registry, "b").ok_or("0/b")?;
+    let a = find(&rt, alloc, &registry, "a").ok_or("0/a")?;
+    let mut ann = attach(&rt, alloc, &a, "ann").ok_or("ann")?;
+    let opened = a.call(
+        &rt,
+        alloc,
+        &mut ann,
+        2,
+        open(alloc, "ann", 1).ok_or("a call")?,
+    );
+    assert!(rt; matches!(opened, Answer::Opened { .. }));
+    let hi = write(alloc, "ann", "HI").ok_or("a call")?;
+    assert!(rt; matches!(a.call(&rt, alloc, &mut ann, 2, hi), Answer::Written(2)));
+    assert_eq!(rt; reads(&rt, alloc, &b, "bob", "hello"), Some(true));
+    let again = find(&rt, alloc, &registry, "a").ok_or("0/a again")?;
+    assert_eq!(rt; reads(&rt, alloc, &again, "cat", "HIllo"), Some(true));
+    let stat = Call::Stat(StatCall { number: F });
+    assert!(rt;
+        matches!(
+            b.call(&rt, alloc, &mut ann, 3, stat),
+            Answer::Denied(RuleId::S5)
+        )
+    );
+    assert_eq!(rt; ann.receipts().len(), 3);
+    let runs = registry.runs(&rt, alloc)?;
+    assert_eq!(rt; runs.len(), 2);
+    for (run, name) in runs.iter().zip(["a", "b"].iter()) {
+        assert_eq!(rt; (run.run().number(), run.name()), (0, *name));
+    }
+    Ok(())
+}
+
+fn comes(flag: &AtomicBool) -> bool {
+    for _ in 0..TURNS {
+        if flag.load(Ordering::SeqCst) {
+            return true;
+        }
+        thread::yield_now();
+    }
+    false
+}
+
+/// Looks at a run until the flag comes.
+fn look<R: Wait>(
+    rt: &R,
+    run: &SharedRun<AnyScene>,
+    looking: &AtomicBool,
+    answered: &AtomicBool,
+) -> bool {
+    run.inspect(rt, |run| {
+        looking.store(true, Ordering::SeqCst);
+        comes(answered) && run.entries() == 0
+    })
+}
+
+/// Asks for a stat once the flag came.
+fn ask<R: Wait>(
+    rt: &R,
+    alloc: Global,
+    run: &SharedRun<AnyScene>,
+    mut pass: Pass,
+    looking: &AtomicBool,
+    answered: &AtomicBool,
+) -> bool {
+    let in_time = comes(looking);
+    let stat = Call::Stat(StatCall { number: F });
+    let answer = run.call(rt, alloc, &mut pass, 2, stat);
+    answered.store(true, Ordering::SeqCst);
+    in_time && matches!(answer, Answer::Stat(_))
+}
+
+#[test]
+fn a_run_is_called_while_another_is_locked(rt: HostRuntime) -> Result<(), Fail> {
+    let alloc = rt.alloc();
+    let (registry, state) = registry_of(alloc).ok_or("the registry")?;
+    assert!(rt; registry.publish(&rt, alloc, state).is_ok());
+    let a = find(&rt, alloc, &registry, "a").ok_or("0/a")?;
+    let b = find(&rt, alloc, &registry, "b").ok_or("0/b")?;
+    let bob = attach(&rt, alloc, &b, "bob").ok_or("bob")?;
+    let (looking, answered) = (AtomicBool::new(false), AtomicBool::new(false));
+    let looked = thread::join(
+        &rt,
+        || look(&rt, &a, &looking, &answered),
+        || ask(&rt, alloc, &b, bob, &looking, &answered),
+    );
+    assert_eq!(rt; looked, (true, true));
+    Ok(())
+}

@@ -1,0 +1,13 @@
+pub mod Counting
+pub mod Standing
+pub mod Placing
+pub mod Sharing
+pub mod Filing
+pub mod Showing
+pub mod Naming
+pub mod Calling
+pub mod Passing
+pub mod Joining
+pub mod Listing
+pub mod Owning
+pub mod Gathering

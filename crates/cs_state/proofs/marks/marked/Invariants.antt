@@ -1,0 +1,6 @@
+use Rattle.std.proofs.Common.{◌≡◌}
+use Rattle.cs_state.specs.Shares.{ids, mark_at, stays}
+use Rattle.cs_state.proofs.marks.marked.Given as goal
+
+abbrev pub invariant-loop-id : goal.invariant-loop-id
+invariant-loop-id l = l.found.items ≡ ids (mark_at l.marks) l.id

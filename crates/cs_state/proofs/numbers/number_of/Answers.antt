@@ -1,0 +1,36 @@
+use Rattle.std.proofs.Common.{◌≡◌, ◌≢◌, ◌<◌, length, sym, ap, ◌∙◌, arith, ⊎_elim}
+use Rattle.cs_state.specs.Numbers.{at, below, kept_at, number_in, IsKept, IsOwn}
+use Rattle.cs_state.proofs.Counting.{kept_place, no_own, own_number, own_split}
+use Rattle.cs_state.proofs.numbers.number_of.Goals as goal
+use Rattle.cs_state.proofs.numbers.number_of.Goals.{then-before-own+else-first-id, else-before-own}
+
+pub returns-then-first-id-clause-number : goal.returns-then-first-id-clause-number
+returns-then-first-id-clause-number c =
+    sym (ap (number_in c.args.kept.now c.args.own.now) c.if-first-id.true) ∙ own_number c.args.kept.now c.args.own.now c.requires.merge c.ids_below-before.result c.if-before-own.true
+
+pub returns-then-kept-place-clause-number : goal.returns-then-kept-place-clause-number
+returns-then-kept-place-clause-number c =
+    let e = c.ids_below-before.ensures in
+    let split = own_split c.args.own.now c.args.id c.ids_below-before.result e.bound e.low e.high in
+    let kept = c.requires.counted in
+    omega (arith, split, kept)
+
+pub returns-else-kept-place-clause-none : goal.returns-else-kept-place-clause-none
+returns-else-kept-place-clause-none c =
+    let e = c.ids_below-before.ensures in
+    let other : c.ids_below-before.result < length c.args.own.now → (at c.args.own.now c.ids_below-before.result).id ≢ c.args.id =
+    elim c.if-before-own.branch [ then-before-own+else-first-id w ↦ λ _. w.if-first-id.false | else-before-own w ↦ λ lt. absurd (let ge = w.if-before-own.false in omega (arith, lt, ge)) ] in
+    λ has. ⊎_elim
+    (λ (w : IsKept c.args.kept.now c.args.id). c.if-kept-place.false (ap (kept_at c.args.kept.now) (c.requires.counted ∙ kept_place c.args.kept.now c.requires.merge.kept_up c.args.id w) ∙ w.2))
+    (λ (w : IsOwn c.args.own.now c.args.id). no_own c.args.own.now c.requires.merge.own_up c.args.id c.ids_below-before.result e.bound e.low e.high other w)
+    has
+
+pub returns-else-place-kept-clause-none : goal.returns-else-place-kept-clause-none
+returns-else-place-kept-clause-none c =
+    let e = c.ids_below-before.ensures in
+    let other : c.ids_below-before.result < length c.args.own.now → (at c.args.own.now c.ids_below-before.result).id ≢ c.args.id =
+    elim c.if-before-own.branch [ then-before-own+else-first-id w ↦ λ _. w.if-first-id.false | else-before-own w ↦ λ lt. absurd (let ge = w.if-before-own.false in omega (arith, lt, ge)) ] in
+    λ has. ⊎_elim
+    (λ (w : IsKept c.args.kept.now c.args.id). let same = c.requires.counted ∙ kept_place c.args.kept.now c.requires.merge.kept_up c.args.id w in let low = w.1 in let high = c.if-place-kept.false in omega (arith, same, low, high))
+    (λ (w : IsOwn c.args.own.now c.args.id). no_own c.args.own.now c.requires.merge.own_up c.args.id c.ids_below-before.result e.bound e.low e.high other w)
+    has

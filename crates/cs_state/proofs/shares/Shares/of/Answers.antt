@@ -1,0 +1,39 @@
+use Rattle.std.proofs.Common.{◌≡◌, ℕ, ◌<◌, [], List, sym, ap, ◌∙◌, subst, arith, length, get_or}
+use Rattle.std.specs.List.{All}
+use Rattle.cs_micro.specs.Micros.{Micros}
+use Rattle.cs_apm.specs.Atlases.{atlas_in}
+use Rattle.cs_apm.specs.Slots.{FitsIn}
+use Rattle.cs_apm.specs.declared.slot.Step.{Step}
+use Rattle.cs_apm.proofs.Building.{fits}
+use Rattle.cs_state.specs.Numbers.{kept_at}
+use Rattle.cs_state.specs.Shares.{ids, mark_at, stays, IsLeft}
+use Rattle.cs_state.proofs.Gathering.{shares_are}
+use Rattle.cs_state.proofs.shares.Shares.of.Goals as goal
+
+pub marks_of-requires : goal.marks_of-requires
+marks_of-requires c =
+    let tables = c.args.tables.now in
+    let m : Micros = record { ops = c.args.ops.now; syncs = []; starts = [] } in
+    let long : c.len.result ≡ length tables.slots.items = c.len.ensures ∙ tables.slots.ok.0 in
+    subst (λ (ss : List Step). (k : ℕ) (d : Step) → k < length ss → FitsIn c.len.result (get_or ss k d)) (sym c.deref.ensures.value)
+    (subst (λ n. All (FitsIn n) tables.steps.items) (sym long) (fits c.args.trace.now m (atlas_in tables) c.requires.atlas))
+
+pub returns : goal.returns
+returns c =
+    let tables = c.args.tables.now in
+    let marks = c.in_ok-marks.marks.items in
+    let len : c.len.result ≡ length tables.slots.items = c.len.ensures ∙ tables.slots.ok.0 in
+    let few : length tables.slots.items < 1048576 =
+    (let paths = c.requires.atlas.few in let long = c.requires.atlas.long in let records = c.records-few.ensures.few in let ops = c.requires.few in omega (arith, paths, long, records, ops)) in
+    let d2 = c.deref-2.ensures.value in
+    let d3 = c.deref-3.ensures.value in
+    let d4 = c.deref-4.ensures.value in
+    let d5 = c.deref-5.ensures.value in
+    let d6 = c.deref-6.ensures.value in
+    shares_are c.args.trace.now c.args.ops.now tables marks few (c.in_ok-marks.ensures.long ∙ len)
+    (λ id gone. subst (λ ss. IsLeft ss id) c.deref.ensures.value (c.in_ok-marks.ensures.left id gone))
+    _ (c.in_ok-kept.ensures ∙ (λ i. ids (stays (d2 i) (d3 i)) (length (d3 i))))
+    (c.in_ok-touched.ensures ∙ (λ i. ids (mark_at (d6 i)) (length (d6 i))))
+    (c.in_ok-kept_below.ensures.long ∙ ap length d5)
+    (λ id low. c.in_ok-kept_below.ensures.each id (subst (λ (ss : List _). id < length ss) (sym d5) low) ∙ (λ i. length (ids (stays (d4 i) (d5 i)) id)))
+    c.in_ok-names.ensures

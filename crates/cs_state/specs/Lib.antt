@@ -1,0 +1,6 @@
+pub mod Numbers
+pub mod Names
+pub mod Shares
+pub mod Parts
+pub mod States
+pub mod Windows

@@ -1,0 +1,86 @@
+-- What all states of a trace share, and what one state has of its own.
+use Rattle.std.specs.Prelude.{◌≡◌, ◌≢◌, ◌+◌, ◌<◌, ◌^◌, ◌⊎◌, ℕ, zero, suc, cond, Bool, true, false, not, ◌&&◌, List, [], ◌∷◌, ◌++◌, Option, None, Some, fold, length, map, slice_index_or}
+use Rattle.cs_trace.specs.Traces.{Trace}
+use Rattle.cs_micro.specs.declared.micro_op.MicroOp.{MicroOp}
+use Rattle.cs_apm.specs.Slots.{slot_at, slots_after, step_at}
+use Rattle.cs_apm.specs.declared.slot.Slot.{Slot}
+use Rattle.cs_apm.specs.declared.slot.Slot.TheVariants.{Nothing, Directory, File}
+use Rattle.cs_apm.specs.declared.slot.Step.{Step}
+use Rattle.cs_apm.specs.declared.slot.Step.TheVariants.{Set, Move, Other}
+use Rattle.cs_apm.specs.declared.tables.Tables.{Tables}
+use Rattle.cs_state.specs.declared.numbers.Own.{Own}
+use Rattle.cs_state.specs.declared.shares.Shares.{Shares}
+use Rattle.cs_state.specs.Names.{names_in}
+use Rattle.cs_state.specs.Numbers.{at, below, kept_at, HasId, IsKept, IsMerge}
+
+-- something stands in the slot
+abbrev pub stands : Slot → Bool
+stands Nothing = false
+stands (Directory k) = true
+stands (File n) = true
+
+-- in how many of the first i slots something stands
+abbrev pub standing : List Slot → ℕ → ℕ
+standing slots zero = 0
+standing slots (suc i) = cond (stands (slot_at slots i)) 1 0 + standing slots i
+
+-- the number of what stands in the slot, if something does
+abbrev pub place_of : List Slot → ℕ → Option ℕ
+place_of slots id = cond (stands (slot_at slots id)) (Some (standing slots id)) None
+
+-- the step leaves the slot of the id as it is
+abbrev pub Leaves : ℕ → Step → Type 0
+Leaves id (Set i s) = i ≢ id
+Leaves id (Move i j) = (i ≢ id) × (j ≢ id)
+Leaves id Other = Unit {0}
+
+-- no step changes the slot of the id
+abbrev pub IsLeft : List Step → ℕ → Type 0
+IsLeft steps id = (k : ℕ) → k < length steps → Leaves id (step_at steps k)
+
+abbrev pub mark_at : List Bool → ℕ → Bool
+mark_at marks i = slice_index_or marks i false
+
+-- the same stands there in every state
+abbrev pub stays : List Bool → List Slot → ℕ → Bool
+stays marks slots id = not (mark_at marks id) && stands (slot_at slots id)
+
+-- those of the first n that pass the test
+abbrev pub ids : (ℕ → Bool) → ℕ → List ℕ
+ids f zero = []
+ids f (suc n) = ids f n ++ cond (f n) (n ∷ []) []
+
+-- the slots after the members of a set
+abbrev pub slots_left : Tables → List ℕ → List Slot
+slots_left tables places = fold slots_after tables.slots.items (map (step_at tables.steps.items) places)
+
+-- the lists are of the tables: what is in neither list never stands
+pub record IsShares (t : Trace) (ops : List MicroOp) (tables : Tables) (shares : Shares) : Type 0 where
+  pub few : length tables.slots.items < 2 ^ 20
+  pub kept_up : (i j : ℕ) → i < j → j < length shares.kept.items → kept_at shares.kept.items i < kept_at shares.kept.items j
+  pub kept_stand : (k : ℕ) → k < length shares.kept.items → stands (slot_at tables.slots.items (kept_at shares.kept.items k)) ≡ true
+  pub kept_left : (k : ℕ) → k < length shares.kept.items → IsLeft tables.steps.items (kept_at shares.kept.items k)
+  pub counted : length shares.kept_below.items ≡ length tables.slots.items
+  pub below : (id : ℕ) → id < length tables.slots.items → kept_at shares.kept_below.items id ≡ below (λ k. k) shares.kept.items id
+  pub touched_up : (i j : ℕ) → i < j → j < length shares.touched.items → kept_at shares.touched.items i < kept_at shares.touched.items j
+  pub touched_low : (k : ℕ) → k < length shares.touched.items → kept_at shares.touched.items k < length tables.slots.items
+  pub apart : (i j : ℕ) → i < length shares.kept.items → j < length shares.touched.items → kept_at shares.kept.items i ≢ kept_at shares.touched.items j
+  pub known : (id : ℕ) → id < length tables.slots.items → (IsKept shares.kept.items id ⊎ IsKept shares.touched.items id) ⊎ ((stands (slot_at tables.slots.items id) ≡ false) × IsLeft tables.steps.items id)
+  pub names : shares.names ≡ names_in t ops tables
+
+-- what stands at the touched id, if something does: so many kept ones come before it, and n of a state's own
+abbrev pub own_one : ℕ → ℕ → Slot → ℕ → List Own
+own_one id before slot n = cond (stands slot) (record { id = id; number = before + n; slot = slot } ∷ []) []
+
+-- the touched ids at which something stands; n of them stand before
+abbrev pub own_from : List ℕ → List ℕ → List Slot → ℕ → List Own
+own_from counts [] slots n = []
+own_from counts (t ∷ ts) slots n =
+    own_one t (kept_at counts t) (slot_at slots t) n ++ own_from counts ts slots (n + cond (stands (slot_at slots t)) 1 0)
+
+-- the two lists have the ids of the slots in which something stands, and each of its own has what stands
+pub record IsShared (slots : List Slot) (kept : List ℕ) (own : List Own) : Type 0 where
+  pub merge : IsMerge kept own
+  pub listed : (id : ℕ) → stands (slot_at slots id) ≡ true → HasId kept own id
+  pub there : (id : ℕ) → HasId kept own id → stands (slot_at slots id) ≡ true
+  pub same : (k : ℕ) → k < length own → (at own k).slot ≡ slot_at slots (at own k).id

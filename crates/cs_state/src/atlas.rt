@@ -1,0 +1,93 @@
+//! A trace with all that its states share, and the state of a set.
+ghost use Rattle.std.specs.Prelude.{◌≡◌, length, IfOk};
+ghost use Rattle.cs_tree_model.specs.Tree.{IsTree};
+ghost use Rattle.cs_trace.specs.Traces.{start_paths};
+ghost use Rattle.cs_micro.specs.Legal.{AreLegal};
+ghost use Rattle.cs_micro.specs.Micros.{micros_in};
+ghost use Rattle.cs_apm.specs.Orders.{needs_of};
+ghost use Rattle.cs_apm.specs.Sets.{IsAllowed};
+ghost use Rattle.cs_apm.specs.States.{crash_state_of};
+
+use crate::building::own_of;
+use crate::parts::Parts;
+use crate::shares::Shares;
+use crate::state::State;
+use crate::state_tree::StateTree;
+use cs_apm::tables::Tables;
+use cs_micro::Micros;
+use cs_trace::Trace;
+use std::alloc::{AllocError, Global};
+use std::marker::Model;
+use std::sync::Arc;
+
+/// The store of a state.
+pub type Built = StateTree;
+
+/// A trace with its micro-operations, and with what is found once for all its states: every path that
+/// ever stands, what stands there at the start, and what each micro-operation does there. Contracts see
+/// the trace.
+#[derive(Drop)]
+pub struct Atlas {
+    parts: Arc<Parts>,
+}
+
+impl Model for Atlas {
+    ghost use Rattle.std.specs.Arc.{arc_value};
+    ghost use Rattle.cs_trace.specs.Traces.{Trace};
+    ghost use Rattle.cs_state.specs.Parts.{AreParts};
+
+    ghost Value = { Trace };
+
+    ghost view = { λ atlas. (arc_value atlas.parts).trace };
+
+    ghost invariant = { λ atlas. AreParts (arc_value atlas.parts) };
+}
+
+impl Atlas {
+    /// The atlas of a trace and what it breaks into, as `break_up` gives it.
+    pub fn of(alloc: Global, trace: Trace, micros: Micros) -> Result<Atlas, AllocError>
+        requires broken { micros ≡ micros_in trace }
+        requires legal { AreLegal (start_paths trace) (length micros.starts) micros.ops }
+        ensures { IfOk result (λ atlas. atlas ≡ trace) }
+    {
+        let tables = Tables::of(alloc, &trace, &micros)?;
+        let shares = Shares::of(alloc, &trace, micros.ops(), &tables)?;
+        let parts = Arc::new(
+            alloc,
+            Parts {
+                trace,
+                micros,
+                tables,
+                shares,
+            },
+        )?;
+        Ok(Atlas { parts })
+    }
+
+    /// The trace.
+    pub fn trace(&self) -> &Trace
+        ensures { result.now ≡ self.now }
+    {
+        &self.parts.trace
+    }
+
+    /// What the trace breaks into.
+    pub fn micros(&self) -> &Micros
+        ensures value { result.now ≡ micros_in self.now }
+        ensures legal { AreLegal (start_paths self.now) (length result.now.starts) result.now.ops }
+    {
+        &self.parts.micros
+    }
+
+    /// The state of a set, which is allowed.
+    pub fn build(&self, alloc: Global, places: &[u32]) -> Result<Built, AllocError>
+        requires { IsAllowed (needs_of (micros_in self.now)) (length (micros_in self.now).ops) places.now }
+        ensures state { IfOk result (λ tree. tree ≡ crash_state_of self.now (micros_in self.now) places.now) }
+        ensures tree { IfOk result IsTree }
+    {
+        let own = own_of(alloc, &self.parts, places)?;
+        let places = Vec::from_slice(alloc, places)?;
+        let parts = Arc::try_clone(&self.parts)?;
+        Ok(StateTree::of(State { parts, places, own }))
+    }
+}

@@ -1,0 +1,19 @@
+//! The crash states of a trace, as stores that share what all of them have: a state keeps the members of
+//! its set, and the entries at the paths that some operation touches.
+#![tactic(auto)]
+
+pub mod atlas;
+mod building;
+mod bytes;
+mod marks;
+mod numbers;
+mod parts;
+mod reading;
+mod shares;
+mod state;
+pub mod state_tree;
+#[cfg(test)]
+mod tests;
+
+pub use atlas::{Atlas, Built};
+pub use state_tree::StateTree;

@@ -1,0 +1,117 @@
+//! Which of the paths that ever stand some operation touches.
+ghost use Rattle.std.specs.Prelude.{◌≡◌, ◌+◌, ◌<◌, ◌^◌, ◌++◌, ◌∷◌, [], ℕ, cond, false, length, IfOk, OnOk};
+ghost use Rattle.std.specs.List.{All};
+ghost use Rattle.cs_apm.specs.Slots.{FitsIn};
+ghost use Rattle.cs_state.specs.Numbers.{kept_at};
+ghost use Rattle.cs_state.specs.Shares.{ids, mark_at, stands, stays, IsLeft, Leaves};
+
+use cs_apm::slot::{Slot, Step};
+use std::alloc::{AllocError, Global};
+
+/// Marks the paths that a step changes.
+fn mark(marks: &mut [bool], step: Step)
+    requires { FitsIn (length marks.old) step }
+    ensures long { length marks.new ≡ length marks.old }
+    ensures left { (id : ℕ) → mark_at marks.new id ≡ false → (mark_at marks.old id ≡ false) × Leaves id step }
+{
+    match step {
+        Step::Set(place, _) => marks[place as usize] = true,
+        Step::Move(from, to) => {
+            marks[from as usize] = true;
+            marks[to as usize] = true;
+        }
+        Step::Other => {}
+    }
+}
+
+/// For each of so many paths whether one of the steps changes it.
+pub fn marks_of(alloc: Global, steps: &[Step], count: usize) -> Result<Vec<bool>, AllocError>
+    requires { All (FitsIn count) steps.now }
+    ensures long { IfOk result (λ marks. length marks.items ≡ count) }
+    ensures left { IfOk result (λ marks. (id : ℕ) → mark_at marks.items id ≡ false → IsLeft steps.now id) }
+{
+    let mut marks = vec![in alloc; false; count]?;
+    for step in steps {
+        mark(&mut marks, *step);
+    }
+    Ok(marks)
+}
+
+/// Whether something stands in the slot.
+pub fn stands(slot: Slot) -> bool
+    ensures { result ≡ stands slot }
+{
+    match slot {
+        Slot::Nothing => false,
+        Slot::Directory(_) | Slot::File(_) => true,
+    }
+}
+
+/// Puts the path behind the others, if it passes.
+fn push_if(ids: &mut Vec<u32>, id: usize, passes: bool) -> Result<(), AllocError>
+    requires { id < 2 ^ 20 }
+    ensures { OnOk result (ids.new.items ≡ ids.old.items ++ cond passes (id ∷ []) []) }
+{
+    if passes {
+        ids.push(id as u32)?;
+    }
+    Ok(())
+}
+
+/// The marked paths.
+pub fn marked(alloc: Global, marks: &[bool]) -> Result<Vec<u32>, AllocError>
+    requires { length marks.now < 2 ^ 20 }
+    ensures { IfOk result (λ found. found.items ≡ ids (mark_at marks.now) (length marks.now)) }
+{
+    let mut found = Vec::new(alloc);
+    for id in 0..marks.len() {
+        push_if(&mut found, id, marks[id])?;
+    }
+    Ok(found)
+}
+
+/// Whether something stands at the path from the start on, and no step changes it.
+fn is_kept(marks: &[bool], slots: &[Slot], id: usize) -> bool
+    requires marked { id < length marks.now }
+    requires there { id < length slots.now }
+    ensures { result ≡ stays marks.now slots.now id }
+{
+    !marks[id] && stands(slots[id])
+}
+
+/// The paths at which something stands from the start on, and that no step changes.
+pub fn kept_of(alloc: Global, marks: &[bool], slots: &[Slot]) -> Result<Vec<u32>, AllocError>
+    requires few { length slots.now < 2 ^ 20 }
+    requires long { length marks.now ≡ length slots.now }
+    ensures { IfOk result (λ found. found.items ≡ ids (stays marks.now slots.now) (length slots.now)) }
+{
+    let mut found = Vec::new(alloc);
+    for id in 0..slots.len() {
+        push_if(&mut found, id, is_kept(marks, slots, id))?;
+    }
+    Ok(found)
+}
+
+/// One more, if it passes.
+fn count_if(count: u32, passes: bool) -> u32
+    requires { count < 2 ^ 20 }
+    ensures { result ≡ count + cond passes 1 0 }
+{
+    if passes { count + 1 } else { count }
+}
+
+/// For each path how many of these come before it.
+pub fn kept_below(alloc: Global, marks: &[bool], slots: &[Slot]) -> Result<Vec<u32>, AllocError>
+    requires few { length slots.now < 2 ^ 20 }
+    requires long { length marks.now ≡ length slots.now }
+    ensures long { IfOk result (λ counts. length counts.items ≡ length slots.now) }
+    ensures each { IfOk result (λ counts. (id : ℕ) → id < length slots.now → kept_at counts.items id ≡ length (ids (stays marks.now slots.now) id)) }
+{
+    let mut counts = Vec::new(alloc);
+    let mut count = 0u32;
+    for id in 0..slots.len() {
+        counts.push(count)?;
+        count = count_if(count, is_kept(marks, slots, id));
+    }
+    Ok(counts)
+}

@@ -1,0 +1,15 @@
+//! A trace with all that its states share.
+
+use crate::shares::Shares;
+use cs_apm::tables::Tables;
+use cs_micro::Micros;
+use cs_trace::Trace;
+
+/// A trace with what was found of it once for all its states.
+#[derive(Drop)]
+pub struct Parts {
+    pub trace: Trace,
+    pub micros: Micros,
+    pub tables: Tables,
+    pub shares: Shares,
+}

@@ -1,0 +1,73 @@
+//! What is found once of a trace, so that its states can share it.
+
+ghost use Rattle.std.specs.Prelude.{◌≡◌, ◌≤◌, length, IfOk};
+ghost use Rattle.cs_apm.specs.Atlases.{IsAtlas, atlas_in};
+ghost use Rattle.cs_state.specs.Names.{names_in};
+
+use crate::marks::{kept_below, kept_of, marked, marks_of};
+use cs_apm::making::store_of;
+use cs_apm::slot::Slot;
+use cs_apm::tables::Tables;
+use cs_micro::MicroOp;
+use cs_trace::Trace;
+use cs_tree::PlainTree;
+use std::alloc::{AllocError, Global};
+
+/// What all states of a trace share beside its tables. A path is told by its place among all that ever
+/// stand.
+#[derive(Drop)]
+pub struct Shares {
+    /// The paths at which the same stands in every state.
+    pub kept: Vec<u32>,
+    /// How many of them come before each path.
+    pub kept_below: Vec<u32>,
+    /// The paths that some operation touches.
+    pub touched: Vec<u32>,
+    /// Every path, as a tree of directories with these places as its numbers.
+    pub names: PlainTree,
+}
+
+/// Every path as a directory.
+fn names_of(
+    alloc: Global,
+    trace: &Trace,
+    ops: &[MicroOp],
+    tables: &Tables,
+) -> Result<PlainTree, AllocError>
+    requires { IsAtlas trace.now ops.now (atlas_in tables.now) }
+    ensures { IfOk result (λ names. names ≡ names_in trace.now ops.now tables.now) }
+{
+    let all = vec![in alloc; Slot::Directory(0); tables.paths.len()]?;
+    store_of(alloc, trace, ops, tables, &[], &all)
+}
+
+impl Shares {
+    ghost use Rattle.cs_names.specs.declared.limits.TheConstants.{MICRO_OPERATIONS};
+    ghost use Rattle.cs_state.specs.Shares.{IsShares};
+
+    /// Those of a trace, its micro-operations and its tables.
+    pub fn of(
+        alloc: Global,
+        trace: &Trace,
+        ops: &[MicroOp],
+        tables: &Tables,
+    ) -> Result<Shares, AllocError>
+        requires atlas { IsAtlas trace.now ops.now (atlas_in tables.now) }
+        requires few { length ops.now ≤ MICRO_OPERATIONS }
+        ensures { IfOk result (IsShares trace.now ops.now tables.now) }
+    {
+        // no trace has so many records that its paths could not be counted
+        let _few = trace.records();
+        let marks = marks_of(alloc, &tables.steps, tables.slots.len())?;
+        let kept = kept_of(alloc, &marks, &tables.slots)?;
+        let kept_below = kept_below(alloc, &marks, &tables.slots)?;
+        let touched = marked(alloc, &marks)?;
+        let names = names_of(alloc, trace, ops, tables)?;
+        Ok(Shares {
+            kept,
+            kept_below,
+            touched,
+            names,
+        })
+    }
+}

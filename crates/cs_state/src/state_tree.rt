@@ -1,0 +1,125 @@
+//! The state of a set.
+ghost use Rattle.std.specs.Prelude.{◌≡◌, Some, IfSome, IsSome};
+ghost use Rattle.std.specs.Option.{option_copied, option_map};
+ghost use Rattle.cs_tree_model.specs.Nexts.{entry_name, IsEntryBelow};
+ghost use Rattle.cs_state.specs.States.{number_shown, tree_in, IsMade};
+
+use crate::state::State;
+use cs_names::Name;
+use cs_tree_model::{Entry, Metadata, TreeRead};
+use std::alloc::{AllocError, Global};
+use std::marker::Model;
+
+/// The state of a set of a trace's micro-operations. It keeps the members of the set, and what stands at
+/// the paths that some operation touches; all else it shares with the other states of the trace.
+#[derive(Drop)]
+pub struct StateTree {
+    state: State,
+}
+
+impl Model for StateTree {
+    ghost use Rattle.cs_tree_model.specs.Tree.{Tree, tree_code};
+    ghost use Rattle.cs_state.specs.States as model;
+
+    ghost Value = { Tree };
+
+    ghost coded = { tree_code };
+
+    ghost view = { λ tree. model.tree_in tree.state };
+
+    ghost invariant = { λ tree. model.IsMade tree.state };
+}
+
+impl StateTree {
+    /// The state that keeps this.
+    pub(crate) fn of(state: State) -> StateTree
+        requires { IsMade state }
+        ensures { result ≡ tree_in state }
+    {
+        StateTree { state }
+    }
+}
+
+impl TreeRead for StateTree {
+    ghost tree = { λ t. t };
+
+    fn record(&self, number: u64) -> Option<Metadata<'_>> {
+        let found = self.state.found(number)?;
+        self.state.metadata(number, found.slot)
+    }
+
+    fn find_number(&self, directory: u64, name: &str) -> Option<u64> {
+        let found = self.state.found(directory)?;
+        let id = self.state.names().find_number(found.id as u64, name)?;
+        self.state.number(id)
+    }
+
+    fn parent_of(&self, number: u64) -> Option<u64> {
+        let found = self.state.found(number)?;
+        let id = self.state.names().parent_of(found.id as u64)?;
+        self.state.number(id)
+    }
+
+    fn name_of(&self, number: u64) -> Option<&Name> {
+        let found = self.state.found(number)?;
+        self.state.names().name_of(found.id as u64)
+    }
+
+    fn entry_after(
+        &self,
+        directory: u64,
+        last: Option<&Name>,
+        bound: Option<&Name>,
+    ) -> Option<Entry<'_>> {
+        let found = self.state.found(directory)?;
+        entry_in(&self.state, found.id as u64, last, bound)
+    }
+
+    fn count(&self) -> usize {
+        self.state.count()
+    }
+
+    fn last_number(&self) -> u64 {
+        self.state.count() as u64 - 1
+    }
+
+    fn read_at(
+        &self,
+        alloc: Global,
+        number: u64,
+        offset: u64,
+        count: usize,
+    ) -> Result<Option<Vec<u8>>, AllocError> {
+        let Some(found) = self.state.found(number) else {
+            return Ok(None);
+        };
+        let bytes = self.state.read(alloc, found.slot, offset, count)?;
+        Ok(bytes)
+    }
+}
+
+/// The next entry at which something stands, of the directory at a path. Names at which nothing stands
+/// are passed.
+fn entry_in<'a>(
+    state: &'a State,
+    directory: u64,
+    last: Option<&Name>,
+    bound: Option<&Name>,
+) -> Option<Entry<'a>>
+    requires { IsMade state.now }
+    ensures name { IsEntryBelow (λ y. IsSome (number_shown state.now directory y)) (option_copied last.entry) (option_copied bound.entry) (option_map entry_name result) }
+    ensures number { IfSome result (λ e. number_shown state.now directory (entry_name e) ≡ Some e.number) }
+{
+    let names = state.names();
+    let mut from = last;
+    loop {
+        let entry = names.entry_after(directory, from, bound)?;
+        if let Some(number) = state.number(entry.number) {
+            return Some(Entry {
+                name: entry.name,
+                number,
+            });
+        }
+        from = Some(entry.name);
+    }
+}

@@ -1,0 +1,118 @@
+-- What the answer to a connection's question makes of a reached world.
+use Rattle.std.proofs.Common.{◌≡◌, ◌≢◌, ◌∙◌, ℕ, ◌+◌, ◌<◌, ◌≤◌, ◌==◌, Bool, true, false, Option, Some, IsSome, refl, sym, ap, subst, arith, ◌⊎◌, inl, inr}
+use Rattle.std.specs.Prelude.{slice_get}
+use Rattle.std.specs.Option.{option_map_or}
+use Rattle.std.proofs.lemmas.Bool.{eqb-true, eqb-false}
+use Rattle.cs_fids.specs.declared.entry.Entry.{Entry}
+use Rattle.cs_fids.specs.Entries.{pass_of, run_of}
+use Rattle.cs_journal.specs.Journals.{HasRoom}
+use Rattle.cs_journal.specs.Runs.{RunOf, state_of}
+use Rattle.cs_names.specs.declared.limits.TheConstants.{RUN_ATTACHES}
+use Rattle.cs_registry.specs.declared.found.Found.{Found}
+use Rattle.cs_registry.specs.Keys.{Key}
+use Rattle.cs_registry.specs.Registries.{Registry}
+use Rattle.cs_registry.specs.Runs.{change, held_at}
+use Rattle.cs_session.specs.Sessions.{Awaited, Sess, entry_at}
+use Rattle.cs_world.specs.Reached.{Gave, AreThere, awaits}
+use Rattle.cs_world.specs.Worlds.{World, connection}
+use Rattle.cs_world.proofs.Placing.{get_set_same}
+use Rattle.cs_world.proofs.Reached.{change_other}
+use Rattle.cs_world.proofs.Standing.{Came, Moves, Stood, gave, given, is_there, one_if, stands}
+
+-- ---- the registry stays, and no fid is new
+
+module _ (w : World) (ok : AreThere w) (conn : ℕ) (s' : Sess) (same : s'.pending ≡ (connection w conn).pending) where
+  same_count : (place : ℕ) → one_if (awaits place s') ≡ one_if (awaits place (connection w conn))
+  same_count place = ap (λ (o : Option Awaited). one_if (option_map_or (λ (p : Awaited). p.run == place) o false)) same
+
+  pub stays : ((fid : ℕ) (e : Entry) → entry_at s' fid ≡ Some e → entry_at (connection w conn) fid ≡ Some e) → Moves w conn s' w.registry
+  stays kept = record {
+    scene = refl;
+    users = refl;
+    published = refl;
+    runs = λ place key run there. Stood run there refl refl (λ h. h) (let c = same_count place in omega (arith, c)) (λ f. f);
+    gave = λ place pass h. h;
+    there = λ place h. h;
+    awaited = λ p waits. ok.awaited conn p (sym same ∙ waits);
+    fids = λ fid e there. ok.fids conn fid e (kept fid e there);
+  }
+
+-- ---- one run changes
+
+module _ (w : World) (ok : AreThere w) (conn n : ℕ) (key : Key) (run : Found RunOf) (is : slice_get w.registry.runs n ≡ Some (key, run)) (new : Found RunOf → Found RunOf) (s' : Sess) where
+  abbrev after : Registry RunOf
+  after = record w.registry { runs = change new n w.registry.runs }
+
+  there_now : slice_get after.runs n ≡ Some (key, new run)
+  there_now = rw is (get_set_same w.registry.runs n (key, new run) (key, run) is)
+
+  elsewhere : (place : ℕ) → place ≢ n → slice_get after.runs place ≡ slice_get w.registry.runs place
+  elsewhere place other = change_other new w.registry.runs n place other
+
+  -- what the change has to keep
+  pub record Changes : Type 0 where
+    pub fresh : (new run).held.fresh ≡ run.held.fresh
+    pub users : (new run).held.users ≡ run.held.users
+    pub room : HasRoom (state_of run.held) → HasRoom (state_of (new run).held)
+    pub more : run.held.passes ≤ (new run).held.passes
+    pub own : (new run).held.passes + one_if (awaits n s') + run.finds ≤ run.held.passes + one_if (awaits n (connection w conn)) + (new run).finds
+    pub others : (place : ℕ) → place ≢ n → one_if (awaits place s') ≤ one_if (awaits place (connection w conn))
+    pub few : run.finds ≤ RUN_ATTACHES → (new run).finds ≤ RUN_ATTACHES
+    pub awaited : (p : Awaited) → s'.pending ≡ Some p → ((connection w conn).pending ≡ Some p) ⊎ (p.run ≡ n)
+    pub fids : (fid : ℕ) (e : Entry) → entry_at s' fid ≡ Some e → Gave w.registry (run_of e) (pass_of e) ⊎ ((run_of e ≡ n) × (pass_of e < (new run).held.passes))
+
+  module _ (c : Changes) where
+    came_by : (place : ℕ) (b : Bool) → (place == n) ≡ b → (key' : Key) (run' : Found RunOf) → slice_get after.runs place ≡ Some (key', run') → Came w conn s' after place key' run'
+    came_by place true e key' run' there =
+        let same : place ≡ n = eqb-true place n e in
+        let at : slice_get after.runs n ≡ Some (key', run') = ap (slice_get after.runs) (sym same) ∙ there in
+        let its : ◌≡◌ {A = Key × Found RunOf} (key, new run) (key', run') = let now = there_now in cc in
+        let its_key : key ≡ key' = ap (λ (x : Key × Found RunOf). x.0) its in
+        let its_run : new run ≡ run' = ap (λ (x : Key × Found RunOf). x.1) its in
+        let passes : run'.held.passes ≡ (new run).held.passes = ap (λ (x : Found RunOf). x.held.passes) (sym its_run) in
+        let finds : run'.finds ≡ (new run).finds = ap (λ (x : Found RunOf). x.finds) (sym its_run) in
+        let count : one_if (awaits place s') ≡ one_if (awaits n s') = ap (λ q. one_if (awaits q s')) same in
+        let count_then : one_if (awaits place (connection w conn)) ≡ one_if (awaits n (connection w conn)) = ap (λ q. one_if (awaits q (connection w conn))) same in
+        Stood run (ap (slice_get w.registry.runs) same ∙ is ∙ ap (λ k. Some (k, run)) its_key) (ap (λ (x : Found RunOf). x.held.fresh) (sym its_run) ∙ c.fresh) (ap (λ (x : Found RunOf). x.held.users) (sym its_run) ∙ c.users)
+        (λ h. subst (λ (x : Found RunOf). HasRoom (state_of x.held)) its_run (c.room h)) (omega (arith, c.own, passes, finds, count, count_then)) (λ f. let small = c.few f in omega (arith, small, finds))
+    came_by place false e key' run' there =
+        let ne : place ≢ n = eqb-false place n e in
+        Stood run' (sym (elsewhere place ne) ∙ there) refl refl (λ h. h) (let few = c.others place ne in omega (arith, few)) (λ f. f)
+
+    gave_by : (place pass : ℕ) (b : Bool) → (place == n) ≡ b → Gave w.registry place pass → Gave after place pass
+    gave_by place pass true e h =
+        let same : place ≡ n = eqb-true place n e in
+        let g = given w.registry place pass h in
+        let at : slice_get w.registry.runs n ≡ Some (g.key, g.run) = ap (slice_get w.registry.runs) (sym same) ∙ g.there in
+        let its : ◌≡◌ {A = Key × Found RunOf} (g.key, g.run) (key, run) = let stood = is in cc in
+        let passes : g.run.held.passes ≡ run.held.passes = ap (λ (x : Key × Found RunOf). x.1.held.passes) its in
+        subst (λ q. Gave after q pass) (sym same) (gave after n pass key (new run) there_now (omega (arith, passes, g.gave, c.more)))
+    gave_by place pass false e h =
+        let g = given w.registry place pass h in
+        gave after place pass g.key g.run (elsewhere place (eqb-false place n e) ∙ g.there) g.gave
+
+    there_by : (place : ℕ) (b : Bool) → (place == n) ≡ b → IsSome (held_at w.registry.runs place) → IsSome (held_at after.runs place)
+    there_by place true e h = is_there after place key (new run) (ap (slice_get after.runs) (eqb-true place n e) ∙ there_now)
+    there_by place false e h =
+        let g = stands w.registry place h in
+        is_there after place g.key g.run (elsewhere place (eqb-false place n e) ∙ g.there)
+
+    awaited_by : (p : Awaited) → ((connection w conn).pending ≡ Some p) ⊎ (p.run ≡ n) → IsSome (held_at after.runs p.run)
+    awaited_by p (inl was) = there_by p.run (p.run == n) refl (ok.awaited conn p was)
+    awaited_by p (inr same) = is_there after p.run key (new run) (ap (slice_get after.runs) same ∙ there_now)
+
+    fids_by : (e : Entry) → Gave w.registry (run_of e) (pass_of e) ⊎ ((run_of e ≡ n) × (pass_of e < (new run).held.passes)) → Gave after (run_of e) (pass_of e)
+    fids_by e (inl was) = gave_by (run_of e) (pass_of e) (run_of e == n) refl was
+    fids_by e (inr its) = gave after (run_of e) (pass_of e) key (new run) (ap (slice_get after.runs) its.0 ∙ there_now) its.1
+
+    pub changes : Moves w conn s' after
+    changes = record {
+      scene = refl;
+      users = refl;
+      published = refl;
+      runs = λ place key' run' there. came_by place (place == n) refl key' run' there;
+      gave = λ place pass h. gave_by place pass (place == n) refl h;
+      there = λ place h. there_by place (place == n) refl h;
+      awaited = λ p waits. awaited_by p (c.awaited p waits);
+      fids = λ fid e there. fids_by e (c.fids fid e there);
+    }

@@ -1,0 +1,189 @@
+-- Runs, passes and fids of reached worlds are there, and every step keeps that.
+use Rattle.std.proofs.Common.{◌≡◌, ◌∙◌, ℕ, zero, suc, ◌<◌, Bool, true, false, cond, List, [], ◌∷◌, Option, None, Some, refl, sym, ap, subst, arith, rules}
+use Rattle.std.specs.Prelude.{is_some, nat_lt, option_map, string_bytes, slice_index_or, slice_set}
+use Rattle.std.specs.FinMap.{empty, get, gets}
+use Rattle.std.proofs.lemmas.Bool.Decides.{nat_tests}
+use Rattle.std.proofs.lemmas.List.{length-replicate}
+use Rattle.cs_fids.specs.declared.entry.Entry.{Entry}
+use Rattle.cs_fids.specs.declared.entry.Entry.TheVariants as entry
+use Rattle.cs_fids.specs.Entries.{pass_of, run_of}
+use Rattle.cs_names.specs.declared.limits.TheConstants.{CONNECTIONS}
+use Rattle.cs_names.specs.declared.rule_id.RuleId.TheVariants.{S5}
+use Rattle.cs_plan.specs.Scenes.{Scene}
+use Rattle.cs_run.specs.declared.answer.Answer.{Answer}
+use Rattle.cs_session.specs.declared.reply.Reply.{Reply as Said}
+use Rattle.cs_session.specs.declared.reply.Reply.TheVariants.{Error}
+use Rattle.cs_permit.specs.Table.{attach_table_rules}
+use Rattle.cs_permit.specs.TreeNames.{tree_name_in}
+use Rattle.cs_session.specs.Attaches.{attach_judged, find_question}
+use Rattle.cs_permit.specs.Refusals.{Check}
+use Rattle.cs_session.specs.Judgements.{judged}
+use Rattle.cs_session.specs.Questions.{Question, Find, Enter}
+use Rattle.cs_session.specs.Sessions.{Awaited, Sess, blank, entry_at}
+use Rattle.cs_session.specs.TableSteps.{table_stepped}
+use Rattle.cs_session.specs.Steps.{Front, Done, Asks, Step, FindStep, AttachStep, CallStep, CloseStep, Table, after, front_by, fronted}
+use Rattle.cs_users.specs.Rows.{Row}
+use Rattle.cs_world.specs.declared.reply.Reply.{Reply}
+use Rattle.cs_world.specs.declared.reply.Reply.TheVariants.{Connection}
+use Rattle.cs_world.specs.declared.reply.Reply.TheVariants.{Published, Unpublished}
+use Rattle.cs_world.specs.declared.reply.StateFault.TheVariants as f
+use Rattle.cs_world.specs.declared.step.Step as t
+use Rattle.cs_world.specs.declared.step.Step.TheVariants as s
+use Rattle.cs_journal.specs.Runs.{RunOf}
+use Rattle.cs_registry.specs.Publishing.{with_published}
+use Rattle.cs_registry.specs.Registries.{Registry}
+use Rattle.cs_fids.specs.Tables.{FidMap}
+use Rattle.cs_world.specs.Asking.{answered, key_in}
+use Rattle.cs_world.specs.Marks.{Mark, RunMark, below, refuses_table}
+use Rattle.cs_world.specs.Reached.{Gave, AreThere}
+use Rattle.cs_world.specs.Steps.{by_registry, goes_from, on_connection, step_of}
+use Rattle.cs_world.specs.Worlds.{World, connection, new_world}
+use Rattle.cs_world.proofs.Answering.{stays}
+use Rattle.cs_world.proofs.Keeps.{attaches, calls, finds}
+use Rattle.cs_world.proofs.Placing.{index_replicate}
+use Rattle.cs_world.proofs.Standing.{Moves, moved}
+use Rattle.cs_world.proofs.Tables.{Source, Kept, Walks, Opens, Reads, call_asks, call_source, close_asks, fid_in, judged_asks, left, refused_keeps, table_idle, table_keeps}
+
+-- ---- what a connection asks
+
+judged_idle : (s : Sess) (waits : Bool) (msize : Option ℕ) (rules : List Check) (refused : Bool) (q : Option Question) (p : Question) → fronted s (judged waits msize rules refused q) ≡ Asks p → waits ≡ false
+judged_idle s true msize rules refused q p e = absurd (cc)
+judged_idle s false msize rules refused q p e = refl
+
+none_if : {A : Type 0} (o : Option A) → is_some o ≡ false → o ≡ None
+none_if None is = refl
+none_if (Some x) is = absurd (cc)
+
+-- what a find asks
+pub record IsFind (q : Question) : Type 0 where
+  pub state : List ℕ
+  pub name : List ℕ
+  pub is : q ≡ Find state name
+
+pub find_by : (o : Option (List ℕ × List ℕ)) (q : Question) → option_map (λ (name : List ℕ × List ℕ). Find name.0 name.1) o ≡ Some q → IsFind q
+find_by None q e = absurd (cc)
+find_by (Some name) q e = record { state = name.0; name = name.1; is = cc }
+
+pub record IsEnter (now : ℕ) (s : Sess) (q : Question) : Type 0 where
+  pub pending : Awaited
+  pub waits : s.pending ≡ Some pending
+  pub is : q ≡ Enter now pending.run pending.call
+
+pub enter_by : (now : ℕ) (s : Sess) (o : Option Awaited) → s.pending ≡ o → (q : Question) → fronted s (attach_judged now o) ≡ Asks q → IsEnter now s q
+enter_by now s None is q e = absurd (cc)
+enter_by now s (Some p) is q e = record { pending = p; waits = is; is = cc }
+
+-- ---- a step of a connection
+
+module _ (w : World) (ok : AreThere w) (conn : ℕ) where
+  -- the entries that a call leaves stand on runs that are there
+  source_gave : (of : ℕ) (answer : Answer) (fid : ℕ) (e : Entry) → Source (connection w conn).fids of answer fid e → Gave w.registry (run_of e) (pass_of e)
+  source_gave of answer fid e (Kept there) = ok.fids conn fid e there
+  source_gave of answer fid e (Walks j from number there is) = subst (λ x. Gave w.registry (run_of x) (pass_of x)) (sym is) (ok.fids conn j (entry.Walked from) there)
+  source_gave of answer fid e (Opens from mode open_number number qid same there told is) = subst (λ x. Gave w.registry (run_of x) (pass_of x)) (sym is) (ok.fids conn fid (entry.Walked from) there)
+  source_gave of answer fid e (Reads from place there is) = subst (λ x. Gave w.registry (run_of x) (pass_of x)) (sym is) (ok.fids conn fid (entry.Opened from) there)
+
+  unmoved : (s' : Sess) → s' ≡ connection w conn → Moves w conn s' w.registry
+  unmoved s' same = stays w ok conn s' (ap (λ (s : Sess). s.pending) same) (λ fid e there. ap (λ s. entry_at s fid) (sym same) ∙ there)
+
+  done_moves : (now : ℕ) (x : Step) (refused : Bool) (reply : Said) (s' : Sess) → front_by now (connection w conn) x refused ≡ Done reply s' → Moves w conn s' w.registry
+  done_moves now (FindStep m) refused reply s' e = unmoved s' (refused_keeps (connection w conn) _ reply s' e)
+  done_moves now AttachStep refused reply s' e = unmoved s' (refused_keeps (connection w conn) _ reply s' e)
+  done_moves now (CallStep m) refused reply s' e = unmoved s' (refused_keeps (connection w conn) _ reply s' e)
+  done_moves now (CloseStep fid) refused reply s' e = unmoved s' (refused_keeps (connection w conn) _ reply s' e)
+  done_moves now (Table change) refused reply s' e =
+      let is : s' ≡ (table_stepped (connection w conn) change).1 = cc in
+      stays w ok conn s' (ap (λ (s : Sess). s.pending) is ∙ table_idle (connection w conn) change _ refl) (λ fid x there. table_keeps (connection w conn) fid x change _ refl (ap (λ (s : Sess). get s.fids fid) (sym is) ∙ there))
+
+  -- from what a step asks to where its answer leads
+  abbrev Leads : Step → RunMark → Question → Type 0
+  Leads x mark q = Moves w conn (after (connection w conn) x (answered w.registry q mark).0).1 (answered w.registry q mark).1
+
+  asks_moves : (now : ℕ) (x : Step) (refused : Bool) (q : Question) (mark : RunMark) → front_by now (connection w conn) x refused ≡ Asks q → Leads x mark q
+  asks_moves now (FindStep m) refused q mark e =
+      let its = find_by (tree_name_in (string_bytes m.aname)) q (judged_asks (connection w conn) _ refused _ q e) in
+      let idle : (connection w conn).pending ≡ None = none_if (connection w conn).pending (judged_idle (connection w conn) _ (connection w conn).msize (attach_table_rules (connection w conn).fids m.fid m.afid (string_bytes m.aname)) refused (find_question m) q e) in
+      subst (Leads (FindStep m) mark) (sym its.is) (finds w ok conn m idle mark (key_in its.state its.name))
+  asks_moves now AttachStep refused q mark e =
+      let its = enter_by now (connection w conn) (connection w conn).pending refl q e in
+      subst (Leads AttachStep mark) (sym its.is) (attaches w ok conn its.pending its.waits now mark)
+  asks_moves now (CallStep m) refused q mark e =
+      let its = call_asks now (connection w conn) q m refused e in
+      subst (Leads (CallStep m) mark) (sym its.is) (calls w ok conn now (run_of its.held) (pass_of its.held) its.call (ok.fids conn (fid_in m) its.held its.there) mark (λ told. (after (connection w conn) (CallStep m) told).1) (λ answer. refl)
+      (λ answer fid x there. source_gave (fid_in m) answer fid x (call_source (connection w conn).fids fid x m answer there)))
+  asks_moves now (CloseStep fid) refused q mark e =
+      let its = close_asks now (connection w conn) q fid refused e in
+      subst (Leads (CloseStep fid) mark) (sym its.is) (calls w ok conn now (run_of its.held) (pass_of its.held) its.call (ok.fids conn fid its.held its.there) mark (λ told. (after (connection w conn) (CloseStep fid) told).1) (λ answer. refl)
+      (λ answer n x there. ok.fids conn n x (left (connection w conn).fids fid n x there).1))
+  asks_moves now (Table change) refused q mark e = absurd (cc)
+
+  by_front : conn < CONNECTIONS → (now : ℕ) (x : Step) (refused : Bool) (mark : RunMark) (f : Front) → front_by now (connection w conn) x refused ≡ f → AreThere (goes_from w conn x mark f).1
+  by_front inside now x refused mark (Done reply s') e = moved w ok conn inside s' w.registry (done_moves now x refused reply s' e)
+  by_front inside now x refused mark (Asks q) e = moved w ok conn inside _ _ (asks_moves now x refused q mark e)
+
+  by_number : (now : ℕ) (x : Step) (mark : Mark) (b : Bool) → nat_lt conn CONNECTIONS ≡ b → AreThere (cond {A = Reply × World} b (goes_from w conn x (below mark) (front_by now (connection w conn) x (refuses_table mark))) (Connection (Error S5), w)).1
+  by_number now x mark true is = by_front (grind (arith, nat_tests)) now x (refuses_table mark) (below mark) (front_by now (connection w conn) x (refuses_table mark)) refl
+  by_number now x mark false is = ok
+
+  pub connection_keeps : (now : ℕ) (x : Step) (mark : Mark) → AreThere (on_connection w conn now x mark).1
+  connection_keeps now x mark = by_number now x mark (nat_lt conn CONNECTIONS) refl
+
+-- ---- a publish
+
+index_set_true : (xs : List Bool) (n k : ℕ) → slice_index_or xs k false ≡ true → slice_index_or (slice_set xs n true) k false ≡ true
+index_set_true [] n k is = absurd (cc)
+index_set_true (x ∷ xs) zero zero is = refl
+index_set_true (x ∷ xs) zero (suc k) is = is
+index_set_true (x ∷ xs) (suc n) zero is = is
+index_set_true (x ∷ xs) (suc n) (suc k) is = index_set_true xs n k is
+
+module _ (w : World) (ok : AreThere w) where
+  more_published : (number : ℕ) → AreThere (record w { registry = with_published w.registry number })
+  more_published number = record {
+    all = ok.all;
+    runs = λ place key run there. (let was = ok.runs place key run there in record {
+      attaches = was.attaches;
+      few = was.few;
+      room = was.room;
+      published = index_set_true w.registry.published number key.number was.published;
+      fresh = was.fresh;
+      users = was.users;
+    });
+    awaited = ok.awaited;
+    fids = ok.fids;
+  }
+
+  publish_by : (number : ℕ) (a b c d : Bool) → AreThere (by_registry w (cond {A = Reply × Registry RunOf} a (Unpublished f.NoSuchState, w.registry) (cond b (Unpublished f.Memory, w.registry) (cond c (Unpublished f.Twice, w.registry) (cond d (Unpublished f.Memory, w.registry) (Published, with_published w.registry number)))))).1
+  publish_by number true b c d = ok
+  publish_by number false true c d = ok
+  publish_by number false false true d = ok
+  publish_by number false false false true = ok
+  publish_by number false false false false = more_published number
+
+  -- each step keeps it
+  pub step_keeps : (x : t.Step) (mark : Mark) → AreThere (step_of w x mark).1
+  step_keeps (s.Publish number) mark = publish_by number _ _ _ _
+  step_keeps (s.Find conn message) mark = connection_keeps w ok conn 0 (FindStep message) mark
+  step_keeps (s.Attach conn now) mark = connection_keeps w ok conn now AttachStep mark
+  step_keeps (s.Call conn now message) mark = connection_keeps w ok conn now (CallStep message) mark
+  step_keeps (s.Close conn now fid) mark = connection_keeps w ok conn now (CloseStep fid) mark
+  step_keeps (s.Table conn change) mark = connection_keeps w ok conn 0 (Table change) mark
+
+-- ---- a new world
+
+abbrev no_fids : FidMap
+no_fids = empty
+
+nothing_there : (fid : ℕ) → get no_fids fid ≡ None
+nothing_there fid = search (rules, gets)
+
+-- a new world is so
+pub new_is : (scene : Scene) (users : List Row) → AreThere (new_world scene users)
+new_is scene users =
+    let none : (conn : ℕ) → connection (new_world scene users) conn ≡ blank None = λ conn. index_replicate CONNECTIONS conn (blank None) in
+    record {
+      all = length-replicate CONNECTIONS (blank None);
+      runs = λ place key run there. absurd (cc);
+      awaited = λ conn p is. absurd (let here : (connection (new_world scene users) conn).pending ≡ None = ap (λ (s : Sess). s.pending) (none conn) in cc);
+      fids = λ conn fid e is. absurd (let here : entry_at (connection (new_world scene users) conn) fid ≡ None = ap (λ s. entry_at s fid) (none conn) ∙ nothing_there fid in cc);
+    }

@@ -1,0 +1,209 @@
+-- Each step of a world keeps what is true of reached worlds.
+use Rattle.std.proofs.Common.{◌≡◌, ◌≢◌, ◌∙◌, ℕ, ◌+◌, ◌<◌, ◌≤◌, ◌==◌, Bool, true, false, not, cond, List, [], ◌∷◌, length, Option, None, Some, Result, Err, refl, sym, ap, subst, arith, ◌⊎◌, inl, inr}
+use Rattle.std.specs.Prelude.{nat_le, nat_lt, slice_get, string_bytes}
+use Rattle.std.specs.FinMap.{get}
+use Rattle.std.specs.Map.{keys_of}
+use Rattle.std.specs.Option.{option_map_or}
+use Rattle.std.proofs.lemmas.Bool.{eq-eqb, ne_eqb}
+use Rattle.std.proofs.lemmas.Bool.Decides.{nat_tests}
+use Rattle.std.proofs.lemmas.List.{length-map}
+use Rattle.std.proofs.lemmas.List.Quantifiers.{position-Some}
+use Rattle.cs_fids.specs.declared.entry.Entry.{Entry}
+use Rattle.cs_fids.specs.declared.entry.Entry.TheVariants as entry
+use Rattle.cs_fids.specs.Entries.{pass_of, run_of}
+use Rattle.cs_fids.specs.Fids.{walked_fid}
+use Rattle.cs_fids.specs.Tables.{FidMap}
+use Rattle.cs_journal.specs.Journals.{HasRoom}
+use Rattle.cs_journal.specs.Runs.{RunOf, state_of}
+use Rattle.cs_names.specs.declared.limits.TheConstants.{RUN_ATTACHES}
+use Rattle.cs_permit.specs.declared.call.Call.{Call}
+use Rattle.cs_permit.specs.declared.call.Call.TheVariants as call
+use Rattle.cs_plan.specs.Scenes.{state_at}
+use Rattle.cs_registry.specs.declared.fault.FindFault.{FindFault}
+use Rattle.cs_registry.specs.declared.fault.FindFault.TheVariants.{Unpublished, Full}
+use Rattle.cs_registry.specs.declared.found.Found.{Found}
+use Rattle.cs_registry.specs.Finds.{found_again, made}
+use Rattle.cs_registry.specs.Keys.{Key, same_key}
+use Rattle.cs_registry.specs.Registries.{Registry, is_published}
+use Rattle.cs_registry.specs.Runs.{has_no_room, place_of, room_ends, with_find, with_run}
+use Rattle.cs_run.specs.declared.answer.Answer.{Answer}
+use Rattle.cs_run.specs.declared.answer.Answer.TheVariants as a
+use Rattle.cs_session.specs.declared.message.AttachMessage.{AttachMessage}
+use Rattle.cs_session.specs.Attaches.{attach_after, entered, find_after}
+use Rattle.cs_session.specs.Names.{user_in}
+use Rattle.cs_session.specs.Questions.{Enter, Entered, Got, Told}
+use Rattle.cs_session.specs.Questions as q
+use Rattle.cs_session.specs.Sessions.{Awaited, Sess, entry_at, with_fids, with_pending}
+use Rattle.cs_world.specs.Asking.{answered, found_by, given_run, place_told, put_run}
+use Rattle.cs_world.specs.Marks.{RunMark, in_run, refuses_pass, refuses_run}
+use Rattle.cs_world.specs.Reached.{Gave, AreThere, awaits}
+use Rattle.cs_world.specs.Reaching.{IsMade}
+use Rattle.cs_world.specs.Runs.{attached, called, run_step, with_pass}
+use Rattle.cs_world.specs.Worlds.{World, connection}
+use Rattle.cs_world.proofs.Answering.{changes, stays}
+use Rattle.cs_world.proofs.Judging.{judged, keeps_fresh, keeps_passes, keeps_room, keeps_users}
+use Rattle.cs_world.proofs.Placing.{get_end, get_kept, get_pushed, get_within}
+use Rattle.cs_world.proofs.Reached.{given_is}
+use Rattle.cs_world.proofs.Standing.{Made, Moves, Stood, gave, given, held_there, is_there, one_if, stands}
+use Rattle.cs_world.proofs.Tables.{inserted}
+
+at_most_one : (b : Bool) → one_if b ≤ 1
+at_most_one true = omega arith
+at_most_one false = omega arith
+
+-- ---- a find
+
+module _ (w : World) (ok : AreThere w) (conn : ℕ) (x : AttachMessage) (idle : (connection w conn).pending ≡ None) where
+  -- the connection awaits its attach to the run at a place
+  abbrev waits_at : ℕ → Sess
+  waits_at n = with_pending (Some (record { fid = x.fid; run = n; call = record { user = x.uname } })) (connection w conn)
+
+  waits_there : (n place : ℕ) → place ≢ n → one_if (awaits place (waits_at n)) ≡ 0
+  waits_there n place other = ap one_if (ne_eqb n place (λ same. other (sym same)))
+
+  again_by : (n : ℕ) (key : Key) (run : Found RunOf) → slice_get w.registry.runs n ≡ Some (key, run) → room_ends w.registry.runs (Some n) ≡ false → Moves w conn (waits_at n) (record w.registry { runs = with_find w.registry.runs n })
+  again_by n key run there room =
+      let ends : nat_le RUN_ATTACHES run.finds ≡ false = rw there at room in
+      changes w ok conn n key run there (λ f. record f { finds = f.finds + 1 }) (waits_at n) (record {
+        fresh = refl;
+        users = refl;
+        room = λ h. h;
+        more = omega arith;
+        own = (let most = at_most_one (awaits n (waits_at n)) in omega (arith, most));
+        others = λ place other. (let none = waits_there n place other in omega (arith, none));
+        few = λ f. grind (arith, nat_tests);
+        awaited = λ p is. inr (ap (λ (o : Option Awaited). option_map_or (λ (p : Awaited). p.run) o n) (sym is));
+        fids = λ fid e is. inl (ok.fids conn fid e is);
+      })
+
+  again : (key : Key) (n : ℕ) → place_of key w.registry.runs ≡ Some n → room_ends w.registry.runs (Some n) ≡ false → Moves w conn (waits_at n) (record w.registry { runs = with_find w.registry.runs n })
+  again key n is room =
+      let at = position-Some (same_key key) (keys_of w.registry.runs) n key is in
+      let within : n < length w.registry.runs = omega (arith, at.0, length-map {A = Key × Found RunOf} {B = Key}) in
+      let its = get_within w.registry.runs n within in
+      again_by n its.0.0 its.0.1 its.1 room
+
+  makes : (key : Key) (held : RunOf) → IsMade w.registry key (record { finds = 1; held = held }) → Moves w conn (waits_at (length w.registry.runs)) (record w.registry { runs = with_run w.registry.runs key held })
+  makes key held new =
+      let one : Found RunOf = record { finds = 1; held = held } in
+      let more : Registry RunOf = record w.registry { runs = with_run w.registry.runs key held } in
+      let stood : (place : ℕ) (key' : Key) (run' : Found RunOf) → slice_get w.registry.runs place ≡ Some (key', run') → slice_get more.runs place ≡ Some (key', run') = λ place key' run' is. get_kept w.registry.runs ((key, one) ∷ []) place (key', run') is in
+      record {
+        scene = refl;
+        users = refl;
+        published = refl;
+        runs = λ place key' run' there. elim (get_pushed w.registry.runs place (key, one) (key', run') there) [
+          | inl here ↦ Made here.0 (subst (λ (y : Key × Found RunOf). IsMade w.registry y.0 y.1) (sym here.1) new)
+          | inr old ↦ Stood run' old.1 refl refl (λ h. h) (let none = waits_there (length w.registry.runs) place old.0 in omega (arith, none)) (λ f. f)
+        ];
+        gave = λ place pass h. (let g = given w.registry place pass h in gave more place pass g.key g.run (stood place g.key g.run g.there) g.gave);
+        there = λ place h. (let g = stands w.registry place h in is_there more place g.key g.run (stood place g.key g.run g.there));
+        awaited = λ p is. (let last : p.run ≡ length w.registry.runs = ap (λ (o : Option Awaited). option_map_or (λ (p : Awaited). p.run) o (length w.registry.runs)) (sym is) in is_there more p.run key one (ap (slice_get more.runs) last ∙ get_end w.registry.runs (key, one)));
+        fids = λ fid e is. (let g = given w.registry (run_of e) (pass_of e) (ok.fids conn fid e is) in gave more (run_of e) (pass_of e) g.key g.run (stood (run_of e) g.key g.run g.there) g.gave);
+      }
+
+  same : Moves w conn (connection w conn) w.registry
+  same = stays w ok conn (connection w conn) refl (λ fid e there. there)
+
+  made_by : (key : Key) (mark : RunMark) → is_published w.registry key.number ≡ true → (g : Option RunOf) → given_run w.registry key.number mark ≡ g → Moves w conn (find_after (connection w conn) x (place_told (made w.registry key g).0)).1 (made w.registry key g).1
+  made_by key mark published None is = same
+  made_by key mark published (Some held) is =
+      let new = given_is w.registry key.number (refuses_run mark) (state_at w.registry.scene key.number) held is in
+      makes key held (record { published = published; tree = new.0; state = new.1.0; fresh = new.1.1; once = refl })
+
+  find_by : (key : Key) (mark : RunMark) (published full : Bool) (o : Option ℕ) → is_published w.registry key.number ≡ published → place_of key w.registry.runs ≡ o → room_ends w.registry.runs o ≡ full
+      → (out : Result ℕ FindFault × Registry RunOf) → cond {A = Result ℕ FindFault × Registry RunOf} (not published) (Err Unpublished, w.registry) (cond full (Err Full, w.registry) (option_map_or (found_again w.registry) o (made w.registry key (given_run w.registry key.number mark)))) ≡ out
+      → Moves w conn (find_after (connection w conn) x (place_told out.0)).1 out.1
+  find_by key mark false full o p is room out e = subst (λ (out : Result ℕ FindFault × Registry RunOf). Moves w conn (find_after (connection w conn) x (place_told out.0)).1 out.1) e same
+  find_by key mark true true o p is room out e = subst (λ (out : Result ℕ FindFault × Registry RunOf). Moves w conn (find_after (connection w conn) x (place_told out.0)).1 out.1) e same
+  find_by key mark true false (Some n) p is room out e = subst (λ (out : Result ℕ FindFault × Registry RunOf). Moves w conn (find_after (connection w conn) x (place_told out.0)).1 out.1) e (again key n is room)
+  find_by key mark true false None p is room out e = subst (λ (out : Result ℕ FindFault × Registry RunOf). Moves w conn (find_after (connection w conn) x (place_told out.0)).1 out.1) e (made_by key mark p (given_run w.registry key.number mark) refl)
+
+  pub finds : (mark : RunMark) (o : Option Key) → Moves w conn (find_after (connection w conn) x (found_by w.registry mark o).0).1 (found_by w.registry mark o).1
+  finds mark None = same
+  finds mark (Some key) = find_by key mark (is_published w.registry key.number) (has_no_room w.registry.runs key) (place_of key w.registry.runs) refl refl refl _ refl
+
+-- ---- an attach
+
+-- a fid that an attach leaves is one that was there, or stands on its run under its pass
+entered_source : (fids : FidMap) (fid run : ℕ) (user : Option (List ℕ)) (pass : ℕ) (answer : Answer) (k : ℕ) (e : Entry) → get (entered fids fid run user pass answer).1 k ≡ Some e → (get fids k ≡ Some e) ⊎ ((run_of e ≡ run) × (pass_of e ≡ pass))
+entered_source fids fid run None pass (a.Attached qid) k e there = inl there
+entered_source fids fid run (Some user) pass (a.Attached qid) k e there =
+    elim (inserted fids fid k (entry.Walked (walked_fid run pass 0 user)) e there) [
+      | inl new ↦ inr (ap run_of new.1, ap pass_of new.1)
+      | inr old ↦ inl old
+    ]
+entered_source fids fid run user pass answer k e there = inl there
+
+module _ (w : World) (ok : AreThere w) (conn : ℕ) (p : Awaited) (waits : (connection w conn).pending ≡ Some p) (key : Key) (run : Found RunOf) (there : slice_get w.registry.runs p.run ≡ Some (key, run)) where
+  own_count : one_if (awaits p.run (connection w conn)) ≡ 1
+  own_count = rw waits (ap one_if (eq-eqb p.run p.run refl))
+
+  -- the run changes, and awaits the attach no more
+  enters : (held : RunOf) → held.fresh ≡ run.held.fresh → held.users ≡ run.held.users → (HasRoom (state_of run.held) → HasRoom (state_of held)) → run.held.passes ≤ held.passes → held.passes ≤ run.held.passes + 1 → (s' : Sess) → s'.pending ≡ None
+      → ((fid : ℕ) (e : Entry) → entry_at s' fid ≡ Some e → (entry_at (connection w conn) fid ≡ Some e) ⊎ ((run_of e ≡ p.run) × (pass_of e < held.passes))) → Moves w conn s' (put_run w.registry p.run held)
+  enters held fresh users room more most s' idle fids =
+      let none : (place : ℕ) → one_if (awaits place s') ≡ 0 = λ place. rw idle refl in
+      changes w ok conn p.run key run there (λ f. record f { held = held }) s' (record {
+        fresh = fresh;
+        users = users;
+        room = room;
+        more = more;
+        own = (let zero_now = none p.run in omega (arith, zero_now, own_count, most));
+        others = λ place other. (let zero_now = none place in omega (arith, zero_now));
+        few = λ f. f;
+        awaited = λ x is. absurd (cc);
+        fids = λ fid e is. elim (fids fid e is) [ inl was ↦ inl (ok.fids conn fid e was) | inr its ↦ inr its ];
+      })
+
+  attaches_by : (now : ℕ) (mark : RunMark) (full refused : Bool) → nat_le RUN_ATTACHES run.held.passes ≡ full → refuses_pass mark ≡ refused
+      → Moves w conn (attach_after (connection w conn) (Some p) (Entered (attached run.held now p.call mark).0)).1 (put_run w.registry p.run (attached run.held now p.call mark).1)
+  attaches_by now mark true refused f is = rw f (enters run.held refl refl (λ h. h) (omega arith) (omega arith) (with_pending None (connection w conn)) refl (λ fid e there. inl there))
+  attaches_by now mark false true f is = rw (f, is) (enters run.held refl refl (λ h. h) (omega arith) (omega arith) (with_pending None (connection w conn)) refl (λ fid e there. inl there))
+  attaches_by now mark false false f is =
+      let more : RunOf = with_pass run.held in
+      let it : Call = call.Attach p.call in
+      let ended = run_step more now run.held.passes it (in_run mark) in
+      let its = judged more now run.held.passes it (in_run mark) in
+      let passes : ended.1.passes ≡ run.held.passes + 1 = keeps_passes more now run.held.passes it ended.0 ended.1 its in
+      rw (f, is) (enters ended.1 (keeps_fresh more now run.held.passes it ended.0 ended.1 its) (keeps_users more now run.held.passes it ended.0 ended.1 its) (keeps_room more now run.held.passes it ended.0 ended.1 its) (omega (arith, passes)) (omega (arith, passes))
+      (with_fids (entered (connection w conn).fids p.fid p.run (user_in (string_bytes p.call.user)) run.held.passes ended.0).1 (with_pending None (connection w conn))) refl (λ fid e there.
+      elim (entered_source (connection w conn).fids p.fid p.run (user_in (string_bytes p.call.user)) run.held.passes ended.0 fid e there) [
+        | inl was ↦ inl was
+        | inr its ↦ inr (its.0, let at : pass_of e ≡ run.held.passes = its.1 in omega (arith, at, passes))
+      ]))
+
+pub attaches : (w : World) (ok : AreThere w) (conn : ℕ) (p : Awaited) → (connection w conn).pending ≡ Some p → (now : ℕ) (mark : RunMark)
+    → Moves w conn (attach_after (connection w conn) (connection w conn).pending (answered w.registry (Enter now p.run p.call) mark).0).1 (answered w.registry (Enter now p.run p.call) mark).1
+attaches w ok conn p waits now mark =
+    let its = stands w.registry p.run (ok.awaited conn p waits) in
+    rw (waits, held_there w.registry p.run its.key its.run its.there) (attaches_by w ok conn p waits its.key its.run its.there now mark _ _ refl refl)
+
+-- ---- a call
+
+module _ (w : World) (ok : AreThere w) (conn now place pass : ℕ) (call : Call) (gave : Gave w.registry place pass) (mark : RunMark) where
+  calls_by : (key : Key) (run : Found RunOf) → slice_get w.registry.runs place ≡ Some (key, run) → pass < run.held.passes → (after : Answer → Sess) → ((answer : Answer) → (after answer).pending ≡ (connection w conn).pending)
+      → ((answer : Answer) (fid : ℕ) (e : Entry) → entry_at (after answer) fid ≡ Some e → Gave w.registry (run_of e) (pass_of e)) → Moves w conn (after (called run.held now pass call (in_run mark)).0) (put_run w.registry place (called run.held now pass call (in_run mark)).1)
+  calls_by key run there low after idle fids =
+      let known : nat_lt pass run.held.passes ≡ true = grind (arith, nat_tests) in
+      let ended = run_step run.held now pass call (in_run mark) in
+      let its = judged run.held now pass call (in_run mark) in
+      let passes : ended.1.passes ≡ run.held.passes = keeps_passes run.held now pass call ended.0 ended.1 its in
+      let count : (at : ℕ) → one_if (awaits at (after ended.0)) ≡ one_if (awaits at (connection w conn)) = λ at. ap (λ (o : Option Awaited). one_if (option_map_or (λ (p : Awaited). p.run == at) o false)) (idle ended.0) in
+      rw known (changes w ok conn place key run there (λ f. record f { held = ended.1 }) (after ended.0) (record {
+        fresh = keeps_fresh run.held now pass call ended.0 ended.1 its;
+        users = keeps_users run.held now pass call ended.0 ended.1 its;
+        room = keeps_room run.held now pass call ended.0 ended.1 its;
+        more = omega (arith, passes);
+        own = (let same = count place in omega (arith, same, passes));
+        others = λ at other. (let same = count at in omega (arith, same));
+        few = λ f. f;
+        awaited = λ p is. inl (sym (idle ended.0) ∙ is);
+        fids = λ fid e is. inl (fids ended.0 fid e is);
+      }))
+
+  pub calls : (after : Told → Sess) → ((answer : Answer) → (after (Got answer)).pending ≡ (connection w conn).pending) → ((answer : Answer) (fid : ℕ) (e : Entry) → entry_at (after (Got answer)) fid ≡ Some e → Gave w.registry (run_of e) (pass_of e))
+      → Moves w conn (after (answered w.registry (q.Ask now place pass call) mark).0) (answered w.registry (q.Ask now place pass call) mark).1
+  calls after idle fids =
+      let its = given w.registry place pass gave in
+      rw (held_there w.registry place its.key its.run its.there) (calls_by its.key its.run its.there its.gave (λ answer. after (Got answer)) idle fids)
