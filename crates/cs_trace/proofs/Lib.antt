@@ -8,6 +8,7 @@ pub mod Sound
 pub mod SoundSteps
 pub mod Spelled
 pub mod Started
+pub mod Trees
 pub mod Turns
 pub mod Views
 pub mod Whole

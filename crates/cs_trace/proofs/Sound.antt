@@ -80,7 +80,7 @@ map_same f g (x ∷ xs) same = λ i. same 0 x refl i ∷ map_same f g xs (λ n y
 
 -- ---- one entry more at the start
 
-map_values-insert : (m : Entries) (p : Path) (e : Entry) → map_values node_of (insert m p e) ≡ insert (map_values node_of m) p (node_of e)
+pub map_values-insert : (m : Entries) (p : Path) (e : Entry) → map_values node_of (insert m p e) ≡ insert (map_values node_of m) p (node_of e)
 map_values-insert m p e = same_map path_total path_exact _ _ (λ q. ⊎_elim
     (λ (one : (eq_by_cmp path_cmp q p ≡ true) × (q ≡ p)).
     get-map_values path_cmp node_of (insert m p e) q ∙ ap (λ o. option_map node_of o) (get-insert path_total m p e q ∙ ap (λ b. cond b (Some e) (get m q)) one.0)

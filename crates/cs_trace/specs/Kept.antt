@@ -8,7 +8,7 @@ use Rattle.cs_trace.specs.declared.operation.Operation.TheVariants.{Write}
 use Rattle.cs_trace.specs.declared.state.State.{State as KeptState}
 
 abbrev pub state_of : KeptState → State
-state_of s = record { start = s.start; files = s.files.items; paths = s.paths; sizes = s.sizes.items; made = s.made; operations = s.operations.items }
+state_of s = record { start = s.tree.start; files = s.files.items; paths = s.tree.nodes; sizes = s.sizes.items; made = s.made; operations = s.operations.items }
 
 -- a write of at least one byte ends within the greatest file
 abbrev pub IsWithin : Operation → Type 0

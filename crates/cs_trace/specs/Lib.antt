@@ -11,3 +11,4 @@ pub mod Reading
 pub mod Said
 pub mod States
 pub mod Traces
+pub mod Trees

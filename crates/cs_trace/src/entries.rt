@@ -1,15 +1,20 @@
 //! The files at the start by their paths.
 ghost use Rattle.std.specs.Prelude.{◌≡◌, IfOk, OnOk};
 ghost use Rattle.std.specs.FinMap as map;
-ghost use Rattle.cs_trace.specs.Entries.{nodes_in, records_in};
+ghost use Rattle.std.specs.Option.{option_map};
+ghost use Rattle.cs_tree_model.specs.Maps.Values.{map_values};
+ghost use Rattle.cs_trace.specs.Below.{has_below};
+ghost use Rattle.cs_trace.specs.Entries.{node_of, nodes_in, records_in};
 
 use crate::entry::Entry;
 use crate::operation::Node;
+use crate::standing::Standing;
 use cs_names::Path;
 use cs_tree_model::Record;
 use std::alloc::{AllocError, Global};
 use std::collections::BTreeMap;
 use std::marker::Model;
+use std::ops::Bound;
 
 /// What stands at each path. Contracts see a finite map, in the order of paths.
 #[derive(Drop)]
@@ -35,6 +40,41 @@ impl Entries {
         Entries {
             by_path: BTreeMap::new(alloc),
         }
+    }
+
+    /// What stands at the path. It takes no memory.
+    pub(crate) fn get(&self, path: &Path) -> Option<Node>
+        ensures { result ≡ option_map node_of (map.get self.now path.now) }
+    {
+        match self.by_path.get(path) {
+            None => None,
+            Some(entry) => Some(entry.node()),
+        }
+    }
+
+    /// Whether something stands below the path: it would come right after it. It takes no memory.
+    pub(crate) fn has_below(&self, path: &Path) -> bool
+        ensures { result ≡ has_below (map_values node_of self.now) path.now }
+    {
+        match self
+            .by_path
+            .range((Bound::Excluded(path), Bound::Unbounded))
+            .next()
+        {
+            None => false,
+            Some((next, _)) => next.begins_with(path),
+        }
+    }
+
+    /// What stands at each path.
+    pub(crate) fn nodes(&self, alloc: Global) -> Result<Standing, AllocError>
+        ensures { IfOk result (λ standing. standing ≡ map_values node_of self.now) }
+    {
+        let mut standing = Standing::new(alloc);
+        for (path, entry) in &self.by_path {
+            standing.insert(path.try_clone(alloc)?, entry.node())?;
+        }
+        Ok(standing)
     }
 
     pub(crate) fn insert(&mut self, path: Path, entry: Entry) -> Result<(), AllocError>

@@ -9,16 +9,16 @@ use crate::digits::Digits;
 use crate::fault::TraceFaultKind;
 use crate::line::Claims;
 use crate::operation::{Bytes, Covers, Node, Operation, Rights};
-use crate::standing::Standing;
+use crate::tree::Tree;
 use cs_names::Path;
 use cs_names::limits::{FILE_BYTES, SAY_BYTES, TRACE_PATH_NAMES, TREE_RECORDS};
 use std::alloc::Global;
 
 /// The number of the file that stands at the path.
-fn file_at(paths: &Standing, path: &Path) -> Result<u32, TraceFaultKind>
-    ensures { result ≡ file_at paths.now path.now }
+fn file_at(tree: &Tree, path: &Path) -> Result<u32, TraceFaultKind>
+    ensures { result ≡ file_at tree.now.nodes path.now }
 {
-    match paths.get(path) {
+    match tree.get(path) {
         None => Err(TraceFaultKind::Missing),
         Some(Node::Directory) => Err(TraceFaultKind::NotFile),
         Some(Node::File(file)) => Ok(file),
@@ -26,11 +26,11 @@ fn file_at(paths: &Standing, path: &Path) -> Result<u32, TraceFaultKind>
 }
 
 /// Whether a new entry may stand at the path, in the directory above.
-pub(crate) fn check_free(paths: &Standing, above: &Path, path: &Path) -> Result<(), TraceFaultKind>
+fn check_free(tree: &Tree, above: &Path, path: &Path) -> Result<(), TraceFaultKind>
     requires { above.now ≡ parent_path path.now }
-    ensures { result ≡ free_at paths.now path.now }
+    ensures { result ≡ free_at tree.now.nodes path.now }
 {
-    match (paths.get(above), paths.get(path)) {
+    match (tree.get(above), tree.get(path)) {
         (None, _) => Err(TraceFaultKind::NoParent),
         (Some(Node::File(_)), _) => Err(TraceFaultKind::NotDir),
         (Some(Node::Directory), Some(_)) => Err(TraceFaultKind::Exists),
@@ -39,11 +39,11 @@ pub(crate) fn check_free(paths: &Standing, above: &Path, path: &Path) -> Result<
 }
 
 /// Whether a file may come to the path, over a file that stands there, in the directory above.
-fn check_target(paths: &Standing, above: &Path, path: &Path) -> Result<(), TraceFaultKind>
+fn check_target(tree: &Tree, above: &Path, path: &Path) -> Result<(), TraceFaultKind>
     requires { above.now ≡ parent_path path.now }
-    ensures { result ≡ target_at paths.now path.now }
+    ensures { result ≡ target_at tree.now.nodes path.now }
 {
-    match (paths.get(above), paths.get(path)) {
+    match (tree.get(above), tree.get(path)) {
         (None, _) => Err(TraceFaultKind::NoParent),
         (Some(Node::File(_)), _) => Err(TraceFaultKind::NotDir),
         (Some(Node::Directory), Some(Node::Directory)) => Err(TraceFaultKind::NotFile),
@@ -52,13 +52,13 @@ fn check_target(paths: &Standing, above: &Path, path: &Path) -> Result<(), Trace
 }
 
 /// Whether an empty directory stands at the path.
-fn check_emptied(paths: &Standing, path: &Path) -> Result<(), TraceFaultKind>
-    ensures { result ≡ emptied_at paths.now path.now }
+fn check_emptied(tree: &Tree, path: &Path) -> Result<(), TraceFaultKind>
+    ensures { result ≡ emptied_at tree.now.nodes path.now }
 {
-    match paths.get(path) {
+    match tree.get(path) {
         None => Err(TraceFaultKind::Missing),
         Some(Node::File(_)) => Err(TraceFaultKind::NotDir),
-        Some(Node::Directory) if paths.has_below(path) => Err(TraceFaultKind::NotEmpty),
+        Some(Node::Directory) if tree.has_below(path) => Err(TraceFaultKind::NotEmpty),
         Some(Node::Directory) => Ok(()),
     }
 }
@@ -93,7 +93,7 @@ fn size_in(sizes: &[u64], file: u32) -> u64
 
 pub(crate) fn creat(
     alloc: Global,
-    paths: &Standing,
+    tree: &Tree,
     made: usize,
     file: u32,
     path: Path,
@@ -101,11 +101,11 @@ pub(crate) fn creat(
     claims: &Claims<'_>,
 ) -> Result<Operation, TraceFaultKind>
     requires { above.now ≡ parent_path path }
-    ensures done { IfOk result (λ operation. creat paths.now made file path (claims_of claims.now) ≡ Ok operation) }
-    ensures fault { IfErr result (λ kind. kind ≢ Memory → creat paths.now made file path (claims_of claims.now) ≡ Err kind) }
-    ensures memory { IfErr result (λ kind. kind ≡ Memory → IsOk (creat paths.now made file path (claims_of claims.now))) }
+    ensures done { IfOk result (λ operation. creat tree.now.nodes made file path (claims_of claims.now) ≡ Ok operation) }
+    ensures fault { IfErr result (λ kind. kind ≢ Memory → creat tree.now.nodes made file path (claims_of claims.now) ≡ Err kind) }
+    ensures memory { IfErr result (λ kind. kind ≡ Memory → IsOk (creat tree.now.nodes made file path (claims_of claims.now))) }
 {
-    check_free(paths, above, &path)?;
+    check_free(tree, above, &path)?;
     if is_too_much(made, &path) {
         return Err(TraceFaultKind::TooLarge);
     }
@@ -115,18 +115,18 @@ pub(crate) fn creat(
 
 pub(crate) fn mkdir(
     alloc: Global,
-    paths: &Standing,
+    tree: &Tree,
     made: usize,
     path: Path,
     above: &Path,
     claims: &Claims<'_>,
 ) -> Result<Operation, TraceFaultKind>
     requires { above.now ≡ parent_path path }
-    ensures done { IfOk result (λ operation. mkdir paths.now made path (claims_of claims.now) ≡ Ok operation) }
-    ensures fault { IfErr result (λ kind. kind ≢ Memory → mkdir paths.now made path (claims_of claims.now) ≡ Err kind) }
-    ensures memory { IfErr result (λ kind. kind ≡ Memory → IsOk (mkdir paths.now made path (claims_of claims.now))) }
+    ensures done { IfOk result (λ operation. mkdir tree.now.nodes made path (claims_of claims.now) ≡ Ok operation) }
+    ensures fault { IfErr result (λ kind. kind ≢ Memory → mkdir tree.now.nodes made path (claims_of claims.now) ≡ Err kind) }
+    ensures memory { IfErr result (λ kind. kind ≡ Memory → IsOk (mkdir tree.now.nodes made path (claims_of claims.now))) }
 {
-    check_free(paths, above, &path)?;
+    check_free(tree, above, &path)?;
     if is_too_much(made, &path) {
         return Err(TraceFaultKind::TooLarge);
     }
@@ -134,32 +134,32 @@ pub(crate) fn mkdir(
     Ok(Operation::Mkdir { path, rights })
 }
 
-pub(crate) fn unlink(paths: &Standing, path: Path) -> Result<Operation, TraceFaultKind>
-    ensures { result ≡ unlink paths.now path }
+pub(crate) fn unlink(tree: &Tree, path: Path) -> Result<Operation, TraceFaultKind>
+    ensures { result ≡ unlink tree.now.nodes path }
 {
-    file_at(paths, &path)?;
+    file_at(tree, &path)?;
     Ok(Operation::Unlink { path })
 }
 
-pub(crate) fn rmdir(paths: &Standing, path: Path) -> Result<Operation, TraceFaultKind>
-    ensures { result ≡ rmdir paths.now path }
+pub(crate) fn rmdir(tree: &Tree, path: Path) -> Result<Operation, TraceFaultKind>
+    ensures { result ≡ rmdir tree.now.nodes path }
 {
-    check_emptied(paths, &path)?;
+    check_emptied(tree, &path)?;
     Ok(Operation::Rmdir { path })
 }
 
 /// A file's entry at its new path, in the directory above.
 pub(crate) fn rename(
-    paths: &Standing,
+    tree: &Tree,
     from: Path,
     to: Path,
     above: &Path,
 ) -> Result<Operation, TraceFaultKind>
     requires { above.now ≡ parent_path to }
-    ensures { result ≡ rename paths.now from to }
+    ensures { result ≡ rename tree.now.nodes from to }
 {
-    file_at(paths, &from)?;
-    check_target(paths, above, &to)?;
+    file_at(tree, &from)?;
+    check_target(tree, above, &to)?;
     if has_too_many_names(&to) {
         return Err(TraceFaultKind::TooLarge);
     }
@@ -167,26 +167,26 @@ pub(crate) fn rename(
 }
 
 /// The fault of a file's entry at a new path whose directory can't stand.
-pub(crate) fn rename_far(paths: &Standing, from: &Path) -> Result<Operation, TraceFaultKind>
-    ensures { result ≡ and_then (file_at paths.now from.now) (λ _. Err TraceFaultKind.NoParent) }
+pub(crate) fn rename_far(tree: &Tree, from: &Path) -> Result<Operation, TraceFaultKind>
+    ensures { result ≡ and_then (file_at tree.now.nodes from.now) (λ _. Err TraceFaultKind.NoParent) }
 {
-    file_at(paths, from)?;
+    file_at(tree, from)?;
     Err(TraceFaultKind::NoParent)
 }
 
 pub(crate) fn write(
     alloc: Global,
-    paths: &Standing,
+    tree: &Tree,
     sizes: &[u64],
     path: &Path,
     offset: u64,
     bytes: &Digits<'_>,
 ) -> Result<Operation, TraceFaultKind>
-    ensures done { IfOk result (λ operation. write paths.now sizes.now path.now offset bytes.now ≡ Ok operation) }
-    ensures fault { IfErr result (λ kind. kind ≢ Memory → write paths.now sizes.now path.now offset bytes.now ≡ Err kind) }
-    ensures memory { IfErr result (λ kind. kind ≡ Memory → IsOk (write paths.now sizes.now path.now offset bytes.now)) }
+    ensures done { IfOk result (λ operation. write tree.now.nodes sizes.now path.now offset bytes.now ≡ Ok operation) }
+    ensures fault { IfErr result (λ kind. kind ≢ Memory → write tree.now.nodes sizes.now path.now offset bytes.now ≡ Err kind) }
+    ensures memory { IfErr result (λ kind. kind ≡ Memory → IsOk (write tree.now.nodes sizes.now path.now offset bytes.now)) }
 {
-    let file = file_at(paths, path)?;
+    let file = file_at(tree, path)?;
     if ends_above(offset, bytes) {
         return Err(TraceFaultKind::TooLarge);
     }
@@ -201,14 +201,14 @@ pub(crate) fn write(
 }
 
 pub(crate) fn truncate(
-    paths: &Standing,
+    tree: &Tree,
     sizes: &[u64],
     path: &Path,
     length: u64,
 ) -> Result<Operation, TraceFaultKind>
-    ensures { result ≡ truncate paths.now sizes.now path.now length }
+    ensures { result ≡ truncate tree.now.nodes sizes.now path.now length }
 {
-    let file = file_at(paths, path)?;
+    let file = file_at(tree, path)?;
     if length > FILE_BYTES {
         return Err(TraceFaultKind::TooLarge);
     }
@@ -216,10 +216,10 @@ pub(crate) fn truncate(
     Ok(Operation::Truncate { file, size, length })
 }
 
-pub(crate) fn fsync(paths: &Standing, path: Path) -> Result<Operation, TraceFaultKind>
-    ensures { result ≡ fsync paths.now path }
+pub(crate) fn fsync(tree: &Tree, path: Path) -> Result<Operation, TraceFaultKind>
+    ensures { result ≡ fsync tree.now.nodes path }
 {
-    match paths.get(&path) {
+    match tree.get(&path) {
         None => Err(TraceFaultKind::Missing),
         Some(Node::Directory) => Ok(Operation::Sync(Covers::Directory(path))),
         Some(Node::File(file)) => Ok(Operation::Sync(Covers::File(file))),

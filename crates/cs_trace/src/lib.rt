@@ -23,6 +23,7 @@ mod state;
 #[cfg(test)]
 mod tests;
 pub mod trace;
+mod tree;
 mod verb;
 
 pub use fault::{TraceFault, TraceFaultKind};

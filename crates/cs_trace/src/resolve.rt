@@ -13,8 +13,8 @@ use crate::line::{Claims, OperationLine};
 use crate::names::are_user_names;
 use crate::operation::{Covers, Operation};
 use crate::path_text::PathText;
-use crate::standing::Standing;
 use crate::state::State;
+use crate::tree::Tree;
 use cs_names::Path;
 use std::alloc::Global;
 
@@ -53,64 +53,64 @@ fn creat(
     path: &PathText<'_>,
     claims: &Claims<'_>,
 ) -> Result<Operation, TraceFaultKind>
-    requires short { AreShort state.now.paths }
+    requires short { AreShort state.now.tree.nodes }
     requires few { length state.now.sizes.items < 2 ^ 32 }
-    ensures done { IfOk result (λ operation. creat state.now.paths state.now.made (length state.now.sizes.items) path.now (claims_of claims.now) ≡ Ok operation) }
-    ensures fault { IfErr result (λ kind. kind ≢ Memory → creat state.now.paths state.now.made (length state.now.sizes.items) path.now (claims_of claims.now) ≡ Err kind) }
-    ensures memory { IfErr result (λ kind. kind ≡ Memory → IsPastNames (creat state.now.paths state.now.made (length state.now.sizes.items) path.now (claims_of claims.now))) }
+    ensures done { IfOk result (λ operation. creat state.now.tree.nodes state.now.made (length state.now.sizes.items) path.now (claims_of claims.now) ≡ Ok operation) }
+    ensures fault { IfErr result (λ kind. kind ≢ Memory → creat state.now.tree.nodes state.now.made (length state.now.sizes.items) path.now (claims_of claims.now) ≡ Err kind) }
+    ensures memory { IfErr result (λ kind. kind ≡ Memory → IsPastNames (creat state.now.tree.nodes state.now.made (length state.now.sizes.items) path.now (claims_of claims.now))) }
 {
     let Some(path) = path.keep_short(alloc)? else {
         return Err(TraceFaultKind::NoParent);
     };
     let above = Path::of(alloc, &path.names().parent())?;
     let file = state.sizes.len() as u32;
-    judge::creat(alloc, &state.paths, state.made, file, path, &above, claims)
+    judge::creat(alloc, &state.tree, state.made, file, path, &above, claims)
 }
 
 #[tactic(auto, using(crate::proofs::Past::nothing_above, crate::proofs::Past::past_mkdir))]
 fn mkdir(
     alloc: Global,
-    paths: &Standing,
+    tree: &Tree,
     made: usize,
     path: &PathText<'_>,
     claims: &Claims<'_>,
 ) -> Result<Operation, TraceFaultKind>
-    requires { AreShort paths.now }
-    ensures done { IfOk result (λ operation. mkdir paths.now made path.now (claims_of claims.now) ≡ Ok operation) }
-    ensures fault { IfErr result (λ kind. kind ≢ Memory → mkdir paths.now made path.now (claims_of claims.now) ≡ Err kind) }
-    ensures memory { IfErr result (λ kind. kind ≡ Memory → IsPastNames (mkdir paths.now made path.now (claims_of claims.now))) }
+    requires { AreShort tree.now.nodes }
+    ensures done { IfOk result (λ operation. mkdir tree.now.nodes made path.now (claims_of claims.now) ≡ Ok operation) }
+    ensures fault { IfErr result (λ kind. kind ≢ Memory → mkdir tree.now.nodes made path.now (claims_of claims.now) ≡ Err kind) }
+    ensures memory { IfErr result (λ kind. kind ≡ Memory → IsPastNames (mkdir tree.now.nodes made path.now (claims_of claims.now))) }
 {
     let Some(path) = path.keep_short(alloc)? else {
         return Err(TraceFaultKind::NoParent);
     };
     let above = Path::of(alloc, &path.names().parent())?;
-    judge::mkdir(alloc, paths, made, path, &above, claims)
+    judge::mkdir(alloc, tree, made, path, &above, claims)
 }
 
 #[tactic(auto, using(crate::proofs::Past::nothing_at, crate::proofs::Past::past_unlink))]
-fn unlink(alloc: Global, paths: &Standing, path: &PathText<'_>) -> Result<Operation, TraceFaultKind>
-    requires { AreShort paths.now }
-    ensures done { IfOk result (λ operation. unlink paths.now path.now ≡ Ok operation) }
-    ensures fault { IfErr result (λ kind. kind ≢ Memory → unlink paths.now path.now ≡ Err kind) }
-    ensures memory { IfErr result (λ kind. kind ≡ Memory → IsPastNames (unlink paths.now path.now)) }
+fn unlink(alloc: Global, tree: &Tree, path: &PathText<'_>) -> Result<Operation, TraceFaultKind>
+    requires { AreShort tree.now.nodes }
+    ensures done { IfOk result (λ operation. unlink tree.now.nodes path.now ≡ Ok operation) }
+    ensures fault { IfErr result (λ kind. kind ≢ Memory → unlink tree.now.nodes path.now ≡ Err kind) }
+    ensures memory { IfErr result (λ kind. kind ≡ Memory → IsPastNames (unlink tree.now.nodes path.now)) }
 {
     let Some(path) = path.keep_short(alloc)? else {
         return Err(TraceFaultKind::Missing);
     };
-    judge::unlink(paths, path)
+    judge::unlink(tree, path)
 }
 
 #[tactic(auto, using(crate::proofs::Past::nothing_at, crate::proofs::Past::past_rmdir))]
-fn rmdir(alloc: Global, paths: &Standing, path: &PathText<'_>) -> Result<Operation, TraceFaultKind>
-    requires { AreShort paths.now }
-    ensures done { IfOk result (λ operation. rmdir paths.now path.now ≡ Ok operation) }
-    ensures fault { IfErr result (λ kind. kind ≢ Memory → rmdir paths.now path.now ≡ Err kind) }
-    ensures memory { IfErr result (λ kind. kind ≡ Memory → IsPastNames (rmdir paths.now path.now)) }
+fn rmdir(alloc: Global, tree: &Tree, path: &PathText<'_>) -> Result<Operation, TraceFaultKind>
+    requires { AreShort tree.now.nodes }
+    ensures done { IfOk result (λ operation. rmdir tree.now.nodes path.now ≡ Ok operation) }
+    ensures fault { IfErr result (λ kind. kind ≢ Memory → rmdir tree.now.nodes path.now ≡ Err kind) }
+    ensures memory { IfErr result (λ kind. kind ≡ Memory → IsPastNames (rmdir tree.now.nodes path.now)) }
 {
     let Some(path) = path.keep_short(alloc)? else {
         return Err(TraceFaultKind::Missing);
     };
-    judge::rmdir(paths, path)
+    judge::rmdir(tree, path)
 }
 
 #[tactic(auto, using(crate::proofs::Past::nothing_at, crate::proofs::Past::past_write))]
@@ -121,15 +121,15 @@ fn write(
     offset: u64,
     bytes: &Digits<'_>,
 ) -> Result<Operation, TraceFaultKind>
-    requires { AreShort state.now.paths }
-    ensures done { IfOk result (λ operation. write state.now.paths state.now.sizes.items path.now offset bytes.now ≡ Ok operation) }
-    ensures fault { IfErr result (λ kind. kind ≢ Memory → write state.now.paths state.now.sizes.items path.now offset bytes.now ≡ Err kind) }
-    ensures memory { IfErr result (λ kind. kind ≡ Memory → IsPastNames (write state.now.paths state.now.sizes.items path.now offset bytes.now)) }
+    requires { AreShort state.now.tree.nodes }
+    ensures done { IfOk result (λ operation. write state.now.tree.nodes state.now.sizes.items path.now offset bytes.now ≡ Ok operation) }
+    ensures fault { IfErr result (λ kind. kind ≢ Memory → write state.now.tree.nodes state.now.sizes.items path.now offset bytes.now ≡ Err kind) }
+    ensures memory { IfErr result (λ kind. kind ≡ Memory → IsPastNames (write state.now.tree.nodes state.now.sizes.items path.now offset bytes.now)) }
 {
     let Some(path) = path.keep_short(alloc)? else {
         return Err(TraceFaultKind::Missing);
     };
-    judge::write(alloc, &state.paths, &state.sizes, &path, offset, bytes)
+    judge::write(alloc, &state.tree, &state.sizes, &path, offset, bytes)
 }
 
 #[tactic(auto, using(crate::proofs::Past::nothing_at, crate::proofs::Past::past_truncate))]
@@ -139,50 +139,50 @@ fn truncate(
     path: &PathText<'_>,
     length: u64,
 ) -> Result<Operation, TraceFaultKind>
-    requires { AreShort state.now.paths }
-    ensures done { IfOk result (λ operation. truncate state.now.paths state.now.sizes.items path.now length ≡ Ok operation) }
-    ensures fault { IfErr result (λ kind. kind ≢ Memory → truncate state.now.paths state.now.sizes.items path.now length ≡ Err kind) }
-    ensures memory { IfErr result (λ kind. kind ≡ Memory → IsPastNames (truncate state.now.paths state.now.sizes.items path.now length)) }
+    requires { AreShort state.now.tree.nodes }
+    ensures done { IfOk result (λ operation. truncate state.now.tree.nodes state.now.sizes.items path.now length ≡ Ok operation) }
+    ensures fault { IfErr result (λ kind. kind ≢ Memory → truncate state.now.tree.nodes state.now.sizes.items path.now length ≡ Err kind) }
+    ensures memory { IfErr result (λ kind. kind ≡ Memory → IsPastNames (truncate state.now.tree.nodes state.now.sizes.items path.now length)) }
 {
     let Some(path) = path.keep_short(alloc)? else {
         return Err(TraceFaultKind::Missing);
     };
-    judge::truncate(&state.paths, &state.sizes, &path, length)
+    judge::truncate(&state.tree, &state.sizes, &path, length)
 }
 
 #[tactic(auto, using(crate::proofs::Past::nothing_at, crate::proofs::Past::past_fsync))]
-fn fsync(alloc: Global, paths: &Standing, path: &PathText<'_>) -> Result<Operation, TraceFaultKind>
-    requires { AreShort paths.now }
-    ensures done { IfOk result (λ operation. fsync paths.now path.now ≡ Ok operation) }
-    ensures fault { IfErr result (λ kind. kind ≢ Memory → fsync paths.now path.now ≡ Err kind) }
-    ensures memory { IfErr result (λ kind. kind ≡ Memory → IsPastNames (fsync paths.now path.now)) }
+fn fsync(alloc: Global, tree: &Tree, path: &PathText<'_>) -> Result<Operation, TraceFaultKind>
+    requires { AreShort tree.now.nodes }
+    ensures done { IfOk result (λ operation. fsync tree.now.nodes path.now ≡ Ok operation) }
+    ensures fault { IfErr result (λ kind. kind ≢ Memory → fsync tree.now.nodes path.now ≡ Err kind) }
+    ensures memory { IfErr result (λ kind. kind ≡ Memory → IsPastNames (fsync tree.now.nodes path.now)) }
 {
     let Some(path) = path.keep_short(alloc)? else {
         return Err(TraceFaultKind::Missing);
     };
-    judge::fsync(paths, path)
+    judge::fsync(tree, path)
 }
 
 #[tactic(auto, using(crate::proofs::Past::nothing_at, crate::proofs::Past::nothing_above, crate::proofs::Past::past_rename))]
 fn rename(
     alloc: Global,
-    paths: &Standing,
+    tree: &Tree,
     from: &PathText<'_>,
     to: &PathText<'_>,
 ) -> Result<Operation, TraceFaultKind>
-    requires { AreShort paths.now }
-    ensures done { IfOk result (λ operation. rename paths.now from.now to.now ≡ Ok operation) }
-    ensures fault { IfErr result (λ kind. kind ≢ Memory → rename paths.now from.now to.now ≡ Err kind) }
-    ensures memory { IfErr result (λ kind. kind ≡ Memory → IsPastNames (rename paths.now from.now to.now)) }
+    requires { AreShort tree.now.nodes }
+    ensures done { IfOk result (λ operation. rename tree.now.nodes from.now to.now ≡ Ok operation) }
+    ensures fault { IfErr result (λ kind. kind ≢ Memory → rename tree.now.nodes from.now to.now ≡ Err kind) }
+    ensures memory { IfErr result (λ kind. kind ≡ Memory → IsPastNames (rename tree.now.nodes from.now to.now)) }
 {
     let Some(from) = from.keep_short(alloc)? else {
         return Err(TraceFaultKind::Missing);
     };
     let Some(to) = to.keep_short(alloc)? else {
-        return judge::rename_far(paths, &from);
+        return judge::rename_far(tree, &from);
     };
     let above = Path::of(alloc, &to.names().parent())?;
-    judge::rename(paths, from, to, &above)
+    judge::rename(tree, from, to, &above)
 }
 
 /// The operation of a line where the state stands, or its first fault.
@@ -192,24 +192,24 @@ pub(crate) fn resolve(
     state: &State,
     line: &OperationLine<'_>,
 ) -> Result<Operation, TraceFaultKind>
-    requires short { AreShort state.now.paths }
+    requires short { AreShort state.now.tree.nodes }
     requires few { length state.now.sizes.items < 2 ^ 32 }
-    ensures done { IfOk result (λ operation. resolve state.now.paths state.now.sizes.items state.now.made (operation_said line.now) ≡ Ok operation) }
-    ensures fault { IfErr result (λ kind. kind ≢ Memory → resolve state.now.paths state.now.sizes.items state.now.made (operation_said line.now) ≡ Err kind) }
-    ensures memory { IfErr result (λ kind. kind ≡ Memory → IsPastNames (resolve state.now.paths state.now.sizes.items state.now.made (operation_said line.now))) }
+    ensures done { IfOk result (λ operation. resolve state.now.tree.nodes state.now.sizes.items state.now.made (operation_said line.now) ≡ Ok operation) }
+    ensures fault { IfErr result (λ kind. kind ≢ Memory → resolve state.now.tree.nodes state.now.sizes.items state.now.made (operation_said line.now) ≡ Err kind) }
+    ensures memory { IfErr result (λ kind. kind ≡ Memory → IsPastNames (resolve state.now.tree.nodes state.now.sizes.items state.now.made (operation_said line.now))) }
 {
-    let paths = &state.paths;
+    let tree = &state.tree;
     match line {
         OperationLine::Creat { path, claims } => {
             creat(alloc, state, &new_path(path, claims)?, claims)
         }
         OperationLine::Mkdir { path, claims } => {
-            mkdir(alloc, paths, state.made, &new_path(path, claims)?, claims)
+            mkdir(alloc, tree, state.made, &new_path(path, claims)?, claims)
         }
-        OperationLine::Unlink { path } => unlink(alloc, paths, &entry_path(path)?),
-        OperationLine::Rmdir { path } => rmdir(alloc, paths, &entry_path(path)?),
+        OperationLine::Unlink { path } => unlink(alloc, tree, &entry_path(path)?),
+        OperationLine::Rmdir { path } => rmdir(alloc, tree, &entry_path(path)?),
         OperationLine::Rename { from, to } => {
-            rename(alloc, paths, &entry_path(from)?, &entry_path(to)?)
+            rename(alloc, tree, &entry_path(from)?, &entry_path(to)?)
         }
         OperationLine::Write {
             path,
@@ -219,7 +219,7 @@ pub(crate) fn resolve(
         OperationLine::Truncate { path, size } => {
             truncate(alloc, state, &entry_path(path)?, *size)
         }
-        OperationLine::Fsync { path } => fsync(alloc, paths, &any_path(path)?),
+        OperationLine::Fsync { path } => fsync(alloc, tree, &any_path(path)?),
         OperationLine::Sync => Ok(Operation::Sync(Covers::All)),
         OperationLine::Say { text } => judge::say(text),
     }

@@ -1,23 +1,26 @@
 //! The header and the start lines, each where the state stands.
-ghost use Rattle.std.specs.Prelude.{◌≡◌, ◌≢◌, ◌<◌, ◌^◌, IfErr, IfOk, IsOk, OnOk, None, Ok, Err, length};
+ghost use Rattle.std.specs.Prelude.{◌≡◌, ◌≢◌, ◌<◌, ◌^◌, IfErr, IfOk, IsOk, OnOk, None, Some, Ok, Err, length};
+ghost use Rattle.std.specs.FinMap as map;
 ghost use Rattle.cs_tree_model.specs.Tree.{parent_path};
-ghost use Rattle.cs_trace.specs.Entries.{size_of};
-ghost use Rattle.cs_trace.specs.Judging.{IsPastNames};
+ghost use Rattle.cs_trace.specs.Entries.{node_of, size_of};
+ghost use Rattle.cs_trace.specs.Judging.{IsPastNames, free_at};
 ghost use Rattle.cs_trace.specs.Kept.{IsBounded, state_of};
 ghost use Rattle.cs_trace.specs.Lines.{Header};
 ghost use Rattle.cs_trace.specs.Said.{claims_of, start_of};
 ghost use Rattle.cs_trace.specs.States.{entry_for, first_step, start_at, start_step, with_entry};
 ghost use Rattle.cs_trace.specs.declared.fault.TraceFaultKind.TheVariants.{Memory};
+ghost use Rattle.cs_trace.specs.declared.operation.Node.TheVariants.{Directory};
 
 use crate::digits::Digits;
 use crate::entry::Entry;
 use crate::fault::TraceFaultKind;
-use crate::judge::{check_free, is_too_much};
+use crate::judge::is_too_much;
 use crate::line::{Claims, StartLine};
 use crate::names::are_user_names;
-use crate::operation::Rights;
+use crate::operation::{Node, Rights};
 use crate::resolve::new_path;
 use crate::state::State;
+use crate::tree::Tree;
 use cs_names::Path;
 use cs_names::limits::FILE_BYTES;
 use cs_tree_model::{Content, Kind};
@@ -60,38 +63,60 @@ fn keep_entry(
 /// One entry more at the start.
 fn place(alloc: Global, state: &mut State, path: Path, entry: Entry) -> Result<(), AllocError>
     requires { state.old.made < 2 ^ 32 }
-    ensures { OnOk result (state_of state.new ≡ with_entry (state_of state.old) path entry entry.content) }
+    ensures state { OnOk result (state_of state.new ≡ with_entry (state_of state.old) path entry entry.content) }
+    ensures nodes { OnOk result (state.new.tree.nodes ≡ map.insert state.old.tree.nodes path (node_of entry)) }
 {
     if let Kind::File { length } = entry.content.kind() {
         state.files.push(path.try_clone(alloc)?)?;
         state.sizes.push(length)?;
     }
-    state.paths.insert(path.try_clone(alloc)?, entry.node())?;
-    state.start.insert(path, entry)?;
+    state.tree.insert_start(alloc, path, entry)?;
     state.made += 1;
     Ok(())
 }
 
+/// The directory that a new entry is to stand in, which stands.
+fn find_above(alloc: Global, tree: &mut Tree, path: &Path) -> Result<Path, TraceFaultKind>
+    ensures same { tree.new ≡ tree.old }
+    ensures above { IfOk result (λ above. above ≡ parent_path path.now) }
+    ensures stands { IfOk result (λ above. map.get tree.old.nodes above ≡ Some Directory) }
+    ensures fault { IfErr result (λ kind. kind ≢ Memory → free_at tree.old.nodes path.now ≡ Err kind) }
+{
+    if let Some(above) = tree.take_near(path) {
+        return Ok(above);
+    }
+    let above = Path::of(alloc, &path.names().parent())?;
+    match tree.get(&above) {
+        None => Err(TraceFaultKind::NoParent),
+        Some(Node::File(_)) => Err(TraceFaultKind::NotDir),
+        Some(Node::Directory) => Ok(above),
+    }
+}
+
 /// One entry more at the path, in the directory above. Memory is wanted only where there is no fault.
-fn start_at(
+fn start_in(
     alloc: Global,
     state: &mut State,
     path: Path,
-    above: &Path,
+    above: Path,
     line: &StartLine<'_>,
 ) -> Result<(), TraceFaultKind>
     requires bounded { IsBounded (state_of state.old) }
-    requires above { above.now ≡ parent_path path }
+    requires above { above ≡ parent_path path }
+    requires stands { map.get state.old.tree.nodes above ≡ Some Directory }
     ensures done { OnOk result (start_at (state_of state.old) path (claims_of line.now.claims) line.now.content ≡ Ok (state_of state.new)) }
     ensures fault { IfErr result (λ kind. kind ≢ Memory → start_at (state_of state.old) path (claims_of line.now.claims) line.now.content ≡ Err kind) }
     ensures memory { IfErr result (λ kind. kind ≡ Memory → IsOk (start_at (state_of state.old) path (claims_of line.now.claims) line.now.content)) }
 {
-    check_free(&state.paths, above, &path)?;
+    if state.tree.get(&path).is_some() {
+        return Err(TraceFaultKind::Exists);
+    }
     if is_too_much(state.made, &path) || size_of(&line.content) > FILE_BYTES {
         return Err(TraceFaultKind::TooLarge);
     }
     let entry = keep_entry(alloc, state, &line.claims, &line.content)?;
     place(alloc, state, path, entry)?;
+    state.tree.stay_near(above);
     Ok(())
 }
 
@@ -111,8 +136,8 @@ pub(crate) fn take_start(
     let Some(path) = path.keep_short(alloc)? else {
         return Err(TraceFaultKind::NoParent);
     };
-    let above = Path::of(alloc, &path.names().parent())?;
-    start_at(alloc, state, path, &above, line)
+    let above = find_above(alloc, &mut state.tree, &path)?;
+    start_in(alloc, state, path, above, line)
 }
 
 /// The first line that isn't blank: the header gives the root.

@@ -5,21 +5,18 @@ ghost use Rattle.cs_trace.specs.Kept.{IsWithin, state_of};
 ghost use Rattle.cs_trace.specs.Operations.{made_by, paths_after, sizes_after, written_size};
 ghost use Rattle.cs_trace.specs.States.{nothing, taken};
 
-use crate::entries::Entries;
 use crate::operation::{Bytes, Node, Operation};
-use crate::standing::Standing;
+use crate::tree::Tree;
 use cs_names::Path;
 use std::alloc::{AllocError, Global};
 
 /// What the lines so far leave.
 #[derive(Drop)]
 pub(crate) struct State {
-    /// The files at the start, by their paths.
-    pub(crate) start: Entries,
+    /// What stood at the start, and what stands now.
+    pub(crate) tree: Tree,
     /// The paths of the files at the start, by their numbers.
     pub(crate) files: Vec<Path>,
-    /// What stands now.
-    pub(crate) paths: Standing,
     /// The size of each file, by its number.
     pub(crate) sizes: Vec<u64>,
     /// How many records were ever made.
@@ -28,37 +25,36 @@ pub(crate) struct State {
 }
 
 /// What stands after a file's entry was moved.
-fn rename(alloc: Global, paths: &mut Standing, from: &Path, to: &Path) -> Result<(), AllocError>
-    ensures { OnOk result (paths.new ≡ paths_after paths.old (Operation.Rename from.now to.now)) }
+fn rename(alloc: Global, tree: &mut Tree, from: &Path, to: &Path) -> Result<(), AllocError>
+    ensures start { OnOk result (tree.new.start ≡ tree.old.start) }
+    ensures nodes { OnOk result (tree.new.nodes ≡ paths_after tree.old.nodes (Operation.Rename from.now to.now)) }
 {
-    let Some(node) = paths.get(from) else {
+    let Some(node) = tree.get(from) else {
         return Ok(());
     };
-    paths.remove(from);
-    paths.insert(to.try_clone(alloc)?, node)
+    tree.remove(alloc, from)?;
+    tree.insert(alloc, to.try_clone(alloc)?, node)
 }
 
 /// What stands after the operation.
-fn move_paths(alloc: Global, paths: &mut Standing, operation: &Operation) -> Result<(), AllocError>
-    ensures { OnOk result (paths.new ≡ paths_after paths.old operation.now) }
+fn move_paths(alloc: Global, tree: &mut Tree, operation: &Operation) -> Result<(), AllocError>
+    ensures start { OnOk result (tree.new.start ≡ tree.old.start) }
+    ensures nodes { OnOk result (tree.new.nodes ≡ paths_after tree.old.nodes operation.now) }
 {
     match operation {
         Operation::Creat { path, file, .. } => {
-            paths.insert(path.try_clone(alloc)?, Node::File(*file))?;
+            tree.insert(alloc, path.try_clone(alloc)?, Node::File(*file))
         }
         Operation::Mkdir { path, .. } => {
-            paths.insert(path.try_clone(alloc)?, Node::Directory)?;
+            tree.insert(alloc, path.try_clone(alloc)?, Node::Directory)
         }
-        Operation::Unlink { path } | Operation::Rmdir { path } => {
-            paths.remove(path);
-        }
-        Operation::Rename { from, to } => rename(alloc, paths, from, to)?,
+        Operation::Unlink { path } | Operation::Rmdir { path } => tree.remove(alloc, path),
+        Operation::Rename { from, to } => rename(alloc, tree, from, to),
         Operation::Write { .. }
         | Operation::Truncate { .. }
         | Operation::Sync(_)
-        | Operation::Say => {}
+        | Operation::Say => Ok(()),
     }
-    Ok(())
 }
 
 fn written_size(size: u64, offset: u64, bytes: &Bytes) -> u64
@@ -128,9 +124,8 @@ impl State {
         ensures { state_of result ≡ nothing }
     {
         State {
-            start: Entries::new(alloc),
+            tree: Tree::new(alloc),
             files: Vec::new(alloc),
-            paths: Standing::new(alloc),
             sizes: Vec::new(alloc),
             made: 0,
             operations: Vec::new(alloc),
@@ -143,7 +138,7 @@ impl State {
         requires few { self.old.made ≤ TREE_RECORDS }
         ensures { OnOk result (state_of self.new ≡ taken (state_of self.old) operation) }
     {
-        move_paths(alloc, &mut self.paths, &operation)?;
+        move_paths(alloc, &mut self.tree, &operation)?;
         change_sizes(&mut self.sizes, &operation)?;
         self.made += made_by(&operation);
         self.operations.push(operation)?;

@@ -108,7 +108,7 @@ fn finish(alloc: Global, state: State) -> Result<Trace, AllocError>
     requires { IsTrace (whole (state_of state)) }
     ensures { IfOk result (λ trace. trace ≡ whole (state_of state)) }
 {
-    let (records, nodes) = state.start.into_parts(alloc)?;
+    let (records, nodes) = state.tree.into_start(alloc)?;
     Ok(Trace {
         records,
         nodes,

@@ -1,0 +1,29 @@
+-- The tree that lines make: what stood at each path at the start, and what stands there now.
+use Rattle.std.specs.Prelude.{Option, None, Some, refl}
+use Rattle.std.specs.Coded.{Coded, code_by, coded×}
+use Rattle.std.specs.FinMap.{empty, insert}
+use Rattle.cs_tree_model.specs.Maps.Values.{map_values}
+use Rattle.cs_tree_model.specs.Tree.{Path}
+use Rattle.cs_trace.specs.Below.{paths_code}
+use Rattle.cs_trace.specs.Entries.{Entries, entries_code, node_of}
+use Rattle.cs_trace.specs.Operations.{Paths}
+use Rattle.cs_trace.specs.declared.entry.Entry.{Entry}
+
+pub record Tree : Type 0 where
+  pub start : Entries
+  pub nodes : Paths
+
+abbrev pub tree_code : Coded Tree
+tree_code = code_by (Entries × Paths) (coded× entries_code paths_code) (λ t. (t.start, t.nodes)) (λ p. record { start = p.0; nodes = p.1 }) (λ _. refl)
+
+-- what stands now; as long as nothing changed, what stood at the start
+abbrev pub nodes_by : Entries → Option Paths → Paths
+nodes_by start None = map_values node_of start
+nodes_by start (Some now) = now
+
+abbrev pub bare : Tree
+bare = record { start = empty; nodes = empty }
+
+-- one entry more at the start
+abbrev pub with_start : Tree → Path → Entry → Tree
+with_start t p e = record { start = insert t.start p e; nodes = insert t.nodes p (node_of e) }

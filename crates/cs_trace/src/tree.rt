@@ -1,0 +1,163 @@
+//! The tree that the lines of a trace make: what stood at the start, and what stands now.
+ghost use Rattle.std.specs.Prelude.{◌≡◌, Some, IfOk, IfSome, OnOk};
+ghost use Rattle.std.specs.FinMap as map;
+ghost use Rattle.cs_tree_model.specs.Tree.{parent_path};
+ghost use Rattle.cs_trace.specs.Below.{has_below};
+ghost use Rattle.cs_trace.specs.Entries.{nodes_in, records_in};
+ghost use Rattle.cs_trace.specs.Trees.{bare, with_start};
+ghost use Rattle.cs_trace.specs.declared.operation.Node.TheVariants.{Directory};
+
+use crate::entries::Entries;
+use crate::entry::Entry;
+use crate::operation::Node;
+use crate::standing::Standing;
+use cs_names::Path;
+use cs_tree_model::Record;
+use std::alloc::{AllocError, Global};
+use std::marker::Model;
+
+/// What stands at each path. Contracts see two finite maps: what stood at the start, and what stands
+/// now. As long as they are the same, only the first is kept.
+#[derive(Drop)]
+pub(crate) struct Tree {
+    /// The files at the start.
+    start: Entries,
+    /// What stands now, once something changed.
+    changed: Option<Standing>,
+    /// A directory that stands: most often the next start line's, too.
+    near: Option<Path>,
+}
+
+impl Model for Tree {
+    ghost use Rattle.std.specs.Prelude.{◌≡◌, Some, IfSome};
+    ghost use Rattle.std.specs.FinMap as map;
+    ghost use Rattle.cs_trace.specs.Trees as model;
+    ghost use Rattle.cs_trace.specs.declared.operation.Node.TheVariants.{Directory};
+
+    ghost Value = { model.Tree };
+
+    ghost coded = { model.tree_code };
+
+    ghost view = { λ tree. record { start = tree.start; nodes = model.nodes_by tree.start tree.changed } };
+
+    ghost invariant = { λ tree. IfSome tree.near (λ near. map.get (model.nodes_by tree.start tree.changed) near ≡ Some Directory) };
+}
+
+impl Tree {
+    pub(crate) fn new(alloc: Global) -> Tree
+        ensures { result ≡ bare }
+    {
+        Tree {
+            start: Entries::new(alloc),
+            changed: None,
+            near: None,
+        }
+    }
+
+    /// What stands at the path. It takes no memory.
+    pub(crate) fn get(&self, path: &Path) -> Option<Node>
+        ensures { result ≡ map.get self.now.nodes path.now }
+    {
+        match &self.changed {
+            Some(changed) => changed.get(path),
+            None => self.start.get(path),
+        }
+    }
+
+    /// Whether something stands below the path. It takes no memory.
+    pub(crate) fn has_below(&self, path: &Path) -> bool
+        ensures { result ≡ has_below self.now.nodes path.now }
+    {
+        match &self.changed {
+            Some(changed) => changed.has_below(path),
+            None => self.start.has_below(path),
+        }
+    }
+
+    /// The path's directory, where it is the one of the start line before, which stands.
+    #[tactic(auto, using(crate::proofs::Trees::same_path))]
+    pub(crate) fn take_near(&mut self, path: &Path) -> Option<Path>
+        ensures same { self.new ≡ self.old }
+        ensures above { IfSome result (λ above. above ≡ parent_path path.now) }
+        ensures stands { IfSome result (λ above. map.get self.old.nodes above ≡ Some Directory) }
+    {
+        let near = self.near.take()?;
+        if near.names() == path.names().parent() {
+            return Some(near);
+        }
+        None
+    }
+
+    /// The next start line is likely in the directory.
+    pub(crate) fn stay_near(&mut self, directory: Path)
+        requires { map.get self.old.nodes directory ≡ Some Directory }
+        ensures { self.new ≡ self.old }
+    {
+        self.near = Some(directory);
+    }
+
+    /// One entry more at the start.
+    pub(crate) fn insert_start(
+        &mut self,
+        alloc: Global,
+        path: Path,
+        entry: Entry,
+    ) -> Result<(), AllocError>
+        ensures { OnOk result (self.new ≡ with_start self.old path entry) }
+    {
+        self.near = None;
+        match &mut self.changed {
+            None => self.start.insert(path, entry)?,
+            Some(changed) => {
+                changed.insert(path.try_clone(alloc)?, entry.node())?;
+                self.start.insert(path, entry)?;
+            }
+        }
+        Ok(())
+    }
+
+    /// The node stands at the path from now on.
+    pub(crate) fn insert(&mut self, alloc: Global, path: Path, node: Node) -> Result<(), AllocError>
+        ensures start { OnOk result (self.new.start ≡ self.old.start) }
+        ensures nodes { OnOk result (self.new.nodes ≡ map.insert self.old.nodes path node) }
+    {
+        self.near = None;
+        match &mut self.changed {
+            Some(changed) => changed.insert(path, node),
+            None => {
+                let mut changed = self.start.nodes(alloc)?;
+                changed.insert(path, node)?;
+                self.changed = Some(changed);
+                Ok(())
+            }
+        }
+    }
+
+    /// Nothing stands at the path any more.
+    pub(crate) fn remove(&mut self, alloc: Global, path: &Path) -> Result<(), AllocError>
+        ensures start { OnOk result (self.new.start ≡ self.old.start) }
+        ensures nodes { OnOk result (self.new.nodes ≡ map.remove self.old.nodes path.now) }
+    {
+        self.near = None;
+        match &mut self.changed {
+            Some(changed) => changed.remove(path),
+            None => {
+                let mut changed = self.start.nodes(alloc)?;
+                changed.remove(path);
+                self.changed = Some(changed);
+            }
+        }
+        Ok(())
+    }
+
+    /// The start's records in the order of their paths, with fresh numbers; and what each of them is.
+    pub(crate) fn into_start(
+        self,
+        alloc: Global,
+    ) -> Result<(Vec<(Path, Record)>, Vec<Node>), AllocError>
+        ensures records { IfOk result (λ parts. parts.0.items ≡ records_in self.start) }
+        ensures nodes { IfOk result (λ parts. parts.1.items ≡ nodes_in self.start) }
+    {
+        self.start.into_parts(alloc)
+    }
+}
