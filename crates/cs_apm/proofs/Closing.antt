@@ -1,10 +1,9 @@
 -- Each path that ever stands is in a directory that does.
-use Rattle.std.proofs.Common.{◌≡◌, ◌≢◌, ℕ, zero, suc, ◌<◌, ◌≤◌, ◌||◌, Bool, true, false, List, [], ◌∷◌, ◌⊎◌, inl, inr, Option, None, Some, refl, sym, ap, ◌∙◌, subst, arith, ⊎_elim, length, map, get_or}
-use Rattle.std.proofs.lemmas.Bool.{cases_Bool, false≢true, or_cases}
+use Rattle.std.proofs.Common.{◌≡◌, ◌≢◌, ℕ, zero, suc, ◌<◌, ◌≤◌, true, false, List, [], ◌∷◌, ◌⊎◌, inl, inr, Option, None, Some, refl, sym, ap, ◌∙◌, subst, arith, ⊎_elim, length, map, get_or}
+use Rattle.std.proofs.lemmas.Bool.{cases_Bool, false≢true}
 use Rattle.std.specs.FinMap.{find, get, get-from_entries}
 use Rattle.std.specs.List.{Contains, zip}
 use Rattle.std.specs.Option.{is_some, option_map}
-use Rattle.cs_tree_model.specs.declared.record.Record.{Record}
 use Rattle.cs_tree_model.specs.Laws.Paths.{path_total}
 use Rattle.cs_tree_model.specs.Tree.{Path, path_cmp, parent_path}
 use Rattle.cs_trace.specs.declared.operation.Node.{Node}

@@ -1,8 +1,7 @@
-use Rattle.std.proofs.Common.{◌≡◌, ℕ, zero, suc, ◌<◌, List, [], ◌∷◌, ◌⊎◌, inl, inr, ⊎_elim, refl, sym, ap, ◌∙◌, subst, arith, get_or}
+use Rattle.std.proofs.Common.{◌≡◌, ℕ, zero, suc, ◌<◌, [], ◌∷◌, ◌⊎◌, inl, inr, ⊎_elim, sym, ap, subst, arith, get_or}
 use Rattle.std.specs.List.{Contains}
 use Rattle.cs_tree_model.specs.Tree.{Path}
 use Rattle.cs_micro.specs.declared.micro_op.MicroOp.{MicroOp}
-use Rattle.cs_apm.specs.Atlases.{HasTouched}
 use Rattle.cs_apm.specs.Rules.{touched}
 use Rattle.cs_apm.proofs.places.add_touched.Goals as goal
 
