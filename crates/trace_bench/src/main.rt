@@ -4,7 +4,7 @@
 
 mod texts;
 
-use crate::texts::{large_writes, small_files, small_writes, start_files};
+use crate::texts::{large_writes, small_files, small_writes, start_files, start_files_changed};
 use cs_trace::read_trace;
 use serde_json::Value;
 use std::alloc::{AllocError, Global};
@@ -98,6 +98,12 @@ fn main(rt: HostRuntime) -> io::Result<()> {
         &rt,
         "start files, 60 deep",
         start_files(alloc, 65 * scale, 60),
+        timed,
+    )?;
+    measure(
+        &rt,
+        "start files, 60 deep, one removed",
+        start_files_changed(alloc, 65 * scale, 60),
         timed,
     )
 }

@@ -72,3 +72,14 @@ pub fn start_files(alloc: Global, count: u64, depth: u64) -> Result<String, Allo
     }
     Ok(text)
 }
+
+/// The same, with the first file removed at the end.
+pub fn start_files_changed(alloc: Global, count: u64, depth: u64) -> Result<String, AllocError> {
+    let mut text = start_files(alloc, count, depth)?;
+    text.push_str("\n{\"op\":\"unlink\",\"path\":\"")?;
+    for _ in 0..depth {
+        text.push_str("/directory")?;
+    }
+    text.push_str("/file0\"}")?;
+    Ok(text)
+}
