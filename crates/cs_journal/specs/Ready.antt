@@ -6,5 +6,5 @@ use Rattle.cs_journal.specs.declared.ready.Ready.TheVariants.{Small, Shared}
 
 -- the call
 abbrev pub ready_call : Ready → Call
-ready_call (Small small) = small.call
+ready_call (Small c) = c
 ready_call (Shared shared) = arc_value shared

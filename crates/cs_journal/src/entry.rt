@@ -1,16 +1,17 @@
 //! The entries of a journal.
 
-use crate::kept::{Kept, Noted};
+use crate::kept::Kept;
 use cs_run::Outcome;
 use std::marker::Model;
 
 /// An entry of a journal. Contracts see the pass, the moment, the call, and how it ended.
 #[derive(Drop)]
 pub struct Entry {
-    pub(crate) pass: u32,
+    // small, so that an entry is
+    pub(crate) pass: u8,
+    pub(crate) outcome: Outcome,
     pub(crate) moment: u32,
     pub(crate) kept: Kept,
-    pub(crate) outcome: Outcome,
 }
 
 impl Model for Entry {

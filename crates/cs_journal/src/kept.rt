@@ -1,47 +1,42 @@
 //! What an entry and a receipt keep of a call.
-ghost use Rattle.std.specs.Prelude.{◌≡◌, true};
+ghost use Rattle.std.specs.Prelude.{◌≡◌, ◌+◌, ◌≤◌, true, vec_len};
+ghost use Rattle.cs_journal.specs.Kept.{call_of};
 ghost use Rattle.cs_journal.specs.Small.{is_small, is_start};
+ghost use Rattle.cs_permit.specs.declared.call.Call.TheVariants.{Remove};
 
 use crate::asked::{AskedRef, asked_by};
 use crate::user_text::UserText;
 use cs_fids::Place;
-use cs_permit::{Call, CloseCall, RemoveCall, StatCall};
+use cs_names::UserName;
+use cs_permit::{Call, RemoveCall};
 use std::sync::Arc;
 
-/// A call as an entry keeps it. One that takes memory is shared with its receipt; a close and a remove
-/// take none, so that their entries can be reserved, and a stat and a read of a file are small.
+/// A call as an entry or a receipt keeps it. One that takes memory is shared by both. A close and a remove
+/// lie in memory that was taken before, so that they can be reserved; a stat and a read of a file are small.
+// a variant's short fields come first: they lie beside its tag
 #[derive(Drop)]
 pub(crate) enum Kept {
-    Shared(Arc<Call>),
-    Close(CloseCall),
-    Remove(RemoveCall),
-    /// A read that goes on at the start.
-    Read {
-        number: u64,
-        offset: u64,
-        count: u32,
-    },
-    Stat(StatCall),
-}
-
-/// A call as a receipt keeps it.
-#[derive(Drop)]
-pub(crate) enum Noted {
     Shared(Arc<Call>),
     Close {
         open_number: u32,
         user: Box<UserText>,
     },
+    /// A remove of a file that the fid has not open.
     Remove {
         number: u64,
         user: Box<UserText>,
-        open_number: Option<u32>,
     },
-    /// A read that went on at the start.
+    /// A remove that ends an open.
+    RemoveOpen {
+        open_number: u32,
+        number: u64,
+        user: Box<UserText>,
+    },
+    /// A read that goes on at the start.
     Read {
+        count: u32,
         number: u64,
         offset: u64,
-        count: u32,
     },
     Stat(u64),
 }
@@ -51,49 +46,88 @@ impl Kept {
     ghost use Rattle.cs_journal.specs.Kept.{call_of};
     ghost use Rattle.cs_journal.specs.Texts.{asked_in};
 
+    /// What an entry or a receipt keeps of a call with no memory of its own: a close's user, and a remove's,
+    /// on the last of the blank texts.
+    pub(crate) fn small(call: &Call, blanks: &mut Vec<Box<UserText>>) -> Kept
+        requires small { is_small call.now ≡ true }
+        requires blank { 1 ≤ vec_len blanks.old }
+        ensures value { call_of result ≡ call.now }
+        ensures left { vec_len blanks.old ≤ vec_len blanks.new + 1 }
+    {
+        match call {
+            Call::Close(call) => Kept::Close {
+                open_number: call.open_number,
+                user: text_of(blanks, &call.user),
+            },
+            Call::Remove(call) => removed(call, text_of(blanks, &call.user)),
+            Call::Read(call) => Kept::Read {
+                count: call.count,
+                number: call.number,
+                offset: call.offset,
+            },
+            Call::Stat(call) => Kept::Stat(call.number),
+            Call::Attach(_)
+            | Call::Walk(_)
+            | Call::Open(_)
+            | Call::Create(_)
+            | Call::Write(_)
+            | Call::Wstat(_) => unreachable!(),
+        }
+    }
+
     /// What the call asks.
     pub(crate) fn asked(&self) -> AskedRef<'_>
         ensures { asked_in result ≡ asked (call_of self.now) }
     {
         match self {
             Kept::Shared(call) => asked_by(call),
-            Kept::Close(call) => AskedRef::Close(call.open_number, call.user.as_bytes()),
-            Kept::Remove(call) => {
-                AskedRef::Remove(call.number, call.user.as_bytes(), call.open_number)
-            }
+            Kept::Close { open_number, user } => AskedRef::Close(*open_number, user.as_bytes()),
+            Kept::Remove { number, user } => AskedRef::Remove(*number, user.as_bytes(), None),
+            Kept::RemoveOpen {
+                open_number,
+                number,
+                user,
+            } => AskedRef::Remove(*number, user.as_bytes(), Some(*open_number)),
             Kept::Read {
+                count,
                 number,
                 offset,
-                count,
             } => AskedRef::Read(*number, *offset, *count, 0, None),
-            Kept::Stat(call) => AskedRef::Stat(call.number),
+            Kept::Stat(number) => AskedRef::Stat(*number),
         }
     }
 }
 
-impl Noted {
-    ghost use Rattle.cs_journal.specs.Kept.{asked_of};
-    ghost use Rattle.cs_journal.specs.Texts.{asked_in};
-
-    /// What the call asked.
-    pub(crate) fn asked(&self) -> AskedRef<'_>
-        ensures { asked_in result ≡ asked_of self.now }
-    {
-        match self {
-            Noted::Shared(call) => asked_by(call),
-            Noted::Close { open_number, user } => AskedRef::Close(*open_number, user.as_bytes()),
-            Noted::Remove {
-                number,
-                user,
-                open_number,
-            } => AskedRef::Remove(*number, user.as_bytes(), *open_number),
-            Noted::Read {
-                number,
-                offset,
-                count,
-            } => AskedRef::Read(*number, *offset, *count, 0, None),
-            Noted::Stat(number) => AskedRef::Stat(*number),
+/// A user's name on the last of the blank texts. It takes no memory.
+fn text_of(blanks: &mut Vec<Box<UserText>>, user: &UserName) -> Box<UserText>
+    requires { 1 ≤ vec_len blanks.old }
+    ensures value { result.value ≡ user.now }
+    ensures left { vec_len blanks.new + 1 ≡ vec_len blanks.old }
+{
+    match blanks.pop() {
+        Some(mut text) => {
+            *text = UserText::of(user);
+            text
         }
+        None => unreachable!(),
+    }
+}
+
+/// What is kept of a remove.
+fn removed(call: &RemoveCall, user: Box<UserText>) -> Kept
+    requires { user.value ≡ call.now.user }
+    ensures { call_of result ≡ Remove call.now }
+{
+    match call.open_number {
+        Some(open_number) => Kept::RemoveOpen {
+            open_number,
+            number: call.number,
+            user,
+        },
+        None => Kept::Remove {
+            number: call.number,
+            user,
+        },
     }
 }
 

@@ -12,7 +12,7 @@ pub struct Pass {
     pub(crate) number: u32,
     pub(crate) receipts: Vec<Receipt>,
     pub(crate) reserved: usize,
-    /// For the users of the closes to come.
+    /// For the users of the closes to come, in their entries and in their receipts.
     pub(crate) blanks: Vec<Box<UserText>>,
 }
 
@@ -24,7 +24,7 @@ impl Model for Pass {
 
     ghost view = { λ p. record { number = p.number; receipts = p.receipts.items; reserved = p.reserved } };
 
-    ghost invariant = { λ p. (vec_len p.receipts + p.reserved ≤ vec_capacity p.receipts) × (p.reserved ≤ vec_len p.blanks) };
+    ghost invariant = { λ p. (vec_len p.receipts + p.reserved ≤ vec_capacity p.receipts) × (p.reserved + p.reserved ≤ vec_len p.blanks) };
 }
 
 impl Pass {

@@ -3,7 +3,7 @@ ghost use Rattle.std.specs.Prelude.{◌≡◌, ◌↔◌, IsTrue};
 
 use crate::asked::ask_the_same;
 use crate::entry::Entry;
-use crate::kept::Noted;
+use crate::kept::Kept;
 use cs_names::RuleId;
 use cs_run::Outcome;
 use std::marker::Model;
@@ -12,18 +12,19 @@ use std::marker::Model;
 /// bytes that it wrote, and how it ended.
 #[derive(Drop)]
 pub struct Receipt {
-    pub(crate) noted: Noted,
+    pub(crate) kept: Kept,
     pub(crate) place: u32,
     pub(crate) outcome: Outcome,
 }
 
 impl Model for Receipt {
+    ghost use Rattle.cs_journal.specs.Asked.{asked};
+    ghost use Rattle.cs_journal.specs.Kept.{call_of};
     ghost use Rattle.cs_journal.specs.Runs.{ReceiptOf};
-    ghost use Rattle.cs_journal.specs.Kept.{asked_of};
 
     ghost Value = { ReceiptOf };
 
-    ghost view = { λ r. record { place = r.place; asked = asked_of r.noted; outcome = r.outcome } };
+    ghost view = { λ r. record { place = r.place; asked = asked (call_of r.kept); outcome = r.outcome } };
 }
 
 fn is_same_rule(rule: RuleId, other: RuleId) -> bool
@@ -57,6 +58,6 @@ impl Receipt {
         if !is_same_end(self.outcome, entry.outcome) {
             return false;
         }
-        ask_the_same(self.noted.asked(), entry.kept.asked())
+        ask_the_same(self.kept.asked(), entry.kept.asked())
     }
 }

@@ -1,21 +1,25 @@
 //! How many entries a call takes, and the memory for them.
 ghost use Rattle.std.specs.Prelude.{◌≡◌, ◌+◌, ◌≤◌, ◌⊎◌, ◌<◌, IfSome, IsNone, IsSome, OnErr, OnOk, false, true, vec_capacity, vec_len};
-ghost use Rattle.cs_journal.specs.Asked.{asked};
+ghost use Rattle.cs_names.specs.declared.limits.TheConstants.{JOURNAL_ENTRIES};
 ghost use Rattle.cs_journal.specs.Calls.{charge};
-ghost use Rattle.cs_journal.specs.Kept.{asked_of};
+ghost use Rattle.cs_journal.specs.Kept.{call_of};
 ghost use Rattle.cs_journal.specs.Ready.{ready_call};
 ghost use Rattle.cs_journal.specs.Small.{is_small};
 ghost use Rattle.cs_run.specs.Laws.{opens_one};
 
 use crate::entry::Entry;
-use crate::kept::Noted;
+use crate::kept::Kept;
 use crate::ready::Ready;
 use crate::receipt::Receipt;
 use crate::user_text::UserText;
+use cs_names::limits::JOURNAL_ENTRIES;
 use cs_permit::Call;
 use cs_run::closes;
 use cs_run::opens::Opens;
 use std::alloc::{AllocError, Global};
+
+/// From how many elements on a list is long.
+const LONG: usize = 1_024;
 
 /// Whether a grant of the call makes an open.
 fn opens_one(call: &Call) -> bool
@@ -60,6 +64,22 @@ fn fill(alloc: Global, blanks: &mut Vec<Box<UserText>>, count: usize) -> Result<
     Ok(())
 }
 
+/// Room for so many more. A list that has grown long gets room for a whole journal at once, if there is
+/// memory, so that it isn't copied again: what isn't used of it is no page of memory yet.
+fn widen<T>(list: &mut Vec<T>, more: usize) -> Result<(), AllocError>
+    ensures items { (list.new.items ≡ list.old.items) × (vec_len list.new ≡ vec_len list.old) }
+    ensures ok { OnOk result (vec_len list.new + more ≤ vec_capacity list.new) }
+    ensures capacity { vec_capacity list.old ≤ vec_capacity list.new }
+    ensures full { OnErr result (vec_capacity list.old < vec_len list.old + more) }
+{
+    let len = list.len();
+    let is_short = list.capacity() - len < more;
+    if is_short && LONG <= len && len < JOURNAL_ENTRIES {
+        let _whole = list.reserve_exact(JOURNAL_ENTRIES - len);
+    }
+    list.reserve(more)
+}
+
 /// Takes the memory for so many entries and so many receipts more, and for what they keep of a call;
 /// None where it is refused. The lists stay.
 pub(crate) fn make_ready(
@@ -70,21 +90,23 @@ pub(crate) fn make_ready(
     blanks: &mut Vec<Box<UserText>>,
     entries: usize,
     more: usize,
-) -> Option<(Ready, Noted)>
-    requires { 1 ≤ more }
+) -> Option<(Ready, Kept, Kept)>
+    requires some { 1 ≤ more }
+    requires few { more ≤ JOURNAL_ENTRIES }
     ensures ready { IfSome result (λ made. ready_call made.0 ≡ call) }
-    ensures noted { IfSome result (λ made. asked_of made.1 ≡ asked call) }
-    ensures refused { IsNone result → (is_small call ≡ false) ⊎ ((vec_capacity journal.old + 1 ≤ vec_len journal.old + entries) ⊎ ((vec_capacity receipts.old + 1 ≤ vec_len receipts.old + more) ⊎ (vec_len blanks.old < more))) }
+    ensures entry { IfSome result (λ made. call_of made.1 ≡ call) }
+    ensures receipt { IfSome result (λ made. call_of made.2 ≡ call) }
+    ensures refused { IsNone result → (is_small call ≡ false) ⊎ ((vec_capacity journal.old + 1 ≤ vec_len journal.old + entries) ⊎ ((vec_capacity receipts.old + 1 ≤ vec_len receipts.old + more) ⊎ (vec_len blanks.old < more + more))) }
     ensures journal { (journal.new.items ≡ journal.old.items) × (vec_len journal.new ≡ vec_len journal.old) }
     ensures journal_room { (vec_capacity journal.old ≤ vec_capacity journal.new) × (IsSome result → vec_len journal.new + entries ≤ vec_capacity journal.new) }
     ensures receipts { (receipts.new.items ≡ receipts.old.items) × (vec_len receipts.new ≡ vec_len receipts.old) }
     ensures receipts_room { (vec_capacity receipts.old ≤ vec_capacity receipts.new) × (IsSome result → vec_len receipts.new + more ≤ vec_capacity receipts.new) }
     ensures blanks { IsNone result → vec_len blanks.old ≤ vec_len blanks.new }
-    ensures blanks_left { IsSome result → more ≤ vec_len blanks.new + 1 }
+    ensures blanks_left { IsSome result → more + more ≤ vec_len blanks.new + 2 }
 {
-    if journal.reserve(entries).is_err()
-        || receipts.reserve(more).is_err()
-        || fill(alloc, blanks, more).is_err()
+    if widen(journal, entries).is_err()
+        || widen(receipts, more).is_err()
+        || fill(alloc, blanks, more + more).is_err()
     {
         return None;
     }

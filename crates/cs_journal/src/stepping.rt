@@ -43,8 +43,9 @@ impl<L: TreeRead + Drop> Run<L> {
         let more = pass.reserved + charge;
         let (journal, receipts) = (&mut self.journal, &mut pass.receipts);
         let blanks = &mut pass.blanks;
-        let Some((ready, noted)) = make_ready(alloc, call, journal, receipts, blanks, entries, more)
-        else {
+        let Some((ready, entry, receipt)) = make_ready(
+            alloc, call, journal, receipts, blanks, entries, more,
+        ) else {
             return Answer::Short;
         };
         let turn = Turn {
@@ -54,7 +55,7 @@ impl<L: TreeRead + Drop> Run<L> {
         };
         let (tree, opens, users) = (&mut self.tree, &mut self.opens, &self.users);
         let (outcome, answer) = act(alloc, ready.call(), tree, opens, users, turn);
-        enter(journal, receipts, turn, ready, noted, outcome);
+        enter(journal, receipts, turn, ready, entry, receipt, outcome);
         pass.reserved = pass.reserved + self.opens.len() - before;
         self.passes[pass.number as usize] = Counts {
             entries: pass.receipts.len(),

@@ -1,11 +1,12 @@
 //! What a run answers, and how many entries its journal has then.
 
 use super::side::{Side, attach, close, open, remove, run, stat, walk, write};
-use crate::PassFault;
+use crate::{Entry, PassFault, Receipt};
 use cs_names::RuleId;
 use cs_permit::Call;
 use cs_run::Answer;
 use std::alloc::Global;
+use std::mem::size_of;
 use std::process::Abort;
 use std::test::Fail;
 
@@ -140,5 +141,12 @@ fn a_run_gives_64_passes(rt: HostRuntime) -> Result<(), Fail> {
     }
     assert_eq!(rt; run.new_pass(alloc).err(), Some(PassFault::Room));
     assert_eq!(rt; run.entries(), 0);
+    Ok(())
+}
+
+#[test]
+fn an_entry_and_a_receipt_have_32_bytes(rt: HostRuntime) -> Result<(), Fail> {
+    let sizes = (size_of::<Entry>(), size_of::<Receipt>());
+    assert_eq!(rt; sizes, (32, 32));
     Ok(())
 }

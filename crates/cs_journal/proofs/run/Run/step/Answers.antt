@@ -1,5 +1,6 @@
 use Rattle.std.proofs.Common.{◌≡◌, ◌∙◌, true, false, ⊎_elim, ◌+◌, ◌-◌, List, Some, length-set, set, subst, ◌<◌, ◌≤◌, ◌^◌, [], ◌∷◌, ◌++◌, ap, arith, length, refl, sym}
 use Rattle.cs_journal.proofs.Steps.{ends_small, full_step, inside, next_grows, numbers_below, reserved_here, short_step, some_own_room, some_room, versions_grow}
+use Rattle.cs_journal.specs.Asked.{asked}
 use Rattle.cs_journal.specs.Calls.{charge, closes_plainly, ended, is_full}
 use Rattle.cs_journal.specs.declared.counts.Counts.{Counts}
 use Rattle.cs_journal.specs.Holding.{IsHeld}
@@ -38,12 +39,26 @@ act-outcome-requires-clause-above g c =
 pub enter-requires-clause-entry_room : goal.enter-requires-clause-entry_room
 enter-requires-clause-entry_room g c = omega (arith, c.charge_of-charge.ensures.value, c.in-Some.ensures.journal_room.1 refl, some_room c.self.inside.opens.items c.pass.inside.number c.args.call)
 
-pub make_ready-requires : goal.make_ready-requires
-make_ready-requires g c =
+pub make_ready-requires-clause-some : goal.make_ready-requires-clause-some
+make_ready-requires-clause-some g c =
     let i = c.self.inside in
     let f = inside _ c.args.self.now _ c.args.pass.now c.self.view_is c.pass.view_is c.requires.fits in
     let here = reserved_here _ i.tree _ i.opens.items i.journal.items i.passes.items c.self.invariant.0 (record { number = c.pass.inside.number; receipts = c.pass.inside.receipts.items; reserved = c.pass.inside.reserved }) f in
     omega (arith, c.charge_of-charge.ensures.value, here, some_own_room i.opens.items c.pass.inside.number c.args.call)
+
+pub make_ready-requires-clause-few : goal.make_ready-requires-clause-few
+make_ready-requires-clause-few g c =
+    let i = c.self.inside in
+    let f = inside _ c.args.self.now _ c.args.pass.now c.self.view_is c.pass.view_is c.requires.fits in
+    let here = reserved_here _ i.tree _ i.opens.items i.journal.items i.passes.items c.self.invariant.0 (record { number = c.pass.inside.number; receipts = c.pass.inside.receipts.items; reserved = c.pass.inside.reserved }) f in
+    let few = under_few c.pass.inside.number i.opens.items in
+    omega (arith, c.charge_of-charge.ensures.value, c.len-before.ensures, here, few)
+
+pub enter-requires-clause-pass : goal.enter-requires-clause-pass
+enter-requires-clause-pass g c =
+    let f = inside _ c.args.self.now _ c.args.pass.now c.self.view_is c.pass.view_is c.requires.fits in
+    let known : c.pass.inside.number < length c.self.inside.passes.items = f.known in
+    omega (arith, known, c.self.invariant.0.passes)
 
 pub enter-requires-clause-receipt_room : goal.enter-requires-clause-receipt_room
 enter-requires-clause-receipt_room g c =
@@ -98,12 +113,12 @@ abbrev entry_is : (g : Over) (c : goal.After-self-1 g) → EntryOf
 entry_is g c = record { pass = c.pass.inside.number; moment = c.args.now; call = c.args.call; outcome = outcome (state c.self.inside.tree c.self.inside.opens.items (arc_value c.self.inside.users)) (record { moment = c.args.now; place = length c.self.inside.journal.items; pass = c.pass.inside.number }) c.args.call c.act-outcome.ensures.step.0 }
 
 journal_is : (g : Over) (c : goal.After-self-1 g) → c.enter.new.journal.items ≡ c.self.inside.journal.items ++ entry_is g c ∷ []
-journal_is g c = c.enter.ensures.journal ∙ (λ i. c.in-Some.ensures.journal.0 i ++ record { pass = c.pass.inside.number; moment = c.args.now; call = c.in-Some.ensures.ready i; outcome = outcome_of g c i } ∷ [])
+journal_is g c = c.enter.ensures.journal ∙ (λ i. c.in-Some.ensures.journal.0 i ++ record { pass = c.pass.inside.number; moment = c.args.now; call = c.in-Some.ensures.entry i; outcome = outcome_of g c i } ∷ [])
 
 receipts_are : (g : Over) (c : goal.After-self-1 g) → c.enter.new.receipts.items ≡ c.pass.inside.receipts.items ++ receipt_of (length c.self.inside.journal.items) (entry_is g c) ∷ []
 receipts_are g c =
     let place : c.len-2.result ≡ length c.self.inside.journal.items = omega (arith, c.self.inside.journal.ok) in
-    c.enter.ensures.receipts ∙ (λ i. c.in-Some.ensures.receipts.0 i ++ record { place = place i; asked = c.in-Some.ensures.noted i; outcome = outcome_of g c i } ∷ [])
+    c.enter.ensures.receipts ∙ (λ i. c.in-Some.ensures.receipts.0 i ++ record { place = place i; asked = asked (c.in-Some.ensures.receipt i); outcome = outcome_of g c i } ∷ [])
 
 reserved_is : (g : Over) (c : goal.After-self-1 g) → c.pass.inside.reserved + c.len-3.result - c.len-before.result ≡ c.pass.inside.reserved + length c.act-outcome.new.opens.items - length c.self.inside.opens.items
 reserved_is g c = λ i. c.pass.inside.reserved + c.len-3.ensures i - c.len-before.ensures i
