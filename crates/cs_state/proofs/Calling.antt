@@ -1,5 +1,5 @@
 -- What is read of a state, by what is read of all paths.
-use Rattle.std.proofs.Common.{◌≡◌, ℕ, ◌+◌, ◌<◌, ◌≤◌, true, false, Bool, cond, List, [], ◌∷◌, ◌++◌, Option, None, Some, IsSome, refl, sym, ap, ◌∙◌, subst, arith, length, take, drop}
+use Rattle.std.proofs.Common.{◌≡◌, ℕ, ◌<◌, ◌≤◌, true, false, Bool, cond, List, [], ◌∷◌, ◌++◌, Option, None, Some, refl, sym, ap, ◌∙◌, subst, length, take, drop}
 use Rattle.std.proofs.lemmas.Bool.{false≢true}
 use Rattle.std.specs.Arc.{arc_value}
 use Rattle.std.specs.FinMap.{len}
@@ -10,7 +10,7 @@ use Rattle.cs_tree_model.specs.Laws.Fresh.{fresh_is_tree}
 use Rattle.cs_tree_model.specs.Effects.{entry_after}
 use Rattle.cs_tree_model.specs.Nexts.{next_name}
 use Rattle.cs_tree_model.specs.Record.{metadata_of}
-use Rattle.cs_tree_model.specs.Tree.{IsTree, NameBytes, Path, Tree, bytes_at, content_numbered, last_name, name_numbered, number_at, number_in, parent_numbered, parent_path, path_numbered, record_numbered}
+use Rattle.cs_tree_model.specs.Tree.{IsTree, NameBytes, Path, Tree, bytes_at, last_name, name_numbered, number_at, number_in, parent_numbered, parent_path, path_numbered, record_numbered}
 use Rattle.cs_apm.specs.Atlases.{IsAtlas, atlas_in, files_left}
 use Rattle.cs_apm.specs.Slots.{IsKnown, entry_of, slot_at}
 use Rattle.cs_apm.specs.States.{Content, owners_of, record_of}
@@ -22,7 +22,7 @@ use Rattle.cs_state.specs.Parts.{count_in, read_in, record_in}
 use Rattle.cs_state.specs.Shares.{place_of, standing, stands}
 use Rattle.cs_state.specs.States.{IsMade, slots_in, tree_in}
 use Rattle.cs_state.proofs.Naming.{names_nested}
-use Rattle.cs_state.proofs.Placing.{all, all_long, count, id_of, names, next, number_both, path_both, path_past, record_found, record_past, records, stands_entry, state}
+use Rattle.cs_state.proofs.Placing.{count, id_of, names, next, number_both, path_both, path_past, record_found, record_past, stands_entry, state}
 use Rattle.cs_state.proofs.Sharing.{long, same_long}
 use Rattle.cs_state.proofs.Standing.{stands_inside}
 

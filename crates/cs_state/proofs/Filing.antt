@@ -1,14 +1,12 @@
 -- What a set leaves of a file, from the bytes that it has at the start.
-use Rattle.std.proofs.Common.{◌≡◌, ℕ, ◌+◌, ◌<◌, ◌≤◌, Bool, false, List, [], Option, None, Some, refl, sym, ap, ◌∙◌, subst, arith, ⊎_elim, length, map, take, get_or, fold}
+use Rattle.std.proofs.Common.{◌≡◌, ℕ, ◌<◌, ◌≤◌, Bool, false, List, [], refl, ap, ◌∙◌, subst, arith, ⊎_elim, length, get_or}
 use Rattle.std.proofs.lemmas.Bool.{cases_lt}
 use Rattle.std.proofs.lemmas.List.{get_or_read}
 use Rattle.cs_tree_model.specs.declared.record.Record.{Record}
 use Rattle.cs_tree_model.specs.Tree.{Path}
-use Rattle.cs_trace.specs.Traces.{Trace}
 use Rattle.cs_micro.specs.declared.micro_op.MicroOp.{MicroOp}
-use Rattle.cs_apm.specs.Atlases.{AreStarts, content_before, no_record}
+use Rattle.cs_apm.specs.Atlases.{content_before, no_record}
 use Rattle.cs_apm.specs.Contents.{content_left}
-use Rattle.cs_apm.specs.Rules.{op_at}
 use Rattle.cs_apm.specs.States.{Content, bytes_of}
 use Rattle.cs_apm.proofs.Before.{left_file, made_before, start_before, unflagged}
 use Rattle.cs_state.specs.declared.parts.Parts.{Parts}

@@ -1,16 +1,14 @@
 -- What is found once of a trace, and what a state gathers from it.
-use Rattle.std.proofs.Common.{◌≡◌, ◌≢◌, ℕ, zero, suc, ◌+◌, ◌<◌, ◌≤◌, ◌^◌, ◌&&◌, not, Bool, true, false, List, [], ◌∷◌, ◌⊎◌, inl, inr, refl, sym, ap, ◌∙◌, subst, arith, ⊎_elim, length}
+use Rattle.std.proofs.Common.{◌≡◌, ℕ, zero, suc, ◌+◌, ◌<◌, ◌≤◌, ◌^◌, ◌&&◌, not, Bool, true, false, List, [], ◌∷◌, ◌⊎◌, inl, inr, refl, sym, ap, ◌∙◌, subst, arith, ⊎_elim, length}
 use Rattle.std.proofs.lemmas.Bool.{cases_Bool, false≢true}
 use Rattle.std.specs.List.{All}
 use Rattle.cs_trace.specs.Traces.{Trace}
-use Rattle.cs_micro.specs.Micros.{Micros}
 use Rattle.cs_micro.specs.declared.micro_op.MicroOp.{MicroOp}
-use Rattle.cs_apm.specs.Atlases.{IsAtlas, atlas_in}
+use Rattle.cs_apm.specs.Atlases.{atlas_in}
 use Rattle.cs_apm.specs.Orders.{needs_of}
 use Rattle.cs_apm.specs.Sets.{IsAllowed}
 use Rattle.cs_apm.specs.Slots.{slot_at}
 use Rattle.cs_apm.specs.declared.slot.Slot.{Slot}
-use Rattle.cs_apm.specs.declared.slot.Step.{Step}
 use Rattle.cs_apm.specs.declared.tables.Tables.{Tables}
 use Rattle.cs_apm.proofs.Building.{inside_steps, long_left}
 use Rattle.cs_state.specs.declared.parts.Parts.{Parts}
@@ -18,7 +16,7 @@ use Rattle.cs_state.specs.declared.shares.Shares.{Shares}
 use Rattle.cs_state.specs.Names.{names_in}
 use Rattle.cs_state.specs.Numbers.{below, kept_at, IsKept}
 use Rattle.cs_state.specs.Parts.{AreParts}
-use Rattle.cs_state.specs.Shares.{ids, mark_at, own_from, slots_left, stands, stays, IsLeft, IsShared, IsShares}
+use Rattle.cs_state.specs.Shares.{ids, mark_at, own_from, slots_left, stands, stays, IsLeft, IsShared, IsShares, IsTouched}
 use Rattle.cs_state.proofs.Counting.{below_length}
 use Rattle.cs_state.proofs.Listing.{below_ids, ids_are, ids_have, ids_up}
 use Rattle.cs_state.proofs.Owning.{shared_of}
@@ -52,6 +50,7 @@ module _ (t : Trace) (ops : List MicroOp) (tables : Tables) (marks : List Bool) 
   test = stays marks slots
 
   module _ (few : length slots < 2 ^ 20) (long : length marks ≡ length slots) (left : (id : ℕ) → mark_at marks id ≡ false → IsLeft tables.steps.items id)
+      (by : (id : ℕ) → mark_at marks id ≡ true → IsTouched tables.steps.items id)
       (shares : Shares) (kept : shares.kept.items ≡ ids test (length slots)) (touched : shares.touched.items ≡ ids (mark_at marks) (length marks))
       (counted : length shares.kept_below.items ≡ length slots) (each : (id : ℕ) → id < length slots → kept_at shares.kept_below.items id ≡ length (ids test id))
       (names : shares.names ≡ names_in t ops tables) where
@@ -72,6 +71,7 @@ module _ (t : Trace) (ops : List MicroOp) (tables : Tables) (marks : List Bool) 
       below = λ id low. each id low ∙ sym (ap (λ ks. below (λ k. k) ks id) kept ∙ below_ids test (length slots) id (omega (arith, low)));
       touched_up = subst (λ ks. (i j : ℕ) → i < j → j < length ks → kept_at ks i < kept_at ks j) (sym touched) (ids_up (mark_at marks) (length marks));
       touched_low = λ k low. subst (λ n. kept_at shares.touched.items k < n) long (touched_are k low).0;
+      touched_by = λ k low. by (kept_at shares.touched.items k) (touched_are k low).1;
       apart = λ i j low high e. false≢true (sym (kept_are i low).0 ∙ ap (mark_at marks) e ∙ (touched_are j high).1);
       known = λ id low. ⊎_elim
           (λ (mark : mark_at marks id ≡ true). inl (inr (subst (λ ks. IsKept ks id) (sym touched) (ids_have (mark_at marks) (length marks) id (subst (λ n. id < n) (sym long) low) mark))))

@@ -1,13 +1,11 @@
 -- The ids that pass a test, in order.
-use Rattle.std.proofs.Common.{◌≡◌, ◌≢◌, ℕ, zero, suc, ◌+◌, ◌<◌, ◌≤◌, nat_lt, Bool, true, false, cond, List, [], ◌∷◌, ◌++◌, ◌⊎◌, inl, inr, refl, sym, ap, ◌∙◌, subst, arith, ⊎_elim, length, get_or, add-one, length-append}
+use Rattle.std.proofs.Common.{◌≡◌, ◌≢◌, ℕ, zero, suc, ◌+◌, ◌<◌, ◌≤◌, Bool, true, false, cond, List, [], ◌∷◌, ◌++◌, ◌⊎◌, inl, inr, refl, sym, ap, ◌∙◌, subst, arith, ⊎_elim, length, add-one, length-append}
 use Rattle.std.proofs.Math.Seq.{get_or-append_seam}
 use Rattle.std.proofs.lemmas.Bool.{cases_Bool, cases_eq, cases_lt, false≢true, lt-ltb, le-ltb}
-use Rattle.std.proofs.lemmas.List.{get_or_append_left, get_or-set_same, get_or-set_other, get_or_past}
+use Rattle.std.proofs.lemmas.List.{get_or_append_left, get_or-set_same, get_or-set_other}
 use Rattle.std.specs.Prelude.{slice_set}
-use Rattle.cs_apm.specs.Slots.{FitsIn, step_at}
-use Rattle.cs_apm.specs.declared.slot.Step.{Step}
 use Rattle.cs_state.specs.Numbers.{below, kept_at, IsKept}
-use Rattle.cs_state.specs.Shares.{ids, mark_at, Leaves}
+use Rattle.cs_state.specs.Shares.{ids, mark_at}
 
 -- ---- marks
 
@@ -15,6 +13,12 @@ pub set_marked : (marks : List Bool) (i id : ℕ) → i < length marks → mark_
 set_marked marks i id low is = ⊎_elim
     (λ (same : i ≡ id). absurd (false≢true (sym is ∙ ap (mark_at (slice_set marks i true)) (sym same) ∙ get_or-set_same marks i true false low)))
     (λ (other : i ≢ id). (sym (get_or-set_other marks i id true false (λ e. other (sym e))) ∙ is, other))
+    (cases_eq i id)
+
+pub set_only : (marks : List Bool) (i id : ℕ) → mark_at (slice_set marks i true) id ≡ true → (mark_at marks id ≡ true) ⊎ (i ≡ id)
+set_only marks i id is = ⊎_elim
+    (λ (same : i ≡ id). inr same)
+    (λ (other : i ≢ id). inl (sym (get_or-set_other marks i id true false (λ e. other (sym e))) ∙ is))
     (cases_eq i id)
 
 -- ---- a list with one more

@@ -1,11 +1,11 @@
 -- What a state has of its own merges with what all states share.
 use Rattle.std.proofs.Common.{◌≡◌, ◌≢◌, ℕ, zero, suc, ◌+◌, ◌<◌, ◌≤◌, Bool, true, false, cond, List, [], ◌∷◌, ◌++◌, ◌⊎◌, inl, inr, refl, sym, ap, ◌∙◌, subst, arith, ⊎_elim, length, drop, append_assoc, length-append}
-use Rattle.std.proofs.lemmas.Bool.{cases_Bool, false≢true}
+use Rattle.std.proofs.lemmas.Bool.{cases_Bool}
 use Rattle.std.proofs.lemmas.List.{drop_more}
 use Rattle.cs_apm.specs.declared.slot.Slot.{Slot}
 use Rattle.cs_apm.specs.Slots.{slot_at}
 use Rattle.cs_state.specs.declared.numbers.Own.{Own}
-use Rattle.cs_state.specs.Numbers.{at, below, kept_at, HasId, IsKept, IsMerge, IsOwn}
+use Rattle.cs_state.specs.Numbers.{at, below, kept_at, IsKept, IsMerge, IsOwn}
 use Rattle.cs_state.specs.Shares.{own_from, own_one, stands, IsShared}
 
 -- ---- one touched id more

@@ -1,13 +1,12 @@
 -- The next entry of a directory where names at which nothing stands are passed.
-use Rattle.std.proofs.Common.{◌≡◌, ◌≢◌, ℕ, ◌+◌, ◌<◌, Bool, true, false, cond, List, [], ◌∷◌, ◌⊎◌, inl, inr, Option, None, Some, IsSome, refl, sym, ap, ◌∙◌, subst, arith, ⊎_elim, length}
+use Rattle.std.proofs.Common.{◌≡◌, ℕ, ◌<◌, Bool, true, false, cond, [], ◌∷◌, Option, None, Some, IsSome, refl, sym, ap, ◌∙◌, arith, ⊎_elim, length}
 use Rattle.std.proofs.lemmas.Bool.{cases_Bool, false≢true}
-use Rattle.std.specs.Option.{is_some, option_and_then, option_map, option_map_or}
+use Rattle.std.specs.Option.{is_some, option_and_then, option_map_or}
 use Rattle.std.specs.Ordering.{is_lt}
 use Rattle.std.specs.declared.cmp.Ordering.TheVariants.{Less}
 use Rattle.cs_tree_model.specs.Effects.{comes_after}
 use Rattle.cs_tree_model.specs.Laws.Listed.{names_go_on}
 use Rattle.cs_tree_model.specs.Laws.Nexts.{comes_later, is_less}
-use Rattle.cs_tree_model.specs.Laws.Paths.{option_cases}
 use Rattle.cs_tree_model.specs.Nexts.{comes_before, entry_below, names_after, next_name, IsEntryBelow, IsNext}
 use Rattle.cs_tree_model.specs.Tree.{NameBytes, Tree, name_cmp}
 

@@ -1,10 +1,10 @@
 -- What is read of the fresh tree of slots, by their places among all paths.
-use Rattle.std.proofs.Common.{◌≡◌, ◌≢◌, ℕ, zero, suc, ◌+◌, ◌<◌, ◌≤◌, Bool, true, false, cond, List, [], ◌∷◌, ◌⊎◌, inl, inr, Option, None, Some, refl, sym, ap, ◌∙◌, subst, arith, ⊎_elim, length, map, get_or, slice_get}
-use Rattle.std.proofs.lemmas.Bool.{cases_lt, cases_Bool, false≢true}
+use Rattle.std.proofs.Common.{◌≡◌, ◌≢◌, ℕ, zero, suc, ◌<◌, ◌≤◌, Bool, true, false, cond, List, [], ◌∷◌, Option, None, Some, refl, sym, ap, ◌∙◌, arith, ⊎_elim, length, slice_get}
+use Rattle.std.proofs.lemmas.Bool.{cases_lt, false≢true}
 use Rattle.std.proofs.lemmas.List.{get_or-replicate, length-map}
 use Rattle.std.proofs.lemmas.Option.{slice_get_past}
 use Rattle.std.specs.Prelude.{replicate}
-use Rattle.std.specs.FinMap.{FinMap, entries, get, len, len-entries}
+use Rattle.std.specs.FinMap.{FinMap, entries, len, len-entries}
 use Rattle.std.specs.Option.{is_some, option_map, option_and_then}
 use Rattle.cs_names.specs.Paths.{path_eq}
 use Rattle.cs_tree_model.specs.declared.record.Record.{Record}

@@ -1,9 +1,9 @@
 -- A state with its own entries and what it shares has the numbers of its fresh tree.
-use Rattle.std.proofs.Common.{◌≡◌, ◌≢◌, ℕ, zero, suc, ◌+◌, ◌<◌, ◌≤◌, ◌^◌, Bool, true, false, cond, List, [], ◌∷◌, ◌⊎◌, inl, inr, Option, None, Some, refl, sym, ap, ◌∙◌, subst, arith, ⊎_elim, length, map, get_or}
+use Rattle.std.proofs.Common.{◌≡◌, ◌≢◌, ℕ, zero, suc, ◌+◌, ◌<◌, ◌≤◌, ◌^◌, true, false, cond, List, [], ◌∷◌, inl, inr, Option, None, Some, refl, sym, ap, ◌∙◌, subst, arith, ⊎_elim, length, map}
 use Rattle.std.proofs.lemmas.Bool.{cases_lt, cases_Bool}
 use Rattle.std.proofs.lemmas.List.{get_or_past, get_or-set_other}
 use Rattle.std.specs.Prelude.{fold, slice_set}
-use Rattle.cs_apm.specs.Atlases.{IsAtlas, atlas_in}
+use Rattle.cs_apm.specs.Atlases.{atlas_in}
 use Rattle.cs_apm.specs.Slots.{moved_slot, slot_at, slots_after, step_at}
 use Rattle.cs_apm.specs.declared.slot.Slot.{Slot}
 use Rattle.cs_apm.specs.declared.slot.Slot.TheVariants.{Nothing, Directory, File}
@@ -13,7 +13,7 @@ use Rattle.cs_apm.proofs.Building.{long_left}
 use Rattle.cs_state.specs.declared.numbers.Found.{Found}
 use Rattle.cs_state.specs.declared.numbers.Own.{Own}
 use Rattle.cs_state.specs.declared.parts.Parts.{Parts}
-use Rattle.cs_state.specs.Numbers.{at, kept_at, number_in, HasId, IsFound, IsKept}
+use Rattle.cs_state.specs.Numbers.{at, number_in, HasId, IsFound, IsKept}
 use Rattle.cs_state.specs.Parts.{count_in, IsState}
 use Rattle.cs_state.specs.Shares.{place_of, slots_left, standing, stands, IsLeft, Leaves}
 use Rattle.cs_state.proofs.Standing.{counted, has_none, has_place}

@@ -1,5 +1,5 @@
 -- A part of a file, byte by byte.
-use Rattle.std.proofs.Common.{◌≡◌, ◌≢◌, ℕ, zero, suc, ◌+◌, ◌-◌, ◌<◌, ◌≤◌, ◌==◌, Bool, true, false, cond, nat_lt, List, [], ◌∷◌, ◌++◌, ◌⊎◌, inl, inr, max, min, refl, sym, ap, ◌∙◌, subst, arith, ⊎_elim, length, map, take, drop, replicate, get_or, length-append, length-drop}
+use Rattle.std.proofs.Common.{◌≡◌, ◌≢◌, ℕ, zero, suc, ◌+◌, ◌-◌, ◌<◌, ◌≤◌, ◌==◌, Bool, true, false, cond, nat_lt, List, [], ◌∷◌, ◌++◌, ◌⊎◌, max, min, refl, sym, ap, ◌∙◌, subst, arith, ⊎_elim, length, map, take, drop, replicate, get_or, length-append, length-drop}
 use Rattle.std.proofs.Math.Seq.{get_or-append_right}
 use Rattle.std.proofs.lemmas.Bool.{cases_lt}
 use Rattle.std.proofs.lemmas.List.{ext_get_or, get_or-drop, get_or-take, get_or_append_left, get_or_past, length-replicate, length-take, length-take-le, map_more}
@@ -9,8 +9,8 @@ use Rattle.cs_micro.specs.declared.micro_op.MicroOp.{MicroOp}
 use Rattle.cs_micro.specs.declared.micro_op.MicroOp.TheVariants.{CreateDirEntry, DeleteDirEntry, MoveDirEntry, ChangeFileSize, WriteBlock, Say}
 use Rattle.cs_apm.specs.Contents.{content_after, content_left}
 use Rattle.cs_apm.specs.Rules.{op_at}
-use Rattle.cs_apm.specs.States.{Content, overwritten, padded, put, placed, visible}
-use Rattle.cs_state.specs.Windows.{byte_of, size_after, whole, IsPart}
+use Rattle.cs_apm.specs.States.{Content, overwritten, padded, put, visible}
+use Rattle.cs_state.specs.Windows.{byte_of, size_after, IsPart}
 
 -- zeros behind a list read as what is past its end
 zeros_behind : (xs : List ℕ) (m k : ℕ) → get_or (xs ++ replicate m 0) k 0 ≡ get_or xs k 0

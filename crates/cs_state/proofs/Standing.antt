@@ -1,5 +1,5 @@
 -- How many slots something stands in: a state's numbers.
-use Rattle.std.proofs.Common.{◌≡◌, ◌≢◌, ℕ, zero, suc, ◌+◌, ◌<◌, ◌≤◌, nat_lt, Bool, true, false, cond, List, [], ◌∷◌, ◌⊎◌, inl, inr, Option, None, Some, refl, sym, ap, ◌∙◌, subst, arith, ⊎_elim, length, get_or, slice_get}
+use Rattle.std.proofs.Common.{◌≡◌, ◌≢◌, ℕ, zero, suc, ◌+◌, ◌<◌, ◌≤◌, nat_lt, Bool, true, false, cond, List, [], ◌∷◌, ◌⊎◌, inl, inr, None, Some, refl, sym, ap, ◌∙◌, arith, ⊎_elim, length, get_or, slice_get}
 use Rattle.std.proofs.lemmas.Bool.{cases_eq, cases_lt, false≢true, lt-ltb, le-ltb}
 use Rattle.std.proofs.lemmas.List.{get_or_past}
 use Rattle.std.specs.Option.{is_some, option_map}
@@ -10,7 +10,7 @@ use Rattle.cs_apm.specs.Slots.{slot_at, path_at, entry_of, present}
 use Rattle.cs_apm.specs.declared.slot.Slot.{Slot}
 use Rattle.cs_apm.specs.declared.slot.Slot.TheVariants.{Nothing, Directory, File}
 use Rattle.cs_state.specs.declared.numbers.Own.{Own}
-use Rattle.cs_state.specs.Numbers.{below, none, at, kept_at, number_in, HasId, IsKept, IsOwn, IsMerge}
+use Rattle.cs_state.specs.Numbers.{below, none, at, kept_at, number_in, HasId}
 use Rattle.cs_state.specs.Shares.{stands, standing, place_of, IsShared}
 use Rattle.cs_state.proofs.Counting.{below_at, below_split}
 

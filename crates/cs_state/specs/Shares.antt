@@ -38,6 +38,16 @@ Leaves id Other = Unit {0}
 abbrev pub IsLeft : List Step → ℕ → Type 0
 IsLeft steps id = (k : ℕ) → k < length steps → Leaves id (step_at steps k)
 
+-- the step changes what stands at the id
+abbrev pub Touches : ℕ → Step → Type 0
+Touches id (Set i s) = i ≡ id
+Touches id (Move i j) = (i ≡ id) ⊎ (j ≡ id)
+Touches id Other = ⊥
+
+-- one of the steps does
+abbrev pub IsTouched : List Step → ℕ → Type 0
+IsTouched steps id = (k : ℕ) × (k < length steps) × Touches id (step_at steps k)
+
 abbrev pub mark_at : List Bool → ℕ → Bool
 mark_at marks i = slice_index_or marks i false
 
@@ -54,7 +64,8 @@ ids f (suc n) = ids f n ++ cond (f n) (n ∷ []) []
 abbrev pub slots_left : Tables → List ℕ → List Slot
 slots_left tables places = fold slots_after tables.slots.items (map (step_at tables.steps.items) places)
 
--- the lists are of the tables: what is in neither list never stands
+-- the lists are of the tables: no step changes what is kept, one changes what is touched, and what is in
+-- neither list never stands
 pub record IsShares (t : Trace) (ops : List MicroOp) (tables : Tables) (shares : Shares) : Type 0 where
   pub few : length tables.slots.items < 2 ^ 20
   pub kept_up : (i j : ℕ) → i < j → j < length shares.kept.items → kept_at shares.kept.items i < kept_at shares.kept.items j
@@ -64,6 +75,7 @@ pub record IsShares (t : Trace) (ops : List MicroOp) (tables : Tables) (shares :
   pub below : (id : ℕ) → id < length tables.slots.items → kept_at shares.kept_below.items id ≡ below (λ k. k) shares.kept.items id
   pub touched_up : (i j : ℕ) → i < j → j < length shares.touched.items → kept_at shares.touched.items i < kept_at shares.touched.items j
   pub touched_low : (k : ℕ) → k < length shares.touched.items → kept_at shares.touched.items k < length tables.slots.items
+  pub touched_by : (k : ℕ) → k < length shares.touched.items → IsTouched tables.steps.items (kept_at shares.touched.items k)
   pub apart : (i j : ℕ) → i < length shares.kept.items → j < length shares.touched.items → kept_at shares.kept.items i ≢ kept_at shares.touched.items j
   pub known : (id : ℕ) → id < length tables.slots.items → (IsKept shares.kept.items id ⊎ IsKept shares.touched.items id) ⊎ ((stands (slot_at tables.slots.items id) ≡ false) × IsLeft tables.steps.items id)
   pub names : shares.names ≡ names_in t ops tables

@@ -1,9 +1,9 @@
 //! Which of the paths that ever stand some operation touches.
-ghost use Rattle.std.specs.Prelude.{◌≡◌, ◌+◌, ◌<◌, ◌^◌, ◌++◌, ◌∷◌, [], ℕ, cond, false, length, IfOk, OnOk};
+ghost use Rattle.std.specs.Prelude.{◌≡◌, ◌+◌, ◌<◌, ◌^◌, ◌⊎◌, ◌++◌, ◌∷◌, [], ℕ, cond, false, true, length, IfOk, OnOk};
 ghost use Rattle.std.specs.List.{All};
 ghost use Rattle.cs_apm.specs.Slots.{FitsIn};
 ghost use Rattle.cs_state.specs.Numbers.{kept_at};
-ghost use Rattle.cs_state.specs.Shares.{ids, mark_at, stands, stays, IsLeft, Leaves};
+ghost use Rattle.cs_state.specs.Shares.{ids, mark_at, stands, stays, IsLeft, IsTouched, Leaves, Touches};
 
 use cs_apm::slot::{Slot, Step};
 use std::alloc::{AllocError, Global};
@@ -13,6 +13,7 @@ fn mark(marks: &mut [bool], step: Step)
     requires { FitsIn (length marks.old) step }
     ensures long { length marks.new ≡ length marks.old }
     ensures left { (id : ℕ) → mark_at marks.new id ≡ false → (mark_at marks.old id ≡ false) × Leaves id step }
+    ensures touched { (id : ℕ) → mark_at marks.new id ≡ true → (mark_at marks.old id ≡ true) ⊎ Touches id step }
 {
     match step {
         Step::Set(place, _) => marks[place as usize] = true,
@@ -29,6 +30,7 @@ pub fn marks_of(alloc: Global, steps: &[Step], count: usize) -> Result<Vec<bool>
     requires { All (FitsIn count) steps.now }
     ensures long { IfOk result (λ marks. length marks.items ≡ count) }
     ensures left { IfOk result (λ marks. (id : ℕ) → mark_at marks.items id ≡ false → IsLeft steps.now id) }
+    ensures touched { IfOk result (λ marks. (id : ℕ) → mark_at marks.items id ≡ true → IsTouched steps.now id) }
 {
     let mut marks = vec![in alloc; false; count]?;
     for step in steps {

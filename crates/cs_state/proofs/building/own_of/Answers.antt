@@ -1,5 +1,4 @@
-use Rattle.std.proofs.Common.{◌≡◌, ◌+◌, ◌<◌, ℕ, List, sym, ap, ◌∙◌, subst, arith, length}
-use Rattle.cs_apm.specs.declared.slot.Slot.{Slot}
+use Rattle.std.proofs.Common.{◌≡◌, ◌+◌, ◌<◌, ℕ, List, sym, ap, ◌∙◌, subst, length}
 use Rattle.cs_state.specs.Numbers.{kept_at}
 use Rattle.cs_state.specs.Shares.{own_from, slots_left, IsShared}
 use Rattle.cs_state.proofs.Gathering.{after_long, few_numbers, members_inside, shared_all}

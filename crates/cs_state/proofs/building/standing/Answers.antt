@@ -1,4 +1,3 @@
-use Rattle.std.proofs.Common.{sym, ap, ◌∙◌, subst, arith}
 use Rattle.cs_state.specs.Shares.{own_from}
 use Rattle.cs_state.proofs.Owning.{goes_on, one_longer}
 use Rattle.cs_state.proofs.building.standing.Goals as goal

@@ -1,4 +1,4 @@
-use Rattle.std.proofs.Common.{◌≡◌, ℕ, ◌<◌, ◌++◌, ◌-◌, sym, ap, ◌∙◌, subst, arith, length, take, drop, max, replicate, get_or}
+use Rattle.std.proofs.Common.{◌≡◌, ◌<◌, ◌-◌, ap, ◌∙◌, arith, take, drop, max, get_or}
 use Rattle.cs_state.proofs.Showing.{part_copied, resized_at}
 use Rattle.cs_state.proofs.bytes.part_of.Goals as goal
 

@@ -1,4 +1,4 @@
-use Rattle.std.proofs.Common.{◌≡◌, ◌⊎◌, ℕ, ◌+◌, ◌-◌, ◌<◌, ◌≤◌, inl, inr, ⊎_elim, arith, length, max, min}
+use Rattle.std.proofs.Common.{◌≡◌, ◌⊎◌, ℕ, ◌+◌, ◌<◌, ◌≤◌, inl, inr, ⊎_elim, arith, length, max, min}
 use Rattle.std.proofs.lemmas.Bool.{cases_lt}
 use Rattle.cs_state.proofs.Showing.{part_kept, part_written}
 use Rattle.cs_state.proofs.bytes.write.Goals as goal

@@ -1,4 +1,4 @@
-use Rattle.std.proofs.Common.{[], ◌∷◌, ◌++◌, cond, sym, ap, ◌∙◌}
+use Rattle.std.proofs.Common.{[], ◌∷◌, ◌++◌, cond, sym, ◌∙◌}
 use Rattle.cs_state.specs.Shares.{stays}
 use Rattle.cs_state.proofs.Listing.{one_more}
 use Rattle.cs_state.proofs.marks.kept_of.Goals as goal

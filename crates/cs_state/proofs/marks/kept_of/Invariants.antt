@@ -1,5 +1,5 @@
 use Rattle.std.proofs.Common.{◌≡◌}
-use Rattle.cs_state.specs.Shares.{ids, mark_at, stays}
+use Rattle.cs_state.specs.Shares.{ids, stays}
 use Rattle.cs_state.proofs.marks.kept_of.Given as goal
 
 abbrev pub invariant-loop-id : goal.invariant-loop-id

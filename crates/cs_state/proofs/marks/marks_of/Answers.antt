@@ -1,8 +1,8 @@
-use Rattle.std.proofs.Common.{◌≡◌, false, sym, ap, ◌∙◌, subst, arith, length}
+use Rattle.std.proofs.Common.{◌≡◌, ℕ, ◌<◌, ◌⊎◌, true, false, ⊎_elim, sym, ap, ◌∙◌, subst, arith, length}
 use Rattle.std.proofs.lemmas.List.{get_or_default}
 use Rattle.cs_apm.specs.Slots.{step_at}
 use Rattle.cs_apm.specs.declared.slot.Step.TheVariants.{Other}
-use Rattle.cs_state.specs.Shares.{mark_at, Leaves}
+use Rattle.cs_state.specs.Shares.{mark_at, Leaves, Touches}
 use Rattle.cs_state.proofs.Joining.{rejoined}
 use Rattle.cs_state.proofs.marks.marks_of.Goals as goal
 use borrow.Author.Count.{below_more}
@@ -21,4 +21,10 @@ loop-step-preserved c =
           below_more (λ k. Leaves id (step_at c.args.steps.now k)) i
           (c.loop-step.invariant.left id (ap (λ ms. mark_at ms id) (sym was) ∙ w.0))
           (subst (Leaves id) (get_or_default c.args.steps.now i _ Other c.loop-step-test.true) w.1));
+      touched = λ id here. ⊎_elim
+          (λ old.
+          let w = c.loop-step.invariant.touched id (ap (λ ms. mark_at ms id) (sym was) ∙ old) in
+          (w.0, (let low = w.1 in omega (arith, low)), w.2))
+          (λ now. (i, omega arith, subst (Touches id) (get_or_default c.args.steps.now i _ Other c.loop-step-test.true) now))
+          (c.mark.ensures.touched id (ap (λ ms. mark_at ms id) (sym all) ∙ here));
     }

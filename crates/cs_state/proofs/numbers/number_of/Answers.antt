@@ -1,5 +1,5 @@
-use Rattle.std.proofs.Common.{◌≡◌, ◌≢◌, ◌<◌, length, sym, ap, ◌∙◌, arith, ⊎_elim}
-use Rattle.cs_state.specs.Numbers.{at, below, kept_at, number_in, IsKept, IsOwn}
+use Rattle.std.proofs.Common.{◌≢◌, ◌<◌, length, sym, ap, ◌∙◌, arith, ⊎_elim}
+use Rattle.cs_state.specs.Numbers.{at, kept_at, number_in, IsKept, IsOwn}
 use Rattle.cs_state.proofs.Counting.{kept_place, no_own, own_number, own_split}
 use Rattle.cs_state.proofs.numbers.number_of.Goals as goal
 use Rattle.cs_state.proofs.numbers.number_of.Goals.{then-before-own+else-first-id, else-before-own}

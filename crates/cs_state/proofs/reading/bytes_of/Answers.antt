@@ -1,9 +1,9 @@
-use Rattle.std.proofs.Common.{◌≡◌, ◌-◌, sym, ap, ◌∙◌, subst, arith, length, min}
+use Rattle.std.proofs.Common.{◌≡◌, ◌-◌, ap, ◌∙◌, subst, min}
 use Rattle.cs_apm.specs.Contents.{content_left}
 use Rattle.cs_apm.specs.States.{Content}
 use Rattle.cs_state.specs.Parts.{file_in}
 use Rattle.cs_state.specs.Windows.{whole, IsPart}
-use Rattle.cs_state.proofs.Showing.{part_read, something_read}
+use Rattle.cs_state.proofs.Showing.{part_read}
 use Rattle.cs_state.proofs.reading.bytes_of.Goals as goal
 
 pub returns-clause-value : goal.returns-clause-value

@@ -1,4 +1,4 @@
-use Rattle.std.proofs.Common.{◌≡◌, sym, ap, ◌∙◌, fold, length, map}
+use Rattle.std.proofs.Common.{sym, ap, ◌∙◌, fold, length, map}
 use Rattle.cs_apm.specs.Rules.{op_at}
 use Rattle.cs_apm.specs.States.{Content}
 use Rattle.cs_state.specs.Parts.{bytes_before}

@@ -1,4 +1,4 @@
-use Rattle.std.proofs.Common.{◌≡◌, ◌+◌, ◌<◌, ◌≤◌, ℕ, List, Option, None, Some, refl, sym, ap, ◌∙◌, subst, arith, length, inl}
+use Rattle.std.proofs.Common.{◌≡◌, ◌<◌, ℕ, List, Option, None, Some, sym, ap, ◌∙◌, subst, arith, length}
 use Rattle.std.specs.Option.{IfNone, IfSome}
 use Rattle.cs_state.specs.declared.numbers.Found.{Found}
 use Rattle.cs_state.specs.Numbers.{kept_at, number_in, IsFound, IsMerge}

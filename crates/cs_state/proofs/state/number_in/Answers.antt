@@ -1,4 +1,4 @@
-use Rattle.std.proofs.Common.{◌≡◌, ℕ, Option, None, Some, refl, sym, ap, ◌∙◌, subst, arith, length}
+use Rattle.std.proofs.Common.{◌≡◌, ℕ, Option, None, Some, sym, ap, ◌∙◌, subst, arith, length}
 use Rattle.std.specs.Option.{IfNone, IfSome}
 use Rattle.cs_state.specs.Numbers.{below, kept_at, number_in, HasId, IsMerge}
 use Rattle.cs_state.proofs.Sharing.{id_place, own_few}

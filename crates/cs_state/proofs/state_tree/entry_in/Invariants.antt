@@ -1,4 +1,4 @@
-use Rattle.std.proofs.Common.{ℕ, Option, IsSome, length}
+use Rattle.std.proofs.Common.{Option, IsSome, length}
 use Rattle.std.specs.Arc.{arc_value}
 use Rattle.std.specs.Option.{option_copied}
 use Rattle.cs_tree_model.specs.Nexts.{names_after, IsEntryBelow}

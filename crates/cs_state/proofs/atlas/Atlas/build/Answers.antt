@@ -1,4 +1,4 @@
-use Rattle.std.proofs.Common.{◌≡◌, sym, ap, ◌∙◌, subst, length}
+use Rattle.std.proofs.Common.{sym, ap, ◌∙◌, subst, length}
 use Rattle.std.specs.Arc.{arc_value}
 use Rattle.cs_tree_model.specs.Tree.{IsTree}
 use Rattle.cs_micro.specs.Micros.{Micros, micros_in}

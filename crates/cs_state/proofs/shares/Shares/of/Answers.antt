@@ -6,7 +6,7 @@ use Rattle.cs_apm.specs.Slots.{FitsIn}
 use Rattle.cs_apm.specs.declared.slot.Step.{Step}
 use Rattle.cs_apm.proofs.Building.{fits}
 use Rattle.cs_state.specs.Numbers.{kept_at}
-use Rattle.cs_state.specs.Shares.{ids, mark_at, stays, IsLeft}
+use Rattle.cs_state.specs.Shares.{ids, mark_at, stays, IsLeft, IsTouched}
 use Rattle.cs_state.proofs.Gathering.{shares_are}
 use Rattle.cs_state.proofs.shares.Shares.of.Goals as goal
 
@@ -32,6 +32,7 @@ returns c =
     let d6 = c.deref-6.ensures.value in
     shares_are c.args.trace.now c.args.ops.now tables marks few (c.in_ok-marks.ensures.long ∙ len)
     (λ id gone. subst (λ ss. IsLeft ss id) c.deref.ensures.value (c.in_ok-marks.ensures.left id gone))
+    (λ id here. subst (λ ss. IsTouched ss id) c.deref.ensures.value (c.in_ok-marks.ensures.touched id here))
     _ (c.in_ok-kept.ensures ∙ (λ i. ids (stays (d2 i) (d3 i)) (length (d3 i))))
     (c.in_ok-touched.ensures ∙ (λ i. ids (mark_at (d6 i)) (length (d6 i))))
     (c.in_ok-kept_below.ensures.long ∙ ap length d5)

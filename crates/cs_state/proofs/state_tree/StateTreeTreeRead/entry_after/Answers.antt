@@ -1,4 +1,4 @@
-use Rattle.std.proofs.Common.{◌≡◌, ℕ, None, Some, IsSome, sym, ap, ◌∙◌, subst}
+use Rattle.std.proofs.Common.{sym, ap, ◌∙◌}
 use Rattle.std.specs.Option.{is_some, option_copied, option_map}
 use Rattle.cs_tree_model.specs.Laws.Nexts.{entry_is, entry_same, numbers_same}
 use Rattle.cs_tree_model.specs.Nexts.{entry_below, entry_name, next_name}

@@ -1,8 +1,5 @@
-use Rattle.std.proofs.Common.{◌≡◌, ◌<◌, ◌+◌, ap, ◌∙◌, subst, arith}
-use Rattle.std.specs.Arc.{arc_value}
+use Rattle.std.proofs.Common.{ap, arith}
 use Rattle.cs_tree_model.specs.Tree.{Tree}
-use Rattle.cs_state.specs.Parts.{count_in}
-use Rattle.cs_state.specs.States.{tree_in}
 use Rattle.cs_state.proofs.Calling.{is_tree, next_is}
 use Rattle.cs_state.proofs.state_tree.StateTreeTreeRead.last_number.Goals as goal
 

@@ -1,5 +1,4 @@
-use Rattle.std.proofs.Common.{◌≢◌, [], IsSomeAnd, None, refl, sym, ap, ◌∙◌, subst}
-use Rattle.std.specs.Option.{option_map}
+use Rattle.std.proofs.Common.{◌≢◌, [], IsSomeAnd, refl, sym, ap, ◌∙◌, subst}
 use Rattle.cs_tree_model.specs.Tree.{Tree, bytes_at}
 use Rattle.cs_state.proofs.Calling.{bytes_is, known_is, no_bytes}
 use Rattle.cs_state.proofs.state_tree.StateTreeTreeRead.read_at.Goals as goal
