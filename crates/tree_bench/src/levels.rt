@@ -1,4 +1,4 @@
-//! Two levels over the plain store, in which nothing was changed, and what is read of both.
+//! Overlays over other stores, in which nothing was changed, beside a plain store of the same tree.
 
 use crate::times::Twins;
 use cs_lower::Lower;
@@ -15,24 +15,23 @@ const BLOCK: usize = 4_096;
 /// Reads of a file of 1 MB.
 const BLOCKS: u64 = 256;
 
-/// An overlay over a frozen overlay over a plain store, and that store.
+/// An overlay over a store, and a plain store of the same tree.
 #[derive(Drop)]
-pub struct Levels {
-    levels: Overlay<Lower<Overlay<PlainTree>>>,
-    plain: Arc<PlainTree>,
+pub struct Levels<L: TreeRead> {
+    pub levels: Overlay<L>,
+    pub plain: Arc<PlainTree>,
 }
 
-impl Levels {
-    pub fn over(alloc: Global, plain: PlainTree) -> Option<Levels> {
-        let plain = Arc::new(alloc, plain).ok()?;
-        let state = Overlay::over(alloc, plain.clone().ok()?);
-        let state = Arc::new(alloc, state.freeze(alloc).ok()?).ok()?;
-        let levels = Overlay::over(alloc, state);
-        Some(Levels { levels, plain })
-    }
+/// An overlay over a frozen overlay over a plain store, and that store.
+pub fn over_frozen(alloc: Global, plain: PlainTree) -> Option<Levels<Lower<Overlay<PlainTree>>>> {
+    let plain = Arc::new(alloc, plain).ok()?;
+    let state = Overlay::over(alloc, plain.clone().ok()?);
+    let state = Arc::new(alloc, state.freeze(alloc).ok()?).ok()?;
+    let levels = Overlay::over(alloc, state);
+    Some(Levels { levels, plain })
 }
 
-impl<W: Reading> Twins<W> for Levels {
+impl<W: Reading, L: TreeRead> Twins<W> for Levels<L> {
     fn run_first(&mut self, alloc: Global, work: &W) -> u64 {
         work.run(alloc, &self.levels)
     }

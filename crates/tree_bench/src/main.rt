@@ -1,22 +1,30 @@
 //! The same work on the plain store and on std's maps and vectors: look-ups, adds, removes and listings
 //! in small and large directories, and writes and appends to a file. And what is only read, over two
-//! levels in which nothing was changed and on the plain store under them. Run by hand with the word
+//! levels in which nothing was changed, the lower one frozen or a crash state, and on a plain store of the
+//! same tree. Run by hand with the word
 //! `time`, it tells how long each takes, and how many times as long on the first of the two.
 #![tactic(auto)]
 
 mod levels;
 mod ordinary;
 mod pair;
+mod states;
 mod store;
 mod subject;
 mod times;
 mod work;
 
-use crate::levels::{Finds, Levels, Lists, Reads};
+use crate::levels::{Finds, Levels, Lists, Reads, over_frozen};
 use crate::pair::{Pair, names};
+use crate::states::over_state;
 use crate::times::Times;
 use crate::work::{Adds, Appends, Listing, LookUps, Removes, Writes};
+use cs_lower::Lower;
 use cs_names::UserName;
+use cs_overlay::Overlay;
+use cs_state::StateTree;
+use cs_tree::PlainTree;
+use cs_tree_model::TreeRead;
 use std::alloc::Global;
 use std::rt::Clock;
 use std::{env, io};
@@ -145,7 +153,7 @@ fn appends(rt: &(impl Clock + Print + AllocGlobal), timed: bool) -> io::Result<(
 }
 
 /// Two levels over a root with so many files, the newest of 1 MB, and the plain store under them.
-fn two_levels(alloc: Global, files: u64) -> Option<Levels> {
+fn two_levels(alloc: Global, files: u64) -> Option<Levels<Lower<Overlay<PlainTree>>>> {
     let mut pair = directory(alloc, files)?;
     pair.run(
         alloc,
@@ -153,44 +161,75 @@ fn two_levels(alloc: Global, files: u64) -> Option<Levels> {
             user: &user(alloc)?,
         },
     );
-    Levels::over(alloc, pair.into_store())
+    over_frozen(alloc, pair.into_store())
 }
 
-/// Looks names up in a root of so many files, lists it, and reads a file of 1 MB, over two levels.
-fn read_levels(
+/// An overlay over a crash state with such a root, whose file of 1 MB has so many writes.
+fn state_levels(alloc: Global, files: u64, writes: u64) -> Option<Levels<StateTree>> {
+    over_state(alloc, &names(alloc, files, 1, "")?, writes)
+}
+
+/// Looks names up in a root of so many files, and lists it, over two levels.
+fn find_and_list<L: TreeRead>(
     rt: &(impl Clock + Print + AllocGlobal),
-    files: u64,
-    rounds: u64,
+    levels: Option<&mut Levels<L>>,
+    what: &str,
+    (files, rounds): (u64, u64),
     timed: bool,
 ) -> io::Result<()> {
-    let alloc = rt.alloc();
-    let step = files / NAMES;
-    let (Some(mut levels), Some(names)) = (two_levels(alloc, files), names(alloc, NAMES, step, ""))
-    else {
+    let (Some(levels), Some(names)) = (levels, names(rt.alloc(), NAMES, files / NAMES, "")) else {
         return println!(rt; "out of memory");
     };
     let mut finds = Times::new(STORE);
     let mut lists = Times::new(STORE);
-    let mut reads = Times::new(STORE);
     let work = Finds {
         names: &names,
         rounds: if timed { 1_000 } else { 1 },
     };
-    // untimed: the first read pays for the memory that freezing let go
-    Times::new(STORE).time(rt, &mut levels, &Reads)?;
     for _ in 0..(if timed { 1_000 } else { 1 }) {
-        finds.time(rt, &mut levels, &work)?;
-        reads.time(rt, &mut levels, &Reads)?;
+        finds.time(rt, levels, &work)?;
     }
     for _ in 0..(if timed { rounds } else { 1 }) {
-        lists.time(rt, &mut levels, &Lists)?;
+        lists.time(rt, levels, &Lists)?;
     }
-    print!(rt; "over two levels, {files} files: ")?;
+    print!(rt; "{what}, {files} files: ")?;
     finds.print(rt, "look-ups", timed)?;
-    print!(rt; "over two levels, {files} files: ")?;
-    lists.print(rt, "entries of listings", timed)?;
-    print!(rt; "over two levels, {files} files: ")?;
+    print!(rt; "{what}, {files} files: ")?;
+    lists.print(rt, "entries of listings", timed)
+}
+
+/// Reads a file of 1 MB in a root of so many files, over two levels.
+fn read_blocks<L: TreeRead>(
+    rt: &(impl Clock + Print + AllocGlobal),
+    levels: Option<&mut Levels<L>>,
+    what: &str,
+    files: u64,
+    timed: bool,
+) -> io::Result<()> {
+    let Some(levels) = levels else {
+        return println!(rt; "out of memory");
+    };
+    let mut reads = Times::new(STORE);
+    // untimed: the first read pays for the memory that was let go before
+    Times::new(STORE).time(rt, levels, &Reads)?;
+    for _ in 0..(if timed { 1_000 } else { 1 }) {
+        reads.time(rt, levels, &Reads)?;
+    }
+    print!(rt; "{what}, {files} files: ")?;
     reads.print(rt, "reads of 4 kB from 1 MB", timed)
+}
+
+/// All three over two levels.
+fn read_levels<L: TreeRead + Drop>(
+    rt: &(impl Clock + Print + AllocGlobal),
+    levels: Option<Levels<L>>,
+    what: &str,
+    (files, rounds): (u64, u64),
+    timed: bool,
+) -> io::Result<()> {
+    let mut levels = levels;
+    find_and_list(rt, levels.as_mut(), what, (files, rounds), timed)?;
+    read_blocks(rt, levels.as_mut(), what, files, timed)
 }
 
 fn main(rt: HostRuntime) -> io::Result<()> {
@@ -205,8 +244,20 @@ fn main(rt: HostRuntime) -> io::Result<()> {
     listings(&rt, 65_536, 10, timed)?;
     writes(&rt, timed)?;
     appends(&rt, timed)?;
+    let alloc = rt.alloc();
     for (files, rounds) in [(16, 40_960), (1_024, 640), (65_536, 10)] {
-        read_levels(&rt, files, rounds, timed)?;
+        let levels = two_levels(alloc, files);
+        read_levels(&rt, levels, "over two levels", (files, rounds), timed)?;
+    }
+    // with the root there are as many records as a trace may have
+    for (files, rounds) in [(16, 40_960), (1_024, 640), (65_535, 10)] {
+        let levels = state_levels(alloc, files, 0);
+        read_levels(&rt, levels, "over a state", (files, rounds), timed)?;
+    }
+    for writes in [16, 512] {
+        let mut levels = state_levels(alloc, 1_024, writes);
+        print!(rt; "{writes} writes: ")?;
+        read_blocks(&rt, levels.as_mut(), "over a state", 1_024, timed)?;
     }
     Ok(())
 }
