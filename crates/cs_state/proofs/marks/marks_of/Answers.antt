@@ -1,4 +1,4 @@
-use Rattle.std.proofs.Common.{◌≡◌, ℕ, ◌<◌, ◌⊎◌, true, false, ⊎_elim, sym, ap, ◌∙◌, subst, arith, length}
+use Rattle.std.proofs.Common.{◌≡◌, false, ⊎_elim, sym, ap, ◌∙◌, subst, arith, length}
 use Rattle.std.proofs.lemmas.List.{get_or_default}
 use Rattle.cs_apm.specs.Slots.{step_at}
 use Rattle.cs_apm.specs.declared.slot.Step.TheVariants.{Other}

@@ -5,7 +5,6 @@ use Rattle.cs_apm.specs.Atlases.{atlas_in}
 use Rattle.cs_apm.specs.Slots.{FitsIn}
 use Rattle.cs_apm.specs.declared.slot.Step.{Step}
 use Rattle.cs_apm.proofs.Building.{fits}
-use Rattle.cs_state.specs.Numbers.{kept_at}
 use Rattle.cs_state.specs.Shares.{ids, mark_at, stays, IsLeft, IsTouched}
 use Rattle.cs_state.proofs.Gathering.{shares_are}
 use Rattle.cs_state.proofs.shares.Shares.of.Goals as goal
