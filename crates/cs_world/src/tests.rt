@@ -140,22 +140,45 @@ fn read_f(alloc: Global, world: &mut World, conn: u32) -> Result<String, Fail> {
     call(alloc, world, conn, CallMessage::Read(read))
 }
 
+/// Publishes state 0, and attaches a user to one run of it on each of the connections 0 and 1; then an attach
+/// that nothing was found for, and a find on a connection above the last.
+fn steps_of_two_users(alloc: Global) -> Result<Vec<Step>, Fail> {
+    let steps = vec![in alloc;
+        Step::Publish(0),
+        begin(alloc, 0)?,
+        begin(alloc, 1)?,
+        find(alloc, 0, 0, "ann", "0/x")?,
+        find(alloc, 1, 0, "bob", "0/x")?,
+        Step::Attach { conn: 0, now: 7 },
+        Step::Attach { conn: 1, now: 8 },
+        Step::Attach { conn: 0, now: 9 },
+        find(alloc, 64, 0, "ann", "0/x")?,
+    ]?;
+    Ok(steps)
+}
+
 #[test]
 fn two_users_attach_to_one_run(rt: HostRuntime) -> Result<(), Fail> {
-    let mut world = ready(&rt, 2)?;
-    let ann = find(rt.alloc(), 0, 0, "ann", "0/x")?;
-    let bob = find(rt.alloc(), 1, 0, "bob", "0/x")?;
-    let first = Step::Attach { conn: 0, now: 7 };
-    let second = Step::Attach { conn: 1, now: 8 };
-    let steps = vec![in rt.alloc(); ann, bob, first, second]?;
-    let Ok(replies) = world.run(rt.alloc(), steps) else {
+    let mut world = new_world(rt.alloc())?;
+    let Ok(replies) = world.run(rt.alloc(), steps_of_two_users(rt.alloc())?) else {
         panic!(rt; "want of memory");
     };
-    let said = format!(in rt.alloc(); "{replies:?}")?;
-    let both = format!(in rt.alloc();
-        "[Connection(Found), Connection(Found), {ATTACHED}, {ATTACHED}]"
-    )?;
-    assert_eq!(rt; said.as_str(), both.as_str());
+    let version = "Connection(Version { msize: 8192, is_spoken: true })";
+    let wanted = [
+        "Published",
+        version,
+        version,
+        "Connection(Found)",
+        "Connection(Found)",
+        ATTACHED,
+        ATTACHED,
+        OUT_OF_TURN,
+        OUT_OF_TURN,
+    ];
+    assert_eq!(rt; replies.len(), wanted.len());
+    for (reply, wanted) in replies.iter().zip(wanted.iter()) {
+        assert_eq!(rt; format!(in rt.alloc(); "{reply:?}")?.as_str(), *wanted);
+    }
     assert_eq!(rt; world.run_count(), 1);
     Ok(())
 }
