@@ -1,5 +1,6 @@
 //! The workers: each takes numbers from one channel, makes their states, and sends these.
-ghost use Rattle.std.specs.Prelude.{◌≡◌};
+ghost use Rattle.std.specs.Prelude.{◌≡◌, ◌+◌, ◌≤◌, IfOk, length};
+ghost use Rattle.std.specs.List.{All};
 ghost use Rattle.cs_publish.specs.Crews.{is_crew};
 
 use crate::fault::Lost;
@@ -7,13 +8,13 @@ use crate::gate::Gate;
 use crate::stage::{Made, Stage, Staged, Told};
 use crossbeam_channel::{Receiver, Sender, bounded};
 use cs_names::limits::WORKERS;
-use cs_plan::MakeFault;
-use std::alloc::Global;
+use cs_plan::{MakeFault, Published};
+use std::alloc::{AllocError, Global};
 use std::sync::Wait;
 use std::thread::Scope;
 
 /// How many states may wait to be published.
-const STATES_IN_FLIGHT: usize = 64;
+const STATES_IN_FLIGHT: u32 = 64;
 
 /// Whether there may be so many workers.
 pub(crate) fn is_crew(workers: u32) -> bool
@@ -76,7 +77,7 @@ pub(crate) fn hire<'s, E, N: Staged, R: Wait + Sync, G: Gate>(
     workers: u32,
     gate: &'s G,
 ) -> Result<Receiver<Told<N>>, Lost> {
-    let Ok((states, made)) = bounded(alloc, STATES_IN_FLIGHT) else {
+    let Ok((states, made)) = bounded(alloc, STATES_IN_FLIGHT as usize) else {
         return Err(Lost::Memory);
     };
     for _ in 0..workers {
@@ -101,4 +102,51 @@ pub(crate) fn next_made<N: Staged, R: Wait>(
         Ok(Told::NoMemory) => Err(Lost::Memory),
         Err(_) => Err(Lost::Channel),
     }
+}
+
+/// A state that a worker made and that waits by now, if there is one.
+fn waiting<N: Staged, R: Wait>(rt: &R, made: &Receiver<Told<N>>) -> Result<Option<Made<N>>, Lost> {
+    match made.try_recv(rt) {
+        Ok(Told::State(state)) => Ok(Some(state)),
+        Ok(Told::NoMemory) => Err(Lost::Memory),
+        Err(_) => Ok(None),
+    }
+}
+
+/// Puts a state behind the others.
+fn add<N: Staged>(states: &mut Vec<Published>, state: Made<N>) -> Result<(), AllocError>
+    requires own { All (λ state. N.is_scene state.scene) states.old.items }
+    ensures own { IfOk result (λ _. All (λ state. N.is_scene state.scene) states.new.items) }
+    ensures longer { IfOk result (λ _. length states.new.items ≡ length states.old.items + 1) }
+{
+    states.push(state.into_state())?;
+    Ok(())
+}
+
+/// The next states that workers made, so many at most: one for which it waits, and those that are there
+/// by then.
+pub(crate) fn next_states<N: Staged, R: Wait>(
+    rt: &R,
+    alloc: Global,
+    made: &Receiver<Told<N>>,
+    most: u32,
+) -> Result<Vec<Published>, Lost>
+    requires { 1 ≤ most }
+    ensures some { IfOk result (λ states. 1 ≤ length states.items) }
+    ensures few { IfOk result (λ states. length states.items ≤ most) }
+    ensures own { IfOk result (λ states. All (λ state. N.is_scene state.scene) states.items) }
+{
+    let mut states = Vec::new(alloc);
+    let Ok(()) = add(&mut states, next_made(rt, made)?) else {
+        return Err(Lost::Memory);
+    };
+    for _others in 1..most.min(STATES_IN_FLIGHT) {
+        let Some(state) = waiting(rt, made)? else {
+            break;
+        };
+        let Ok(()) = add(&mut states, state) else {
+            return Err(Lost::Memory);
+        };
+    }
+    Ok(states)
 }

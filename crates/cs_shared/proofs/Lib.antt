@@ -1,3 +1,4 @@
 pub mod Admitting
 pub mod Numbers
 pub mod Telling
+pub mod Publishing

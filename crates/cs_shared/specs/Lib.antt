@@ -3,3 +3,4 @@ pub mod Locks
 pub mod Told
 pub mod Finding
 pub mod Naming
+pub mod Publishing

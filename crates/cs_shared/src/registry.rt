@@ -1,12 +1,14 @@
 //! What the registry's lock keeps.
-ghost use Rattle.std.specs.Prelude.{◌≡◌, IfOk};
+ghost use Rattle.std.specs.Prelude.{◌≡◌, ◌≢◌, ◌≤◌, Err, IfOk, length};
 ghost use Rattle.std.specs.Arc.{arc_value};
+ghost use Rattle.std.specs.List.{All};
 ghost use Rattle.std.specs.List.Sorted.{IsPermutation, IsSorted};
 ghost use Rattle.std.specs.Map.{keys_of};
 ghost use Rattle.cs_registry.specs.Publishing.{Publishes};
 ghost use Rattle.cs_registry.specs.Registries.{empty, missing_of};
 ghost use Rattle.cs_shared.specs.Finding.{AreNumbered, FindsShared};
 ghost use Rattle.cs_shared.specs.Naming.{key_cmp};
+ghost use Rattle.cs_shared.specs.Publishing.{IsThere, PublishesEach};
 ghost use Rattle.cs_shared.specs.Serving.{ServesAll};
 
 use crate::named::NamedRun;
@@ -68,6 +70,25 @@ impl<S: Served> Registry<S> {
         self.states.publish(alloc, state)
     }
 
+    /// Publishes states of one scene, and looks once whether it has the content of the registry's own:
+    /// how many weren't published. A state that stands already is passed over.
+    pub(crate) fn publish_each(
+        &mut self,
+        alloc: Global,
+        scene: &Scene,
+        states: Vec<Published>,
+    ) -> Result<usize, PublishFault>
+        requires own { All (λ state. state.scene ≡ scene.now) states.items }
+        ensures each { IfOk result (λ count. PublishesEach self.old states.items count self.new) }
+        ensures few { IfOk result (λ count. count ≤ length states.items) }
+        ensures stranger { scene.now ≢ self.old.scene → (result ≡ Err PublishFault.Stranger) × (self.new ≡ self.old) }
+    {
+        if !scene.has_content_of(self.states.scene()) {
+            return Err(PublishFault::Stranger);
+        }
+        publish_own(alloc, &mut self.states, states)
+    }
+
     /// Finds the run of that name of the state of that number.
     pub(crate) fn find(
         &mut self,
@@ -94,6 +115,43 @@ impl<S: Served> Registry<S> {
         runs.sort()?;
         Ok(runs)
     }
+}
+
+/// Publishes a state of the registry's own scene: 1, or 0 where it stood already.
+fn publish_one<S: Served>(
+    alloc: Global,
+    registry: &mut States<SharedRun<S>>,
+    state: Published,
+) -> Result<usize, PublishFault>
+    requires own { state.scene ≡ registry.old.scene }
+    ensures there { IfOk result (λ one. IsThere registry.old state one registry.new) }
+    ensures few { IfOk result (λ one. one ≤ 1) }
+    ensures scene { registry.new.scene ≡ registry.old.scene }
+    ensures runs { registry.new.runs ≡ registry.old.runs }
+{
+    match registry.publish_own(alloc, state) {
+        Ok(()) => Ok(1),
+        Err(PublishFault::Twice) => Ok(0),
+        Err(fault) => Err(fault),
+    }
+}
+
+/// Publishes states of the registry's own scene: how many weren't published.
+fn publish_own<S: Served>(
+    alloc: Global,
+    registry: &mut States<SharedRun<S>>,
+    states: Vec<Published>,
+) -> Result<usize, PublishFault>
+    requires own { All (λ state. state.scene ≡ registry.old.scene) states.items }
+    ensures each { IfOk result (λ count. PublishesEach registry.old states.items count registry.new) }
+    ensures few { IfOk result (λ count. count ≤ length states.items) }
+    ensures runs { registry.new.runs ≡ registry.old.runs }
+{
+    let mut count = 0;
+    for state in states {
+        count += publish_one(alloc, registry, state)?;
+    }
+    Ok(count)
 }
 
 /// The runs with their names, in the order in which they were made.

@@ -1,6 +1,7 @@
 //! A registry that threads share.
-ghost use Rattle.std.specs.Prelude.{◌≡◌, IfOk};
+ghost use Rattle.std.specs.Prelude.{◌≡◌, ◌≤◌, IfOk, length};
 ghost use Rattle.std.specs.Arc.{arc_value};
+ghost use Rattle.std.specs.List.{All};
 ghost use Rattle.std.specs.List.Sorted.{IsSorted};
 ghost use Rattle.cs_shared.specs.Naming.{key_cmp};
 ghost use Rattle.cs_shared.specs.Serving.{ServesAll};
@@ -73,6 +74,23 @@ impl<S: Served> SharedRegistry<S> {
         state: Published,
     ) -> Result<(), PublishFault> {
         self.inside.lock(rt).publish(alloc, state)
+    }
+
+    /// Publishes states of the registry's own scene under one lock, and looks at the scene once and not
+    /// for each: how many weren't published. A state that stands already is passed over. Where memory is
+    /// refused, those before it stay published.
+    pub fn publish_each(
+        &self,
+        rt: &impl Wait,
+        alloc: Global,
+        states: Vec<Published>,
+    ) -> Result<usize, PublishFault>
+        requires own { All (λ state. state.scene ≡ self.now) states.items }
+        ensures few { IfOk result (λ count. count ≤ length states.items) }
+    {
+        self.inside
+            .lock(rt)
+            .publish_each(alloc, &self.scene, states)
     }
 
     /// Finds the run of that name of the state of that number, and counts the find: the run is made at
