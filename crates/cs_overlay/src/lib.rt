@@ -13,8 +13,6 @@ mod overlay;
 mod patched;
 mod reading;
 mod table;
-#[cfg(test)]
-mod tests;
 mod writing;
 
 pub use overlay::Overlay;

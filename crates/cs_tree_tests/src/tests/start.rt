@@ -1,8 +1,8 @@
-//! The start tree.
+//! The start tree, plain and below an overlay.
 
-use crate::Overlay;
 use cs_lower::Lower;
 use cs_names::{Path, UserName};
+use cs_overlay::Overlay;
 use cs_tree::PlainTree;
 use cs_tree_model::{Content, DMDIR, Record, TreeRead};
 use std::alloc::Global;
@@ -56,14 +56,17 @@ pub fn records(alloc: Global, rows: &[Row]) -> Option<Vec<(Path, Record)>> {
     Some(records)
 }
 
-pub fn plain_tree(alloc: Global) -> Option<Arc<PlainTree>> {
-    let tree = PlainTree::try_from_records(alloc, records(alloc, &START)?).ok()?;
-    Arc::new(alloc, tree).ok()
+pub fn start_tree(alloc: Global) -> Option<PlainTree> {
+    PlainTree::try_from_records(alloc, records(alloc, &START)?).ok()
+}
+
+pub fn start_lower(alloc: Global) -> Option<Arc<PlainTree>> {
+    Arc::new(alloc, start_tree(alloc)?).ok()
 }
 
 /// The start tree with nothing over it yet.
-pub fn start_tree(alloc: Global) -> Option<Overlay<PlainTree>> {
-    Some(Overlay::over(alloc, plain_tree(alloc)?))
+pub fn over_plain(alloc: Global) -> Option<Overlay<PlainTree>> {
+    Some(Overlay::over(alloc, start_lower(alloc)?))
 }
 
 /// An overlay over a frozen overlay over a plain tree.
@@ -107,7 +110,7 @@ pub fn frozen<L: TreeRead + Drop>(
 }
 
 /// The start tree again: files that were made in another order, and changed since, are frozen.
-pub fn frozen_start(alloc: Global) -> Option<TwoLevels> {
+pub fn over_frozen(alloc: Global) -> Option<TwoLevels> {
     let mut records = Vec::new(alloc);
     for row in &MADE {
         records.push(changed(alloc, row)?).ok()?;

@@ -1,8 +1,8 @@
 //! Lists of records that make a tree, and lists that make none.
 
 use super::start::{Row, records};
-use crate::{PlainTree, RecordsFault};
 use cs_names::{Path, UserName};
+use cs_tree::{PlainTree, RecordsFault};
 use cs_tree_model::{Content, DMAPPEND, DMDIR, Record, TreeRead, number_of_path};
 
 const ROOT: Row = (0, "/", b"cat", b"cat", DMDIR, None);

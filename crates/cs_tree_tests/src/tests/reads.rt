@@ -1,8 +1,8 @@
 //! What the start tree answers before any change.
 
 use super::start::{Row, START, record, records, start_tree};
-use crate::PlainTree;
 use cs_names::{Name, Path};
+use cs_tree::PlainTree;
 use cs_tree_model::{Kind, TreeRead, number_of_path, path_of};
 use std::alloc::Global;
 

@@ -1,14 +1,11 @@
 //! What an overlay shows of the lower tree, and what the lower tree goes on showing.
 
-use super::allowed::{has_bytes, takes_changes};
 use super::calls::{Call, Fields, NONE, make};
+use super::runs::run_and_look;
 use super::shown::{lines, listed};
-use super::start::{plain_tree, start_tree};
-use crate::Overlay;
-use crate::laws::lower_stays;
-use cs_names::UserName;
-use cs_tree::PlainTree;
-use cs_tree_model::{Stamp, TreeRead, TreeStore};
+use super::start::{over_plain, start_lower};
+use cs_overlay::Overlay;
+use cs_tree_model::TreeRead;
 use std::alloc::Global;
 use std::process::Abort;
 use std::sync::Arc;
@@ -35,7 +32,7 @@ fn hello<T: TreeRead>(rt: &impl Abort, alloc: Global, tree: &T) {
 
 #[test]
 fn nothing_changed_is_the_lower_tree(rt: HostRuntime) {
-    let lower = plain_tree(rt.alloc()).expect(&rt, "the start tree");
+    let lower = start_lower(rt.alloc()).expect(&rt, "the start tree");
     let upper = Overlay::over(rt.alloc(), lower.clone().expect(&rt, "a share"));
     let found = lines(rt.alloc(), &upper).expect(&rt, "memory");
     let wanted = lines(rt.alloc(), &*lower).expect(&rt, "memory");
@@ -46,7 +43,7 @@ fn nothing_changed_is_the_lower_tree(rt: HostRuntime) {
 
 #[test]
 fn the_lower_tree_reads_as_before(rt: HostRuntime) {
-    let lower = plain_tree(rt.alloc()).expect(&rt, "the start tree");
+    let lower = start_lower(rt.alloc()).expect(&rt, "the start tree");
     let before = lines(rt.alloc(), &*lower).expect(&rt, "memory");
     let mut upper = Overlay::over(rt.alloc(), lower.clone().expect(&rt, "a share"));
     let mut other = Overlay::over(rt.alloc(), lower.clone().expect(&rt, "a share"));
@@ -61,44 +58,15 @@ fn the_lower_tree_reads_as_before(rt: HostRuntime) {
     assert!(&rt; before == after);
 }
 
-/// An overlay in which `/f` begins with `HI`, and one that was made after it.
-fn two_levels(
-    alloc: Global,
-    lower: &Arc<PlainTree>,
-) -> Option<(Overlay<PlainTree>, Overlay<PlainTree>)> {
-    let plain: &PlainTree = &*lower;
-    if !has_bytes(plain, 4) || !takes_changes(plain, 4) {
-        return None;
-    }
-    let user = UserName::read(alloc, b"bob").ok()?;
-    lower_stays(alloc, lower, 4, 0, b"HI", Stamp { now: 10, user }).ok()
-}
-
 #[test]
-fn a_second_overlay_begins_where_the_first_began(rt: HostRuntime) {
-    let lower = plain_tree(rt.alloc()).expect(&rt, "the start tree");
-    let (first, second) = two_levels(rt.alloc(), &lower).expect(&rt, "two overlays");
-    let found = bytes(rt.alloc(), &first, 4, 0).expect(&rt, "bytes");
-    assert!(&rt; found.as_slice() == b"HIllo".as_slice());
-    hello(&rt, rt.alloc(), &second);
-    hello(&rt, rt.alloc(), &*lower);
-}
-
-#[test]
-fn what_was_cut_off_never_shows_again(rt: HostRuntime) {
-    let mut tree = start_tree(rt.alloc()).expect(&rt, "the start tree");
-    make(&mut tree, rt.alloc(), resized(1), 10, "bob").expect(&rt, "a cut");
-    make(&mut tree, rt.alloc(), resized(5000), 11, "bob").expect(&rt, "a growth");
-    let found = bytes(rt.alloc(), &tree, 4, 0).expect(&rt, "bytes");
-    assert_eq!(&rt; found.len(), 5000);
-    assert_eq!(&rt; found.first().copied(), Some(b'h'));
-    let zeros = found.iter().filter(|byte| **byte == 0).count();
-    assert_eq!(&rt; zeros, 4999);
+fn a_run_over_a_plain_tree_leaves_it(rt: HostRuntime) {
+    let lower = start_lower(rt.alloc()).expect(&rt, "the start tree");
+    run_and_look(&rt, rt.alloc(), &lower);
 }
 
 #[test]
 fn a_written_block_is_cut_too(rt: HostRuntime) {
-    let mut tree = start_tree(rt.alloc()).expect(&rt, "the start tree");
+    let mut tree = over_plain(rt.alloc()).expect(&rt, "the start tree");
     let write = Call::Write(4, 4094, b"abcd");
     make(&mut tree, rt.alloc(), write, 10, "bob").expect(&rt, "a write");
     make(&mut tree, rt.alloc(), resized(4095), 11, "bob").expect(&rt, "a cut");
@@ -111,7 +79,7 @@ fn a_written_block_is_cut_too(rt: HostRuntime) {
 
 #[test]
 fn a_name_of_both_levels_is_listed_once(rt: HostRuntime) {
-    let mut tree = start_tree(rt.alloc()).expect(&rt, "the start tree");
+    let mut tree = over_plain(rt.alloc()).expect(&rt, "the start tree");
     make(&mut tree, rt.alloc(), Call::Remove(4), 10, "bob").expect(&rt, "a remove");
     let found = listed(rt.alloc(), &tree, 0).expect(&rt, "memory");
     assert_eq!(&rt; found.as_str(), "d 1, n 5, p 6, ");
@@ -124,7 +92,7 @@ fn a_name_of_both_levels_is_listed_once(rt: HostRuntime) {
 /// A second level says the same of each call as the first.
 #[test]
 fn levels_lie_over_levels(rt: HostRuntime) {
-    let mut low = start_tree(rt.alloc()).expect(&rt, "the start tree");
+    let mut low = over_plain(rt.alloc()).expect(&rt, "the start tree");
     make(&mut low, rt.alloc(), Call::Write(4, 0, b"HI"), 10, "bob").expect(&rt, "a write");
     make(&mut low, rt.alloc(), Call::Add(1, "g", 0o644), 11, "bob").expect(&rt, "a new file");
     let low = Arc::new(rt.alloc(), low).expect(&rt, "memory");

@@ -2,7 +2,8 @@
 
 use super::calls::{Call, Fields, NONE, make};
 use super::shown::{lines, listed, new_lines};
-use super::start::{frozen_start, start_tree};
+use super::start::{over_frozen, over_plain, start_tree};
+use super::states::over_state;
 use cs_names::Path;
 use cs_tree_model::{DMAPPEND, DMDIR, TreeRead, TreeStore, number_of_path};
 use std::alloc::Global;
@@ -32,12 +33,24 @@ fn work<T: TreeStore>(rt: &impl Abort, alloc: Global, tree: &mut T, steps: &[Ste
     }
 }
 
-/// Makes them over the start tree, and over the start tree as one that was frozen.
-fn work_on_both(rt: &impl Abort, alloc: Global, steps: &[Step]) {
-    let mut tree = start_tree(alloc).expect(rt, "the start tree");
+/// Makes them on a store of the start tree, and says how many files there are then, and the last number.
+fn work_on<T: TreeStore + Drop>(
+    rt: &impl Abort,
+    alloc: Global,
+    tree: Option<T>,
+    steps: &[Step],
+) -> (usize, u64) {
+    let mut tree = tree.expect(rt, "the start tree");
     work(rt, alloc, &mut tree, steps);
-    let mut tree = frozen_start(alloc).expect(rt, "the frozen tree");
-    work(rt, alloc, &mut tree, steps);
+    (tree.count(), tree.last_number())
+}
+
+/// Makes them on each kind of store.
+fn work_on_each(rt: &impl Abort, alloc: Global, steps: &[Step], left: (usize, u64)) {
+    assert_eq!(rt; work_on(rt, alloc, start_tree(alloc), steps), left);
+    assert_eq!(rt; work_on(rt, alloc, over_plain(alloc), steps), left);
+    assert_eq!(rt; work_on(rt, alloc, over_frozen(alloc), steps), left);
+    assert_eq!(rt; work_on(rt, alloc, over_state(alloc), steps), left);
 }
 
 fn found_at<T: TreeRead>(alloc: Global, tree: &T, path: &str) -> Option<u64> {
@@ -120,10 +133,7 @@ const FILES: [Step; 9] = [
 
 #[test]
 fn a_new_file_has_a_number_that_no_file_ever_had(rt: HostRuntime) {
-    work_on_both(&rt, rt.alloc(), &FILES);
-    let mut tree = frozen_start(rt.alloc()).expect(&rt, "the frozen tree");
-    work(&rt, rt.alloc(), &mut tree, &FILES);
-    assert_eq!(&rt; (tree.count(), tree.last_number()), (8, 11));
+    work_on_each(&rt, rt.alloc(), &FILES, (8, 11));
 }
 
 const WRITES: [Step; 6] = [
@@ -167,7 +177,7 @@ const WRITES: [Step; 6] = [
 
 #[test]
 fn a_write_changes_its_file_alone(rt: HostRuntime) {
-    work_on_both(&rt, rt.alloc(), &WRITES);
+    work_on_each(&rt, rt.alloc(), &WRITES, (7, 6));
 }
 
 const LENGTHS: [Step; 2] = [
@@ -197,16 +207,24 @@ const LENGTHS: [Step; 2] = [
     ),
 ];
 
+/// Cuts `/f` and lets it grow: one byte is left, and zeros behind it.
+fn cut_and_grow<T: TreeStore + Drop>(rt: &impl Abort, alloc: Global, tree: Option<T>) {
+    let mut tree = tree.expect(rt, "the start tree");
+    work(rt, alloc, &mut tree, &LENGTHS);
+    let bytes = tree.read_at(alloc, 4, 0, 6000).expect(rt, "memory");
+    let bytes = bytes.expect(rt, "bytes");
+    assert_eq!(rt; bytes.len(), 5000);
+    assert_eq!(rt; bytes.first().copied(), Some(b'h'));
+    let zeros = bytes.iter().filter(|byte| **byte == 0).count();
+    assert_eq!(rt; zeros, 4999);
+}
+
 #[test]
 fn bytes_that_no_write_reached_are_zero(rt: HostRuntime) {
-    let mut tree = start_tree(rt.alloc()).expect(&rt, "the start tree");
-    work(&rt, rt.alloc(), &mut tree, &LENGTHS);
-    let bytes = tree.read_at(rt.alloc(), 4, 0, 6000).expect(&rt, "memory");
-    let bytes = bytes.expect(&rt, "bytes");
-    assert_eq!(&rt; bytes.len(), 5000);
-    assert_eq!(&rt; bytes.first().copied(), Some(b'h'));
-    let zeros = bytes.iter().filter(|byte| **byte == 0).count();
-    assert_eq!(&rt; zeros, 4999);
+    cut_and_grow(&rt, rt.alloc(), start_tree(rt.alloc()));
+    cut_and_grow(&rt, rt.alloc(), over_plain(rt.alloc()));
+    cut_and_grow(&rt, rt.alloc(), over_frozen(rt.alloc()));
+    cut_and_grow(&rt, rt.alloc(), over_state(rt.alloc()));
 }
 
 /// All fields at once.
@@ -333,7 +351,7 @@ const FIELDS: [Step; 9] = [
 
 #[test]
 fn a_change_gives_the_fields_that_it_names(rt: HostRuntime) {
-    work_on_both(&rt, rt.alloc(), &FIELDS);
+    work_on_each(&rt, rt.alloc(), &FIELDS, (7, 6));
 }
 
 const RENAMES: [Step; 4] = [
@@ -392,33 +410,34 @@ const RENAMES: [Step; 4] = [
 ];
 
 /// Renames directories, and looks up what was below them.
-fn rename_directories<T: TreeStore>(rt: &impl Abort, alloc: Global, tree: &mut T) {
-    work(rt, alloc, tree, &RENAMES[..2]);
+fn rename_directories<T: TreeStore + Drop>(rt: &impl Abort, alloc: Global, tree: Option<T>) {
+    let mut tree = tree.expect(rt, "the start tree");
+    work(rt, alloc, &mut tree, &RENAMES[..2]);
     for (path, number) in [
         ("/e/s/z", Some(3)),
         ("/e/g", Some(7)),
         ("/d", None),
         ("/d/s/z", None),
     ] {
-        assert_eq!(rt; found_at(alloc, tree, path), number, "{path}");
+        assert_eq!(rt; found_at(alloc, &tree, path), number, "{path}");
     }
-    work(rt, alloc, tree, &RENAMES[2..]);
+    work(rt, alloc, &mut tree, &RENAMES[2..]);
     for (path, number) in [
         ("/d", Some(8)),
         ("/d/s", None),
         ("/e/z/z", Some(3)),
         ("/e/s", None),
     ] {
-        assert_eq!(rt; found_at(alloc, tree, path), number, "{path}");
+        assert_eq!(rt; found_at(alloc, &tree, path), number, "{path}");
     }
-    let found = listed(alloc, tree, 0).expect(rt, "memory");
+    let found = listed(alloc, &tree, 0).expect(rt, "memory");
     assert_eq!(rt; found.as_str(), "d 8, e 1, f 4, n 5, p 6, ");
 }
 
 #[test]
 fn a_directory_takes_all_below_it_to_its_new_name(rt: HostRuntime) {
-    let mut tree = start_tree(rt.alloc()).expect(&rt, "the start tree");
-    rename_directories(&rt, rt.alloc(), &mut tree);
-    let mut tree = frozen_start(rt.alloc()).expect(&rt, "the frozen tree");
-    rename_directories(&rt, rt.alloc(), &mut tree);
+    rename_directories(&rt, rt.alloc(), start_tree(rt.alloc()));
+    rename_directories(&rt, rt.alloc(), over_plain(rt.alloc()));
+    rename_directories(&rt, rt.alloc(), over_frozen(rt.alloc()));
+    rename_directories(&rt, rt.alloc(), over_state(rt.alloc()));
 }

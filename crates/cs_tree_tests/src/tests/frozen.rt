@@ -1,0 +1,90 @@
+//! What a frozen tree shows.
+
+use super::calls::{Call, make, write};
+use super::runs::{BEFORE, cut_over, run_and_look, same_lines};
+use super::shown::listed;
+use super::start::{START, frozen, over_frozen, over_plain, records, start_lower};
+use cs_lower::Lower;
+use cs_names::UserName;
+use cs_overlay::Overlay;
+use cs_tree::PlainTree;
+use cs_tree_model::{DMDIR, Stamp, TreeRead};
+use std::alloc::Global;
+use std::sync::Arc;
+
+/// A plain tree over which something was changed, frozen.
+type State = Arc<Lower<Overlay<PlainTree>>>;
+
+#[test]
+fn files_made_in_another_order_freeze_to_the_start_tree(rt: HostRuntime) {
+    let tree = over_frozen(rt.alloc()).expect(&rt, "the frozen tree");
+    same_lines(&rt, rt.alloc(), &tree, &BEFORE);
+    assert_eq!(&rt; (tree.count(), tree.last_number()), (7, 6));
+}
+
+/// What was changed over the start tree, each by another user.
+const CALLS: [Call; 5] = [
+    Call::Write(4, 0, b"HI"),
+    Call::Add(0, "a", 0o640),
+    Call::Remove(3),
+    Call::Remove(2),
+    Call::Add(1, "b", DMDIR | 0o700),
+];
+
+/// And how it stands when it is frozen: `/a`, the last file but one to be made, comes after the root.
+const AFTER: [&str; 7] = [
+    "0 / 0 cat staff d775 0 0 cat",
+    "1 /a 0 bob staff -640 0 0 bob 0:",
+    "2 /d 0 ann staff d755 0 0 ann",
+    "3 /d/b 0 bob staff d700 0 0 bob",
+    "4 /f 0 ann staff -664 0 0 ann 5:HIllo",
+    "5 /n 0 none none -600 0 0 none 0:",
+    "6 /p 0 ann staff d750 0 0 ann",
+];
+
+#[test]
+fn a_frozen_tree_has_fresh_numbers_in_the_order_of_paths(rt: HostRuntime) {
+    let lower = start_lower(rt.alloc()).expect(&rt, "the start tree");
+    let mut tree = Overlay::over(rt.alloc(), lower.clone().expect(&rt, "a share"));
+    for call in &CALLS {
+        make(&mut tree, rt.alloc(), *call, 10, "bob").expect(&rt, "a call that may be made");
+    }
+    let state = frozen(rt.alloc(), tree).expect(&rt, "memory");
+    same_lines(&rt, rt.alloc(), &*state, &AFTER);
+    assert_eq!(&rt; (state.count(), state.last_number()), (7, 6));
+    for (directory, entries) in [
+        (0, "a 1, d 2, f 4, n 5, p 6, "),
+        (2, "b 3, "),
+        (4, ""),
+        (9, ""),
+    ] {
+        let found = listed(rt.alloc(), &*state, directory).expect(&rt, "memory");
+        assert_eq!(&rt; found.as_str(), entries, "of {directory}");
+    }
+    assert!(&rt; state.record(7).is_none());
+    same_lines(&rt, rt.alloc(), &*lower, &BEFORE);
+}
+
+#[test]
+fn a_run_over_a_frozen_tree_leaves_it(rt: HostRuntime) {
+    let tree = over_plain(rt.alloc()).expect(&rt, "the start tree");
+    let state = frozen(rt.alloc(), tree).expect(&rt, "memory");
+    run_and_look(&rt, rt.alloc(), &state);
+}
+
+/// `/a` with 5,000 bytes of 0x61, frozen.
+fn with_letters(alloc: Global) -> Option<State> {
+    let plain = PlainTree::try_from_records(alloc, records(alloc, &START[..1])?).ok()?;
+    let mut tree = Overlay::over(alloc, Arc::new(alloc, plain).ok()?);
+    make(&mut tree, alloc, Call::Add(0, "a", 0o644), 1, "ann")?;
+    let letters = [b'a'; 5000];
+    let user = UserName::read(alloc, b"ann").ok()?;
+    write(&mut tree, alloc, 1, 0, &letters, Stamp { now: 2, user })?;
+    frozen(alloc, tree)
+}
+
+#[test]
+fn a_cut_over_a_frozen_file_grows_by_zeros(rt: HostRuntime) {
+    let state = with_letters(rt.alloc()).expect(&rt, "a frozen tree");
+    cut_over(&rt, rt.alloc(), &state);
+}

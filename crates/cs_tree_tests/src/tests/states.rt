@@ -1,0 +1,97 @@
+//! Crash states as lower trees.
+
+use super::runs::{BEFORE, cut_over, run_and_look, same_lines};
+use cs_apm::Order;
+use cs_apm::laws::rules_are_sentences;
+use cs_micro::break_up;
+use cs_overlay::Overlay;
+use cs_state::{Atlas, StateTree};
+use cs_trace::read_trace;
+use cs_tree_model::TreeRead;
+use std::alloc::Global;
+use std::sync::Arc;
+
+/// The state of a set, which is to be allowed.
+fn built(alloc: Global, atlas: &Atlas, places: &[u32]) -> Option<StateTree> {
+    let micros = atlas.micros();
+    let order = Order::of(alloc, micros).ok()?;
+    rules_are_sentences(micros);
+    if order.is_allowed(places) {
+        atlas.build(alloc, places).ok()
+    } else {
+        None
+    }
+}
+
+/// The state of a set of the trace that the text tells.
+fn state_of(alloc: Global, text: &str, places: &[u32]) -> Option<Arc<StateTree>> {
+    let trace = read_trace(alloc, text).ok()?;
+    let micros = break_up(alloc, &trace).ok()?;
+    let atlas = Atlas::of(alloc, trace, micros).ok()?;
+    Arc::new(alloc, built(alloc, &atlas, places)?).ok()
+}
+
+/// Without two files of the start tree, which the operations make; the last file is in no state of the
+/// members before it.
+const MAKING: &str = r#"{"trace":1,"owner":"cat","group":"staff","mode":"775"}
+{"start":"dir","path":"/d","owner":"ann","group":"staff","mode":"755"}
+{"start":"dir","path":"/d/s","owner":"ann","group":"ann","mode":"700"}
+{"start":"file","path":"/n","owner":"none","group":"none","mode":"600","bytes":""}
+{"start":"dir","path":"/p","owner":"ann","group":"staff","mode":"750"}
+{"op":"creat","path":"/d/s/z","owner":"ann","group":"ann","mode":"644"}
+{"op":"creat","path":"/t","owner":"ann","group":"staff","mode":"664"}
+{"op":"write","path":"/t","offset":0,"bytes":"68656c6c6f"}
+{"op":"rename","from":"/t","to":"/f"}
+{"op":"creat","path":"/b","owner":"bob","group":"bob","mode":"600"}
+"#;
+
+/// The start tree as a state: what the members made stands among what was there.
+pub fn start_state(alloc: Global) -> Option<Arc<StateTree>> {
+    state_of(alloc, MAKING, &[0, 1, 2, 3, 4])
+}
+
+/// An overlay over the start tree as a state.
+pub fn over_state(alloc: Global) -> Option<Overlay<StateTree>> {
+    Some(Overlay::over(alloc, start_state(alloc)?))
+}
+
+#[test]
+fn members_make_what_the_start_tree_has(rt: HostRuntime) {
+    let state = start_state(rt.alloc()).expect(&rt, "the start tree");
+    same_lines(&rt, rt.alloc(), &*state, &BEFORE);
+    assert_eq!(&rt; (state.count(), state.last_number()), (7, 6));
+}
+
+#[test]
+fn a_run_over_a_state_leaves_it(rt: HostRuntime) {
+    let state = start_state(rt.alloc()).expect(&rt, "the start tree");
+    run_and_look(&rt, rt.alloc(), &state);
+}
+
+/// `/a` is written and waited for at another name.
+fn with_letters(alloc: Global) -> Option<Arc<StateTree>> {
+    let mut text = String::from_str(
+        alloc,
+        r#"{"trace":1,"owner":"cat","group":"staff","mode":"775"}
+{"op":"creat","path":"/t","owner":"ann","group":"bob","mode":"640"}
+{"op":"write","path":"/t","offset":0,"bytes":""#,
+    )
+    .ok()?;
+    for _ in 0..5_000 {
+        text.push_str("61").ok()?;
+    }
+    text.push_str(
+        r#""}
+{"op":"fsync","path":"/t"}
+{"op":"rename","from":"/t","to":"/a"}
+"#,
+    )
+    .ok()?;
+    state_of(alloc, text.as_str(), &[0, 1, 2, 3, 4])
+}
+
+#[test]
+fn a_cut_over_a_states_file_grows_by_zeros(rt: HostRuntime) {
+    let state = with_letters(rt.alloc()).expect(&rt, "the state of all members");
+    cut_over(&rt, rt.alloc(), &state);
+}
