@@ -1,0 +1,3 @@
+pub mod Calling
+pub mod Ending
+pub mod Fitting

@@ -1,0 +1,47 @@
+-- What a connection keeps over runs that threads share.
+use Rattle.std.specs.Prelude.{◌≡◌, ℕ, ◌<◌, List, [], ◌∷◌, ◌++◌, All, length, slice_get, slice_set, Option, None, Some}
+use Rattle.std.specs.Option.{option_map_or}
+use Rattle.std.specs.Str.Parse.{digits_value, without_leading_plus}
+use Rattle.cs_journal.specs.Runs.{PassOf}
+use Rattle.cs_registry.specs.Keys.{Key}
+use Rattle.cs_server.specs.declared.kept.GivenPass.{GivenPass}
+
+-- The keys of the runs that a connection found, and the passes that it was given, each in the order in which they came. A pass has the place of its run.
+pub record Kept : Type 0 where
+  pub runs : List Key
+  pub passes : List GivenPass
+
+-- no run was found
+abbrev pub nothing : Kept
+nothing = record { runs = []; passes = [] }
+
+-- each pass is of a run that was found
+abbrev pub AreInside : List Key → List GivenPass → Type 0
+AreInside runs passes = All (λ given. given.run < length runs) passes
+
+-- with a run more, the last
+abbrev pub with_run : Kept → Key → Kept
+with_run kept key = record { runs = kept.runs ++ key ∷ []; passes = kept.passes }
+
+abbrev pub given_by : ℕ → PassOf → GivenPass
+given_by run pass = record { run = run; pass = pass }
+
+-- with a pass more, the last
+abbrev pub with_pass : Kept → ℕ → PassOf → Kept
+with_pass kept run pass = record { runs = kept.runs; passes = kept.passes ++ given_by run pass ∷ [] }
+
+-- with another pass at a place
+abbrev pub put_pass : Kept → ℕ → ℕ → PassOf → Kept
+put_pass kept place run pass = record { runs = kept.runs; passes = slice_set kept.passes place (given_by run pass) }
+
+-- the key of the run that gave the pass at a place
+abbrev pub key_at : Kept → ℕ → Option Key
+key_at kept place = option_map_or (λ given. slice_get kept.runs given.run) (slice_get kept.passes place) None
+
+-- the number that decimal digits spell; a plus may stand before them
+abbrev pub number_in : List ℕ → ℕ
+number_in digits = digits_value 10 (without_leading_plus digits)
+
+-- the key of the run that the parts of a tree's name name
+abbrev pub key_in : List ℕ → List ℕ → Key
+key_in state name = record { number = number_in state; name = name }

@@ -1,0 +1,18 @@
+//! Many connections at once: each over runs that threads share.
+#![tactic(auto)]
+
+mod connection;
+mod kept;
+mod key;
+mod port;
+mod server;
+mod streams;
+
+pub use connection::{Connection, serve_connection};
+pub use kept::{GivenPass, Kept};
+pub use port::SharedPort;
+pub use server::Server;
+pub use streams::serve_streams;
+
+#[cfg(test)]
+mod tests;
