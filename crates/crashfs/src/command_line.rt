@@ -1,5 +1,5 @@
 //! The command line.
-use clap::{Arg, ArgAction, ArgMatches, Command, Error};
+use clap::{Arg, ArgAction, ArgMatches, Command, Error, value_parser};
 use std::alloc::{AllocError, Global};
 
 /// Which crash states a command is about.
@@ -28,6 +28,22 @@ pub enum Ask<'a> {
         /// Whether each message and its reply are told as text on standard error.
         verbose: bool,
     },
+    /// To serve connections over TCP.
+    Serve {
+        wanted: Wanted<'a>,
+        /// The path of the users file.
+        users: &'a str,
+        /// The address that is listened on.
+        listen: &'a str,
+        /// How many threads make the states: 1 to 64.
+        workers: u32,
+        /// How many connections are served: 1 to 64.
+        connections: u32,
+        /// Whether all states are made before the first connection is accepted.
+        ready: bool,
+        /// Whether connections are told on standard error.
+        verbose: bool,
+    },
 }
 
 fn file_argument<'a>(alloc: Global, name: &'a str, help: &'a str) -> Arg<'a> {
@@ -35,6 +51,19 @@ fn file_argument<'a>(alloc: Global, name: &'a str, help: &'a str) -> Arg<'a> {
         .long(name)
         .value_name("FILE")
         .help(help)
+        .action(ArgAction::Set)
+}
+
+/// The most workers, and the most connections.
+const MOST: i64 = 64;
+
+fn count_argument<'a>(alloc: Global, name: &'a str, help: &'a str) -> Arg<'a> {
+    Arg::new(alloc, name)
+        .long(name)
+        .value_name("N")
+        .help(help)
+        .required(true)
+        .value_parser(value_parser!(u32).range(1..=MOST))
         .action(ArgAction::Set)
 }
 
@@ -78,6 +107,41 @@ fn script_command<'a>(alloc: Global) -> Result<Command<'a>, AllocError> {
     with_states(alloc, script)
 }
 
+fn serve_command<'a>(alloc: Global) -> Result<Command<'a>, AllocError> {
+    let users = file_argument(alloc, "users", "The users file, as users(6) has it").required(true);
+    let listen = Arg::new(alloc, "listen")
+        .long("listen")
+        .value_name("ADDR")
+        .help("The address and port to listen on; port 0 lets the system choose one")
+        .required(true)
+        .action(ArgAction::Set);
+    let workers = count_argument(
+        alloc,
+        "workers",
+        "How many threads make the states, 1 to 64",
+    );
+    let connections = count_argument(
+        alloc,
+        "connections",
+        "How many connections are served before the end, 1 to 64",
+    );
+    let ready = flag(alloc, "ready", "Makes all states before it listens");
+    let verbose = flag(
+        alloc,
+        "verbose",
+        "Prints a line for each connection that comes and ends on standard error",
+    );
+    let serve = Command::new(alloc, "serve")
+        .about("Serves the states over TCP, each connection in a thread of its own")
+        .arg(users)?
+        .arg(listen)?
+        .arg(workers)?
+        .arg(connections)?
+        .arg(ready)?
+        .arg(verbose)?;
+    with_states(alloc, serve)
+}
+
 /// The command of the program.
 fn command<'a>(alloc: Global) -> Result<Command<'a>, AllocError> {
     Command::new(alloc, "crashfs")
@@ -85,7 +149,8 @@ fn command<'a>(alloc: Global) -> Result<Command<'a>, AllocError> {
         .version("0.1.0")
         .subcommand_required(true)
         .subcommand(list_command(alloc)?)?
-        .subcommand(script_command(alloc)?)
+        .subcommand(script_command(alloc)?)?
+        .subcommand(serve_command(alloc)?)
 }
 
 fn wanted_of<'a>(matches: &ArgMatches<'a>) -> Wanted<'a> {
@@ -93,6 +158,19 @@ fn wanted_of<'a>(matches: &ArgMatches<'a>) -> Wanted<'a> {
         trace: matches.get_str("trace").unwrap_or(""),
         holes: matches.get_flag("holes"),
         picks: matches.get_str("picks"),
+    }
+}
+
+/// What the words behind `serve` ask for. Its counts were read before, so that 1 stands for none.
+fn serve_ask<'a>(matches: &ArgMatches<'a>, wanted: Wanted<'a>, users: &'a str) -> Ask<'a> {
+    Ask::Serve {
+        wanted,
+        users,
+        listen: matches.get_str("listen").unwrap_or(""),
+        workers: matches.get_one("workers").unwrap_or(1),
+        connections: matches.get_one("connections").unwrap_or(1),
+        ready: matches.get_flag("ready"),
+        verbose: matches.get_flag("verbose"),
     }
 }
 
@@ -107,12 +185,14 @@ pub fn ask_of<'a>(alloc: Global, words: &'a [&'a str]) -> Result<Ask<'a>, Error>
         });
     };
     let wanted = wanted_of(inner);
-    if name == "list" {
-        return Ok(Ask::List { wanted });
-    }
-    Ok(Ask::Script {
-        wanted,
-        users: inner.get_str("users").unwrap_or(""),
-        verbose: inner.get_flag("verbose"),
+    let users = inner.get_str("users").unwrap_or("");
+    Ok(match name {
+        "list" => Ask::List { wanted },
+        "script" => Ask::Script {
+            wanted,
+            users,
+            verbose: inner.get_flag("verbose"),
+        },
+        _ => serve_ask(inner, wanted, users),
     })
 }

@@ -8,10 +8,14 @@ ghost use Rattle.std.specs.Prelude.{◌≡◌};
 use clap::error::ErrorKind;
 use command_line::{Ask, Wanted, ask_of};
 use cs_serve::{Inputs, list_of, script_of};
+use cs_tcp::{Serving, serve_of};
 use std::fs;
 use std::io::{self, BufWriter, Write};
+use std::net::{Net, TcpListener, TcpStream};
 use std::process::ExitCode;
-use std::rt::{Env, Files};
+use std::rt::{Clock, Env, Files};
+use std::sync::{Mutex, Wait};
+use std::thread::Threads;
 
 /// The status of a command that a fault ended.
 const FAULT: u8 = 1;
@@ -93,11 +97,37 @@ fn run_script<R: Files + Input + Print + Eprint + AllocGlobal, E: Write>(
     Ok(script_of(rt.alloc(), &inputs, &mut input, &mut out, err))
 }
 
-fn run<R: Files + Input + Print + Eprint + AllocGlobal, E: Write>(
+fn run_serve<R, E: Write + Send>(
     rt: &R,
     err: &mut E,
-    words: &[&str],
-) -> u8 {
+    wanted: Wanted,
+    users: &str,
+    serving: Serving,
+    verbose: bool,
+) -> Result<u8, u8>
+where
+    R: Files + Print + Eprint + AllocGlobal + Clock + Threads + Wait + Sync,
+    R: Net<Listener = TcpListener, Stream = TcpStream>,
+{
+    let (trace, picks) = read_wanted(rt, wanted)?;
+    let users = read_file(rt, users)?;
+    let inputs = Inputs {
+        users: &users,
+        trace: &trace,
+        picks: &picks,
+        holes: wanted.holes,
+        verbose,
+    };
+    let err = Mutex::new(err);
+    let mut out = io::writer(rt);
+    Ok(serve_of(rt, rt.alloc(), &inputs, serving, &mut out, &err))
+}
+
+fn run<R, E: Write + Send>(rt: &R, err: &mut E, words: &[&str]) -> u8
+where
+    R: Files + Input + Print + Eprint + AllocGlobal + Clock + Threads + Wait + Sync,
+    R: Net<Listener = TcpListener, Stream = TcpStream>,
+{
     let ask = match ask_of(rt.alloc(), words) {
         Ok(ask) => ask,
         Err(error) if error.kind() == ErrorKind::OutOfMemory => return out_of_memory(rt),
@@ -113,6 +143,23 @@ fn run<R: Files + Input + Print + Eprint + AllocGlobal, E: Write>(
             users,
             verbose,
         } => run_script(rt, err, wanted, users, verbose),
+        Ask::Serve {
+            wanted,
+            users,
+            listen,
+            workers,
+            connections,
+            ready,
+            verbose,
+        } => {
+            let serving = Serving {
+                listen,
+                workers,
+                connections,
+                ready,
+            };
+            run_serve(rt, err, wanted, users, serving, verbose)
+        }
     };
     match ended {
         Ok(status) | Err(status) => status,

@@ -26,6 +26,12 @@ pub enum ProgramFault {
     /// A line of the script is at fault; lines count from 1.
     #[error("script line {0}: Syntax")]
     Script(usize),
+    /// No connection can be accepted at the address.
+    #[error("cannot listen")]
+    Listen,
+    /// Not all states were published.
+    #[error("publishing failed")]
+    Publishing,
     #[error("input failed")]
     Input,
     #[error("output failed")]

@@ -30,13 +30,14 @@ fn trace_of(alloc: Global, trace: &[u8]) -> Result<Trace, ProgramFault> {
 }
 
 /// The scene of the inputs: the trace is judged first, then the picks' lines, then what is made of them.
-pub(crate) fn scene_of(alloc: Global, inputs: &Inputs) -> Result<Scene, ProgramFault> {
+pub fn scene_of(alloc: Global, inputs: &Inputs) -> Result<Scene, ProgramFault> {
     let trace = trace_of(alloc, inputs.trace)?;
     let picks = read_picks(alloc, inputs.picks)?;
     Ok(Scene::of(alloc, trace, inputs.holes, picks)?)
 }
 
-pub(crate) fn users_of(alloc: Global, users: &[u8]) -> Result<Users, ProgramFault> {
+/// The users of a users file, or its first fault.
+pub fn users_of(alloc: Global, users: &[u8]) -> Result<Users, ProgramFault> {
     match Users::read(alloc, users) {
         Ok(users) => Ok(users),
         Err(UsersFault::Memory) => Err(ProgramFault::Memory),

@@ -13,7 +13,7 @@ mod script;
 mod tests;
 
 pub use fault::ProgramFault;
-pub use inputs::Inputs;
+pub use inputs::{Inputs, scene_of, users_of};
 pub use listing::list_of;
 pub use program::script_of;
 pub use publishing::world_of;

@@ -1,0 +1,51 @@
+//! One connection over TCP.
+
+use crate::log::Log;
+use crate::wall_clock::WallClock;
+use cs_server::{Server, serve_connection};
+use cs_session::{Counted, ServeFault};
+use cs_shared::AnyScene;
+use std::alloc::Global;
+use std::io::{self, Write};
+use std::net::TcpStream;
+use std::rt::Clock;
+use std::sync::Wait;
+use std::time::Duration;
+
+/// How many seconds a write may wait for a client that doesn't read.
+const WRITE_TIMEOUT_SECONDS: u64 = 30;
+
+/// Sets how the stream writes: at once, and with an end to waiting. A read may wait for ever: an idle
+/// client is no fault.
+fn set_up(stream: &TcpStream) -> io::Result<()> {
+    stream.set_nodelay(true)?;
+    stream.set_write_timeout(Some(Duration::from_secs(WRITE_TIMEOUT_SECONDS)))
+}
+
+/// Serves the stream to its end, and closes it.
+fn serve_stream<R: Wait + Clock>(
+    rt: &R,
+    alloc: Global,
+    server: &Server<AnyScene>,
+    stream: TcpStream,
+) -> Result<(), ServeFault> {
+    if set_up(&stream).is_err() {
+        return Err(ServeFault::WriteFault);
+    }
+    let mut stream = Counted::new(stream);
+    let mut clock = WallClock::new(rt);
+    serve_connection(rt, alloc, server, &mut stream, &mut clock).result()
+}
+
+/// Serves the connection of that number to its end, and tells how it ended.
+pub(crate) fn serve<R: Wait + Clock, E: Write>(
+    rt: &R,
+    alloc: Global,
+    server: &Server<AnyScene>,
+    stream: TcpStream,
+    conn: u32,
+    log: Log<E>,
+) {
+    let ended = serve_stream(rt, alloc, server, stream);
+    log.ended(rt, conn, ended);
+}

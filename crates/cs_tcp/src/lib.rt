@@ -1,0 +1,17 @@
+//! The command `serve`: the states that a crash may leave, served over TCP, each connection in a thread
+//! of its own.
+#![tactic(auto)]
+
+mod accepting;
+mod address;
+mod connection;
+mod log;
+mod publishing;
+mod serving;
+mod summary;
+mod wall_clock;
+
+pub use serving::{Serving, serve_of};
+
+#[cfg(test)]
+mod tests;

@@ -1,0 +1,31 @@
+//! The states of a server's scene are published.
+
+use crate::log::Log;
+use cs_publish::{NoGate, PublishAllFault, publish_into};
+use cs_serve::ProgramFault;
+use cs_server::Server;
+use cs_shared::AnyScene;
+use std::alloc::Global;
+use std::io::Write;
+use std::sync::Wait;
+use std::thread::Threads;
+
+/// Publishes all states by so many workers: whether it did. Else it told why.
+pub(crate) fn publish<R: Threads + Wait + Sync, E: Write>(
+    rt: &R,
+    alloc: Global,
+    server: &Server<AnyScene>,
+    workers: u32,
+    log: Log<E>,
+) -> bool {
+    let fault = match publish_into(rt, alloc, server.registry(), workers, &NoGate) {
+        Ok(states) => {
+            log.published(rt, states);
+            return true;
+        }
+        Err(PublishAllFault::Memory) => ProgramFault::Memory,
+        Err(PublishAllFault::Workers | PublishAllFault::Channel) => ProgramFault::Publishing,
+    };
+    log.fault(rt, &fault);
+    false
+}

@@ -1,0 +1,177 @@
+//! The command `serve`, after its files were read.
+ghost use Rattle.std.specs.Prelude.{◌≤◌};
+
+use crate::accepting::accept;
+use crate::address::Address;
+use crate::connection;
+use crate::log::Log;
+use crate::publishing::publish;
+use crate::summary::print_runs;
+use cs_serve::{Inputs, ProgramFault, scene_of, users_of};
+use cs_server::Server;
+use cs_shared::{AnyScene, SharedRegistry};
+use std::alloc::Global;
+use std::io::Write;
+use std::net::{Net, TcpListener, TcpStream};
+use std::rt::Clock;
+use std::sync::{Arc, Mutex, Wait};
+use std::thread;
+use std::thread::{Scope, Threads};
+
+/// What is served, and to whom.
+#[derive(Clone, Copy, Debug, PartialEq, Eq)]
+pub struct Serving<'a> {
+    /// The address that is listened on: an IP address or a host's name, a colon and a port. With the
+    /// port 0 the system chooses one.
+    pub listen: &'a str,
+    /// How many threads make the states.
+    pub workers: u32,
+    /// How many connections are served before the end.
+    pub connections: u32,
+    /// Whether all states are published before the first connection is accepted.
+    pub ready: bool,
+}
+
+fn server_of(alloc: Global, inputs: &Inputs) -> Result<Server<AnyScene>, ProgramFault> {
+    let scene = scene_of(alloc, inputs)?;
+    let users = users_of(alloc, inputs.users)?;
+    let (Ok(scene), Ok(users)) = (Arc::new(alloc, scene), Arc::new(alloc, users)) else {
+        return Err(ProgramFault::Memory);
+    };
+    match SharedRegistry::new(alloc, scene, users) {
+        Ok(registry) => Ok(Server::new(registry)),
+        Err(_) => Err(ProgramFault::Memory),
+    }
+}
+
+/// Listens on the address, and prints it.
+fn listen<R: Net<Listener = TcpListener, Stream = TcpStream>, W: Write>(
+    rt: &R,
+    given: &str,
+    out: &mut W,
+) -> Result<TcpListener, ProgramFault> {
+    let Ok(listener) = TcpListener::bind(rt, given) else {
+        return Err(ProgramFault::Listen);
+    };
+    let Ok(local) = listener.local_addr() else {
+        return Err(ProgramFault::Listen);
+    };
+    let address = Address {
+        given,
+        taken: local.port(),
+    };
+    writeln!(out, "listening {address}").map_err(|_| ProgramFault::Output)?;
+    out.flush().map_err(|_| ProgramFault::Output)?;
+    Ok(listener)
+}
+
+/// Accepts so many connections, and starts a thread for each: whether it did. Else it told why.
+fn accept_each<'s, Env, R: Wait + Clock + Sync, E: Write + Send>(
+    scope: &'s Scope<'s, Env>,
+    rt: &'s R,
+    alloc: Global,
+    server: &'s Server<AnyScene>,
+    listener: TcpListener,
+    connections: u32,
+    log: Log<'s, E>,
+) -> bool {
+    for conn in 0..connections {
+        let Some((stream, from)) = accept(rt, &listener) else {
+            log.fault(rt, &ProgramFault::Listen);
+            return false;
+        };
+        log.accepted(rt, conn, from);
+        let served = scope.spawn(move || connection::serve(rt, alloc, server, stream, conn, log));
+        if served.is_err() {
+            log.fault(rt, &ProgramFault::Memory);
+            return false;
+        }
+    }
+    true
+}
+
+/// Accepts connections and serves each in a thread of its own until all have ended, and publishes
+/// meanwhile if that is still to be done: whether no fault was told.
+fn serve_each<'s, R: Threads + Wait + Clock + Sync, E: Write + Send>(
+    rt: &'s R,
+    alloc: Global,
+    server: &'s Server<AnyScene>,
+    listener: TcpListener,
+    serving: Serving,
+    log: Log<'s, E>,
+) -> bool {
+    let Serving {
+        workers,
+        connections,
+        ready,
+        ..
+    } = serving;
+    thread::scope(thread::scope_env(), rt, move |scope| {
+        if ready {
+            return accept_each(scope, rt, alloc, server, listener, connections, log);
+        }
+        let publisher = scope.spawn(move || publish(rt, alloc, server, workers, log));
+        let Ok(publisher) = publisher else {
+            log.fault(rt, &ProgramFault::Memory);
+            return false;
+        };
+        let accepted = accept_each(scope, rt, alloc, server, listener, connections, log);
+        publisher.join(rt) && accepted
+    })
+}
+
+/// The command, but for the fault that ends it: that is given, and not told yet. Else whether no fault
+/// was told.
+fn serve<R, W: Write, E: Write + Send>(
+    rt: &R,
+    alloc: Global,
+    inputs: &Inputs,
+    serving: Serving,
+    out: &mut W,
+    log: Log<E>,
+) -> Result<bool, ProgramFault>
+where
+    R: Net<Listener = TcpListener, Stream = TcpStream> + Threads + Wait + Clock + Sync,
+{
+    let server = server_of(alloc, inputs)?;
+    if serving.ready && !publish(rt, alloc, &server, serving.workers, log) {
+        return Ok(false);
+    }
+    let listener = listen(rt, serving.listen, out)?;
+    let served = serve_each(rt, alloc, &server, listener, serving, log);
+    print_runs(rt, alloc, &server, out)?;
+    Ok(served)
+}
+
+/// The command `serve`: publishes all states, before it listens or meanwhile, prints the address that it
+/// listens on, serves so many connections, each in a thread of its own, and at the end prints a line for
+/// each run. Its status: 0, or 1 where a fault was told, each by a line on `err`. A fault of a connection
+/// is none of the command. Where accepting or publishing fails while there are connections, these are
+/// served to their end, and the runs are printed. Where the inputs ask for it, `err` also gets a line for
+/// each connection that comes and for each that ends. It may wait for clients for ever.
+pub fn serve_of<R, W: Write, E: Write + Send>(
+    rt: &R,
+    alloc: Global,
+    inputs: &Inputs,
+    serving: Serving,
+    out: &mut W,
+    err: &Mutex<E>,
+) -> u8
+where
+    R: Net<Listener = TcpListener, Stream = TcpStream> + Threads + Wait + Clock + Sync,
+    ensures { result ≤ 1 }
+{
+    let log = Log {
+        writer: err,
+        verbose: inputs.verbose,
+    };
+    match serve(rt, alloc, inputs, serving, out, log) {
+        Ok(true) => 0,
+        Ok(false) => 1,
+        Err(fault) => {
+            let _printed = out.flush();
+            log.fault(rt, &fault);
+            1
+        }
+    }
+}

@@ -1,0 +1,5 @@
+//! The command over loopback.
+mod client;
+mod fixture;
+mod loopback;
+mod refusals;

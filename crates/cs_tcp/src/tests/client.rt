@@ -1,0 +1,142 @@
+//! A client over loopback, whose messages are bytes.
+
+use super::fixture::comes;
+use std::alloc::Global;
+use std::io::{self, Read, Write};
+use std::net::{Ipv4Addr, Net, Shutdown, TcpStream};
+use std::sync::atomic::{AtomicBool, AtomicU64, Ordering};
+use std::thread;
+use std::time::Duration;
+
+const VERSION: &[u8] = b"\x13\0\0\0d\xff\xff\0 \0\0\x06\09P2000";
+
+/// Attaches of ann and of bob to `0/x`.
+const ATTACH_ANN: &[u8] = b"\x19\0\0\0h\x01\0\0\0\0\0\xff\xff\xff\xff\x03\0ann\x03\00/x";
+
+const ATTACH_BOB: &[u8] = b"\x19\0\0\0h\x01\0\0\0\0\0\xff\xff\xff\xff\x03\0bob\x03\00/x";
+
+/// A walk to `f`.
+const WALK: &[u8] = b"\x14\0\0\0n\x01\0\0\0\0\0\x01\0\0\0\x01\0\x01\0f";
+
+const OPEN_TO_READ: &[u8] = b"\x0c\0\0\0p\x01\0\x01\0\0\0\0";
+
+const OPEN_TO_WRITE: &[u8] = b"\x0c\0\0\0p\x01\0\x01\0\0\0\x01";
+
+const READ: &[u8] = b"\x17\0\0\0t\x01\0\x01\0\0\0\0\0\0\0\0\0\0\0\x40\0\0\0";
+
+/// A write of `HI` at the front.
+const WRITE: &[u8] = b"\x19\0\0\0v\x01\0\x01\0\0\0\0\0\0\0\0\0\0\0\x02\0\0\0HI";
+
+const CLUNK: &[u8] = b"\x0b\0\0\0x\x01\0\x01\0\0\0";
+
+/// How long a client waits for a reply.
+const PATIENCE_SECONDS: u64 = 30;
+
+/// How often a client asks for a state that isn't published yet.
+const ATTACHES: u32 = 100_000;
+
+/// A connection to the port, once it is there.
+fn connect<R: Net<Stream = TcpStream>>(rt: &R, port: &AtomicU64) -> Option<TcpStream> {
+    if !comes(|| port.load(Ordering::SeqCst) != 0) {
+        return None;
+    }
+    let port = u16::try_from(port.load(Ordering::SeqCst)).ok()?;
+    let stream = TcpStream::connect(rt, (Ipv4Addr::LOCALHOST, port)).ok()?;
+    stream
+        .set_read_timeout(Some(Duration::from_secs(PATIENCE_SECONDS)))
+        .ok()?;
+    Some(stream)
+}
+
+/// Sends a message, and reads its reply, from its type on.
+fn ask(alloc: Global, stream: &mut TcpStream, message: &[u8]) -> io::Result<Vec<u8>> {
+    stream.write_all(message)?;
+    let mut size = [0u8; 4];
+    stream.read_exact(&mut size)?;
+    let rest = (u32::from_le_bytes(size) as usize).clamp(4, 65_536) - 4;
+    let mut reply = Vec::new(alloc);
+    reply.resize(rest, 0u8)?;
+    stream.read_exact(reply.as_mut_slice())?;
+    Ok(reply)
+}
+
+/// The reply to a message, if it is the reply that is wanted.
+fn granted(alloc: Global, stream: &mut TcpStream, message: &[u8]) -> Option<Vec<u8>> {
+    let reply = ask(alloc, stream, message).ok()?;
+    let wanted = message.get(4)?.checked_add(1)?;
+    if *reply.first()? == wanted {
+        Some(reply)
+    } else {
+        None
+    }
+}
+
+/// Begins a session, attaches, and opens `f`.
+fn open(alloc: Global, stream: &mut TcpStream, attach: &[u8], open: &[u8]) -> Option<()> {
+    for message in [VERSION, attach, WALK, open] {
+        granted(alloc, stream, message)?;
+    }
+    Some(())
+}
+
+/// Ann writes into `f`, and says so: whether all was granted.
+pub fn ann_writes<R: Net<Stream = TcpStream>>(
+    rt: &R,
+    alloc: Global,
+    port: &AtomicU64,
+    written: &AtomicBool,
+) -> Option<()> {
+    let mut stream = connect(rt, port)?;
+    open(alloc, &mut stream, ATTACH_ANN, OPEN_TO_WRITE)?;
+    granted(alloc, &mut stream, WRITE)?;
+    written.store(true, Ordering::SeqCst);
+    granted(alloc, &mut stream, CLUNK)?;
+    Some(())
+}
+
+/// Bob opens `f`, and reads it once ann has written: the reply.
+pub fn bob_reads<R: Net<Stream = TcpStream>>(
+    rt: &R,
+    alloc: Global,
+    port: &AtomicU64,
+    written: &AtomicBool,
+) -> Option<Vec<u8>> {
+    let mut stream = connect(rt, port)?;
+    open(alloc, &mut stream, ATTACH_BOB, OPEN_TO_READ)?;
+    if !comes(|| written.load(Ordering::SeqCst)) {
+        return None;
+    }
+    let reply = granted(alloc, &mut stream, READ)?;
+    granted(alloc, &mut stream, CLUNK)?;
+    Some(reply)
+}
+
+/// Sends three bytes of a message and no more, and waits for the end.
+pub fn hang_up_early<R: Net<Stream = TcpStream>>(rt: &R, port: &AtomicU64) -> Option<()> {
+    let mut stream = connect(rt, port)?;
+    stream.write_all(&VERSION[..3]).ok()?;
+    stream.shutdown(Shutdown::Write).ok()?;
+    let mut none = [0u8; 1];
+    if stream.read(&mut none).ok()? == 0 {
+        Some(())
+    } else {
+        None
+    }
+}
+
+/// Attaches ann, as soon as the state is published.
+pub fn attached_at_last<R: Net<Stream = TcpStream>>(
+    rt: &R,
+    alloc: Global,
+    port: &AtomicU64,
+) -> Option<()> {
+    let mut stream = connect(rt, port)?;
+    granted(alloc, &mut stream, VERSION)?;
+    for _ in 0..ATTACHES {
+        if granted(alloc, &mut stream, ATTACH_ANN).is_some() {
+            return Some(());
+        }
+        thread::yield_now();
+    }
+    None
+}

@@ -1,0 +1,92 @@
+//! The command over a small tree, and what it told.
+
+use crate::{Serving, serve_of};
+use cs_serve::Inputs;
+use std::alloc::Global;
+use std::io::{self, Write};
+use std::net::{Net, TcpListener, TcpStream};
+use std::rt::Clock;
+use std::sync::atomic::{AtomicU64, Ordering};
+use std::sync::{Mutex, Wait};
+use std::thread;
+use std::thread::Threads;
+
+const USERS: &[u8] = b"1:ann::\n2:bob::\n3:cat::\n4:staff:ann:ann,bob\n";
+
+pub const TRACE: &[u8] =
+    b"{\"trace\":1,\"owner\":\"cat\",\"group\":\"staff\",\"mode\":\"775\"}\n{\"start\":\"file\",\"path\":\"/f\",\"owner\":\"ann\",\"group\":\"staff\",\"mode\":\"664\",\"bytes\":\"68656c6c6f\"}\n{\"op\":\"creat\",\"path\":\"/g\",\"owner\":\"ann\",\"group\":\"staff\",\"mode\":\"644\"}\n";
+
+/// How often a thread looks for what another is to do.
+const TURNS: u32 = 10_000_000;
+
+/// Whether it comes to hold.
+pub fn comes<F: Fn() -> bool>(holds: F) -> bool
+    requires { F.IsAlwaysCallable holds }
+{
+    for _ in 0..TURNS {
+        if holds() {
+            return true;
+        }
+        thread::yield_now();
+    }
+    false
+}
+
+/// Standard output, which tells the port once it is printed.
+#[derive(Drop)]
+struct Output<'a> {
+    text: Vec<u8>,
+    port: &'a AtomicU64,
+}
+
+/// The port at the end of the first line.
+fn port_of(text: &[u8]) -> Option<u64> {
+    let line = std::str::from_utf8(text).ok()?.lines().next()?;
+    let (_, port) = line.rsplit_once(':')?;
+    port.parse::<u64>().ok()
+}
+
+impl Write for Output<'_> {
+    fn write(&mut self, buf: &[u8]) -> io::Result<usize> {
+        self.text.extend_from_slice(buf)?;
+        Ok(buf.len())
+    }
+
+    fn flush(&mut self) -> io::Result<()> {
+        self.port.store(port_of(self.text.as_slice()).unwrap_or(0), Ordering::SeqCst);
+        Ok(())
+    }
+}
+
+/// What the command came to.
+#[derive(Drop)]
+pub struct Told {
+    pub status: u8,
+    pub out: Vec<u8>,
+    pub err: Vec<u8>,
+}
+
+/// The command on this trace; its port is told once it listens.
+pub fn served<R>(rt: &R, alloc: Global, trace: &[u8], serving: Serving, port: &AtomicU64) -> Told
+where
+    R: Net<Listener = TcpListener, Stream = TcpStream> + Threads + Wait + Clock + Sync,
+{
+    let inputs = Inputs {
+        users: USERS,
+        trace,
+        picks: &[],
+        holes: false,
+        verbose: true,
+    };
+    let mut out = Output {
+        text: Vec::new(alloc),
+        port,
+    };
+    let err = Mutex::new(Vec::new(alloc));
+    let status = serve_of(rt, alloc, &inputs, serving, &mut out, &err);
+    Told {
+        status,
+        out: out.text,
+        err: err.into_inner(),
+    }
+}

@@ -1,0 +1,66 @@
+//! Clients that are served.
+
+use super::client::{ann_writes, attached_at_last, bob_reads, hang_up_early};
+use super::fixture::{TRACE, served};
+use crate::Serving;
+use std::sync::atomic::{AtomicBool, AtomicU64};
+use std::test::Fail;
+use std::thread;
+
+const LOOPBACK: Serving = Serving {
+    listen: "127.0.0.1:0",
+    workers: 2,
+    connections: 2,
+    ready: true,
+};
+
+#[test]
+fn two_clients_share_a_run(rt: HostRuntime) -> Result<(), Fail> {
+    let alloc = rt.alloc();
+    let port = AtomicU64::new(0);
+    let written = AtomicBool::new(false);
+    let (told, (ann, bob)) = thread::join(
+        &rt,
+        || served(&rt, alloc, TRACE, LOOPBACK, &port),
+        || thread::join(
+            &rt,
+            || ann_writes(&rt, alloc, &port, &written),
+            || bob_reads(&rt, alloc, &port, &written),
+        ),
+    );
+    assert!(rt; ann.is_some());
+    let bob = bob.ok_or("bob")?;
+    assert_eq!(rt; bob.as_slice(), b"u\x01\0\x05\0\0\0HIllo".as_slice());
+    assert_eq!(rt; told.status, 0);
+    let out = std::str::from_utf8(told.out.as_slice())?;
+    assert!(rt; out.starts_with("listening 127.0.0.1:"));
+    assert!(rt; out.ends_with("\nrun 0/x entries 10\n"));
+    Ok(())
+}
+
+#[test]
+fn a_client_that_hangs_up_inside_a_message(rt: HostRuntime) -> Result<(), Fail> {
+    let alloc = rt.alloc();
+    let port = AtomicU64::new(0);
+    let meanwhile = Serving {
+        ready: false,
+        ..LOOPBACK
+    };
+    let (told, (early, attached)) = thread::join(
+        &rt,
+        || served(&rt, alloc, TRACE, meanwhile, &port),
+        || {
+            let early = hang_up_early(&rt, &port);
+            (early, attached_at_last(&rt, alloc, &port))
+        },
+    );
+    assert!(rt; early.is_some() && attached.is_some());
+    assert_eq!(rt; told.status, 0);
+    let out = std::str::from_utf8(told.out.as_slice())?;
+    assert!(rt; out.ends_with("\nrun 0/x entries 1\n"));
+    let err = std::str::from_utf8(told.err.as_slice())?;
+    assert!(rt; err.contains("published 2 states\n"));
+    assert!(rt; err.contains("0 ended: the stream ended inside a message\n"));
+    assert!(rt; err.contains("1 ended\n"));
+    Ok(())
+}

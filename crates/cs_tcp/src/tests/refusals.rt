@@ -1,0 +1,90 @@
+//! What is served to nobody.
+
+use super::fixture::{TRACE, served};
+use crate::Serving;
+use crate::accepting::accept;
+use std::alloc::Global;
+use std::io::{self, Error, ErrorKind};
+use std::net::{Ipv4Addr, Net, OpenListener, SocketAddr, TcpListener, TcpStream};
+use std::rt::Clock;
+use std::sync::Wait;
+use std::sync::atomic::{AtomicU64, Ordering};
+use std::test::Fail;
+use std::thread::Threads;
+
+/// Whether the command ends with status 1 and this on standard error, and prints nothing.
+fn is_refused<R>(rt: &R, alloc: Global, trace: &[u8], serving: Serving, text: &[u8]) -> bool
+where
+    R: Net<Listener = TcpListener, Stream = TcpStream> + Threads + Wait + Clock + Sync,
+{
+    let told = served(rt, alloc, trace, serving, &AtomicU64::new(0));
+    told.status == 1 && told.out.is_empty() && told.err.as_slice() == text
+}
+
+const NOWHERE: Serving = Serving {
+    listen: "nowhere",
+    workers: 1,
+    connections: 1,
+    ready: false,
+};
+
+#[test]
+fn an_address_that_is_none(rt: HostRuntime) -> Result<(), Fail> {
+    let text = b"crashfs: cannot listen\n";
+    assert!(rt; is_refused(&rt, rt.alloc(), TRACE, NOWHERE, text));
+    Ok(())
+}
+
+#[test]
+fn a_trace_at_fault_comes_before_the_address(rt: HostRuntime) -> Result<(), Fail> {
+    let text = b"crashfs: trace line 1: Syntax\n";
+    assert!(rt; is_refused(&rt, rt.alloc(), b"{}", NOWHERE, text));
+    Ok(())
+}
+
+#[test]
+fn no_workers_publish_nothing(rt: HostRuntime) -> Result<(), Fail> {
+    let idle = Serving {
+        workers: 0,
+        ready: true,
+        ..NOWHERE
+    };
+    let text = b"crashfs: publishing failed\n";
+    assert!(rt; is_refused(&rt, rt.alloc(), TRACE, idle, text));
+    Ok(())
+}
+
+/// A listener whose first accepts fail, and that counts them.
+#[derive(Drop)]
+struct Failing {
+    failures: u64,
+    accepts: AtomicU64,
+}
+
+impl OpenListener for Failing {
+    type Stream = ();
+
+    fn accept(&self) -> io::Result<((), SocketAddr)> {
+        if self.accepts.fetch_add(1, Ordering::SeqCst) < self.failures {
+            return Err(Error::from(ErrorKind::ConnectionAborted));
+        }
+        Ok(((), SocketAddr::from((Ipv4Addr::LOCALHOST, 1))))
+    }
+}
+
+/// Whether a connection is accepted after so many failures, and by how many accepts.
+fn accepted_after(rt: &impl Clock, failures: u64) -> (bool, u64) {
+    let listener = Failing {
+        failures,
+        accepts: AtomicU64::new(0),
+    };
+    let accepted = accept(rt, &listener).is_some();
+    (accepted, listener.accepts.load(Ordering::SeqCst))
+}
+
+#[test]
+fn accepts_that_fail_end_by_a_bound(rt: HostRuntime) -> Result<(), Fail> {
+    assert_eq!(rt; accepted_after(&rt, 99), (true, 100));
+    assert_eq!(rt; accepted_after(&rt, 100), (false, 100));
+    Ok(())
+}
