@@ -3,6 +3,7 @@ mod asking;
 mod exchange;
 mod files;
 mod fixture;
+mod limits;
 mod lists;
 mod program;
 mod sessions;
