@@ -1,7 +1,6 @@
 -- What a find answers, case by case.
-use Rattle.std.proofs.Common.{◌≡◌, ◌∙◌, ◌<◌, ◌≤◌, ℕ, zero, suc, Bool, true, false, not, cond, List, [], ◌∷◌, length, Option, None, Some, is_some, refl, sym, ap, subst, arith}
-use Rattle.std.specs.Prelude.{Result, Ok, Err, IfErr, IfOk, IfSome, if◌then◌else◌, map, nat_le, slice_get, slice_index_or, unwrap_or}
-use Rattle.std.specs.Option.{option_map_or}
+use Rattle.std.proofs.Common.{◌≡◌, ◌∙◌, ◌<◌, ◌≤◌, ℕ, zero, suc, true, false, List, [], ◌∷◌, length, Option, None, Some, is_some, refl, sym, ap, subst, arith}
+use Rattle.std.specs.Prelude.{Result, Ok, Err, IfErr, IfOk, map, slice_get, slice_index_or, unwrap_or}
 use Rattle.std.proofs.lemmas.Bool.Decides.{nat_tests}
 use Rattle.cs_names.specs.declared.limits.TheConstants.{RUNS}
 use Rattle.cs_plan.specs.Scenes.{IsPublished, Scene, state_at}
@@ -10,7 +9,7 @@ use Rattle.cs_users.specs.Rows.{Row}
 use Rattle.cs_registry.specs.declared.fault.FindFault.{FindFault}
 use Rattle.cs_registry.specs.declared.fault.FindFault.TheVariants.{Unpublished, Full, Memory}
 use Rattle.cs_registry.specs.Keys.{Key}
-use Rattle.cs_registry.specs.Registries.{AdmitsAll, IsKept, Registry, is_published}
+use Rattle.cs_registry.specs.Registries.{IsKept, Registry, is_published}
 use Rattle.cs_registry.specs.Runs.{Runs, has_no_room, place_of, room_ends, with_find, with_run}
 use Rattle.cs_registry.specs.Finds.{Finds, IsNew, found, found_again, made}
 

@@ -1,10 +1,9 @@
 -- What is stored for a registry, as it changes.
-use Rattle.std.proofs.Common.{◌≡◌, ◌∙◌, ℕ, zero, suc, ◌+◌, ◌-◌, ◌<◌, ◌≤◌, Bool, true, false, not, cond, List, [], ◌∷◌, length, Option, None, Some, is_some, refl, sym, ap, subst, arith, add-one, ◌⊎◌, inl, inr, get_or}
+use Rattle.std.proofs.Common.{◌≡◌, ◌∙◌, ℕ, zero, suc, ◌+◌, ◌-◌, ◌<◌, ◌≤◌, true, false, not, List, [], ◌∷◌, length, Option, None, Some, is_some, refl, sym, ap, subst, arith, add-one, ◌⊎◌, inl, inr, get_or}
 use Rattle.std.specs.Prelude.{count_by, map, filter, replicate, slice_get, slice_set, slice_index_or}
 use Rattle.std.proofs.lemmas.List.{length-replicate, length-set, map-set}
 use Rattle.std.proofs.lemmas.List.Sums.{length-filter}
 use Rattle.std.proofs.lemmas.Option.{slice_get_read, slice_get_within}
-use Rattle.cs_names.specs.declared.limits.TheConstants.{RUNS}
 use Rattle.cs_plan.specs.Scenes.{Scene, Published, IsPublished, state_at}
 use Rattle.cs_tree_model.specs.Tree.{Tree}
 use Rattle.cs_registry.specs.Runs.{Runs}

@@ -1,4 +1,5 @@
 pub mod Changing
+pub mod Digits
 pub mod Finding
 pub mod Keeping
 pub mod Telling

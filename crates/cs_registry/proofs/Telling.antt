@@ -1,6 +1,6 @@
 -- What a find that was granted leaves.
 use Rattle.std.proofs.Common.{◌≡◌, ◌≢◌, ◌∙◌, ◌+◌, ◌<◌, ℕ, zero, suc, Bool, true, false, not, cond, List, [], ◌∷◌, ◌++◌, length, Option, None, Some, refl, sym, ap, subst, arith, length-append}
-use Rattle.std.specs.Prelude.{Result, Ok, Err, IfOk, IfSome, IsSomeAnd, nat_lt, position, slice_get, slice_set}
+use Rattle.std.specs.Prelude.{Result, IfOk, IfSome, IsSomeAnd, nat_lt, position, slice_get, slice_set}
 use Rattle.std.specs.List.{AllByRecursion, position_or_len}
 use Rattle.std.specs.Map.{keys_of}
 use Rattle.std.proofs.lemmas.Bool.Decides.{nat_tests}
@@ -9,11 +9,10 @@ use Rattle.indexmap.proofs.MapLemmas.{Missing-position}
 use Rattle.cs_tree_model.specs.Tree.{Tree}
 use Rattle.cs_users.specs.Rows.{Row}
 use Rattle.cs_registry.specs.declared.fault.FindFault.{FindFault}
-use Rattle.cs_registry.specs.declared.fault.FindFault.TheVariants.{Unpublished, Full, Memory}
 use Rattle.cs_registry.specs.declared.found.Found.{Found}
 use Rattle.cs_registry.specs.Keys.{Key, same_key, same_key-laws}
 use Rattle.cs_registry.specs.Registries.{Registry, is_published}
-use Rattle.cs_registry.specs.Runs.{Runs, has_no_room, held_at, place_of, room_ends, with_find, with_run}
+use Rattle.cs_registry.specs.Runs.{has_no_room, place_of, room_ends, with_run}
 use Rattle.cs_registry.specs.Finds.{Finds, IsFound, IsNew, found}
 use Rattle.cs_registry.proofs.Finding.{when_found, when_full, when_new, when_unpublished}
 

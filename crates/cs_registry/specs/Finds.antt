@@ -1,7 +1,7 @@
 -- What it is to find the run of a key.
 use Rattle.std.specs.Prelude.{◌≡◌, ◌≢◌, ℕ, not, List, length, if◌then◌else◌, slice_get, IfSome, IsSomeAnd, Option, None, Some, Result, Ok, Err}
 use Rattle.std.specs.Option.{option_map_or}
-use Rattle.cs_plan.specs.Scenes.{Scene, state_at}
+use Rattle.cs_plan.specs.Scenes.{state_at}
 use Rattle.cs_tree_model.specs.Tree.{Tree}
 use Rattle.cs_users.specs.Rows.{Row}
 use Rattle.cs_registry.specs.Keys.{Key}

@@ -3,15 +3,22 @@ ghost use Rattle.std.specs.Prelude.{◌≡◌, ◌≤◌, ◌++◌, MatchOption,
 ghost use Rattle.std.specs.Cmp.{partial_equiv_from_equiv};
 ghost use Rattle.std.specs.Cmp.Rules.{hashing};
 ghost use Rattle.std.specs.Hash as fed;
+ghost use Rattle.std.specs.List.{list_all};
 ghost use Rattle.std.proofs.Common.{rules};
 ghost use Rattle.cs_names.specs.Legal.{is_run_name};
+ghost use Rattle.cs_permit.specs.TreeNames.{is_digit};
 ghost use Rattle.cs_registry.specs.Keys.{same_key, same_key-laws};
+ghost use Rattle.cs_registry.specs.Naming.{are_few_digits, key_in, number_in};
 
 use arrayvec::ArrayString;
 use cs_names::RunName;
 use cs_names::limits::RUN_NAME_BYTES;
+use cs_permit::TreeName;
 use std::hash::{Hash, Hasher};
 use std::marker::Model;
+
+/// The most digits of a state's number.
+const NUMBER_DIGITS: usize = 5;
 
 /// What names a run: the number of its state, and its own name. It takes no memory, so a run can be
 /// looked for without any.
@@ -54,6 +61,27 @@ impl RunKey {
                 name: short_name(name),
             }),
             Err(_) => unreachable!(),
+        }
+    }
+
+    /// The key of the run that a tree's name names; None where its parts are no number of at most five
+    /// digits, or no run's name. It takes no memory.
+    pub fn named(name: &TreeName) -> Option<RunKey>
+        ensures { result ≡ key_in name.now.state.now name.now.run.now }
+    {
+        if !are_few_digits(name.state) {
+            return None;
+        }
+        RunKey::read(number_in(name.state), name.run)
+    }
+
+    /// The same key. It takes no memory.
+    pub fn again(&self) -> RunKey
+        ensures { result ≡ self.now }
+    {
+        RunKey {
+            number: self.number,
+            name: short_name(self.name.as_str()),
         }
     }
 
@@ -106,4 +134,28 @@ fn short_name(name: &str) -> ArrayString<RUN_NAME_BYTES>
         Ok(name) => name,
         Err(_) => unreachable!(),
     }
+}
+
+fn has_digits_alone(bytes: &[u8]) -> bool
+    ensures { result ≡ list_all is_digit bytes.now }
+{
+    bytes.iter().all(|c| c.is_ascii_digit())
+}
+
+fn are_few_digits(bytes: &[u8]) -> bool
+    ensures { result ≡ are_few_digits bytes.now }
+{
+    bytes.len() <= NUMBER_DIGITS && has_digits_alone(bytes)
+}
+
+/// The number that a few decimal digits spell.
+fn number_in(digits: &[u8]) -> u32
+    requires { are_few_digits digits.now ≡ true }
+    ensures { result ≡ number_in digits.now }
+{
+    let mut number = 0;
+    for digit in digits {
+        number = 10 * number + (*digit - b'0') as u32;
+    }
+    number
 }

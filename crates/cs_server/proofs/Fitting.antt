@@ -1,5 +1,5 @@
 -- What a shared run tells fits the call.
-use Rattle.std.proofs.Common.{◌≡◌, ℕ, ◌&&◌, not, Bool, true, false, inl, inr, is_some, refl, sym, subst, arith}
+use Rattle.std.proofs.Common.{ℕ, ◌&&◌, not, Bool, true, false, inl, inr, is_some, sym, subst, arith}
 use Rattle.std.specs.Prelude.{if◌then◌else◌}
 use Rattle.cs_names.specs.declared.rule_id.RuleId.{RuleId}
 use Rattle.cs_names.specs.declared.rule_id.RuleId.TheVariants.{L1, S5}

@@ -6,27 +6,47 @@ use Rattle.cs_permit.specs.declared.call.AttachCall.{AttachCall}
 use Rattle.cs_permit.specs.declared.call.Call.{Call}
 use Rattle.cs_permit.specs.declared.call.Call.TheVariants.{Attach}
 use Rattle.cs_registry.specs.Keys.{Key}
+use Rattle.cs_registry.specs.Naming.{key_in}
+use Rattle.cs_registry.specs.declared.fault.FindFault.{FindFault as Unfound}
+use Rattle.cs_registry.specs.declared.fault.FindFault.TheVariants.{Unpublished, Full, Memory}
 use Rattle.cs_run.specs.declared.answer.Answer.{Answer}
 use Rattle.cs_run.specs.declared.answer.Answer.TheVariants.{Denied}
 use Rattle.cs_session.specs.declared.port.FindFault.{FindFault}
 use Rattle.cs_session.specs.declared.port.PassFault.{PassFault}
+use Rattle.cs_session.specs.declared.port.FindFault.TheVariants as f
 use Rattle.cs_session.specs.declared.port.PassFault.TheVariants.{Foreign}
+use Rattle.cs_session.specs.declared.port.PassFault.TheVariants as p
+use Rattle.cs_shared.specs.declared.shared_run.AttachFault.{AttachFault}
+use Rattle.cs_shared.specs.declared.shared_run.AttachFault.TheVariants as a
 use Rattle.cs_session.specs.Questions.{Question, Find, Enter, Ask, Told as Answered, Found, Entered, Got}
 use Rattle.cs_shared.specs.Serving.{Serves}
-use Rattle.cs_shared.specs.Told.{Told}
-use Rattle.cs_server.specs.Kept.{Kept, given_by, key_in, put_pass, with_pass, with_run}
+use Rattle.cs_shared.specs.Told.{IsStep, Told}
+use Rattle.cs_server.specs.Kept.{Kept, given_by, put_pass, with_pass, with_run}
 
--- the run of that key is found: it comes last. Else nothing changes
-abbrev pub Finds : Kept → Key → Result ℕ FindFault → Kept → Type 0
-Finds old key (Ok place) new = (place ≡ length old.runs) × (new ≡ with_run old key)
-Finds old key (Err fault) new = new ≡ old
+-- what a connection is told of a find that the registry refused
+abbrev pub find_fault : Unfound → FindFault
+find_fault Unpublished = f.Unpublished
+find_fault Full = f.Full
+find_fault Memory = f.Memory
+
+-- and of an attach that a run refused
+abbrev pub pass_fault : AttachFault → PassFault
+pass_fault a.Foreign = Foreign
+pass_fault a.Room = p.Room
+pass_fault a.Memory = p.Memory
+
+-- the run of that key is found: it comes last. Else nothing changes; a name that names no run is Unpublished
+abbrev pub Finds : Kept → Option Key → Result ℕ FindFault → Kept → Type 0
+Finds old None answer new = (answer ≡ Err f.Unpublished) × (new ≡ old)
+Finds old (Some key) (Ok place) new = (place ≡ length old.runs) × (new ≡ with_run old key)
+Finds old (Some key) (Err fault) new = new ≡ old
 
 module _ (serves : Serves) where
   -- A user is attached under a new pass: the run of the key told the answer, and the pass comes last.
   pub record IsAttached (old : Kept) (now run : ℕ) (call : AttachCall) (key : Key) (place : ℕ) (answer : Answer) (new : Kept) : Type 0 where
     pub pass : PassOf
     pub place_is : place ≡ length old.passes
-    pub told : Told serves key.number (fresh_pass pass.number) now (Attach call) answer pass
+    pub told : IsStep serves key.number (fresh_pass pass.number) now (Attach call) answer pass
     pub kept : new ≡ with_pass old run pass
 
   -- by the key of the run at the place, if one is there: else it is foreign. Without a pass nothing changes

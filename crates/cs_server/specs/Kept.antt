@@ -1,7 +1,6 @@
 -- What a connection keeps over runs that threads share.
-use Rattle.std.specs.Prelude.{◌≡◌, ℕ, ◌<◌, List, [], ◌∷◌, ◌++◌, All, length, slice_get, slice_set, Option, None, Some}
+use Rattle.std.specs.Prelude.{ℕ, ◌<◌, List, [], ◌∷◌, ◌++◌, All, length, slice_get, slice_set, Option, None}
 use Rattle.std.specs.Option.{option_map_or}
-use Rattle.std.specs.Str.Parse.{digits_value, without_leading_plus}
 use Rattle.cs_journal.specs.Runs.{PassOf}
 use Rattle.cs_registry.specs.Keys.{Key}
 use Rattle.cs_server.specs.declared.kept.GivenPass.{GivenPass}
@@ -37,11 +36,3 @@ put_pass kept place run pass = record { runs = kept.runs; passes = slice_set kep
 -- the key of the run that gave the pass at a place
 abbrev pub key_at : Kept → ℕ → Option Key
 key_at kept place = option_map_or (λ given. slice_get kept.runs given.run) (slice_get kept.passes place) None
-
--- the number that decimal digits spell; a plus may stand before them
-abbrev pub number_in : List ℕ → ℕ
-number_in digits = digits_value 10 (without_leading_plus digits)
-
--- the key of the run that the parts of a tree's name name
-abbrev pub key_in : List ℕ → List ℕ → Key
-key_in state name = record { number = number_in state; name = name }

@@ -3,6 +3,7 @@ ghost use Rattle.std.specs.Prelude.{◌≡◌, ◌≤◌, Err, Ok};
 ghost use Rattle.cs_names.specs.declared.limits.TheConstants.{CONNECTION_READS};
 ghost use Rattle.cs_server.specs.Served.{HasEnded, Serving, WasRefused};
 ghost use Rattle.cs_session.specs.Streams.{BlamesReads, BlamesWrites, up};
+ghost use Rattle.cs_wire.specs.declared.framer.FrameFault.TheVariants as frame;
 
 use crate::kept::Kept;
 use crate::port::SharedPort;
@@ -72,6 +73,8 @@ pub fn serve_connection<S: Served, R: Wait, T: Stream, C: Clock>(
     ensures read_fault { result.result ≡ Err ServeFault.ReadFault → BlamesReads (T.counts stream.old) (T.counts stream.new) }
     ensures write_fault { result.result ≡ Err ServeFault.WriteFault → BlamesWrites (T.counts stream.old) (T.counts stream.new) }
     ensures ended { result.result ≡ Ok tt → (T.counts stream.new).ends ≡ up 1 (T.counts stream.old).ends }
+    ensures cut { result.result ≡ Err (ServeFault.FrameFault frame.Cut) → (T.counts stream.new).ends ≡ up 1 (T.counts stream.old).ends }
+    ensures no_end { result.result ≡ Err ServeFault.ReadFault → (T.counts stream.new).ends ≡ (T.counts stream.old).ends }
     ensures bounded { (T.counts stream.new).reads ≤ up CONNECTION_READS (T.counts stream.old).reads }
     ensures memory { result.result ≡ Err ServeFault.Memory → T.counts stream.new ≡ T.counts stream.old }
 {

@@ -1,13 +1,13 @@
 //! What a connection keeps: the runs that it found, and the passes that it was given.
 ghost use Rattle.std.specs.Prelude.{◌≡◌, ◌<◌, length, slice_get, Some};
 ghost use Rattle.cs_run.specs.Laws.{FitsCall};
-ghost use Rattle.cs_server.specs.Asking.{Attaches, Calls, Finds};
-ghost use Rattle.cs_server.specs.Kept.{key_at, key_in, nothing};
+ghost use Rattle.cs_server.specs.Asking.{Attaches, Calls, Finds, find_fault, pass_fault};
+ghost use Rattle.cs_server.specs.Kept.{key_at, nothing};
+ghost use Rattle.cs_registry.specs.Naming.{key_in};
 
-use crate::key::key_of;
 use cs_journal::Pass;
+use cs_names::RuleId;
 use cs_names::limits::{RUN_ATTACHES, RUNS};
-use cs_names::{RuleId, RunName};
 use cs_permit::{Call, TreeName};
 use cs_registry::RunKey;
 use cs_run::Answer;
@@ -63,7 +63,9 @@ impl<S: Served> Model for Kept<S> {
     ghost invariant = { λ kept. model.AreInside kept.runs.items kept.passes.items };
 }
 
-fn find_fault(fault: cs_registry::FindFault) -> FindFault {
+fn find_fault(fault: cs_registry::FindFault) -> FindFault
+    ensures { result ≡ find_fault fault }
+{
     match fault {
         cs_registry::FindFault::Unpublished => FindFault::Unpublished,
         cs_registry::FindFault::Full => FindFault::Full,
@@ -71,7 +73,9 @@ fn find_fault(fault: cs_registry::FindFault) -> FindFault {
     }
 }
 
-fn pass_fault(fault: AttachFault) -> PassFault {
+fn pass_fault(fault: AttachFault) -> PassFault
+    ensures { result ≡ pass_fault fault }
+{
     match fault {
         AttachFault::Foreign => PassFault::Foreign,
         AttachFault::Room => PassFault::Room,
@@ -114,8 +118,8 @@ impl<S: Served> Kept<S> {
         &self.runs[run as usize].key
     }
 
-    /// Finds the run of that name, and keeps it: its place. Its room is made before it is found, since
-    /// a find is counted.
+    /// Finds the run of that name, and keeps it: its place. A find that the registry grants and that isn't
+    /// kept for want of memory stays counted.
     pub(crate) fn find<R: Wait>(
         &mut self,
         rt: &R,
@@ -125,25 +129,21 @@ impl<S: Served> Kept<S> {
     ) -> Result<u32, FindFault>
         ensures { Finds self.old (key_in name.now.state.now name.now.run.now) result self.new }
     {
-        let Some(key) = key_of(name) else {
+        let Some(key) = RunKey::named(name) else {
             return Err(FindFault::Unpublished);
         };
+        let run = match registry.find_key(rt, alloc, key.again()) {
+            Ok(run) => run,
+            Err(fault) => return Err(find_fault(fault)),
+        };
+        // all runs together are never found so often
         if self.runs.len() >= GRANTS {
             return Err(FindFault::Full);
         }
-        if self.runs.reserve(1).is_err() {
-            return Err(FindFault::Memory);
-        }
-        let Ok(run_name) = RunName::read(alloc, name.run) else {
-            return Err(FindFault::Memory);
-        };
-        match registry.find(rt, alloc, key.number(), &run_name) {
-            Ok(run) => {
-                let place = self.runs.len() as u32;
-                self.runs.push_reserved(FoundRun { key, run });
-                Ok(place)
-            }
-            Err(fault) => Err(find_fault(fault)),
+        let place = self.runs.len() as u32;
+        match self.runs.push(FoundRun { key, run }) {
+            Ok(()) => Ok(place),
+            Err(_) => Err(FindFault::Memory),
         }
     }
 

@@ -3,7 +3,6 @@
 
 mod connection;
 mod kept;
-mod key;
 mod port;
 mod server;
 mod streams;

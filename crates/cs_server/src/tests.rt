@@ -295,13 +295,34 @@ fn stats(alloc: Global, port: &mut impl Port, run: u32, pass: u32) -> Option<boo
     }
 }
 
-/// The place of the run of state 0 that is found.
-fn found(alloc: Global, port: &mut impl Port, run: &str) -> Result<u32, FindFault> {
+/// The place of the run of a state that is found.
+fn found_of(alloc: Global, port: &mut impl Port, state: &str, run: &str) -> Result<u32, FindFault> {
     let name = TreeName {
-        state: b"0".as_slice(),
+        state: state.as_bytes(),
         run: run.as_bytes(),
     };
     port.find(alloc, &name)
+}
+
+/// The place of the run of state 0 that is found.
+fn found(alloc: Global, port: &mut impl Port, run: &str) -> Result<u32, FindFault> {
+    found_of(alloc, port, "0", run)
+}
+
+#[test]
+fn a_port_tells_why_a_run_is_not_found(rt: HostRuntime) -> Result<(), Fail> {
+    let alloc = rt.alloc();
+    let server = server_of(&rt, alloc).ok_or("the server")?;
+    let mut port = SharedPort::new(&rt, alloc, server.registry());
+    let unpublished = Err(FindFault::Unpublished);
+    assert_eq!(rt; found_of(alloc, &mut port, "1", "x"), unpublished);
+    for place in 0..64 {
+        assert_eq!(rt; found(alloc, &mut port, "x"), Ok(place));
+    }
+    assert_eq!(rt; found(alloc, &mut port, "x"), Err(FindFault::Full));
+    assert_eq!(rt; found_of(alloc, &mut port, "1", "x"), unpublished);
+    assert_eq!(rt; found(alloc, &mut port, "y"), Ok(64));
+    Ok(())
 }
 
 #[test]

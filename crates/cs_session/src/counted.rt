@@ -1,24 +1,21 @@
 //! Streams over readers and writers, with their calls counted.
 ghost use Rattle.std.specs.Prelude.{◌≡◌, None};
 ghost use Rattle.cs_session.specs.Overs.{inner_of, counts_of, reader_of, writer_of, ends_counts};
-ghost use Rattle.cs_session.specs.Transfers.{IsTransfer};
+ghost use Rattle.cs_session.specs.Transfers.{transfer_of};
 
 use crate::stream::{Counts, Stream, Transfer};
 use std::io::{self, ErrorKind, Read, Write};
 
 /// What a reader or a writer answered.
 fn transfer(answer: io::Result<usize>) -> Transfer
-    ensures { IsTransfer answer result }
+    ensures { result ≡ transfer_of answer }
 {
     match answer {
         Ok(count) => Transfer::Bytes(count),
-        Err(error) => {
-            if error.kind() == ErrorKind::Interrupted {
-                Transfer::Interrupted
-            } else {
-                Transfer::Failed
-            }
-        }
+        Err(error) => match error.kind() {
+            ErrorKind::Interrupted => Transfer::Interrupted,
+            _ => Transfer::Failed,
+        },
     }
 }
 

@@ -1,10 +1,9 @@
 -- The states of a scene may be published in a server that has them.
-use Rattle.std.proofs.Common.{◌≡◌, ◌∙◌, Some, ap, arith, sym}
+use Rattle.std.proofs.Common.{◌≡◌, ◌∙◌, ap, arith, sym}
 use Rattle.cs_journal.specs.Bounds.{CanGrow}
 use Rattle.cs_plan.specs.Scenes.{IsPublished, Published, Scene, state_at}
 use Rattle.cs_registry.specs.Registries.{AdmitsAll}
-use Rattle.cs_tree_model.specs.Tree.{Tree}
-use Rattle.cs_shared.specs.Serving.{Serves, ServesAll}
+use Rattle.cs_shared.specs.Serving.{IsPlanned, Serves, ServesAll}
 
 -- each version, and the next number, can grow
 can_grow : (state : Published) → IsPublished state → CanGrow state.tree
@@ -13,5 +12,5 @@ can_grow state is = record {
   next = omega (arith, is.unchanged.few);
 }
 
-pub admits_all : (serves : Serves) (scene : Scene) → ServesAll serves scene → AdmitsAll (λ number tree. CanGrow tree × serves number tree) scene
-admits_all serves scene all state is own = (can_grow state is, all state.number state.tree (ap (λ (s : Scene). state_at s state.number) (sym own) ∙ is.state))
+pub admits_all : (serves : Serves) (scene : Scene) → ServesAll serves scene → IsPlanned scene → AdmitsAll (λ number tree. CanGrow tree × serves number tree) scene
+admits_all serves scene all planned state is own = (can_grow state is, all planned state.number state.tree (ap (λ (s : Scene). state_at s state.number) (sym own) ∙ is.state))

@@ -1,5 +1,5 @@
 -- Each shared run carries the number of its key.
-use Rattle.std.proofs.Common.{◌≡◌, ◌≢◌, ◌∙◌, ◌+◌, ◌++◌, ℕ, zero, suc, add-one, take, Bool, true, false, List, [], ◌∷◌, Option, None, Some, get_or, refl, sym, ap, subst, arith}
+use Rattle.std.proofs.Common.{◌≡◌, ◌≢◌, ◌∙◌, ◌+◌, ◌++◌, ℕ, zero, suc, add-one, take, Bool, true, false, [], ◌∷◌, Option, None, Some, get_or, refl, sym, ap, subst, arith}
 use Rattle.std.specs.Prelude.{IsSomeAnd, Result, Ok, Err, nat_eq, slice_get}
 use Rattle.std.specs.Map.{keys_of}
 use Rattle.std.specs.Option.{option_map}

@@ -1,5 +1,5 @@
 -- What the registry's lock keeps, and what is found under it.
-use Rattle.std.specs.Prelude.{◌≡◌, ℕ, ◌⊎◌, IfOk, slice_get, List, Option, Some, Result, Ok, Err}
+use Rattle.std.specs.Prelude.{◌≡◌, ℕ, slice_get, List, Some, Result, Ok, Err}
 use Rattle.cs_registry.specs.Finds.{Finds}
 use Rattle.cs_registry.specs.Keys.{Key}
 use Rattle.cs_registry.specs.Registries.{Registry}
@@ -18,10 +18,11 @@ AreNumbered runs = (place : ℕ) (key : Key) (found : Found ℕ) → slice_get r
 abbrev pub is_fresh : ℕ → Tree → List Row → ℕ → Type 0
 is_fresh number tree users shared = shared ≡ number
 
--- the run that is found is the one at the place, if one more handle of it can be made
+-- the run that is found is the one at the place; want of memory else only where no handle more of it can be made
 abbrev pub IsHandle : Registry ℕ → Result ℕ FindFault → Result ℕ FindFault → Type 0
 IsHandle new (Err fault) answer = answer ≡ Err fault
-IsHandle new (Ok place) answer = (answer ≡ Err Memory) ⊎ IfOk answer (λ shared. held_at new.runs place ≡ Some shared)
+IsHandle new (Ok place) (Ok shared) = held_at new.runs place ≡ Some shared
+IsHandle new (Ok place) (Err fault) = fault ≡ Memory
 
 -- what is found is the run of the key
 pub record FindsShared (old : Registry ℕ) (key : Key) (answer : Result ℕ FindFault) (new : Registry ℕ) : Type 0 where

@@ -8,7 +8,7 @@ use Rattle.cs_run.specs.declared.answer.Answer.{Answer}
 use Rattle.cs_run.specs.declared.answer.Answer.TheVariants.{Denied}
 use Rattle.cs_journal.specs.Marks.{StepMark}
 use Rattle.cs_journal.specs.Runs.{Fits, PassOf, RunOf, fresh_pass, run_code}
-use Rattle.cs_journal.specs.Steps.{Stepped, step}
+use Rattle.cs_journal.specs.Steps.{step}
 use Rattle.cs_shared.specs.declared.shared_run.AttachFault.{AttachFault}
 use Rattle.cs_shared.specs.declared.shared_run.AttachFault.TheVariants.{Foreign, Room, Memory}
 

@@ -1,5 +1,5 @@
 -- What it is to publish states of the registry's own scene, one after the other.
-use Rattle.std.specs.Prelude.{◌≡◌, ℕ, ◌+◌, ◌⊎◌, List, Ok, Err}
+use Rattle.std.specs.Prelude.{◌≡◌, ℕ, ◌+◌, ◌++◌, ◌⊎◌, List, Ok, Err}
 use Rattle.std.specs.List.{FoldsTo}
 use Rattle.cs_plan.specs.Scenes.{Published}
 use Rattle.cs_registry.specs.Publishing.{Publishes}
@@ -16,3 +16,11 @@ IsCounted old state new = (one : ℕ) × IsThere old.1 state one new.1 × (new.0
 -- each of them in turn, and so many weren't published
 abbrev pub PublishesEach : Registry ℕ → List Published → ℕ → Registry ℕ → Type 0
 PublishesEach old states count new = FoldsTo IsCounted (0, old) states (count, new)
+
+-- a front of them in turn
+pub record PublishesFront (old : Registry ℕ) (states : List Published) (new : Registry ℕ) : Type 0 where
+  pub front : List Published
+  pub rest : List Published
+  pub count : ℕ
+  pub whole : front ++ rest ≡ states
+  pub published : PublishesEach old front count new

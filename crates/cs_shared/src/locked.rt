@@ -5,7 +5,7 @@ ghost use Rattle.cs_journal.specs.Journals.{IsLegal};
 ghost use Rattle.cs_journal.specs.Runs.{first_state, fresh_pass};
 ghost use Rattle.cs_permit.specs.declared.call.Call.TheVariants as called;
 ghost use Rattle.cs_shared.specs.Locks.{Attaches, Calls};
-ghost use Rattle.cs_shared.specs.Told.{Told};
+ghost use Rattle.cs_shared.specs.Told.{IsStep, Told};
 
 use crate::served::Served;
 use crate::shared_run::AttachFault;
@@ -79,7 +79,7 @@ impl<S: Served> Locked<S> {
         user: String,
     ) -> Result<(Pass, Answer), AttachFault>
         ensures attaches { Attaches self.old number now (called.Attach (record { user = user })) result self.new }
-        ensures told { IfOk result (λ x. Told S.serves number (fresh_pass x.0.number) now (called.Attach (record { user = user })) x.1 x.0) }
+        ensures told { IfOk result (λ x. IsStep S.serves number (fresh_pass x.0.number) now (called.Attach (record { user = user })) x.1 x.0) }
     {
         if self.number != number {
             return Err(AttachFault::Foreign);

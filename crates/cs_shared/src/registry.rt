@@ -1,5 +1,5 @@
 //! What the registry's lock keeps.
-ghost use Rattle.std.specs.Prelude.{◌≡◌, ◌≢◌, ◌≤◌, Err, IfOk, length};
+ghost use Rattle.std.specs.Prelude.{◌≡◌, ◌≢◌, ◌≤◌, Err, IfOk, OnErr, length};
 ghost use Rattle.std.specs.Arc.{arc_value};
 ghost use Rattle.std.specs.List.{All};
 ghost use Rattle.std.specs.List.Sorted.{IsPermutation, IsSorted};
@@ -8,15 +8,14 @@ ghost use Rattle.cs_registry.specs.Publishing.{Publishes};
 ghost use Rattle.cs_registry.specs.Registries.{empty, missing_of};
 ghost use Rattle.cs_shared.specs.Finding.{AreNumbered, FindsShared};
 ghost use Rattle.cs_shared.specs.Naming.{key_cmp};
-ghost use Rattle.cs_shared.specs.Publishing.{IsThere, PublishesEach};
+ghost use Rattle.cs_shared.specs.Publishing.{IsThere, PublishesEach, PublishesFront};
 ghost use Rattle.cs_shared.specs.Serving.{ServesAll};
 
 use crate::named::NamedRun;
 use crate::served::Served;
 use crate::shared_run::SharedRun;
-use cs_names::RunName;
 use cs_plan::{Published, Scene};
-use cs_registry::{FindFault, PublishFault, States};
+use cs_registry::{FindFault, PublishFault, RunKey, States};
 use cs_users::Users;
 use std::alloc::{AllocError, Global};
 use std::marker::Model;
@@ -51,6 +50,8 @@ impl<S: Served> Registry<S> {
         requires { ServesAll S.serves (arc_value scene) }
         ensures { IfOk result (λ registry. registry ≡ empty (arc_value scene) (arc_value users)) }
     {
+        // each state of a scene is one that a crash may leave
+        let _planned = scene.plan();
         Ok(Registry {
             states: States::new(alloc, scene, users)?,
         })
@@ -71,7 +72,8 @@ impl<S: Served> Registry<S> {
     }
 
     /// Publishes states of one scene, and looks once whether it has the content of the registry's own:
-    /// how many weren't published. A state that stands already is passed over.
+    /// how many weren't published. A state that stands already is passed over. After a fault a front of
+    /// them is published.
     pub(crate) fn publish_each(
         &mut self,
         alloc: Global,
@@ -81,6 +83,7 @@ impl<S: Served> Registry<S> {
         requires own { All (λ state. state.scene ≡ scene.now) states.items }
         ensures each { IfOk result (λ count. PublishesEach self.old states.items count self.new) }
         ensures few { IfOk result (λ count. count ≤ length states.items) }
+        ensures front { OnErr result (PublishesFront self.old states.items self.new) }
         ensures stranger { scene.now ≢ self.old.scene → (result ≡ Err PublishFault.Stranger) × (self.new ≡ self.old) }
     {
         if !scene.has_content_of(self.states.scene()) {
@@ -89,17 +92,12 @@ impl<S: Served> Registry<S> {
         publish_own(alloc, &mut self.states, states)
     }
 
-    /// Finds the run of that name of the state of that number.
-    pub(crate) fn find(
-        &mut self,
-        alloc: Global,
-        number: u32,
-        name: &RunName,
-    ) -> Result<SharedRun<S>, FindFault>
-        ensures finds { FindsShared self.old (record { number = number; name = name.now }) result self.new }
-        ensures number { IfOk result (λ shared. shared ≡ number) }
+    /// Finds the run of a key.
+    pub(crate) fn find_key(&mut self, alloc: Global, key: RunKey) -> Result<SharedRun<S>, FindFault>
+        ensures finds { FindsShared self.old key result self.new }
+        ensures number { IfOk result (λ shared. shared ≡ key.number) }
     {
-        let place = self.states.find(alloc, number, name)?;
+        let place = self.states.find_key(alloc, key)?;
         match self.states.at(place).again() {
             Ok(shared) => Ok(shared),
             Err(_) => Err(FindFault::Memory),
@@ -126,6 +124,7 @@ fn publish_one<S: Served>(
     requires own { state.scene ≡ registry.old.scene }
     ensures there { IfOk result (λ one. IsThere registry.old state one registry.new) }
     ensures few { IfOk result (λ one. one ≤ 1) }
+    ensures refused { OnErr result (registry.new ≡ registry.old) }
     ensures scene { registry.new.scene ≡ registry.old.scene }
     ensures runs { registry.new.runs ≡ registry.old.runs }
 {
@@ -145,6 +144,7 @@ fn publish_own<S: Served>(
     requires own { All (λ state. state.scene ≡ registry.old.scene) states.items }
     ensures each { IfOk result (λ count. PublishesEach registry.old states.items count registry.new) }
     ensures few { IfOk result (λ count. count ≤ length states.items) }
+    ensures front { OnErr result (PublishesFront registry.old states.items registry.new) }
     ensures runs { registry.new.runs ≡ registry.old.runs }
 {
     let mut count = 0;

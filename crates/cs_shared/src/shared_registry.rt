@@ -12,7 +12,7 @@ use crate::served::Served;
 use crate::shared_run::SharedRun;
 use cs_names::RunName;
 use cs_plan::{Published, Scene};
-use cs_registry::{FindFault, PublishFault};
+use cs_registry::{FindFault, PublishFault, RunKey};
 use cs_users::Users;
 use std::alloc::{AllocError, Global};
 use std::marker::Model;
@@ -95,7 +95,7 @@ impl<S: Served> SharedRegistry<S> {
 
     /// Finds the run of that name of the state of that number, and counts the find: the run is made at
     /// the first. Unpublished (A4), Full (A5) and Memory are as `States::find` has them; Memory also
-    /// where the run has as many handles as can be.
+    /// where the run has as many handles as can be, and then the find stays counted.
     pub fn find(
         &self,
         rt: &impl Wait,
@@ -105,7 +105,19 @@ impl<S: Served> SharedRegistry<S> {
     ) -> Result<SharedRun<S>, FindFault>
         ensures { IfOk result (λ shared. shared ≡ number) }
     {
-        self.inside.lock(rt).find(alloc, number, name)
+        self.find_key(rt, alloc, RunKey::new(number, name))
+    }
+
+    /// The same for the key of a run.
+    pub fn find_key(
+        &self,
+        rt: &impl Wait,
+        alloc: Global,
+        key: RunKey,
+    ) -> Result<SharedRun<S>, FindFault>
+        ensures { IfOk result (λ shared. shared ≡ key.number) }
+    {
+        self.inside.lock(rt).find_key(alloc, key)
     }
 
     /// All runs, by the numbers of their states and then by name.

@@ -6,7 +6,7 @@ ghost use Rattle.cs_journal.specs.Bounds.{CanGrow};
 ghost use Rattle.cs_journal.specs.Journals.{IsLegal};
 ghost use Rattle.cs_journal.specs.Runs.{RunOf, first_state, fresh_pass};
 ghost use Rattle.cs_permit.specs.declared.call.Call.TheVariants as called;
-ghost use Rattle.cs_shared.specs.Told.{Told};
+ghost use Rattle.cs_shared.specs.Told.{IsStep, Told};
 
 use crate::locked::Locked;
 use crate::served::Served;
@@ -80,8 +80,9 @@ impl<S: Served> SharedRun<S> {
         self.number
     }
 
-    /// Attaches a user under a new pass, at that moment: Foreign where the run under the lock is of
-    /// another number, before all else; Room where it gave RUN_ATTACHES passes; then Memory.
+    /// Attaches a user under a new pass, at that moment, in seconds since 1970: Foreign where the run
+    /// under the lock is of another number, before all else; Room where it gave RUN_ATTACHES passes; then
+    /// Memory. After a refusal no pass was given, and the run is as it was.
     pub fn attach(
         &self,
         rt: &impl Wait,
@@ -89,13 +90,13 @@ impl<S: Served> SharedRun<S> {
         now: u32,
         user: String,
     ) -> Result<(Pass, Answer), AttachFault>
-        ensures { IfOk result (λ x. Told S.serves self.now (fresh_pass x.0.number) now (called.Attach (record { user = user })) x.1 x.0) }
+        ensures { IfOk result (λ x. IsStep S.serves self.now (fresh_pass x.0.number) now (called.Attach (record { user = user })) x.1 x.0) }
     {
         self.run.lock(rt).attach(alloc, self.number, now, user)
     }
 
-    /// Makes a call under a pass at that moment: S5 where the run under the lock is of another number,
-    /// or the pass isn't its own, before all else; then as `Run::step`.
+    /// Makes a call under a pass at that moment, in seconds since 1970: S5 where the run under the lock is
+    /// of another number, or the pass isn't its own, before all else; then as `Run::step`.
     pub fn call(
         &self,
         rt: &impl Wait,
@@ -109,7 +110,8 @@ impl<S: Served> SharedRun<S> {
         self.run.lock(rt).call(alloc, self.number, pass, now, call)
     }
 
-    /// Lends the run to `look`, under the lock.
+    /// Lends the run to `look`, under the lock. A `look` that makes a call on this same run would wait for
+    /// itself.
     pub fn inspect<T, F: FnOnce(&Run<Built>) -> T>(&self, rt: &impl Wait, look: F) -> T
         requires { F.IsAlwaysCallable look }
         ensures { (number : ℕ) × ((run : RunOf) × S.serves number run.fresh × IsLegal (first_state run) run.journal × FnOnceReturnsAt F.FnOnce look run result) }

@@ -33,7 +33,8 @@ use Rattle.cs_journal.specs.Runs.{RunOf}
 use Rattle.cs_registry.specs.Publishing.{with_published}
 use Rattle.cs_registry.specs.Registries.{Registry}
 use Rattle.cs_fids.specs.Tables.{FidMap}
-use Rattle.cs_world.specs.Asking.{answered, key_in}
+use Rattle.cs_registry.specs.Naming.{key_in}
+use Rattle.cs_world.specs.Asking.{answered}
 use Rattle.cs_world.specs.Marks.{Mark, RunMark, below, refuses_table}
 use Rattle.cs_world.specs.Reached.{Gave, AreThere}
 use Rattle.cs_world.specs.Steps.{by_registry, goes_from, on_connection, step_of}

@@ -1,7 +1,6 @@
 pub mod Answering
 pub mod Asked
 pub mod Coming
-pub mod Digits
 pub mod Finding
 pub mod Growing
 pub mod Invariant

@@ -23,7 +23,8 @@ use Rattle.cs_tree_model.specs.Tree.{Tree}
 use Rattle.cs_world.specs.declared.reply.Reply.{Reply}
 use Rattle.cs_world.specs.declared.reply.Reply.TheVariants.{Connection, Published, Unpublished}
 use Rattle.cs_world.specs.declared.reply.StateFault.TheVariants as f
-use Rattle.cs_world.specs.Asking.{answered, found_by, given_run, key_in, put_run}
+use Rattle.cs_registry.specs.Naming.{key_in}
+use Rattle.cs_world.specs.Asking.{answered, found_by, given_run, put_run}
 use Rattle.cs_world.specs.Marks.{Mark, RunMark, below, in_run, refuses_run, refuses_table}
 use Rattle.cs_world.specs.Publishing.{published}
 use Rattle.cs_world.specs.Reaching.{IsMade, run_asked, run_reached}

@@ -1,15 +1,13 @@
 -- What the runs of a world answer to what a connection asks: the registry to a find, one run to an attach or a call.
 use Rattle.std.specs.Prelude.{◌≡◌, ℕ, ◌+◌, ◌-◌, ◌*◌, ◌&&◌, nat_le, Bool, fold, List, length, Option, None, Some, Result, Ok, Err, if◌then◌else◌}
-use Rattle.std.specs.List.{list_all}
 use Rattle.std.specs.Option.{option_map, option_map_or}
 use Rattle.cs_names.specs.declared.rule_id.RuleId.TheVariants.{S5}
-use Rattle.cs_names.specs.Legal.{is_run_name}
-use Rattle.cs_permit.specs.TreeNames.{is_digit}
 use Rattle.cs_plan.specs.Scenes.{state_at}
 use Rattle.cs_registry.specs.declared.fault.FindFault.{FindFault}
 use Rattle.cs_registry.specs.declared.fault.FindFault.TheVariants.{Unpublished, Full, Memory}
 use Rattle.cs_registry.specs.Finds.{found}
 use Rattle.cs_registry.specs.Keys.{Key}
+use Rattle.cs_registry.specs.Naming.{key_in}
 use Rattle.cs_registry.specs.Registries.{Registry}
 use Rattle.cs_registry.specs.Runs.{held_at, with_held}
 use Rattle.cs_run.specs.declared.answer.Answer.{Answer}
@@ -25,18 +23,6 @@ use Rattle.cs_journal.specs.Runs.{RunOf, fresh_run}
 use Rattle.cs_world.specs.Runs.{attached, called}
 
 -- ---- find
-
--- the number that decimal digits spell
-abbrev pub number_in : List ℕ → ℕ
-number_in digits = fold (λ n digit. 10 * n + (digit - 48)) 0 digits
-
--- at most five decimal digits, as a state's number has
-abbrev pub are_few_digits : List ℕ → Bool
-are_few_digits bytes = nat_le (length bytes) 5 && list_all is_digit bytes
-
--- the key of the run that a tree's name names, if its parts are a number and a run's name
-abbrev pub key_in : List ℕ → List ℕ → Option Key
-key_in state name = if are_few_digits state && is_run_name name then Some (record { number = number_in state; name = name }) else None
 
 -- a new run of the state of a number, over its tree, if memory gives one
 abbrev pub given_run : Registry RunOf → ℕ → RunMark → Option RunOf

@@ -17,7 +17,8 @@ use Rattle.cs_session.specs.Sessions.{Sess}
 use Rattle.cs_session.specs.Steps.{Step, Done, Asks, after, front_by}
 use Rattle.cs_world.specs.declared.reply.Reply.{Reply}
 use Rattle.cs_world.specs.declared.reply.Reply.TheVariants.{Connection}
-use Rattle.cs_world.specs.Asking.{found_by, key_in, put_run}
+use Rattle.cs_registry.specs.Naming.{key_in}
+use Rattle.cs_world.specs.Asking.{found_by, put_run}
 use Rattle.cs_world.specs.Judged.{IsJudged}
 use Rattle.cs_world.specs.Marks.{RunMark}
 use Rattle.cs_world.specs.Runs.{with_pass}

@@ -2,7 +2,6 @@
 #![tactic(auto)]
 
 mod attended;
-mod key;
 pub mod laws;
 mod message;
 mod reply;

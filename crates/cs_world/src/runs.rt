@@ -4,12 +4,11 @@ ghost use Rattle.cs_session.specs.Questions.{Found};
 ghost use Rattle.cs_world.specs.Asking.{fault_told, place_told};
 
 use crate::attended::AttendedRun;
-use crate::key::key_of;
 use crate::reply::{Reply, StateFault};
 use cs_names::RuleId;
 use cs_permit::{Call, TreeName};
 use cs_plan::{MakeFault, Scene};
-use cs_registry::{PublishFault, States};
+use cs_registry::{PublishFault, RunKey, States};
 use cs_run::Answer;
 use cs_session::{FindFault, PassFault, Port};
 use std::alloc::Global;
@@ -83,7 +82,7 @@ impl Port for Runs {
     ghost gives = { λ old mark question told new. IsGiven old mark question told new };
 
     fn find(&mut self, alloc: Global, name: &TreeName) -> Result<u32, FindFault> {
-        let Some(key) = key_of(name) else {
+        let Some(key) = RunKey::named(name) else {
             return Err(FindFault::Unpublished);
         };
         told(self.states.find_key(alloc, key))

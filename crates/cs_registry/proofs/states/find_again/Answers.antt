@@ -1,9 +1,7 @@
-use Rattle.std.proofs.Common.{◌≡◌, ◌∙◌, ◌+◌, length, Option, arith, refl, sym, ap, true, false, Bool}
-use Rattle.std.specs.Prelude.{nat_le, slice_get}
-use Rattle.std.specs.Option.{option_map_or}
+use Rattle.std.proofs.Common.{◌≡◌, ◌∙◌, ◌+◌, arith, refl, true, false}
+use Rattle.std.specs.Prelude.{nat_le}
 use Rattle.std.proofs.lemmas.Bool.Decides.{nat_tests}
 use Rattle.cs_names.specs.declared.limits.TheConstants.{RUN_ATTACHES}
-use Rattle.cs_registry.specs.Runs.{finds_at, room_ends}
 use Rattle.cs_registry.specs.declared.found.Found.{Found}
 use Rattle.cs_registry.proofs.Changing.{changed, room_at, unchanged}
 use Rattle.cs_registry.proofs.states.find_again.Goals as goal

@@ -1,4 +1,4 @@
-use Rattle.std.proofs.Common.{◌≡◌, ◌∙◌}
+use Rattle.std.proofs.Common.{◌∙◌}
 use Rattle.std.specs.Arc.{arc_value}
 use Rattle.cs_registry.proofs.Changing.{added}
 use Rattle.cs_registry.proofs.states.make_run.Goals as goal

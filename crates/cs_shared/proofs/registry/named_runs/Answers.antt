@@ -1,5 +1,4 @@
-use Rattle.std.proofs.Common.{◌≡◌, ◌∙◌, ◌+◌, ◌++◌, ◌∷◌, [], List, sym, ap, string_bytes}
-use Rattle.cs_registry.specs.Keys.{Key}
+use Rattle.std.proofs.Common.{◌≡◌, ◌∙◌, ◌++◌, ◌∷◌, [], sym, string_bytes}
 use Rattle.cs_shared.proofs.Numbers.{next_key}
 use Rattle.cs_shared.proofs.registry.named_runs.Goals as goal
 

@@ -17,7 +17,7 @@ loop-state-preserved g c =
     let first = c.in-Some.ensures.steps.0 in
     let P : Scene → Published → Type 0 = λ s state. state.scene ≡ s in
     record {
-      more = one_more c.args.registry.now c.args.states.items xs rest c.in-Some.state c.loop-state.count c.in_ok-count.field-0 c.loop-state.registry c.publish_one.new.registry first c.in_ok-count.ensures.there c.loop-state.invariant.more;
+      done = one_more c.args.registry.now c.loop-state.registry c.publish_one.new.registry c.args.states.items xs rest c.in-Some.state c.loop-state.count c.in_ok-count.field-0 first c.in_ok-count.ensures.there c.loop-state.invariant.done;
       own = subst (λ (s : Scene). All (P s) rest) (sym c.publish_one.ensures.scene) (all_others (P c.loop-state.registry.scene) xs rest c.in-Some.state first c.loop-state.invariant.own);
       few = omega (arith, c.loop-state.invariant.few, ap length first, c.in_ok-count.ensures.few);
       runs = c.publish_one.ensures.runs ∙ c.loop-state.invariant.runs;

@@ -1,5 +1,4 @@
-use Rattle.std.proofs.Common.{◌≡◌, ◌∙◌, length, Option, arith, refl, sym, ap}
-use Rattle.std.specs.Prelude.{slice_get}
+use Rattle.std.proofs.Common.{◌≡◌, ◌∙◌, refl, sym, ap}
 use Rattle.indexmap.specs.Layout.{set_value_at, length-set_value_at}
 use Rattle.cs_registry.specs.Registries.{Registry}
 use Rattle.cs_registry.specs.Runs.{held_at, with_held}

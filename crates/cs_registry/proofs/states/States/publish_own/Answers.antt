@@ -1,4 +1,4 @@
-use Rattle.std.proofs.Common.{◌≡◌, ◌<◌, ◌∙◌, length, Option, Some, None, false, arith, sym, ap, is_some, subst}
+use Rattle.std.proofs.Common.{◌≡◌, ◌<◌, ◌∙◌, length, Some, None, false, arith, sym, ap, is_some, subst}
 use Rattle.std.specs.Prelude.{map, slice_get, slice_index_or}
 use Rattle.std.specs.Arc.{arc_value}
 use Rattle.cs_plan.specs.Scenes.{IsPublished}

@@ -1,4 +1,4 @@
-use Rattle.std.proofs.Common.{◌≡◌, ◌∙◌, ℕ, refl, sym, ap, subst, inl}
+use Rattle.std.proofs.Common.{◌≡◌, ◌∙◌, ℕ, sym, ap, subst}
 use Rattle.cs_journal.specs.Runs.{PassOf, RunOf, fresh_pass}
 use Rattle.cs_journal.specs.Steps.{Stepped}
 use Rattle.cs_permit.specs.declared.call.Call.TheVariants as called
@@ -22,5 +22,5 @@ returns-clause-told g c =
     let numbers : s.new.pass.number ≡ c.in-Ok.pass.number = ap (λ (x : Stepped). x.pass.number) s.ensures.stepped.1 ∙ step_numbers c.new_pass.new.self c.in-Ok.pass c.args.now call s.ensures.stepped.0 in
     let pass : c.in-Ok.pass ≡ fresh_pass s.new.pass.number = c.in-Ok.ensures.pass ∙ ap fresh_pass (sym (numbers ∙ ap (λ (p : PassOf). p.number) c.in-Ok.ensures.pass)) in
     let Q : PassOf → Type 0 = λ p. IsStep g.S.Served.serves c.args.number p c.args.now call s.result s.new.pass in
-    inl (subst Q pass (told g.S.Served.serves c.args.number c.new_pass.new.self s.new.self c.in-Ok.pass s.new.pass c.args.now call s.result
-    (subst N c.if-self-number.false (subst P (ap (λ (r : RunOf). r.fresh) (sym c.in-Ok.ensures.run)) c.self.invariant)) c.entries-legal.ensures.legal c.in-Ok.ensures.fits s.ensures.stepped s.ensures.legal s.ensures.fits))
+    subst Q pass (told g.S.Served.serves c.args.number c.new_pass.new.self s.new.self c.in-Ok.pass s.new.pass c.args.now call s.result
+    (subst N c.if-self-number.false (subst P (ap (λ (r : RunOf). r.fresh) (sym c.in-Ok.ensures.run)) c.self.invariant)) c.entries-legal.ensures.legal c.in-Ok.ensures.fits s.ensures.stepped s.ensures.legal s.ensures.fits)

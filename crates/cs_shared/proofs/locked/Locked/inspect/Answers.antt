@@ -1,4 +1,4 @@
-use Rattle.std.proofs.Common.{◌≡◌, ap}
+use Rattle.std.proofs.Common.{ap}
 use Rattle.cs_shared.specs.Locks.{Locked}
 use Rattle.cs_shared.proofs.locked.Locked.inspect.Goals as goal
 

@@ -7,7 +7,7 @@ use Rattle.std.proofs.Math.Seq.{take-suc}
 use Rattle.std.proofs.lemmas.Bool.Decides.{nat_tests}
 use Rattle.std.proofs.lemmas.List.Sums.{fold-append}
 use Rattle.cs_permit.specs.TreeNames.{is_digit}
-use Rattle.cs_world.specs.Asking.{are_few_digits, number_in}
+use Rattle.cs_registry.specs.Naming.{are_few_digits, number_in}
 
 pub both : (a b : Bool) → (a && b) ≡ true → (a ≡ true) × (b ≡ true)
 both true b e = (refl, e)

@@ -1,6 +1,6 @@
 use Rattle.std.proofs.Common.{◌∙◌, ◌+◌, ◌*◌, ◌-◌, ◌≤◌, ◌^◌, sym, ap, arith, slice_index_or}
-use Rattle.cs_world.proofs.Digits.{all_digits, digit_at, few, number-take, power_more, power_small}
-use Rattle.cs_world.proofs.key.number_in.Goals as goal
+use Rattle.cs_registry.proofs.Digits.{all_digits, digit_at, few, number-take, power_more, power_small}
+use Rattle.cs_registry.proofs.key.number_in.Goals as goal
 
 pub overflow_mul-number : goal.overflow_mul-number
 overflow_mul-number c =
