@@ -6,6 +6,7 @@ pub mod Past
 pub mod Resolved
 pub mod Sound
 pub mod SoundSteps
+pub mod Spelling
 pub mod Spelled
 pub mod Started
 pub mod Trees

@@ -105,3 +105,7 @@ start-view s t p e is = ap (λ start. viewed start None) is ∙ ap (with_nodes (
 pub still_stands : (m : Paths) (p d : Path) (node : Node) → is_some (get m p) ≡ false → get m d ≡ Some Directory → get (insert m p node) d ≡ Some Directory
 still_stands m p d node free stands =
     get-insert_other path_total path_exact m d p node (λ same. false≢true (sym free ∙ ap is_some (ap (get m) (sym same) ∙ stands))) ∙ stands
+
+pub is_some-map : {A B : Type 0} (f : A → B) (o : Option A) → is_some (option_map f o) ≡ is_some o
+is_some-map f None = refl
+is_some-map f (Some x) = refl

@@ -1,7 +1,7 @@
 //! The files at the start by their paths.
 ghost use Rattle.std.specs.Prelude.{◌≡◌, IfOk, OnOk};
 ghost use Rattle.std.specs.FinMap as map;
-ghost use Rattle.std.specs.Option.{option_map};
+ghost use Rattle.std.specs.Option.{is_some, option_map};
 ghost use Rattle.cs_tree_model.specs.Maps.Values.{map_values};
 ghost use Rattle.cs_trace.specs.Below.{has_below};
 ghost use Rattle.cs_trace.specs.Entries.{node_of, nodes_in, records_in};
@@ -77,11 +77,13 @@ impl Entries {
         Ok(standing)
     }
 
-    pub(crate) fn insert(&mut self, path: Path, entry: Entry) -> Result<(), AllocError>
-        ensures { OnOk result (self.new ≡ map.insert self.old path entry) }
+    /// The entry stands at the path. It answers whether something stood there before.
+    pub(crate) fn insert(&mut self, path: Path, entry: Entry) -> Result<bool, AllocError>
+        ensures stood { IfOk result (λ stood. stood ≡ is_some (map.get self.old path)) }
+        ensures state { OnOk result (self.new ≡ map.insert self.old path entry) }
     {
-        self.by_path.insert(path, entry)?;
-        Ok(())
+        let before = self.by_path.insert(path, entry)?;
+        Ok(before.is_some())
     }
 
     /// The records in the order of their paths, with fresh numbers; and what each of them is.

@@ -1,7 +1,8 @@
 //! What an operation needs of what stands, where its path is kept.
-ghost use Rattle.std.specs.Prelude.{◌≡◌, ◌≢◌, IfErr, IfOk, IsOk, Ok, Err, length};
+ghost use Rattle.std.specs.Prelude.{◌≡◌, ◌≢◌, ◌||◌, IfErr, IfOk, IsOk, Ok, Err, length, nat_le, nat_lt};
+ghost use Rattle.cs_names.specs.declared.limits.TheConstants.{TRACE_PATH_NAMES, TREE_RECORDS};
 ghost use Rattle.cs_tree_model.specs.Tree.{parent_path};
-ghost use Rattle.cs_trace.specs.Judging.{and_then, creat, emptied_at, ends_above, file_at, free_at, fsync, has_too_many_names, is_too_much, mkdir, rename, rmdir, say, size_in, target_at, truncate, unlink, write};
+ghost use Rattle.cs_trace.specs.Judging.{and_then, creat, emptied_at, ends_above, file_at, free_at, fsync, mkdir, rename, rmdir, say, size_in, target_at, truncate, unlink, write};
 ghost use Rattle.cs_trace.specs.Said.{claims_of};
 ghost use Rattle.cs_trace.specs.declared.fault.TraceFaultKind.TheVariants.{Memory};
 
@@ -63,17 +64,18 @@ fn check_emptied(tree: &Tree, path: &Path) -> Result<(), TraceFaultKind>
     }
 }
 
-fn has_too_many_names(path: &Path) -> bool
-    ensures { result ≡ has_too_many_names path.now }
+/// Whether a path of so many names has too many.
+fn are_too_many(names: usize) -> bool
+    ensures { result ≡ nat_lt TRACE_PATH_NAMES names }
 {
-    path.names().len() > TRACE_PATH_NAMES
+    names > TRACE_PATH_NAMES
 }
 
-/// Whether one record more at the path goes past a limit, after so many.
-pub(crate) fn is_too_much(made: usize, path: &Path) -> bool
-    ensures { result ≡ is_too_much made path.now }
+/// Whether one record more at a path of so many names goes past a limit, after so many.
+pub(crate) fn is_too_much(made: usize, names: usize) -> bool
+    ensures { result ≡ (nat_lt TRACE_PATH_NAMES names || nat_le TREE_RECORDS made) }
 {
-    has_too_many_names(path) || made >= TREE_RECORDS
+    are_too_many(names) || made >= TREE_RECORDS
 }
 
 /// Whether a write of so many bytes ends above the greatest size. One of no byte never does.
@@ -106,7 +108,7 @@ pub(crate) fn creat(
     ensures memory { IfErr result (λ kind. kind ≡ Memory → IsOk (creat tree.now.nodes made file path (claims_of claims.now))) }
 {
     check_free(tree, above, &path)?;
-    if is_too_much(made, &path) {
+    if is_too_much(made, path.names().len()) {
         return Err(TraceFaultKind::TooLarge);
     }
     let rights = Rights::keep(alloc, claims)?;
@@ -127,7 +129,7 @@ pub(crate) fn mkdir(
     ensures memory { IfErr result (λ kind. kind ≡ Memory → IsOk (mkdir tree.now.nodes made path (claims_of claims.now))) }
 {
     check_free(tree, above, &path)?;
-    if is_too_much(made, &path) {
+    if is_too_much(made, path.names().len()) {
         return Err(TraceFaultKind::TooLarge);
     }
     let rights = Rights::keep(alloc, claims)?;
@@ -160,7 +162,7 @@ pub(crate) fn rename(
 {
     file_at(tree, &from)?;
     check_target(tree, above, &to)?;
-    if has_too_many_names(&to) {
+    if are_too_many(to.names().len()) {
         return Err(TraceFaultKind::TooLarge);
     }
     Ok(Operation::Rename { from, to })

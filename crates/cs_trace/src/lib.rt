@@ -10,6 +10,7 @@ mod judge;
 mod line;
 mod lines;
 mod names;
+mod near;
 mod numbers;
 pub mod operation;
 #[cfg(test)]

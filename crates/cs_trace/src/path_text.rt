@@ -1,7 +1,7 @@
 //! A path that a line spells: judged without memory, and kept.
-ghost use Rattle.std.specs.Prelude.{◌≡◌, ◌<◌, ◌+◌, ◌↔◌, IfOk, IsTrue, MatchOption, length};
+ghost use Rattle.std.specs.Prelude.{◌≡◌, ◌<◌, ◌+◌, ◌↔◌, IfOk, IsTrue, MatchOption, Some, length};
 ghost use Rattle.cs_names.specs.declared.limits.TheConstants.{TRACE_PATH_NAMES};
-ghost use Rattle.cs_trace.specs.Names.{entry_path_of, path_of};
+ghost use Rattle.cs_trace.specs.Names.{entry_path_of, path_of, spelled_path};
 
 use cs_names::Path;
 use cs_names::limits::TRACE_PATH_NAMES;
@@ -46,6 +46,21 @@ impl<'a> PathText<'a> {
             return None;
         }
         Some(path)
+    }
+
+    /// The path of a text that is known to spell one of so many names.
+    pub(crate) fn known(text: &'a str, count: usize) -> PathText<'a>
+        requires legal { path_of text.now ≡ Some (spelled_path text.now) }
+        requires count { count ≡ length (spelled_path text.now) }
+        ensures { result ≡ spelled_path text.now }
+    {
+        PathText { text, count }
+    }
+
+    pub(crate) fn text(&self) -> &'a str
+        ensures { path_of result.now ≡ Some self.now }
+    {
+        self.text
     }
 
     pub(crate) fn len(&self) -> usize

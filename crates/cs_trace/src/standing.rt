@@ -1,6 +1,7 @@
 //! What stands at each path while a trace is read.
-ghost use Rattle.std.specs.Prelude.{◌≡◌, OnOk};
+ghost use Rattle.std.specs.Prelude.{◌≡◌, IfOk, OnOk};
 ghost use Rattle.std.specs.FinMap as map;
+ghost use Rattle.std.specs.Option.{is_some};
 ghost use Rattle.cs_trace.specs.Below.{has_below};
 
 use crate::operation::Node;
@@ -59,11 +60,13 @@ impl Standing {
         }
     }
 
-    pub(crate) fn insert(&mut self, path: Path, node: Node) -> Result<(), AllocError>
-        ensures { OnOk result (self.new ≡ map.insert self.old path node) }
+    /// The node stands at the path. It answers whether something stood there before.
+    pub(crate) fn insert(&mut self, path: Path, node: Node) -> Result<bool, AllocError>
+        ensures stood { IfOk result (λ stood. stood ≡ is_some (map.get self.old path)) }
+        ensures state { OnOk result (self.new ≡ map.insert self.old path node) }
     {
-        self.by_path.insert(path, node)?;
-        Ok(())
+        let before = self.by_path.insert(path, node)?;
+        Ok(before.is_some())
     }
 
     /// Nothing stands at the path any more.

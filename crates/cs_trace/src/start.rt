@@ -1,11 +1,13 @@
 //! The header and the start lines, each where the state stands.
 ghost use Rattle.std.specs.Prelude.{◌≡◌, ◌≢◌, ◌<◌, ◌^◌, IfErr, IfOk, IsOk, OnOk, None, Some, Ok, Err, length};
 ghost use Rattle.std.specs.FinMap as map;
+ghost use Rattle.std.specs.Option.{is_some};
 ghost use Rattle.cs_tree_model.specs.Tree.{parent_path};
 ghost use Rattle.cs_trace.specs.Entries.{node_of, size_of};
-ghost use Rattle.cs_trace.specs.Judging.{IsPastNames, free_at};
+ghost use Rattle.cs_trace.specs.Judging.{IsPastNames, free_at, legal};
 ghost use Rattle.cs_trace.specs.Kept.{IsBounded, state_of};
 ghost use Rattle.cs_trace.specs.Lines.{Header};
+ghost use Rattle.cs_trace.specs.Names.{new_path_of};
 ghost use Rattle.cs_trace.specs.Said.{claims_of, start_of};
 ghost use Rattle.cs_trace.specs.States.{entry_for, first_step, start_at, start_step, with_entry};
 ghost use Rattle.cs_trace.specs.declared.fault.TraceFaultKind.TheVariants.{Memory};
@@ -17,7 +19,9 @@ use crate::fault::TraceFaultKind;
 use crate::judge::is_too_much;
 use crate::line::{Claims, StartLine};
 use crate::names::are_user_names;
+use crate::near::Near;
 use crate::operation::{Node, Rights};
+use crate::path_text::PathText;
 use crate::resolve::new_path;
 use crate::state::State;
 use crate::tree::Tree;
@@ -60,9 +64,10 @@ fn keep_entry(
     }
 }
 
-/// One entry more at the start.
-fn place(alloc: Global, state: &mut State, path: Path, entry: Entry) -> Result<(), AllocError>
+/// One entry more at the start. It answers whether something stood there before.
+fn place(alloc: Global, state: &mut State, path: Path, entry: Entry) -> Result<bool, AllocError>
     requires { state.old.made < 2 ^ 32 }
+    ensures stood { IfOk result (λ stood. stood ≡ is_some (map.get state.old.tree.nodes path)) }
     ensures state { OnOk result (state_of state.new ≡ with_entry (state_of state.old) path entry entry.content) }
     ensures nodes { OnOk result (state.new.tree.nodes ≡ map.insert state.old.tree.nodes path (node_of entry)) }
 {
@@ -70,13 +75,19 @@ fn place(alloc: Global, state: &mut State, path: Path, entry: Entry) -> Result<(
         state.files.push(path.try_clone(alloc)?)?;
         state.sizes.push(length)?;
     }
-    state.tree.insert_start(alloc, path, entry)?;
+    let stood = state.tree.insert_start(alloc, path, entry)?;
     state.made += 1;
-    Ok(())
+    Ok(stood)
 }
 
 /// The directory that a new entry is to stand in, which stands.
-fn find_above(alloc: Global, tree: &mut Tree, path: &Path) -> Result<Path, TraceFaultKind>
+fn find_above(
+    alloc: Global,
+    tree: &mut Tree,
+    path: &Path,
+    text: &PathText<'_>,
+) -> Result<Near, TraceFaultKind>
+    requires { text.now ≡ path.now }
     ensures same { tree.new ≡ tree.old }
     ensures above { IfOk result (λ above. above ≡ parent_path path.now) }
     ensures stands { IfOk result (λ above. map.get tree.old.nodes above ≡ Some Directory) }
@@ -85,39 +96,56 @@ fn find_above(alloc: Global, tree: &mut Tree, path: &Path) -> Result<Path, Trace
     if let Some(above) = tree.take_near(path) {
         return Ok(above);
     }
-    let above = Path::of(alloc, &path.names().parent())?;
-    match tree.get(&above) {
+    let above = Near::above(alloc, path, text)?;
+    match tree.get(above.path()) {
         None => Err(TraceFaultKind::NoParent),
         Some(Node::File(_)) => Err(TraceFaultKind::NotDir),
         Some(Node::Directory) => Ok(above),
     }
 }
 
-/// One entry more at the path, in the directory above. Memory is wanted only where there is no fault.
+/// One entry more at the path of so many names, in the directory above.
 fn start_in(
     alloc: Global,
     state: &mut State,
     path: Path,
-    above: Path,
+    names: usize,
+    above: Near,
     line: &StartLine<'_>,
 ) -> Result<(), TraceFaultKind>
     requires bounded { IsBounded (state_of state.old) }
+    requires names { names ≡ length path }
     requires above { above ≡ parent_path path }
     requires stands { map.get state.old.tree.nodes above ≡ Some Directory }
     ensures done { OnOk result (start_at (state_of state.old) path (claims_of line.now.claims) line.now.content ≡ Ok (state_of state.new)) }
     ensures fault { IfErr result (λ kind. kind ≢ Memory → start_at (state_of state.old) path (claims_of line.now.claims) line.now.content ≡ Err kind) }
-    ensures memory { IfErr result (λ kind. kind ≡ Memory → IsOk (start_at (state_of state.old) path (claims_of line.now.claims) line.now.content)) }
 {
-    if state.tree.get(&path).is_some() {
-        return Err(TraceFaultKind::Exists);
-    }
-    if is_too_much(state.made, &path) || size_of(&line.content) > FILE_BYTES {
-        return Err(TraceFaultKind::TooLarge);
+    if is_too_much(state.made, names) || size_of(&line.content) > FILE_BYTES {
+        return Err(match state.tree.get(&path) {
+            None => TraceFaultKind::TooLarge,
+            Some(_) => TraceFaultKind::Exists,
+        });
     }
     let entry = keep_entry(alloc, state, &line.claims, &line.content)?;
-    place(alloc, state, path, entry)?;
+    let stood = place(alloc, state, path, entry)?;
+    if stood {
+        return Err(TraceFaultKind::Exists);
+    }
     state.tree.stay_near(above);
     Ok(())
+}
+
+/// The path of a new entry, whose owner and group are judged with it.
+fn start_path<'a>(tree: &Tree, line: &StartLine<'a>) -> Result<PathText<'a>, TraceFaultKind>
+    ensures { result ≡ legal (new_path_of line.now.path.now (claims_of line.now.claims)) }
+{
+    let Some(path) = tree.near_entry(line.path) else {
+        return new_path(line.path, &line.claims);
+    };
+    if !are_user_names(&line.claims) {
+        return Err(TraceFaultKind::BadName);
+    }
+    Ok(path)
 }
 
 /// A file or a directory after the header.
@@ -132,12 +160,12 @@ pub(crate) fn take_start(
     ensures fault { IfErr result (λ kind. kind ≢ Memory → start_step (state_of state.old) (start_of line.now) ≡ Err kind) }
     ensures memory { IfErr result (λ kind. kind ≡ Memory → IsPastNames (start_step (state_of state.old) (start_of line.now))) }
 {
-    let path = new_path(line.path, &line.claims)?;
-    let Some(path) = path.keep_short(alloc)? else {
+    let text = start_path(&state.tree, line)?;
+    let Some(path) = text.keep_short(alloc)? else {
         return Err(TraceFaultKind::NoParent);
     };
-    let above = find_above(alloc, &mut state.tree, &path)?;
-    start_in(alloc, state, path, above, line)
+    let above = find_above(alloc, &mut state.tree, &path, &text)?;
+    start_in(alloc, state, path, text.len(), above, line)
 }
 
 /// The first line that isn't blank: the header gives the root.

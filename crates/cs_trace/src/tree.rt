@@ -1,15 +1,19 @@
 //! The tree that the lines of a trace make: what stood at the start, and what stands now.
 ghost use Rattle.std.specs.Prelude.{◌≡◌, Some, IfOk, IfSome, OnOk};
 ghost use Rattle.std.specs.FinMap as map;
+ghost use Rattle.std.specs.Option.{is_some};
 ghost use Rattle.cs_tree_model.specs.Tree.{parent_path};
 ghost use Rattle.cs_trace.specs.Below.{has_below};
 ghost use Rattle.cs_trace.specs.Entries.{nodes_in, records_in};
+ghost use Rattle.cs_trace.specs.Names.{entry_path_of};
 ghost use Rattle.cs_trace.specs.Trees.{bare, with_start};
 ghost use Rattle.cs_trace.specs.declared.operation.Node.TheVariants.{Directory};
 
 use crate::entries::Entries;
 use crate::entry::Entry;
+use crate::near::Near;
 use crate::operation::Node;
+use crate::path_text::PathText;
 use crate::standing::Standing;
 use cs_names::Path;
 use cs_tree_model::Record;
@@ -25,7 +29,7 @@ pub(crate) struct Tree {
     /// What stands now, once something changed.
     changed: Option<Standing>,
     /// A directory that stands: most often the next start line's, too.
-    near: Option<Path>,
+    near: Option<Near>,
 }
 
 impl Model for Tree {
@@ -74,46 +78,58 @@ impl Tree {
         }
     }
 
+    /// The path of an entry that the text spells, where its directory is the one of the start line
+    /// before, which isn't judged again.
+    pub(crate) fn near_entry<'a>(&self, text: &'a str) -> Option<PathText<'a>>
+        ensures { IfSome result (λ path. entry_path_of text.now ≡ Some path) }
+    {
+        match &self.near {
+            Some(near) => near.entry(text),
+            None => None,
+        }
+    }
+
     /// The path's directory, where it is the one of the start line before, which stands.
     #[tactic(auto, using(crate::proofs::Trees::same_path))]
-    pub(crate) fn take_near(&mut self, path: &Path) -> Option<Path>
+    pub(crate) fn take_near(&mut self, path: &Path) -> Option<Near>
         ensures same { self.new ≡ self.old }
         ensures above { IfSome result (λ above. above ≡ parent_path path.now) }
         ensures stands { IfSome result (λ above. map.get self.old.nodes above ≡ Some Directory) }
     {
         let near = self.near.take()?;
-        if near.names() == path.names().parent() {
+        if near.path().names() == path.names().parent() {
             return Some(near);
         }
         None
     }
 
     /// The next start line is likely in the directory.
-    pub(crate) fn stay_near(&mut self, directory: Path)
+    pub(crate) fn stay_near(&mut self, directory: Near)
         requires { map.get self.old.nodes directory ≡ Some Directory }
         ensures { self.new ≡ self.old }
     {
         self.near = Some(directory);
     }
 
-    /// One entry more at the start.
+    /// One entry more at the start. It answers whether something stood there before.
     pub(crate) fn insert_start(
         &mut self,
         alloc: Global,
         path: Path,
         entry: Entry,
-    ) -> Result<(), AllocError>
-        ensures { OnOk result (self.new ≡ with_start self.old path entry) }
+    ) -> Result<bool, AllocError>
+        ensures stood { IfOk result (λ stood. stood ≡ is_some (map.get self.old.nodes path)) }
+        ensures state { OnOk result (self.new ≡ with_start self.old path entry) }
     {
         self.near = None;
         match &mut self.changed {
-            None => self.start.insert(path, entry)?,
+            None => Ok(self.start.insert(path, entry)?),
             Some(changed) => {
-                changed.insert(path.try_clone(alloc)?, entry.node())?;
+                let stood = changed.insert(path.try_clone(alloc)?, entry.node())?;
                 self.start.insert(path, entry)?;
+                Ok(stood)
             }
         }
-        Ok(())
     }
 
     /// The node stands at the path from now on.
@@ -123,14 +139,16 @@ impl Tree {
     {
         self.near = None;
         match &mut self.changed {
-            Some(changed) => changed.insert(path, node),
+            Some(changed) => {
+                changed.insert(path, node)?;
+            }
             None => {
                 let mut changed = self.start.nodes(alloc)?;
                 changed.insert(path, node)?;
                 self.changed = Some(changed);
-                Ok(())
             }
         }
+        Ok(())
     }
 
     /// Nothing stands at the path any more.

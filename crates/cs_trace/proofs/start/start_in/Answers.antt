@@ -7,5 +7,5 @@ use Rattle.cs_trace.proofs.start.start_in.Goals as goal
 pub stay_near-requires : goal.stay_near-requires
 stay_near-requires c =
     let nodes = c.args.state.now.tree.nodes in
-    let free : is_some (map.get nodes c.args.path) ≡ false = ap is_some (sym c.get.ensures) ∙ sym c.is_some.ensures ∙ c.if-is_some.false in
-    ap (λ m. map.get m c.args.above) c.in_ok-place.ensures.nodes ∙ still_stands nodes c.args.path c.args.above _ free c.requires.stands
+    let free : is_some (map.get nodes c.args.path) ≡ false = sym c.in_ok-stood.ensures.stood ∙ c.if-stood.false in
+    ap (λ m. map.get m c.args.above) c.in_ok-stood.ensures.nodes ∙ still_stands nodes c.args.path c.args.above _ free c.requires.stands
