@@ -18,9 +18,9 @@ use Rattle.cs_apm.specs.declared.slot.Slot.{Slot}
 use Rattle.cs_apm.proofs.Building.{is_tree_left, known_left, tree_left}
 use Rattle.cs_state.specs.declared.parts.Parts.{Parts}
 use Rattle.cs_state.specs.declared.state.State.{State}
-use Rattle.cs_state.specs.Parts.{count_in, read_in, record_in}
+use Rattle.cs_state.specs.Parts.{count_in, read_in, record_in, IsState}
 use Rattle.cs_state.specs.Shares.{place_of, standing, stands}
-use Rattle.cs_state.specs.States.{IsMade, slots_in, tree_in}
+use Rattle.cs_state.specs.States.{places_in, slots_in, tree_in, IsMade}
 use Rattle.cs_state.proofs.Naming.{names_nested}
 use Rattle.cs_state.proofs.Placing.{count, id_of, names, next, number_both, path_both, path_past, record_found, record_past, stands_entry, state}
 use Rattle.cs_state.proofs.Sharing.{long, same_long}
@@ -43,12 +43,15 @@ module _ (t names : Tree) (place : ℕ → Option ℕ) (numbers : (p : Path) →
       by None = refl
       by (Some p) = numbers (parent_path p)
 
-module _ (s : State) (h : IsMade s) where
+module _ (s : State) (is_made : IsMade s) where
   abbrev parts : Parts
   parts = arc_value s.parts
 
   abbrev places : List ℕ
-  places = s.places.items
+  places = places_in s
+
+  h : IsState parts places s.own.items
+  h = is_made.state
 
   abbrev all_names : Tree
   all_names = parts.shares.names

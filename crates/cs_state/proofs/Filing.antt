@@ -2,10 +2,11 @@
 use Rattle.std.proofs.Common.{◌≡◌, ℕ, ◌<◌, ◌≤◌, Bool, false, List, [], refl, ap, ◌∙◌, subst, arith, ⊎_elim, length, get_or}
 use Rattle.std.proofs.lemmas.Bool.{cases_lt}
 use Rattle.std.proofs.lemmas.List.{get_or_read}
+use Rattle.cs_trace.specs.Traces.{Trace}
 use Rattle.cs_tree_model.specs.declared.record.Record.{Record}
 use Rattle.cs_tree_model.specs.Tree.{Path}
 use Rattle.cs_micro.specs.declared.micro_op.MicroOp.{MicroOp}
-use Rattle.cs_apm.specs.Atlases.{content_before, no_record}
+use Rattle.cs_apm.specs.Atlases.{content_before, no_record, AreStarts}
 use Rattle.cs_apm.specs.Contents.{content_left}
 use Rattle.cs_apm.specs.States.{Content, bytes_of}
 use Rattle.cs_apm.proofs.Before.{left_file, made_before, start_before, unflagged}
@@ -13,44 +14,41 @@ use Rattle.cs_state.specs.declared.parts.Parts.{Parts}
 use Rattle.cs_state.specs.Parts.{AreParts, bytes_before, file_in}
 use Rattle.cs_state.specs.Windows.{whole}
 
-idle : (n : ℕ) (f : Content) (ops : List MicroOp) → content_left n f ops [] ≡ f
-unfolding content_left
-idle n f ops = refl
-
-module _ (parts : Parts) (h : AreParts parts) (file : ℕ) where
-  abbrev starts : List ℕ
-  starts = parts.tables.starts.items
-
+module _ (t : Trace) (ops : List MicroOp) (starts : List ℕ) (are : AreStarts t starts) (file : ℕ) where
   abbrev start_record : Path × Record
-  start_record = get_or parts.trace.records (get_or starts file 0) no_record
+  start_record = get_or t.records (get_or starts file 0) no_record
 
-  made : length starts ≤ file → whole [] ≡ content_before parts.trace parts.micros.ops file
-  made high = made_before parts.trace parts.micros.ops starts h.whole.atlas.starts file [] (whole []) high refl refl
+  made : length starts ≤ file → whole [] ≡ content_before t ops file
+  made high = made_before t ops starts are file [] (whole []) high refl refl
 
-  start : file < length starts → whole (bytes_of start_record.1) ≡ content_before parts.trace parts.micros.ops file
-  start low = start_before parts.trace parts.micros.ops starts h.whole.atlas.starts file start_record (bytes_of start_record.1) (whole (bytes_of start_record.1)) low refl refl refl
+  start : file < length starts → whole (bytes_of start_record.1) ≡ content_before t ops file
+  start low = start_before t ops starts are file start_record (bytes_of start_record.1) (whole (bytes_of start_record.1)) low refl refl refl
 
-  pub made_bytes : length starts ≤ file → [] ≡ bytes_before parts file
+  pub made_bytes : length starts ≤ file → [] ≡ (content_before t ops file).bytes
   made_bytes high = ap (λ (f : Content). f.bytes) (made high)
 
-  pub start_bytes : file < length starts → bytes_of start_record.1 ≡ bytes_before parts file
+  pub start_bytes : file < length starts → bytes_of start_record.1 ≡ (content_before t ops file).bytes
   start_bytes low = ap (λ (f : Content). f.bytes) (start low)
 
-  pub whole_before : whole (bytes_before parts file) ≡ content_before parts.trace parts.micros.ops file
+  pub whole_before : whole (content_before t ops file).bytes ≡ content_before t ops file
   whole_before = ⊎_elim
       (λ (low : file < length starts). subst (λ (v : Content). whole v.bytes ≡ v) (start low) refl)
       (λ (high : length starts ≤ file). subst (λ (v : Content). whole v.bytes ≡ v) (made high) refl)
       (cases_lt file (length starts))
 
-  module _ (places : List ℕ) (known : file < length parts.tables.owners.items) where
-    pub left_of : content_left file (whole (bytes_before parts file)) parts.micros.ops places ≡ file_in parts places file
-    left_of = ap (λ f. content_left file f parts.micros.ops places) whole_before
-        ∙ left_file parts.trace parts.micros.ops places file (subst (λ os. file < length os) h.whole.atlas.owners known)
+module _ (parts : Parts) (h : AreParts parts) (file : ℕ) (places : List ℕ) (known : file < length parts.tables.owners.items) where
+  same_before : whole (bytes_before parts file) ≡ content_before parts.trace parts.micros.ops file
+  same_before = whole_before parts.trace parts.micros.ops parts.tables.starts.items h.whole.atlas.starts file
 
-    pub left_same : (flag : Bool) → flag ≡ get_or parts.tables.changed.items file flag → flag ≡ false → content_left file (whole (bytes_before parts file)) parts.micros.ops [] ≡ file_in parts places file
-    left_same flag read none =
-        let changed = h.whole.atlas.changed in
-        let low : file < length parts.tables.changed.items = (let long = changed.long in let same = ap length h.whole.atlas.owners in omega (arith, known, long, same)) in
-        idle file (whole (bytes_before parts file)) parts.micros.ops
-        ∙ unflagged file _ parts.micros.ops parts.tables.changed.items flag (whole (bytes_before parts file)) places changed low (get_or_read parts.tables.changed.items file flag low read false) none
-        ∙ left_of
+  pub left_of : content_left file (whole (bytes_before parts file)) parts.micros.ops places ≡ file_in parts places file
+  left_of = ap (λ f. content_left file f parts.micros.ops places) same_before
+      ∙ left_file parts.trace parts.micros.ops places file (subst (λ os. file < length os) h.whole.atlas.owners known)
+
+  pub has_flag : file < length parts.tables.changed.items
+  has_flag = (let long = h.whole.atlas.changed.long in let same = ap length h.whole.atlas.owners in omega (arith, known, long, same))
+
+  -- a file that nothing changes stays
+  pub left_same : (flag : Bool) → flag ≡ get_or parts.tables.changed.items file flag → flag ≡ false → whole (bytes_before parts file) ≡ file_in parts places file
+  left_same flag read none =
+      unflagged file _ parts.micros.ops parts.tables.changed.items flag (whole (bytes_before parts file)) places h.whole.atlas.changed has_flag (get_or_read parts.tables.changed.items file flag has_flag read false) none
+      ∙ left_of

@@ -11,3 +11,6 @@ pub mod Joining
 pub mod Listing
 pub mod Owning
 pub mod Gathering
+pub mod Blocks
+pub mod Including
+pub mod Striking

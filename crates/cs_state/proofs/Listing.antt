@@ -32,7 +32,7 @@ at_end xs y k low = ⊎_elim
     inr (same, ap (kept_at (xs ++ y ∷ [])) same ∙ get_or-append_seam xs y [] 0))
     (cases_lt k (length xs))
 
-no_more : (xs : List ℕ) → xs ++ [] ≡ xs
+pub no_more : (xs : List ℕ) → xs ++ [] ≡ xs
 no_more [] = refl
 no_more (x ∷ xs) = ap (λ l. x ∷ l) (no_more xs)
 

@@ -2,8 +2,7 @@
 use Rattle.std.proofs.Common.{◌≡◌, ◌≢◌, ℕ, zero, suc, ◌+◌, ◌-◌, ◌<◌, ◌≤◌, ◌==◌, Bool, true, false, cond, nat_lt, List, [], ◌∷◌, ◌++◌, ◌⊎◌, max, min, refl, sym, ap, ◌∙◌, subst, arith, ⊎_elim, length, map, take, drop, replicate, get_or, length-append, length-drop}
 use Rattle.std.proofs.Math.Seq.{get_or-append_right}
 use Rattle.std.proofs.lemmas.Bool.{cases_lt}
-use Rattle.std.proofs.lemmas.List.{ext_get_or, get_or-drop, get_or-take, get_or_append_left, get_or_past, length-replicate, length-take, length-take-le, map_more}
-use Rattle.std.proofs.lemmas.List.Sums.{fold_push}
+use Rattle.std.proofs.lemmas.List.{ext_get_or, get_or-drop, get_or-take, get_or_append_left, get_or_past, length-replicate, length-take, length-take-le}
 use Rattle.std.specs.Prelude.{fold, slice_range}
 use Rattle.cs_micro.specs.declared.micro_op.MicroOp.{MicroOp}
 use Rattle.cs_micro.specs.declared.micro_op.MicroOp.TheVariants.{CreateDirEntry, DeleteDirEntry, MoveDirEntry, ChangeFileSize, WriteBlock, Say}
@@ -56,13 +55,13 @@ module _ (at : ℕ) (new : List ℕ) (f : Content) where
   same_room : (k : ℕ) → get_or room k 0 ≡ byte_of f k
   same_room k = zeros_behind f.bytes (at + length new - length f.bytes) k
 
-  byte_before : (k : ℕ) → k < at → byte_of (overwritten at new f) k ≡ byte_of f k
+  pub byte_before : (k : ℕ) → k < at → byte_of (overwritten at new f) k ≡ byte_of f k
   byte_before k low = put_before at new room enough k low ∙ same_room k
 
-  byte_inside : (k : ℕ) → at ≤ k → k < at + length new → byte_of (overwritten at new f) k ≡ get_or new (k - at) 0
+  pub byte_inside : (k : ℕ) → at ≤ k → k < at + length new → byte_of (overwritten at new f) k ≡ get_or new (k - at) 0
   byte_inside k ge low = put_inside at new room enough k ge low
 
-  byte_behind : (k : ℕ) → at + length new ≤ k → byte_of (overwritten at new f) k ≡ byte_of f k
+  pub byte_behind : (k : ℕ) → at + length new ≤ k → byte_of (overwritten at new f) k ≡ byte_of f k
   byte_behind k ge = put_behind at new room enough k ge ∙ same_room k
 
   -- where the piece isn't in the part, the part stays
@@ -128,7 +127,7 @@ cond_size : (b : Bool) (f g : Content) → (cond b f g).size ≡ cond b f.size g
 cond_size true f g = refl
 cond_size false f g = refl
 
-one_size : (n : ℕ) (f : Content) (o : MicroOp) → (content_after n f o).size ≡ size_after n f.size o
+pub one_size : (n : ℕ) (f : Content) (o : MicroOp) → (content_after n f o).size ≡ size_after n f.size o
 one_size n f (ChangeFileSize file size) = cond_size (file == n) (record { size = size; bytes = cond (nat_lt size f.size) (take size f.bytes) f.bytes }) f
 one_size n f (WriteBlock file block at bytes) = cond_size (file == n) _ f ∙ same_size (file == n) f.size
   where
@@ -148,17 +147,6 @@ fold_size n f (o ∷ os) = fold_size n (content_after n f o) os ∙ ap (λ m. fo
 pub left_size : (n : ℕ) (f : Content) (ops : List MicroOp) (places : List ℕ) → (content_left n f ops places).size ≡ fold (size_after n) f.size (map (op_at ops) places)
 unfolding content_left
 left_size n f ops places = fold_size n f (map (op_at ops) places)
-
--- ---- member by member
-
-module _ (n : ℕ) (f : Content) (ops : List MicroOp) (places : List ℕ) where
-  pub none_left : f ≡ content_left n f ops []
-  unfolding content_left
-  none_left = refl
-
-  pub one_more : (k : ℕ) → k < length places → content_left n f ops (take (k + 1) places) ≡ content_after n (content_left n f ops (take k places)) (op_at ops (get_or places k 0))
-  unfolding content_left
-  one_more k low = ap (fold (content_after n) f) (map_more (op_at ops) places k 0 low) ∙ fold_push (content_after n) f (map (op_at ops) (take k places)) (op_at ops (get_or places k 0))
 
 -- ---- what is read
 

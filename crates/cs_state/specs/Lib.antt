@@ -4,3 +4,4 @@ pub mod Shares
 pub mod Parts
 pub mod States
 pub mod Windows
+pub mod Steps

@@ -1,5 +1,5 @@
 -- A trace with all that its states share, and the state of a set.
-use Rattle.std.specs.Prelude.{ℕ, ◌+◌, List, Option, length, drop, take, slice_index_or}
+use Rattle.std.specs.Prelude.{◌≡◌, ℕ, ◌+◌, Bool, List, Option, length, drop, take, slice_index_or}
 use Rattle.std.specs.Option.{option_and_then, option_map}
 use Rattle.cs_tree_model.specs.declared.record.Kind.{Kind}
 use Rattle.cs_tree_model.specs.declared.record.MetadataBuf.{MetadataBuf}
@@ -16,11 +16,18 @@ use Rattle.cs_apm.specs.Wholes.{IsWhole}
 use Rattle.cs_state.specs.declared.numbers.Own.{Own}
 use Rattle.cs_state.specs.declared.parts.Parts.{Parts}
 use Rattle.cs_state.specs.Shares.{slots_left, standing, IsShared, IsShares}
+use Rattle.cs_state.specs.Steps.{members_in, AreAllSteps}
 
 -- what was found is of the trace
 pub record AreParts (parts : Parts) : Type 0 where
   pub whole : IsWhole parts.trace parts.micros parts.tables
   pub shares : IsShares parts.trace parts.micros.ops parts.tables parts.shares
+  pub steps : AreAllSteps parts.trace parts.micros.ops parts.tables.changed.items parts.steps.items
+
+-- the marks are those of an allowed set
+pub record AreMembers (parts : Parts) (members : List Bool) : Type 0 where
+  pub long : length members ≡ length parts.micros.ops
+  pub allowed : IsAllowed (needs_of parts.micros) (length parts.micros.ops) (members_in members)
 
 -- the tree of the state of a set
 abbrev pub state_in : Parts → List ℕ → Tree

@@ -9,6 +9,8 @@ ghost use Rattle.cs_apm.specs.Sets.{IsAllowed};
 ghost use Rattle.cs_apm.specs.States.{crash_state_of};
 
 use crate::building::own_of;
+use crate::file_steps::all_steps;
+use crate::members::members_of;
 use crate::parts::Parts;
 use crate::shares::Shares;
 use crate::state::State;
@@ -52,6 +54,7 @@ impl Atlas {
     {
         let tables = Tables::of(alloc, &trace, &micros)?;
         let shares = Shares::of(alloc, &trace, micros.ops(), &tables)?;
+        let steps = all_steps(alloc, &trace, micros.ops(), &tables)?;
         let parts = Arc::new(
             alloc,
             Parts {
@@ -59,6 +62,7 @@ impl Atlas {
                 micros,
                 tables,
                 shares,
+                steps,
             },
         )?;
         Ok(Atlas { parts })
@@ -86,8 +90,12 @@ impl Atlas {
         ensures tree { IfOk result IsTree }
     {
         let own = own_of(alloc, &self.parts, places)?;
-        let places = Vec::from_slice(alloc, places)?;
+        let members = members_of(alloc, self.parts.micros.ops().len(), places)?;
         let parts = Arc::try_clone(&self.parts)?;
-        Ok(StateTree::of(State { parts, places, own }))
+        Ok(StateTree::of(State {
+            parts,
+            members,
+            own,
+        }))
     }
 }

@@ -1,44 +1,45 @@
 //! The bytes of a state's file: those at the start, with what the members of its set wrote.
 
-ghost use Rattle.std.specs.Prelude.{◌≡◌, ◌+◌, ◌<◌, ◌≤◌, ◌^◌, fold, length, map, take, IfOk};
+ghost use Rattle.std.specs.Prelude.{◌≡◌, ◌+◌, ◌*◌, ◌<◌, ◌≤◌, ◌^◌, ◌⊎◌, ℕ, true, false, Some, fold, length, map, slice_get, slice_index_or, take, IfOk};
+ghost use Rattle.std.specs.Global.{Vec};
 ghost use Rattle.std.specs.List.{All};
 ghost use Rattle.cs_names.specs.declared.limits.TheConstants.{FILE_BYTES};
-ghost use Rattle.cs_apm.specs.Contents.{IsSmall, change, content_after, content_left};
+ghost use Rattle.cs_apm.specs.Contents.{IsSmall};
 ghost use Rattle.cs_apm.specs.Rules.{op_at};
 ghost use Rattle.cs_apm.specs.States.{Content, overwritten};
+ghost use Rattle.cs_state.specs.Numbers.{kept_at};
+ghost use Rattle.cs_state.specs.Shares.{ids, mark_at};
+ghost use Rattle.cs_state.specs.Steps.{members_in, resizes, struck, struck_by, AgreeIn, IsPartIn};
 ghost use Rattle.cs_state.specs.Windows.{size_after, whole, IsPart};
 
-use cs_apm::content::{changes, put_at};
+use crate::file_steps::size_after;
+use crate::members::{first_members, is_member};
+use cs_apm::content::put_at;
 use cs_micro::{BLOCK_BYTES, MicroOp};
 use std::alloc::{AllocError, Global};
 
-/// The file's size after a micro-operation.
-fn size_after(file: u32, size: u64, op: &MicroOp) -> u64
-    ensures { result ≡ size_after file size op.now }
+/// The size that the members leave of the file, which had this size: the last of those that change it
+/// says so.
+pub fn size_left(file: usize, size: u64, ops: &[MicroOp], sizes: &[u32], members: &[bool]) -> u64
+    requires sizes { sizes.now ≡ ids (λ k. resizes file (op_at ops.now k)) (length ops.now) }
+    requires first { (i j : ℕ) → i < j → j < length sizes.now → mark_at members.now (kept_at sizes.now j) ≡ true → mark_at members.now (kept_at sizes.now i) ≡ true }
+    requires long { length members.now ≡ length ops.now }
+    ensures { result ≡ fold (size_after file) size (map (op_at ops.now) (members_in members.now)) }
 {
-    match op {
-        MicroOp::ChangeFileSize {
-            file: other,
-            length,
-        } => { if *other == file { *length } else { size } }
-        _ => size,
+    let count = first_members(members, sizes);
+    if count == 0 {
+        return size;
     }
-}
-
-/// The size that a set leaves of the file, which had this size.
-pub fn size_left(file: u32, size: u64, ops: &[MicroOp], places: &[u32]) -> u64
-    requires { All (λ place. place < length ops.now) places.now }
-    ensures { result ≡ fold (size_after file) size (map (op_at ops.now) places.now) }
-{
-    let mut size = size;
-    for place in places {
-        size = size_after(file, size, &ops[*place as usize]);
-    }
-    size
+    size_after(file, size, &ops[sizes[count - 1] as usize])
 }
 
 /// The bytes from an offset on that a file with these bytes shows, and zeros past its end.
-fn part_of(alloc: Global, bytes: &[u8], offset: usize, count: usize) -> Result<Vec<u8>, AllocError>
+pub fn copied(
+    alloc: Global,
+    bytes: &[u8],
+    offset: usize,
+    count: usize,
+) -> Result<Vec<u8>, AllocError>
     requires { offset + count < 2 ^ 64 }
     ensures long { IfOk result (λ part. length part.items ≡ count) }
     ensures part { IfOk result (λ part. IsPart offset (whole bytes.now) part.items) }
@@ -73,74 +74,95 @@ fn write(part: &mut [u8], offset: usize, at: usize, piece: &[u8])
     }
 }
 
-/// What a micro-operation does to a part of its file, which has this size; the new size is answered.
-fn change(part: &mut [u8], offset: usize, size: u64, op: &MicroOp) -> u64
+/// Cuts a part of a file that begins at the offset, or writes into it.
+fn strike(part: &mut [u8], offset: usize, op: &MicroOp)
     requires room { offset + length part.old < 2 ^ 64 }
     requires small { IsSmall op.now }
     ensures long { length part.new ≡ length part.old }
-    ensures part { (f : Content) → f.size ≡ size → IsPart offset f part.old → IsPart offset (change f op.now) part.new }
-    ensures size { (f : Content) → f.size ≡ size → (change f op.now).size ≡ result }
+    ensures part { (f : Content) → IsPart offset f part.old → IsPart offset (struck f op.now) part.new }
 {
     match op {
-        MicroOp::ChangeFileSize { length, .. } => {
-            if *length < size {
-                cut(part, offset, *length as usize);
-            }
-            *length
-        }
+        MicroOp::ChangeFileSize { length, .. } => cut(part, offset, *length as usize),
         MicroOp::WriteBlock {
             block,
             at,
             bytes,
             ..
-        } => {
-            write(
-                part,
-                offset,
-                (*block * BLOCK_BYTES + *at) as usize,
-                bytes.as_slice(),
-            );
-            size
-        }
-        _ => size,
+        } => write(
+            part,
+            offset,
+            (*block * BLOCK_BYTES + *at) as usize,
+            bytes.as_slice(),
+        ),
+        _ => {}
     }
 }
 
-/// What a micro-operation does to a part of the file, if it changes it; the new size is answered.
-fn step(part: &mut [u8], offset: usize, size: u64, file: u32, op: &MicroOp) -> u64
+/// Takes those of the places that are members, in a part of a file that begins at the offset.
+fn take(part: &mut [u8], offset: usize, ops: &[MicroOp], places: &[u32], members: &[bool])
     requires room { offset + length part.old < 2 ^ 64 }
-    requires small { IsSmall op.now }
+    requires small { All IsSmall ops.now }
+    requires inside { All (λ place. place < length ops.now) places.now }
     ensures long { length part.new ≡ length part.old }
-    ensures part { (f : Content) → f.size ≡ size → IsPart offset f part.old → IsPart offset (content_after file f op.now) part.new }
-    ensures size { (f : Content) → f.size ≡ size → (content_after file f op.now).size ≡ result }
+    ensures part { (f : Content) → IsPart offset f part.old → IsPart offset (struck_by ops.now members.now f places.now) part.new }
 {
-    if changes(file, op) {
-        change(part, offset, size, op)
-    } else {
-        size
+    for place in places {
+        if is_member(members, *place) {
+            strike(part, offset, &ops[*place as usize]);
+        }
     }
 }
 
-/// So many bytes from an offset on that a set leaves of a file, which had these.
-pub fn part_left(
-    alloc: Global,
-    file: u32,
-    start: &[u8],
+/// Takes those of the places that are members, in what lies in the block of a part of a file that begins
+/// at the offset.
+fn take_block(
+    part: &mut [u8],
+    offset: usize,
+    block: usize,
     ops: &[MicroOp],
     places: &[u32],
+    members: &[bool],
+)
+    requires room { offset + length part.old < 2 ^ 64 }
+    requires begins { block * BLOCK_BYTES < offset + length part.old }
+    requires ends { offset < block * BLOCK_BYTES + BLOCK_BYTES }
+    requires small { All IsSmall ops.now }
+    requires inside { All (λ place. place < length ops.now) places.now }
+    ensures long { length part.new ≡ length part.old }
+    ensures inside { (f : Content) → IsPartIn block offset f part.old → IsPartIn block offset (struck_by ops.now members.now f places.now) part.new }
+    ensures outside { (k : ℕ) → (offset + k < block * BLOCK_BYTES) ⊎ (block * BLOCK_BYTES + BLOCK_BYTES ≤ offset + k) → slice_index_or part.new k 0 ≡ slice_index_or part.old k 0 }
+{
+    let first = block * BLOCK_BYTES as usize;
+    let from = first.saturating_sub(offset);
+    let end = first.saturating_add(BLOCK_BYTES as usize) - offset;
+    let end = part.len().min(end);
+    take(&mut part[from..end], offset + from, ops, places, members);
+}
+
+/// So many bytes from an offset on that the members leave of a file, which had these. For each block there
+/// are those that reach it.
+pub fn part_left(
+    alloc: Global,
+    start: &[u8],
+    ops: &[MicroOp],
+    blocks: &[Vec<u32>],
+    members: &[bool],
     offset: usize,
     count: usize,
 ) -> Result<Vec<u8>, AllocError>
-    requires room { offset + count < 2 ^ 64 }
+    requires some { 0 < count }
+    requires room { offset + count ≤ length blocks.now * BLOCK_BYTES }
+    requires few { offset + count < 2 ^ 64 }
     requires small { All IsSmall ops.now }
-    requires inside { All (λ place. place < length ops.now) places.now }
+    requires inside { All (λ row. All (λ place. place < length ops.now) row.items) blocks.now }
     ensures long { IfOk result (λ part. length part.items ≡ count) }
-    ensures part { IfOk result (λ part. IsPart offset (content_left file (whole start.now) ops.now places.now) part.items) }
+    ensures part { IfOk result (λ part. (g : Content) → ((block : ℕ) (row : Vec ℕ) → slice_get blocks.now block ≡ Some row → AgreeIn block (struck_by ops.now members.now (whole start.now) row.items) g) → IsPart offset g part.items) }
 {
-    let mut part = part_of(alloc, start, offset, count)?;
-    let mut size = start.len() as u64;
-    for place in places {
-        size = step(&mut part, offset, size, file, &ops[*place as usize]);
+    let mut part = copied(alloc, start, offset, count)?;
+    let first = offset / BLOCK_BYTES as usize;
+    let last = (offset + count - 1) / BLOCK_BYTES as usize;
+    for block in first..last + 1 {
+        take_block(&mut part, offset, block, ops, &blocks[block], members);
     }
     Ok(part)
 }

@@ -5,7 +5,9 @@
 pub mod atlas;
 mod building;
 mod bytes;
+mod file_steps;
 mod marks;
+mod members;
 mod numbers;
 mod parts;
 mod reading;

@@ -50,7 +50,7 @@ pub fn stands(slot: Slot) -> bool
 }
 
 /// Puts the path behind the others, if it passes.
-fn push_if(ids: &mut Vec<u32>, id: usize, passes: bool) -> Result<(), AllocError>
+pub fn push_if(ids: &mut Vec<u32>, id: usize, passes: bool) -> Result<(), AllocError>
     requires { id < 2 ^ 20 }
     ensures { OnOk result (ids.new.items ≡ ids.old.items ++ cond passes (id ∷ []) []) }
 {

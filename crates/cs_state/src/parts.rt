@@ -1,5 +1,6 @@
 //! A trace with all that its states share.
 
+use crate::file_steps::FileSteps;
 use crate::shares::Shares;
 use cs_apm::tables::Tables;
 use cs_micro::Micros;
@@ -12,4 +13,6 @@ pub struct Parts {
     pub micros: Micros,
     pub tables: Tables,
     pub shares: Shares,
+    /// What changes each file, by its number.
+    pub steps: Vec<FileSteps>,
 }

@@ -8,6 +8,7 @@ ghost use Rattle.cs_apm.specs.Slots.{IsKnown, slot_at};
 ghost use Rattle.cs_state.specs.Parts.{count_in, read_in, record_in, IsState};
 ghost use Rattle.cs_state.specs.Shares.{place_of, slots_left};
 ghost use Rattle.cs_state.specs.States.{IsMade, slots_in};
+ghost use Rattle.cs_state.specs.Steps.{members_in};
 
 use crate::numbers::{Found, Own, found_at, number_of};
 use crate::parts::Parts;
@@ -18,30 +19,30 @@ use cs_tree_model::Metadata;
 use std::alloc::{AllocError, Global};
 use std::sync::Arc;
 
-/// What a state keeps: what it shares with the others, the members of its set, and what stands at the
-/// touched paths.
+/// What a state keeps: what it shares with the others, for each micro-operation whether it is a member of
+/// its set, and what stands at the touched paths.
 #[derive(Drop)]
 pub struct State {
     pub parts: Arc<Parts>,
-    pub places: Vec<u32>,
+    pub members: Vec<bool>,
     pub own: Vec<Own>,
 }
 
 /// What has the number in the state of a set.
-fn found_in(parts: &Parts, _places: &[u32], own: &[Own], number: u64) -> Option<Found>
-    requires { IsState parts.now _places.now own.now }
-    ensures slot { IfSome result (λ f. f.slot ≡ slot_at (slots_left parts.now.tables _places.now) f.id) }
-    ensures place { IfSome result (λ f. place_of (slots_left parts.now.tables _places.now) f.id ≡ Some number) }
-    ensures none { IfNone result (count_in parts.now _places.now ≤ number) }
+fn found_in(parts: &Parts, _members: &[bool], own: &[Own], number: u64) -> Option<Found>
+    requires { IsState parts.now (members_in _members.now) own.now }
+    ensures slot { IfSome result (λ f. f.slot ≡ slot_at (slots_left parts.now.tables (members_in _members.now)) f.id) }
+    ensures place { IfSome result (λ f. place_of (slots_left parts.now.tables (members_in _members.now)) f.id ≡ Some number) }
+    ensures none { IfNone result (count_in parts.now (members_in _members.now) ≤ number) }
 {
     found_at(&parts.shares.kept, &parts.tables.slots, own, number)
 }
 
 /// The number of what stands at the path in the state of a set, if something does.
-fn number_in(parts: &Parts, _places: &[u32], own: &[Own], id: u64) -> Option<u64>
-    requires state { IsState parts.now _places.now own.now }
+fn number_in(parts: &Parts, _members: &[bool], own: &[Own], id: u64) -> Option<u64>
+    requires state { IsState parts.now (members_in _members.now) own.now }
     requires there { id < length parts.now.tables.slots.items }
-    ensures { result ≡ place_of (slots_left parts.now.tables _places.now) id }
+    ensures { result ≡ place_of (slots_left parts.now.tables (members_in _members.now)) id }
 {
     number_of(&parts.shares.kept, &parts.shares.kept_below, own, id as u32)
 }
@@ -52,9 +53,9 @@ impl State {
         requires { IsMade self.now }
         ensures slot { IfSome result (λ f. f.slot ≡ slot_at (slots_in self.now) f.id) }
         ensures place { IfSome result (λ f. place_of (slots_in self.now) f.id ≡ Some number) }
-        ensures none { IfNone result (count_in (arc_value self.now.parts) self.now.places.items ≤ number) }
+        ensures none { IfNone result (count_in (arc_value self.now.parts) (members_in self.now.members.items) ≤ number) }
     {
-        found_in(&self.parts, &self.places, &self.own, number)
+        found_in(&self.parts, &self.members, &self.own, number)
     }
 
     /// The number of what stands at the path, if something does.
@@ -63,7 +64,7 @@ impl State {
         requires there { id < length (arc_value self.now.parts).tables.slots.items }
         ensures { result ≡ place_of (slots_in self.now) id }
     {
-        number_in(&self.parts, &self.places, &self.own, id)
+        number_in(&self.parts, &self.members, &self.own, id)
     }
 
     /// Every path that ever stands.
@@ -76,7 +77,7 @@ impl State {
     /// How many records there are.
     pub fn count(&self) -> usize
         requires { IsMade self.now }
-        ensures { result ≡ count_in (arc_value self.now.parts) self.now.places.items }
+        ensures { result ≡ count_in (arc_value self.now.parts) (members_in self.now.members.items) }
     {
         self.parts.shares.kept.len() + self.own.len()
     }
@@ -85,9 +86,9 @@ impl State {
     pub fn metadata(&self, number: u64, slot: Slot) -> Option<Metadata<'_>>
         requires made { IsMade self.now }
         requires known { IsKnown (length (arc_value self.now.parts).tables.rights.items) (length (arc_value self.now.parts).tables.owners.items) slot }
-        ensures { option_map lent result ≡ option_map (λ r. metadata_of (fresh_record number r)) (record_in (arc_value self.now.parts) self.now.places.items slot) }
+        ensures { option_map lent result ≡ option_map (λ r. metadata_of (fresh_record number r)) (record_in (arc_value self.now.parts) (members_in self.now.members.items) slot) }
     {
-        metadata_of(&self.parts, &self.places, number, slot)
+        metadata_of(&self.parts, &self.members, number, slot)
     }
 
     /// What is read of what stands in a slot.
@@ -100,9 +101,9 @@ impl State {
     ) -> Result<Option<Vec<u8>>, AllocError>
         requires made { IsMade self.now }
         requires known { IsKnown (length (arc_value self.now.parts).tables.rights.items) (length (arc_value self.now.parts).tables.owners.items) slot }
-        ensures value { IfOk result (λ bytes. option_map (λ v. v.items) bytes ≡ read_in (arc_value self.now.parts) self.now.places.items slot offset count) }
-        ensures memory { IsErr result → IsSomeAnd (read_in (arc_value self.now.parts) self.now.places.items slot offset count) (λ bytes. bytes ≢ []) }
+        ensures value { IfOk result (λ bytes. option_map (λ v. v.items) bytes ≡ read_in (arc_value self.now.parts) (members_in self.now.members.items) slot offset count) }
+        ensures memory { IsErr result → IsSomeAnd (read_in (arc_value self.now.parts) (members_in self.now.members.items) slot offset count) (λ bytes. bytes ≢ []) }
     {
-        read(alloc, &self.parts, &self.places, slot, offset, count)
+        read(alloc, &self.parts, &self.members, slot, offset, count)
     }
 }

@@ -1,48 +1,37 @@
-use Rattle.std.proofs.Common.{◌≡◌, ◌+◌, sym, ap, ◌∙◌, subst, arith, length, take, get_or}
-use Rattle.std.proofs.Math.Seq.{take-length}
-use Rattle.std.proofs.lemmas.List.{get_or_read}
-use Rattle.cs_micro.specs.declared.micro_op.MicroOp.TheVariants.{Say}
-use Rattle.cs_apm.specs.States.{Content}
-use Rattle.cs_apm.specs.Contents.{content_after, content_left}
-use Rattle.cs_state.specs.Windows.{whole, IsPart}
+use Rattle.std.proofs.Common.{◌≡◌, ℕ, ◌+◌, ◌<◌, ◌≤◌, ◌*◌, inl, inr, ⊎_elim, Some, sym, ap, ◌∙◌, arith, length, get_or}
+use Rattle.std.proofs.lemmas.Bool.{cases_lt}
+use Rattle.std.proofs.lemmas.Option.{slice_get-get_or}
+use Rattle.std.specs.Prelude.{slice_get}
+use Rattle.cs_micro.specs.declared.blocks.TheConstants.{BLOCK_BYTES}
+use Rattle.cs_state.specs.Steps.{struck_by}
+use Rattle.cs_state.specs.Windows.{byte_of, whole}
 use Rattle.cs_state.proofs.Joining.{rejoined}
-use Rattle.cs_state.proofs.Showing.{none_left, one_more}
 use Rattle.cs_state.proofs.bytes.part_left.Goals as goal
 
-pub loop-place-init : goal.loop-place-init
-loop-place-init c =
-    let none = none_left c.args.file (whole c.args.start.now) c.args.ops.now c.args.places.now in
-    record {
-      long = c.in_ok-part.ensures.long;
-      size = ap (λ (f : Content). f.size) (sym none);
-      part = subst (λ f. IsPart c.args.offset f c.in_ok-part.part.items) none c.in_ok-part.ensures.part;
-    }
-
-pub loop-place-preserved : goal.loop-place-preserved
-loop-place-preserved c =
-    let k = c.loop-place.place-index in
-    let low = c.loop-place-test.true in
-    let places = c.args.places.now in
-    let ops = c.args.ops.now in
-    let new = c.step-size.new.part in
-    let at = get_or_read ops (get_or places k 0) c.index-ops-place.result (c.requires.inside k 0 low) c.index-ops-place.is Say in
-    let before = content_left c.args.file (whole c.args.start.now) ops (take k places) in
-    let same : content_left c.args.file (whole c.args.start.now) ops (take (k + 1) places) ≡ content_after c.args.file before c.index-ops-place.result =
-    one_more c.args.file (whole c.args.start.now) ops places k low ∙ ap (content_after c.args.file before) (sym at) in
+pub loop-block-preserved : goal.loop-block-preserved
+loop-block-preserved c =
+    let b = c.loop-block.block in
+    let offset = c.args.offset in
+    let blocks = c.args.blocks.now in
+    let new = c.take_block.new.part in
+    let old = c.loop-block.part.items in
+    let row = c.index-blocks-block.result in
     let was = c.deref_mut.ensures.value in
-    let long : length new ≡ length c.loop-place.part.items = c.step-size.ensures.long ∙ ap length was in
-    let all = rejoined 0 c.loop-place.part.len new c.loop-place.part.items c.loop-place.part.ok.0 long in
+    let long : length new ≡ length old = c.take_block.ensures.long ∙ ap length was in
+    let all = rejoined 0 c.loop-block.part.len new old c.loop-block.part.ok.0 long in
+    let many = c.loop-block.invariant.long in
+    let there : slice_get blocks b ≡ Some row = slice_get-get_or blocks b row (omega arith) ∙ ap Some (sym c.index-blocks-block.is) in
+    let outside : (k : ℕ) → _ → get_or new k 0 ≡ get_or old k 0 = λ k apart. c.take_block.ensures.outside k apart ∙ ap (λ xs. get_or xs k 0) was in
     record {
-      long = ap length all ∙ long ∙ c.loop-place.invariant.long;
-      size = ap (λ (f : Content). f.size) same ∙ c.step-size.ensures.size before c.loop-place.invariant.size;
-      part = subst (λ ps. IsPart c.args.offset (content_left c.args.file (whole c.args.start.now) ops (take (k + 1) places)) ps) (sym all)
-          (subst (λ f. IsPart c.args.offset f new) (sym same)
-          (c.step-size.ensures.part before c.loop-place.invariant.size (subst (IsPart c.args.offset before) (sym was) c.loop-place.invariant.part)));
+      long = ap length all ∙ long ∙ many;
+      done = λ g agrees k low before. ap (λ xs. get_or xs k 0) all ∙ ⊎_elim
+          (λ (earlier : offset + k < b * BLOCK_BYTES). outside k (inl earlier) ∙ c.loop-block.invariant.done g agrees k low earlier)
+          (λ (here : b * BLOCK_BYTES ≤ offset + k).
+          c.take_block.ensures.inside (whole c.args.start.now)
+          (λ j l ge less. ap (λ xs. get_or xs j 0) was ∙ c.loop-block.invariant.rest j (let same = ap length was in omega (arith, l, same, many)) ge)
+          k (omega (arith, low, long, many)) here (omega (arith, before))
+          ∙ ap (λ places. byte_of (struck_by c.args.ops.now c.args.members.now (whole c.args.start.now) places) (offset + k)) c.deref.ensures.value
+          ∙ agrees b row there (offset + k) here (omega (arith, before)))
+          (cases_lt (offset + k) (b * BLOCK_BYTES));
+      rest = λ k low ge. ap (λ xs. get_or xs k 0) all ∙ outside k (inr (omega (arith, ge))) ∙ c.loop-block.invariant.rest k low (omega (arith, ge));
     }
-
-pub returns-clause-part : goal.returns-clause-part
-returns-clause-part c =
-    let places = c.args.places.now in
-    let index : length places ≡ c.loop-place.place-index = omega arith in
-    let all : take c.loop-place.place-index places ≡ places = subst (λ n. take n places ≡ places) index (take-length places) in
-    subst (λ ps. IsPart c.args.offset (content_left c.args.file (whole c.args.start.now) c.args.ops.now ps) c.loop-place.part.items) all c.loop-place.invariant.part

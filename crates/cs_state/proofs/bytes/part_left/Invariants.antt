@@ -1,11 +1,16 @@
-use Rattle.std.proofs.Common.{◌≡◌, length, take}
-use Rattle.cs_apm.specs.Contents.{content_left}
-use Rattle.cs_state.specs.Windows.{whole, IsPart}
+use Rattle.std.proofs.Common.{◌≡◌, ◌≤◌, ◌<◌, ◌+◌, ◌*◌, ℕ, Some, length, get_or}
+use Rattle.std.specs.Global.{Vec}
+use Rattle.std.specs.Prelude.{slice_get}
+use Rattle.cs_micro.specs.declared.blocks.TheConstants.{BLOCK_BYTES}
+use Rattle.cs_apm.specs.States.{Content}
+use Rattle.cs_state.specs.Steps.{struck_by, AgreeIn}
+use Rattle.cs_state.specs.Windows.{byte_of, whole}
 use Rattle.cs_state.proofs.bytes.part_left.Given as goal
 
-abbrev pub invariant-loop-place : goal.invariant-loop-place
-invariant-loop-place l = record {
+abbrev pub invariant-loop-block : goal.invariant-loop-block
+invariant-loop-block l = record {
   long : length l.part.items ≡ l.count;
-  size : (content_left l.file (whole l.start) l.ops (take l.place-index l.places)).size ≡ l.size;
-  part : IsPart l.offset (content_left l.file (whole l.start) l.ops (take l.place-index l.places)) l.part.items;
+  done : (g : Content) → ((block : ℕ) (row : Vec ℕ) → slice_get l.blocks block ≡ Some row → AgreeIn block (struck_by l.ops l.members (whole l.start) row.items) g)
+      → (k : ℕ) → k < l.count → l.offset + k < l.block * BLOCK_BYTES → get_or l.part.items k 0 ≡ byte_of g (l.offset + k);
+  rest : (k : ℕ) → k < l.count → l.block * BLOCK_BYTES ≤ l.offset + k → get_or l.part.items k 0 ≡ byte_of (whole l.start) (l.offset + k);
 }

@@ -3,6 +3,7 @@ use Rattle.std.specs.Option.{IfNone, IfSome}
 use Rattle.cs_state.specs.declared.numbers.Found.{Found}
 use Rattle.cs_state.specs.Numbers.{kept_at, number_in, IsFound, IsMerge}
 use Rattle.cs_state.specs.Shares.{place_of, slots_left}
+use Rattle.cs_state.specs.Steps.{members_in}
 use Rattle.cs_state.proofs.Sharing.{count_is, found_place, found_slot}
 use Rattle.cs_state.proofs.Standing.{stands_inside}
 use Rattle.cs_state.proofs.state.found_in.Goals as goal
@@ -26,18 +27,18 @@ found_at-requires-clause-inside c =
 
 pub returns-clause-slot : goal.returns-clause-slot
 returns-clause-slot c = if_some c.found_at.result
-    (λ f is. found_slot c.args.parts.now c.args._places.now c.args.own.now c.requires f (subst (λ ks. IsFound ks c.args.parts.now.tables.slots.items c.args.own.now f) c.deref.ensures.value (subst (λ ss. IsFound c.deref.result.now ss c.args.own.now f) c.deref-2.ensures.value is)))
+    (λ f is. found_slot c.args.parts.now (members_in c.args._members.now) c.args.own.now c.requires f (subst (λ ks. IsFound ks c.args.parts.now.tables.slots.items c.args.own.now f) c.deref.ensures.value (subst (λ ss. IsFound c.deref.result.now ss c.args.own.now f) c.deref-2.ensures.value is)))
     c.found_at.ensures.found
 
 pub returns-clause-place : goal.returns-clause-place
 returns-clause-place c = both c.found_at.result c.found_at.ensures.found c.found_at.ensures.number
   where
-    both : (o : Option Found) → IfSome o (IsFound c.deref.result.now c.deref-2.result.now c.args.own.now) → IfSome o (λ f. number_in c.deref.result.now c.args.own.now f.id ≡ c.args.number) → IfSome o (λ f. place_of (slots_left c.args.parts.now.tables c.args._places.now) f.id ≡ Some c.args.number)
+    both : (o : Option Found) → IfSome o (IsFound c.deref.result.now c.deref-2.result.now c.args.own.now) → IfSome o (λ f. number_in c.deref.result.now c.args.own.now f.id ≡ c.args.number) → IfSome o (λ f. place_of (slots_left c.args.parts.now.tables (members_in c.args._members.now)) f.id ≡ Some c.args.number)
     both None is number = tt
-    both (Some f) is number = found_place c.args.parts.now c.args._places.now c.args.own.now c.requires f c.args.number (subst (λ ks. IsFound ks c.args.parts.now.tables.slots.items c.args.own.now f) c.deref.ensures.value (subst (λ ss. IsFound c.deref.result.now ss c.args.own.now f) c.deref-2.ensures.value is))
+    both (Some f) is number = found_place c.args.parts.now (members_in c.args._members.now) c.args.own.now c.requires f c.args.number (subst (λ ks. IsFound ks c.args.parts.now.tables.slots.items c.args.own.now f) c.deref.ensures.value (subst (λ ss. IsFound c.deref.result.now ss c.args.own.now f) c.deref-2.ensures.value is))
         (ap (λ ks. number_in ks c.args.own.now f.id) (sym c.deref.ensures.value) ∙ number)
 
 pub returns-clause-none : goal.returns-clause-none
 returns-clause-none c = if_none c.found_at.result
-    (λ le. let same = ap length c.deref.ensures.value in let count = count_is c.args.parts.now c.args._places.now c.args.own.now c.requires in omega (arith, le, same, count))
+    (λ le. let same = ap length c.deref.ensures.value in let count = count_is c.args.parts.now (members_in c.args._members.now) c.args.own.now c.requires in omega (arith, le, same, count))
     c.found_at.ensures.none

@@ -1,6 +1,7 @@
 use Rattle.std.proofs.Common.{◌≡◌, ℕ, Option, None, Some, sym, ap, ◌∙◌, subst, arith, length}
 use Rattle.std.specs.Option.{IfNone, IfSome}
 use Rattle.cs_state.specs.Numbers.{below, kept_at, number_in, HasId, IsMerge}
+use Rattle.cs_state.specs.Steps.{members_in}
 use Rattle.cs_state.proofs.Sharing.{id_place, own_few}
 use Rattle.cs_state.proofs.state.number_in.Goals as goal
 
@@ -19,7 +20,7 @@ number_of-requires-clause-counted c =
     ap (λ ks. kept_at ks c.args.id) c.deref-2.ensures.value ∙ c.requires.state.whole.shares.below c.args.id c.requires.there ∙ ap (λ ks. below (λ k. k) ks c.args.id) (sym c.deref.ensures.value)
 
 pub number_of-requires-clause-small : goal.number_of-requires-clause-small
-number_of-requires-clause-small c = own_few c.args.parts.now c.args._places.now c.args.own.now c.requires.state
+number_of-requires-clause-small c = own_few c.args.parts.now (members_in c.args._members.now) c.args.own.now c.requires.state
 
 both : (o : Option ℕ) (A : Type 0) (m : ℕ) → IfSome o (λ n. A) → IfSome o (λ n. m ≡ n) → (n : ℕ) → o ≡ Some n → A × (m ≡ n)
 both None A m there number n is = absurd (cc)
@@ -33,7 +34,7 @@ pub returns : goal.returns
 returns c =
     let h = c.number_of.ensures in
     let same : HasId c.args.parts.now.shares.kept.items c.args.own.now c.args.id ≡ HasId c.deref.result.now c.args.own.now c.args.id = ap (λ ks. HasId ks c.args.own.now c.args.id) (sym c.deref.ensures.value) in
-    id_place c.args.parts.now c.args._places.now c.args.own.now c.requires.state c.number_of.result c.args.id
+    id_place c.args.parts.now (members_in c.args._members.now) c.args.own.now c.requires.state c.number_of.result c.args.id
     (subst (λ ks. (n : ℕ) → c.number_of.result ≡ Some n → HasId ks c.args.own.now c.args.id × (number_in ks c.args.own.now c.args.id ≡ n)) c.deref.ensures.value
     (both c.number_of.result (HasId c.deref.result.now c.args.own.now c.args.id) (number_in c.deref.result.now c.args.own.now c.args.id) h.there h.number))
     (subst (λ ks. c.number_of.result ≡ None → HasId ks c.args.own.now c.args.id → ⊥) c.deref.ensures.value

@@ -1,6 +1,6 @@
 use Rattle.std.proofs.Common.{◌≡◌, ◌<◌, ◌-◌, ap, ◌∙◌, arith, take, drop, max, get_or}
 use Rattle.cs_state.proofs.Showing.{part_copied, resized_at}
-use Rattle.cs_state.proofs.bytes.part_of.Goals as goal
+use Rattle.cs_state.proofs.bytes.copied.Goals as goal
 
 pub returns-clause-part : goal.returns-clause-part
 returns-clause-part c =

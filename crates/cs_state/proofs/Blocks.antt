@@ -1,0 +1,263 @@
+-- What reaches no block leaves its bytes: those that reach it leave the bytes that all of a set leave.
+use Rattle.std.proofs.Common.{◌≡◌, ◌≢◌, ℕ, zero, suc, ◌+◌, ◌*◌, ◌/◌, ◌<◌, ◌≤◌, ◌==◌, ◌&&◌, Bool, true, false, cond, nat_lt, nat_le, List, [], ◌∷◌, ◌++◌, Some, refl, sym, ap, ◌∙◌, subst, arith, ⊎_elim, length, map, take, get_or}
+use Rattle.std.proofs.Math.Nat.{div-mul-le_self}
+use Rattle.std.proofs.lemmas.Bool.{cases_Bool, cases_eq, cases_lt, false≢true, eq-eqb, le-leb}
+use Rattle.std.proofs.lemmas.List.{get_or-take, get_or_append_left, get_or_at, get_or_past, length-take, length_push, take_more}
+use Rattle.std.proofs.lemmas.List.Sums.{fold_push}
+use Rattle.std.proofs.lemmas.Option.{get_or_from_slice_get, slice_get-get_or, slice_get_within}
+use Rattle.std.specs.Prelude.{fold, slice_get}
+use Rattle.cs_micro.specs.declared.blocks.TheConstants.{BLOCK_BYTES}
+use Rattle.cs_micro.specs.declared.micro_op.MicroOp.{MicroOp}
+use Rattle.cs_micro.specs.declared.micro_op.MicroOp.TheVariants.{CreateDirEntry, DeleteDirEntry, MoveDirEntry, ChangeFileSize, WriteBlock, Say}
+use Rattle.cs_apm.specs.Contents.{changes, content_after, content_left}
+use Rattle.cs_apm.specs.Rules.{op_at}
+use Rattle.cs_apm.specs.States.{Content, overwritten, resized}
+use Rattle.cs_state.specs.Shares.{ids, mark_at}
+use Rattle.cs_state.specs.Steps.{member_struck, picked, reaches, resizes, size_before, struck, struck_by, touches, AgreeIn, IsFitting}
+use Rattle.cs_state.specs.Windows.{byte_of, size_after}
+use Rattle.cs_state.proofs.Listing.{no_more}
+use Rattle.cs_state.proofs.Showing.{byte_before, byte_behind, byte_inside, one_size}
+
+-- ---- folds over those that pass a test
+
+pub fold_ids : {S : Type 0} (g : S → ℕ → S) (s : S) (f : ℕ → Bool) (k : ℕ) → fold g s (ids f (suc k)) ≡ cond (f k) (g (fold g s (ids f k)) k) (fold g s (ids f k))
+fold_ids g s f k = by (f k)
+  where
+    by : (b : Bool) → fold g s (ids f k ++ cond b (k ∷ []) []) ≡ cond b (g (fold g s (ids f k)) k) (fold g s (ids f k))
+    by true = fold_push g s (ids f k) k
+    by false = ap (fold g s) (no_more (ids f k))
+
+pub fold_map : {S X : Type 0} (g : S → X → S) (h : ℕ → X) (s : S) (ks : List ℕ) → fold g s (map h ks) ≡ fold (λ s k. g s (h k)) s ks
+fold_map g h s [] = refl
+fold_map g h s (k ∷ ks) = fold_map g h (g s (h k)) ks
+
+pub picked_end : (f : ℕ → Bool) (xs ys : List ℕ) → picked f (xs ++ ys) ≡ picked f xs ++ picked f ys
+picked_end f [] ys = refl
+picked_end f (x ∷ xs) ys = by (f x) (picked_end f xs ys)
+  where
+    by : (b : Bool) → picked f (xs ++ ys) ≡ picked f xs ++ picked f ys → cond b (x ∷ []) [] ++ picked f (xs ++ ys) ≡ (cond b (x ∷ []) [] ++ picked f xs) ++ picked f ys
+    by true same = ap (λ l. x ∷ l) same
+    by false same = same
+
+pub picked_more : (f : ℕ → Bool) (xs : List ℕ) (i : ℕ) → i < length xs → picked f (take (i + 1) xs) ≡ picked f (take i xs) ++ cond (f (get_or xs i 0)) (get_or xs i 0 ∷ []) []
+picked_more f xs i low = ap (picked f) (take_more xs i 0 low) ∙ picked_end f (take i xs) (get_or xs i 0 ∷ []) ∙ ap (λ l. picked f (take i xs) ++ l) (no_more (cond (f (get_or xs i 0)) (get_or xs i 0 ∷ []) []))
+
+-- those that pass two tests, one after the other
+pub picked_ids : (f g : ℕ → Bool) (n : ℕ) → picked g (ids f n) ≡ ids (λ k. f k && g k) n
+picked_ids f g zero = refl
+picked_ids f g (suc n) = picked_end g (ids f n) (cond (f n) (n ∷ []) []) ∙ (λ i. picked_ids f g n i ++ by (f n) (g n) refl i)
+  where
+    by : (a b : Bool) → b ≡ g n → picked g (cond a (n ∷ []) []) ≡ cond (a && b) (n ∷ []) []
+    by true b same = no_more (cond (g n) (n ∷ []) []) ∙ ap (λ v. cond v (n ∷ []) []) (sym same)
+    by false b same = refl
+
+-- an element of a list with one more
+pub each_more : {X : Type 0} (P : ℕ → X → Type 0) (xs : List X) (x : X) → ((k : ℕ) (y : X) → slice_get xs k ≡ Some y → P k y) → P (length xs) x → (k : ℕ) (y : X) → slice_get (xs ++ x ∷ []) k ≡ Some y → P k y
+each_more P xs x each last k y there =
+    let inside = slice_get_within (xs ++ x ∷ []) k y there in
+    let got = get_or_from_slice_get (xs ++ x ∷ []) k y y there in
+    let more = length_push xs x in
+    ⊎_elim
+    (λ (same : k ≡ length xs). subst (λ v. P k v) (sym (get_or_at xs x [] y k (sym same)) ∙ got) (subst (λ v. P v x) (sym same) last))
+    (λ (other : k ≢ length xs).
+    let low : k < length xs = omega (arith, inside, more, other) in
+    each k y (slice_get-get_or xs k y low ∙ ap Some (sym (get_or_append_left xs (x ∷ []) y k low) ∙ got)))
+    (cases_eq k (length xs))
+
+pub picked_same : (f g : ℕ → Bool) (n : ℕ) (xs : List ℕ) → ((k : ℕ) → k < n → f k ≡ g k) → ((k : ℕ) → k < length xs → get_or xs k 0 < n) → picked f xs ≡ picked g xs
+picked_same f g n [] same low = refl
+picked_same f g n (x ∷ xs) same low = (λ i. cond (same x (low 0 (omega arith)) i) (x ∷ []) [] ++ picked_same f g n xs same (λ k l. low (suc k) (omega (arith, l))) i)
+
+-- ---- one micro-operation
+
+module _ (n block i : ℕ) (from : block * BLOCK_BYTES ≤ i) (end : i < block * BLOCK_BYTES + BLOCK_BYTES) where
+  taken : (to : ℕ) (xs ys : List ℕ) → get_or xs i 0 ≡ get_or ys i 0 → get_or (take to xs) i 0 ≡ get_or (take to ys) i 0
+  taken to xs ys same = ⊎_elim
+      (λ (low : i < to). get_or-take to xs i 0 low ∙ same ∙ sym (get_or-take to ys i 0 low))
+      (λ (high : to ≤ i).
+      get_or_past (take to xs) i 0 (let t = length-take to xs in omega (arith, t, high)) ∙ sym (get_or_past (take to ys) i 0 (let t = length-take to ys in omega (arith, t, high))))
+      (cases_lt i to)
+
+  over : (at : ℕ) (piece : List ℕ) (g f : Content) → byte_of g i ≡ byte_of f i → byte_of (overwritten at piece g) i ≡ byte_of (overwritten at piece f) i
+  over at piece g f same = ⊎_elim
+      (λ (before : i < at). byte_before at piece g i before ∙ same ∙ sym (byte_before at piece f i before))
+      (λ (ge : at ≤ i). ⊎_elim
+      (λ (within : i < at + length piece). byte_inside at piece g i ge within ∙ sym (byte_inside at piece f i ge within))
+      (λ (behind : at + length piece ≤ i). byte_behind at piece g i behind ∙ same ∙ sym (byte_behind at piece f i behind))
+      (cases_lt i (at + length piece)))
+      (cases_lt i at)
+
+  -- a file that ends in a later block keeps the bytes of this one
+  later : (to : ℕ) (xs : List ℕ) → nat_le (to / BLOCK_BYTES) block ≡ false → get_or xs i 0 ≡ get_or (take to xs) i 0
+  later to xs not = sym (get_or-take to xs i 0 (let d = div-mul-le_self to BLOCK_BYTES in let l = beyond (to / BLOCK_BYTES) not in omega (arith, d, l, end)))
+    where
+      beyond : (q : ℕ) → nat_le q block ≡ false → block + 1 ≤ q
+      beyond q is = ⊎_elim
+          (λ (lt : block < q). omega (arith, lt))
+          (λ (le : q ≤ block). absurd (false≢true (sym is ∙ le-leb q block le)))
+          (cases_lt block q)
+
+  -- what is written into another block leaves this one
+  apart : (other at : ℕ) (piece : List ℕ) (f : Content) → at + length piece ≤ BLOCK_BYTES → (other == block) ≡ false → byte_of f i ≡ byte_of (overwritten (other * BLOCK_BYTES + at) piece f) i
+  apart other at piece f fits not = ⊎_elim
+      (λ (before : i < other * BLOCK_BYTES + at). sym (byte_before (other * BLOCK_BYTES + at) piece f i before))
+      (λ (ge : other * BLOCK_BYTES + at ≤ i). sym (byte_behind (other * BLOCK_BYTES + at) piece f i (⊎_elim
+      (λ (less : other < block). omega (arith, less, fits, from))
+      (λ (not_less : block ≤ other). ⊎_elim
+      (λ (same : other ≡ block). absurd (false≢true (sym not ∙ eq-eqb other block same)))
+      (λ (more : other ≢ block). absurd (omega (arith, not_less, more, ge, end)))
+      (cases_eq other block))
+      (cases_lt other block))))
+      (cases_lt i (other * BLOCK_BYTES + at))
+
+  module _ (size : ℕ) (f g : Content) (same : byte_of g i ≡ byte_of f i) where
+    cut_one : (file to : ℕ) (c : Bool) → (c ≡ true → f.size ≡ size) → byte_of (cond (c && (nat_lt to size && nat_le (to / BLOCK_BYTES) block)) (struck g (ChangeFileSize file to)) g) i ≡ byte_of (cond c (resized to f) f) i
+    cut_one file to false sized = same
+    cut_one file to true sized =
+        by (nat_lt to size) (nat_le (to / BLOCK_BYTES) block) refl
+        ∙ ap (λ s. get_or (cond (nat_lt to s) (take to f.bytes) f.bytes) i 0) (sym (sized refl))
+      where
+        by : (a b : Bool) → nat_le (to / BLOCK_BYTES) block ≡ b → byte_of (cond (a && b) (struck g (ChangeFileSize file to)) g) i ≡ get_or (cond a (take to f.bytes) f.bytes) i 0
+        by true true is = taken to g.bytes f.bytes same
+        by true false is = same ∙ later to f.bytes is
+        by false b is = same
+
+    write_one : (file other at : ℕ) (piece : List ℕ) (c : Bool) → at + length piece ≤ BLOCK_BYTES
+        → byte_of (cond (c && (other == block)) (struck g (WriteBlock file other at piece)) g) i ≡ byte_of (cond c (overwritten (other * BLOCK_BYTES + at) piece f) f) i
+    write_one file other at piece false fits = same
+    write_one file other at piece true fits = by (other == block) refl
+      where
+        by : (b : Bool) → (other == block) ≡ b → byte_of (cond b (struck g (WriteBlock file other at piece)) g) i ≡ byte_of (overwritten (other * BLOCK_BYTES + at) piece f) i
+        by true is = over (other * BLOCK_BYTES + at) piece g f same
+        by false is = same ∙ apart other at piece f fits is
+
+    one_step : (o : MicroOp) → IsFitting o → (resizes n o ≡ true → f.size ≡ size) → byte_of (cond (changes n o && reaches block size o) (struck g o) g) i ≡ byte_of (content_after n f o) i
+    one_step (ChangeFileSize file to) fits sized = cut_one file to (file == n) sized
+    one_step (WriteBlock file other at piece) fits sized = write_one file other at piece (file == n) fits
+    one_step (CreateDirEntry p node rights) fits sized = same
+    one_step (DeleteDirEntry p kind) fits sized = same
+    one_step (MoveDirEntry p q) fits sized = same
+    one_step Say fits sized = same
+
+-- ---- one after the other
+
+unresized : (n s : ℕ) (o : MicroOp) → resizes n o ≡ false → size_after n s o ≡ s
+unresized n s (ChangeFileSize file to) is = ap (λ b. cond b to s) is
+unresized n s (WriteBlock file block at bytes) is = refl
+unresized n s (CreateDirEntry p node rights) is = refl
+unresized n s (DeleteDirEntry p kind) is = refl
+unresized n s (MoveDirEntry p q) is = refl
+unresized n s Say is = refl
+
+module _ (n : ℕ) (start : Content) (ops : List MicroOp) (members : List Bool) where
+  abbrev left : ℕ → Content
+  left k = fold (λ f j. content_after n f (op_at ops j)) start (ids (mark_at members) k)
+
+  left_more : (k : ℕ) → left (suc k) ≡ cond (mark_at members k) (content_after n (left k) (op_at ops k)) (left k)
+  left_more k = fold_ids (λ f j. content_after n f (op_at ops j)) start (mark_at members) k
+
+  -- where each that changes the size is a member, the size is what all leave
+  sizes_same : (k : ℕ) → ((j : ℕ) → j < k → resizes n (op_at ops j) ≡ true → mark_at members j ≡ true) → (left k).size ≡ size_before n start.size ops k
+  sizes_same zero all = refl
+  sizes_same (suc k) all =
+      let before = sizes_same k (λ j low is. all j (omega (arith, low)) is) in
+      ap (λ (f : Content). f.size) (left_more k) ∙ ⊎_elim
+      (λ (here : mark_at members k ≡ true).
+      ap (λ b. (cond b (content_after n (left k) (op_at ops k)) (left k)).size) here ∙ one_size n (left k) (op_at ops k) ∙ ap (λ s. size_after n s (op_at ops k)) before)
+      (λ (gone : mark_at members k ≡ false).
+      ap (λ b. (cond b (content_after n (left k) (op_at ops k)) (left k)).size) gone ∙ before ∙ sym (unresized n (size_before n start.size ops k) (op_at ops k) (none gone)))
+      (cases_Bool (mark_at members k))
+    where
+      none : mark_at members k ≡ false → resizes n (op_at ops k) ≡ false
+      none gone = ⊎_elim
+          (λ (yes : resizes n (op_at ops k) ≡ true). absurd (false≢true (sym gone ∙ all k (omega arith) yes)))
+          (λ (not : resizes n (op_at ops k) ≡ false). not)
+          (cases_Bool (resizes n (op_at ops k)))
+
+  module _ (count block : ℕ) (fits : (k : ℕ) → k < count → IsFitting (op_at ops k))
+      (closed : (j k : ℕ) → j < k → mark_at members k ≡ true → resizes n (op_at ops j) ≡ true → resizes n (op_at ops k) ≡ true → mark_at members j ≡ true) where
+    abbrev shown : ℕ → Content
+    shown k = fold (member_struck ops members) start (ids (touches n start.size ops block) k)
+
+    module _ (i : ℕ) (from : block * BLOCK_BYTES ≤ i) (end : i < block * BLOCK_BYTES + BLOCK_BYTES) where
+      agree_at : (k : ℕ) → k ≤ count → byte_of (shown k) i ≡ byte_of (left k) i
+      agree_at zero low = refl
+      agree_at (suc k) low =
+          ap (λ f. byte_of f i) (fold_ids (member_struck ops members) start (touches n start.size ops block) k)
+          ∙ by (agree_at k (omega (arith, low))) (mark_at members k) refl
+          ∙ sym (ap (λ f. byte_of f i) (left_more k))
+        where
+          same_both : (b : Bool) → cond b (shown k) (shown k) ≡ shown k
+          same_both true = refl
+          same_both false = refl
+
+          by : byte_of (shown k) i ≡ byte_of (left k) i → (b : Bool) → mark_at members k ≡ b
+              → byte_of (cond (touches n start.size ops block k) (cond b (struck (shown k) (op_at ops k)) (shown k)) (shown k)) i ≡ byte_of (cond b (content_after n (left k) (op_at ops k)) (left k)) i
+          by before true here = one_step n block i from end (size_before n start.size ops k) (left k) (shown k) before (op_at ops k) (fits k (omega (arith, low)))
+              (λ is. sizes_same k (λ j less was. closed j k less here was is))
+          by before false gone = ap (λ f. byte_of f i) (same_both (touches n start.size ops block k)) ∙ before
+
+    pub agree : AgreeIn block (struck_by ops members start (ids (touches n start.size ops block) count)) (content_left n start ops (ids (mark_at members) count))
+    unfolding content_left
+    agree i from end = agree_at i from end count (omega arith) ∙ sym (ap (λ f. byte_of f i) (fold_map (content_after n) (op_at ops) start (ids (mark_at members) count)))
+
+-- ---- the size alone
+
+module _ (n size : ℕ) (ops : List MicroOp) (has : ℕ → Bool) where
+  abbrev sized : ℕ → ℕ
+  sized k = fold (λ s j. size_after n s (op_at ops j)) size (ids has k)
+
+  sized_more : (k : ℕ) → sized (suc k) ≡ cond (has k) (size_after n (sized k) (op_at ops k)) (sized k)
+  sized_more k = fold_ids (λ s j. size_after n s (op_at ops j)) size has k
+
+  -- what is no member, or changes no size, leaves it
+  sized_kept : (k : ℕ) → (resizes n (op_at ops k) ≡ true → has k ≡ false) → sized (suc k) ≡ sized k
+  sized_kept k none = sized_more k ∙ ⊎_elim
+      (λ (yes : resizes n (op_at ops k) ≡ true). ap (λ b. cond b (size_after n (sized k) (op_at ops k)) (sized k)) (none yes))
+      (λ (not : resizes n (op_at ops k) ≡ false). by (has k) (unresized n (sized k) (op_at ops k) not))
+      (cases_Bool (resizes n (op_at ops k)))
+    where
+      by : (b : Bool) → size_after n (sized k) (op_at ops k) ≡ sized k → cond b (size_after n (sized k) (op_at ops k)) (sized k) ≡ sized k
+      by true same = same
+      by false same = refl
+
+  pub none_sized : (k : ℕ) → ((j : ℕ) → j < k → resizes n (op_at ops j) ≡ true → has j ≡ false) → sized k ≡ size
+  none_sized zero none = refl
+  none_sized (suc k) none = sized_kept k (none k (omega arith)) ∙ none_sized k (λ j low. none j (omega (arith, low)))
+
+  pub last_sized : (k p : ℕ) → p < k → has p ≡ true → resizes n (op_at ops p) ≡ true → ((j : ℕ) → p < j → j < k → resizes n (op_at ops j) ≡ true → has j ≡ false) → sized k ≡ size_after n size (op_at ops p)
+  last_sized zero p low here is none = absurd (omega (arith, low))
+  last_sized (suc k) p low here is none = ⊎_elim
+      (λ (same : p ≡ k).
+      sized_more k ∙ subst (λ j. cond (has j) (size_after n (sized k) (op_at ops j)) (sized k) ≡ size_after n size (op_at ops p)) same
+      (ap (λ b. cond b (size_after n (sized k) (op_at ops p)) (sized k)) here ∙ any_size (op_at ops p) is))
+      (λ (other : p ≢ k). sized_kept k (none k (omega (arith, low, other)) (omega arith)) ∙ last_sized k p (omega (arith, low, other)) here is (λ j after less. none j after (omega (arith, less))))
+      (cases_eq p k)
+    where
+      any_size : (o : MicroOp) → resizes n o ≡ true → size_after n (sized k) o ≡ size_after n size o
+      any_size (ChangeFileSize file to) is = ap (λ b. cond b to (sized k)) is ∙ sym (ap (λ b. cond b to size) is)
+      any_size (WriteBlock file block at bytes) is = absurd (false≢true is)
+      any_size (CreateDirEntry p node rights) is = absurd (false≢true is)
+      any_size (DeleteDirEntry p kind) is = absurd (false≢true is)
+      any_size (MoveDirEntry p q) is = absurd (false≢true is)
+      any_size Say is = absurd (false≢true is)
+
+  pub sized_below : (m : ℕ) → size < m → (count : ℕ) → ((k : ℕ) → k < count → size_after n 0 (op_at ops k) < m) → (k : ℕ) → k ≤ count → sized k < m
+  sized_below m first count all zero low = first
+  sized_below m first count all (suc k) low = subst (λ v. v < m) (sym (sized_more k)) (by (sized_below m first count all k (omega (arith, low))) (has k))
+    where
+      one : sized k < m → (o : MicroOp) → size_after n 0 o < m → size_after n (sized k) o < m
+      one before (ChangeFileSize file to) less = two (file == n) less
+        where
+          two : (b : Bool) → cond b to 0 < m → cond b to (sized k) < m
+          two true less = less
+          two false less = before
+      one before (WriteBlock file block at bytes) less = before
+      one before (CreateDirEntry p node rights) less = before
+      one before (DeleteDirEntry p kind) less = before
+      one before (MoveDirEntry p q) less = before
+      one before Say less = before
+
+      by : sized k < m → (b : Bool) → cond b (size_after n (sized k) (op_at ops k)) (sized k) < m
+      by before true = one before (op_at ops k) (all k (omega (arith, low)))
+      by before false = before

@@ -1,0 +1,79 @@
+-- What the steps of a file say of each state: its size, and the bytes of each block.
+use Rattle.std.proofs.Common.{◌≡◌, ℕ, ◌<◌, ◌*◌, Bool, true, List, [], ◌∷◌, Some, sym, ap, ◌∙◌, subst, arith, length, map, get_or}
+use Rattle.std.proofs.lemmas.List.{get_or_default}
+use Rattle.std.proofs.lemmas.List.Elements.{All-cons, All-nil}
+use Rattle.std.proofs.lemmas.Option.{slice_get-get_or}
+use Rattle.std.specs.Global.{Vec}
+use Rattle.std.specs.List.{All}
+use Rattle.std.specs.Prelude.{fold}
+use Rattle.cs_trace.specs.Operations.{Paths}
+use Rattle.cs_micro.specs.declared.blocks.TheConstants.{BLOCK_BYTES}
+use Rattle.cs_micro.specs.declared.micro_op.MicroOp.{MicroOp}
+use Rattle.cs_micro.specs.declared.micro_op.MicroOp.TheVariants.{CreateDirEntry, DeleteDirEntry, MoveDirEntry, ChangeFileSize, WriteBlock, Say}
+use Rattle.cs_micro.specs.Legal.{AreLegal, IsLegal, made_after, paths_after}
+use Rattle.cs_apm.specs.Contents.{content_left}
+use Rattle.cs_apm.specs.Rules.{op_at}
+use Rattle.cs_apm.specs.States.{Content}
+use Rattle.cs_state.specs.declared.file_steps.FileSteps.{FileSteps}
+use Rattle.cs_state.specs.declared.parts.Parts.{Parts}
+use Rattle.cs_state.specs.Parts.{bytes_before, file_in, AreMembers, AreParts}
+use Rattle.cs_state.specs.Shares.{ids, mark_at}
+use Rattle.cs_state.specs.Steps.{members_in, struck_by, touches, AgreeIn, AreFileSteps, IsFitting}
+use Rattle.cs_state.specs.Windows.{size_after, whole}
+use Rattle.cs_state.proofs.Blocks.{agree, fold_map, sized_below}
+use Rattle.cs_state.proofs.Filing.{has_flag, left_of}
+use Rattle.cs_state.proofs.Including.{closed_sizes}
+use Rattle.cs_state.proofs.Listing.{ids_are}
+use Rattle.cs_state.proofs.Showing.{left_size}
+
+fitting : (m : Paths) (made : ℕ) (o : MicroOp) → IsLegal m made o → IsFitting o
+fitting m made (CreateDirEntry p node rights) h = tt
+fitting m made (DeleteDirEntry p kind) h = tt
+fitting m made (MoveDirEntry p q) h = tt
+fitting m made (ChangeFileSize file size) h = h.1
+fitting m made (WriteBlock file block at bytes) h = h.2
+fitting m made Say h = tt
+
+all_fitting : (m : Paths) (made : ℕ) (ops : List MicroOp) → AreLegal m made ops → All IsFitting ops
+all_fitting m made [] h = All-nil IsFitting
+all_fitting m made (o ∷ ops) h = All-cons IsFitting o ops (fitting m made o h.0) (all_fitting (paths_after m o) (made_after made o) ops h.1)
+
+module _ (parts : Parts) (h : AreParts parts) (file : ℕ) (known : file < length parts.tables.owners.items) (members : List Bool) (set : AreMembers parts members) where
+  abbrev ops : List MicroOp
+  ops = parts.micros.ops
+
+  abbrev start : List ℕ
+  start = bytes_before parts file
+
+  abbrev left : Content
+  left = file_in parts (members_in members) file
+
+  pub size_is : left.size ≡ fold (size_after file) (length start) (map (op_at ops) (members_in members))
+  size_is = sym (ap (λ (f : Content). f.size) (left_of parts h file (members_in members) known)) ∙ left_size file (whole start) ops (members_in members)
+
+  module _ (steps : FileSteps) (read : steps ≡ get_or parts.steps.items file steps) (flag : Bool) (flagged : flag ≡ get_or parts.tables.changed.items file flag) (yes : flag ≡ true) where
+    pub are : AreFileSteps file (length start) ops steps
+    are =
+        let there = has_flag parts h file (members_in members) known in
+        let long = h.steps.long in
+        h.steps.each file steps (slice_get-get_or parts.steps.items file steps (omega (arith, there, long)) ∙ ap Some (sym read)) (slice_get-get_or parts.tables.changed.items file flag there ∙ ap Some (sym flagged ∙ yes))
+
+    pub room : left.size < length steps.blocks.items * BLOCK_BYTES
+    room = subst (λ v. v < length steps.blocks.items * BLOCK_BYTES) (sym (size_is ∙ fold_map (size_after file) (op_at ops) (length start) (members_in members)))
+        (sized_below file (length start) ops (mark_at members) (length steps.blocks.items * BLOCK_BYTES) are.start (length ops) are.all (length members) (let long = set.long in omega (arith, long)))
+
+    pub inside : All (λ (row : Vec ℕ). All (λ place. place < length ops) row.items) steps.blocks.items
+    inside k d low i e there =
+        let row : Vec ℕ = get_or steps.blocks.items k d in
+        let is = are.blocks k row (slice_get-get_or steps.blocks.items k d low) in
+        subst (λ (ps : List ℕ). (i e : ℕ) → i < length ps → get_or ps i e < length ops) (sym is)
+        (λ i e l. subst (λ v. v < length ops) (get_or_default (ids (touches file (length start) ops k) (length ops)) i 0 e l) (ids_are (touches file (length start) ops k) (length ops) i l).0)
+        i e there
+
+    pub agrees : (block : ℕ) (row : List ℕ) → row ≡ ids (touches file (length start) ops block) (length ops) → AgreeIn block (struck_by ops members (whole start) row) left
+    agrees block row is = subst (λ r. AgreeIn block (struck_by ops members (whole start) r) left) (sym is)
+        (subst (λ f. AgreeIn block (struck_by ops members (whole start) (ids (touches file (length start) ops block) (length ops))) f)
+        (ap (λ k. content_left file (whole start) ops (ids (mark_at members) k)) (sym set.long) ∙ left_of parts h file (members_in members) known)
+        (agree file (whole start) ops members (length ops) block
+        (λ k low. all_fitting _ _ ops h.whole.atlas.legal k Say low)
+        (closed_sizes parts.micros (length ops) members set.allowed file)))

@@ -1,0 +1,88 @@
+-- The micro-operations that change a file: its size, and each of its blocks.
+use Rattle.std.specs.Prelude.{◌≡◌, ◌+◌, ◌*◌, ◌/◌, ◌<◌, ◌≤◌, ◌&&◌, ◌==◌, nat_lt, nat_le, ℕ, zero, suc, if◌then◌else◌, Bool, false, true, List, [], ◌∷◌, ◌++◌, cond, Some, length, take, fold, slice_get, slice_index_or}
+use Rattle.std.specs.Global.{Vec}
+use Rattle.cs_micro.specs.declared.blocks.TheConstants.{BLOCK_BYTES}
+use Rattle.cs_micro.specs.declared.micro_op.MicroOp.{MicroOp}
+use Rattle.cs_micro.specs.declared.micro_op.MicroOp.TheVariants.{ChangeFileSize, WriteBlock}
+use Rattle.cs_names.specs.declared.limits.TheConstants.{FILE_BYTES}
+use Rattle.cs_trace.specs.Traces.{Trace}
+use Rattle.cs_apm.specs.Atlases.{content_before}
+use Rattle.cs_apm.specs.Contents.{changes}
+use Rattle.cs_apm.specs.Rules.{op_at}
+use Rattle.cs_apm.specs.States.{Content, overwritten}
+use Rattle.cs_state.specs.declared.file_steps.FileSteps.{FileSteps}
+use Rattle.cs_state.specs.Shares.{ids, mark_at}
+use Rattle.cs_state.specs.Windows.{byte_of, size_after}
+
+-- it changes the size of the file
+abbrev pub resizes : ℕ → MicroOp → Bool
+resizes n (ChangeFileSize file size) = file == n
+resizes n _ = false
+
+-- it cuts a file of this size in the block or before it, or writes into the block
+abbrev pub reaches : ℕ → ℕ → MicroOp → Bool
+reaches block size (ChangeFileSize file to) = nat_lt to size && nat_le (to / BLOCK_BYTES) block
+reaches block size (WriteBlock file other at bytes) = other == block
+reaches block size _ = false
+
+-- no file is too large, and bytes lie in their block
+abbrev pub IsFitting : MicroOp → Type 0
+IsFitting (ChangeFileSize file to) = to ≤ FILE_BYTES
+IsFitting (WriteBlock file block at bytes) = at + length bytes ≤ BLOCK_BYTES
+IsFitting _ = Unit {0}
+
+-- the file's size when the first k of all micro-operations are done
+abbrev pub size_before : ℕ → ℕ → List MicroOp → ℕ → ℕ
+size_before n size ops zero = size
+size_before n size ops (suc k) = size_after n (size_before n size ops k) (op_at ops k)
+
+-- the micro-operation at the place changes the block of the file
+abbrev pub touches : ℕ → ℕ → List MicroOp → ℕ → ℕ → Bool
+touches n size ops block k = changes n (op_at ops k) && reaches block (size_before n size ops k) (op_at ops k)
+
+-- those that change the file, which has so many bytes at the start: every size that it may have ends in
+-- one of the blocks
+pub record AreFileSteps (n size : ℕ) (ops : List MicroOp) (steps : FileSteps) : Type 0 where
+  pub sizes : steps.sizes.items ≡ ids (λ k. resizes n (op_at ops k)) (length ops)
+  pub blocks : (block : ℕ) (row : Vec ℕ) → slice_get steps.blocks.items block ≡ Some row → row.items ≡ ids (touches n size ops block) (length ops)
+  pub start : size < length steps.blocks.items * BLOCK_BYTES
+  pub all : (k : ℕ) → k < length ops → size_after n 0 (op_at ops k) < length steps.blocks.items * BLOCK_BYTES
+
+-- each file that something changes has those that change it
+pub record AreAllSteps (t : Trace) (ops : List MicroOp) (changed : List Bool) (all : List FileSteps) : Type 0 where
+  pub long : length all ≡ length changed
+  pub each : (file : ℕ) (steps : FileSteps) → slice_get all file ≡ Some steps → slice_get changed file ≡ Some true
+      → AreFileSteps file (length (content_before t ops file).bytes) ops steps
+
+-- those of a list that pass the test
+abbrev pub picked : (ℕ → Bool) → List ℕ → List ℕ
+picked f [] = []
+picked f (k ∷ ks) = cond (f k) (k ∷ []) [] ++ picked f ks
+
+-- ---- a part of a file
+
+-- what is left of a file that is cut, or written into
+abbrev pub struck : Content → MicroOp → Content
+struck f (ChangeFileSize file to) = record f { bytes = take to f.bytes }
+struck f (WriteBlock file block at bytes) = overwritten (block * BLOCK_BYTES + at) bytes f
+struck f _ = f
+
+abbrev pub member_struck : List MicroOp → List Bool → Content → ℕ → Content
+member_struck ops members f k = if mark_at members k then struck f (op_at ops k) else f
+
+-- the file after those of the places that are members
+abbrev pub struck_by : List MicroOp → List Bool → Content → List ℕ → Content
+struck_by ops members f places = fold (member_struck ops members) f places
+
+-- the two have the same bytes in the block
+abbrev pub AgreeIn : ℕ → Content → Content → Type 0
+AgreeIn block f g = (i : ℕ) → block * BLOCK_BYTES ≤ i → i < block * BLOCK_BYTES + BLOCK_BYTES → byte_of f i ≡ byte_of g i
+
+-- what of the part lies in the block is that of the file
+abbrev pub IsPartIn : ℕ → ℕ → Content → List ℕ → Type 0
+IsPartIn block offset f part = (k : ℕ) → k < length part → block * BLOCK_BYTES ≤ offset + k → offset + k < block * BLOCK_BYTES + BLOCK_BYTES
+    → slice_index_or part k 0 ≡ byte_of f (offset + k)
+
+-- the members of a set, of which each has a mark
+abbrev pub members_in : List Bool → List ℕ
+members_in marks = ids (mark_at marks) (length marks)

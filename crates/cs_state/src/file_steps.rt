@@ -1,0 +1,256 @@
+//! Which micro-operations of a trace change a file, and which of its blocks.
+ghost use Rattle.std.specs.Prelude.{◌≡◌, ◌<◌, ◌≤◌, ◌^◌, ℕ, true, Some, length, slice_get, slice_index_or, IfOk};
+ghost use Rattle.std.specs.Global.{Vec};
+ghost use Rattle.std.specs.List.{All};
+ghost use Rattle.cs_apm.specs.Atlases.{content_before, AreStarts};
+ghost use Rattle.cs_apm.specs.Contents.{changes};
+ghost use Rattle.cs_apm.specs.Rules.{op_at};
+ghost use Rattle.cs_state.specs.Shares.{ids};
+ghost use Rattle.cs_state.specs.Steps.{picked, reaches, resizes, size_before, AreAllSteps, AreFileSteps};
+ghost use Rattle.cs_state.specs.Windows.{size_after};
+
+use crate::marks::push_if;
+use cs_apm::tables::Tables;
+use cs_micro::{BLOCK_BYTES, MicroOp};
+use cs_trace::Trace;
+use std::alloc::{AllocError, Global};
+
+/// The places of the micro-operations that change a file.
+#[derive(Debug, Drop)]
+pub struct FileSteps {
+    /// Those that change its size.
+    pub sizes: Vec<u32>,
+    /// For each of its blocks those that write into it or cut it off, up to the last that it ever has.
+    pub blocks: Vec<Vec<u32>>,
+}
+
+/// The file's size after a micro-operation.
+pub fn size_after(file: usize, size: u64, op: &MicroOp) -> u64
+    ensures { result ≡ size_after file size op.now }
+{
+    match op {
+        MicroOp::ChangeFileSize {
+            file: other,
+            length,
+        } => {
+            if *other as usize == file {
+                *length
+            } else {
+                size
+            }
+        }
+        _ => size,
+    }
+}
+
+/// Whether the micro-operation changes the size of the file.
+fn resizes(file: usize, op: &MicroOp) -> bool
+    ensures { result ≡ resizes file op.now }
+{
+    match op {
+        MicroOp::ChangeFileSize { file: other, .. } => *other as usize == file,
+        _ => false,
+    }
+}
+
+/// Whether the micro-operation writes into the block of its file, which has this size, or cuts it off.
+fn reaches(block: u64, size: u64, op: &MicroOp) -> bool
+    ensures { result ≡ reaches block size op.now }
+{
+    match op {
+        MicroOp::ChangeFileSize { length, .. } => {
+            *length < size && *length / BLOCK_BYTES <= block
+        }
+        MicroOp::WriteBlock { block: other, .. } => *other == block,
+        _ => false,
+    }
+}
+
+/// Whether the micro-operation changes the file.
+fn changes(file: usize, op: &MicroOp) -> bool
+    ensures { result ≡ changes file op.now }
+{
+    match op {
+        MicroOp::ChangeFileSize { file: other, .. } | MicroOp::WriteBlock { file: other, .. } => {
+            *other as usize == file
+        }
+        _ => false,
+    }
+}
+
+/// The sizes that the file has before each micro-operation, where all before it are done.
+fn sizes_before(
+    alloc: Global,
+    file: usize,
+    start: u64,
+    ops: &[MicroOp],
+) -> Result<Vec<u64>, AllocError>
+    ensures long { IfOk result (λ sizes. length sizes.items ≡ length ops.now) }
+    ensures each { IfOk result (λ sizes. (k : ℕ) → k < length ops.now → slice_index_or sizes.items k 0 ≡ size_before file start ops.now k) }
+{
+    let mut sizes = Vec::new(alloc);
+    let mut size = start;
+    for op in ops {
+        sizes.push(size)?;
+        size = size_after(file, size, op);
+    }
+    Ok(sizes)
+}
+
+/// The largest size that the file may have.
+fn largest_size(file: usize, start: u64, ops: &[MicroOp]) -> u64
+    ensures start { start ≤ result }
+    ensures all { (k : ℕ) → k < length ops.now → size_after file 0 (op_at ops.now k) ≤ result }
+{
+    let mut largest = start;
+    for op in ops {
+        largest = largest.max(size_after(file, 0, op));
+    }
+    largest
+}
+
+/// The places of those that change the size of the file.
+fn resizing(alloc: Global, file: usize, ops: &[MicroOp]) -> Result<Vec<u32>, AllocError>
+    requires { length ops.now < 2 ^ 20 }
+    ensures { IfOk result (λ places. places.items ≡ ids (λ k. resizes file (op_at ops.now k)) (length ops.now)) }
+{
+    let mut places = Vec::new(alloc);
+    for place in 0..ops.len() {
+        push_if(&mut places, place, resizes(file, &ops[place]))?;
+    }
+    Ok(places)
+}
+
+/// The places of those that change the file.
+fn changing(alloc: Global, file: usize, ops: &[MicroOp]) -> Result<Vec<u32>, AllocError>
+    requires { length ops.now < 2 ^ 20 }
+    ensures { IfOk result (λ places. places.items ≡ ids (λ k. changes file (op_at ops.now k)) (length ops.now)) }
+{
+    let mut places = Vec::new(alloc);
+    for place in 0..ops.len() {
+        push_if(&mut places, place, changes(file, &ops[place]))?;
+    }
+    Ok(places)
+}
+
+/// Those of the places whose micro-operations reach the block; the file's size before each is given.
+fn reaching(
+    alloc: Global,
+    block: u64,
+    sizes: &[u64],
+    ops: &[MicroOp],
+    places: &[u32],
+) -> Result<Vec<u32>, AllocError>
+    requires few { length ops.now < 2 ^ 20 }
+    requires long { length sizes.now ≡ length ops.now }
+    requires inside { All (λ place. place < length ops.now) places.now }
+    ensures { IfOk result (λ found. found.items ≡ picked (λ k. reaches block (slice_index_or sizes.now k 0) (op_at ops.now k)) places.now) }
+{
+    let mut found = Vec::new(alloc);
+    for place in places {
+        let place = *place as usize;
+        push_if(&mut found, place, reaches(block, sizes[place], &ops[place]))?;
+    }
+    Ok(found)
+}
+
+/// For each of so many blocks the places of those that reach it.
+fn block_rows(
+    alloc: Global,
+    count: usize,
+    sizes: &[u64],
+    ops: &[MicroOp],
+    places: &[u32],
+) -> Result<Vec<Vec<u32>>, AllocError>
+    requires few { length ops.now < 2 ^ 20 }
+    requires long { length sizes.now ≡ length ops.now }
+    requires inside { All (λ place. place < length ops.now) places.now }
+    ensures long { IfOk result (λ rows. length rows.items ≡ count) }
+    ensures each { IfOk result (λ rows. (block : ℕ) (row : Vec ℕ) → slice_get rows.items block ≡ Some row → row.items ≡ picked (λ k. reaches block (slice_index_or sizes.now k 0) (op_at ops.now k)) places.now) }
+{
+    let mut rows = Vec::new(alloc);
+    for block in 0..count {
+        rows.push(reaching(alloc, block as u64, sizes, ops, places)?)?;
+    }
+    Ok(rows)
+}
+
+impl FileSteps {
+    /// Nothing changes the file.
+    fn none(alloc: Global) -> FileSteps {
+        FileSteps {
+            sizes: Vec::new(alloc),
+            blocks: Vec::new(alloc),
+        }
+    }
+
+    /// Those of the file of this number, which has so many bytes at the start.
+    fn of(
+        alloc: Global,
+        file: usize,
+        start: usize,
+        ops: &[MicroOp],
+    ) -> Result<FileSteps, AllocError>
+        requires { length ops.now < 2 ^ 20 }
+        ensures { IfOk result (AreFileSteps file start ops.now) }
+    {
+        let sizes = sizes_before(alloc, file, start as u64, ops)?;
+        let places = changing(alloc, file, ops)?;
+        let count = (largest_size(file, start as u64, ops) / BLOCK_BYTES) as usize + 1;
+        let blocks = block_rows(alloc, count, &sizes, ops, &places)?;
+        let sizes = resizing(alloc, file, ops)?;
+        Ok(FileSteps { sizes, blocks })
+    }
+}
+
+/// The bytes of the file at the start; one that is made has none.
+pub fn start_bytes<'a>(trace: &'a Trace, _ops: &[MicroOp], tables: &Tables, file: usize) -> &'a [u8]
+    requires { AreStarts trace.now tables.now.starts.items }
+    ensures { result.now ≡ (content_before trace.now _ops.now file).bytes }
+{
+    let starts = &tables.starts;
+    if file >= starts.len() {
+        return &[];
+    }
+    let record = &trace.records()[starts[file] as usize].1;
+    record.content.bytes().unwrap_or(&[])
+}
+
+/// Those of the file, if something changes it.
+fn steps_of(
+    alloc: Global,
+    trace: &Trace,
+    ops: &[MicroOp],
+    tables: &Tables,
+    file: usize,
+) -> Result<FileSteps, AllocError>
+    requires few { length ops.now < 2 ^ 20 }
+    requires starts { AreStarts trace.now tables.now.starts.items }
+    requires known { file < length tables.now.changed.items }
+    ensures { IfOk result (λ steps. slice_get tables.now.changed.items file ≡ Some true → AreFileSteps file (length (content_before trace.now ops.now file).bytes) ops.now steps) }
+{
+    if !tables.changed[file] {
+        return Ok(FileSteps::none(alloc));
+    }
+    let start = start_bytes(trace, ops, tables, file);
+    let steps = FileSteps::of(alloc, file, start.len(), ops)?;
+    Ok(steps)
+}
+
+/// Those of each file that something changes, by its number.
+pub fn all_steps(
+    alloc: Global,
+    trace: &Trace,
+    ops: &[MicroOp],
+    tables: &Tables,
+) -> Result<Vec<FileSteps>, AllocError>
+    requires few { length ops.now < 2 ^ 20 }
+    requires starts { AreStarts trace.now tables.now.starts.items }
+    ensures { IfOk result (λ all. AreAllSteps trace.now ops.now tables.now.changed.items all.items) }
+{
+    let mut all = Vec::new(alloc);
+    for file in 0..tables.changed.len() {
+        all.push(steps_of(alloc, trace, ops, tables, file)?)?;
+    }
+    Ok(all)
+}
