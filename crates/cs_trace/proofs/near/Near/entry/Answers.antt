@@ -19,24 +19,25 @@ entry_by text bytes near_text near_bytes rest slash name p count is near one fro
 count_by : (text name : List ℕ) (p : Path) (count : ℕ) → count ≡ length p → Pushed text p name → count + 1 ≡ length (spelled_path text)
 count_by text name p count is entry = omega (arith, is, ap length entry.spelled, length-append p (name ∷ []))
 
-pub known-requires-clause-legal : goal.known-requires-clause-legal
-known-requires-clause-legal c =
+entry_of : (c : goal.In-Ok) → Pushed c.args.text.now c.self.inside.path c.in_ok-name.name.now
+entry_of c =
     let front = strip_prefix_is Decides-eqb c.as_bytes.result.now c.as_bytes-2.result.now (Some c.in_ok-rest.rest) c.in_ok-rest.ensures.cases in
     let back = strip_prefix_is Decides-eqb c.in_ok-rest.rest.now c.as_slice.result.now (Some c.in_ok-name.name) c.in_ok-name.ensures.cases in
-    let entry = entry_by c.args.text.now _ _ _ _ _ c.in_ok-name.name.now c.self.inside.path c.self.inside.count c.as_bytes.ensures.value c.as_bytes-2.ensures.value c.as_slice.ensures front back c.self.invariant c.if-self-eq0.false c.in-Ok.ensures.1 in
-    entry.legal ∙ ap Some (sym entry.spelled)
+    entry_by c.args.text.now _ _ _ _ _ c.in_ok-name.name.now c.self.inside.path c.self.inside.count
+    c.as_bytes.ensures.value c.as_bytes-2.ensures.value c.as_slice.ensures front back c.self.invariant c.if-self-eq0.false c.in-Ok.ensures.1
+
+pub known-requires-clause-legal : goal.known-requires-clause-legal
+known-requires-clause-legal c = let entry = entry_of c in entry.legal ∙ ap Some (sym entry.spelled)
 
 pub known-requires-clause-count : goal.known-requires-clause-count
 known-requires-clause-count c =
-    let front = strip_prefix_is Decides-eqb c.as_bytes.result.now c.as_bytes-2.result.now (Some c.in_ok-rest.rest) c.in_ok-rest.ensures.cases in
-    let back = strip_prefix_is Decides-eqb c.in_ok-rest.rest.now c.as_slice.result.now (Some c.in_ok-name.name) c.in_ok-name.ensures.cases in
-    let entry = entry_by c.args.text.now _ _ _ _ _ c.in_ok-name.name.now c.self.inside.path c.self.inside.count c.as_bytes.ensures.value c.as_bytes-2.ensures.value c.as_slice.ensures front back c.self.invariant c.if-self-eq0.false c.in-Ok.ensures.1 in
     let spelled = c.self.invariant (omega (arith, c.if-self-eq0.false)) in
-    count_by c.args.text.now c.in_ok-name.name.now c.self.inside.path c.self.inside.count spelled.1 entry
+    count_by c.args.text.now c.in_ok-name.name.now c.self.inside.path c.self.inside.count spelled.1 (entry_of c)
 
 pub returns-in-Ok : goal.returns-in-Ok
 returns-in-Ok c =
     let front = strip_prefix_is Decides-eqb c.as_bytes.result.now c.as_bytes-2.result.now (Some c.in_ok-rest.rest) c.in_ok-rest.ensures.cases in
     let back = strip_prefix_is Decides-eqb c.in_ok-rest.rest.now c.as_slice.result.now (Some c.in_ok-name.name) c.in_ok-name.ensures.cases in
-    let entry = entry_by c.args.text.now _ _ _ _ _ c.in_ok-name.name.now c.self.inside.path c.self.inside.count c.as_bytes.ensures.value c.as_bytes-2.ensures.value c.as_slice.ensures front back c.self.invariant c.if-self-eq0.false c.in-Ok.ensures.1 in
+    let entry = entry_by c.args.text.now _ _ _ _ _ c.in_ok-name.name.now c.self.inside.path c.self.inside.count
+    c.as_bytes.ensures.value c.as_bytes-2.ensures.value c.as_slice.ensures front back c.self.invariant c.if-self-eq0.false c.in-Ok.ensures.1 in
     entry.entry ∙ ap Some (sym entry.spelled ∙ sym c.known.ensures)
