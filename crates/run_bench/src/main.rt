@@ -1,17 +1,25 @@
 //! Calls on a run beside the tree's own calls: a stat, a read and a write of 4 kB, walks of one name and of
-//! 16, and listings of small and large directories. Run by hand with the word `time`, it tells how long each
-//! takes, and how many times as long by the calls of a run.
+//! 16, and listings of small and large directories. Then steps of a run that keeps a journal beside such
+//! calls, also where it has grown or many runs stand. Run by hand with the word `time`, it tells how long each
+//! takes, and how many times as long.
 #![tactic(auto)]
 
+mod closing;
 mod files;
+mod growth;
 mod listing;
+mod memory;
 mod side;
+mod standing;
 mod steps;
 mod times;
 mod works;
 
+use crate::closing::close_in_order;
 use crate::files::{directory, files};
+use crate::growth::{Grown, among, grow};
 use crate::listing::list;
+use crate::standing::stand;
 use crate::steps::Kind;
 use crate::times::Times;
 use crate::works::{Read, Stat, Walk, Work, Write};
@@ -64,6 +72,8 @@ fn listings(rt: &(impl Clock + Print + AllocGlobal), entries: u64, timed: bool) 
 fn main(rt: HostRuntime) -> io::Result<()> {
     let alloc: Global = rt.alloc();
     let timed = env::args(&rt)?.count() > 1;
+    // first, so that the memory that it takes was never used before
+    stand(&rt, timed)?;
     measure(&rt, "stats", Stat::new(), timed)?;
     measure(&rt, "reads of 4 kB", Read::new(alloc), timed)?;
     measure(&rt, "writes of 4 kB", Write::new(alloc), timed)?;
@@ -71,6 +81,15 @@ fn main(rt: HostRuntime) -> io::Result<()> {
     measure(&rt, "walks of 16 names", Walk::new(alloc, 16), timed)?;
     for kind in [Kind::Stats, Kind::Reads, Kind::Writes] {
         steps::measure(&rt, kind, timed)?;
+    }
+    for kind in [Kind::Stats, Kind::Reads] {
+        for grown in [Grown::Journal, Grown::Passes, Grown::Opens] {
+            grow(&rt, kind, grown, timed)?;
+        }
+        among(&rt, kind, timed)?;
+    }
+    for first in [true, false] {
+        close_in_order(&rt, first, timed)?;
     }
     listings(&rt, 1_000, timed)?;
     listings(&rt, 10_000, timed)

@@ -3,7 +3,7 @@
 use crate::files::users;
 use cs_journal::{Pass, Run, can_grow};
 use cs_overlay::Overlay;
-use cs_permit::Call;
+use cs_permit::{AttachCall, Call};
 use cs_run::{Answer, CountedRun};
 use cs_tree::PlainTree;
 use cs_users::Users;
@@ -53,11 +53,12 @@ impl Ground {
     }
 }
 
-/// A run, and a pass of it that fits.
+/// A run, a pass of it that fits, and the passes of its other users.
 #[derive(Drop)]
 pub struct Side {
     run: Run<PlainTree>,
     pass: Pass,
+    others: Vec<Pass>,
 }
 
 impl Model for Side {
@@ -74,9 +75,27 @@ impl Model for Side {
 impl Side {
     /// A fresh run, and its first pass.
     pub fn over(alloc: Global, ground: &Ground) -> Option<Side> {
-        let mut run = ground.run(alloc)?;
+        Side::of(alloc, ground.run(alloc)?)
+    }
+
+    /// A run, and its next pass.
+    pub fn of(alloc: Global, mut run: Run<PlainTree>) -> Option<Side> {
         let pass = run.new_pass(alloc).ok()?;
-        Some(Side { run, pass })
+        Some(Side {
+            run,
+            pass,
+            others: Vec::new(alloc),
+        })
+    }
+
+    /// Attaches one user more, under a pass of its own.
+    pub fn attach(&mut self, alloc: Global) -> Option<()> {
+        let mut pass = self.run.new_pass(alloc).ok()?;
+        let user = String::from_str(alloc, "ann").ok()?;
+        let call = Call::Attach(AttachCall { user });
+        let answer = self.run.step(alloc, &mut pass, 1, call);
+        self.others.push(pass).ok()?;
+        matches!(answer, Answer::Attached(_)).then_some(())
     }
 
     pub fn step(&mut self, alloc: Global, call: Call) -> Answer {

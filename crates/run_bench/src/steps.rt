@@ -24,7 +24,7 @@ pub enum Kind {
 }
 
 impl Kind {
-    fn name(self) -> &'static str {
+    pub fn name(self) -> &'static str {
         match self {
             Kind::Stats => "steps of stats",
             Kind::Reads => "steps of reads of 4 kB",
@@ -60,12 +60,12 @@ impl Kind {
     }
 }
 
-fn is_granted(answer: &Answer) -> bool {
+pub fn is_granted(answer: &Answer) -> bool {
     !matches!(answer, Answer::Denied(_) | Answer::Short)
 }
 
-/// So many steps of a run.
-fn steps(alloc: Global, side: &mut Side, kind: Kind, count: u64) -> u64 {
+/// So many steps of a run: how many are granted.
+pub fn steps(alloc: Global, side: &mut Side, kind: Kind, count: u64) -> u64 {
     let mut done = 0u64;
     for _ in 0..count {
         if let Some(call) = kind.call(alloc) {
