@@ -41,7 +41,7 @@ pub enum Ask<'a> {
         connections: u32,
         /// Whether all states are made before the first connection is accepted.
         ready: bool,
-        /// Whether connections are told on standard error.
+        /// Whether connections, their messages and attaches are told on standard error.
         verbose: bool,
     },
 }
@@ -129,7 +129,7 @@ fn serve_command<'a>(alloc: Global) -> Result<Command<'a>, AllocError> {
     let verbose = flag(
         alloc,
         "verbose",
-        "Prints a line for each connection that comes and ends on standard error",
+        "Prints connections, messages with their replies, and attaches on standard error",
     );
     let serve = Command::new(alloc, "serve")
         .about("Serves the states over TCP, each connection in a thread of its own")

@@ -5,12 +5,13 @@ mod command_line;
 
 ghost use Rattle.std.specs.Prelude.{◌≡◌};
 
+use clap::Error;
 use clap::error::ErrorKind;
 use command_line::{Ask, Wanted, ask_of};
 use cs_serve::{Inputs, list_of, script_of};
 use cs_tcp::{Serving, serve_of};
 use std::fs;
-use std::io::{self, BufWriter, Write};
+use std::io::{self, BufWriter, IsTerminal, Write};
 use std::net::{Net, TcpListener, TcpStream};
 use std::process::ExitCode;
 use std::rt::{Clock, Env, Files};
@@ -118,23 +119,31 @@ where
         holes: wanted.holes,
         verbose,
     };
+    let Ok(err) = BufWriter::new(rt.alloc(), err) else {
+        return Err(out_of_memory(rt));
+    };
     let err = Mutex::new(err);
     let mut out = io::writer(rt);
     Ok(serve_of(rt, rt.alloc(), &inputs, serving, &mut out, &err))
 }
 
-fn run<R, E: Write + Send>(rt: &R, err: &mut E, words: &[&str]) -> u8
+/// The status of a command line that asks for nothing; what it is told is printed.
+fn unasked<R: Print + Eprint>(rt: &R, error: &Error) -> u8 {
+    if error.kind() == ErrorKind::OutOfMemory {
+        return out_of_memory(rt);
+    }
+    let _unheard = error.print(rt);
+    if error.use_stderr() { REFUSED } else { 0 }
+}
+
+fn run<R, E: Write + Send>(rt: &R, err: &mut E, on_terminal: bool, words: &[&str]) -> u8
 where
     R: Files + Input + Print + Eprint + AllocGlobal + Clock + Threads + Wait + Sync,
     R: Net<Listener = TcpListener, Stream = TcpStream>,
 {
     let ask = match ask_of(rt.alloc(), words) {
         Ok(ask) => ask,
-        Err(error) if error.kind() == ErrorKind::OutOfMemory => return out_of_memory(rt),
-        Err(error) => {
-            let _unheard = error.print(rt);
-            return if error.use_stderr() { REFUSED } else { 0 };
-        }
+        Err(error) => return unasked(rt, &error),
     };
     let ended = match ask {
         Ask::List { wanted } => run_list(rt, err, wanted),
@@ -157,6 +166,7 @@ where
                 workers,
                 connections,
                 ready,
+                progress: on_terminal,
             };
             run_serve(rt, err, wanted, users, serving, verbose)
         }
@@ -191,5 +201,7 @@ fn main(rt: HostRuntime) -> ExitCode {
             return ExitCode::from(out_of_memory(&rt));
         }
     }
-    ExitCode::from(run(&rt, &mut rt.stderr(), &texts))
+    let mut err = rt.stderr();
+    let on_terminal = err.is_terminal();
+    ExitCode::from(run(&rt, &mut err, on_terminal, &texts))
 }

@@ -9,6 +9,7 @@ mod printing;
 mod program;
 mod publishing;
 mod script;
+mod telling;
 #[cfg(test)]
 mod tests;
 
@@ -17,3 +18,4 @@ pub use inputs::{Inputs, scene_of, users_of};
 pub use listing::list_of;
 pub use program::script_of;
 pub use publishing::world_of;
+pub use telling::tell;

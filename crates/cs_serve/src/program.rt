@@ -6,7 +6,8 @@ use crate::inputs::{Inputs, scene_of, users_of};
 use crate::printing::Printer;
 use crate::publishing::world_of;
 use crate::script::{Action, ScriptLine, read_script};
-use cs_wire::{RMessage, decode};
+use crate::telling::tell;
+use cs_wire::decode;
 use cs_world::World;
 use std::alloc::Global;
 use std::io::{ErrorKind, Read, Write};
@@ -18,15 +19,6 @@ fn read_all<R: Read>(alloc: Global, input: &mut R) -> Result<Vec<u8>, ProgramFau
         Err(error) if error.kind() == ErrorKind::OutOfMemory => Err(ProgramFault::Memory),
         Err(_) => Err(ProgramFault::Input),
     }
-}
-
-/// Tells a message and its reply as two lines of text. That these can't be written ends no script.
-fn tell<E: Write>(alloc: Global, conn: u32, bytes: &[u8], reply: &RMessage, err: &mut E) {
-    let _unheard = match decode(alloc, bytes) {
-        Ok(message) => writeln!(err, "{conn} <- {message}"),
-        Err(fault) => writeln!(err, "{conn} <- no message: {fault}"),
-    };
-    let _unheard = writeln!(err, "{conn} -> {reply}");
 }
 
 /// Does what a line asks, and prints what it came to; with `told` also what was asked, as text.
@@ -43,7 +35,7 @@ fn run_line<W: Write, E: Write>(
         Action::Send(message) => {
             let reply = world.message(alloc, conn, line.now, &message.bytes);
             if let Some(err) = told {
-                tell(alloc, conn, &message.bytes, &reply, err);
+                tell(conn, &decode(alloc, &message.bytes), &Ok(&reply), err);
             }
             printer.reply(conn, &reply, out)
         }

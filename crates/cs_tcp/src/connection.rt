@@ -1,12 +1,13 @@
 //! One connection over TCP.
 
+use crate::heard::Heard;
 use crate::log::Log;
 use crate::wall_clock::WallClock;
 use cs_server::{Server, serve_connection};
 use cs_session::{Counted, ServeFault};
 use cs_shared::AnyScene;
 use std::alloc::Global;
-use std::io::{self, Write};
+use std::io::{self, Read, Write};
 use std::net::TcpStream;
 use std::rt::Clock;
 use std::sync::Wait;
@@ -23,21 +24,19 @@ fn set_up(stream: &TcpStream) -> io::Result<()> {
 }
 
 /// Serves the stream to its end, and closes it.
-fn serve_stream<R: Wait + Clock>(
+fn serve_stream<R: Wait + Clock, RW: Read + Write + Drop>(
     rt: &R,
     alloc: Global,
     server: &Server<AnyScene>,
-    stream: TcpStream,
+    stream: RW,
 ) -> Result<(), ServeFault> {
-    if set_up(&stream).is_err() {
-        return Err(ServeFault::WriteFault);
-    }
     let mut stream = Counted::new(stream);
     let mut clock = WallClock::new(rt);
     serve_connection(rt, alloc, server, &mut stream, &mut clock).result()
 }
 
-/// Serves the connection of that number to its end, and tells how it ended.
+/// Serves the connection of that number to its end, and tells how it ended; its messages too, if the log
+/// tells these.
 pub(crate) fn serve<R: Wait + Clock, E: Write>(
     rt: &R,
     alloc: Global,
@@ -46,6 +45,13 @@ pub(crate) fn serve<R: Wait + Clock, E: Write>(
     conn: u32,
     log: Log<E>,
 ) {
-    let ended = serve_stream(rt, alloc, server, stream);
+    let ended = if set_up(&stream).is_err() {
+        Err(ServeFault::WriteFault)
+    } else if log.verbose {
+        let heard = Heard::new(rt, alloc, stream, conn, log);
+        serve_stream(rt, alloc, server, heard)
+    } else {
+        serve_stream(rt, alloc, server, stream)
+    };
     log.ended(rt, conn, ended);
 }

@@ -5,7 +5,9 @@
 mod accepting;
 mod address;
 mod connection;
+mod heard;
 mod log;
+mod progress;
 mod publishing;
 mod serving;
 mod summary;

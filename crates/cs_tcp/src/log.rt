@@ -1,18 +1,22 @@
 //! What is told on standard error.
 
-use cs_serve::ProgramFault;
+use cs_serve::{ProgramFault, tell};
 use cs_session::ServeFault;
-use std::alloc::AllocError;
+use cs_wire::{RBody, RMessage, TBody, TMessage, WireFault, decode, decode_r};
+use std::alloc::{AllocError, Global};
+use std::fmt;
 use std::io::Write;
 use std::net::SocketAddr;
 use std::sync::{Mutex, Wait};
 
-/// Tells lines to a writer that threads share. Its lock is held while one line is written, and over
-/// nothing else. That a line can't be written ends nothing.
+/// Tells lines to a writer that threads share. Its lock is held while lines that belong together are
+/// written, and over nothing else; then they are flushed. That they can't be written ends nothing.
 pub(crate) struct Log<'a, E> {
     pub(crate) writer: &'a Mutex<E>,
-    /// Whether more than faults is told.
+    /// Whether connections, their messages, and how many states were published are told.
     pub(crate) verbose: bool,
+    /// Whether it is told how far publishing is.
+    pub(crate) progress: bool,
 }
 
 impl<E> Clone for Log<'_, E> {
@@ -23,34 +27,94 @@ impl<E> Clone for Log<'_, E> {
 
 impl<E> Copy for Log<'_, E> {}
 
+/// The user and the run's key of an attach that was granted: the parts of its message, since a run's key
+/// is spelled in one way.
+fn attached<'a>(
+    message: &'a Result<TMessage, WireFault>,
+    reply: &Result<RMessage, WireFault>,
+) -> Option<(&'a str, &'a str)> {
+    match (message, reply) {
+        (
+            Ok(
+                TMessage {
+                    body: TBody::Attach { uname, aname, .. },
+                    ..
+                },
+            ),
+            Ok(
+                RMessage {
+                    body: RBody::Attach { .. },
+                    ..
+                },
+            ),
+        ) => Some((uname.as_str(), aname.as_str())),
+        _ => None,
+    }
+}
+
 impl<E: Write> Log<'_, E> {
-    /// Tells why the program is to end with status 1.
-    pub(crate) fn fault(&self, rt: &impl Wait, fault: &ProgramFault) {
+    fn line(&self, rt: &impl Wait, line: &impl fmt::Display) {
         let mut writer = self.writer.lock(rt);
-        let _unheard = writeln!(&mut *writer, "crashfs: {fault}");
+        let _unheard = writeln!(&mut *writer, "{line}");
+        let _unheard = writer.flush();
     }
 
+    /// Tells why the program is to end with status 1.
+    pub(crate) fn fault(&self, rt: &impl Wait, fault: &ProgramFault) {
+        self.line(rt, &format_args!("crashfs: {fault}"));
+    }
+
+    /// Tells how many states are published so far, and of how many.
+    pub(crate) fn progress(&self, rt: &impl Wait, published: u32, states: u32) {
+        if self.progress {
+            self.line(rt, &format_args!("published {published} of {states}"));
+        }
+    }
+
+    /// Tells that all states are published.
     pub(crate) fn published(&self, rt: &impl Wait, states: u32) {
-        if self.verbose {
-            let mut writer = self.writer.lock(rt);
-            let _unheard = writeln!(&mut *writer, "published {states} states");
+        if self.verbose || self.progress {
+            self.line(rt, &format_args!("published {states} states"));
         }
     }
 
     pub(crate) fn accepted(&self, rt: &impl Wait, conn: u32, from: SocketAddr) {
         if self.verbose {
-            let mut writer = self.writer.lock(rt);
-            let _unheard = writeln!(&mut *writer, "{conn} accepted from {from}");
+            self.line(rt, &format_args!("{conn} accepted from {from}"));
         }
     }
 
+    /// Tells a message and its reply, and the user and the run where it is an attach that was granted.
+    pub(crate) fn exchanged(
+        &self,
+        rt: &impl Wait,
+        alloc: Global,
+        conn: u32,
+        message: &[u8],
+        reply: &[u8],
+    ) {
+        let message = decode(alloc, message);
+        let reply = decode_r(alloc, reply);
+        let mut writer = self.writer.lock(rt);
+        tell(conn, &message, &reply, &mut *writer);
+        if let Some((user, run)) = attached(&message, &reply) {
+            let _unheard = writeln!(&mut *writer, "{conn} attached {user} to {run}");
+        }
+        let _unheard = writer.flush();
+    }
+
+    /// Tells that a connection's messages aren't told from here on.
+    pub(crate) fn lost(&self, rt: &impl Wait, conn: u32) {
+        self.line(rt, &format_args!("{conn} tells no more: out of memory"));
+    }
+
     pub(crate) fn ended(&self, rt: &impl Wait, conn: u32, ended: Result<(), ServeFault>) {
-        if self.verbose {
-            let mut writer = self.writer.lock(rt);
-            let _unheard = match ended {
-                Ok(()) => writeln!(&mut *writer, "{conn} ended"),
-                Err(fault) => writeln!(&mut *writer, "{conn} ended: {fault}"),
-            };
+        if !self.verbose {
+            return;
+        }
+        match ended {
+            Ok(()) => self.line(rt, &format_args!("{conn} ended")),
+            Err(fault) => self.line(rt, &format_args!("{conn} ended: {fault}")),
         }
     }
 }

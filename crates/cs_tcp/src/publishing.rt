@@ -1,7 +1,8 @@
 //! The states of a server's scene are published.
 
 use crate::log::Log;
-use cs_publish::{NoGate, PublishAllFault, publish_into};
+use crate::progress::Progress;
+use cs_publish::{PublishAllFault, publish_into};
 use cs_serve::ProgramFault;
 use cs_server::Server;
 use cs_shared::AnyScene;
@@ -11,14 +12,15 @@ use std::sync::Wait;
 use std::thread::Threads;
 
 /// Publishes all states by so many workers: whether it did. Else it told why.
-pub(crate) fn publish<R: Threads + Wait + Sync, E: Write>(
+pub(crate) fn publish<R: Threads + Wait + Sync, E: Write + Send>(
     rt: &R,
     alloc: Global,
     server: &Server<AnyScene>,
     workers: u32,
     log: Log<E>,
 ) -> bool {
-    let fault = match publish_into(rt, alloc, server.registry(), workers, &NoGate) {
+    let progress = Progress { rt, server, log };
+    let fault = match publish_into(rt, alloc, server.registry(), workers, &progress) {
         Ok(states) => {
             log.published(rt, states);
             return true;

@@ -30,9 +30,12 @@ pub struct Serving<'a> {
     pub connections: u32,
     /// Whether all states are published before the first connection is accepted.
     pub ready: bool,
+    /// Whether it is told how far publishing is.
+    pub progress: bool,
 }
 
-fn server_of(alloc: Global, inputs: &Inputs) -> Result<Server<AnyScene>, ProgramFault> {
+/// The server of the inputs: no state is published.
+pub(crate) fn server_of(alloc: Global, inputs: &Inputs) -> Result<Server<AnyScene>, ProgramFault> {
     let scene = scene_of(alloc, inputs)?;
     let users = users_of(alloc, inputs.users)?;
     let (Ok(scene), Ok(users)) = (Arc::new(alloc, scene), Arc::new(alloc, users)) else {
@@ -148,7 +151,8 @@ where
 /// each run. Its status: 0, or 1 where a fault was told, each by a line on `err`. A fault of a connection
 /// is none of the command. Where accepting or publishing fails while there are connections, these are
 /// served to their end, and the runs are printed. Where the inputs ask for it, `err` also gets a line for
-/// each connection that comes and for each that ends. It may wait for clients for ever.
+/// each connection that comes and for each that ends, each message with its reply, and each attach that was
+/// granted. It may wait for clients for ever.
 pub fn serve_of<R, W: Write, E: Write + Send>(
     rt: &R,
     alloc: Global,
@@ -164,6 +168,7 @@ where
     let log = Log {
         writer: err,
         verbose: inputs.verbose,
+        progress: serving.progress,
     };
     match serve(rt, alloc, inputs, serving, out, log) {
         Ok(true) => 0,

@@ -3,3 +3,5 @@ mod client;
 mod fixture;
 mod loopback;
 mod refusals;
+mod telling;
+mod workers;

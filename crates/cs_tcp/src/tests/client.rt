@@ -79,30 +79,36 @@ fn open(alloc: Global, stream: &mut TcpStream, attach: &[u8], open: &[u8]) -> Op
     Some(())
 }
 
-/// Ann writes into `f`, and says so: whether all was granted.
+/// Ann opens `f`, writes into it once bob has opened it too, and says so: whether all was granted.
 pub fn ann_writes<R: Net<Stream = TcpStream>>(
     rt: &R,
     alloc: Global,
     port: &AtomicU64,
+    opened: &AtomicBool,
     written: &AtomicBool,
 ) -> Option<()> {
     let mut stream = connect(rt, port)?;
     open(alloc, &mut stream, ATTACH_ANN, OPEN_TO_WRITE)?;
+    if !comes(|| opened.load(Ordering::SeqCst)) {
+        return None;
+    }
     granted(alloc, &mut stream, WRITE)?;
     written.store(true, Ordering::SeqCst);
     granted(alloc, &mut stream, CLUNK)?;
     Some(())
 }
 
-/// Bob opens `f`, and reads it once ann has written: the reply.
+/// Bob opens `f`, says so, and reads it once ann has written: the reply.
 pub fn bob_reads<R: Net<Stream = TcpStream>>(
     rt: &R,
     alloc: Global,
     port: &AtomicU64,
+    opened: &AtomicBool,
     written: &AtomicBool,
 ) -> Option<Vec<u8>> {
     let mut stream = connect(rt, port)?;
     open(alloc, &mut stream, ATTACH_BOB, OPEN_TO_READ)?;
+    opened.store(true, Ordering::SeqCst);
     if !comes(|| written.load(Ordering::SeqCst)) {
         return None;
     }

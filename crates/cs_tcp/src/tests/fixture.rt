@@ -66,24 +66,42 @@ pub struct Told {
     pub err: Vec<u8>,
 }
 
-/// The command on this trace; its port is told once it listens.
-pub fn served<R>(rt: &R, alloc: Global, trace: &[u8], serving: Serving, port: &AtomicU64) -> Told
-where
-    R: Net<Listener = TcpListener, Stream = TcpStream> + Threads + Wait + Clock + Sync,
-{
-    let inputs = Inputs {
+/// What the command line gave for this trace.
+pub fn inputs_of(trace: &[u8], verbose: bool) -> Inputs<'_> {
+    Inputs {
         users: USERS,
         trace,
         picks: &[],
         holes: false,
-        verbose: true,
-    };
+        verbose,
+    }
+}
+
+/// The command on this trace, with `--verbose`; its port is told once it listens.
+pub fn served<R>(rt: &R, alloc: Global, trace: &[u8], serving: Serving, port: &AtomicU64) -> Told
+where
+    R: Net<Listener = TcpListener, Stream = TcpStream> + Threads + Wait + Clock + Sync,
+{
+    told_of(rt, alloc, &inputs_of(trace, true), serving, port)
+}
+
+/// The command on these inputs.
+pub fn told_of<R>(
+    rt: &R,
+    alloc: Global,
+    inputs: &Inputs,
+    serving: Serving,
+    port: &AtomicU64,
+) -> Told
+where
+    R: Net<Listener = TcpListener, Stream = TcpStream> + Threads + Wait + Clock + Sync,
+{
     let mut out = Output {
         text: Vec::new(alloc),
         port,
     };
     let err = Mutex::new(Vec::new(alloc));
-    let status = serve_of(rt, alloc, &inputs, serving, &mut out, &err);
+    let status = serve_of(rt, alloc, inputs, serving, &mut out, &err);
     Told {
         status,
         out: out.text,

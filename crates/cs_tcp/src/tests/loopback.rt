@@ -12,20 +12,21 @@ const LOOPBACK: Serving = Serving {
     workers: 2,
     connections: 2,
     ready: true,
+    progress: false,
 };
 
 #[test]
-fn two_clients_share_a_run(rt: HostRuntime) -> Result<(), Fail> {
+fn two_clients_are_served_at_once_and_share_a_run(rt: HostRuntime) -> Result<(), Fail> {
     let alloc = rt.alloc();
     let port = AtomicU64::new(0);
-    let written = AtomicBool::new(false);
+    let (opened, written) = (AtomicBool::new(false), AtomicBool::new(false));
     let (told, (ann, bob)) = thread::join(
         &rt,
         || served(&rt, alloc, TRACE, LOOPBACK, &port),
         || thread::join(
             &rt,
-            || ann_writes(&rt, alloc, &port, &written),
-            || bob_reads(&rt, alloc, &port, &written),
+            || ann_writes(&rt, alloc, &port, &opened, &written),
+            || bob_reads(&rt, alloc, &port, &opened, &written),
         ),
     );
     assert!(rt; ann.is_some());
@@ -59,8 +60,14 @@ fn a_client_that_hangs_up_inside_a_message(rt: HostRuntime) -> Result<(), Fail> 
     let out = std::str::from_utf8(told.out.as_slice())?;
     assert!(rt; out.ends_with("\nrun 0/x entries 1\n"));
     let err = std::str::from_utf8(told.err.as_slice())?;
-    assert!(rt; err.contains("published 2 states\n"));
-    assert!(rt; err.contains("0 ended: the stream ended inside a message\n"));
-    assert!(rt; err.contains("1 ended\n"));
+    for line in [
+        "published 2 states\n",
+        "0 accepted from 127.0.0.1:",
+        "0 ended: the stream ended inside a message\n",
+        "1 <- Tversion tag 65535 msize 8192 version \"9P2000\"\n1 -> Rversion tag 65535 msize 8192 version \"9P2000\"\n",
+        "1 attached ann to 0/x\n1 ended\n",
+    ] {
+        assert!(rt; err.contains(line), "{line}");
+    }
     Ok(())
 }

@@ -26,6 +26,7 @@ const NOWHERE: Serving = Serving {
     workers: 1,
     connections: 1,
     ready: false,
+    progress: false,
 };
 
 #[test]

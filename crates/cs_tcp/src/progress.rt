@@ -1,0 +1,31 @@
+//! How far publishing is.
+
+use crate::log::Log;
+use cs_publish::Gate;
+use cs_server::Server;
+use cs_shared::AnyScene;
+use std::io::Write;
+use std::sync::Wait;
+
+/// It is told before each state whose number is a multiple of this one, but 0.
+const STATES: u32 = 1_024;
+
+/// Tells, as states are made, how many are published by then, if the log tells progress.
+#[derive(Drop)]
+pub(crate) struct Progress<'a, R, E> {
+    pub(crate) rt: &'a R,
+    pub(crate) server: &'a Server<AnyScene>,
+    pub(crate) log: Log<'a, E>,
+}
+
+impl<R: Wait + Sync, E: Write + Send> Gate for Progress<'_, R, E> {
+    fn before(&self, number: u32) {
+        if number == 0 || number % STATES != 0 {
+            return;
+        }
+        let registry = self.server.registry();
+        let all = registry.scene().plan().len() as u32;
+        let missing = registry.missing(self.rt);
+        self.log.progress(self.rt, all.saturating_sub(missing), all);
+    }
+}
