@@ -45,9 +45,11 @@ pub(crate) fn serve<R: Wait + Clock, E: Write>(
     conn: u32,
     log: Log<E>,
 ) {
-    let ended = if set_up(&stream).is_err() {
-        Err(ServeFault::WriteFault)
-    } else if log.verbose {
+    if set_up(&stream).is_err() {
+        log.not_set_up(rt, conn);
+        return;
+    }
+    let ended = if log.verbose {
         let heard = Heard::new(rt, alloc, stream, conn, log);
         serve_stream(rt, alloc, server, heard)
     } else {

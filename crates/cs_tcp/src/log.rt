@@ -108,6 +108,13 @@ impl<E: Write> Log<'_, E> {
         self.line(rt, &format_args!("{conn} tells no more: out of memory"));
     }
 
+    /// Tells that a connection wasn't served, since its socket couldn't be set up.
+    pub(crate) fn not_set_up(&self, rt: &impl Wait, conn: u32) {
+        if self.verbose {
+            self.line(rt, &format_args!("{conn} ended: its socket cannot be set up"));
+        }
+    }
+
     pub(crate) fn ended(&self, rt: &impl Wait, conn: u32, ended: Result<(), ServeFault>) {
         if !self.verbose {
             return;
