@@ -111,7 +111,10 @@ impl<E: Write> Log<'_, E> {
     /// Tells that a connection wasn't served, since its socket couldn't be set up.
     pub(crate) fn not_set_up(&self, rt: &impl Wait, conn: u32) {
         if self.verbose {
-            self.line(rt, &format_args!("{conn} ended: its socket cannot be set up"));
+            self.line(
+                rt,
+                &format_args!("{conn} ended: its socket cannot be set up"),
+            );
         }
     }
 
