@@ -19,8 +19,6 @@ mod start;
 pub mod state;
 mod steps;
 pub mod tables;
-#[cfg(test)]
-mod tests;
 
 pub use order::Order;
 pub use state::build;

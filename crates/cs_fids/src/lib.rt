@@ -15,6 +15,3 @@ pub use fault::FidFault;
 pub use fid::{Fid, NOFID, Opened, Walked};
 pub use fid_table::FidTable;
 pub use place::Place;
-
-#[cfg(test)]
-mod tests;

@@ -15,8 +15,6 @@ mod receipt;
 mod room;
 mod run;
 mod stepping;
-#[cfg(test)]
-mod tests;
 mod user_text;
 
 pub use entry::Entry;

@@ -8,8 +8,6 @@ pub mod fault;
 pub mod micro_op;
 pub mod micros;
 pub mod sync_point;
-#[cfg(test)]
-mod tests;
 
 pub use blocks::{BLOCK_BYTES, blocks_make_up_a_write};
 pub use fault::MicroFault;

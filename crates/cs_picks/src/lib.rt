@@ -4,8 +4,6 @@
 pub mod fault;
 mod line;
 pub mod picks;
-#[cfg(test)]
-mod tests;
 
 pub use fault::PicksFault;
 pub use picks::read_picks;

@@ -19,6 +19,3 @@ pub use recipe::{Places, Recipe};
 pub use scene::Scene;
 // the store of a state
 pub use cs_state::Built;
-
-#[cfg(test)]
-mod tests;

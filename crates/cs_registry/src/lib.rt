@@ -12,6 +12,3 @@ pub use found::Found;
 pub use held::Held;
 pub use key::RunKey;
 pub use states::States;
-
-#[cfg(test)]
-mod tests;

@@ -14,8 +14,6 @@ mod page;
 mod reading;
 mod removing;
 mod stating;
-#[cfg(test)]
-mod tests;
 pub mod turn;
 mod walking;
 mod writing;

@@ -34,6 +34,3 @@ pub use reply::{Bytes, Reply};
 pub use serving::{ServeFault, serve_stream};
 pub use session::Session;
 pub use stream::{Counts, Stream, Transfer, WriteFault, write_all};
-
-#[cfg(test)]
-mod tests;

@@ -14,8 +14,6 @@ mod reading;
 mod shares;
 mod state;
 pub mod state_tree;
-#[cfg(test)]
-mod tests;
 
 pub use atlas::{Atlas, Built};
 pub use state_tree::StateTree;

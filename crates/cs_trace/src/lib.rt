@@ -13,16 +13,12 @@ mod names;
 mod near;
 mod numbers;
 pub mod operation;
-#[cfg(test)]
-mod operation_tests;
 mod path_text;
 mod reading;
 mod resolve;
 mod standing;
 mod start;
 mod state;
-#[cfg(test)]
-mod tests;
 pub mod trace;
 mod tree;
 mod verb;

@@ -15,8 +15,6 @@ mod replies;
 mod requests;
 mod stat;
 mod table;
-#[cfg(test)]
-mod tests;
 mod writing;
 
 pub use cutting::{any_cutting, what_fits_is_whole};

@@ -1,4 +1,0 @@
-//! Runs by hand.
-
-mod journals;
-mod side;

@@ -1,0 +1,11 @@
+//! What calls answer, what a journal keeps of them, and which runs are found.
+
+mod asks;
+mod directories;
+mod files;
+mod journals;
+mod registries;
+mod removes;
+mod side;
+mod world;
+mod wstats;

@@ -1,0 +1,5 @@
+//! Messages, fids, connections and streams: values from outside.
+#![tactic(auto)]
+
+#[cfg(test)]
+mod tests;

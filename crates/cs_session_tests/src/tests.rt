@@ -1,0 +1,7 @@
+//! Messages as bytes, a connection's fids, and connections over streams.
+
+mod connections;
+mod fids;
+mod framing;
+mod messages;
+mod streams;

@@ -1,0 +1,8 @@
+//! Sets of micro-operations, the states that they leave, and the plans that number them.
+
+mod lists;
+mod made;
+mod picks;
+mod scenes;
+mod sets;
+mod states;
