@@ -1,8 +1,8 @@
 //! Opens that stand at once, and are closed one after the other.
 
-use crate::files::{tree, user};
+use crate::files::user;
 use crate::growth::{each, open};
-use crate::side::{Ground, Side};
+use crate::side::{Side, ground};
 use cs_permit::{Call, CloseCall};
 use cs_run::Answer;
 use std::alloc::Global;
@@ -45,8 +45,10 @@ fn closed(
     first: bool,
 ) -> io::Result<Option<(u64, Duration)>> {
     let alloc = rt.alloc();
-    let ground = tree(alloc).and_then(|tree| Ground::new(alloc, tree));
-    let Some(mut side) = ground.and_then(|ground| Side::over(alloc, &ground)) else {
+    let Some(ground) = ground(alloc) else {
+        return Ok(None);
+    };
+    let Some(mut side) = Side::over(alloc, &ground) else {
         return Ok(None);
     };
     let Some(mut numbers) = opened(alloc, &mut side, count) else {

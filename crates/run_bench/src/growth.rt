@@ -1,7 +1,7 @@
 //! Steps of a run before it has grown and afterwards, and beside many runs.
 
-use crate::files::{FILE, tree, user};
-use crate::side::{Ground, Side};
+use crate::files::{FILE, user};
+use crate::side::{Ground, Side, ground};
 use crate::steps::{Kind, is_granted, steps};
 use cs_permit::{Call, OpenCall};
 use std::alloc::Global;
@@ -103,6 +103,26 @@ pub fn each(took: Duration, count: u64) -> u128 {
     took.as_nanos() / u128::from(count.max(1))
 }
 
+/// How long steps of a run that is new take, then of one that has grown, and by how much it did. None
+/// where memory is wanting.
+fn time_grown(
+    rt: &(impl Clock + AllocGlobal),
+    ground: &Ground,
+    kind: Kind,
+    grown: Grown,
+    count: u64,
+    more: u64,
+) -> io::Result<Option<(Duration, Duration, u64)>> {
+    let Some(mut side) = Side::over(rt.alloc(), ground) else {
+        return Ok(None);
+    };
+    let _warm = took(rt, &mut side, kind, count)?;
+    let before = took(rt, &mut side, kind, count)?;
+    let more = grown.grow(rt.alloc(), &mut side, more);
+    let after = took(rt, &mut side, kind, count)?;
+    Ok(Some((before, after, more)))
+}
+
 /// Times steps of a run before it has grown, and afterwards.
 pub fn grow(
     rt: &(impl Clock + Print + AllocGlobal),
@@ -110,22 +130,21 @@ pub fn grow(
     grown: Grown,
     timed: bool,
 ) -> io::Result<()> {
-    let alloc = rt.alloc();
     let (name, what) = (kind.name(), grown.name());
-    let Some(ground) = tree(alloc).and_then(|tree| Ground::new(alloc, tree)) else {
+    let Some(ground) = ground(rt.alloc()) else {
         return println!(rt; "out of memory");
     };
     let (count, rounds) = if timed { (STEPS, ROUNDS) } else { (1, 1) };
     let (mut before, mut after) = (Duration::ZERO, Duration::ZERO);
     let mut more = 0;
     for _ in 0..rounds {
-        let Some(mut side) = Side::over(alloc, &ground) else {
+        let round = time_grown(rt, &ground, kind, grown, count, grown.count(timed))?;
+        let Some((first, later, grew)) = round else {
             return println!(rt; "out of memory");
         };
-        let _warm = took(rt, &mut side, kind, count)?;
-        before = before.saturating_add(took(rt, &mut side, kind, count)?);
-        more = grown.grow(alloc, &mut side, grown.count(timed));
-        after = after.saturating_add(took(rt, &mut side, kind, count)?);
+        before = before.saturating_add(first);
+        after = after.saturating_add(later);
+        more = grew;
     }
     if !timed {
         return println!(rt; "{name} beside {more} {what} more");
@@ -156,32 +175,60 @@ fn crowd(alloc: Global, ground: &Ground, kind: Kind, count: u64) -> Option<Vec<S
     Some(sides)
 }
 
-/// Times steps of a run alone, beside many runs, and of all of these in turn.
-pub fn among(rt: &(impl Clock + Print + AllocGlobal), kind: Kind, timed: bool) -> io::Result<()> {
-    let alloc = rt.alloc();
-    let name = kind.name();
-    let Some(ground) = tree(alloc).and_then(|tree| Ground::new(alloc, tree)) else {
-        return println!(rt; "out of memory");
+/// How long steps of a run take alone and beside many, and one of each of these in turn.
+#[derive(Clone, Copy, Debug, PartialEq, Eq)]
+struct Crowded {
+    alone: Duration,
+    beside: Duration,
+    turns: Duration,
+    /// How many of those in turn were granted.
+    done: u64,
+}
+
+/// Times them. None where memory is wanting.
+fn time_crowded(
+    rt: &(impl Clock + AllocGlobal),
+    ground: &Ground,
+    kind: Kind,
+    count: u64,
+    runs: u64,
+) -> io::Result<Option<Crowded>> {
+    let Some(mut side) = Side::over(rt.alloc(), ground) else {
+        return Ok(None);
     };
-    let Some(mut side) = Side::over(alloc, &ground) else {
-        return println!(rt; "out of memory");
-    };
-    let count = if timed { STEPS } else { 1 };
     let _warm = took(rt, &mut side, kind, count)?;
     let alone = took(rt, &mut side, kind, count)?;
-    let runs = if timed { RUNS } else { 3 };
-    let Some(mut sides) = crowd(alloc, &ground, kind, runs) else {
-        return println!(rt; "out of memory");
+    let Some(mut sides) = crowd(rt.alloc(), ground, kind, runs) else {
+        return Ok(None);
     };
     let beside = took(rt, &mut side, kind, count)?;
     let start = Instant::now(rt)?;
-    let done = in_turn(alloc, &mut sides, kind);
+    let done = in_turn(rt.alloc(), &mut sides, kind);
     let turns = start.elapsed(rt)?;
+    Ok(Some(Crowded {
+        alone,
+        beside,
+        turns,
+        done,
+    }))
+}
+
+/// Times steps of a run alone, beside many runs, and of all of these in turn.
+pub fn among(rt: &(impl Clock + Print + AllocGlobal), kind: Kind, timed: bool) -> io::Result<()> {
+    let Some(ground) = ground(rt.alloc()) else {
+        return println!(rt; "out of memory");
+    };
+    let (count, runs) = if timed { (STEPS, RUNS) } else { (1, 3) };
+    let Some(crowded) = time_crowded(rt, &ground, kind, count, runs)? else {
+        return println!(rt; "out of memory");
+    };
+    let (name, done) = (kind.name(), crowded.done);
     if !timed {
         return println!(rt; "{name} of {done} runs in turn");
     }
-    let times = beside.as_secs_f64() / alone.as_secs_f64();
-    let (alone, beside, turn) = (each(alone, count), each(beside, count), each(turns, done));
+    let times = crowded.beside.as_secs_f64() / crowded.alone.as_secs_f64();
+    let (alone, beside) = (each(crowded.alone, count), each(crowded.beside, count));
+    let turn = each(crowded.turns, done);
     println!(rt;
         "{name}: {alone} ns, beside {runs} runs {beside} ns: {times:.2} times; of each in turn {turn} ns"
     )

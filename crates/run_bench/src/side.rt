@@ -1,6 +1,6 @@
 //! Runs that keep journals, and the passes under which the calls are made.
 
-use crate::files::users;
+use crate::files::{tree, users};
 use cs_journal::{Pass, Run, can_grow};
 use cs_overlay::Overlay;
 use cs_permit::{AttachCall, Call};
@@ -51,6 +51,11 @@ impl Ground {
         let tree = Overlay::over(alloc, self.lower.clone().ok()?);
         Some(CountedRun::new(alloc, tree, users(alloc)?))
     }
+}
+
+/// The tree that most works are done on.
+pub fn ground(alloc: Global) -> Option<Ground> {
+    Ground::new(alloc, tree(alloc)?)
 }
 
 /// A run, a pass of it that fits, and the passes of its other users.

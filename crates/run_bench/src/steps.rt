@@ -1,7 +1,7 @@
 //! Steps of a run that keeps a journal, and the same calls on its tree alone.
 
-use crate::files::{FILE, tree, user};
-use crate::side::{Ground, Side};
+use crate::files::{FILE, user};
+use crate::side::{Ground, Side, ground};
 use cs_fids::Place;
 use cs_overlay::Overlay;
 use cs_permit::{Call, OpenCall, ReadCall, StatCall, WriteCall};
@@ -94,48 +94,113 @@ fn calls(alloc: Global, run: &mut CountedRun<Overlay<PlainTree>>, kind: Kind, co
     done
 }
 
+/// How long steps took, and the same calls alone.
+#[derive(Clone, Copy, Debug, PartialEq, Eq)]
+struct Took {
+    /// Of the first run, which finds no memory that was used before.
+    first: Duration,
+    /// Of the other runs.
+    steps: Duration,
+    alone: Duration,
+    done: u64,
+}
+
+impl Took {
+    fn none() -> Took {
+        Took {
+            first: Duration::ZERO,
+            steps: Duration::ZERO,
+            alone: Duration::ZERO,
+            done: 0,
+        }
+    }
+
+    /// Adds a run.
+    fn add(&mut self, is_first: bool, steps: Duration, alone: Duration) {
+        if is_first {
+            self.first = steps;
+            return;
+        }
+        self.steps = self.steps.saturating_add(steps);
+        self.alone = self.alone.saturating_add(alone);
+    }
+
+    /// Prints how long each step took, of so many on the first run and so many on the others.
+    fn print(&self, rt: &impl Print, name: &str, of_first: u64, of_others: u64) -> io::Result<()> {
+        let each = self.steps.as_nanos() / u128::from(of_others.max(1));
+        let each_alone = self.alone.as_nanos() / u128::from(of_others.max(1));
+        let each_first = self.first.as_nanos() / u128::from(of_first.max(1));
+        let times = self.steps.as_secs_f64() / self.alone.as_secs_f64();
+        println!(rt;
+            "{name}: {each} ns, alone {each_alone} ns: {times:.2} times; {each_first} ns on the first run"
+        )
+    }
+}
+
+/// So many steps of a run that is new: how many are granted, and how long they took. None where memory
+/// is wanting.
+fn time_steps(
+    rt: &(impl Clock + AllocGlobal),
+    ground: &Ground,
+    kind: Kind,
+    count: u64,
+) -> io::Result<Option<(u64, Duration)>> {
+    let Some(mut side) = Side::over(rt.alloc(), ground) else {
+        return Ok(None);
+    };
+    let start = Instant::now(rt)?;
+    let done = steps(rt.alloc(), &mut side, kind, count);
+    Ok(Some((done, start.elapsed(rt)?)))
+}
+
+/// The same calls on the tree alone.
+fn time_calls(
+    rt: &(impl Clock + AllocGlobal),
+    run: &mut CountedRun<Overlay<PlainTree>>,
+    kind: Kind,
+    count: u64,
+) -> io::Result<(u64, Duration)> {
+    let start = Instant::now(rt)?;
+    let done = calls(rt.alloc(), run, kind, count);
+    Ok((done, start.elapsed(rt)?))
+}
+
+/// Both, on so many runs, one after the other. None where memory is wanting.
+fn time_runs(
+    rt: &(impl Clock + AllocGlobal),
+    ground: &Ground,
+    kind: Kind,
+    count: u64,
+    runs: u64,
+) -> io::Result<Option<Took>> {
+    let Some(mut plain) = ground.plain(rt.alloc()) else {
+        return Ok(None);
+    };
+    let mut took = Took::none();
+    for run in 0..runs {
+        let Some((done, by_steps)) = time_steps(rt, ground, kind, count)? else {
+            return Ok(None);
+        };
+        let (done_alone, alone) = time_calls(rt, &mut plain, kind, count)?;
+        took.add(run == 0, by_steps, alone);
+        took.done = took.done.wrapping_add(done).wrapping_add(done_alone);
+    }
+    Ok(Some(took))
+}
+
 /// Times both sides, and tells the first run, which finds no memory that was used before, apart.
 pub fn measure(rt: &(impl Clock + Print + AllocGlobal), kind: Kind, timed: bool) -> io::Result<()> {
-    let alloc = rt.alloc();
-    let name = kind.name();
-    let Some(ground) = tree(alloc).and_then(|tree| Ground::new(alloc, tree)) else {
-        return println!(rt; "out of memory");
-    };
-    let Some(mut plain) = ground.plain(alloc) else {
+    let Some(ground) = ground(rt.alloc()) else {
         return println!(rt; "out of memory");
     };
     let (count, runs) = kind.counts(timed);
-    let mut first = Duration::ZERO;
-    let mut by_steps = Duration::ZERO;
-    let mut alone = Duration::ZERO;
-    let mut done = 0u64;
-    for round in 0..runs {
-        let Some(mut side) = Side::over(alloc, &ground) else {
-            return println!(rt; "out of memory");
-        };
-        let start = Instant::now(rt)?;
-        done = done.wrapping_add(steps(alloc, &mut side, kind, count));
-        let took = start.elapsed(rt)?;
-        if round == 0 {
-            first = took;
-        } else {
-            by_steps = by_steps.saturating_add(took);
-        }
-        let start = Instant::now(rt)?;
-        done = done.wrapping_add(calls(alloc, &mut plain, kind, count));
-        if round > 0 {
-            alone = alone.saturating_add(start.elapsed(rt)?);
-        }
-    }
+    let Some(took) = time_runs(rt, &ground, kind, count, runs)? else {
+        return println!(rt; "out of memory");
+    };
+    let name = kind.name();
     if !timed {
+        let done = took.done;
         return println!(rt; "{name}: {done}");
     }
-    let each = by_steps.as_nanos() / u128::from(count.wrapping_mul(runs.saturating_sub(1)).max(1));
-    let each_alone = alone.as_nanos()
-        / u128::from(count.wrapping_mul(runs.saturating_sub(1)).max(1));
-    let each_first = first.as_nanos() / u128::from(count.max(1));
-    let times = by_steps.as_secs_f64() / alone.as_secs_f64();
-    println!(rt;
-        "{name}: {each} ns, alone {each_alone} ns: {times:.2} times; {each_first} ns on the first run"
-    )
+    took.print(rt, name, count, count.wrapping_mul(runs.saturating_sub(1)))
 }

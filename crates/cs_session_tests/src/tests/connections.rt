@@ -250,43 +250,68 @@ fn asks_its_port_for_each_call_on_a_fid(rt: HostRuntime) -> Result<(), Fail> {
     Ok(())
 }
 
+/// A walk of one name.
+fn walking(alloc: Global, fid: u32) -> Result<Message, Fail> {
+    let mut names = Vec::new(alloc);
+    names.push(String::from_str(alloc, "a")?)?;
+    Ok(Message::Call(CallMessage::Walk(WalkMessage {
+        fid,
+        newfid: 2,
+        names,
+    })))
+}
+
+/// A create of a file that is opened to be written.
+fn creating(alloc: Global, fid: u32) -> Result<Message, Fail> {
+    let name = String::from_str(alloc, "c")?;
+    Ok(Message::Call(CallMessage::Create(CreateMessage {
+        fid,
+        name,
+        perm: 0o644,
+        mode: 1,
+    })))
+}
+
+/// What a message is answered: the text of the rule that denies it, or its reply's type.
+fn answered(
+    alloc: Global,
+    session: &mut Session,
+    port: &mut Fake,
+    message: Message,
+) -> &'static str {
+    match ask(alloc, session, port, message) {
+        Reply::Error(rule) => rule.text(),
+        Reply::Wstat => "Rwstat",
+        Reply::Create(_) => "Rcreate",
+        Reply::Clunk => "Rclunk",
+        _ => "another",
+    }
+}
+
 #[test]
 fn asks_its_port_for_each_call_on_a_fid_that_is_not_open(rt: HostRuntime) -> Result<(), Fail> {
     let alloc = rt.alloc();
     let mut port = Fake::new(alloc);
     let mut session = session_of(&rt, &mut port, &[])?;
     attach(alloc, &mut session, &mut port, 1)?;
-    let mut names = Vec::new(alloc);
-    names.push(String::from_str(alloc, "a")?)?;
-    let walk = CallMessage::Walk(WalkMessage {
-        fid: 1,
-        newfid: 2,
-        names,
-    });
-    let denied = ask(alloc, &mut session, &mut port, Message::Call(walk));
-    assert_eq!(rt; denial(denied), Some(RuleId::K8));
-    let stat = CallMessage::Stat(1);
-    let denied = ask(alloc, &mut session, &mut port, Message::Call(stat));
-    assert_eq!(rt; denial(denied), Some(RuleId::H2));
-    let wstat = CallMessage::Wstat(renaming(alloc, 1)?);
-    let changed = ask(alloc, &mut session, &mut port, Message::Call(wstat));
-    assert!(rt; matches!(changed, Reply::Wstat));
-    let create = CallMessage::Create(CreateMessage {
-        fid: 1,
-        name: String::from_str(alloc, "c")?,
-        perm: 0o644,
-        mode: 1,
-    });
-    let made = ask(alloc, &mut session, &mut port, Message::Call(create));
-    assert!(rt; matches!(made, Reply::Create(_)));
-    let clunked = ask(alloc, &mut session, &mut port, Message::Clunk(1));
-    assert!(rt; matches!(clunked, Reply::Clunk));
+    let walked = answered(alloc, &mut session, &mut port, walking(alloc, 1)?);
+    assert_eq!(rt; walked, "K8 no such name");
+    let stat = Message::Call(CallMessage::Stat(1));
+    let told = answered(alloc, &mut session, &mut port, stat);
+    assert_eq!(rt; told, "H2 file is gone");
+    let wstat = Message::Call(CallMessage::Wstat(renaming(alloc, 1)?));
+    let changed = answered(alloc, &mut session, &mut port, wstat);
+    assert_eq!(rt; changed, "Rwstat");
+    let made = answered(alloc, &mut session, &mut port, creating(alloc, 1)?);
+    assert_eq!(rt; made, "Rcreate");
+    let clunked = answered(alloc, &mut session, &mut port, Message::Clunk(1));
+    assert_eq!(rt; clunked, "Rclunk");
     assert_eq!(rt; port.closed.as_slice(), [0].as_slice());
     Ok(())
 }
 
 #[test]
-fn closes_open_fids_in_ascending_order_and_frees_all(rt: HostRuntime) -> Result<(), Fail> {
+fn a_refused_version_closes_open_fids_in_ascending_order(rt: HostRuntime) -> Result<(), Fail> {
     let alloc = rt.alloc();
     let mut port = Fake::new(alloc);
     let mut session = session_of(&rt, &mut port, &[5, 2, 9])?;
@@ -295,13 +320,21 @@ fn closes_open_fids_in_ascending_order_and_frees_all(rt: HostRuntime) -> Result<
     assert_eq!(rt; denial(denied), Some(RuleId::S4));
     assert_eq!(rt; port.closed.as_slice(), [1, 0, 2].as_slice());
     assert_eq!(rt; session.msize(), None);
-    let mut session = session_of(&rt, &mut port, &[8, 4])?;
-    if !session.awaits() {
-        session.hang_up(alloc, &mut port, 1);
-    }
-    assert_eq!(rt; port.closed.as_slice(), [1, 0, 2, 4, 3].as_slice());
-    let denied = ask(alloc, &mut session, &mut port, Message::Clunk(8));
-    assert_eq!(rt; denial(denied), Some(RuleId::S1));
+    Ok(())
+}
+
+#[test]
+fn a_hang_up_closes_open_fids_in_ascending_order_and_frees_all(
+    rt: HostRuntime,
+) -> Result<(), Fail> {
+    let alloc = rt.alloc();
+    let mut port = Fake::new(alloc);
+    let mut session = session_of(&rt, &mut port, &[8, 4, 9])?;
+    assert!(rt; !session.awaits());
+    session.hang_up(alloc, &mut port, 1);
+    assert_eq!(rt; port.closed.as_slice(), [1, 0, 2].as_slice());
+    let clunked = answered(alloc, &mut session, &mut port, Message::Clunk(8));
+    assert_eq!(rt; clunked, "S1 no session");
     Ok(())
 }
 
