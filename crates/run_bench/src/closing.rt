@@ -2,7 +2,7 @@
 
 use crate::files::user;
 use crate::growth::{each, open};
-use crate::side::{Side, ground};
+use crate::side::{Side, level_ground};
 use cs_permit::{Call, CloseCall};
 use cs_run::Answer;
 use std::alloc::Global;
@@ -45,7 +45,7 @@ fn closed(
     first: bool,
 ) -> io::Result<Option<(u64, Duration)>> {
     let alloc = rt.alloc();
-    let Some(ground) = ground(alloc) else {
+    let Some(ground) = level_ground(alloc) else {
         return Ok(None);
     };
     let Some(mut side) = Side::over(alloc, &ground) else {

@@ -1,7 +1,7 @@
 //! Steps of a run before it has grown and afterwards, and beside many runs.
 
 use crate::files::{FILE, user};
-use crate::side::{Ground, Side, ground};
+use crate::side::{Ground, Side, level_ground};
 use crate::steps::{Kind, is_granted, steps};
 use cs_permit::{Call, OpenCall};
 use std::alloc::Global;
@@ -131,7 +131,7 @@ pub fn grow(
     timed: bool,
 ) -> io::Result<()> {
     let (name, what) = (kind.name(), grown.name());
-    let Some(ground) = ground(rt.alloc()) else {
+    let Some(ground) = level_ground(rt.alloc()) else {
         return println!(rt; "out of memory");
     };
     let (count, rounds) = if timed { (STEPS, ROUNDS) } else { (1, 1) };
@@ -215,7 +215,7 @@ fn time_crowded(
 
 /// Times steps of a run alone, beside many runs, and of all of these in turn.
 pub fn among(rt: &(impl Clock + Print + AllocGlobal), kind: Kind, timed: bool) -> io::Result<()> {
-    let Some(ground) = ground(rt.alloc()) else {
+    let Some(ground) = level_ground(rt.alloc()) else {
         return println!(rt; "out of memory");
     };
     let (count, runs) = if timed { (STEPS, RUNS) } else { (1, 3) };

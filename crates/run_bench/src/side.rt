@@ -54,7 +54,7 @@ impl Ground {
 }
 
 /// The tree that most works are done on.
-pub fn ground(alloc: Global) -> Option<Ground> {
+pub fn level_ground(alloc: Global) -> Option<Ground> {
     Ground::new(alloc, tree(alloc)?)
 }
 

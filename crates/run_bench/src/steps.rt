@@ -1,7 +1,7 @@
 //! Steps of a run that keeps a journal, and the same calls on its tree alone.
 
 use crate::files::{FILE, user};
-use crate::side::{Ground, Side, ground};
+use crate::side::{Ground, Side, level_ground};
 use cs_fids::Place;
 use cs_overlay::Overlay;
 use cs_permit::{Call, OpenCall, ReadCall, StatCall, WriteCall};
@@ -190,7 +190,7 @@ fn time_runs(
 
 /// Times both sides, and tells the first run, which finds no memory that was used before, apart.
 pub fn measure(rt: &(impl Clock + Print + AllocGlobal), kind: Kind, timed: bool) -> io::Result<()> {
-    let Some(ground) = ground(rt.alloc()) else {
+    let Some(ground) = level_ground(rt.alloc()) else {
         return println!(rt; "out of memory");
     };
     let (count, runs) = kind.counts(timed);
