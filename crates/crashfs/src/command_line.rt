@@ -1,5 +1,6 @@
 //! The command line.
 use clap::{Arg, ArgAction, ArgMatches, Command, Error, value_parser};
+use cs_tcp::Client;
 use std::alloc::{AllocError, Global};
 
 /// Which crash states a command is about.
@@ -41,6 +42,8 @@ pub enum Ask<'a> {
         connections: u32,
         /// Whether all states are made before the first connection is accepted.
         ready: bool,
+        /// Whose clients connect.
+        client: Client,
         /// Whether connections, their messages and attaches are told on standard error.
         verbose: bool,
     },
@@ -53,6 +56,9 @@ fn file_argument<'a>(alloc: Global, name: &'a str, help: &'a str) -> Arg<'a> {
         .help(help)
         .action(ArgAction::Set)
 }
+
+/// The names of clients.
+const CLIENTS: [&str; 2] = ["plan9", "linux"];
 
 /// The most workers, and the most connections.
 const MOST: i64 = 64;
@@ -126,6 +132,13 @@ fn serve_command<'a>(alloc: Global) -> Result<Command<'a>, AllocError> {
         "How many connections are served before the end, 1 to 64",
     );
     let ready = flag(alloc, "ready", "Makes all states before it listens");
+    let client = Arg::new(alloc, "client")
+        .long("client")
+        .value_name("CLIENT")
+        .help("Whose clients connect: Linux's own needs other texts of errors")
+        .value_parser(CLIENTS.as_slice())
+        .default_value("plan9")
+        .action(ArgAction::Set);
     let verbose = flag(
         alloc,
         "verbose",
@@ -138,6 +151,7 @@ fn serve_command<'a>(alloc: Global) -> Result<Command<'a>, AllocError> {
         .arg(workers)?
         .arg(connections)?
         .arg(ready)?
+        .arg(client)?
         .arg(verbose)?;
     with_states(alloc, serve)
 }
@@ -170,6 +184,10 @@ fn serve_ask<'a>(matches: &ArgMatches<'a>, wanted: Wanted<'a>, users: &'a str) -
         workers: matches.get_one("workers").unwrap_or(1),
         connections: matches.get_one("connections").unwrap_or(1),
         ready: matches.get_flag("ready"),
+        client: match matches.get_str("client") {
+            Some("linux") => Client::Linux,
+            _ => Client::Plan9,
+        },
         verbose: matches.get_flag("verbose"),
     }
 }

@@ -159,6 +159,7 @@ where
             workers,
             connections,
             ready,
+            client,
             verbose,
         } => {
             let serving = Serving {
@@ -166,6 +167,7 @@ where
                 workers,
                 connections,
                 ready,
+                client,
                 progress: on_terminal,
             };
             run_serve(rt, err, wanted, users, serving, verbose)

@@ -1,5 +1,7 @@
 //! One connection over TCP.
 
+use crate::client::Client;
+use crate::for_linux::ForLinux;
 use crate::heard::Heard;
 use crate::log::Log;
 use crate::wall_clock::WallClock;
@@ -35,6 +37,23 @@ fn serve_stream<R: Wait + Clock, RW: Read + Write + Drop>(
     serve_connection(rt, alloc, server, &mut stream, &mut clock).result()
 }
 
+/// Serves the stream to its end; its messages are told, if the log tells these.
+fn serve_heard<R: Wait + Clock, E: Write, RW: Read + Write + Drop>(
+    rt: &R,
+    alloc: Global,
+    server: &Server<AnyScene>,
+    stream: RW,
+    conn: u32,
+    log: Log<E>,
+) -> Result<(), ServeFault> {
+    if log.verbose {
+        let heard = Heard::new(rt, alloc, stream, conn, log);
+        serve_stream(rt, alloc, server, heard)
+    } else {
+        serve_stream(rt, alloc, server, stream)
+    }
+}
+
 /// Serves the connection of that number to its end, and tells how it ended; its messages too, if the log
 /// tells these.
 pub(crate) fn serve<R: Wait + Clock, E: Write>(
@@ -43,17 +62,19 @@ pub(crate) fn serve<R: Wait + Clock, E: Write>(
     server: &Server<AnyScene>,
     stream: TcpStream,
     conn: u32,
+    client: Client,
     log: Log<E>,
 ) {
     if set_up(&stream).is_err() {
         log.not_set_up(rt, conn);
         return;
     }
-    let ended = if log.verbose {
-        let heard = Heard::new(rt, alloc, stream, conn, log);
-        serve_stream(rt, alloc, server, heard)
-    } else {
-        serve_stream(rt, alloc, server, stream)
+    let ended = match client {
+        Client::Plan9 => serve_heard(rt, alloc, server, stream, conn, log),
+        Client::Linux => {
+            let stream = ForLinux::new(alloc, stream);
+            serve_heard(rt, alloc, server, stream, conn, log)
+        }
     };
     log.ended(rt, conn, ended);
 }

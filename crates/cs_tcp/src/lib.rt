@@ -4,7 +4,9 @@
 
 mod accepting;
 mod address;
+pub mod client;
 mod connection;
+mod for_linux;
 mod heard;
 mod log;
 mod progress;
@@ -13,6 +15,7 @@ mod serving;
 mod summary;
 mod wall_clock;
 
+pub use client::Client;
 pub use serving::{Serving, serve_of};
 
 #[cfg(test)]

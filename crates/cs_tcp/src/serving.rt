@@ -3,6 +3,7 @@ ghost use Rattle.std.specs.Prelude.{◌≤◌};
 
 use crate::accepting::accept;
 use crate::address::Address;
+use crate::client::Client;
 use crate::connection;
 use crate::log::Log;
 use crate::publishing::publish;
@@ -30,6 +31,8 @@ pub struct Serving<'a> {
     pub connections: u32,
     /// Whether all states are published before the first connection is accepted.
     pub ready: bool,
+    /// Whose clients connect.
+    pub client: Client,
     /// Whether it is told how far publishing is.
     pub progress: bool,
 }
@@ -76,6 +79,7 @@ fn accept_each<'s, Env, R: Wait + Clock + Sync, E: Write + Send>(
     server: &'s Server<AnyScene>,
     listener: TcpListener,
     connections: u32,
+    client: Client,
     log: Log<'s, E>,
 ) -> bool {
     for conn in 0..connections {
@@ -84,7 +88,9 @@ fn accept_each<'s, Env, R: Wait + Clock + Sync, E: Write + Send>(
             return false;
         };
         log.accepted(rt, conn, from);
-        let served = scope.spawn(move || connection::serve(rt, alloc, server, stream, conn, log));
+        let served = scope.spawn(move || connection::serve(
+            rt, alloc, server, stream, conn, client, log,
+        ));
         if served.is_err() {
             log.fault(rt, &ProgramFault::Memory);
             return false;
@@ -107,18 +113,19 @@ fn serve_each<'s, R: Threads + Wait + Clock + Sync, E: Write + Send>(
         workers,
         connections,
         ready,
+        client,
         ..
     } = serving;
     thread::scope(thread::scope_env(), rt, move |scope| {
         if ready {
-            return accept_each(scope, rt, alloc, server, listener, connections, log);
+            return accept_each(scope, rt, alloc, server, listener, connections, client, log);
         }
         let publisher = scope.spawn(move || publish(rt, alloc, server, workers, log));
         let Ok(publisher) = publisher else {
             log.fault(rt, &ProgramFault::Memory);
             return false;
         };
-        let accepted = accept_each(scope, rt, alloc, server, listener, connections, log);
+        let accepted = accept_each(scope, rt, alloc, server, listener, connections, client, log);
         publisher.join(rt) && accepted
     })
 }

@@ -18,6 +18,9 @@ const ATTACH_BOB: &[u8] = b"\x19\0\0\0h\x01\0\0\0\0\0\xff\xff\xff\xff\x03\0bob\x
 /// A walk to `f`.
 const WALK: &[u8] = b"\x14\0\0\0n\x01\0\0\0\0\0\x01\0\0\0\x01\0\x01\0f";
 
+/// A walk to `g`, which isn't there before it is made.
+const WALK_TO_G: &[u8] = b"\x14\0\0\0n\x01\0\0\0\0\0\x01\0\0\0\x01\0\x01\0g";
+
 const OPEN_TO_READ: &[u8] = b"\x0c\0\0\0p\x01\0\x01\0\0\0\0";
 
 const OPEN_TO_WRITE: &[u8] = b"\x0c\0\0\0p\x01\0\x01\0\0\0\x01";
@@ -115,6 +118,18 @@ pub fn bob_reads<R: Net<Stream = TcpStream>>(
     let reply = granted(alloc, &mut stream, READ)?;
     granted(alloc, &mut stream, CLUNK)?;
     Some(reply)
+}
+
+/// Attaches ann, and looks for `g` in state 0: the reply.
+pub fn looks_for_g<R: Net<Stream = TcpStream>>(
+    rt: &R,
+    alloc: Global,
+    port: &AtomicU64,
+) -> Option<Vec<u8>> {
+    let mut stream = connect(rt, port)?;
+    granted(alloc, &mut stream, VERSION)?;
+    granted(alloc, &mut stream, ATTACH_ANN)?;
+    ask(alloc, &mut stream, WALK_TO_G).ok()
 }
 
 /// Sends three bytes of a message and no more, and waits for the end.

@@ -1,8 +1,8 @@
 //! Clients that are served.
 
-use super::client::{ann_writes, attached_at_last, bob_reads, hang_up_early};
+use super::client::{ann_writes, attached_at_last, bob_reads, hang_up_early, looks_for_g};
 use super::fixture::{TRACE, served};
-use crate::Serving;
+use crate::{Client, Serving};
 use std::sync::atomic::{AtomicBool, AtomicU64};
 use std::test::Fail;
 use std::thread;
@@ -12,6 +12,7 @@ const LOOPBACK: Serving = Serving {
     workers: 2,
     connections: 2,
     ready: true,
+    client: Client::Plan9,
     progress: false,
 };
 
@@ -69,5 +70,29 @@ fn a_client_that_hangs_up_inside_a_message(rt: HostRuntime) -> Result<(), Fail> 
     ] {
         assert!(rt; err.contains(line), "{line}");
     }
+    Ok(())
+}
+
+#[test]
+fn a_client_of_linux_is_told_an_error_that_it_knows(rt: HostRuntime) -> Result<(), Fail> {
+    let alloc = rt.alloc();
+    let port = AtomicU64::new(0);
+    let linux = Serving {
+        connections: 1,
+        client: Client::Linux,
+        ..LOOPBACK
+    };
+    let (told, reply) = thread::join(
+        &rt,
+        || served(&rt, alloc, TRACE, linux, &port),
+        || looks_for_g(&rt, alloc, &port),
+    );
+    let reply = reply.ok_or("no reply")?;
+    assert_eq!(rt;
+        reply.as_slice(),
+        b"k\x01\0\x19\0No such file or directory".as_slice()
+    );
+    let err = std::str::from_utf8(told.err.as_slice())?;
+    assert!(rt; err.contains("0 -> Rerror tag 1 ename \"K8 no such name\"\n"));
     Ok(())
 }

@@ -1,8 +1,8 @@
 //! What is served to nobody.
 
 use super::fixture::{TRACE, served};
-use crate::Serving;
 use crate::accepting::accept;
+use crate::{Client, Serving};
 use std::alloc::Global;
 use std::io::{self, Error, ErrorKind};
 use std::net::{Ipv4Addr, Net, OpenListener, SocketAddr, TcpListener, TcpStream};
@@ -26,6 +26,7 @@ const NOWHERE: Serving = Serving {
     workers: 1,
     connections: 1,
     ready: false,
+    client: Client::Plan9,
     progress: false,
 };
 

@@ -1,12 +1,12 @@
 //! What is told on standard error.
 
 use super::fixture::{TRACE, inputs_of, told_of};
-use crate::Serving;
 use crate::heard::Heard;
 use crate::log::Log;
 use crate::progress::Progress;
 use crate::publishing::publish;
 use crate::serving::server_of;
+use crate::{Client, Serving};
 use cs_plan::Scene;
 use cs_publish::Gate;
 use cs_server::{Server, serve_connection};
@@ -162,6 +162,7 @@ const NOWHERE: Serving = Serving {
     workers: 2,
     connections: 1,
     ready: true,
+    client: Client::Plan9,
     progress: false,
 };
 

@@ -1,0 +1,43 @@
+-- What Linux's client is told of a reply, and what it means by a request.
+use Rattle.std.specs.Prelude.{◌≡◌, ◌≢◌, ℕ, List, [], codes}
+use Rattle.cs_names.specs.declared.rule_id.RuleId.{RuleId}
+use Rattle.cs_names.specs.Rules as rules
+use Rattle.cs_wire.specs.declared.kind.RKind.TheVariants as rk
+use Rattle.cs_wire.specs.declared.kind.TKind.{TKind}
+use Rattle.cs_wire.specs.declared.kind.TKind.TheVariants as tk
+use Rattle.cs_wire.specs.Fields.{Value}
+use Rattle.cs_wire.specs.Messages.{Message, replies, requests, stat_shape, t_layout}
+use Rattle.cs_linux.specs.declared.errno.Errno.TheVariants.{InputOutput, NoMemory}
+use Rattle.cs_linux.specs.Errors.{errno_of, text_of}
+
+-- the text of a reply that says that memory is wanting
+abbrev pub memory_text : List ℕ
+memory_text = codes "out of memory"
+
+-- What the client is told in place of a text: that of the error that stands for the rule, or for want of memory.
+pub record IsTold (text told : List ℕ) : Type 0 where
+  pub of_rule : (rule : RuleId) → text ≡ rules.text_of rule → told ≡ text_of (errno_of rule)
+  pub of_memory : text ≡ memory_text → told ≡ text_of NoMemory
+  pub of_others : text ≢ memory_text → ((rule : RuleId) → text ≢ rules.text_of rule) → told ≡ text_of InputOutput
+
+-- an Rerror (error(5))
+abbrev pub rerror : ℕ → List ℕ → Message replies
+rerror tag text = record { kind = rk.Error; tag = tag; fields = text }
+
+-- the greatest number of four bytes: of a Twstat's field, that it is not to change (stat(5))
+abbrev pub dont_touch : ℕ
+dont_touch = 4294967295
+
+-- A stat but for what the client fills in unasked: when the file was made, and who changed it last.
+abbrev pub asked_of : Value stat_shape → Value stat_shape
+asked_of (kind, (dev, (qid, (mode, (atime, (mtime, (length, (name, (uid, (gid, muid)))))))))) =
+    (kind, (dev, (qid, (mode, (dont_touch, (mtime, (length, (name, (uid, (gid, []))))))))))
+
+-- what the fields of a request are meant to say
+abbrev pub meant_by : (kind : TKind) → Value (t_layout kind) → Value (t_layout kind)
+meant_by tk.Wstat (fid, stat) = (fid, asked_of stat)
+meant_by kind fields = fields
+
+-- What a client of Linux means by a request.
+abbrev pub meant : Message requests → Message requests
+meant m = record m { fields = meant_by m.kind m.fields }

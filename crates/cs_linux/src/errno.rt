@@ -1,0 +1,103 @@
+//! The errors of Linux that its client is told.
+ghost use Rattle.std.specs.Prelude.{◌≡◌, ◌≤◌, length};
+ghost use Rattle.cs_linux.specs.Errors.{errno_of, text_of};
+
+use cs_names::RuleId;
+
+/// An error that Linux's client knows by a text (error(5)), and gives its program as a number.
+#[derive(Clone, Copy, Debug, PartialEq, Eq)]
+pub enum Errno {
+    /// EPERM.
+    NotPermitted,
+    /// ENOENT.
+    NoEntry,
+    /// EIO.
+    InputOutput,
+    /// ENOMEM.
+    NoMemory,
+    /// EACCES.
+    NoAccess,
+    /// EEXIST.
+    Exists,
+    /// ENOTDIR.
+    NotADirectory,
+    /// EISDIR.
+    IsADirectory,
+    /// EINVAL.
+    Invalid,
+    /// ETXTBSY.
+    Busy,
+    /// EFBIG.
+    TooLarge,
+    /// ENOSPC.
+    NoSpace,
+    /// ENOTEMPTY.
+    NotEmpty,
+}
+
+impl Errno {
+    /// The error that stands for a request that this rule refused.
+    pub fn of(rule: RuleId) -> Errno
+        ensures { result ≡ errno_of rule }
+    {
+        match rule {
+            RuleId::K8 | RuleId::A4 => Errno::NoEntry,
+            RuleId::K7
+            | RuleId::O6
+            | RuleId::O7
+            | RuleId::O8
+            | RuleId::O9
+            | RuleId::C8
+            | RuleId::M4
+            | RuleId::Q6
+            | RuleId::Q9 => Errno::NoAccess,
+            RuleId::C9 | RuleId::Q7 => Errno::Exists,
+            RuleId::M5 => Errno::NotEmpty,
+            RuleId::K6 | RuleId::C7 => Errno::NotADirectory,
+            RuleId::O5 => Errno::IsADirectory,
+            RuleId::E4 | RuleId::Q10 => Errno::TooLarge,
+            RuleId::C10 | RuleId::A5 | RuleId::L1 => Errno::NoSpace,
+            RuleId::O10 => Errno::Busy,
+            RuleId::A6
+            | RuleId::M3
+            | RuleId::Q3
+            | RuleId::Q4
+            | RuleId::Q12
+            | RuleId::Q13
+            | RuleId::Q14 => Errno::NotPermitted,
+            RuleId::A3
+            | RuleId::O3
+            | RuleId::C3
+            | RuleId::C4
+            | RuleId::C5
+            | RuleId::G4
+            | RuleId::G5
+            | RuleId::Q5
+            | RuleId::Q8
+            | RuleId::Q11 => Errno::Invalid,
+            _ => Errno::InputOutput,
+        }
+    }
+
+    /// The text by which Linux's client knows it.
+    pub fn text(self) -> &'static str
+        ensures value { result.now ≡ text_of self }
+        ensures short { length result.now ≤ 25 }
+    {
+        match self {
+            Errno::NotPermitted => "Operation not permitted",
+            Errno::NoEntry => "No such file or directory",
+            Errno::InputOutput => "Input/output error",
+            Errno::NoMemory => "Cannot allocate memory",
+            Errno::NoAccess => "Permission denied",
+            Errno::Exists => "File exists",
+            Errno::NotADirectory => "Not a directory",
+            Errno::IsADirectory => "Is a directory",
+            Errno::Invalid => "Invalid argument",
+            Errno::Busy => "Text file busy",
+            Errno::TooLarge => "File too large",
+            Errno::NoSpace => "No space left on device",
+            Errno::NotEmpty => "Directory not empty",
+        }
+    }
+}

@@ -1,0 +1,10 @@
+//! Whose clients connect.
+
+/// A client of 9P2000.
+#[derive(Clone, Copy, Debug, PartialEq, Eq)]
+pub enum Client {
+    /// One that takes every text of an Rerror, as Plan 9's do.
+    Plan9,
+    /// Linux's own, which knows errors by texts of its own, and fills in fields of a Twstat unasked.
+    Linux,
+}

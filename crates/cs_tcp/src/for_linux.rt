@@ -1,0 +1,156 @@
+//! A connection's stream, as Linux's own client needs it.
+
+use cs_linux::{reply_to_linux, request_of_linux};
+use cs_names::limits::MESSAGE_BYTES;
+use cs_wire::{Framer, RMessage, TMessage, decode, decode_r, encode, encode_t};
+use std::alloc::{AllocError, Global};
+use std::collections::VecDeque;
+use std::io::{self, Read, Write};
+
+/// The number of a Twstat (stat(5)).
+const TWSTAT: u8 = 126;
+
+/// The number of an Rerror (error(5)).
+const RERROR: u8 = 107;
+
+/// A stream to a client of Linux: what is read from it is what the client means, and what is written to
+/// it is told in texts that the client knows. A message goes on once it is whole; one that memory is
+/// wanting for goes on as it is.
+#[derive(Drop)]
+pub(crate) struct ForLinux<RW> {
+    stream: RW,
+    alloc: Global,
+    /// What the client sent, from the first request on that isn't whole.
+    requests: Framer,
+    /// What is still to be read of what it means.
+    meant: VecDeque<u8>,
+    /// What was written, from the first reply on that isn't whole.
+    replies: Framer,
+}
+
+/// What the client means by a Twstat. None of any other request.
+fn meant_by(alloc: Global, request: &[u8]) -> Option<TMessage> {
+    if request.get(4).copied() != Some(TWSTAT) {
+        return None;
+    }
+    Some(request_of_linux(decode(alloc, request).ok()?))
+}
+
+/// What the client is told of an Rerror. None of any other reply.
+fn told_of(alloc: Global, reply: &[u8]) -> Option<RMessage> {
+    if reply.get(4).copied() != Some(RERROR) {
+        return None;
+    }
+    Some(reply_to_linux(decode_r(alloc, reply).ok()?))
+}
+
+/// The bytes of what the client means by a request. None where they are the request's own.
+fn bytes_meant(alloc: Global, request: &[u8]) -> Option<Vec<u8>> {
+    let meant = meant_by(alloc, request)?;
+    if !meant.fits() {
+        return None;
+    }
+    let mut bytes = Vec::new(alloc);
+    encode_t(&meant, &mut bytes).ok()?;
+    Some(bytes)
+}
+
+/// The bytes of what the client is told of a reply. None where they are the reply's own.
+fn bytes_told(alloc: Global, reply: &[u8]) -> Option<Vec<u8>> {
+    let told = told_of(alloc, reply)?;
+    if !told.fits() {
+        return None;
+    }
+    let mut bytes = Vec::new(alloc);
+    encode(&told, &mut bytes).ok()?;
+    Some(bytes)
+}
+
+/// Appends what the client means by each whole request, and all of the rest where that begins no request.
+fn mean_each(alloc: Global, requests: &mut Framer, meant: &mut VecDeque<u8>) -> io::Result<()> {
+    while let Ok(Some(request)) = requests.next() {
+        match bytes_meant(alloc, request) {
+            Some(bytes) => meant.write_all(&bytes)?,
+            None => meant.write_all(request)?,
+        }
+    }
+    if requests.next().is_err() {
+        give_rest(alloc, requests, meant)?;
+    }
+    Ok(())
+}
+
+/// Appends what is left, which is no whole request.
+fn give_rest(alloc: Global, requests: &mut Framer, meant: &mut VecDeque<u8>) -> io::Result<()> {
+    let (bytes, place) = requests.buffered();
+    meant.write_all(&bytes[place..])?;
+    *requests = Framer::new(alloc);
+    Ok(())
+}
+
+/// Appends what the client is told of each whole reply.
+fn tell_each(alloc: Global, replies: &mut Framer, told: &mut Vec<u8>) -> Result<(), AllocError> {
+    while let Ok(Some(reply)) = replies.next() {
+        match bytes_told(alloc, reply) {
+            Some(bytes) => told.extend_from_slice(&bytes)?,
+            None => told.extend_from_slice(reply)?,
+        }
+    }
+    Ok(())
+}
+
+impl<RW> ForLinux<RW> {
+    /// The stream, of which nothing was read or written.
+    pub(crate) fn new(alloc: Global, stream: RW) -> ForLinux<RW> {
+        ForLinux {
+            stream,
+            alloc,
+            requests: Framer::new(alloc),
+            meant: VecDeque::new(alloc),
+            replies: Framer::new(alloc),
+        }
+    }
+
+    /// Takes what the client sent; no byte where it sends no more.
+    fn came(&mut self, bytes: &[u8]) -> io::Result<()> {
+        if bytes.is_empty() {
+            return give_rest(self.alloc, &mut self.requests, &mut self.meant);
+        }
+        self.requests.feed(bytes)?;
+        mean_each(self.alloc, &mut self.requests, &mut self.meant)
+    }
+}
+
+impl<RW: Read> Read for ForLinux<RW> {
+    fn read(&mut self, buf: &mut [u8]) -> io::Result<usize> {
+        if buf.is_empty() {
+            return Ok(0);
+        }
+        // each read but the last gives a byte at least of a request that isn't whole
+        for _ in 0..MESSAGE_BYTES {
+            if !self.meant.is_empty() {
+                break;
+            }
+            let count = self.stream.read(buf)?;
+            self.came(&buf[..count])?;
+            if count == 0 {
+                break;
+            }
+        }
+        self.meant.read(buf)
+    }
+}
+
+impl<RW: Write> Write for ForLinux<RW> {
+    fn write(&mut self, buf: &[u8]) -> io::Result<usize> {
+        let mut told = Vec::new(self.alloc);
+        self.replies.feed(buf)?;
+        tell_each(self.alloc, &mut self.replies, &mut told)?;
+        self.stream.write_all(&told)?;
+        Ok(buf.len())
+    }
+
+    fn flush(&mut self) -> io::Result<()> {
+        self.stream.flush()
+    }
+}

@@ -1,0 +1,64 @@
+//! A stream as Linux's own client needs it.
+
+use crate::for_linux::ForLinux;
+use std::alloc::Global;
+use std::collections::VecDeque;
+use std::io::{self, Read, Write};
+use std::test::Fail;
+
+const CLUNK: &[u8] = b"\x0b\0\0\0x\x01\0\x01\0\0\0";
+
+/// A Twstat of another mtime, as Linux sends it: with an atime, and a user who changed it last.
+const WSTAT: &[u8] =
+    b"\x41\0\0\0\x7e\x02\0\x01\0\0\0\x34\0\x32\0\xff\xff\xff\xff\xff\xff\xff\xff\xff\xff\xff\xff\xff\xff\xff\xff\xff\xff\xff\xff\xff\xff\xff\x05\0\0\0\x09\0\0\0\xff\xff\xff\xff\xff\xff\xff\xff\0\0\0\0\0\0\x03\0ann";
+
+/// The same without these two.
+const MEANT: &[u8] =
+    b"\x3e\0\0\0\x7e\x02\0\x01\0\0\0\x31\0\x2f\0\xff\xff\xff\xff\xff\xff\xff\xff\xff\xff\xff\xff\xff\xff\xff\xff\xff\xff\xff\xff\xff\xff\xff\xff\xff\xff\xff\x09\0\0\0\xff\xff\xff\xff\xff\xff\xff\xff\0\0\0\0\0\0\0\0";
+
+/// An Rerror with a rule's text, and an Rclunk.
+const DENIED: &[u8] = b"\x18\0\0\0\x6b\x07\0\x0f\0K8 no such name\x07\0\0\0\x79\x08\0";
+
+/// The same, as the client is told them.
+const TOLD: &[u8] = b"\x22\0\0\0\x6b\x07\0\x19\0No such file or directory\x07\0\0\0\x79\x08\0";
+
+/// What a reader gives to its end, so many bytes at a time.
+fn read_to_end<R: Read>(alloc: Global, reader: &mut R, piece: &mut [u8]) -> io::Result<Vec<u8>> {
+    let mut bytes = Vec::new(alloc);
+    for _ in 0..1_000u32 {
+        let count = reader.read(piece)?;
+        if count == 0 {
+            break;
+        }
+        bytes.extend_from_slice(&piece[..count])?;
+    }
+    Ok(bytes)
+}
+
+#[test]
+fn a_wstat_asks_for_no_other_atime_or_muid(rt: HostRuntime) -> Result<(), Fail> {
+    let mut sent = VecDeque::new(rt.alloc());
+    for bytes in [CLUNK, WSTAT, CLUNK, b"cut"] {
+        sent.write_all(bytes)?;
+    }
+    let mut stream = ForLinux::new(rt.alloc(), sent);
+    let bytes = read_to_end(rt.alloc(), &mut stream, &mut [0u8; 5])?;
+    let mut wanted = Vec::new(rt.alloc());
+    for bytes in [CLUNK, MEANT, CLUNK, b"cut"] {
+        wanted.extend_from_slice(bytes)?;
+    }
+    assert_eq!(rt; bytes.as_slice(), wanted.as_slice());
+    Ok(())
+}
+
+#[test]
+fn a_denial_is_told_as_an_error_of_linux(rt: HostRuntime) -> Result<(), Fail> {
+    let mut stream = ForLinux::new(rt.alloc(), VecDeque::new(rt.alloc()));
+    let (front, rest) = DENIED.split_at(9);
+    stream.write_all(front)?;
+    stream.write_all(rest)?;
+    // no Rerror is a request, so that its bytes come back as they are
+    let bytes = read_to_end(rt.alloc(), &mut stream, &mut [0u8; 64])?;
+    assert_eq!(rt; bytes.as_slice(), TOLD);
+    Ok(())
+}
