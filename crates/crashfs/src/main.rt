@@ -122,8 +122,10 @@ where
     let Ok(err) = BufWriter::new(rt.alloc(), err) else {
         return Err(out_of_memory(rt));
     };
+    let Ok(mut out) = BufWriter::new(rt.alloc(), io::writer(rt)) else {
+        return Err(out_of_memory(rt));
+    };
     let err = Mutex::new(err);
-    let mut out = io::writer(rt);
     Ok(serve_of(rt, rt.alloc(), &inputs, serving, &mut out, &err))
 }
 

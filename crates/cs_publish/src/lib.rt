@@ -12,6 +12,3 @@ pub use fault::PublishAllFault;
 pub use gate::{Gate, NoGate};
 pub use joining::publish_into;
 pub use publishing::publish_all;
-
-#[cfg(test)]
-mod tests;

@@ -1,4 +1,4 @@
-//! Worked examples of connections over the start tree.
+//! Worked examples of connections over the start tree, and of a world's steps.
 mod asking;
 mod exchange;
 mod files;
@@ -8,5 +8,6 @@ mod lists;
 mod program;
 mod sessions;
 mod states;
+mod steps;
 mod walks;
 mod wstats;

@@ -13,6 +13,3 @@ pub use named::NamedRun;
 pub use served::{AnyScene, Served};
 pub use shared_registry::SharedRegistry;
 pub use shared_run::{AttachFault, SharedRun};
-
-#[cfg(test)]
-mod tests;

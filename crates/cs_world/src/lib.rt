@@ -14,6 +14,3 @@ pub mod world;
 pub use reply::{Reply, StateFault};
 pub use step::Step;
 pub use world::World;
-
-#[cfg(test)]
-mod tests;

@@ -1,6 +1,5 @@
 //! Runs that users share, of a state that is published.
 
-use crate::{AnyScene, SharedRegistry, SharedRun};
 use cs_fids::Place;
 use cs_journal::Pass;
 use cs_names::{RuleId, RunName, UserName};
@@ -8,6 +7,7 @@ use cs_permit::{Call, OpenCall, ReadCall, StatCall, WriteCall};
 use cs_plan::{Published, Scene};
 use cs_registry::FindFault;
 use cs_run::Answer;
+use cs_shared::{AnyScene, SharedRegistry, SharedRun};
 use cs_trace::read_trace;
 use cs_users::Users;
 use std::alloc::Global;

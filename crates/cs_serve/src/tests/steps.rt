@@ -1,7 +1,5 @@
 //! Worked examples of steps and messages: states that are published, runs by their keys, and connections
 //! that take their turns.
-use crate::{Step, World};
-use cs_fids::NOFID;
 use cs_plan::Scene;
 use cs_session::{
     AttachMessage, CallMessage, OpenMessage, ReadMessage, TableStep, WalkMessage, WriteMessage,
@@ -9,6 +7,7 @@ use cs_session::{
 use cs_trace::read_trace;
 use cs_users::Users;
 use cs_wire::RBody;
+use cs_world::{Step, World};
 use std::alloc::Global;
 use std::process::Abort;
 use std::sync::Arc;
@@ -55,7 +54,7 @@ fn begin(alloc: Global, conn: u32) -> Result<Step, Fail> {
 fn find(alloc: Global, conn: u32, fid: u32, user: &str, name: &str) -> Result<Step, Fail> {
     let message = AttachMessage {
         fid,
-        afid: NOFID,
+        afid: u32::MAX,
         uname: String::from_str(alloc, user)?,
         aname: String::from_str(alloc, name)?,
     };

@@ -1,8 +1,8 @@
 //! Workers over a file that is written, waited for and moved, whose plan has twelve states.
 ghost use Rattle.std.specs.Prelude.{◌≡◌};
 
-use crate::{Gate, NoGate, PublishAllFault, publish_all, publish_into};
 use cs_plan::{Built, Published, Scene};
+use cs_publish::{Gate, NoGate, PublishAllFault, publish_all, publish_into};
 use cs_registry::{Held, PublishFault};
 use cs_shared::{AnyScene, SharedRegistry};
 use cs_trace::read_trace;
