@@ -1,9 +1,9 @@
 -- Where an open stands among opens whose numbers ascend, and what numbers a call leaves.
-use Rattle.std.proofs.Common.{◌≡◌, ◌≢◌, ◌∙◌, ℕ, zero, suc, ◌+◌, ◌<◌, ◌≤◌, ◌&&◌, ◌==◌, Bool, true, false, not, List, [], ◌∷◌, length, get_or, Option, Some, None, Ok, Err, refl, sym, ap, arith, drop}
+use Rattle.std.proofs.Common.{◌≡◌, ◌≢◌, ℕ, zero, suc, ◌+◌, ◌<◌, ◌≤◌, ◌&&◌, ◌==◌, Bool, true, false, List, [], ◌∷◌, length, get_or, Option, Some, None, Ok, Err, refl, sym, ap, arith, drop}
 use Rattle.std.proofs.lemmas.Bool.Decides.{nat_tests}
 use Rattle.std.proofs.lemmas.Cmp.{ranked}
 use Rattle.std.proofs.lemmas.List.Elements.{All-append, All-drop, All-push, All-take, All-weaker}
-use Rattle.std.specs.List.{position, position_or_len, remove}
+use Rattle.std.specs.List.{All, position, position_or_len, remove}
 use Rattle.std.specs.List.Sorted.{IsBinarySearchResult, IsNonDecreasingBy}
 use Rattle.std.specs.Option.{option_map_or}
 use Rattle.std.specs.Ordering.{nat_cmp, ordering_index}
@@ -57,25 +57,34 @@ module _ (opens : List OpenFile) (ascending : IsAscending opens) (number : ℕ) 
       let numbers : (get_or opens i d).number ≤ (get_or opens j d).number = grind (arith, ascending i j d, λ (same : i ≡ j). ap (λ k. (get_or opens k d).number) same) in
       grind (arith, nat_tests)
 
+  -- where the search finds a place, the number stands there
+  pub found : (at : ℕ) → IsBinarySearchResult (λ o. nat_cmp o.number number) opens (Ok at) → (d : OpenFile) → (get_or opens at d).number ≡ number
+  found at equal d = ranked _ number _ (sym (equal d))
+
+  -- where it finds none, the number stands nowhere
+  pub nowhere : (at : ℕ) → IsBinarySearchResult (λ o. nat_cmp o.number number) opens (Err at) → All (λ o. o.number ≢ number) opens
+  nowhere at parted k d inside same =
+      let below : k < at → (get_or opens k d).number < number = λ lt. ranked _ number _ (sym ((parted rises).0 k d (omega arith) lt)) in
+      let above : at ≤ k → number < (get_or opens k d).number = λ le. ranked _ number _ (sym ((parted rises).1 k d le inside)) in
+      grind (arith, below, above)
+
   module _ (pass : ℕ) where
-    -- the search ends at the open of the number, whose pass is to be looked at
-    pub found : (at : ℕ) → at < length opens → IsBinarySearchResult (λ o. nat_cmp o.number number) opens (Ok at) → ((d : OpenFile) → (get_or opens at d).pass ≡ pass) → position (is_open number pass) opens ≡ Some at
-    found at within equal own =
-        let has : (d : OpenFile) → (get_or opens at d).number ≡ number = λ d. ranked _ number _ (sym (equal d)) in
+    -- the open of the number, if the pass made it
+    pub own_open : (at : ℕ) → at < length opens → ((d : OpenFile) → (get_or opens at d).number ≡ number) → ((d : OpenFile) → (get_or opens at d).pass ≡ pass) → position (is_open number pass) opens ≡ Some at
+    own_open at within has made =
         position_at (is_open number pass) opens at within
-        (λ d. let n : (get_or opens at d).number ≡ number = has d in let p : (get_or opens at d).pass ≡ pass = own d in grind (arith, nat_tests))
+        (λ d. let n : (get_or opens at d).number ≡ number = has d in let p : (get_or opens at d).pass ≡ pass = made d in grind (arith, nat_tests))
         (λ k d below. let less : (get_or opens k d).number < (get_or opens at d).number = ascending k at d below within in let n : (get_or opens at d).number ≡ number = has d in other_number _ number _ (λ same. omega arith))
 
-    pub of_another : (at : ℕ) → at < length opens → IsBinarySearchResult (λ o. nat_cmp o.number number) opens (Ok at) → ((d : OpenFile) → (get_or opens at d).pass ≢ pass) → position (is_open number pass) opens ≡ None
-    of_another at within equal other = position_none (is_open number pass) opens (λ k d inside.
-        let n : (get_or opens at d).number ≡ number = ranked _ number _ (sym (equal d)) in
+    -- none, if another pass made it
+    pub of_another : (at : ℕ) → at < length opens → ((d : OpenFile) → (get_or opens at d).number ≡ number) → ((d : OpenFile) → (get_or opens at d).pass ≢ pass) → position (is_open number pass) opens ≡ None
+    of_another at within has other = position_none (is_open number pass) opens (λ k d inside.
+        let n : (get_or opens at d).number ≡ number = has d in
         grind (arith, nat_tests, ascending k at d, ascending at k d, other d, λ (same : k ≡ at). ap (λ j. get_or opens j d) same))
 
-    pub nowhere : (at : ℕ) → at ≤ length opens → IsBinarySearchResult (λ o. nat_cmp o.number number) opens (Err at) → position (is_open number pass) opens ≡ None
-    nowhere at within parted = position_none (is_open number pass) opens (λ k d inside. other_number _ number _ (λ same.
-        let below : k < at → (get_or opens k d).number < number = λ lt. ranked _ number _ (sym ((parted rises).0 k d (omega arith) lt)) in
-        let above : at ≤ k → number < (get_or opens k d).number = λ le. ranked _ number _ (sym ((parted rises).1 k d le inside)) in
-        grind (arith, below, above)))
+-- no open has the number
+pub unnumbered : (opens : List OpenFile) (number pass : ℕ) → All (λ o. o.number ≢ number) opens → position (is_open number pass) opens ≡ None
+unnumbered opens number pass missing = position_none (is_open number pass) opens (λ k d inside. other_number _ number _ (missing k d inside))
 
 removed_below : (n : ℕ) (opens : List OpenFile) (place : ℕ) → AreBelow n opens → AreBelow n (remove opens place)
 removed_below n opens place below =

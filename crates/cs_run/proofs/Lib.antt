@@ -1,4 +1,6 @@
 pub mod Ascending
+pub mod Asking
+pub mod Joining
 pub mod Bounding
 pub mod Fitting
 pub mod OpenLaws

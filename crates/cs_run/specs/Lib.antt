@@ -1,4 +1,5 @@
 pub mod Counted
+pub mod Blocks
 pub mod Effects
 pub mod Marks
 pub mod Opens

@@ -1,13 +1,16 @@
 //! A call of a run: by the rules, and if there is memory.
-ghost use Rattle.std.specs.Prelude.{◌≡◌, ◌<◌, ◌^◌, ℕ, IfOk, OnErr, true};
+ghost use Rattle.std.specs.Prelude.{◌≡◌, ◌<◌, ◌^◌, ℕ, IfOk, List, OnErr, true};
 ghost use Rattle.cs_permit.specs.Calls.{first, rules_of, state};
+ghost use Rattle.cs_permit.specs.Opens.{open_rules};
 ghost use Rattle.cs_permit.specs.Refusals.{AllPass};
+ghost use Rattle.cs_permit.specs.Rules.{is_exclusive, on_file};
 ghost use Rattle.cs_run.specs.Effects.{effect_of, left};
 ghost use Rattle.cs_run.specs.Laws.{FitsCall};
 ghost use Rattle.cs_run.specs.Marks.{CallMark};
 ghost use Rattle.cs_run.specs.Opens.{AreBelow, released_if};
 ghost use Rattle.cs_run.specs.Outcomes.{closes, outcome, stepped, takes_memory};
 ghost use Rattle.cs_tree_model.specs.Stores.{CanStamp};
+ghost use Rattle.cs_users.specs.Rows.{Row};
 
 use crate::answer::{Answer, Outcome};
 use crate::closing::act_close;
@@ -21,8 +24,9 @@ use crate::turn::Turn;
 use crate::walking::{act_walk, walk};
 use crate::writing::act_write;
 use crate::wstating::act_wstat;
-use cs_permit::{Call, first_failing, first_rule_that_fails, qid_at};
-use cs_tree_model::TreeStore;
+use cs_permit::rules::is_exclusive;
+use cs_permit::{Call, OpenCall, OpenFile, first_failing, first_rule_that_fails, qid_at};
+use cs_tree_model::{TreeRead, TreeStore};
 use cs_users::Users;
 use std::alloc::{AllocError, Global};
 
@@ -75,6 +79,37 @@ pub fn closes(call: &Call) -> Option<u32>
     }
 }
 
+/// Whether the file is there, and exclusive.
+fn is_exclusive_file<T: TreeRead>(tree: &T, number: u64) -> bool
+    ensures { result ≡ on_file (T.tree tree.now) number is_exclusive }
+{
+    match tree.record(number) {
+        Some(file) => is_exclusive(&file),
+        None => false,
+    }
+}
+
+/// Opens of which the rules of the open say what they say of all: those of an exclusive file alone ask for any.
+fn asked_by_open<'a, T: TreeRead>(call: &OpenCall, tree: &T, opens: &'a Opens) -> &'a [OpenFile]
+    ensures { (users : List Row) → open_rules (T.tree tree.now) result.now users call.now ≡ open_rules (T.tree tree.now) opens.now.items users call.now }
+{
+    if is_exclusive_file(tree, call.number) {
+        opens.beside(call.number)
+    } else {
+        &[]
+    }
+}
+
+/// Opens of which the call's rules say what they say of all.
+fn asked_of<'a, T: TreeRead>(call: &Call, tree: &T, opens: &'a Opens) -> &'a [OpenFile]
+    ensures { (users : List Row) → first (state (T.tree tree.now) result.now users) call.now ≡ first (state (T.tree tree.now) opens.now.items users) call.now }
+{
+    match call {
+        Call::Open(call) => asked_by_open(call, tree, opens),
+        _ => &[],
+    }
+}
+
 /// Asks a call's rules, and then does it, if there is memory for what it takes.
 // in line, a walk would pay at the entry of `act` for what all other calls keep on the stack
 #[inline(never)]
@@ -93,7 +128,7 @@ fn act_by_rules<T: TreeStore>(
     ensures step { (mark : CallMark) × ((result.0 ≡ outcome (state (T.tree tree.old) opens.old.items users.now) turn call.now mark) × (left (T.tree tree.new) opens.new.items result.1 ≡ stepped (state (T.tree tree.old) opens.old.items users.now) turn call.now mark)) }
     ensures fits { FitsCall call.now result.1 }
 {
-    if let Some(rule) = first_failing(call, tree, opens.as_slice(), users) {
+    if let Some(rule) = first_failing(call, tree, asked_of(call, tree, opens), users) {
         opens.release_if(closes(call), turn.pass);
         return (Outcome::Denied(rule), Answer::Denied(rule));
     }

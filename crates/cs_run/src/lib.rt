@@ -3,6 +3,7 @@
 
 mod acting;
 pub mod answer;
+mod blocks;
 mod closing;
 pub mod counted;
 mod counting;

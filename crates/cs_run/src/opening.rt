@@ -47,11 +47,11 @@ fn empty_opened<T: TreeStore>(
     alloc: Global,
     call: &OpenCall,
     tree: &mut T,
-    opens: &[OpenFile],
+    opens: &Opens,
     users: &Users,
     turn: Turn,
 ) -> Result<(), AllocError>
-    requires granted { AllPass (open_rules (T.tree tree.old) opens.now users.now call.now) }
+    requires granted { AllPass (open_rules (T.tree tree.old) opens.now.items users.now call.now) }
     requires vers { CanStamp (T.tree tree.old) call.now.number }
     ensures ok { OnOk result (T.tree tree.new ≡ opened_tree (T.tree tree.old) turn call.now) }
     ensures err { OnErr result (T.tree tree.new ≡ T.tree tree.old) }
@@ -80,7 +80,7 @@ pub fn act_open<T: TreeStore>(
     ensures err { OnErr result ((T.tree tree.new ≡ T.tree tree.old) × (opens.new.items ≡ opens.old.items)) }
 {
     opens.reserve()?;
-    empty_opened(alloc, call, tree, opens.as_slice(), users, turn)?;
+    empty_opened(alloc, call, tree, opens, users, turn)?;
     let open = OpenFile {
         number: turn.place,
         file: call.number,

@@ -1,8 +1,9 @@
 //! The opens of a run.
-ghost use Rattle.std.specs.Prelude.{◌≡◌, ◌<◌, [], ◌∷◌, ◌++◌, length, OnOk};
-ghost use Rattle.std.specs.List.{position};
-ghost use Rattle.cs_run.specs.Opens.{AreBelow, IsAscending, is_open, open_numbered, released, released_if};
+ghost use Rattle.std.specs.Prelude.{◌≡◌, ◌<◌, ◌≤◌, ◌+◌, [], ◌∷◌, ◌++◌, length, OnOk};
+ghost use Rattle.cs_permit.specs.Opens.{is_open};
+ghost use Rattle.cs_run.specs.Opens.{AreBelow, open_numbered, released, released_if};
 
+use crate::blocks::{beside, open_at, place_of, push_last, take_out, widen_last};
 use cs_permit::OpenFile;
 use std::alloc::{AllocError, Global};
 use std::marker::Model;
@@ -11,18 +12,20 @@ use std::marker::Model;
 /// list, and the room for more.
 #[derive(Drop)]
 pub struct Opens {
-    opens: Vec<OpenFile>,
+    /// None but the last is empty.
+    blocks: Vec<Vec<OpenFile>>,
+    count: usize,
 }
 
 impl Model for Opens {
-    ghost use Rattle.std.specs.Prelude.{◌-◌, vec_capacity, vec_len};
-    ghost use Rattle.cs_run.specs.Opens.{IsAscending, OpensKept};
+    ghost use Rattle.cs_run.specs.Blocks.{InBlocks, joined, last_room};
+    ghost use Rattle.cs_run.specs.Opens.{OpensKept};
 
     ghost Value = { OpensKept };
 
-    ghost view = { λ o. record { items = o.opens.items; room = vec_capacity o.opens - vec_len o.opens } };
+    ghost view = { λ o. record { items = joined o.blocks.items; room = last_room o.blocks.items } };
 
-    ghost invariant = { λ o. IsAscending o.opens.items };
+    ghost invariant = { λ o. InBlocks o.blocks.items o.count };
 }
 
 impl Opens {
@@ -31,7 +34,8 @@ impl Opens {
         ensures { result.items ≡ [] }
     {
         Opens {
-            opens: Vec::new(alloc),
+            blocks: Vec::new(alloc),
+            count: 0,
         }
     }
 
@@ -39,23 +43,22 @@ impl Opens {
     pub fn len(&self) -> usize
         ensures { result ≡ length self.now.items }
     {
-        self.opens.len()
+        self.count
     }
 
-    /// All of them, lent.
-    pub fn as_slice(&self) -> &[OpenFile]
-        ensures value { result.now ≡ self.now.items }
-        ensures ascending { IsAscending self.now.items }
+    /// Some of them, among which one is on that file where one of all is.
+    pub(crate) fn beside(&self, file: u64) -> &[OpenFile]
+        ensures { is_open result.now file ≡ is_open self.now.items file }
     {
-        self.opens.as_slice()
+        beside(self.blocks.as_slice(), file)
     }
 
     /// The open of that number and pass, if it stands.
     pub fn get(&self, number: u32, pass: u32) -> Option<OpenFile>
         ensures { result ≡ open_numbered number pass self.now.items }
     {
-        let place = place_of(self.opens.as_slice(), number, pass)?;
-        self.opens.get(place).copied()
+        let place = place_of(self.blocks.as_slice(), number, pass)?;
+        Some(open_at(self.blocks.as_slice(), place))
     }
 
     /// Makes room for one open more.
@@ -63,7 +66,7 @@ impl Opens {
         ensures opens { self.new.items ≡ self.old.items }
         ensures room { OnOk result (0 < self.new.room) }
     {
-        self.opens.reserve(1)
+        widen_last(&mut self.blocks)
     }
 
     /// Adds an open, whose number is above all others. It takes no memory.
@@ -72,7 +75,8 @@ impl Opens {
         requires above { AreBelow opened.number self.old.items }
         ensures { self.new.items ≡ self.old.items ++ opened ∷ [] }
     {
-        self.opens.push_reserved(opened);
+        push_last(&mut self.blocks, opened);
+        self.count = one_more(self.count, opened.number);
     }
 
     /// Takes out the open of that number and pass, if it stands. It takes no memory.
@@ -80,10 +84,9 @@ impl Opens {
         ensures value { result ≡ open_numbered number pass self.old.items }
         ensures opens { self.new.items ≡ released number pass self.old.items }
     {
-        match place_of(self.opens.as_slice(), number, pass) {
-            Some(place) => Some(self.opens.remove(place)),
-            None => None,
-        }
+        let place = place_of(self.blocks.as_slice(), number, pass)?;
+        self.count -= 1;
+        Some(take_out(&mut self.blocks, place))
     }
 
     /// Takes out the open of that number and pass, if a number is given and it stands.
@@ -96,16 +99,10 @@ impl Opens {
     }
 }
 
-fn place_of(opens: &[OpenFile], number: u32, pass: u32) -> Option<usize>
-    requires { IsAscending opens.now }
-    ensures { result ≡ position (is_open number pass) opens.now }
+/// One more than so many opens, whose numbers all lie below this one: so it is no more than a number is.
+fn one_more(count: usize, number: u32) -> usize
+    requires { count ≤ number }
+    ensures { result ≡ count + 1 }
 {
-    let Ok(place) = opens.binary_search_by_key(&number, |open| open.number) else {
-        return None;
-    };
-    if opens[place].pass == pass {
-        Some(place)
-    } else {
-        None
-    }
+    count + 1
 }

@@ -1,4 +1,4 @@
-use Rattle.std.proofs.Common.{◌≡◌, None, sym, ◌∙◌, ap, rules, subst}
+use Rattle.std.proofs.Common.{◌≡◌, None, sym, ◌∙◌, rules, subst}
 use Rattle.cs_permit.specs.Calls.{first, rules_of, state}
 use Rattle.cs_run.proofs.Fitting.{fits}
 use Rattle.cs_run.specs.Effects.{Left}
@@ -11,7 +11,7 @@ unfolding first
 grant-requires-clause-granted g c =
     let none : c.first_failing.result ≡ None = search rules in
     let same = sym c.first_failing.ensures ∙ none in
-    c.first_rule_that_fails.ensures.granted (rules_of (state (g.T.TreeRead.tree c.args.tree.now) c.args.opens.now.items c.args.users.now) c.args.call.now) (ap (λ os. first (state (g.T.TreeRead.tree c.args.tree.now) os c.args.users.now) c.args.call.now) (sym c.as_slice.ensures.value) ∙ same)
+    c.first_rule_that_fails.ensures.granted (rules_of (state (g.T.TreeRead.tree c.args.tree.now) c.args.opens.now.items c.args.users.now) c.args.call.now) (sym (c.asked_of.ensures c.args.users.now) ∙ same)
 
 pub returns-in-Some-clause-fits : goal.returns-in-Some-clause-fits
 returns-in-Some-clause-fits g c = fits (state (g.T.TreeRead.tree c.args.tree.now) c.args.opens.now.items c.args.users.now) c.args.turn c.args.call.now (o.Denied c.in-Some.rule)

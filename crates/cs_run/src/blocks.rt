@@ -1,0 +1,172 @@
+//! Opens that lie in blocks, so that taking one out moves few others.
+ghost use Rattle.std.specs.Prelude.{◌≡◌, ◌≢◌, ◌<◌, ◌≤◌, ◌+◌, ◌∷◌, ◌++◌, [], ℕ, length, IfSome, IsNone, OnOk, Some, false, true, option_map, slice_get, slice_index_or};
+ghost use Rattle.std.specs.List.{All, position, remove};
+ghost use Rattle.cs_permit.specs.Opens.{is_open as is_on};
+ghost use Rattle.cs_permit.specs.declared.call.OpenFile.{OpenFile as Opened};
+ghost use Rattle.cs_run.specs.Blocks.{AreFilled, Block, FilledBut, Stands, before, ends_below, joined, last_room};
+ghost use Rattle.cs_run.specs.Opens.{IsAscending, is_open};
+
+use cs_permit::OpenFile;
+use std::alloc::AllocError;
+
+/// How many opens lie in a block at most.
+const BLOCK: usize = 128;
+
+/// Where an open lies.
+#[derive(Clone, Copy)]
+pub(crate) struct Place {
+    pub(crate) block: usize,
+    pub(crate) at: usize,
+}
+
+/// Whether the block's last open has a number below this one.
+fn ends_below(block: &Vec<OpenFile>, number: u32) -> bool
+    ensures { result ≡ ends_below number block.now }
+{
+    match block.last() {
+        Some(open) => open.number < number,
+        None => false,
+    }
+}
+
+/// Where the open of that number stands among these.
+fn index_of(opens: &[OpenFile], number: u32) -> Option<usize>
+    requires { IsAscending opens.now }
+    ensures bound { IfSome result (λ at. at < length opens.now) }
+    ensures found { IfSome result (λ at. (o : Opened) → (slice_index_or opens.now at o).number ≡ number) }
+    ensures missing { IsNone result → All (λ o. o.number ≢ number) opens.now }
+{
+    match opens.binary_search_by_key(&number, |open| open.number) {
+        Ok(at) => Some(at),
+        Err(_) => None,
+    }
+}
+
+/// How many blocks end below the number: where they don't all, the next is the only one that may have it.
+fn blocks_below(blocks: &[Vec<OpenFile>], number: u32) -> usize
+    requires ascending { IsAscending (joined blocks.now) }
+    requires filled { AreFilled blocks.now }
+    ensures bound { result ≤ length blocks.now }
+    ensures below { (k : ℕ) (b : Block) → k < result → ends_below number (slice_index_or blocks.now k b) ≡ true }
+    ensures next { (b : Block) → result < length blocks.now → ends_below number (slice_index_or blocks.now result b) ≡ false }
+{
+    blocks.partition_point(|block| ends_below(block, number))
+}
+
+/// Where the open of that number and pass lies.
+pub(crate) fn place_of(blocks: &[Vec<OpenFile>], number: u32, pass: u32) -> Option<Place>
+    requires ascending { IsAscending (joined blocks.now) }
+    requires filled { AreFilled blocks.now }
+    ensures value { position (is_open number pass) (joined blocks.now) ≡ option_map (λ place. before blocks.now place.block + place.at) result }
+    ensures stands { IfSome result (λ place. Stands blocks.now place.block place.at) }
+{
+    let block = blocks_below(blocks, number);
+    if block == blocks.len() {
+        return None;
+    }
+    let opens = blocks[block].as_slice();
+    let Some(at) = index_of(opens, number) else {
+        return None;
+    };
+    if opens[at].pass == pass {
+        Some(Place { block, at })
+    } else {
+        None
+    }
+}
+
+/// Begins a block, where the last is full.
+fn begin_block(blocks: &mut Vec<Vec<OpenFile>>) -> Result<(), AllocError>
+    requires { AreFilled blocks.old.items }
+    ensures opens { joined blocks.new.items ≡ joined blocks.old.items }
+    ensures filled { AreFilled blocks.new.items }
+    ensures some { OnOk result (0 < length blocks.new.items) }
+{
+    let is_full = match blocks.last() {
+        Some(block) => block.len() >= BLOCK,
+        None => true,
+    };
+    if !is_full {
+        return Ok(());
+    }
+    blocks.reserve(1)?;
+    let block = Vec::new(*blocks.allocator());
+    blocks.push_reserved(block);
+    Ok(())
+}
+
+/// Makes room for one open more in the last block.
+pub(crate) fn widen_last(blocks: &mut Vec<Vec<OpenFile>>) -> Result<(), AllocError>
+    requires { AreFilled blocks.old.items }
+    ensures opens { joined blocks.new.items ≡ joined blocks.old.items }
+    ensures filled { AreFilled blocks.new.items }
+    ensures room { OnOk result (0 < last_room blocks.new.items) }
+{
+    begin_block(blocks)?;
+    let last = blocks.len() - 1;
+    blocks[last].reserve(1)
+}
+
+/// Adds an open to the last block. It takes no memory.
+pub(crate) fn push_last(blocks: &mut Vec<Vec<OpenFile>>, opened: OpenFile)
+    requires room { 0 < last_room blocks.old.items }
+    requires filled { AreFilled blocks.old.items }
+    ensures opens { joined blocks.new.items ≡ joined blocks.old.items ++ opened ∷ [] }
+    ensures filled { AreFilled blocks.new.items }
+{
+    let last = blocks.len() - 1;
+    blocks[last].push_reserved(opened);
+}
+
+/// The open at that place.
+pub(crate) fn open_at(blocks: &[Vec<OpenFile>], place: Place) -> OpenFile
+    requires { Stands blocks.now place.block place.at }
+    ensures { Some result ≡ slice_get (joined blocks.now) (before blocks.now place.block + place.at) }
+{
+    let opens = blocks[place.block].as_slice();
+    opens[place.at]
+}
+
+/// Opens of one block, among which one is on that file where one of all is.
+pub(crate) fn beside(blocks: &[Vec<OpenFile>], file: u64) -> &[OpenFile]
+    ensures { is_on result.now file ≡ is_on (joined blocks.now) file }
+{
+    for block in blocks {
+        if is_on(block.as_slice(), file) {
+            return block.as_slice();
+        }
+    }
+    &[]
+}
+
+/// Whether one of the opens is on that file.
+fn is_on(opens: &[OpenFile], file: u64) -> bool
+    ensures { result ≡ is_on opens.now file }
+{
+    opens.iter().any(|open| open.file == file)
+}
+
+/// Takes out the open at that place. It takes no memory.
+pub(crate) fn take_out(blocks: &mut Vec<Vec<OpenFile>>, place: Place) -> OpenFile
+    requires stands { Stands blocks.old.items place.block place.at }
+    requires filled { AreFilled blocks.old.items }
+    ensures value { Some result ≡ slice_get (joined blocks.old.items) (before blocks.old.items place.block + place.at) }
+    ensures opens { joined blocks.new.items ≡ remove (joined blocks.old.items) (before blocks.old.items place.block + place.at) }
+    ensures filled { AreFilled blocks.new.items }
+{
+    let open = blocks[place.block].remove(place.at);
+    drop_empty(blocks, place.block);
+    open
+}
+
+/// Lets a block go that became empty, but not the last.
+fn drop_empty(blocks: &mut Vec<Vec<OpenFile>>, block: usize)
+    requires bound { block < length blocks.old.items }
+    requires filled { FilledBut block blocks.old.items }
+    ensures opens { joined blocks.new.items ≡ joined blocks.old.items }
+    ensures filled { AreFilled blocks.new.items }
+{
+    if block + 1 < blocks.len() && blocks[block].is_empty() {
+        let _empty = blocks.remove(block);
+    }
+}
