@@ -1,6 +1,8 @@
 -- How many of an ascending list are below a number.
-use Rattle.std.proofs.Common.{◌≡◌, ◌≢◌, ℕ, zero, suc, ◌+◌, ◌-◌, ◌<◌, ◌≤◌, nat_lt, Bool, cond, List, [], ◌∷◌, refl, sym, ap, ◌∙◌, subst, arith, ⊎_elim, length, get_or}
+use Rattle.std.proofs.Common.{◌≡◌, ◌≢◌, ◌⊎◌, ℕ, zero, suc, ◌+◌, ◌-◌, ◌<◌, ◌≤◌, min, nat_lt, Bool, cond, List, [], ◌∷◌, refl, sym, ap, ◌∙◌, subst, arith, ⊎_elim, inl, inr, length, take, drop, get_or, length-drop}
 use Rattle.std.proofs.lemmas.Bool.{cases_eq, cases_lt, lt-ltb, le-ltb}
+use Rattle.std.proofs.lemmas.List.{get_or-drop, get_or-take, length-take-le}
+use Rattle.std.proofs.lemmas.List.Sorted.{IsNonDecreasingBy-drop, IsNonDecreasingBy-take}
 use Rattle.std.specs.List.Sorted.{IsNonDecreasingBy}
 use Rattle.cs_state.specs.declared.numbers.Own.{Own}
 use Rattle.cs_state.specs.Numbers.{below, none, at, kept_at, number_in, IsKept, IsMerge, IsOwn}
@@ -43,6 +45,56 @@ module _ {X : Type 0} (f : X → ℕ) where
       (λ (e : j ≡ k). (let s : f (get_or xs j d) ≡ f (get_or xs k d) = ap (λ v. f (get_or xs v d)) e in omega (arith, s)))
       (λ (e : j ≢ k). (let s = up k j (omega (arith, l, e)) h in omega (arith, s)))
       (cases_eq j k))
+
+  -- all are below y
+  pub below_all : (xs : List X) (d : X) (y : ℕ) → ((k : ℕ) → k < length xs → f (get_or xs k d) < y) → below f xs y ≡ length xs
+  below_all xs d y low = below_split xs d y (length xs) (omega arith) low (λ j le less. absurd (omega (arith, le, less)))
+
+  -- none is below zero
+  below_zero : (xs : List X) → below f xs 0 ≡ 0
+  below_zero [] = refl
+  below_zero (x ∷ xs) = (let a = none_below x 0 (omega arith) in let b = below_zero xs in omega (arith, a, b))
+
+  -- none of them is y
+  below_past : (xs : List X) (d : X) (y : ℕ) → ((k : ℕ) → k < length xs → f (get_or xs k d) ≢ y) → below f xs (suc y) ≡ below f xs y
+  below_past [] d y other = refl
+  below_past (x ∷ xs) d y other =
+      let rest = below_past xs d y (λ k low. other (suc k) (omega (arith, low))) in
+      ⊎_elim
+      (λ (lt : f x < y). (let a = one_below x y lt in let b = one_below x (suc y) (omega (arith, lt)) in omega (arith, a, b, rest)))
+      (λ (le : y ≤ f x). (let ne = other 0 (omega arith) in let a = none_below x y le in let b = none_below x (suc y) (omega (arith, le, ne)) in omega (arith, a, b, rest)))
+      (cases_lt (f x) y)
+
+  -- where the list ascends, at most one is y
+  below_step : (xs : List X) (d : X) → ((i j : ℕ) → i < j → j < length xs → f (get_or xs i d) < f (get_or xs j d)) → (y : ℕ) → below f xs (suc y) ≤ suc (below f xs y)
+  below_step [] d up y = omega arith
+  below_step (x ∷ xs) d up y = ⊎_elim
+      (λ (same : f x ≡ y).
+      (let a = one_below x (suc y) (omega (arith, same)) in
+      let b = below_past xs d y (λ k low e. (let s = up 0 (suc k) (omega arith) (omega (arith, low)) in omega (arith, s, same, e))) in
+      omega (arith, a, b)))
+      (λ (ne : f x ≢ y).
+      let rest = below_step xs d (λ i j lt low. up (suc i) (suc j) (omega (arith, lt)) (omega (arith, low))) y in
+      ⊎_elim
+      (λ (lt : f x < y). (let a = one_below x y lt in let b = one_below x (suc y) (omega (arith, lt)) in omega (arith, a, b, rest)))
+      (λ (le : y ≤ f x). (let a = none_below x y le in let b = none_below x (suc y) (omega (arith, le, ne)) in omega (arith, a, b, rest)))
+      (cases_lt (f x) y))
+      (cases_eq (f x) y)
+
+  -- one of them is y, or none is
+  has_or_not : (xs : List X) (d : X) (y : ℕ) → ((k : ℕ) × (k < length xs) × (f (get_or xs k d) ≡ y)) ⊎ ((k : ℕ) → k < length xs → f (get_or xs k d) ≢ y)
+  has_or_not [] d y = inr (λ k low. absurd (omega (arith, low)))
+  has_or_not (x ∷ xs) d y = ⊎_elim
+      (λ (same : f x ≡ y). inl (0, omega arith, same))
+      (λ (ne : f x ≢ y). ⊎_elim
+      (λ (w : (k : ℕ) × (k < length xs) × (f (get_or xs k d) ≡ y)). (let low = w.1 in inl (suc w.0, omega (arith, low), w.2)))
+      (λ (others : (k : ℕ) → k < length xs → f (get_or xs k d) ≢ y). inr (both ne others))
+      (has_or_not xs d y))
+      (cases_eq (f x) y)
+    where
+      both : f x ≢ y → ((k : ℕ) → k < length xs → f (get_or xs k d) ≢ y) → (k : ℕ) → k < length (x ∷ xs) → f (get_or (x ∷ xs) k d) ≢ y
+      both ne others zero low = ne
+      both ne others (suc k) low = others k (omega (arith, low))
 
   -- what is above the k-th has it and those before it below
   pub below_above : (xs : List X) (d : X) → ((i j : ℕ) → i < j → j < length xs → f (get_or xs i d) < f (get_or xs j d)) → (k y : ℕ) → k < length xs → f (get_or xs k d) < y → k < below f xs y
@@ -99,6 +151,63 @@ module _ (kept : List ℕ) (own : List Own) (h : IsMerge kept own) where
   pub own_number : (j : ℕ) → j < length own → number_in kept own (at own j).id ≡ (at own j).number
   own_number j low = (let a = h.numbered j low in let b = below_at (λ (o : Own). o.id) own none h.own_up j low in omega (arith, a, b))
 
+  -- ---- how many can be below a number, and below an id
+
+  pub least_numbers : (n k : ℕ) → k < n - length kept → k < length own → (at own k).number < n
+  least_numbers n k less low = (let a = h.numbered k low in let b = below_length (λ k. k) kept (at own k).id in omega (arith, a, b, less))
+
+  pub most_numbers : (n k : ℕ) → n ≤ k → k < length own → n ≤ (at own k).number
+  most_numbers n k high low = (let a = h.numbered k low in omega (arith, a, high))
+
+  number_step : (y : ℕ) → number_in kept own (suc y) ≤ suc (number_in kept own y)
+  number_step y = ⊎_elim
+      (λ (w : (k : ℕ) × (k < length kept) × (kept_at kept k ≡ y)).
+      (let a = below_step (λ k. k) kept 0 h.kept_up y in
+      let b = below_past (λ (o : Own). o.id) own none y (λ j low e. h.apart w.0 j w.1 low (w.2 ∙ sym e)) in
+      omega (arith, a, b)))
+      (λ (others : (k : ℕ) → k < length kept → kept_at kept k ≢ y).
+      (let a = below_past (λ k. k) kept 0 y others in
+      let b = below_step (λ (o : Own). o.id) own none h.own_up y in
+      omega (arith, a, b)))
+      (has_or_not (λ k. k) kept 0 y)
+
+  number_steps : (y n z : ℕ) → z ≡ n + y → number_in kept own z ≤ n + number_in kept own y
+  number_steps y zero z is = (let same : z ≡ y = omega (arith, is) in let e = ap (number_in kept own) same in omega (arith, e))
+  number_steps y (suc n) z is =
+      (let same : z ≡ suc (n + y) = omega (arith, is) in
+      let e = ap (number_in kept own) same in
+      let a = number_step (n + y) in
+      let b = number_steps y n (n + y) (omega arith) in
+      omega (arith, e, a, b))
+
+  -- so many come before an id
+  number_fits : (id : ℕ) → number_in kept own id ≤ id
+  number_fits zero = (let a = below_zero (λ k. k) kept in let b = below_zero (λ (o : Own). o.id) own in omega (arith, a, b))
+  number_fits (suc id) = (let a = number_step id in let b = number_fits id in omega (arith, a, b))
+
+  pub kept_fits : (id : ℕ) → kept_below id ≤ id
+  kept_fits id = (let a = number_fits id in omega (arith, a))
+
+  pub most_ids : (id k : ℕ) → id - kept_below id ≤ k → k < length own → id ≤ (at own k).id
+  most_ids id k high low = ⊎_elim
+      (λ (lt : (at own k).id < id). absurd (let a = below_above (λ (o : Own). o.id) own none h.own_up k id low lt in let b = number_fits id in omega (arith, a, b, high)))
+      (λ (le : id ≤ (at own k).id). le)
+      (cases_lt (at own k).id id)
+
+  pub least_ids : (n id k : ℕ) → id < n → ((j : ℕ) → j < length kept → kept_at kept j < n) → ((j : ℕ) → j < length own → (at own j).id < n)
+      → k < length own - (n - id - (length kept - kept_below id)) → k < length own → (at own k).id < id
+  least_ids n id k there kept_low own_low less low = ⊎_elim
+      (λ (lt : (at own k).id < id). lt)
+      (λ (le : id ≤ (at own k).id). absurd (
+      let before = below_mono (λ (o : Own). o.id) own id (at own k).id le in
+      let place = below_at (λ (o : Own). o.id) own none h.own_up k low in
+      let steps = number_steps id (n - id) n (omega (arith, there)) in
+      let a = below_all (λ k. k) kept 0 n kept_low in
+      let b = below_all (λ (o : Own). o.id) own none n own_low in
+      let fits = below_length (λ k. k) kept id in
+      omega (arith, before, place, steps, a, b, fits, less, low, there)))
+      (cases_lt (at own k).id id)
+
   module _ (n a : ℕ) (bound : a ≤ length own) (low : (k : ℕ) → k < a → (at own k).number < n) (high : (k : ℕ) → a ≤ k → k < length own → n ≤ (at own k).number) where
     pub before_fits : a ≤ n
     before_fits = fits a low bound
@@ -154,6 +263,44 @@ module _ (kept : List ℕ) (own : List Own) (h : IsMerge kept own) where
               (λ (e : j ≢ a). (let s = h.own_up a j (omega (arith, le, e)) lt in omega (arith, s, g)))
               (cases_eq j a))
               (cases_lt (at own a).id (kept_at kept (n - a)))
+
+-- ---- a search in a part of the list
+
+module _ (f : Own → ℕ) (own : List Own) (least most end from y r : ℕ) (is_end : end ≡ min (length own) most) (is_from : from ≡ min end least)
+    (before : (k : ℕ) → k < least → k < length own → f (at own k) < y) (behind : (k : ℕ) → most ≤ k → k < length own → y ≤ f (at own k)) where
+  abbrev part : List Own
+  part = take (end - from) (drop from own)
+
+  part_at : (k : ℕ) → k < end - from → at part k ≡ at own (from + k)
+  part_at k low = get_or-take (end - from) (drop from own) k none low ∙ get_or-drop from own k none
+
+  pub part_long : length part ≡ end - from
+  part_long = length-take-le (end - from) (drop from own) (let d = length-drop from own in omega (arith, d, is_end))
+
+  pub part_rises : IsNonDecreasingBy f own → IsNonDecreasingBy f part
+  part_rises rising = IsNonDecreasingBy-take f (end - from) (drop from own) (IsNonDecreasingBy-drop f from own rising)
+
+  pub low_in : ((k : ℕ) → k < r → f (at part k) < y) → r ≤ length part → (k : ℕ) → k < from + r → f (at own k) < y
+  low_in found bound k low = ⊎_elim
+      (λ (first : k < from). before k (omega (arith, first, is_from)) (omega (arith, first, is_from, is_end)))
+      (λ (ge : from ≤ k).
+      let long = part_long in
+      let inside : k - from < r = omega (arith, ge, low) in
+      let same = part_at (k - from) (omega (arith, inside, bound, long)) in
+      let back : from + (k - from) ≡ k = omega (arith, ge) in
+      subst (λ j. f (at own j) < y) back (subst (λ o. f o < y) same (found (k - from) inside)))
+      (cases_lt k from)
+
+  pub high_in : ((k : ℕ) → r ≤ k → k < length part → y ≤ f (at part k)) → (k : ℕ) → from + r ≤ k → k < length own → y ≤ f (at own k)
+  high_in found k ge low = ⊎_elim
+      (λ (here : k < end).
+      let long = part_long in
+      let inside : k - from < end - from = omega (arith, ge, here) in
+      let same = part_at (k - from) inside in
+      let back : from + (k - from) ≡ k = omega (arith, ge) in
+      subst (λ j. y ≤ f (at own j)) back (subst (λ o. y ≤ f o) same (found (k - from) (omega (arith, ge)) (omega (arith, inside, long)))))
+      (λ (past : end ≤ k). behind k (omega (arith, past, is_end, low)) low)
+      (cases_lt k end)
 
 -- ---- what an id is found by
 

@@ -1,5 +1,5 @@
 -- What a set leaves of a file, from the bytes that it has at the start.
-use Rattle.std.proofs.Common.{◌≡◌, ℕ, ◌<◌, ◌≤◌, Bool, false, List, [], refl, ap, ◌∙◌, subst, arith, ⊎_elim, length, get_or}
+use Rattle.std.proofs.Common.{◌≡◌, ℕ, ◌<◌, ◌≤◌, Bool, false, List, [], ◌∷◌, ◌++◌, refl, sym, ap, ◌∙◌, subst, arith, ⊎_elim, length, take, replicate, get_or}
 use Rattle.std.proofs.lemmas.Bool.{cases_lt}
 use Rattle.std.proofs.lemmas.List.{get_or_read}
 use Rattle.cs_trace.specs.Traces.{Trace}
@@ -8,7 +8,7 @@ use Rattle.cs_tree_model.specs.Tree.{Path}
 use Rattle.cs_micro.specs.declared.micro_op.MicroOp.{MicroOp}
 use Rattle.cs_apm.specs.Atlases.{content_before, no_record, AreStarts}
 use Rattle.cs_apm.specs.Contents.{content_left}
-use Rattle.cs_apm.specs.States.{Content, bytes_of}
+use Rattle.cs_apm.specs.States.{Content, bytes_of, visible}
 use Rattle.cs_apm.proofs.Before.{left_file, made_before, start_before, unflagged}
 use Rattle.cs_state.specs.declared.parts.Parts.{Parts}
 use Rattle.cs_state.specs.Parts.{AreParts, bytes_before, file_in}
@@ -52,3 +52,11 @@ module _ (parts : Parts) (h : AreParts parts) (file : ℕ) (places : List ℕ) (
   left_same flag read none =
       unflagged file _ parts.micros.ops parts.tables.changed.items flag (whole (bytes_before parts file)) places h.whole.atlas.changed has_flag (get_or_read parts.tables.changed.items file flag has_flag read false) none
       ∙ left_of
+
+  -- and shows what it showed
+  pub visible_same : (flag : Bool) → flag ≡ get_or parts.tables.changed.items file flag → flag ≡ false → bytes_before parts file ≡ visible (file_in parts places file)
+  visible_same flag read none = sym (take_whole (bytes_before parts file) (replicate (length (bytes_before parts file)) 0)) ∙ ap visible (left_same flag read none)
+    where
+      take_whole : (xs ys : List ℕ) → take (length xs) (xs ++ ys) ≡ xs
+      take_whole [] ys = refl
+      take_whole (x ∷ xs) ys = ap (λ zs. x ∷ zs) (take_whole xs ys)

@@ -16,7 +16,7 @@ use Rattle.cs_state.specs.declared.parts.Parts.{Parts}
 use Rattle.cs_state.specs.Numbers.{at, number_in, HasId, IsFound, IsKept}
 use Rattle.cs_state.specs.Parts.{count_in, IsState}
 use Rattle.cs_state.specs.Shares.{place_of, slots_left, standing, stands, IsLeft, Leaves}
-use Rattle.cs_state.proofs.Standing.{counted, has_none, has_place}
+use Rattle.cs_state.proofs.Standing.{counted, has_none, has_place, stands_inside}
 
 -- ---- what no step changes
 
@@ -66,6 +66,9 @@ module _ (parts : Parts) (places : List ℕ) (own : List Own) (h : IsState parts
 
   pub own_few : length own < 2 ^ 32
   own_few = (let c = count_is in let low = standing_low slots (length parts.tables.slots.items) in let few = h.whole.shares.few in omega (arith, c, low, few))
+
+  pub id_low : (id : ℕ) → HasId kept own id → id < length parts.tables.slots.items
+  id_low id has = subst (λ n. id < n) same_long (stands_inside slots id (h.shared.there id has))
 
   pub found_slot : (f : Found) → IsFound kept parts.tables.slots.items own f → f.slot ≡ slot_at slots f.id
   found_slot f is = ⊎_elim

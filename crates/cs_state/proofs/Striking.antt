@@ -5,7 +5,7 @@ use Rattle.std.proofs.lemmas.List.Elements.{All-cons, All-nil}
 use Rattle.std.proofs.lemmas.Option.{slice_get-get_or}
 use Rattle.std.specs.Global.{Vec}
 use Rattle.std.specs.List.{All}
-use Rattle.std.specs.Prelude.{fold}
+use Rattle.std.specs.Prelude.{fold, slice_get}
 use Rattle.cs_trace.specs.Operations.{Paths}
 use Rattle.cs_micro.specs.declared.blocks.TheConstants.{BLOCK_BYTES}
 use Rattle.cs_micro.specs.declared.micro_op.MicroOp.{MicroOp}
@@ -51,12 +51,12 @@ module _ (parts : Parts) (h : AreParts parts) (file : ℕ) (known : file < lengt
   pub size_is : left.size ≡ fold (size_after file) (length start) (map (op_at ops) (members_in members))
   size_is = sym (ap (λ (f : Content). f.size) (left_of parts h file (members_in members) known)) ∙ left_size file (whole start) ops (members_in members)
 
-  module _ (steps : FileSteps) (read : steps ≡ get_or parts.steps.items file steps) (flag : Bool) (flagged : flag ≡ get_or parts.tables.changed.items file flag) (yes : flag ≡ true) where
+  module _ (steps : FileSteps) (read : steps ≡ get_or parts.steps.items file steps) (changed : slice_get parts.tables.changed.items file ≡ Some true) where
     pub are : AreFileSteps file (length start) ops steps
     are =
         let there = has_flag parts h file (members_in members) known in
         let long = h.steps.long in
-        h.steps.each file steps (slice_get-get_or parts.steps.items file steps (omega (arith, there, long)) ∙ ap Some (sym read)) (slice_get-get_or parts.tables.changed.items file flag there ∙ ap Some (sym flagged ∙ yes))
+        h.steps.each file steps (slice_get-get_or parts.steps.items file steps (omega (arith, there, long)) ∙ ap Some (sym read)) changed
 
     pub room : left.size < length steps.blocks.items * BLOCK_BYTES
     room = subst (λ v. v < length steps.blocks.items * BLOCK_BYTES) (sym (size_is ∙ fold_map (size_after file) (op_at ops) (length start) (members_in members)))

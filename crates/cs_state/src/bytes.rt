@@ -1,6 +1,6 @@
 //! The bytes of a state's file: those at the start, with what the members of its set wrote.
 
-ghost use Rattle.std.specs.Prelude.{◌≡◌, ◌+◌, ◌*◌, ◌<◌, ◌≤◌, ◌^◌, ◌⊎◌, ℕ, true, false, Some, fold, length, map, slice_get, slice_index_or, take, IfOk};
+ghost use Rattle.std.specs.Prelude.{◌≡◌, ◌≢◌, ◌+◌, ◌*◌, ◌<◌, ◌≤◌, ◌^◌, ◌⊎◌, [], ℕ, true, false, Some, drop, fold, length, map, slice_get, slice_index_or, take, IfOk, IsErr};
 ghost use Rattle.std.specs.Global.{Vec};
 ghost use Rattle.std.specs.List.{All};
 ghost use Rattle.cs_names.specs.declared.limits.TheConstants.{FILE_BYTES};
@@ -33,8 +33,33 @@ pub fn size_left(file: usize, size: u64, ops: &[MicroOp], sizes: &[u32], members
     size_after(file, size, &ops[sizes[count - 1] as usize])
 }
 
+/// At most so many of the bytes, from an offset on.
+fn piece_of(bytes: &[u8], offset: usize, count: usize) -> &[u8]
+    ensures { result.now ≡ take count (drop offset bytes.now) }
+{
+    let rest = &bytes[bytes.len().min(offset)..];
+    &rest[..rest.len().min(count)]
+}
+
+/// The same, copied.
+pub fn copied_piece(
+    alloc: Global,
+    bytes: &[u8],
+    offset: u64,
+    count: usize,
+) -> Result<Vec<u8>, AllocError>
+    ensures value { IfOk result (λ piece. piece.items ≡ take count (drop offset bytes.now)) }
+    ensures memory { IsErr result → take count (drop offset bytes.now) ≢ [] }
+{
+    let piece = piece_of(bytes, offset as usize, count);
+    if piece.is_empty() {
+        return Ok(Vec::new(alloc));
+    }
+    Vec::from_slice(alloc, piece)
+}
+
 /// The bytes from an offset on that a file with these bytes shows, and zeros past its end.
-pub fn copied(
+fn copied(
     alloc: Global,
     bytes: &[u8],
     offset: usize,

@@ -24,24 +24,32 @@ pub struct Found {
     pub slot: Slot,
 }
 
-/// How many of the numbers are below this one.
-fn numbers_below(own: &[Own], number: u64) -> usize
-    requires { IsNonDecreasingBy (λ (o : Own). o.number) own.now }
+/// How many of the numbers are below this one; it is known that at least so many are, and at most.
+fn numbers_below(own: &[Own], least: usize, most: usize, number: u64) -> usize
+    requires rising { IsNonDecreasingBy (λ (o : Own). o.number) own.now }
+    requires least { (k : ℕ) → k < least → k < length own.now → (at own.now k).number < number }
+    requires most { (k : ℕ) → most ≤ k → k < length own.now → number ≤ (at own.now k).number }
     ensures bound { result ≤ length own.now }
     ensures low { (k : ℕ) → k < result → (at own.now k).number < number }
     ensures high { (k : ℕ) → result ≤ k → k < length own.now → number ≤ (at own.now k).number }
 {
-    own.partition_point(|o| (o.number as u64) < number)
+    let end = own.len().min(most);
+    let from = end.min(least);
+    from + own[from..end].partition_point(|o| (o.number as u64) < number)
 }
 
-/// How many of the ids are below this one.
-fn ids_below(own: &[Own], id: u32) -> usize
-    requires { IsNonDecreasingBy (λ (o : Own). o.id) own.now }
+/// How many of the ids are below this one; it is known that at least so many are, and at most.
+fn ids_below(own: &[Own], least: usize, most: usize, id: u32) -> usize
+    requires rising { IsNonDecreasingBy (λ (o : Own). o.id) own.now }
+    requires least { (k : ℕ) → k < least → k < length own.now → (at own.now k).id < id }
+    requires most { (k : ℕ) → most ≤ k → k < length own.now → id ≤ (at own.now k).id }
     ensures bound { result ≤ length own.now }
     ensures low { (k : ℕ) → k < result → (at own.now k).id < id }
     ensures high { (k : ℕ) → result ≤ k → k < length own.now → id ≤ (at own.now k).id }
 {
-    own.partition_point(|o| o.id < id)
+    let end = own.len().min(most);
+    let from = end.min(least);
+    from + own[from..end].partition_point(|o| o.id < id)
 }
 
 /// What has the number.
@@ -52,7 +60,9 @@ pub fn found_at(kept: &[u32], slots: &[Slot], own: &[Own], number: u64) -> Optio
     ensures number { IfSome result (λ f. number_in kept.now own.now f.id ≡ number) }
     ensures none { IfNone result (length kept.now + length own.now ≤ number) }
 {
-    let before = numbers_below(own, number);
+    // the others of the numbers below it are kept paths'
+    let most = number as usize;
+    let before = numbers_below(own, most.saturating_sub(kept.len()), most, number);
     if before < own.len() {
         let first = own[before];
         if first.number as u64 == number {
@@ -77,19 +87,24 @@ pub fn number_of(kept: &[u32], kept_below: &[u32], own: &[Own], id: u32) -> Opti
     requires merge { IsMerge kept.now own.now }
     requires there { id < length kept_below.now }
     requires counted { kept_at kept_below.now id ≡ below (λ k. k) kept.now id }
+    requires kept_inside { (k : ℕ) → k < length kept.now → kept_at kept.now k < length kept_below.now }
+    requires own_inside { (k : ℕ) → k < length own.now → (at own.now k).id < length kept_below.now }
     requires small { length own.now < 2 ^ 32 }
     ensures there { IfSome result (λ n. HasId kept.now own.now id) }
     ensures number { IfSome result (λ n. number_in kept.now own.now id ≡ n) }
     ensures none { IfNone result (HasId kept.now own.now id → ⊥) }
 {
-    let before = ids_below(own, id);
+    let place = kept_below[id as usize] as usize;
+    // so many of the paths before it aren't kept, and so many of the others
+    let most = id as usize - place;
+    let others = (kept_below.len() - id as usize).saturating_sub(kept.len() - place);
+    let before = ids_below(own, own.len().saturating_sub(others), most, id);
     if before < own.len() {
         let first = own[before];
         if first.id == id {
             return Some(first.number as u64);
         }
     }
-    let place = kept_below[id as usize] as usize;
     if place < kept.len() {
         if kept[place] == id {
             return Some(place as u64 + before as u64);

@@ -1,6 +1,6 @@
 //! What stands at a path of a state, and what is read of a file.
 
-ghost use Rattle.std.specs.Prelude.{◌≡◌, ◌≢◌, ◌+◌, ◌<◌, ◌≤◌, ◌^◌, [], Some, drop, length, take, IfErr, IfOk, IsErr, IsSomeAnd};
+ghost use Rattle.std.specs.Prelude.{◌≡◌, ◌≢◌, ◌+◌, ◌<◌, ◌≤◌, ◌^◌, [], true, Some, drop, length, slice_get, take, IfErr, IfOk, IsErr, IsSomeAnd};
 ghost use Rattle.std.specs.Option.{option_map};
 ghost use Rattle.cs_tree_model.specs.Fresh.{fresh_record};
 ghost use Rattle.cs_tree_model.specs.Record.{lent, metadata_of};
@@ -10,7 +10,7 @@ ghost use Rattle.cs_state.specs.Parts.{AreMembers, AreParts, bytes_before, file_
 ghost use Rattle.cs_state.specs.Steps.{members_in};
 ghost use Rattle.cs_state.specs.Windows.{IsPart};
 
-use crate::bytes::{copied, part_left, size_left};
+use crate::bytes::{copied_piece, part_left, size_left};
 use crate::file_steps::start_bytes;
 use crate::parts::Parts;
 use cs_apm::slot::Slot;
@@ -31,18 +31,16 @@ fn start_of<'a>(parts: &'a Parts, file: u32) -> &'a [u8]
     )
 }
 
-/// The size that the members leave of the file, which has these bytes at the start.
-fn size_from(parts: &Parts, members: &[bool], file: u32, start: &[u8]) -> u64
+/// The size that the members leave of the file, which some micro-operation changes, and which had this
+/// size at the start.
+fn changed_size(parts: &Parts, members: &[bool], file: u32, size: u64) -> u64
     requires parts { AreParts parts.now }
     requires known { file < length parts.now.tables.owners.items }
+    requires changed { slice_get parts.now.tables.changed.items file ≡ Some true }
     requires set { AreMembers parts.now members.now }
-    requires start { start.now ≡ bytes_before parts.now file }
+    requires size { size ≡ length (bytes_before parts.now file) }
     ensures { result ≡ (file_in parts.now (members_in members.now) file).size }
 {
-    let size = start.len() as u64;
-    if !parts.tables.changed[file as usize] {
-        return size;
-    }
     let sizes = &parts.steps[file as usize].sizes;
     size_left(file as usize, size, parts.micros.ops(), sizes, members)
 }
@@ -54,12 +52,17 @@ fn size_of(parts: &Parts, members: &[bool], file: u32) -> u64
     requires set { AreMembers parts.now members.now }
     ensures { result ≡ (file_in parts.now (members_in members.now) file).size }
 {
-    size_from(parts, members, file, start_of(parts, file))
+    let size = start_of(parts, file).len() as u64;
+    if parts.tables.changed[file as usize] {
+        changed_size(parts, members, file, size)
+    } else {
+        size
+    }
 }
 
-/// So many bytes of the file, which has these at the start, from an offset on; each of them lies before
-/// its end.
-fn part_of(
+/// So many bytes of the file, which some micro-operation changes, and which had these at the start, from
+/// an offset on; each of them lies before its end.
+fn changed_part(
     alloc: Global,
     parts: &Parts,
     members: &[bool],
@@ -70,6 +73,7 @@ fn part_of(
 ) -> Result<Vec<u8>, AllocError>
     requires parts { AreParts parts.now }
     requires known { file < length parts.now.tables.owners.items }
+    requires changed { slice_get parts.now.tables.changed.items file ≡ Some true }
     requires set { AreMembers parts.now members.now }
     requires start { start.now ≡ bytes_before parts.now file }
     requires some { 0 < count }
@@ -78,10 +82,6 @@ fn part_of(
     ensures long { IfOk result (λ part. length part.items ≡ count) }
     ensures part { IfOk result (λ part. IsPart offset (file_in parts.now (members_in members.now) file) part.items) }
 {
-    if !parts.tables.changed[file as usize] {
-        let part = copied(alloc, start, offset, count)?;
-        return Ok(part);
-    }
     let blocks = &parts.steps[file as usize].blocks;
     let ops = parts.micros.ops();
     let part = part_left(alloc, start, ops, blocks, members, offset, count)?;
@@ -89,7 +89,35 @@ fn part_of(
 }
 
 /// The bytes from an offset on that the members leave of the file, so many of them or as many as there
-/// are.
+/// are. Some micro-operation changes the file, which had these bytes at the start.
+fn changed_bytes(
+    alloc: Global,
+    parts: &Parts,
+    members: &[bool],
+    file: u32,
+    start: &[u8],
+    offset: u64,
+    count: usize,
+) -> Result<Vec<u8>, AllocError>
+    requires parts { AreParts parts.now }
+    requires known { file < length parts.now.tables.owners.items }
+    requires changed { slice_get parts.now.tables.changed.items file ≡ Some true }
+    requires set { AreMembers parts.now members.now }
+    requires start { start.now ≡ bytes_before parts.now file }
+    ensures value { IfOk result (λ bytes. bytes.items ≡ take count (drop offset (visible (file_in parts.now (members_in members.now) file)))) }
+    ensures memory { IsErr result → take count (drop offset (visible (file_in parts.now (members_in members.now) file))) ≢ [] }
+{
+    let size = changed_size(parts, members, file, start.len() as u64);
+    if size <= offset || count == 0 {
+        return Ok(Vec::new(alloc));
+    }
+    let count = count.min((size - offset) as usize);
+    let offset = offset as usize;
+    let bytes = changed_part(alloc, parts, members, file, start, offset, count)?;
+    Ok(bytes)
+}
+
+/// The same of any file.
 fn bytes_of(
     alloc: Global,
     parts: &Parts,
@@ -105,14 +133,11 @@ fn bytes_of(
     ensures memory { IsErr result → take count (drop offset (visible (file_in parts.now (members_in members.now) file))) ≢ [] }
 {
     let start = start_of(parts, file);
-    let size = size_from(parts, members, file, start);
-    if size <= offset || count == 0 {
-        return Ok(Vec::new(alloc));
+    if parts.tables.changed[file as usize] {
+        changed_bytes(alloc, parts, members, file, start, offset, count)
+    } else {
+        copied_piece(alloc, start, offset, count)
     }
-    let count = count.min((size - offset) as usize);
-    let offset = offset as usize;
-    let bytes = part_of(alloc, parts, members, file, start, offset, count)?;
-    Ok(bytes)
 }
 
 /// What a record says beside its bytes, where it was never changed.

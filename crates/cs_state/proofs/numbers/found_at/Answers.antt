@@ -1,11 +1,17 @@
 use Rattle.std.proofs.Common.{◌≢◌, ◌<◌, length, ◌∙◌, arith}
 use Rattle.cs_state.specs.Numbers.{at}
-use Rattle.cs_state.proofs.Counting.{numbers_rise, own_number, before_fits, past_all, kept_number}
+use Rattle.cs_state.proofs.Counting.{numbers_rise, own_number, before_fits, past_all, kept_number, least_numbers, most_numbers}
 use Rattle.cs_state.proofs.numbers.found_at.Goals as goal
 use Rattle.cs_state.proofs.numbers.found_at.Goals.{then-before-own+else-first-number, else-before-own}
 
-pub numbers_below-before-requires : goal.numbers_below-before-requires
-numbers_below-before-requires c = numbers_rise c.args.kept.now c.args.own.now c.requires.merge
+pub numbers_below-before-requires-clause-rising : goal.numbers_below-before-requires-clause-rising
+numbers_below-before-requires-clause-rising c = numbers_rise c.args.kept.now c.args.own.now c.requires.merge
+
+pub numbers_below-before-requires-clause-least : goal.numbers_below-before-requires-clause-least
+numbers_below-before-requires-clause-least c = λ k less low. least_numbers c.args.kept.now c.args.own.now c.requires.merge c.args.number k (let e = c.saturating_sub.ensures in omega (arith, e, less)) low
+
+pub numbers_below-before-requires-clause-most : goal.numbers_below-before-requires-clause-most
+numbers_below-before-requires-clause-most c = λ k high low. most_numbers c.args.kept.now c.args.own.now c.requires.merge c.args.number k high low
 
 pub returns-then-first-number-clause-number : goal.returns-then-first-number-clause-number
 returns-then-first-number-clause-number c = own_number c.args.kept.now c.args.own.now c.requires.merge c.numbers_below-before.result c.if-before-own.true ∙ c.if-first-number.true

@@ -1,8 +1,27 @@
 use Rattle.std.proofs.Common.{◌≢◌, ◌<◌, length, sym, ap, ◌∙◌, arith, ⊎_elim}
 use Rattle.cs_state.specs.Numbers.{at, kept_at, number_in, IsKept, IsOwn}
-use Rattle.cs_state.proofs.Counting.{kept_place, no_own, own_number, own_split}
+use Rattle.cs_state.proofs.Counting.{below_length, ids_rise, kept_fits, kept_place, least_ids, most_ids, no_own, own_number, own_split}
 use Rattle.cs_state.proofs.numbers.number_of.Goals as goal
 use Rattle.cs_state.proofs.numbers.number_of.Goals.{then-before-own+else-first-id, else-before-own}
+
+pub overflow_sub-most : goal.overflow_sub-most
+overflow_sub-most c = (let is = c.requires.counted in let fits = kept_fits c.args.kept.now c.args.own.now c.requires.merge c.args.id in omega (arith, is, fits))
+
+pub overflow_sub-kept : goal.overflow_sub-kept
+overflow_sub-kept c = (let is = c.requires.counted in let fits = below_length (λ k. k) c.args.kept.now c.args.id in omega (arith, is, fits))
+
+pub ids_below-before-requires-clause-rising : goal.ids_below-before-requires-clause-rising
+ids_below-before-requires-clause-rising c = ids_rise c.args.kept.now c.args.own.now c.requires.merge
+
+pub ids_below-before-requires-clause-least : goal.ids_below-before-requires-clause-least
+ids_below-before-requires-clause-least c = λ k less low.
+    let is = c.requires.counted in
+    let e = c.saturating_sub.ensures in
+    let others = c.saturating_sub-others.ensures in
+    least_ids c.args.kept.now c.args.own.now c.requires.merge (length c.args.kept_below.now) c.args.id k c.requires.there c.requires.kept_inside c.requires.own_inside (omega (arith, less, e, others, is)) low
+
+pub ids_below-before-requires-clause-most : goal.ids_below-before-requires-clause-most
+ids_below-before-requires-clause-most c = λ k high low. most_ids c.args.kept.now c.args.own.now c.requires.merge c.args.id k (let is = c.requires.counted in omega (arith, is, high)) low
 
 pub returns-then-first-id-clause-number : goal.returns-then-first-id-clause-number
 returns-then-first-id-clause-number c =

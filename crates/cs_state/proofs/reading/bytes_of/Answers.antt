@@ -1,13 +1,19 @@
-use Rattle.std.proofs.Common.{◌≡◌, ◌-◌, ap, ◌∙◌, min}
+use Rattle.std.proofs.Common.{◌≡◌, ◌≢◌, [], List, ℕ, ◌∙◌, subst, take, drop}
+use Rattle.std.specs.Prelude.{IfOk, IsErr}
+use Rattle.cs_apm.specs.States.{visible}
 use Rattle.cs_state.specs.Parts.{file_in}
 use Rattle.cs_state.specs.Steps.{members_in}
-use Rattle.cs_state.proofs.Showing.{part_read}
+use Rattle.cs_state.proofs.Filing.{visible_same}
 use Rattle.cs_state.proofs.reading.bytes_of.Goals as goal
 
-pub returns-clause-value : goal.returns-clause-value
-returns-clause-value c =
-    let f = file_in c.args.parts.now (members_in c.args.members.now) c.args.file in
-    let size : c.size_from-size.result ≡ f.size = c.size_from-size.ensures in
-    part_read f c.args.offset c.args.count c.in_ok-bytes.bytes.items
-    (c.in_ok-bytes.ensures.long ∙ c.min-count.ensures ∙ ap (λ n. min c.args.count (n - c.args.offset)) size)
-    c.in_ok-bytes.ensures.part
+pub returns-else-index-clause-value : goal.returns-else-index-clause-value
+returns-else-index-clause-value c =
+    let same : c.start_of-start.result.now ≡ visible (file_in c.args.parts.now (members_in c.args.members.now) c.args.file) =
+    c.start_of-start.ensures ∙ visible_same c.args.parts.now c.requires.parts c.args.file (members_in c.args.members.now) c.requires.known c.index.result.now c.index.ensures c.if-index.false in
+    subst (λ (bs : List ℕ). IfOk c.copied_piece.result (λ piece. piece.items ≡ take c.args.count (drop c.args.offset bs))) same c.copied_piece.ensures.value
+
+pub returns-else-index-clause-memory : goal.returns-else-index-clause-memory
+returns-else-index-clause-memory c =
+    let same : c.start_of-start.result.now ≡ visible (file_in c.args.parts.now (members_in c.args.members.now) c.args.file) =
+    c.start_of-start.ensures ∙ visible_same c.args.parts.now c.requires.parts c.args.file (members_in c.args.members.now) c.requires.known c.index.result.now c.index.ensures c.if-index.false in
+    subst (λ (bs : List ℕ). IsErr c.copied_piece.result → take c.args.count (drop c.args.offset bs) ≢ []) same c.copied_piece.ensures.memory

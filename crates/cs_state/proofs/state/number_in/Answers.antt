@@ -1,8 +1,8 @@
-use Rattle.std.proofs.Common.{◌≡◌, ℕ, Option, None, Some, sym, ap, ◌∙◌, subst, arith, length}
+use Rattle.std.proofs.Common.{◌≡◌, ◌<◌, ℕ, List, inl, inr, Option, None, Some, refl, sym, ap, ◌∙◌, subst, arith, length}
 use Rattle.std.specs.Option.{IfNone, IfSome}
 use Rattle.cs_state.specs.Numbers.{below, kept_at, number_in, HasId, IsMerge}
 use Rattle.cs_state.specs.Steps.{members_in}
-use Rattle.cs_state.proofs.Sharing.{id_place, own_few}
+use Rattle.cs_state.proofs.Sharing.{id_low, id_place, own_few}
 use Rattle.cs_state.proofs.state.number_in.Goals as goal
 
 pub number_of-requires-clause-merge : goal.number_of-requires-clause-merge
@@ -18,6 +18,22 @@ number_of-requires-clause-there c =
 pub number_of-requires-clause-counted : goal.number_of-requires-clause-counted
 number_of-requires-clause-counted c =
     ap (λ ks. kept_at ks c.args.id) c.deref-2.ensures.value ∙ c.requires.state.whole.shares.below c.args.id c.requires.there ∙ ap (λ ks. below (λ k. k) ks c.args.id) (sym c.deref.ensures.value)
+
+pub number_of-requires-clause-kept_inside : goal.number_of-requires-clause-kept_inside
+number_of-requires-clause-kept_inside c =
+    subst (λ (ks : List ℕ). (k : ℕ) → k < length ks → kept_at ks k < length c.deref-2.result.now) (sym c.deref.ensures.value)
+    (λ k low.
+    let same = ap length c.deref-2.ensures.value in
+    let counted = c.requires.state.whole.shares.counted in
+    let inside = id_low c.args.parts.now (members_in c.args._members.now) c.args.own.now c.requires.state _ (inl (k, low, refl)) in
+    omega (arith, same, counted, inside))
+
+pub number_of-requires-clause-own_inside : goal.number_of-requires-clause-own_inside
+number_of-requires-clause-own_inside c = λ k low.
+    let same = ap length c.deref-2.ensures.value in
+    let counted = c.requires.state.whole.shares.counted in
+    let inside = id_low c.args.parts.now (members_in c.args._members.now) c.args.own.now c.requires.state _ (inr (k, low, refl)) in
+    omega (arith, same, counted, inside)
 
 pub number_of-requires-clause-small : goal.number_of-requires-clause-small
 number_of-requires-clause-small c = own_few c.args.parts.now (members_in c.args._members.now) c.args.own.now c.requires.state
