@@ -59,12 +59,7 @@ pub fn copied_piece(
 }
 
 /// The bytes from an offset on that a file with these bytes shows, and zeros past its end.
-fn copied(
-    alloc: Global,
-    bytes: &[u8],
-    offset: usize,
-    count: usize,
-) -> Result<Vec<u8>, AllocError>
+fn copied(alloc: Global, bytes: &[u8], offset: usize, count: usize) -> Result<Vec<u8>, AllocError>
     requires { offset + count < 2 ^ 64 }
     ensures long { IfOk result (λ part. length part.items ≡ count) }
     ensures part { IfOk result (λ part. IsPart offset (whole bytes.now) part.items) }
