@@ -2,12 +2,10 @@
 
 use cs_names::{Name, Path, UserName};
 use cs_plan::Scene;
-use cs_serve::world_of;
 use cs_trace::read_trace;
 use cs_tree::PlainTree;
 use cs_tree_model::{Content, DMDIR, Record};
 use cs_users::Users;
-use cs_world::World;
 use std::alloc::Global;
 
 /// How many bytes the file has.
@@ -26,16 +24,27 @@ const TRACE: &str = "{\"trace\":1,\"owner\":\"ann\",\"group\":\"ann\",\"mode\":\
 {\"start\":\"dir\",\"path\":\"/d\",\"owner\":\"ann\",\"group\":\"ann\",\"mode\":\"755\"}
 {\"start\":\"file\",\"path\":\"/f\",\"owner\":\"ann\",\"group\":\"ann\",\"mode\":\"644\",\"bytes\":\"";
 
-/// A world of one state, which has the same files as the tree.
-pub fn world(alloc: Global) -> Option<World> {
+/// The trace's text: the same files as the tree's, and operations that make so many more.
+fn trace_text(alloc: Global, creats: u32) -> Option<String> {
     let mut text = String::from_str(alloc, TRACE).ok()?;
     for _ in 0..FILE_LENGTH {
         text.push_str("07").ok()?;
     }
     text.push_str("\"}\n").ok()?;
+    for i in 0..creats {
+        let line = format!(in alloc;
+            "{{\"op\":\"creat\",\"path\":\"/d/n{i}\",\"owner\":\"ann\",\"group\":\"ann\",\"mode\":\"644\"}}\n"
+        );
+        text.push_str(line.ok()?.as_str()).ok()?;
+    }
+    Some(text)
+}
+
+/// The states of that trace, holes among them. Of no creats there is one, which has the tree's files.
+pub fn scene(alloc: Global, creats: u32) -> Option<Scene> {
+    let text = trace_text(alloc, creats)?;
     let trace = read_trace(alloc, text.as_str()).ok()?;
-    let scene = Scene::of(alloc, trace, false, Vec::new(alloc)).ok()?;
-    world_of(alloc, scene, users(alloc)?).ok()
+    Scene::of(alloc, trace, true, Vec::new(alloc)).ok()
 }
 
 fn record(alloc: Global, number: u64, mode: u32, content: Content) -> Option<Record> {

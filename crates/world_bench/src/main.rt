@@ -1,17 +1,22 @@
-//! Messages to a world beside what decoding them, their calls and encoding their replies take alone: a
-//! stat, a read and a write of 4 kB, and walks of one name; then opens and clunks with few and with
-//! many fids, and hang-ups. Run by hand with the word `time`, it tells how long each takes.
+//! Messages to a world, beside the same to a session over one run alone, and beside what decoding them,
+//! their calls and encoding their replies take: a stat, a read and a write of 4 kB, and walks of one name;
+//! the same among many states and runs; then opens and clunks with few and with many fids, and hang-ups.
+//! Run by hand with the word `time`, it tells how long each takes.
 #![tactic(auto)]
 
+mod alone;
 mod files;
+mod growth;
 mod messages;
 mod times;
 mod works;
 
-use crate::files::{tree, users, world};
-use crate::messages::{ask, join, walk};
+use crate::alone::Alone;
+use crate::files::{scene, tree, users};
+use crate::growth::{growth, opened};
+use crate::messages::{ask, opening, walk};
 use crate::times::Times;
-use crate::works::{Kind, Sides, opens};
+use crate::works::{Kind, Sides, Work, opens};
 use cs_run::CountedRun;
 use cs_wire::TBody;
 use std::alloc::Global;
@@ -31,32 +36,64 @@ const OPENS: u64 = 15_000;
 /// How many more fids there are in the last measure, each open.
 const MANY: u32 = 4_000;
 
-/// A world with fids on the root (0 and 1) and on the file (2, and 3, which is open), and a run alone.
-fn sides(alloc: Global) -> Option<Sides> {
-    let mut world = world(alloc)?;
-    let mut out = Vec::new(alloc);
-    join(alloc, &mut world, &mut out)?;
-    ask(alloc, &mut world, walk(alloc, 0, 1, None)?, &mut out)?;
-    ask(alloc, &mut world, walk(alloc, 0, 2, Some("f"))?, &mut out)?;
-    ask(alloc, &mut world, walk(alloc, 2, 3, None)?, &mut out)?;
-    ask(alloc, &mut world, TBody::Open { fid: 3, mode: 2 }, &mut out)?;
-    let run = CountedRun::new(alloc, tree(alloc)?, users(alloc)?);
-    Some(Sides { world, run, out })
+/// A session over one run, begun.
+fn session_alone(alloc: Global, out: &mut Vec<u8>) -> Option<Alone> {
+    let mut alone = Alone::new(alloc, scene(alloc, 0)?, users(alloc)?)?;
+    for bytes in opening(alloc)? {
+        alone.send(alloc, &bytes, out)?;
+    }
+    Some(alone)
 }
 
-/// Does a work through the world and alone.
-fn measure(rt: &(impl Clock + Print + AllocGlobal), kind: Kind, timed: bool) -> io::Result<()> {
-    let Some(mut sides) = sides(rt.alloc()) else {
-        return println!(rt; "out of memory");
-    };
+/// A world and a session alone, each with fids on the root (0 and 1) and on the file (2, and 3, which is
+/// open), and a run.
+fn sides(alloc: Global) -> Option<Sides> {
+    let mut out = Vec::new(alloc);
+    let world = opened(alloc, 0, &mut out)?;
+    let alone = session_alone(alloc, &mut out)?;
+    let run = CountedRun::new(alloc, tree(alloc)?, users(alloc)?);
+    Some(Sides {
+        world,
+        alone,
+        run,
+        out,
+    })
+}
+
+/// Does a work again and again, each way in turn.
+fn rounds(
+    rt: &(impl Clock + AllocGlobal),
+    sides: &mut Sides,
+    work: &Work,
+    timed: bool,
+) -> io::Result<Times> {
+    let mut times = Times::new();
+    let (rounds, repeats) = if timed { (ROUNDS, REPEATS) } else { (1, 1) };
+    for _ in 0..rounds {
+        times.time(rt, sides, work, repeats)?;
+    }
+    Ok(times)
+}
+
+/// Does a work through the world, through a session over one run, and in parts.
+fn work_on(
+    rt: &(impl Clock + Print + AllocGlobal),
+    sides: &mut Sides,
+    kind: Kind,
+    timed: bool,
+) -> io::Result<()> {
     let Some(work) = kind.work(rt.alloc(), &mut sides.world) else {
         return println!(rt; "out of memory");
     };
-    let mut times = Times::new();
-    for _ in 0..(if timed { ROUNDS } else { 1 }) {
-        times.time(rt, &mut sides, &work, if timed { REPEATS } else { 1 })?;
+    rounds(rt, sides, &work, timed)?.print(rt, kind.name(), timed)
+}
+
+/// The same on fresh sides.
+fn measure(rt: &(impl Clock + Print + AllocGlobal), kind: Kind, timed: bool) -> io::Result<()> {
+    match sides(rt.alloc()) {
+        Some(mut sides) => work_on(rt, &mut sides, kind, timed),
+        None => println!(rt; "out of memory"),
     }
-    times.print(rt, kind.name(), timed)
 }
 
 /// Opens the file as so many more fids.
@@ -116,9 +153,10 @@ fn ended(rt: &(impl Clock + Print + AllocGlobal), fids: u32, timed: bool) -> io:
 
 fn main(rt: HostRuntime) -> io::Result<()> {
     let timed = env::args(&rt)?.count() > 1;
-    for kind in [Kind::Stats, Kind::Reads, Kind::Writes, Kind::Walks] {
+    for kind in Kind::ALL {
         measure(&rt, kind, timed)?;
     }
+    growth(&rt, timed)?;
     crowded(&rt, 1, timed)?;
     crowded(&rt, MANY, timed)?;
     ended(&rt, 100, timed)?;

@@ -1,5 +1,6 @@
 //! Messages as bytes, and what they come to.
 
+use cs_names::limits::CONNECTIONS;
 use cs_wire::{RBody, RMessage, TBody, TMessage, encode, encode_t};
 use cs_world::World;
 use std::alloc::Global;
@@ -15,18 +16,29 @@ pub fn spelled(alloc: Global, body: TBody) -> Option<Vec<u8>> {
     Some(bytes)
 }
 
-/// Sends a message on the connection 0, and encodes its reply in a buffer that is kept. None where it
-/// is denied.
-pub fn send(alloc: Global, world: &mut World, bytes: &[u8], out: &mut Vec<u8>) -> Option<()> {
-    if bytes.len() < 7 {
+/// Sends a message on a connection, and encodes its reply in a buffer that is kept. None where it is
+/// denied.
+pub fn send_on(
+    alloc: Global,
+    world: &mut World,
+    conn: u32,
+    bytes: &[u8],
+    out: &mut Vec<u8>,
+) -> Option<()> {
+    if bytes.len() < 7 || conn >= CONNECTIONS {
         return None;
     }
-    let reply = world.message(alloc, 0, 1, bytes);
+    let reply = world.message(alloc, conn, 1, bytes);
     if let RBody::Error { .. } = reply.body {
         return None;
     }
     out.clear();
     encode(&reply, out).ok()
+}
+
+/// Sends a message on the connection 0.
+pub fn send(alloc: Global, world: &mut World, bytes: &[u8], out: &mut Vec<u8>) -> Option<()> {
+    send_on(alloc, world, 0, bytes, out)
 }
 
 /// Sends a message whose words are these.
@@ -52,18 +64,37 @@ pub fn walk(alloc: Global, fid: u32, newfid: u32, name: Option<&str>) -> Option<
     Some(TBody::Walk { fid, newfid, wname })
 }
 
-/// A session begins, and a user stands on the root with the fid 0.
-pub fn join(alloc: Global, world: &mut World, out: &mut Vec<u8>) -> Option<()> {
-    let version = TBody::Version {
+pub fn version(alloc: Global) -> Option<TBody> {
+    Some(TBody::Version {
         msize: 65_536,
         version: String::from_str(alloc, "9P2000").ok()?,
-    };
-    ask(alloc, world, version, out)?;
-    let attach = TBody::Attach {
-        fid: 0,
+    })
+}
+
+/// An attach of a user to a tree of that name.
+pub fn attach(alloc: Global, fid: u32, aname: &str) -> Option<TBody> {
+    Some(TBody::Attach {
+        fid,
         afid: u32::MAX,
         uname: String::from_str(alloc, "ann").ok()?,
-        aname: String::from_str(alloc, "0/x").ok()?,
-    };
-    ask(alloc, world, attach, out)
+        aname: String::from_str(alloc, aname).ok()?,
+    })
+}
+
+/// The messages that begin a session, with fids on the root (0 and 1) and on the file (2, and 3, which
+/// is open).
+pub fn opening(alloc: Global) -> Option<Vec<Vec<u8>>> {
+    let mut all = Vec::new(alloc);
+    let bodies = [
+        version(alloc)?,
+        attach(alloc, 0, "0/x")?,
+        walk(alloc, 0, 1, None)?,
+        walk(alloc, 0, 2, Some("f"))?,
+        walk(alloc, 2, 3, None)?,
+        TBody::Open { fid: 3, mode: 2 },
+    ];
+    for body in bodies {
+        all.push(spelled(alloc, body)?).ok()?;
+    }
+    Some(all)
 }

@@ -1,6 +1,7 @@
-//! The works that are timed: messages to a world, and beside them what decoding each, its call and
-//! encoding its reply take alone.
+//! The works that are timed: messages to a world, and beside them the same to a session over one run alone,
+//! and what decoding each, its call and encoding its reply take by themselves.
 
+use crate::alone::Alone;
 use crate::files::user;
 use crate::messages::{encoded, send, spelled, walk};
 use cs_fids::Place;
@@ -29,10 +30,12 @@ pub struct Work {
     exchanges: Vec<Exchange>,
 }
 
-/// What the works are done on: a world, and a run of the same files, each with a buffer that is kept.
+/// What the works are done on: a world, a session over one run, and a run without a journal, of the same
+/// files; with a buffer that is kept.
 #[derive(Drop)]
 pub struct Sides {
     pub world: World,
+    pub alone: Alone,
     pub run: CountedRun<PlainTree>,
     pub out: Vec<u8>,
 }
@@ -57,7 +60,7 @@ impl Exchange {
         Some(Exchange { bytes, call, reply })
     }
 
-    fn alone(
+    fn in_parts(
         &self,
         alloc: Global,
         run: &mut CountedRun<PlainTree>,
@@ -81,17 +84,30 @@ impl Work {
     }
 
     /// Each message to the world.
-    pub fn by_world(&self, alloc: Global, sides: &mut Sides) -> Option<()> {
+    pub fn by_world(&self, alloc: Global, world: &mut World, out: &mut Vec<u8>) -> Option<()> {
         for exchange in &self.exchanges {
-            send(alloc, &mut sides.world, &exchange.bytes, &mut sides.out)?;
+            send(alloc, world, &exchange.bytes, out)?;
+        }
+        Some(())
+    }
+
+    /// Each message to the session over one run alone.
+    pub fn by_session(&self, alloc: Global, alone: &mut Alone, out: &mut Vec<u8>) -> Option<()> {
+        for exchange in &self.exchanges {
+            alone.send(alloc, &exchange.bytes, out)?;
         }
         Some(())
     }
 
     /// Each message decoded, its call made, and its reply encoded.
-    pub fn alone(&self, alloc: Global, sides: &mut Sides) -> Option<()> {
+    pub fn in_parts(
+        &self,
+        alloc: Global,
+        run: &mut CountedRun<PlainTree>,
+        out: &mut Vec<u8>,
+    ) -> Option<()> {
         for exchange in &self.exchanges {
-            exchange.alone(alloc, &mut sides.run, &mut sides.out)?;
+            exchange.in_parts(alloc, run, out)?;
         }
         Some(())
     }
@@ -107,6 +123,8 @@ pub enum Kind {
 }
 
 impl Kind {
+    pub const ALL: [Kind; 4] = [Kind::Stats, Kind::Reads, Kind::Writes, Kind::Walks];
+
     pub fn name(self) -> &'static str {
         match self {
             Kind::Stats => "stats",

@@ -96,8 +96,34 @@ fn reads<R: Wait>(
     }
 }
 
+/// A registry whose one state is published.
+fn published<R: Wait>(rt: &R, alloc: Global) -> Option<SharedRegistry<AnyScene>> {
+    let (registry, state) = registry_of(alloc)?;
+    registry.publish(rt, alloc, state).ok()?;
+    Some(registry)
+}
+
+/// Attaches a user, who opens the file and writes this at its beginning.
+fn writes<R: Wait>(
+    rt: &R,
+    alloc: Global,
+    run: &SharedRun<AnyScene>,
+    user: &str,
+    text: &str,
+) -> Option<Pass> {
+    let mut pass = attach(rt, alloc, run, user)?;
+    let opened = run.call(rt, alloc, &mut pass, 2, open(alloc, user, 1)?);
+    let written = run.call(rt, alloc, &mut pass, 2, write(alloc, user, text)?);
+    match (opened, written) {
+        (Answer::Opened { .. }, Answer::Written(count)) if count as usize == text.len() => {
+            Some(pass)
+        }
+        _ => None,
+    }
+}
+
 #[test]
-fn what_is_written_in_a_run_is_read_there_and_nowhere_else(rt: HostRuntime) -> Result<(), Fail> {
+fn a_run_is_found_once_its_state_is_published(rt: HostRuntime) -> Result<(), Fail> {
     let alloc = rt.alloc();
     let (registry, state) = registry_of(alloc).ok_or("the registry")?;
     assert_eq!(rt; registry.missing(&rt), 1);
@@ -105,35 +131,47 @@ fn what_is_written_in_a_run_is_read_there_and_nowhere_else(rt: HostRuntime) -> R
     let early = registry.find(&rt, alloc, 0, &name);
     assert!(rt; matches!(early, Err(FindFault::Unpublished)));
     assert!(rt; registry.publish(&rt, alloc, state).is_ok());
-    let b = find(&rt, alloc, &registry, "b").ok_or("0/b")?;
+    assert!(rt; find(&rt, alloc, &registry, "a").is_some());
+    Ok(())
+}
+
+#[test]
+fn what_is_written_in_a_run_is_read_there_and_nowhere_else(rt: HostRuntime) -> Result<(), Fail> {
+    let alloc = rt.alloc();
+    let registry = published(&rt, alloc).ok_or("the registry")?;
     let a = find(&rt, alloc, &registry, "a").ok_or("0/a")?;
-    let mut ann = attach(&rt, alloc, &a, "ann").ok_or("ann")?;
-    let opened = a.call(
-        &rt,
-        alloc,
-        &mut ann,
-        2,
-        open(alloc, "ann", 1).ok_or("a call")?,
-    );
-    assert!(rt; matches!(opened, Answer::Opened { .. }));
-    let hi = write(alloc, "ann", "HI").ok_or("a call")?;
-    assert!(rt; matches!(a.call(&rt, alloc, &mut ann, 2, hi), Answer::Written(2)));
+    assert!(rt; writes(&rt, alloc, &a, "ann", "HI").is_some());
+    let b = find(&rt, alloc, &registry, "b").ok_or("0/b")?;
     assert_eq!(rt; reads(&rt, alloc, &b, "bob", "hello"), Some(true));
     let again = find(&rt, alloc, &registry, "a").ok_or("0/a again")?;
     assert_eq!(rt; reads(&rt, alloc, &again, "cat", "HIllo"), Some(true));
+    Ok(())
+}
+
+#[test]
+fn a_pass_calls_its_own_run_alone(rt: HostRuntime) -> Result<(), Fail> {
+    let alloc = rt.alloc();
+    let registry = published(&rt, alloc).ok_or("the registry")?;
+    let a = find(&rt, alloc, &registry, "a").ok_or("0/a")?;
+    let b = find(&rt, alloc, &registry, "b").ok_or("0/b")?;
+    let mut ann = writes(&rt, alloc, &a, "ann", "HI").ok_or("ann")?;
     let stat = Call::Stat(StatCall { number: F });
-    assert!(rt;
-        matches!(
-            b.call(&rt, alloc, &mut ann, 3, stat),
-            Answer::Denied(RuleId::S5)
-        )
-    );
+    let told = b.call(&rt, alloc, &mut ann, 3, stat);
+    assert!(rt; matches!(told, Answer::Denied(RuleId::S5)));
     assert_eq!(rt; ann.receipts().len(), 3);
+    Ok(())
+}
+
+#[test]
+fn runs_are_told_by_their_names(rt: HostRuntime) -> Result<(), Fail> {
+    let alloc = rt.alloc();
+    let registry = published(&rt, alloc).ok_or("the registry")?;
+    assert!(rt; find(&rt, alloc, &registry, "b").is_some());
+    assert!(rt; find(&rt, alloc, &registry, "a").is_some());
     let runs = registry.runs(&rt, alloc)?;
-    assert_eq!(rt; runs.len(), 2);
-    for (run, name) in runs.iter().zip(["a", "b"].iter()) {
-        assert_eq!(rt; (run.run().number(), run.name()), (0, *name));
-    }
+    assert!(rt; runs.len() == 2);
+    assert_eq!(rt; (runs[0].run().number(), runs[0].name()), (0, "a"));
+    assert_eq!(rt; (runs[1].run().number(), runs[1].name()), (0, "b"));
     Ok(())
 }
 
@@ -179,8 +217,7 @@ fn ask<R: Wait>(
 #[test]
 fn a_run_is_called_while_another_is_locked(rt: HostRuntime) -> Result<(), Fail> {
     let alloc = rt.alloc();
-    let (registry, state) = registry_of(alloc).ok_or("the registry")?;
-    assert!(rt; registry.publish(&rt, alloc, state).is_ok());
+    let registry = published(&rt, alloc).ok_or("the registry")?;
     let a = find(&rt, alloc, &registry, "a").ok_or("0/a")?;
     let b = find(&rt, alloc, &registry, "b").ok_or("0/b")?;
     let bob = attach(&rt, alloc, &b, "bob").ok_or("bob")?;

@@ -1,0 +1,112 @@
+//! A session over one run alone, with no world about it.
+ghost use Rattle.std.specs.Prelude.{IfSome};
+ghost use Rattle.std.specs.Arc.{arc_value};
+ghost use Rattle.cs_journal.specs.Bounds.{CanGrow};
+
+use cs_journal::{Pass, Run, can_grow};
+use cs_permit::{AttachCall, Call, TreeName};
+use cs_plan::{Built, Scene};
+use cs_run::Answer;
+use cs_session::{FindFault, PassFault, Port, Session};
+use cs_users::Users;
+use cs_wire::{RBody, encode};
+use std::alloc::Global;
+use std::marker::Model;
+use std::sync::Arc;
+
+/// One run, with its one pass; each is the one at the place 0.
+#[derive(Drop)]
+struct LoneRun {
+    run: Run<Built>,
+    pass: Pass,
+}
+
+impl Model for LoneRun {
+    ghost use Rattle.std.specs.Prelude.{ℕ};
+    ghost use Rattle.cs_journal.specs.Runs.{Fits};
+
+    ghost Value = { ℕ };
+
+    ghost view = { λ l. 0 };
+
+    ghost invariant = { λ l. Fits l.run l.pass };
+}
+
+impl Port for LoneRun {
+    ghost gives = { λ before mark question told after. Unit {0} };
+
+    fn find(&mut self, _alloc: Global, _name: &TreeName) -> Result<u32, FindFault> {
+        Ok(0)
+    }
+
+    fn attach(
+        &mut self,
+        alloc: Global,
+        now: u32,
+        _run: u32,
+        user: String,
+    ) -> Result<(u32, Answer), PassFault> {
+        let call = Call::Attach(AttachCall { user });
+        let answer = self.run.step(alloc, &mut self.pass, now, call);
+        Ok((0, answer))
+    }
+
+    fn call(&mut self, alloc: Global, now: u32, _run: u32, _pass: u32, call: Call) -> Answer {
+        self.run.step(alloc, &mut self.pass, now, call)
+    }
+}
+
+/// The scene's state 0, if runs can begin with it.
+fn state_of(alloc: Global, scene: Scene) -> Option<Arc<Built>>
+    ensures { IfSome result (λ lower. CanGrow (arc_value lower)) }
+{
+    let scene = Arc::new(alloc, scene).ok()?;
+    let store = Scene::make(alloc, &scene, 0).ok()?.into_store();
+    if !can_grow(&store) {
+        return None;
+    }
+    Arc::new(alloc, store).ok()
+}
+
+impl LoneRun {
+    /// A fresh run over the tree, and its first pass.
+    fn over(alloc: Global, lower: Arc<Built>, users: Arc<Users>) -> Option<LoneRun>
+        requires { CanGrow (arc_value lower) }
+    {
+        let mut run = Run::fresh(alloc, lower, users).ok()?;
+        let pass = run.new_pass(alloc).ok()?;
+        Some(LoneRun { run, pass })
+    }
+}
+
+/// A session, and the run that its fids stand in.
+#[derive(Drop)]
+pub struct Alone {
+    session: Session,
+    port: LoneRun,
+}
+
+impl Alone {
+    /// A session that has not begun, over a fresh run of the scene's state 0.
+    pub fn new(alloc: Global, scene: Scene, users: Users) -> Option<Alone> {
+        let lower = state_of(alloc, scene)?;
+        let users = Arc::new(alloc, users).ok()?;
+        Some(Alone {
+            session: Session::new(alloc),
+            port: LoneRun::over(alloc, lower, users)?,
+        })
+    }
+
+    /// Sends a message, and encodes its reply in a buffer that is kept. None where it is denied.
+    pub fn send(&mut self, alloc: Global, bytes: &[u8], out: &mut Vec<u8>) -> Option<()> {
+        if bytes.len() < 7 || self.session.awaits() {
+            return None;
+        }
+        let reply = self.session.reply(alloc, &mut self.port, 1, bytes);
+        if let RBody::Error { .. } = reply.body {
+            return None;
+        }
+        out.clear();
+        encode(&reply, out).ok()
+    }
+}
