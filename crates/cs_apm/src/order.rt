@@ -1,6 +1,6 @@
 //! The order of a trace's micro-operations, and the sets of them that a crash may leave.
 ghost use Rattle.std.specs.Prelude.{◌≡◌, ◌↔◌, ℕ, ◌<◌, ◌≤◌, length, IfOk, IsTrue, true};
-ghost use Rattle.cs_apm.specs.Bits.{has};
+ghost use Rattle.cs_apm.specs.Bits.{has, has_bit};
 ghost use Rattle.cs_apm.specs.Chains.{IsBackward, by_chain};
 ghost use Rattle.cs_apm.specs.Orders.{needs_in, order_of};
 ghost use Rattle.cs_apm.specs.Sets.{IsAllowed};
@@ -59,6 +59,14 @@ impl Order {
         ensures { result ≡ needs_in self.now i j }
     {
         self.rows[j].has(i)
+    }
+
+    /// What j needs, as a bit for each place: 64 places to a word, from the lowest bit on.
+    pub fn row(&self, j: usize) -> &[u64; 16]
+        requires { j < length self.now }
+        ensures { (i : ℕ) → i < MICRO_OPERATIONS → has_bit result.now i ≡ needs_in self.now i j }
+    {
+        self.rows[j].words()
     }
 
     /// Whether j needs i by any chain: itself, or as what it needs does.

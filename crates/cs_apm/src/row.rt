@@ -1,6 +1,6 @@
 //! Rows of bits, one for each micro-operation of a trace.
 ghost use Rattle.std.specs.Prelude.{◌≡◌, ◌==◌, ◌||◌, ℕ, ◌<◌, false, true, IsTrue, ◌↔◌};
-ghost use Rattle.cs_apm.specs.Bits.{has};
+ghost use Rattle.cs_apm.specs.Bits.{has, has_bit};
 
 use cs_names::limits::MICRO_OPERATIONS;
 
@@ -19,6 +19,13 @@ impl Row {
         ensures { (k : ℕ) → has result k ≡ false }
     {
         Row { words: [0; 16] }
+    }
+
+    /// The row's words: 64 places to a word, from the lowest bit on.
+    pub(crate) fn words(&self) -> &[u64; 16]
+        ensures { (k : ℕ) → has_bit result.now k ≡ has self.now k }
+    {
+        &self.words
     }
 
     /// Whether the row has the place.

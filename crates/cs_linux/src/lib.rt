@@ -5,8 +5,6 @@
 mod errno;
 mod meant;
 mod rules;
-#[cfg(test)]
-mod tests;
 mod told;
 
 pub use errno::Errno;

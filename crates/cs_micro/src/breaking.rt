@@ -28,7 +28,7 @@ fn count_of_write(size: u64, offset: u64, bytes: &[u8]) -> usize
 }
 
 /// How many micro-operations an operation is. It takes no memory.
-fn count_of(operation: &Operation) -> usize
+pub fn micro_count(operation: &Operation) -> usize
     requires { IsWithinLimit operation.now }
     ensures { result ≡ length (micros_of operation.now) }
 {
@@ -57,7 +57,7 @@ pub fn has_room(operations: &[Operation]) -> bool
 {
     let mut total = 0;
     for operation in operations {
-        let count = count_of(operation);
+        let count = micro_count(operation);
         if count > MICRO_OPERATIONS - total {
             return false;
         }

@@ -10,6 +10,7 @@ pub mod micros;
 pub mod sync_point;
 
 pub use blocks::{BLOCK_BYTES, blocks_make_up_a_write};
+pub use breaking::micro_count;
 pub use fault::MicroFault;
 pub use micro_op::{EntryKind, MicroOp};
 pub use micros::{Micros, break_up};

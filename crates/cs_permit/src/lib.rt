@@ -12,8 +12,6 @@ pub mod request;
 pub mod rules;
 mod shown;
 mod table;
-#[cfg(test)]
-mod tests;
 mod tree_name;
 mod walk;
 mod wstat;

@@ -10,8 +10,6 @@ mod program;
 mod publishing;
 mod script;
 mod telling;
-#[cfg(test)]
-mod tests;
 
 pub use fault::ProgramFault;
 pub use inputs::{Inputs, scene_of, users_of};

@@ -12,6 +12,3 @@ pub use kept::{GivenPass, Kept};
 pub use port::SharedPort;
 pub use server::Server;
 pub use streams::serve_streams;
-
-#[cfg(test)]
-mod tests;

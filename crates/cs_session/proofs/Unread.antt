@@ -9,6 +9,6 @@ use Rattle.cs_session.specs.Sessions.{Sess}
 
 module _ {P : Type 0} (gives : P → PortMark → Question → Told → P → Type 0) (now : ℕ) (bytes : List ℕ) (s : Sess) (p : P) (in_ : IsLetIn s.msize bytes) where
   pub unread : (reply : Reply) → IsUnread bytes reply → IsReceived gives now bytes s p reply s p
-  unread r.Memory u = record { mark = NoDecode; received = Short in_ u.0 u.1 (refl, refl, refl) }
+  unread r.Memory u = record { mark = NoDecode; received = Short in_ u (refl, refl, refl) }
   unread (r.Error rule) u = record { mark = Steps []; received = Malformed in_ u.0 (rw u.1 (refl, refl, refl)) }
   unread reply u = absurd u

@@ -1,5 +1,5 @@
 -- From a message's bytes to the reply on the wire.
-use Rattle.std.specs.Prelude.{◌≡◌, ℕ, ◌==◌, not, ◌&&◌, Bool, true, false, List, [], ◌∷◌, length, map, nat_lt, codes, is_none, Option, None, Some, Result, Ok, Err, IsOk, IsErr, slice_index}
+use Rattle.std.specs.Prelude.{◌≡◌, ℕ, ◌==◌, not, ◌&&◌, Bool, true, false, List, [], ◌∷◌, length, map, nat_lt, codes, is_none, Option, None, Some, Result, Ok, Err, IsErr, slice_index}
 use Rattle.std.specs.Option.{option_map_or}
 use Rattle.std.specs.Int.{w16, from_le_bytes}
 use Rattle.cs_names.specs.declared.rule_id.RuleId.{RuleId}
@@ -10,7 +10,8 @@ use Rattle.cs_wire.specs.declared.kind.RKind.TheVariants as rk
 use Rattle.cs_wire.specs.declared.message.TBody.{TBody}
 use Rattle.cs_wire.specs.declared.message.TBody.TheVariants as t
 use Rattle.cs_wire.specs.declared.message.TMessage.{TMessage}
-use Rattle.cs_wire.specs.Messages.{IsMessage, Message as Spelled, qid_of, replies, requests, spelling, t_view, takes_memory}
+use Rattle.cs_wire.specs.Answers.{TakesMemory}
+use Rattle.cs_wire.specs.Messages.{IsMessage, Message as Spelled, qid_of, replies, requests, spelling, t_view}
 use Rattle.cs_wire.specs.Reading.{message_of}
 use Rattle.cs_session.specs.declared.message.CallMessage.TheVariants as call
 use Rattle.cs_session.specs.declared.message.Message.{Message}
@@ -68,8 +69,8 @@ module _ {P : Type 0} (gives : P → PortMark → Question → Told → P → Ty
     Barred : (rule : RuleId) → first_failing (front_rules s.msize bytes) ≡ Some rule → Stays s p (r.Error rule) reply s' p' → Receives bytes s p reply s' p' (Steps [])
     -- they are no message
     Malformed : IsLetIn s.msize bytes → IsErr (message_of requests bytes) → Stays s p (r.Error S2) reply s' p' → Receives bytes s p reply s' p' (Steps [])
-    -- they are a message that holds bytes, and memory is wanting for it
-    Short : IsLetIn s.msize bytes → IsOk (message_of requests bytes) → takes_memory requests (slice_index bytes 4) ≡ true → Stays s p r.Memory reply s' p' → Receives bytes s p reply s' p' NoDecode
+    -- they are a message with something to copy, and memory is wanting for it
+    Short : IsLetIn s.msize bytes → TakesMemory requests bytes → Stays s p r.Memory reply s' p' → Receives bytes s p reply s' p' NoDecode
     -- they are a message that takes no step
     Alone : (message : TMessage) (said : Reply) → IsLetIn s.msize bytes → IsSpelled bytes message → message_in message.body ≡ Err said → Stays s p said reply s' p' → Receives bytes s p reply s' p' (Steps [])
     -- they are a message that is answered by its steps
@@ -80,9 +81,9 @@ pub record IsReceived {P : Type 0} (gives : P → PortMark → Question → Told
   pub mark : MessageMark
   pub received : Receives gives now bytes s p reply s' p' mark
 
--- why bytes are not read: they are no message, or memory is wanting for one that holds bytes
+-- why bytes are not read: they are no message, or memory is wanting for one with something to copy
 abbrev pub IsUnread : List ℕ → Reply → Type 0
-IsUnread bytes r.Memory = IsOk (message_of requests bytes) × (takes_memory requests (slice_index bytes 4) ≡ true)
+IsUnread bytes r.Memory = TakesMemory requests bytes
 IsUnread bytes (r.Error rule) = IsErr (message_of requests bytes) × (rule ≡ S2)
 IsUnread bytes reply = ⊥
 

@@ -1,11 +1,13 @@
--- What reaches no block leaves its bytes: those that reach it leave the bytes that all of a set leave.
-use Rattle.std.proofs.Common.{◌≡◌, ◌≢◌, ℕ, zero, suc, ◌+◌, ◌*◌, ◌/◌, ◌<◌, ◌≤◌, ◌==◌, ◌&&◌, Bool, true, false, cond, nat_lt, nat_le, List, [], ◌∷◌, ◌++◌, Some, refl, sym, ap, ◌∙◌, subst, arith, ⊎_elim, length, map, take, get_or}
-use Rattle.std.proofs.Math.Nat.{div-mul-le_self}
-use Rattle.std.proofs.lemmas.Bool.{cases_Bool, cases_eq, cases_lt, false≢true, eq-eqb, le-leb}
+-- Those that reach a block: they leave the bytes in it that all of a set leave.
+use Rattle.std.proofs.Common.{◌≡◌, ◌≢◌, ℕ, zero, suc, ◌+◌, ◌*◌, ◌<◌, ◌≤◌, ◌==◌, ◌&&◌, Bool, true, false, cond, nat_lt, List, [], ◌∷◌, ◌++◌, Option, None, Some, refl, sym, ap, ◌∙◌, subst, arith, ⊎_elim, length, map, take, get_or}
+use Rattle.std.proofs.lemmas.Bool.{cases_Bool, cases_eq, cases_lt, eq-eqb, eqb-true, false≢true}
 use Rattle.std.proofs.lemmas.List.{get_or-take, get_or_append_left, get_or_at, get_or_past, length-take, length_push, take_more}
 use Rattle.std.proofs.lemmas.List.Sums.{fold_push}
 use Rattle.std.proofs.lemmas.Option.{get_or_from_slice_get, slice_get-get_or, slice_get_within}
-use Rattle.std.specs.Prelude.{fold, slice_get}
+use Rattle.std.specs.Global.{Vec}
+use Rattle.std.specs.List.{All}
+use Rattle.std.specs.Option.{option_map_or}
+use Rattle.std.specs.Prelude.{fold, slice_get, IsSome}
 use Rattle.cs_micro.specs.declared.blocks.TheConstants.{BLOCK_BYTES}
 use Rattle.cs_micro.specs.declared.micro_op.MicroOp.{MicroOp}
 use Rattle.cs_micro.specs.declared.micro_op.MicroOp.TheVariants.{CreateDirEntry, DeleteDirEntry, MoveDirEntry, ChangeFileSize, WriteBlock, Say}
@@ -13,9 +15,9 @@ use Rattle.cs_apm.specs.Contents.{changes, content_after, content_left}
 use Rattle.cs_apm.specs.Rules.{op_at}
 use Rattle.cs_apm.specs.States.{Content, overwritten, resized}
 use Rattle.cs_state.specs.Shares.{ids, mark_at}
-use Rattle.cs_state.specs.Steps.{member_struck, picked, reaches, resizes, size_before, struck, struck_by, touches, AgreeIn, IsFitting}
+use Rattle.cs_state.specs.Steps.{member_struck, picked, reaches, reaching, resizes, size_before, struck, struck_by, touches, AgreeIn, AreRows, HasRow, IsFitting}
 use Rattle.cs_state.specs.Windows.{byte_of, size_after}
-use Rattle.cs_state.proofs.Listing.{no_more}
+use Rattle.cs_state.proofs.Listing.{ids_are, ids_have, no_more}
 use Rattle.cs_state.proofs.Showing.{byte_before, byte_behind, byte_inside, one_size}
 
 -- ---- folds over those that pass a test
@@ -68,6 +70,57 @@ pub picked_same : (f g : ℕ → Bool) (n : ℕ) (xs : List ℕ) → ((k : ℕ) 
 picked_same f g n [] same low = refl
 picked_same f g n (x ∷ xs) same low = (λ i. cond (same x (low 0 (omega arith)) i) (x ∷ []) [] ++ picked_same f g n xs same (λ k l. low (suc k) (omega (arith, l))) i)
 
+-- those that pass one test pass the other
+ids_same : (f g : ℕ → Bool) (n : ℕ) → ((k : ℕ) → k < n → f k ≡ g k) → ids f n ≡ ids g n
+ids_same f g zero same = refl
+ids_same f g (suc n) same = (λ i. ids_same f g n (λ k low. same k (omega (arith, low))) i ++ cond (same n (omega arith) i) (n ∷ []) [])
+
+-- ---- the rows of blocks
+
+module _ (n size : ℕ) (ops : List MicroOp) where
+  abbrev test : ℕ → Bool
+  test k = changes n (op_at ops k)
+
+  module _ (sizes : List ℕ) (each : (k : ℕ) → k < length ops → get_or sizes k 0 ≡ size_before n size ops k) where
+    reaching_is : (block : Option ℕ) → reaching sizes ops (ids test (length ops)) block ≡ ids (touches n size ops block) (length ops)
+    reaching_is block =
+        picked_same (λ k. reaches block (get_or sizes k 0) (op_at ops k)) (λ k. reaches block (size_before n size ops k) (op_at ops k)) (length ops) (ids test (length ops))
+        (λ k low. ap (λ s. reaches block s (op_at ops k)) (each k low)) (λ k low. (ids_are test (length ops) k low).0)
+        ∙ picked_ids test (λ k. reaches block (size_before n size ops k) (op_at ops k)) (length ops)
+
+    module _ (rows : ℕ → Option (Vec ℕ)) (has : All (λ k. HasRow rows (op_at ops k)) (ids test (length ops))) where
+      has_row : (k : ℕ) → k < length ops → test k ≡ true → HasRow rows (op_at ops k)
+      has_row k low is =
+          let w = ids_have test (length ops) k low is in
+          subst (λ j. HasRow rows (op_at ops j)) w.2 (has w.0 0 w.1)
+
+      -- a block without a row is reached by cuts alone
+      one_unwritten : (block s : ℕ) → rows block ≡ None → (o : MicroOp) → (changes n o ≡ true → HasRow rows o) → (changes n o && reaches None s o) ≡ (changes n o && reaches (Some block) s o)
+      one_unwritten block s none (ChangeFileSize file to) there = refl
+      one_unwritten block s none (WriteBlock file other at bytes) there = by (file == n) (other == block) refl there
+        where
+          by : (a b : Bool) → (other == block) ≡ b → (a ≡ true → IsSome (rows other)) → (a && false) ≡ (a && b)
+          by false b is there = refl
+          by true false is there = refl
+          by true true is there = absurd (false≢true (subst IsSome (ap rows (eqb-true other block is) ∙ none) (there refl)))
+      one_unwritten block s none (CreateDirEntry p node rights) there = refl
+      one_unwritten block s none (DeleteDirEntry p kind) there = refl
+      one_unwritten block s none (MoveDirEntry p q) there = refl
+      one_unwritten block s none Say there = refl
+
+      unwritten : (block : ℕ) → rows block ≡ None → ids (touches n size ops None) (length ops) ≡ ids (touches n size ops (Some block)) (length ops)
+      unwritten block none = ids_same (touches n size ops None) (touches n size ops (Some block)) (length ops)
+          (λ k low. one_unwritten block (size_before n size ops k) none (op_at ops k) (has_row k low))
+
+      -- each block's row, or the cuts where it has none, are those that reach it
+      pub rows_are : AreRows sizes ops (ids test (length ops)) rows → (cuts : List ℕ) → cuts ≡ reaching sizes ops (ids test (length ops)) None
+          → (block : ℕ) → option_map_or (λ row. row.items) (rows block) cuts ≡ ids (touches n size ops (Some block)) (length ops)
+      rows_are are cuts cut block = by (rows block) refl
+        where
+          by : (o : Option (Vec ℕ)) → rows block ≡ o → option_map_or (λ row. row.items) o cuts ≡ ids (touches n size ops (Some block)) (length ops)
+          by (Some row) is = are block row is ∙ reaching_is (Some block)
+          by None is = cut ∙ reaching_is None ∙ unwritten block is
+
 -- ---- one micro-operation
 
 module _ (n block i : ℕ) (from : block * BLOCK_BYTES ≤ i) (end : i < block * BLOCK_BYTES + BLOCK_BYTES) where
@@ -87,16 +140,6 @@ module _ (n block i : ℕ) (from : block * BLOCK_BYTES ≤ i) (end : i < block *
       (cases_lt i (at + length piece)))
       (cases_lt i at)
 
-  -- a file that ends in a later block keeps the bytes of this one
-  later : (to : ℕ) (xs : List ℕ) → nat_le (to / BLOCK_BYTES) block ≡ false → get_or xs i 0 ≡ get_or (take to xs) i 0
-  later to xs not = sym (get_or-take to xs i 0 (let d = div-mul-le_self to BLOCK_BYTES in let l = beyond (to / BLOCK_BYTES) not in omega (arith, d, l, end)))
-    where
-      beyond : (q : ℕ) → nat_le q block ≡ false → block + 1 ≤ q
-      beyond q is = ⊎_elim
-          (λ (lt : block < q). omega (arith, lt))
-          (λ (le : q ≤ block). absurd (false≢true (sym is ∙ le-leb q block le)))
-          (cases_lt block q)
-
   -- what is written into another block leaves this one
   apart : (other at : ℕ) (piece : List ℕ) (f : Content) → at + length piece ≤ BLOCK_BYTES → (other == block) ≡ false → byte_of f i ≡ byte_of (overwritten (other * BLOCK_BYTES + at) piece f) i
   apart other at piece f fits not = ⊎_elim
@@ -111,16 +154,15 @@ module _ (n block i : ℕ) (from : block * BLOCK_BYTES ≤ i) (end : i < block *
       (cases_lt i (other * BLOCK_BYTES + at))
 
   module _ (size : ℕ) (f g : Content) (same : byte_of g i ≡ byte_of f i) where
-    cut_one : (file to : ℕ) (c : Bool) → (c ≡ true → f.size ≡ size) → byte_of (cond (c && (nat_lt to size && nat_le (to / BLOCK_BYTES) block)) (struck g (ChangeFileSize file to)) g) i ≡ byte_of (cond c (resized to f) f) i
+    cut_one : (file to : ℕ) (c : Bool) → (c ≡ true → f.size ≡ size) → byte_of (cond (c && nat_lt to size) (struck g (ChangeFileSize file to)) g) i ≡ byte_of (cond c (resized to f) f) i
     cut_one file to false sized = same
     cut_one file to true sized =
-        by (nat_lt to size) (nat_le (to / BLOCK_BYTES) block) refl
+        by (nat_lt to size)
         ∙ ap (λ s. get_or (cond (nat_lt to s) (take to f.bytes) f.bytes) i 0) (sym (sized refl))
       where
-        by : (a b : Bool) → nat_le (to / BLOCK_BYTES) block ≡ b → byte_of (cond (a && b) (struck g (ChangeFileSize file to)) g) i ≡ get_or (cond a (take to f.bytes) f.bytes) i 0
-        by true true is = taken to g.bytes f.bytes same
-        by true false is = same ∙ later to f.bytes is
-        by false b is = same
+        by : (a : Bool) → byte_of (cond a (struck g (ChangeFileSize file to)) g) i ≡ get_or (cond a (take to f.bytes) f.bytes) i 0
+        by true = taken to g.bytes f.bytes same
+        by false = same
 
     write_one : (file other at : ℕ) (piece : List ℕ) (c : Bool) → at + length piece ≤ BLOCK_BYTES
         → byte_of (cond (c && (other == block)) (struck g (WriteBlock file other at piece)) g) i ≡ byte_of (cond c (overwritten (other * BLOCK_BYTES + at) piece f) f) i
@@ -131,7 +173,7 @@ module _ (n block i : ℕ) (from : block * BLOCK_BYTES ≤ i) (end : i < block *
         by true is = over (other * BLOCK_BYTES + at) piece g f same
         by false is = same ∙ apart other at piece f fits is
 
-    one_step : (o : MicroOp) → IsFitting o → (resizes n o ≡ true → f.size ≡ size) → byte_of (cond (changes n o && reaches block size o) (struck g o) g) i ≡ byte_of (content_after n f o) i
+    one_step : (o : MicroOp) → IsFitting o → (resizes n o ≡ true → f.size ≡ size) → byte_of (cond (changes n o && reaches (Some block) size o) (struck g o) g) i ≡ byte_of (content_after n f o) i
     one_step (ChangeFileSize file to) fits sized = cut_one file to (file == n) sized
     one_step (WriteBlock file other at piece) fits sized = write_one file other at piece (file == n) fits
     one_step (CreateDirEntry p node rights) fits sized = same
@@ -177,13 +219,13 @@ module _ (n : ℕ) (start : Content) (ops : List MicroOp) (members : List Bool) 
   module _ (count block : ℕ) (fits : (k : ℕ) → k < count → IsFitting (op_at ops k))
       (closed : (j k : ℕ) → j < k → mark_at members k ≡ true → resizes n (op_at ops j) ≡ true → resizes n (op_at ops k) ≡ true → mark_at members j ≡ true) where
     abbrev shown : ℕ → Content
-    shown k = fold (member_struck ops members) start (ids (touches n start.size ops block) k)
+    shown k = fold (member_struck ops members) start (ids (touches n start.size ops (Some block)) k)
 
     module _ (i : ℕ) (from : block * BLOCK_BYTES ≤ i) (end : i < block * BLOCK_BYTES + BLOCK_BYTES) where
       agree_at : (k : ℕ) → k ≤ count → byte_of (shown k) i ≡ byte_of (left k) i
       agree_at zero low = refl
       agree_at (suc k) low =
-          ap (λ f. byte_of f i) (fold_ids (member_struck ops members) start (touches n start.size ops block) k)
+          ap (λ f. byte_of f i) (fold_ids (member_struck ops members) start (touches n start.size ops (Some block)) k)
           ∙ by (agree_at k (omega (arith, low))) (mark_at members k) refl
           ∙ sym (ap (λ f. byte_of f i) (left_more k))
         where
@@ -192,12 +234,12 @@ module _ (n : ℕ) (start : Content) (ops : List MicroOp) (members : List Bool) 
           same_both false = refl
 
           by : byte_of (shown k) i ≡ byte_of (left k) i → (b : Bool) → mark_at members k ≡ b
-              → byte_of (cond (touches n start.size ops block k) (cond b (struck (shown k) (op_at ops k)) (shown k)) (shown k)) i ≡ byte_of (cond b (content_after n (left k) (op_at ops k)) (left k)) i
+              → byte_of (cond (touches n start.size ops (Some block) k) (cond b (struck (shown k) (op_at ops k)) (shown k)) (shown k)) i ≡ byte_of (cond b (content_after n (left k) (op_at ops k)) (left k)) i
           by before true here = one_step n block i from end (size_before n start.size ops k) (left k) (shown k) before (op_at ops k) (fits k (omega (arith, low)))
               (λ is. sizes_same k (λ j less was. closed j k less here was is))
-          by before false gone = ap (λ f. byte_of f i) (same_both (touches n start.size ops block k)) ∙ before
+          by before false gone = ap (λ f. byte_of f i) (same_both (touches n start.size ops (Some block) k)) ∙ before
 
-    pub agree : AgreeIn block (struck_by ops members start (ids (touches n start.size ops block) count)) (content_left n start ops (ids (mark_at members) count))
+    pub agree : AgreeIn block (struck_by ops members start (ids (touches n start.size ops (Some block)) count)) (content_left n start ops (ids (mark_at members) count))
     unfolding content_left
     agree i from end = agree_at i from end count (omega arith) ∙ sym (ap (λ f. byte_of f i) (fold_map (content_after n) (op_at ops) start (ids (mark_at members) count)))
 
@@ -241,23 +283,3 @@ module _ (n size : ℕ) (ops : List MicroOp) (has : ℕ → Bool) where
       any_size (DeleteDirEntry p kind) is = absurd (false≢true is)
       any_size (MoveDirEntry p q) is = absurd (false≢true is)
       any_size Say is = absurd (false≢true is)
-
-  pub sized_below : (m : ℕ) → size < m → (count : ℕ) → ((k : ℕ) → k < count → size_after n 0 (op_at ops k) < m) → (k : ℕ) → k ≤ count → sized k < m
-  sized_below m first count all zero low = first
-  sized_below m first count all (suc k) low = subst (λ v. v < m) (sym (sized_more k)) (by (sized_below m first count all k (omega (arith, low))) (has k))
-    where
-      one : sized k < m → (o : MicroOp) → size_after n 0 o < m → size_after n (sized k) o < m
-      one before (ChangeFileSize file to) less = two (file == n) less
-        where
-          two : (b : Bool) → cond b to 0 < m → cond b to (sized k) < m
-          two true less = less
-          two false less = before
-      one before (WriteBlock file block at bytes) less = before
-      one before (CreateDirEntry p node rights) less = before
-      one before (DeleteDirEntry p kind) less = before
-      one before (MoveDirEntry p q) less = before
-      one before Say less = before
-
-      by : sized k < m → (b : Bool) → cond b (size_after n (sized k) (op_at ops k)) (sized k) < m
-      by before true = one before (op_at ops k) (all k (omega (arith, low)))
-      by before false = before

@@ -14,3 +14,4 @@ pub mod Gathering
 pub mod Blocks
 pub mod Including
 pub mod Striking
+pub mod Rows

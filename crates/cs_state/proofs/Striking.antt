@@ -1,13 +1,11 @@
 -- What the steps of a file say of each state: its size, and the bytes of each block.
-use Rattle.std.proofs.Common.{◌≡◌, ℕ, ◌<◌, ◌*◌, Bool, true, List, [], ◌∷◌, Some, sym, ap, ◌∙◌, subst, arith, length, map, get_or}
+use Rattle.std.proofs.Common.{◌≡◌, ℕ, ◌<◌, Bool, true, List, [], ◌∷◌, Some, sym, ap, ◌∙◌, subst, arith, length, map, get_or}
 use Rattle.std.proofs.lemmas.List.{get_or_default}
 use Rattle.std.proofs.lemmas.List.Elements.{All-cons, All-nil}
 use Rattle.std.proofs.lemmas.Option.{slice_get-get_or}
-use Rattle.std.specs.Global.{Vec}
 use Rattle.std.specs.List.{All}
 use Rattle.std.specs.Prelude.{fold, slice_get}
 use Rattle.cs_trace.specs.Operations.{Paths}
-use Rattle.cs_micro.specs.declared.blocks.TheConstants.{BLOCK_BYTES}
 use Rattle.cs_micro.specs.declared.micro_op.MicroOp.{MicroOp}
 use Rattle.cs_micro.specs.declared.micro_op.MicroOp.TheVariants.{CreateDirEntry, DeleteDirEntry, MoveDirEntry, ChangeFileSize, WriteBlock, Say}
 use Rattle.cs_micro.specs.Legal.{AreLegal, IsLegal, made_after, paths_after}
@@ -18,9 +16,9 @@ use Rattle.cs_state.specs.declared.file_steps.FileSteps.{FileSteps}
 use Rattle.cs_state.specs.declared.parts.Parts.{Parts}
 use Rattle.cs_state.specs.Parts.{bytes_before, file_in, AreMembers, AreParts}
 use Rattle.cs_state.specs.Shares.{ids, mark_at}
-use Rattle.cs_state.specs.Steps.{members_in, struck_by, touches, AgreeIn, AreFileSteps, IsFitting}
+use Rattle.cs_state.specs.Steps.{members_in, row_at, struck_by, touches, AgreeIn, AreFileSteps, IsFitting}
 use Rattle.cs_state.specs.Windows.{size_after, whole}
-use Rattle.cs_state.proofs.Blocks.{agree, fold_map, sized_below}
+use Rattle.cs_state.proofs.Blocks.{agree}
 use Rattle.cs_state.proofs.Filing.{has_flag, left_of}
 use Rattle.cs_state.proofs.Including.{closed_sizes}
 use Rattle.cs_state.proofs.Listing.{ids_are}
@@ -58,21 +56,13 @@ module _ (parts : Parts) (h : AreParts parts) (file : ℕ) (known : file < lengt
         let long = h.steps.long in
         h.steps.each file steps (slice_get-get_or parts.steps.items file steps (omega (arith, there, long)) ∙ ap Some (sym read)) changed
 
-    pub room : left.size < length steps.blocks.items * BLOCK_BYTES
-    room = subst (λ v. v < length steps.blocks.items * BLOCK_BYTES) (sym (size_is ∙ fold_map (size_after file) (op_at ops) (length start) (members_in members)))
-        (sized_below file (length start) ops (mark_at members) (length steps.blocks.items * BLOCK_BYTES) are.start (length ops) are.all (length members) (let long = set.long in omega (arith, long)))
+    pub inside : (block : ℕ) → All (λ place. place < length ops) (row_at steps block)
+    inside block = subst (All (λ place. place < length ops)) (sym (are.rows block))
+        (λ i e low. subst (λ v. v < length ops) (get_or_default (ids (touches file (length start) ops (Some block)) (length ops)) i 0 e low) (ids_are (touches file (length start) ops (Some block)) (length ops) i low).0)
 
-    pub inside : All (λ (row : Vec ℕ). All (λ place. place < length ops) row.items) steps.blocks.items
-    inside k d low i e there =
-        let row : Vec ℕ = get_or steps.blocks.items k d in
-        let is = are.blocks k row (slice_get-get_or steps.blocks.items k d low) in
-        subst (λ (ps : List ℕ). (i e : ℕ) → i < length ps → get_or ps i e < length ops) (sym is)
-        (λ i e l. subst (λ v. v < length ops) (get_or_default (ids (touches file (length start) ops k) (length ops)) i 0 e l) (ids_are (touches file (length start) ops k) (length ops) i l).0)
-        i e there
-
-    pub agrees : (block : ℕ) (row : List ℕ) → row ≡ ids (touches file (length start) ops block) (length ops) → AgreeIn block (struck_by ops members (whole start) row) left
-    agrees block row is = subst (λ r. AgreeIn block (struck_by ops members (whole start) r) left) (sym is)
-        (subst (λ f. AgreeIn block (struck_by ops members (whole start) (ids (touches file (length start) ops block) (length ops))) f)
+    pub agrees : (block : ℕ) → AgreeIn block (struck_by ops members (whole start) (row_at steps block)) left
+    agrees block = subst (λ r. AgreeIn block (struck_by ops members (whole start) r) left) (sym (are.rows block))
+        (subst (λ f. AgreeIn block (struck_by ops members (whole start) (ids (touches file (length start) ops (Some block)) (length ops))) f)
         (ap (λ k. content_left file (whole start) ops (ids (mark_at members) k)) (sym set.long) ∙ left_of parts h file (members_in members) known)
         (agree file (whole start) ops members (length ops) block
         (λ k low. all_fitting _ _ ops h.whole.atlas.legal k Say low)

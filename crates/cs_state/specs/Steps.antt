@@ -1,6 +1,9 @@
 -- The micro-operations that change a file: its size, and each of its blocks.
-use Rattle.std.specs.Prelude.{◌≡◌, ◌+◌, ◌*◌, ◌/◌, ◌<◌, ◌≤◌, ◌&&◌, ◌==◌, nat_lt, nat_le, ℕ, zero, suc, if◌then◌else◌, Bool, false, true, List, [], ◌∷◌, ◌++◌, cond, Some, length, take, fold, slice_get, slice_index_or}
+use Rattle.std.specs.Prelude.{◌≡◌, ◌+◌, ◌*◌, ◌<◌, ◌≤◌, ◌&&◌, ◌==◌, nat_lt, ℕ, zero, suc, if◌then◌else◌, Bool, false, true, List, [], ◌∷◌, ◌++◌, cond, Option, None, Some, IsSome, length, take, fold, slice_get, slice_index_or}
+use Rattle.std.specs.BTreeMap.{get}
 use Rattle.std.specs.Global.{Vec}
+use Rattle.std.specs.Option.{option_map_or}
+use Rattle.std.specs.Ordering.{nat_cmp}
 use Rattle.cs_micro.specs.declared.blocks.TheConstants.{BLOCK_BYTES}
 use Rattle.cs_micro.specs.declared.micro_op.MicroOp.{MicroOp}
 use Rattle.cs_micro.specs.declared.micro_op.MicroOp.TheVariants.{ChangeFileSize, WriteBlock}
@@ -19,10 +22,15 @@ abbrev pub resizes : ℕ → MicroOp → Bool
 resizes n (ChangeFileSize file size) = file == n
 resizes n _ = false
 
--- it cuts a file of this size in the block or before it, or writes into the block
-abbrev pub reaches : ℕ → ℕ → MicroOp → Bool
-reaches block size (ChangeFileSize file to) = nat_lt to size && nat_le (to / BLOCK_BYTES) block
-reaches block size (WriteBlock file other at bytes) = other == block
+-- it is that block
+abbrev pub is_block : Option ℕ → ℕ → Bool
+is_block None other = false
+is_block (Some block) other = other == block
+
+-- it cuts off a file of this size, or writes into the block, if there is one
+abbrev pub reaches : Option ℕ → ℕ → MicroOp → Bool
+reaches block size (ChangeFileSize file to) = nat_lt to size
+reaches block size (WriteBlock file other at bytes) = is_block block other
 reaches block size _ = false
 
 -- no file is too large, and bytes lie in their block
@@ -36,17 +44,18 @@ abbrev pub size_before : ℕ → ℕ → List MicroOp → ℕ → ℕ
 size_before n size ops zero = size
 size_before n size ops (suc k) = size_after n (size_before n size ops k) (op_at ops k)
 
--- the micro-operation at the place changes the block of the file
-abbrev pub touches : ℕ → ℕ → List MicroOp → ℕ → ℕ → Bool
+-- the micro-operation at the place cuts the file off, or writes into its block
+abbrev pub touches : ℕ → ℕ → List MicroOp → Option ℕ → ℕ → Bool
 touches n size ops block k = changes n (op_at ops k) && reaches block (size_before n size ops k) (op_at ops k)
 
--- those that change the file, which has so many bytes at the start: every size that it may have ends in
--- one of the blocks
+-- those of the file's steps that reach the block
+abbrev pub row_at : FileSteps → ℕ → List ℕ
+row_at steps block = option_map_or (λ row. row.items) (get nat_cmp steps.blocks block) steps.cuts.items
+
+-- those that change the file, which has so many bytes at the start
 pub record AreFileSteps (n size : ℕ) (ops : List MicroOp) (steps : FileSteps) : Type 0 where
   pub sizes : steps.sizes.items ≡ ids (λ k. resizes n (op_at ops k)) (length ops)
-  pub blocks : (block : ℕ) (row : Vec ℕ) → slice_get steps.blocks.items block ≡ Some row → row.items ≡ ids (touches n size ops block) (length ops)
-  pub start : size < length steps.blocks.items * BLOCK_BYTES
-  pub all : (k : ℕ) → k < length ops → size_after n 0 (op_at ops k) < length steps.blocks.items * BLOCK_BYTES
+  pub rows : (block : ℕ) → row_at steps block ≡ ids (touches n size ops (Some block)) (length ops)
 
 -- each file that something changes has those that change it
 pub record AreAllSteps (t : Trace) (ops : List MicroOp) (changed : List Bool) (all : List FileSteps) : Type 0 where
@@ -58,6 +67,19 @@ pub record AreAllSteps (t : Trace) (ops : List MicroOp) (changed : List Bool) (a
 abbrev pub picked : (ℕ → Bool) → List ℕ → List ℕ
 picked f [] = []
 picked f (k ∷ ks) = cond (f k) (k ∷ []) [] ++ picked f ks
+
+-- those of the places that reach the block, or cut the file off; it has these sizes before each
+abbrev pub reaching : List ℕ → List MicroOp → List ℕ → Option ℕ → List ℕ
+reaching sizes ops places block = picked (λ k. reaches block (slice_index_or sizes k 0) (op_at ops k)) places
+
+-- each row has those that reach its block
+abbrev pub AreRows : List ℕ → List MicroOp → List ℕ → (ℕ → Option (Vec ℕ)) → Type 0
+AreRows sizes ops places rows = (block : ℕ) (row : Vec ℕ) → rows block ≡ Some row → row.items ≡ reaching sizes ops places (Some block)
+
+-- the block that it writes into, if it writes, has a row
+abbrev pub HasRow : (ℕ → Option (Vec ℕ)) → MicroOp → Type 0
+HasRow rows (WriteBlock file block at bytes) = IsSome (rows block)
+HasRow rows _ = Unit {0}
 
 -- ---- a part of a file
 

@@ -1,7 +1,6 @@
 //! The bytes of a state's file: those at the start, with what the members of its set wrote.
 
-ghost use Rattle.std.specs.Prelude.{◌≡◌, ◌≢◌, ◌+◌, ◌*◌, ◌<◌, ◌≤◌, ◌^◌, ◌⊎◌, [], ℕ, true, false, Some, drop, fold, length, map, slice_get, slice_index_or, take, IfOk, IsErr};
-ghost use Rattle.std.specs.Global.{Vec};
+ghost use Rattle.std.specs.Prelude.{◌≡◌, ◌≢◌, ◌+◌, ◌*◌, ◌<◌, ◌≤◌, ◌^◌, ◌⊎◌, [], ℕ, true, false, drop, fold, length, map, slice_index_or, take, IfOk, IsErr};
 ghost use Rattle.std.specs.List.{All};
 ghost use Rattle.cs_names.specs.declared.limits.TheConstants.{FILE_BYTES};
 ghost use Rattle.cs_apm.specs.Contents.{IsSmall};
@@ -9,10 +8,10 @@ ghost use Rattle.cs_apm.specs.Rules.{op_at};
 ghost use Rattle.cs_apm.specs.States.{Content, overwritten};
 ghost use Rattle.cs_state.specs.Numbers.{kept_at};
 ghost use Rattle.cs_state.specs.Shares.{ids, mark_at};
-ghost use Rattle.cs_state.specs.Steps.{members_in, resizes, struck, struck_by, AgreeIn, IsPartIn};
+ghost use Rattle.cs_state.specs.Steps.{members_in, resizes, row_at, struck, struck_by, AgreeIn, IsPartIn};
 ghost use Rattle.cs_state.specs.Windows.{size_after, whole, IsPart};
 
-use crate::file_steps::size_after;
+use crate::file_steps::{FileSteps, size_after};
 use crate::members::{first_members, is_member};
 use cs_apm::content::put_at;
 use cs_micro::{BLOCK_BYTES, MicroOp};
@@ -159,30 +158,30 @@ fn take_block(
     take(&mut part[from..end], offset + from, ops, places, members);
 }
 
-/// So many bytes from an offset on that the members leave of a file, which had these. For each block there
-/// are those that reach it.
+/// So many bytes from an offset on that the members leave of a file, which had these, by the steps that
+/// change it.
 pub fn part_left(
     alloc: Global,
     start: &[u8],
     ops: &[MicroOp],
-    blocks: &[Vec<u32>],
+    steps: &FileSteps,
     members: &[bool],
     offset: usize,
     count: usize,
 ) -> Result<Vec<u8>, AllocError>
     requires some { 0 < count }
-    requires room { offset + count ≤ length blocks.now * BLOCK_BYTES }
     requires few { offset + count < 2 ^ 64 }
     requires small { All IsSmall ops.now }
-    requires inside { All (λ row. All (λ place. place < length ops.now) row.items) blocks.now }
+    requires inside { (block : ℕ) → All (λ place. place < length ops.now) (row_at steps.now block) }
     ensures long { IfOk result (λ part. length part.items ≡ count) }
-    ensures part { IfOk result (λ part. (g : Content) → ((block : ℕ) (row : Vec ℕ) → slice_get blocks.now block ≡ Some row → AgreeIn block (struck_by ops.now members.now (whole start.now) row.items) g) → IsPart offset g part.items) }
+    ensures part { IfOk result (λ part. (g : Content) → ((block : ℕ) → AgreeIn block (struck_by ops.now members.now (whole start.now) (row_at steps.now block)) g) → IsPart offset g part.items) }
 {
     let mut part = copied(alloc, start, offset, count)?;
     let first = offset / BLOCK_BYTES as usize;
     let last = (offset + count - 1) / BLOCK_BYTES as usize;
     for block in first..last + 1 {
-        take_block(&mut part, offset, block, ops, &blocks[block], members);
+        let row = steps.row(block as u64);
+        take_block(&mut part, offset, block, ops, row, members);
     }
     Ok(part)
 }

@@ -1,27 +1,32 @@
 //! Which micro-operations of a trace change a file, and which of its blocks.
-ghost use Rattle.std.specs.Prelude.{◌≡◌, ◌<◌, ◌≤◌, ◌^◌, ℕ, true, Some, length, slice_get, slice_index_or, IfOk};
-ghost use Rattle.std.specs.Global.{Vec};
+ghost use Rattle.std.specs.Prelude.{◌≡◌, ◌<◌, ◌^◌, ℕ, true, None, Some, length, slice_get, slice_index_or, IfOk, IsSome, OnOk};
+ghost use Rattle.std.specs.BTreeMap.{get};
 ghost use Rattle.std.specs.List.{All};
+ghost use Rattle.std.specs.Ordering.{nat_cmp};
 ghost use Rattle.cs_apm.specs.Atlases.{content_before, AreStarts};
 ghost use Rattle.cs_apm.specs.Contents.{changes};
 ghost use Rattle.cs_apm.specs.Rules.{op_at};
 ghost use Rattle.cs_state.specs.Shares.{ids};
-ghost use Rattle.cs_state.specs.Steps.{picked, reaches, resizes, size_before, AreAllSteps, AreFileSteps};
+ghost use Rattle.cs_state.specs.Steps.{reaches, reaching, resizes, row_at, size_before, AreAllSteps, AreFileSteps, AreRows, HasRow};
 ghost use Rattle.cs_state.specs.Windows.{size_after};
 
 use crate::marks::push_if;
 use cs_apm::tables::Tables;
-use cs_micro::{BLOCK_BYTES, MicroOp};
+use cs_micro::MicroOp;
 use cs_trace::Trace;
 use std::alloc::{AllocError, Global};
+use std::collections::BTreeMap;
 
 /// The places of the micro-operations that change a file.
 #[derive(Debug, Drop)]
 pub struct FileSteps {
     /// Those that change its size.
     pub sizes: Vec<u32>,
-    /// For each of its blocks those that write into it or cut it off, up to the last that it ever has.
-    pub blocks: Vec<Vec<u32>>,
+    /// Those that cut it off: no other reaches a block that none writes into.
+    pub cuts: Vec<u32>,
+    /// For each block that one writes into, by its number: those that do, and those that cut the file
+    /// off.
+    pub blocks: BTreeMap<u64, Vec<u32>>,
 }
 
 /// The file's size after a micro-operation.
@@ -53,15 +58,14 @@ fn resizes(file: usize, op: &MicroOp) -> bool
     }
 }
 
-/// Whether the micro-operation writes into the block of its file, which has this size, or cuts it off.
-fn reaches(block: u64, size: u64, op: &MicroOp) -> bool
+/// Whether the micro-operation cuts off its file, which has this size, or writes into the block, if there
+/// is one.
+fn reaches(block: Option<u64>, size: u64, op: &MicroOp) -> bool
     ensures { result ≡ reaches block size op.now }
 {
     match op {
-        MicroOp::ChangeFileSize { length, .. } => {
-            *length < size && *length / BLOCK_BYTES <= block
-        }
-        MicroOp::WriteBlock { block: other, .. } => *other == block,
+        MicroOp::ChangeFileSize { length, .. } => *length < size,
+        MicroOp::WriteBlock { block: other, .. } => block == Some(*other),
         _ => false,
     }
 }
@@ -97,18 +101,6 @@ fn sizes_before(
     Ok(sizes)
 }
 
-/// The largest size that the file may have.
-fn largest_size(file: usize, start: u64, ops: &[MicroOp]) -> u64
-    ensures start { start ≤ result }
-    ensures all { (k : ℕ) → k < length ops.now → size_after file 0 (op_at ops.now k) ≤ result }
-{
-    let mut largest = start;
-    for op in ops {
-        largest = largest.max(size_after(file, 0, op));
-    }
-    largest
-}
-
 /// The places of those that change the size of the file.
 fn resizing(alloc: Global, file: usize, ops: &[MicroOp]) -> Result<Vec<u32>, AllocError>
     requires { length ops.now < 2 ^ 20 }
@@ -133,10 +125,11 @@ fn changing(alloc: Global, file: usize, ops: &[MicroOp]) -> Result<Vec<u32>, All
     Ok(places)
 }
 
-/// Those of the places whose micro-operations reach the block; the file's size before each is given.
+/// Those of the places whose micro-operations reach the block, or cut the file off; its size before each is
+/// given.
 fn reaching(
     alloc: Global,
-    block: u64,
+    block: Option<u64>,
     sizes: &[u64],
     ops: &[MicroOp],
     places: &[u32],
@@ -144,7 +137,7 @@ fn reaching(
     requires few { length ops.now < 2 ^ 20 }
     requires long { length sizes.now ≡ length ops.now }
     requires inside { All (λ place. place < length ops.now) places.now }
-    ensures { IfOk result (λ found. found.items ≡ picked (λ k. reaches block (slice_index_or sizes.now k 0) (op_at ops.now k)) places.now) }
+    ensures { IfOk result (λ found. found.items ≡ reaching sizes.now ops.now places.now block) }
 {
     let mut found = Vec::new(alloc);
     for place in places {
@@ -154,23 +147,48 @@ fn reaching(
     Ok(found)
 }
 
-/// For each of so many blocks the places of those that reach it.
-fn block_rows(
+/// Gives the block a row, if it has none.
+fn add_row(
     alloc: Global,
-    count: usize,
+    rows: &mut BTreeMap<u64, Vec<u32>>,
+    block: u64,
     sizes: &[u64],
     ops: &[MicroOp],
     places: &[u32],
-) -> Result<Vec<Vec<u32>>, AllocError>
+) -> Result<(), AllocError>
     requires few { length ops.now < 2 ^ 20 }
     requires long { length sizes.now ≡ length ops.now }
     requires inside { All (λ place. place < length ops.now) places.now }
-    ensures long { IfOk result (λ rows. length rows.items ≡ count) }
-    ensures each { IfOk result (λ rows. (block : ℕ) (row : Vec ℕ) → slice_get rows.items block ≡ Some row → row.items ≡ picked (λ k. reaches block (slice_index_or sizes.now k 0) (op_at ops.now k)) places.now) }
+    ensures each { OnOk result (AreRows sizes.now ops.now places.now (get nat_cmp rows.old) → AreRows sizes.now ops.now places.now (get nat_cmp rows.new)) }
+    ensures keeps { OnOk result ((other : ℕ) → IsSome (get nat_cmp rows.old other) → IsSome (get nat_cmp rows.new other)) }
+    ensures there { OnOk result (IsSome (get nat_cmp rows.new block)) }
 {
-    let mut rows = Vec::new(alloc);
-    for block in 0..count {
-        rows.push(reaching(alloc, block as u64, sizes, ops, places)?)?;
+    if rows.contains_key(&block) {
+        return Ok(());
+    }
+    let row = reaching(alloc, Some(block), sizes, ops, places)?;
+    rows.insert(block, row)?;
+    Ok(())
+}
+
+/// For each block that one of the places writes into those that reach it.
+fn block_rows(
+    alloc: Global,
+    sizes: &[u64],
+    ops: &[MicroOp],
+    places: &[u32],
+) -> Result<BTreeMap<u64, Vec<u32>>, AllocError>
+    requires few { length ops.now < 2 ^ 20 }
+    requires long { length sizes.now ≡ length ops.now }
+    requires inside { All (λ place. place < length ops.now) places.now }
+    ensures each { IfOk result (λ rows. AreRows sizes.now ops.now places.now (get nat_cmp rows)) }
+    ensures written { IfOk result (λ rows. All (λ place. HasRow (get nat_cmp rows) (op_at ops.now place)) places.now) }
+{
+    let mut rows = BTreeMap::new(alloc);
+    for place in places {
+        if let MicroOp::WriteBlock { block, .. } = &ops[*place as usize] {
+            add_row(alloc, &mut rows, *block, sizes, ops, places)?;
+        }
     }
     Ok(rows)
 }
@@ -180,7 +198,8 @@ impl FileSteps {
     fn none(alloc: Global) -> FileSteps {
         FileSteps {
             sizes: Vec::new(alloc),
-            blocks: Vec::new(alloc),
+            cuts: Vec::new(alloc),
+            blocks: BTreeMap::new(alloc),
         }
     }
 
@@ -196,10 +215,24 @@ impl FileSteps {
     {
         let sizes = sizes_before(alloc, file, start as u64, ops)?;
         let places = changing(alloc, file, ops)?;
-        let count = (largest_size(file, start as u64, ops) / BLOCK_BYTES) as usize + 1;
-        let blocks = block_rows(alloc, count, &sizes, ops, &places)?;
+        let cuts = reaching(alloc, None, &sizes, ops, &places)?;
+        let blocks = block_rows(alloc, &sizes, ops, &places)?;
         let sizes = resizing(alloc, file, ops)?;
-        Ok(FileSteps { sizes, blocks })
+        Ok(FileSteps {
+            sizes,
+            cuts,
+            blocks,
+        })
+    }
+
+    /// Those that reach the block.
+    pub fn row(&self, block: u64) -> &[u32]
+        ensures { result.now ≡ row_at self.now block }
+    {
+        match self.blocks.get(&block) {
+            Some(row) => row,
+            None => &self.cuts,
+        }
     }
 }
 

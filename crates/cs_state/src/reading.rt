@@ -82,9 +82,9 @@ fn changed_part(
     ensures long { IfOk result (λ part. length part.items ≡ count) }
     ensures part { IfOk result (λ part. IsPart offset (file_in parts.now (members_in members.now) file) part.items) }
 {
-    let blocks = &parts.steps[file as usize].blocks;
+    let steps = &parts.steps[file as usize];
     let ops = parts.micros.ops();
-    let part = part_left(alloc, start, ops, blocks, members, offset, count)?;
+    let part = part_left(alloc, start, ops, steps, members, offset, count)?;
     Ok(part)
 }
 

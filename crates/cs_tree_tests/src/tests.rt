@@ -12,3 +12,4 @@ mod runs;
 mod shown;
 mod start;
 mod states;
+mod steps;

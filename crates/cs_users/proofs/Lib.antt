@@ -1,6 +1,9 @@
+pub mod Ascending
 pub mod Belonging
+pub mod Grouping
 pub mod Keys
 pub mod Lines
+pub mod Membership
 pub mod Naming
 pub mod Places
 pub mod Texts

@@ -2,14 +2,14 @@
 use Rattle.std.proofs.Common.{◌≡◌, ◌≢◌, ℕ, suc, ◌<◌, Bool, true, false, cond, ◌&&◌, ◌||◌, List, [], ◌∷◌, ◌++◌, length, refl, sym, subst, ap, ◌∙◌, arith}
 use Rattle.std.specs.Prelude.{Option, Some, slice_index_or, AllPairs, All}
 use Rattle.std.specs.Cmp.Lexicographic.{bytes_decides}
-use Rattle.std.specs.List.{list_any}
+use Rattle.std.specs.List.{find, list_any}
 use Rattle.std.specs.Option.{option_map_or}
 use Rattle.std.proofs.lemmas.Bool.{false_from_ne_true}
 use Rattle.std.proofs.lemmas.List.Folds.{Any-from_list_any, list_any_at, list_any_none}
 use Rattle.std.proofs.lemmas.List.Elements.{All-push}
 use Rattle.std.proofs.lemmas.List.Quantifiers.{all_pairs_push}
 use Rattle.cs_names.specs.Legal.{IsUserName}
-use Rattle.cs_users.specs.Members.{is_known, row_named, same_name}
+use Rattle.cs_users.specs.Members.{is_known, same_name}
 use Rattle.cs_users.specs.Rows.{Row, AreNamed}
 
 pub or_false : (a b : Bool) → (a || b) ≡ false → (a ≡ false) × (b ≡ false)
@@ -45,6 +45,10 @@ or-false : (a b : Bool) → b ≡ false → (a || b) ≡ a
 or-false true b h = refl
 or-false false b h = h
 
+-- the first row of that name, if there is one
+abbrev pub row_named : List Row → List ℕ → Option Row
+row_named rows name = find (λ row. same_name row.name name) rows
+
 asked_by : (named : Bool) (p : Row → Bool) (row : Row) (others : Bool) (rest : Option Row) → others ≡ option_map_or p rest false → (named ≡ true → others ≡ false)
     → ((named && p row) || others) ≡ option_map_or p (cond named (Some row) rest) false
 asked_by true p row others rest e none = or-false (p row) others (none refl)
@@ -60,10 +64,6 @@ asked_along p (row ∷ rows) name pairs =
 -- what is asked of each row of a name is asked of the one row of that name
 pub list_any-named : (p : Row → Bool) (rows : List Row) (name : List ℕ) → AreNamed rows → list_any (λ r. same_name r.name name && p r) rows ≡ option_map_or p (row_named rows name) false
 list_any-named p rows name named = asked_along p rows name named.distinct
-
--- the same, by what a look-up has told
-pub list_any-found : (p : Row → Bool) (rows : List Row) (name : List ℕ) (found : Option Row) → AreNamed rows → found ≡ row_named rows name → list_any (λ r. same_name r.name name && p r) rows ≡ option_map_or p found false
-list_any-found p rows name found named told = list_any-named p rows name named ∙ ap (λ (o : Option Row). option_map_or p o false) (sym told)
 
 -- a name that a row has is legal
 pub IsUserName-known : (rows : List Row) (name : List ℕ) → AreNamed rows → is_known rows name ≡ true → IsUserName name

@@ -2,6 +2,8 @@ pub mod Faults
 pub mod Rows
 pub mod Fields
 pub mod Members
+pub mod Groups
+pub mod Kept
 pub mod Places
 pub mod Reading
 pub mod Rights

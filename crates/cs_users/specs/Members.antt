@@ -1,6 +1,6 @@
 -- Who is known, who is a member of a group and who leads it, by the rows of the users file.
-use Rattle.std.specs.Prelude.{◌≡◌, ◌≢◌, ◌⊎◌, ℕ, Bool, ◌&&◌, ◌||◌, not, List, [], Option, Any, Contains}
-use Rattle.std.specs.List.{find, list_any}
+use Rattle.std.specs.Prelude.{◌≡◌, ◌≢◌, ◌⊎◌, ℕ, Bool, ◌&&◌, ◌||◌, not, List, [], Any, Contains}
+use Rattle.std.specs.List.{list_any}
 use Rattle.cs_names.specs.Texts.{same_bytes}
 use Rattle.cs_users.specs.Rows.{Row, none_name}
 
@@ -33,10 +33,6 @@ pub record IsLeader (rows : List Row) (user group : List ℕ) : Type 0 where
 -- the tests of the same: two names have the same bytes
 abbrev pub same_name : List ℕ → List ℕ → Bool
 same_name = same_bytes
-
--- the first row of that name, if there is one
-abbrev pub row_named : List Row → List ℕ → Option Row
-row_named rows name = find (λ row. same_name row.name name) rows
 
 -- a row has that name
 abbrev pub is_known : List Row → List ℕ → Bool

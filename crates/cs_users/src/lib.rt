@@ -3,12 +3,12 @@
 #![tactic(auto)]
 
 pub mod fault;
+mod groups;
 mod keeping;
 mod reading;
 pub mod rights;
 mod row;
-#[cfg(test)]
-mod tests;
+mod rows;
 pub mod users;
 
 pub use fault::UsersFault;

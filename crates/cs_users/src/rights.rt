@@ -2,7 +2,8 @@
 ghost use Rattle.std.specs.Prelude.{◌≡◌, ◌≤◌, ◌↔◌, IsTrue};
 ghost use Rattle.cs_users.specs.Rights.{HasRight, Owns, bit_of, has_bit, has_right, owns};
 
-use crate::users::{Users, is_none};
+use crate::rows::is_none;
+use crate::users::Users;
 
 /// A right on a file; on a directory Execute is the right to search it (intro(5)).
 #[derive(Clone, Copy, Debug, PartialEq, Eq)]

@@ -1,11 +1,10 @@
 //! A line of the users file, as it stands there and as it is kept.
 ghost use Rattle.std.specs.Prelude.{◌≡◌, IfOk};
-ghost use Rattle.std.specs.List.{list_any};
 ghost use Rattle.std.specs.Option.{option_map};
 ghost use Rattle.cs_names.specs.Legal.{IsUserName};
 ghost use Rattle.cs_names.specs.Pieces.{pieces};
+ghost use Rattle.cs_names.specs.PiecesLeft.{pieces_left};
 ghost use Rattle.cs_users.specs.Fields.{row_of};
-ghost use Rattle.cs_users.specs.Members.{same_name};
 ghost use Rattle.cs_users.specs.Reading.{is_skipped, row_in, row_of_fields};
 
 use cs_names::{NameFault, Pieces, UserName};
@@ -105,15 +104,16 @@ impl Row {
         self.name.as_bytes()
     }
 
-    pub(crate) fn is_led_by(&self, leader: &[u8]) -> bool
-        ensures { result ≡ same_name self.now.leader leader.now }
+    pub(crate) fn leader(&self) -> &[u8]
+        ensures { result.now ≡ self.now.leader }
     {
-        self.leader.as_slice() == leader
+        self.leader.as_slice()
     }
 
-    pub(crate) fn lists(&self, user: &[u8]) -> bool
-        ensures { result ≡ list_any (λ member. same_name member user.now) self.now.members }
+    /// The users that the line lists.
+    pub(crate) fn members(&self) -> Pieces<'_>
+        ensures { pieces_left result ≡ self.now.members }
     {
-        Pieces::of(self.members.as_slice(), b',').any(|member| member == user)
+        Pieces::of(self.members.as_slice(), b',')
     }
 }

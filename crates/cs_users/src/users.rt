@@ -1,28 +1,30 @@
 //! Who is known, who belongs to a group, and who leads it.
-ghost use Rattle.std.specs.Prelude.{◌≡◌, ◌↔◌, [], ◌∷◌, ◌++◌, false, IfOk, IsTrue};
-ghost use Rattle.std.specs.Option.{option_copied};
+ghost use Rattle.std.specs.Prelude.{◌≡◌, ◌⊎◌, ◌↔◌, ◌<◌, Ok, Err, length, IfErr, IfOk, IfSome, IsSome, IsTrue};
 ghost use Rattle.cs_names.specs.Legal.{IsUserName};
+ghost use Rattle.cs_names.specs.Pieces.{pieces};
 ghost use Rattle.cs_names.specs.Reading.{ReadsAs};
-ghost use Rattle.cs_users.specs.Members.{IsKnown, IsMember, IsLeader, is_known, is_member, is_leader, has_leader, lists, row_named, same_name};
-ghost use Rattle.cs_users.specs.Reading.{users_in};
-ghost use Rattle.cs_users.specs.Rows.{AreNamed, none_name};
+ghost use Rattle.cs_names.specs.Texts.{is_text};
+ghost use Rattle.cs_users.specs.Groups.{members_of, name_at};
+ghost use Rattle.cs_users.specs.Members.{IsKnown, IsMember, IsLeader, is_known, is_member, is_leader};
+ghost use Rattle.cs_users.specs.Reading.{rows_or_fault, users_in};
+ghost use Rattle.cs_users.specs.Rows.{AreNamed};
 
 use crate::fault::UsersFault;
+use crate::groups::{Group, groups_of};
 use crate::keeping::keep_lines;
 use crate::reading::check_lines;
-use crate::row::Row;
+use crate::rows::Rows;
 use cs_names::is_text;
-use std::alloc::{AllocError, Global};
-use std::collections::BTreeMap;
+use std::alloc::Global;
 use std::marker::Model;
 
 /// The users and groups of a users file, users(6), each with a legal name of its own. Contracts see
 /// what the file's lines say, in their order: the list of its rows.
 #[derive(Debug, Drop)]
 pub struct Users {
-    rows: Vec<Row>,
-    // the place of each name's row
-    places: BTreeMap<Vec<u8>, usize>,
+    rows: Rows,
+    // what each row says of others
+    groups: Vec<Group>,
 }
 
 impl Model for Users {
@@ -31,18 +33,11 @@ impl Model for Users {
 
     ghost Value = { List Row };
 
-    ghost use Rattle.cs_users.specs.Places.{IsIndexed};
+    ghost use Rattle.cs_users.specs.Kept.{AreKept};
 
-    ghost view = { λ users. users.rows.items };
+    ghost view = { λ users. users.rows };
 
-    ghost invariant = { λ users. IsIndexed users.rows.items users.places };
-}
-
-/// Whether it is the user `none`, who belongs to no group, leads none and owns nothing.
-pub(crate) fn is_none(user: &[u8]) -> bool
-    ensures { result ≡ same_name user.now none_name }
-{
-    user == b"none".as_slice()
+    ghost invariant = { λ users. AreKept users.rows users.groups.items };
 }
 
 impl Users {
@@ -57,7 +52,7 @@ impl Users {
         if !is_text(bytes) {
             return Err(UsersFault::NotText);
         }
-        match keep_lines(alloc, bytes) {
+        match Users::keep(alloc, bytes) {
             Ok(users) => Ok(users),
             Err(UsersFault::Memory) => {
                 check_lines(bytes)?;
@@ -67,38 +62,16 @@ impl Users {
         }
     }
 
-    /// A file with no line.
-    pub(crate) fn new(alloc: Global) -> Users
-        ensures { result ≡ [] }
+    /// The same of a text; Memory as soon as a growth is refused, whatever later lines say.
+    fn keep(alloc: Global, text: &[u8]) -> Result<Users, UsersFault>
+        requires { IsTrue (is_text text.now) }
+        ensures kept { IfOk result (λ users. rows_or_fault (pieces 10 text.now) ≡ Ok users) }
+        ensures named { IfOk result AreNamed }
+        ensures fault { IfErr result (λ fault. (fault ≡ UsersFault.Memory) ⊎ (rows_or_fault (pieces 10 text.now) ≡ Err fault)) }
     {
-        Users {
-            rows: Vec::new(alloc),
-            places: BTreeMap::new(alloc),
-        }
-    }
-
-    /// The same with one more row at the end.
-    pub(crate) fn with(self, alloc: Global, row: Row) -> Result<Users, AllocError>
-        requires { is_known self row.name ≡ false }
-        ensures { IfOk result (λ more. more ≡ self ++ row ∷ []) }
-    {
-        let Users {
-            mut rows,
-            mut places,
-        } = self;
-        let name = Vec::from_slice(alloc, row.name())?;
-        places.insert(name, rows.len())?;
-        rows.push(row)?;
-        Ok(Users { rows, places })
-    }
-
-    /// The row of that name.
-    fn row_named(&self, name: &[u8]) -> Option<&Row>
-        ensures row { option_copied result ≡ row_named self.now name.now }
-        ensures named { AreNamed self.now }
-    {
-        let place = self.places.get(name)?;
-        Some(&self.rows[*place])
+        let rows = keep_lines(alloc, text)?;
+        let groups = groups_of(alloc, &rows)?;
+        Ok(Users { rows, groups })
     }
 
     /// Whether a line has that name, which is then a legal user name.
@@ -107,7 +80,7 @@ impl Users {
         ensures known { IsTrue result ↔ IsKnown self.now name.now }
         ensures legal { IsTrue result → IsUserName name.now }
     {
-        self.row_named(name).is_some()
+        self.rows.knows(name)
     }
 
     /// Whether the user is a member of the group: both are known, the user is not `none`, and is the
@@ -116,10 +89,13 @@ impl Users {
         ensures test { result ≡ is_member self.now user.now group.now }
         ensures member { IsTrue result ↔ IsMember self.now user.now group.now }
     {
-        self.knows(user)
-            && self.knows(group)
-            && !is_none(user)
-            && (user == group || self.lists(group, user))
+        let Some(place) = self.rows.place_of(user) else {
+            return false;
+        };
+        match self.rows.place_of(group) {
+            Some(line) => self.has_member(line, place),
+            None => false,
+        }
     }
 
     /// Whether the user leads the group: both are known, the user is not `none`, and is the group's
@@ -128,28 +104,44 @@ impl Users {
         ensures test { result ≡ is_leader self.now user.now group.now }
         ensures leader { IsTrue result ↔ IsLeader self.now user.now group.now }
     {
-        self.knows(user)
-            && self.knows(group)
-            && !is_none(user)
-            && (self.has_leader(group, user)
-                || (self.has_leader(group, b"".as_slice()) && self.is_member(user, group)))
-    }
-
-    fn lists(&self, group: &[u8], user: &[u8]) -> bool
-        ensures { result ≡ lists self.now group.now user.now }
-    {
-        match self.row_named(group) {
-            Some(row) => row.lists(user),
+        let Some(place) = self.rows.place_of(user) else {
+            return false;
+        };
+        match self.rows.place_of(group) {
+            Some(line) => self.has_leader(line, place),
             None => false,
         }
     }
 
-    fn has_leader(&self, group: &[u8], leader: &[u8]) -> bool
-        ensures { result ≡ has_leader self.now group.now leader.now }
+    /// The places, from 0, of the rows whose users are members of the group at that place, in
+    /// ascending order; None past the last row.
+    pub fn members(&self, group: usize) -> Option<&[usize]>
+        ensures some { IsSome result ↔ (group < length self.now) }
+        ensures members { IfSome result (λ places. places.now ≡ members_of self.now group) }
     {
-        match self.row_named(group) {
-            Some(row) => row.is_led_by(leader),
-            None => false,
+        if group >= self.groups.len() {
+            return None;
         }
+        Some(self.groups[group].members())
+    }
+
+    /// Whether the user at that place is a member of the group at that place.
+    fn has_member(&self, group: usize, user: usize) -> bool
+        requires group { group < length self.now }
+        requires user { user < length self.now }
+        ensures { result ≡ is_member self.now (name_at self.now user) (name_at self.now group) }
+    {
+        self.groups[group].has(user)
+    }
+
+    /// Whether the user at that place leads the group at that place.
+    fn has_leader(&self, group: usize, user: usize) -> bool
+        requires group { group < length self.now }
+        requires user { user < length self.now }
+        ensures { result ≡ is_leader self.now (name_at self.now user) (name_at self.now group) }
+    {
+        let row = self.rows.at(group);
+        self.groups[group].is_led_by(user)
+            || (row.leader().is_empty() && self.has_member(group, user))
     }
 }

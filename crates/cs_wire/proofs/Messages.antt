@@ -13,7 +13,7 @@ use Rattle.cs_wire.specs.declared.kind.RKind.TheVariants as rk
 use Rattle.cs_wire.specs.Fields.{spelled}
 use Rattle.cs_wire.specs.Messages.{Side, Message, IsMessage, fields_of, FieldsFit, spelling, requests, replies, t_number, t_kind_of, r_number, r_kind_of}
 use Rattle.cs_wire.specs.Reading.{◌>>=◌, number_at, whole, field_at, header_at, known, all_of, message_of}
-use Rattle.cs_wire.specs.Answers.{Decodes, Gives, IsReadBack}
+use Rattle.cs_wire.specs.Answers.{Decodes, Gives, IsReadBack, ReadsSome}
 use Rattle.cs_wire.proofs.Numbers.{IsBytes, bind_ok, guard_ok, test_ok, ok_is, whole_ok, Took-then, wide8, wide16, wide32, number_takes, number_again}
 use Rattle.cs_wire.proofs.Fields.{field_takes, field_again}
 
@@ -175,14 +175,21 @@ pub is_found : {K M : Type 0} (side : Side K) → IsSide side → (view : M → 
 is_found side lawful view bytes (Ok v) fits given = message_takes side lawful bytes (view v) fits given
 is_found side lawful view bytes (Err e) fits given = tt
 
-pub gives_so : {X Y : Type 0} (view : X → Y) (r : Result X WireFault) (read : Result Y WireFault) → Decodes view r read → Gives view r read
+pub gives_so : {X K : Type 0} {side : Side K} (view : X → Message side) (r : Result X WireFault) (read : Result (Message side) WireFault) → Decodes view r read → Gives view r read
 gives_so view (Ok x) read given = given
 gives_so view (Err faults.Memory) read given = tt
 gives_so view (Err e) read given = given.0 (λ same. absurd cc)
 
-pub memory_last : {X Y : Type 0} (view : X → Y) (r : Result X WireFault) (read : Result Y WireFault) → Decodes view r read → IsErrOf r faults.Memory → IsOk read
-memory_last view (Ok x) read given memory = absurd cc
-memory_last view (Err e) read given memory = given.1 (cc memory)
+pub some_last : {X K : Type 0} {side : Side K} (view : X → Message side) (r : Result X WireFault) (read : Result (Message side) WireFault) → Decodes view r read → IsErrOf r faults.Memory → ReadsSome read
+some_last view (Ok x) read given memory = absurd cc
+some_last view (Err e) read given memory = given.1 (cc memory)
+
+is_read_some : {K : Type 0} {side : Side K} (read : Result (Message side) WireFault) → ReadsSome read → IsOk read
+is_read_some (Ok m) takes = refl
+is_read_some (Err e) takes = absurd takes
+
+pub memory_last : {X K : Type 0} {side : Side K} (view : X → Message side) (r : Result X WireFault) (read : Result (Message side) WireFault) → Decodes view r read → IsErrOf r faults.Memory → IsOk read
+memory_last view r read given memory = is_read_some read (some_last view r read given memory)
 
 pub is_read : {K M : Type 0} (side : Side K) → IsSide side → (view : M → Message side) (bytes : List ℕ) (r : Result M WireFault) → Decodes view r (message_of side bytes) → (m : Message side) → IsMessage m → bytes ≡ spelling m → Gives view r (Ok m)
 is_read side lawful view bytes r given m fits spelled_so = subst (λ read. Gives view r read) (ap (message_of side) spelled_so ∙ message_again side lawful m fits) (gives_so view r (message_of side bytes) given)

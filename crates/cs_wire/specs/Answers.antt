@@ -1,8 +1,8 @@
 -- What calls that read answer.
-use Rattle.std.specs.Prelude.{◌≡◌, ◌≢◌, ◌++◌, [], List, ℕ, Result, Ok, Err, IsOk}
+use Rattle.std.specs.Prelude.{◌≡◌, ◌≢◌, ◌++◌, [], true, List, ℕ, Result, Ok, Err, IsOkAnd}
 use Rattle.cs_wire.specs.declared.fault.WireFault.{WireFault}
 use Rattle.cs_wire.specs.declared.fault.WireFault.TheVariants as faults
-use Rattle.cs_wire.specs.Messages.{Side, Message, Fits, spelling}
+use Rattle.cs_wire.specs.Messages.{Side, Message, Fits, spelling, takes_memory}
 use Rattle.cs_wire.specs.Reading.{message_of}
 
 -- the fault is the first one of reading, which is never want of memory
@@ -19,12 +19,20 @@ abbrev pub FindsFront : {X Y : Type 0} → (X → Y) → Result X WireFault → 
 FindsFront view (Ok x) rest read = read ≡ Ok (view x, rest)
 FindsFront view (Err e) rest read = IsFault e read
 
--- the fault is the first one of reading; memory ran out only where reading finds none
-abbrev pub FailsLast : {Y : Type 0} → WireFault → Result Y WireFault → Type 0
-FailsLast e read = (e ≢ faults.Memory → read ≡ Err e) × (e ≡ faults.Memory → IsOk read)
+-- the message that was read takes memory
+abbrev pub ReadsSome : {K : Type 0} {side : Side K} → Result (Message side) WireFault → Type 0
+ReadsSome read = IsOkAnd read (λ m. takes_memory m ≡ true)
+
+-- the bytes are a message that takes memory
+abbrev pub TakesMemory : {K : Type 0} → Side K → List ℕ → Type 0
+TakesMemory side bytes = ReadsSome (message_of side bytes)
+
+-- the fault is the first one of reading; memory ran out only where what is read takes some
+abbrev pub FailsLast : {K : Type 0} {side : Side K} → WireFault → Result (Message side) WireFault → Type 0
+FailsLast e read = (e ≢ faults.Memory → read ≡ Err e) × (e ≡ faults.Memory → ReadsSome read)
 
 -- what a call answered, seen by view, is what reading gives, and want of memory comes last
-abbrev pub Decodes : {X Y : Type 0} → (X → Y) → Result X WireFault → Result Y WireFault → Type 0
+abbrev pub Decodes : {X K : Type 0} {side : Side K} → (X → Message side) → Result X WireFault → Result (Message side) WireFault → Type 0
 Decodes view (Ok x) read = read ≡ Ok (view x)
 Decodes view (Err e) read = FailsLast e read
 

@@ -39,14 +39,18 @@ Value (Several s) = List (Value s)
 Value (Boxed s) = Value s
 Value (s ▸ t) = Value s × Value t
 
--- what the field holds is bytes, or a list of values
-abbrev pub holds_bytes : Shape → Bool
-holds_bytes Text = true
-holds_bytes Raw = true
-holds_bytes (Several s) = true
-holds_bytes (Boxed s) = holds_bytes s
-holds_bytes (s ▸ t) = holds_bytes s || holds_bytes t
-holds_bytes number = false
+-- there is an item
+abbrev pub has_some : {A : Type 0} → List A → Bool
+has_some items = not (length items == 0)
+
+-- the field holds a byte of a text or of data, or an item of a list
+abbrev pub holds_bytes : (s : Shape) → Value s → Bool
+holds_bytes Text v = has_some v
+holds_bytes Raw v = has_some v
+holds_bytes (Several s) v = has_some v
+holds_bytes (Boxed s) v = holds_bytes s v
+holds_bytes (s ▸ t) v = holds_bytes s v.0 || holds_bytes t v.1
+holds_bytes number v = false
 
 -- valid UTF-8 without NUL
 unfoldable pub is_text : List ℕ → Bool

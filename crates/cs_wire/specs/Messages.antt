@@ -6,7 +6,6 @@ use Rattle.std.specs.String.{string_bytes}
 use Rattle.std.specs.Cow.{cow_str_bytes}
 use Rattle.std.specs.Global.{Global}
 use Rattle.std.specs.Borrow.{Bor}
-use Rattle.std.specs.Option.{option_map_or}
 use Rattle.cs_names.specs.declared.limits.TheConstants.{MESSAGE_BYTES}
 use Rattle.cs_wire.specs.declared.kind.TKind.{TKind}
 use Rattle.cs_wire.specs.declared.kind.TKind.TheVariants as tk
@@ -121,10 +120,6 @@ requests = record { number = t_number; kind_of = t_kind_of; layout = t_layout }
 abbrev pub replies : Side RKind
 replies = record { number = r_number; kind_of = r_kind_of; layout = r_layout }
 
--- a message of the type with that number has a field that takes memory where it is copied
-abbrev pub takes_memory : {Kind : Type 0} → Side Kind → ℕ → Bool
-takes_memory side n = option_map_or (λ kind. holds_bytes (side.layout kind)) (side.kind_of n) false
-
 -- A message without where it lies in memory: its type, its tag, and what its fields hold.
 pub record Message {Kind : Type 0} (side : Side Kind) : Type 0 where
   pub kind : Kind
@@ -134,6 +129,10 @@ pub record Message {Kind : Type 0} (side : Side Kind) : Type 0 where
 -- the bytes of its fields
 unfoldable pub fields_of : {Kind : Type 0} {side : Side Kind} → Message side → List ℕ
 fields_of {Kind} {side} m = spelled (side.layout m.kind) m.fields
+
+-- a field of the message takes memory where it is copied
+abbrev pub takes_memory : {Kind : Type 0} {side : Side Kind} → Message side → Bool
+takes_memory {Kind} {side} m = holds_bytes (side.layout m.kind) m.fields
 
 -- each field can hold what it is to hold
 unfoldable pub FieldsFit : {Kind : Type 0} {side : Side Kind} → Message side → Type 0

@@ -1,6 +1,7 @@
 //! The messages of 9P2000 as bytes: one grammar, which decoding and encoding both meet.
 #![tactic(auto)]
 
+mod copying;
 mod cursor;
 mod cutting;
 mod display;

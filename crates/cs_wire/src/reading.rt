@@ -1,10 +1,10 @@
 //! Messages from bytes.
 
-ghost use Rattle.std.specs.Prelude.{◌≡◌, ◌++◌, ℕ, List, IfOk, IsOk, IsErrOf, Ok, slice_index, true};
+ghost use Rattle.std.specs.Prelude.{◌≡◌, ◌++◌, ℕ, List, IfOk, IsOk, IsErrOf, Ok};
 ghost use Rattle.cs_wire.specs.declared.fault.WireFault.TheVariants.{Memory};
-ghost use Rattle.cs_wire.specs.Messages.{requests, replies, t_view, r_view, takes_memory, Message, IsMessage, spelling};
+ghost use Rattle.cs_wire.specs.Messages.{requests, replies, t_view, r_view, Message, IsMessage, spelling};
 ghost use Rattle.cs_wire.specs.Reading.{header_at, message_of};
-ghost use Rattle.cs_wire.specs.Answers.{Decodes, Finds, Gives, IsReadBack};
+ghost use Rattle.cs_wire.specs.Answers.{Decodes, Finds, Gives, IsReadBack, TakesMemory};
 
 use crate::cursor::Cursor;
 use crate::fault::WireFault;
@@ -17,8 +17,7 @@ use std::alloc::Global;
 /// Type, tag and the fields' bytes of what is as long as its size says.
 #[tactic(auto, unfolding(crate::specs::Reading::header_at))]
 fn header(bytes: &[u8]) -> Result<(u8, u16, Cursor), WireFault>
-    ensures gives { Finds (λ x. (x.0, x.1, x.2.rest.now)) result (header_at bytes.now) }
-    ensures number { IfOk result (λ x. x.0 ≡ slice_index bytes.now 4) }
+    ensures { Finds (λ x. (x.0, x.1, x.2.rest.now)) result (header_at bytes.now) }
 {
     if bytes.len() < 7 {
         return Err(WireFault::Short);
@@ -35,8 +34,7 @@ fn header(bytes: &[u8]) -> Result<(u8, u16, Cursor), WireFault>
 
 #[tactic(auto, unfolding(crate::specs::Reading::message_of))]
 fn read_request(alloc: Global, bytes: &[u8]) -> Result<TMessage, WireFault>
-    ensures decodes { Decodes t_view result (message_of requests bytes.now) }
-    ensures grows { IsErrOf result Memory → takes_memory requests (slice_index bytes.now 4) ≡ true }
+    ensures { Decodes t_view result (message_of requests bytes.now) }
 {
     let (number, tag, fields) = header(bytes)?;
     let kind = TKind::of_number(number).ok_or(WireFault::UnknownType)?;
@@ -45,8 +43,7 @@ fn read_request(alloc: Global, bytes: &[u8]) -> Result<TMessage, WireFault>
 
 #[tactic(auto, unfolding(crate::specs::Reading::message_of))]
 fn read_reply(alloc: Global, bytes: &[u8]) -> Result<RMessage, WireFault>
-    ensures decodes { Decodes r_view result (message_of replies bytes.now) }
-    ensures grows { IsErrOf result Memory → takes_memory replies (slice_index bytes.now 4) ≡ true }
+    ensures { Decodes r_view result (message_of replies bytes.now) }
 {
     let (number, tag, fields) = header(bytes)?;
     let kind = RKind::of_number(number).ok_or(WireFault::UnknownType)?;
@@ -57,7 +54,8 @@ fn read_reply(alloc: Global, bytes: &[u8]) -> Result<RMessage, WireFault>
 ///
 /// Else the first fault, from the left: fewer than 7 bytes, a size that isn't their number, a type
 /// that isn't known, then the fields one after the other, then bytes that are left. It is
-/// `Memory` only where the bytes are a message of a type that holds a text, a list or data.
+/// `Memory` only where the bytes are a message, and one of its texts or its data has a byte, or its
+/// list an item: nothing is taken for an empty one.
 pub fn decode(alloc: Global, bytes: &[u8]) -> Result<TMessage, WireFault>
     // What is read is spelled so.
     ensures found { IfOk result (λ m. IsMessage (t_view m) × (bytes.now ≡ spelling (t_view m))) }
@@ -67,8 +65,8 @@ pub fn decode(alloc: Global, bytes: &[u8]) -> Result<TMessage, WireFault>
     ensures exact { Gives t_view result (message_of requests bytes.now) }
     // Want of memory comes last.
     ensures memory { IsErrOf result Memory → IsOk (message_of requests bytes.now) }
-    // Only what is copied can want memory: the byte after the size says the type.
-    ensures grows { IsErrOf result Memory → takes_memory requests (slice_index bytes.now 4) ≡ true }
+    // Only what is copied can want memory.
+    ensures grows { IsErrOf result Memory → TakesMemory requests bytes.now }
 {
     read_request(alloc, bytes)
 }
@@ -83,8 +81,8 @@ pub fn decode_r(alloc: Global, bytes: &[u8]) -> Result<RMessage, WireFault>
     ensures exact { Gives r_view result (message_of replies bytes.now) }
     // Want of memory comes last.
     ensures memory { IsErrOf result Memory → IsOk (message_of replies bytes.now) }
-    // Only what is copied can want memory: the byte after the size says the type.
-    ensures grows { IsErrOf result Memory → takes_memory replies (slice_index bytes.now 4) ≡ true }
+    // Only what is copied can want memory.
+    ensures grows { IsErrOf result Memory → TakesMemory replies bytes.now }
 {
     read_reply(alloc, bytes)
 }

@@ -1,13 +1,11 @@
 //! The fields of each reply, read and copied as those of a request are.
 
-ghost use Rattle.std.specs.Prelude.{◌≡◌, IsErrOf, true};
-ghost use Rattle.cs_wire.specs.declared.fault.WireFault.TheVariants.{Memory};
 ghost use Rattle.cs_wire.specs.declared.kind.RKind.TheVariants as rk;
-ghost use Rattle.cs_wire.specs.Fields.{holds_bytes};
-ghost use Rattle.cs_wire.specs.Messages.{replies, r_layout, r_view};
+ghost use Rattle.cs_wire.specs.Messages.{replies, r_view};
 ghost use Rattle.cs_wire.specs.Reading.{all_of};
 ghost use Rattle.cs_wire.specs.Answers.{Decodes, Finds};
 
+use crate::copying::{items_copied, text_copied};
 use crate::cursor::Cursor;
 use crate::fault::WireFault;
 use crate::kind::RKind;
@@ -22,7 +20,7 @@ fn version(alloc: Global, tag: u16, mut fields: Cursor) -> Result<RMessage, Wire
     let msize = fields.four()?;
     let version = fields.text()?;
     fields.end()?;
-    let version = CowStr::Owned(String::from_str(alloc, version)?);
+    let version = CowStr::Owned(text_copied(alloc, version)?);
     Ok(RMessage {
         tag,
         body: RBody::Version { msize, version },
@@ -59,7 +57,7 @@ fn error(alloc: Global, tag: u16, mut fields: Cursor) -> Result<RMessage, WireFa
 {
     let ename = fields.text()?;
     fields.end()?;
-    let ename = CowStr::Owned(String::from_str(alloc, ename)?);
+    let ename = CowStr::Owned(text_copied(alloc, ename)?);
     Ok(RMessage {
         tag,
         body: RBody::Error { ename },
@@ -83,7 +81,7 @@ fn walk(alloc: Global, tag: u16, mut fields: Cursor) -> Result<RMessage, WireFau
 {
     let wqid = fields.qids()?;
     fields.end()?;
-    let wqid = Vec::from_slice(alloc, wqid.as_slice())?;
+    let wqid = items_copied(alloc, wqid.as_slice())?;
     Ok(RMessage {
         tag,
         body: RBody::Walk { wqid },
@@ -122,7 +120,7 @@ fn read(alloc: Global, tag: u16, mut fields: Cursor) -> Result<RMessage, WireFau
 {
     let data = fields.data()?;
     fields.end()?;
-    let data = Vec::from_slice(alloc, data)?;
+    let data = items_copied(alloc, data)?;
     Ok(RMessage {
         tag,
         body: RBody::Read { data },
@@ -194,8 +192,7 @@ pub(crate) fn reply(
     tag: u16,
     fields: Cursor,
 ) -> Result<RMessage, WireFault>
-    ensures decodes { Decodes r_view result (all_of replies kind tag fields.entry.rest.now) }
-    ensures grows { IsErrOf result Memory → holds_bytes (r_layout kind) ≡ true }
+    ensures { Decodes r_view result (all_of replies kind tag fields.entry.rest.now) }
 {
     match kind {
         RKind::Version => version(alloc, tag, fields),

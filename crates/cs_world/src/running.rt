@@ -1,7 +1,11 @@
 //! Lists of steps.
-ghost use Rattle.std.specs.Prelude.{◌≡◌, IfErr, IfOk};
+ghost use Rattle.std.specs.Prelude.{◌≡◌, IfErr, IfOk, List};
+ghost use Rattle.cs_plan.specs.Scenes.{Scene};
+ghost use Rattle.cs_users.specs.Rows.{Row};
+ghost use Rattle.cs_world.specs.Isolation.{IsIsolated};
 ghost use Rattle.cs_world.specs.Lists.{IsRun};
 ghost use Rattle.cs_world.specs.Reached.{IsReached};
+ghost use Rattle.cs_world.specs.Worlds.{new_world};
 
 use crate::reply::Reply;
 use crate::step::Step;
@@ -10,13 +14,15 @@ use std::alloc::{AllocError, Global};
 
 impl World {
     /// Takes steps, one after the other; their replies. The memory for the replies is taken first: where it
-    /// is refused, no step was taken, and they come back.
+    /// is refused, no step was taken, and they come back. Of a new world's steps, no run reaches another.
     pub fn run(
         &mut self,
         alloc: Global,
         steps: Vec<Step>,
     ) -> Result<Vec<Reply>, (Vec<Step>, AllocError)>
         ensures runs { IfOk result (λ replies. IsRun self.old steps.items replies.items self.new) }
+        ensures isolated { IfOk result (λ replies. (scene : Scene) (users : List Row) → self.old ≡ new_world scene users →
+            IsIsolated scene users steps.items replies.items self.new) }
         ensures reached { IsReached self.old → IsReached self.new }
         ensures refused { IfErr result (λ back. (back.0 ≡ steps) × (self.new ≡ self.old)) }
     {

@@ -1,10 +1,8 @@
 //! Steps of a connection over the runs.
 ghost use Rattle.cs_session.specs.Steps.{IsTaken};
-ghost use Rattle.cs_world.specs.Asking.{IsGiven};
 ghost use Rattle.cs_world.specs.Turns.{step_in};
 
-use crate::runs::Runs;
-use cs_session::{AttachMessage, CallMessage, Reply, Session, TableStep};
+use cs_session::{AttachMessage, CallMessage, Port, Reply, Session, TableStep};
 use std::alloc::Global;
 
 /// A step of a connection.
@@ -17,15 +15,15 @@ pub(crate) enum Turn {
     Table(TableStep),
 }
 
-/// Takes a step of a connection at that moment.
-pub(crate) fn take(
+/// Takes a step of a connection at that moment, over the runs that are its port.
+pub(crate) fn take<P: Port>(
     alloc: Global,
     session: &mut Session,
-    runs: &mut Runs,
+    runs: &mut P,
     now: u32,
     turn: Turn,
 ) -> Reply
-    ensures { IsTaken IsGiven now session.old runs.old (step_in turn) result session.new runs.new }
+    ensures { IsTaken P.gives now session.old runs.old (step_in turn) result session.new runs.new }
 {
     match turn {
         Turn::Find(message) => session.find_step(alloc, runs, now, message),

@@ -1,18 +1,17 @@
 //! Which states a plan has, and what is printed of them.
-use crate::tests::scenes::{
-    CREAT_T, HEADER, creats, fault_of, scene_of, whole_file, whole_file_lines, write_5000,
-};
+use crate::tests::scenes::{HEADER, creats, fault_of, scene_of, whole_file, written_and_moved};
 use cs_plan::{MakeFault, Places, Recipe, Scene, SceneFault};
 use cs_trace::Trace;
+use std::alloc::{AllocError, Global};
 use std::process::Abort;
-use std::test::Fail;
 
-#[test]
-fn a_file_that_is_written_and_moved_has_twelve_states(rt: HostRuntime) -> Result<(), Fail> {
-    let scene = whole_file(&rt, true, &[&[3]])?;
-    assert_eq!(rt;
-        scene.listing().to_string(rt.alloc())?.as_str(),
-        "\
+/// Looks at what is printed of a scene.
+fn is_listed(rt: &impl Abort, alloc: Global, scene: &Scene, wanted: &str) {
+    let list = scene.listing().to_string(alloc).expect(rt, "memory");
+    assert_eq!(rt; list.as_str(), wanted);
+}
+
+const TWELVE_STATES: &str = "\
 op 0 create_dir_entry /t file
 op 1 change_file_size 0 5000
 op 2 write_block 0 0 0 4096
@@ -31,55 +30,81 @@ state 9 hole 0 4 says 0
 state 10 hole 1 4 says 0
 state 11 hole 2 4 says 0
 state 12 pick 3 says 0
-"
-    );
+";
+
+#[test]
+fn a_file_that_is_written_and_moved_has_twelve_states(rt: HostRuntime) {
+    let scene = whole_file(&rt, rt.alloc(), &[&[3]]);
+    is_listed(&rt, rt.alloc(), &scene, TWELVE_STATES);
     assert_eq!(rt; scene.plan().len(), 13);
     assert!(rt; matches!(scene.plan().recipe(11), Some(Recipe::Hole(2, 4))));
     assert!(rt; scene.plan().recipe(13).is_none());
     assert_eq!(rt; scene.order().len(), scene.micros().ops().len());
     assert_eq!(rt; scene.trace().operations().len(), 4);
-    Ok(())
 }
 
-#[test]
-fn a_pick_that_lacks_what_it_needs_is_not_allowed(rt: HostRuntime) -> Result<(), Fail> {
-    let write = write_5000(&rt)?;
-    let lines = whole_file_lines(write.as_str());
-    for (picks, wanted) in [
-        (&[&[4][..]][..], 0),
-        (&[&[], &[0, 3], &[3, 0]], 2),
-        (&[&[1, 1]], 0),
-        (&[&[3], &[0, 1, 2, 3, 4], &[5]], 2),
-        (&[&[3], &[4], &[1, 1]], 1),
-    ] {
-        let fault = fault_of(&rt, &lines, false, picks)?;
-        assert_eq!(rt; fault, Some(SceneFault::PickNotAllowed(wanted)));
-    }
-    let fault = SceneFault::PickNotAllowed(0).to_string(rt.alloc())?;
-    assert_eq!(rt; fault.as_str(), "pick 0 not allowed");
-    Ok(())
+/// Picks of which this one, counted from 0, is the first that is not allowed.
+struct Refused {
+    picks: &'static [&'static [u32]],
+    first: u32,
 }
 
-/// A file is made, moved twice, and told of.
-const TWO_MOVES: [&str; 4] = [
-    r#"{"op":"creat","path":"/a","owner":"ann","group":"ann","mode":"644"}"#,
-    r#"{"op":"rename","from":"/a","to":"/b"}"#,
-    r#"{"op":"rename","from":"/b","to":"/c"}"#,
-    r#"{"op":"say","text":"done"}"#,
+const REFUSED: [Refused; 5] = [
+    Refused {
+        picks: &[&[4]],
+        first: 0,
+    },
+    Refused {
+        picks: &[&[], &[0, 3], &[3, 0]],
+        first: 2,
+    },
+    Refused {
+        picks: &[&[1, 1]],
+        first: 0,
+    },
+    Refused {
+        picks: &[&[3], &[0, 1, 2, 3, 4], &[5]],
+        first: 2,
+    },
+    Refused {
+        picks: &[&[3], &[4], &[1, 1]],
+        first: 1,
+    },
 ];
 
+fn is_refused(rt: &impl Abort, alloc: Global, trace: &str, row: &Refused) {
+    let fault = fault_of(rt, alloc, &[trace], row.picks);
+    assert!(rt; fault == Some(SceneFault::PickNotAllowed(row.first)));
+}
+
+/// A fault as the program tells it.
+fn is_told(rt: &impl Abort, alloc: Global, fault: SceneFault, wanted: &str) {
+    let told = fault.to_string(alloc).expect(rt, "memory");
+    assert_eq!(rt; told.as_str(), wanted);
+}
+
 #[test]
-fn a_hole_is_listed_where_its_last_place_stays(rt: HostRuntime) -> Result<(), Fail> {
-    let [made, moved, again, said] = TWO_MOVES;
-    let scene = scene_of(
-        &rt,
-        &[HEADER, made, moved, again, said],
-        true,
-        &[&[], &[0, 3]],
-    )?;
-    assert_eq!(rt;
-        scene.listing().to_string(rt.alloc())?.as_str(),
-        "\
+fn a_pick_that_lacks_what_it_needs_is_not_allowed(rt: HostRuntime) {
+    let trace = written_and_moved(rt.alloc()).expect(&rt, "memory");
+    for row in &REFUSED {
+        is_refused(&rt, rt.alloc(), trace.as_str(), row);
+    }
+    let fault = SceneFault::PickNotAllowed(0);
+    is_told(&rt, rt.alloc(), fault, "pick 0 not allowed");
+}
+
+const MADE_A: &str = r#"{"op":"creat","path":"/a","owner":"ann","group":"ann","mode":"644"}"#;
+
+const MOVED_TO_B: &str = r#"{"op":"rename","from":"/a","to":"/b"}"#;
+
+const MOVED_TO_C: &str = r#"{"op":"rename","from":"/b","to":"/c"}"#;
+
+const SAID: &str = r#"{"op":"say","text":"done"}"#;
+
+/// A file is made, moved twice, and told of.
+const TWO_MOVES: [&str; 5] = [HEADER, MADE_A, MOVED_TO_B, MOVED_TO_C, SAID];
+
+const THREE_HOLES: &str = "\
 op 0 create_dir_entry /a file
 op 1 move_dir_entry /a /b
 op 2 move_dir_entry /b /c
@@ -94,103 +119,109 @@ state 6 hole 1 4 says 1
 state 7 hole 2 4 says 1
 state 8 pick - says 0
 state 9 pick 0,3 says 1
-"
-    );
+";
+
+#[test]
+fn a_hole_is_listed_where_its_last_place_stays(rt: HostRuntime) {
+    let scene = scene_of(&rt, rt.alloc(), &TWO_MOVES, true, &[&[], &[0, 3]]);
+    is_listed(&rt, rt.alloc(), &scene, THREE_HOLES);
     assert_eq!(rt; scene.says(4), Some(1));
     assert_eq!(rt; scene.says(8), Some(0));
     assert_eq!(rt; scene.says(10), None);
-    Ok(())
 }
 
+/// The same with a sync before it is told of.
+const SYNCED_MOVES: [&str; 6] = [
+    HEADER,
+    MADE_A,
+    MOVED_TO_B,
+    MOVED_TO_C,
+    r#"{"op":"sync"}"#,
+    SAID,
+];
+
 #[test]
-fn what_a_sync_waits_for_has_no_hole(rt: HostRuntime) -> Result<(), Fail> {
-    let [made, moved, again, said] = TWO_MOVES;
-    let sync = r#"{"op":"sync"}"#;
-    let scene = scene_of(&rt, &[HEADER, made, moved, again, sync, said], true, &[])?;
+fn what_a_sync_waits_for_has_no_hole(rt: HostRuntime) {
+    let scene = scene_of(&rt, rt.alloc(), &SYNCED_MOVES, true, &[]);
     assert_eq!(rt; scene.plan().len(), 5);
-    Ok(())
 }
 
 #[test]
-fn a_trace_without_operations_has_one_state(rt: HostRuntime) -> Result<(), Fail> {
-    let scene = scene_of(&rt, &[HEADER], true, &[])?;
-    let list = scene.listing().to_string(rt.alloc())?;
-    assert_eq!(rt; list.as_str(), "state 0 prefix 0 says 0\n");
-    Ok(())
+fn a_trace_without_operations_has_one_state(rt: HostRuntime) {
+    let scene = scene_of(&rt, rt.alloc(), &[HEADER], true, &[]);
+    is_listed(&rt, rt.alloc(), &scene, "state 0 prefix 0 says 0\n");
 }
 
 /// As many picks of no place.
-fn empty_picks(rt: &(impl Abort + AllocGlobal), count: u32) -> Result<Vec<Places>, Fail> {
-    let mut picks = Vec::new(rt.alloc());
+fn empty_picks(alloc: Global, count: u32) -> Result<Vec<Places>, AllocError> {
+    let mut picks = Vec::new(alloc);
     for _ in 0..count {
-        picks.push(Places::of(Vec::new(rt.alloc())))?;
+        picks.push(Places::of(Vec::new(alloc)))?;
     }
     Ok(picks)
 }
 
-/// How many states the plan has, with holes and so many picks of no place.
-fn states_of(
-    rt: &(impl Abort + AllocGlobal),
-    trace: Trace,
-    picks: u32,
-) -> Result<Option<usize>, Fail> {
-    let picks = empty_picks(rt, picks)?;
-    match Scene::of(rt.alloc(), trace, true, picks) {
-        Ok(scene) => Ok(Some(scene.plan().len())),
-        Err(SceneFault::PlanTooLarge) => Ok(None),
-        Err(fault) => Err(Fail::from(fault)),
+/// The plan has so many states, with holes and so many picks of no place; with none it is too large.
+fn has_states(rt: &impl Abort, alloc: Global, trace: Trace, picks: u32, wanted: Option<usize>) {
+    let picks = empty_picks(alloc, picks).expect(rt, "memory");
+    match Scene::of(alloc, trace, true, picks) {
+        Ok(scene) => assert_eq!(rt; Some(scene.plan().len()), wanted),
+        Err(fault) => assert!(rt; fault == SceneFault::PlanTooLarge && wanted.is_none()),
     }
 }
 
 #[test]
-fn a_plan_has_16384_states_and_no_more(rt: HostRuntime) -> Result<(), Fail> {
-    assert_eq!(rt; states_of(&rt, creats(&rt, 180)?, 0)?, Some(16_291));
-    assert_eq!(rt; states_of(&rt, creats(&rt, 180)?, 93)?, Some(16_384));
-    assert_eq!(rt; states_of(&rt, creats(&rt, 180)?, 94)?, None);
-    assert_eq!(rt; states_of(&rt, creats(&rt, 181)?, 0)?, None);
-    Ok(())
+fn a_plan_has_16384_states_and_no_more(rt: HostRuntime) {
+    let alloc = rt.alloc();
+    has_states(&rt, alloc, creats(&rt, alloc, 180), 0, Some(16_291));
+    has_states(&rt, alloc, creats(&rt, alloc, 180), 93, Some(16_384));
+    has_states(&rt, alloc, creats(&rt, alloc, 180), 94, None);
+    has_states(&rt, alloc, creats(&rt, alloc, 181), 0, None);
+}
+
+/// A pick of no place, and one of 1,024 equal ones.
+fn long_picks(alloc: Global) -> Result<Vec<Places>, AllocError> {
+    let mut picks = empty_picks(alloc, 1)?;
+    let places = [0u32].repeat(alloc, 1_024)?;
+    picks.push(Places::of(places))?;
+    Ok(picks)
+}
+
+/// Why a trace with these picks and holes has no scene.
+fn is_fault(rt: &impl Abort, alloc: Global, trace: Trace, wanted: SceneFault) {
+    let picks = long_picks(alloc).expect(rt, "memory");
+    assert!(rt; Scene::of(alloc, trace, true, picks).err() == Some(wanted));
 }
 
 #[test]
-fn a_plan_that_is_too_large_is_told_before_a_pick(rt: HostRuntime) -> Result<(), Fail> {
-    for (creats_made, wanted) in [
-        (180, SceneFault::PickNotAllowed(1)),
-        (181, SceneFault::PlanTooLarge),
-    ] {
-        let mut picks = empty_picks(&rt, 1)?;
-        picks.push(Places::of(vec![in rt.alloc(); 1_024]?))?;
-        let trace = creats(&rt, creats_made)?;
-        assert_eq!(rt;
-            Scene::of(rt.alloc(), trace, true, picks).err(),
-            Some(wanted)
-        );
-    }
-    Ok(())
+fn a_plan_that_is_too_large_is_told_before_a_pick(rt: HostRuntime) {
+    let alloc = rt.alloc();
+    let fits = creats(&rt, alloc, 180);
+    is_fault(&rt, alloc, fits, SceneFault::PickNotAllowed(1));
+    let too_large = creats(&rt, alloc, 181);
+    is_fault(&rt, alloc, too_large, SceneFault::PlanTooLarge);
 }
 
 #[test]
-fn more_than_1024_micro_operations_make_no_scene(rt: HostRuntime) -> Result<(), Fail> {
-    let mut picks = empty_picks(&rt, 1)?;
-    picks.push(Places::of(vec![in rt.alloc(); 1_024]?))?;
-    let trace = creats(&rt, 1_025)?;
-    let fault = Scene::of(rt.alloc(), trace, true, picks).err();
-    assert_eq!(rt; fault, Some(SceneFault::TooMany));
-    Ok(())
+fn more_than_1024_micro_operations_make_no_scene(rt: HostRuntime) {
+    let trace = creats(&rt, rt.alloc(), 1_025);
+    is_fault(&rt, rt.alloc(), trace, SceneFault::TooMany);
 }
 
+const CREAT_T: &str = r#"{"op":"creat","path":"/t","owner":"ann","group":"staff","mode":"644"}"#;
+
 #[test]
-fn faults_are_told_as_the_program_tells_them(rt: HostRuntime) -> Result<(), Fail> {
-    for (fault, text) in [
-        (SceneFault::TooMany, "too many micro-operations"),
-        (SceneFault::PlanTooLarge, "plan too large"),
-        (SceneFault::PickNotAllowed(12), "pick 12 not allowed"),
-        (SceneFault::Memory, "out of memory"),
-    ] {
-        assert_eq!(rt; fault.to_string(rt.alloc())?.as_str(), text);
-    }
-    let missing = MakeFault::NoSuchState.to_string(rt.alloc())?;
+fn faults_are_told_as_the_program_tells_them(rt: HostRuntime) {
+    let alloc = rt.alloc();
+    is_told(&rt, alloc, SceneFault::TooMany, "too many micro-operations");
+    is_told(&rt, alloc, SceneFault::PlanTooLarge, "plan too large");
+    let pick = SceneFault::PickNotAllowed(12);
+    is_told(&rt, alloc, pick, "pick 12 not allowed");
+    is_told(&rt, alloc, SceneFault::Memory, "out of memory");
+    let missing = MakeFault::NoSuchState
+        .to_string(alloc)
+        .expect(&rt, "memory");
     assert_eq!(rt; missing.as_str(), "no such state");
-    let line = scene_of(&rt, &[HEADER, CREAT_T], false, &[])?;
+    let line = scene_of(&rt, alloc, &[HEADER, CREAT_T], false, &[]);
     assert_eq!(rt; line.plan().recipes().len(), 2);
-    Ok(())
 }

@@ -4,125 +4,147 @@ use cs_names::Path;
 use cs_plan::{MakeFault, Published, Scene, SceneFault};
 use cs_state::Built;
 use cs_tree_model::{TreeRead, number_of_path};
+use std::alloc::{AllocError, Global};
 use std::process::Abort;
 use std::sync::Arc;
-use std::test::Fail;
 
-fn made(
-    rt: &(impl Abort + AllocGlobal),
-    scene: &Arc<Scene>,
-    number: u32,
-) -> Result<Published, Fail> {
-    let state = Scene::make(rt.alloc(), scene, number)?;
+fn made(rt: &impl Abort, alloc: Global, scene: &Arc<Scene>, number: u32) -> Published {
+    let state = Scene::make(alloc, scene, number).expect(rt, "a state");
     assert_eq!(rt; state.number(), number);
     assert_eq!(rt; state.scene().plan().len(), scene.plan().len());
-    Ok(state)
+    state
 }
 
-fn number_at(
-    rt: &(impl Abort + AllocGlobal),
-    tree: &Built,
-    path: &str,
-) -> Result<Option<u64>, Fail> {
-    let path = Path::read(rt.alloc(), path)?;
-    Ok(number_of_path(tree, path.names()))
+fn number_at(rt: &impl Abort, alloc: Global, tree: &Built, path: &str) -> Option<u64> {
+    let path = Path::read(alloc, path).expect(rt, "a path");
+    number_of_path(tree, path.names())
 }
 
-/// The bytes of the file at a path, if a file stands there.
-fn bytes_at(
-    rt: &(impl Abort + AllocGlobal),
-    tree: &Built,
-    path: &str,
-) -> Result<Option<Vec<u8>>, Fail> {
-    let Some(number) = number_at(rt, tree, path)? else {
-        return Ok(None);
-    };
-    Ok(tree.read_at(rt.alloc(), number, 0, 1_048_576)?)
+/// The bytes of the file at a path.
+fn bytes_at(rt: &impl Abort, alloc: Global, tree: &Built, path: &str) -> Vec<u8> {
+    let number = number_at(rt, alloc, tree, path).expect(rt, "a file");
+    let bytes = tree
+        .read_at(alloc, number, 0, 1_048_576)
+        .expect(rt, "memory");
+    bytes.expect(rt, "bytes")
 }
 
-/// The file at the path has these bytes.
+/// The file at the path has these bytes in the state of that number.
 fn has_bytes(
-    rt: &(impl Abort + AllocGlobal),
-    tree: &Built,
+    rt: &impl Abort,
+    alloc: Global,
+    scene: &Arc<Scene>,
+    number: u32,
     path: &str,
     wanted: &[u8],
-) -> Result<(), Fail> {
-    let bytes = bytes_at(rt, tree, path)?.ok_or("no such file")?;
-    assert!(rt; bytes.as_slice() == wanted);
-    Ok(())
+) {
+    let state = made(rt, alloc, scene, number);
+    let bytes = bytes_at(rt, alloc, state.store(), path);
+    assert!(rt; bytes.as_slice() == wanted, "{path} in state {number}");
 }
 
-/// So many of one byte, and then so many of another.
-fn twice(
-    rt: &(impl Abort + AllocGlobal),
-    first: u8,
-    count: usize,
-    second: u8,
-    length: usize,
-) -> Result<Vec<u8>, Fail> {
-    let mut bytes = Vec::new(rt.alloc());
-    bytes.resize(count, first)?;
-    bytes.resize(length, second)?;
+/// So many files stand in the state of that number, the root among them.
+fn has_files(rt: &impl Abort, alloc: Global, scene: &Arc<Scene>, number: u32, count: usize) {
+    let state = made(rt, alloc, scene, number);
+    assert_eq!(rt; state.into_store().count(), count);
+}
+
+fn shared(rt: &impl Abort, alloc: Global, scene: Scene) -> Arc<Scene> {
+    Arc::new(alloc, scene).expect(rt, "memory")
+}
+
+/// A block of zeros, and 904 bytes `a`.
+fn torn(alloc: Global) -> Result<Vec<u8>, AllocError> {
+    let mut bytes = [0u8].repeat(alloc, 4_096)?;
+    bytes.resize(5_000, b'a')?;
     Ok(bytes)
 }
 
 #[test]
-fn a_file_that_is_written_and_moved_is_whole_torn_or_gone(rt: HostRuntime) -> Result<(), Fail> {
-    let scene = Arc::new(rt.alloc(), whole_file(&rt, true, &[&[3]])?)?;
+fn a_file_that_is_written_and_moved_is_whole_torn_or_gone(rt: HostRuntime) {
+    let alloc = rt.alloc();
+    let scene = shared(&rt, alloc, whole_file(&rt, alloc, &[&[3]]));
+    has_bytes(&rt, alloc, &scene, 2, "/t", &[0; 5_000]);
+    has_files(&rt, alloc, &scene, 2, 2);
+    has_bytes(&rt, alloc, &scene, 5, "/a", &[b'a'; 5_000]);
+    has_files(&rt, alloc, &scene, 5, 2);
+    let torn = torn(alloc).expect(&rt, "memory");
+    has_bytes(&rt, alloc, &scene, 11, "/t", &torn);
+    has_files(&rt, alloc, &scene, 9, 1);
+    has_files(&rt, alloc, &scene, 12, 1);
+}
 
-    let zeros = made(&rt, &scene, 2)?;
-    has_bytes(&rt, zeros.store(), "/t", &[0; 5_000])?;
-    assert_eq!(rt; zeros.store().count(), 2);
-
-    let whole = made(&rt, &scene, 5)?;
-    has_bytes(&rt, whole.store(), "/a", &[b'a'; 5_000])?;
-    assert_eq!(rt; whole.store().count(), 2);
-
-    let torn = made(&rt, &scene, 11)?;
-    let wanted = twice(&rt, 0, 4_096, b'a', 5_000)?;
-    has_bytes(&rt, torn.store(), "/t", &wanted)?;
-
-    for number in [9, 12] {
-        assert_eq!(rt; made(&rt, &scene, number)?.into_store().count(), 1);
-    }
-    Ok(())
+/// There is no state of that number.
+fn is_missing(rt: &impl Abort, alloc: Global, scene: &Arc<Scene>, number: u32) {
+    let fault = Scene::make(alloc, scene, number).err();
+    assert!(rt; fault == Some(MakeFault::NoSuchState));
 }
 
 #[test]
-fn a_state_is_one_of_the_plan(rt: HostRuntime) -> Result<(), Fail> {
-    let scene = Arc::new(rt.alloc(), scene_of(&rt, &[HEADER], true, &[])?)?;
-    assert_eq!(rt; made(&rt, &scene, 0)?.store().count(), 1);
-    for number in [1, u32::MAX] {
-        let fault = Scene::make(rt.alloc(), &scene, number).err();
-        assert_eq!(rt; fault, Some(MakeFault::NoSuchState));
-    }
-    Ok(())
+fn a_state_is_one_of_the_plan(rt: HostRuntime) {
+    let alloc = rt.alloc();
+    let scene = shared(&rt, alloc, scene_of(&rt, alloc, &[HEADER], true, &[]));
+    has_files(&rt, alloc, &scene, 0, 1);
+    is_missing(&rt, alloc, &scene, 1);
+    is_missing(&rt, alloc, &scene, u32::MAX);
+}
+
+const TWO_MOVES: [&str; 5] = [
+    HEADER,
+    r#"{"op":"creat","path":"/a","owner":"ann","group":"ann","mode":"644"}"#,
+    r#"{"op":"rename","from":"/a","to":"/b"}"#,
+    r#"{"op":"rename","from":"/b","to":"/c"}"#,
+    r#"{"op":"say","text":"done"}"#,
+];
+
+/// A state's number, and where the file stands.
+struct Place {
+    number: u32,
+    path: &'static str,
+}
+
+const PLACES: [Place; 6] = [
+    Place {
+        number: 1,
+        path: "/a",
+    },
+    Place {
+        number: 2,
+        path: "/b",
+    },
+    Place {
+        number: 3,
+        path: "/c",
+    },
+    Place {
+        number: 4,
+        path: "/c",
+    },
+    Place {
+        number: 6,
+        path: "/a",
+    },
+    Place {
+        number: 7,
+        path: "/b",
+    },
+];
+
+/// The file is the only one but the root.
+fn stands_alone(rt: &impl Abort, alloc: Global, scene: &Arc<Scene>, place: &Place) {
+    let state = made(rt, alloc, scene, place.number);
+    assert_eq!(rt; number_at(rt, alloc, state.store(), place.path), Some(1));
+    assert_eq!(rt; state.store().count(), 2);
 }
 
 #[test]
-fn a_hole_leaves_a_file_where_it_was_moved_from(rt: HostRuntime) -> Result<(), Fail> {
-    let lines = [
-        HEADER,
-        r#"{"op":"creat","path":"/a","owner":"ann","group":"ann","mode":"644"}"#,
-        r#"{"op":"rename","from":"/a","to":"/b"}"#,
-        r#"{"op":"rename","from":"/b","to":"/c"}"#,
-        r#"{"op":"say","text":"done"}"#,
-    ];
-    let scene = Arc::new(rt.alloc(), scene_of(&rt, &lines, true, &[])?)?;
-    for (number, path) in [
-        (1, "/a"),
-        (2, "/b"),
-        (3, "/c"),
-        (4, "/c"),
-        (6, "/a"),
-        (7, "/b"),
-    ] {
-        let state = made(&rt, &scene, number)?;
-        assert_eq!(rt; number_at(&rt, state.store(), path)?, Some(1));
-        assert_eq!(rt; state.store().count(), 2);
+fn a_hole_leaves_a_file_where_it_was_moved_from(rt: HostRuntime) {
+    let alloc = rt.alloc();
+    let scene = shared(&rt, alloc, scene_of(&rt, alloc, &TWO_MOVES, true, &[]));
+    for place in &PLACES {
+        stands_alone(&rt, alloc, &scene, place);
     }
-    assert_eq!(rt; made(&rt, &scene, 5)?.store().count(), 1);
-    Ok(())
+    has_files(&rt, alloc, &scene, 5, 1);
 }
 
 /// A start tree, and seven operations that are six micro-operations.
@@ -143,55 +165,188 @@ const ONE_FILE: [&str; 14] = [
     r#"{"op":"rename","from":"/f","to":"/n"}"#,
 ];
 
-#[test]
-fn a_file_that_grows_is_cut_written_and_moved(rt: HostRuntime) -> Result<(), Fail> {
-    let scene = scene_of(&rt, &ONE_FILE, false, &[&[2], &[1, 4]])?;
-    let scene = Arc::new(rt.alloc(), scene)?;
-    assert_eq!(rt; scene.plan().len(), 9);
+/// A state's number, and the bytes of the file at a path there.
+struct Bytes {
+    number: u32,
+    path: &'static str,
+    bytes: &'static [u8],
+}
 
-    for pick in [&[3][..], &[4]] {
-        let fault = fault_of(&rt, &ONE_FILE, false, &[pick])?;
-        assert_eq!(rt; fault, Some(SceneFault::PickNotAllowed(0)));
-    }
+const SHORT: [Bytes; 7] = [
+    Bytes {
+        number: 0,
+        path: "/f",
+        bytes: b"hello",
+    },
+    Bytes {
+        number: 4,
+        path: "/f",
+        bytes: b"h",
+    },
+    Bytes {
+        number: 5,
+        path: "/f",
+        bytes: b"x",
+    },
+    Bytes {
+        number: 5,
+        path: "/n",
+        bytes: b"",
+    },
+    Bytes {
+        number: 6,
+        path: "/n",
+        bytes: b"x",
+    },
+    Bytes {
+        number: 7,
+        path: "/f",
+        bytes: b"hello",
+    },
+    Bytes {
+        number: 8,
+        path: "/f",
+        bytes: b"xello",
+    },
+];
 
-    let mut grown = Vec::from_slice(rt.alloc(), b"hello")?;
-    grown.resize(4_097, 0)?;
-    has_bytes(&rt, made(&rt, &scene, 1)?.store(), "/f", &grown)?;
-    grown.truncate(4_095);
-    grown.extend_from_slice(b"H\0")?;
-    has_bytes(&rt, made(&rt, &scene, 2)?.store(), "/f", &grown)?;
-    grown.truncate(4_096);
-    grown.push(b'I')?;
-    has_bytes(&rt, made(&rt, &scene, 3)?.store(), "/f", &grown)?;
+/// `hello`, and zeros up to this length.
+fn grown(alloc: Global, length: usize) -> Result<Vec<u8>, AllocError> {
+    let mut bytes = Vec::from_slice(alloc, b"hello")?;
+    bytes.resize(length, 0)?;
+    Ok(bytes)
+}
 
-    for (number, path, wanted) in [
-        (0, "/f", &b"hello"[..]),
-        (4, "/f", b"h"),
-        (5, "/f", b"x"),
-        (5, "/n", b""),
-        (6, "/n", b"x"),
-        (7, "/f", b"hello"),
-        (8, "/f", b"xello"),
-    ] {
-        has_bytes(&rt, made(&rt, &scene, number)?.store(), path, wanted)?;
-    }
-    Ok(())
+/// The same, and these bytes behind it.
+fn grown_before(alloc: Global, length: usize, last: &[u8]) -> Result<Vec<u8>, AllocError> {
+    let mut bytes = grown(alloc, length)?;
+    bytes.extend_from_slice(last)?;
+    Ok(bytes)
+}
+
+/// Picks of one place each are not allowed.
+fn is_no_pick(rt: &impl Abort, alloc: Global, place: u32) {
+    let fault = fault_of(rt, alloc, &ONE_FILE, &[&[place]]);
+    assert!(rt; fault == Some(SceneFault::PickNotAllowed(0)));
+}
+
+/// The bytes of `/f` in a state where it is 4,097 bytes long: `hello`, zeros, and these.
+fn has_grown(rt: &impl Abort, alloc: Global, scene: &Arc<Scene>, number: u32, last: &[u8; 2]) {
+    let wanted = grown_before(alloc, 4_095, last).expect(rt, "memory");
+    has_bytes(rt, alloc, scene, number, "/f", &wanted);
 }
 
 #[test]
-fn a_file_that_is_moved_keeps_its_owner_and_takes_the_next_number(
-    rt: HostRuntime,
-) -> Result<(), Fail> {
-    let scene = Arc::new(rt.alloc(), scene_of(&rt, &ONE_FILE, false, &[])?)?;
-    let state = made(&rt, &scene, 6)?;
-    let tree = state.store();
-    assert_eq!(rt; number_at(&rt, tree, "/n")?, Some(4));
-    assert_eq!(rt; number_at(&rt, tree, "/p")?, Some(5));
-    assert_eq!(rt; number_at(&rt, tree, "/f")?, None);
-    let record = tree.record(4).ok_or("no such file")?;
+fn a_file_that_grows_is_cut_written_and_moved(rt: HostRuntime) {
+    let alloc = rt.alloc();
+    let scene = scene_of(&rt, alloc, &ONE_FILE, false, &[&[2], &[1, 4]]);
+    assert_eq!(rt; scene.plan().len(), 9);
+    is_no_pick(&rt, alloc, 3);
+    is_no_pick(&rt, alloc, 4);
+    let scene = shared(&rt, alloc, scene);
+    has_grown(&rt, alloc, &scene, 1, b"\0\0");
+    has_grown(&rt, alloc, &scene, 2, b"H\0");
+    has_grown(&rt, alloc, &scene, 3, b"HI");
+    for row in &SHORT {
+        has_bytes(&rt, alloc, &scene, row.number, row.path, row.bytes);
+    }
+}
+
+/// The file at the number 4 is ann's, of staff.
+fn is_of_ann(rt: &impl Abort, tree: &Built) {
+    let record = tree.record(4).expect(rt, "a file");
     assert_eq!(rt; record.owner.as_str(), "ann");
     assert_eq!(rt; record.group.as_str(), "staff");
     assert_eq!(rt; record.mode, 0o664);
+}
+
+#[test]
+fn a_file_that_is_moved_keeps_its_owner_and_takes_the_next_number(rt: HostRuntime) {
+    let alloc = rt.alloc();
+    let scene = shared(&rt, alloc, scene_of(&rt, alloc, &ONE_FILE, false, &[]));
+    let state = made(&rt, alloc, &scene, 6);
+    let tree = state.store();
+    assert_eq!(rt; number_at(&rt, alloc, tree, "/n"), Some(4));
+    assert_eq!(rt; number_at(&rt, alloc, tree, "/p"), Some(5));
+    assert_eq!(rt; number_at(&rt, alloc, tree, "/f"), None);
+    is_of_ann(&rt, tree);
     assert_eq!(rt; tree.count(), 6);
-    Ok(())
+}
+
+/// A file of the largest size, with one byte behind zeros, is cut to five bytes.
+const LARGEST_FILE: [&str; 5] = [
+    HEADER,
+    r#"{"op":"creat","path":"/f","owner":"ann","group":"ann","mode":"644"}"#,
+    r#"{"op":"truncate","path":"/f","length":16777216}"#,
+    r#"{"op":"write","path":"/f","offset":16777215,"bytes":"61"}"#,
+    r#"{"op":"truncate","path":"/f","length":5}"#,
+];
+
+/// What a read of the file gets in the state of that number, from a place on.
+struct Part {
+    state: u32,
+    offset: u64,
+    bytes: &'static [u8],
+}
+
+const PARTS: [Part; 7] = [
+    Part {
+        state: 2,
+        offset: 16_777_214,
+        bytes: b"\0\0",
+    },
+    Part {
+        state: 3,
+        offset: 16_777_211,
+        bytes: b"\0\0\0\0a",
+    },
+    Part {
+        state: 3,
+        offset: 16_777_214,
+        bytes: b"\0a",
+    },
+    Part {
+        state: 3,
+        offset: 16_777_216,
+        bytes: b"",
+    },
+    Part {
+        state: 4,
+        offset: 0,
+        bytes: b"\0\0\0\0\0",
+    },
+    Part {
+        state: 4,
+        offset: 5,
+        bytes: b"",
+    },
+    Part {
+        state: 4,
+        offset: 16_777_215,
+        bytes: b"",
+    },
+];
+
+/// A read of nine bytes there gets that part.
+fn has_part(rt: &impl Abort, alloc: Global, scene: &Arc<Scene>, part: &Part) {
+    let state = made(rt, alloc, scene, part.state);
+    let bytes = state
+        .store()
+        .read_at(alloc, 1, part.offset, 9)
+        .expect(rt, "memory");
+    let bytes = bytes.expect(rt, "bytes");
+    let (number, offset) = (part.state, part.offset);
+    assert!(rt;
+        bytes.as_slice() == part.bytes,
+        "state {number} at {offset}"
+    );
+}
+
+#[test]
+fn a_file_of_the_largest_size_has_zeros_before_its_last_byte(rt: HostRuntime) {
+    let alloc = rt.alloc();
+    let scene = shared(&rt, alloc, scene_of(&rt, alloc, &LARGEST_FILE, false, &[]));
+    for part in &PARTS {
+        has_part(&rt, alloc, &scene, part);
+    }
 }

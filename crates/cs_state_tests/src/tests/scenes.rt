@@ -1,98 +1,94 @@
 //! Scenes of short traces.
 use cs_plan::{Places, Scene, SceneFault};
 use cs_trace::{Trace, read_trace};
+use std::alloc::{AllocError, Global};
 use std::process::Abort;
-use std::test::Fail;
 
 pub const HEADER: &str = r#"{"trace":1,"owner":"cat","group":"staff","mode":"775"}"#;
 
-/// A file is made.
-pub const CREAT_T: &str =
-    r#"{"op":"creat","path":"/t","owner":"ann","group":"staff","mode":"644"}"#;
-
 /// The trace that has these lines.
-pub fn trace_of(rt: &(impl Abort + AllocGlobal), lines: &[&str]) -> Result<Trace, Fail> {
-    let mut text = String::new(rt.alloc());
-    for line in lines {
-        text.push_str(line)?;
-        text.push_str("\n")?;
-    }
-    Ok(read_trace(rt.alloc(), text.as_str())?)
+pub fn trace_of(rt: &impl Abort, alloc: Global, lines: &[&str]) -> Trace {
+    let text = lines.join(alloc, "\n").expect(rt, "memory");
+    read_trace(alloc, text.as_str()).expect(rt, "a trace")
 }
 
-pub fn picks_of(rt: &(impl Abort + AllocGlobal), picks: &[&[u32]]) -> Result<Vec<Places>, Fail> {
-    let mut all = Vec::new(rt.alloc());
+fn places_of(alloc: Global, pick: &[u32]) -> Result<Places, AllocError> {
+    Ok(Places::of(Vec::from_slice(alloc, pick)?))
+}
+
+fn picks_of(alloc: Global, picks: &[&[u32]]) -> Result<Vec<Places>, AllocError> {
+    let mut all = Vec::new(alloc);
     for pick in picks {
-        all.push(Places::of(Vec::from_slice(rt.alloc(), pick)?))?;
+        all.push(places_of(alloc, pick)?)?;
     }
     Ok(all)
 }
 
-/// The scene of the trace that has these lines.
-pub fn scene_of(
-    rt: &(impl Abort + AllocGlobal),
+/// The scene of the trace that has these lines, or why there is none.
+fn made_of(
+    rt: &impl Abort,
+    alloc: Global,
     lines: &[&str],
     holes: bool,
     picks: &[&[u32]],
-) -> Result<Scene, Fail> {
-    let trace = trace_of(rt, lines)?;
-    let picks = picks_of(rt, picks)?;
-    Ok(Scene::of(rt.alloc(), trace, holes, picks)?)
+) -> Result<Scene, SceneFault> {
+    let picks = picks_of(alloc, picks).expect(rt, "memory");
+    Scene::of(alloc, trace_of(rt, alloc, lines), holes, picks)
+}
+
+/// The scene of the trace that has these lines.
+pub fn scene_of(
+    rt: &impl Abort,
+    alloc: Global,
+    lines: &[&str],
+    holes: bool,
+    picks: &[&[u32]],
+) -> Scene {
+    made_of(rt, alloc, lines, holes, picks).expect(rt, "a scene")
 }
 
 /// Why there is no such scene, if there is none.
 pub fn fault_of(
-    rt: &(impl Abort + AllocGlobal),
+    rt: &impl Abort,
+    alloc: Global,
     lines: &[&str],
-    holes: bool,
     picks: &[&[u32]],
-) -> Result<Option<SceneFault>, Fail> {
-    let trace = trace_of(rt, lines)?;
-    let picks = picks_of(rt, picks)?;
-    Ok(Scene::of(rt.alloc(), trace, holes, picks).err())
+) -> Option<SceneFault> {
+    made_of(rt, alloc, lines, false, picks).err()
 }
 
 /// A file `/t` is made and 5,000 bytes of `a` are written, waited for and moved to `/a`: five
 /// micro-operations.
-pub fn whole_file(
-    rt: &(impl Abort + AllocGlobal),
-    holes: bool,
-    picks: &[&[u32]],
-) -> Result<Scene, Fail> {
-    let write = write_5000(rt)?;
-    scene_of(rt, &whole_file_lines(write.as_str()), holes, picks)
+pub fn whole_file(rt: &impl Abort, alloc: Global, picks: &[&[u32]]) -> Scene {
+    let text = written_and_moved(alloc).expect(rt, "memory");
+    scene_of(rt, alloc, &[text.as_str()], true, picks)
 }
 
-pub fn write_5000(rt: &(impl Abort + AllocGlobal)) -> Result<String, Fail> {
-    let mut write = String::from_str(
-        rt.alloc(),
-        r#"{"op":"write","path":"/t","offset":0,"bytes":""#,
-    )?;
-    for _ in 0..5000 {
-        write.push_str("61")?;
-    }
-    write.push_str("\"}")?;
-    Ok(write)
+const MADE: &str = r#"{"trace":1,"owner":"cat","group":"staff","mode":"775"}
+{"op":"creat","path":"/t","owner":"ann","group":"staff","mode":"644"}
+{"op":"write","path":"/t","offset":0,"bytes":""#;
+
+const MOVED: &str = r#""}
+{"op":"fsync","path":"/t"}
+{"op":"rename","from":"/t","to":"/a"}
+"#;
+
+/// Its trace.
+pub fn written_and_moved(alloc: Global) -> Result<String, AllocError> {
+    let bytes = "61".repeat(alloc, 5_000)?;
+    [MADE, bytes.as_str(), MOVED].concat(alloc)
 }
 
-pub fn whole_file_lines(write: &str) -> [&str; 5] {
-    [
-        HEADER,
-        CREAT_T,
-        write,
-        r#"{"op":"fsync","path":"/t"}"#,
-        r#"{"op":"rename","from":"/t","to":"/a"}"#,
-    ]
+fn push_creat(text: &mut String, file: u32) -> Result<(), AllocError> {
+    write!(text, "\n{{\"op\":\"creat\",\"path\":\"/f{file}\",")?;
+    text.push_str("\"owner\":\"ann\",\"group\":\"ann\",\"mode\":\"644\"}")
 }
 
 /// Files that don't meet are made in the root.
-pub fn creats(rt: &(impl Abort + AllocGlobal), count: u32) -> Result<Trace, Fail> {
-    let mut text = String::from_str(rt.alloc(), HEADER)?;
+pub fn creats(rt: &impl Abort, alloc: Global, count: u32) -> Trace {
+    let mut text = String::from_str(alloc, HEADER).expect(rt, "memory");
     for file in 0..count {
-        let line = format!(in rt.alloc();
-            "\n{{\"op\":\"creat\",\"path\":\"/f{file}\",\"owner\":\"ann\",\"group\":\"ann\",\"mode\":\"644\"}}"
-        )?;
-        text.push_str(line.as_str())?;
+        push_creat(&mut text, file).expect(rt, "memory");
     }
-    Ok(read_trace(rt.alloc(), text.as_str())?)
+    read_trace(alloc, text.as_str()).expect(rt, "a trace")
 }

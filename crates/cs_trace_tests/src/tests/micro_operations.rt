@@ -1,85 +1,88 @@
 //! Values from outside: traces, and what they break into.
+use super::lines::{HEADER, START};
 use cs_micro::{MicroFault, MicroOp, Micros, SyncPoint, break_up};
-use cs_trace::{Covers, read_trace};
+use cs_trace::{Covers, Rights, read_trace};
 use std::alloc::{AllocError, Global};
-use std::test::Fail;
+use std::process::Abort;
 
-/// A start tree whose files are `/d/s/z`, `/f` and `/n`, in this order.
-const START: &str = r#"{"trace":1,"owner":"cat","group":"staff","mode":"775"}
-{"start":"dir","path":"/d","owner":"ann","group":"staff","mode":"755"}
-{"start":"dir","path":"/d/s","owner":"ann","group":"ann","mode":"700"}
-{"start":"file","path":"/d/s/z","owner":"ann","group":"ann","mode":"644","bytes":""}
-{"start":"file","path":"/f","owner":"ann","group":"staff","mode":"664","bytes":"68656c6c6f"}
-{"start":"file","path":"/n","owner":"none","group":"none","mode":"600","bytes":""}
-{"start":"dir","path":"/p","owner":"ann","group":"staff","mode":"750"}
-"#;
+/// What these operations break into, behind that start.
+fn broken(rt: &impl Abort, alloc: Global, start: &str, operations: &str) -> Micros {
+    let text = [start, operations].join(alloc, "\n").expect(rt, "memory");
+    let trace = read_trace(alloc, text.as_str()).expect(rt, "a trace");
+    break_up(alloc, &trace).expect(rt, "micro-operations")
+}
 
-const HEADER: &str = r#"{"trace":1,"owner":"cat","group":"staff","mode":"775"}
-"#;
-
-/// The micro-operations, a line each.
-fn shown(alloc: Global, ops: &[MicroOp]) -> Result<String, AllocError> {
+/// Looks at the micro-operations, a line each.
+fn are_shown(rt: &impl Abort, alloc: Global, ops: &[MicroOp], wanted: &str) {
     let mut text = String::new(alloc);
     for op in ops {
-        let line = format!(in alloc; "{op}\n")?;
-        text.push_str(line.as_str())?;
+        write!(text, "{op}\n").expect(rt, "memory");
     }
-    Ok(text)
+    assert_eq!(rt; text.as_str(), wanted);
+}
+
+fn show_block(text: &mut String, bytes: &[u8]) -> Result<(), AllocError> {
+    let (first, last) = (bytes.first(), bytes.last());
+    write!(text, "{first:?} to {last:?}")
+}
+
+fn show_rights(text: &mut String, rights: &Rights) -> Result<(), AllocError> {
+    let (owner, group) = (&rights.owner, &rights.group);
+    write!(text, " {owner} {group} {:o}", rights.permissions)
 }
 
 /// What no line says of a micro-operation.
-fn beside(alloc: Global, op: &MicroOp) -> Result<String, AllocError> {
+fn show_beside(text: &mut String, op: &MicroOp) -> Result<(), AllocError> {
     match op {
         MicroOp::CreateDirEntry { node, rights, .. } => {
-            let mode = rights.permissions;
-            format!(in alloc; "{node:?} {} {} {mode:o}", rights.owner, rights.group)
+            write!(text, "{node:?}")?;
+            show_rights(text, rights)
         }
-        MicroOp::DeleteDirEntry { kind, .. } => format!(in alloc; "{kind:?}"),
-        MicroOp::WriteBlock { bytes, .. } => {
-            let bytes = bytes.as_slice();
-            format!(in alloc; "{:?} to {:?}", bytes.first(), bytes.last())
-        }
-        _ => Ok(String::new(alloc)),
+        MicroOp::DeleteDirEntry { kind, .. } => write!(text, "{kind:?}"),
+        MicroOp::WriteBlock { bytes, .. } => show_block(text, bytes.as_slice()),
+        _ => Ok(()),
     }
 }
 
-/// That of all, a line each.
-fn all_beside(alloc: Global, ops: &[MicroOp]) -> Result<String, AllocError> {
+/// Looks at that of all, a line each.
+fn are_beside(rt: &impl Abort, alloc: Global, ops: &[MicroOp], wanted: &str) {
     let mut text = String::new(alloc);
     for op in ops {
-        text.push_str(beside(alloc, op)?.as_str())?;
-        text.push_str("\n")?;
+        show_beside(&mut text, op).expect(rt, "memory");
+        text.push('\n').expect(rt, "memory");
     }
-    Ok(text)
+    assert_eq!(rt; text.as_str(), wanted);
 }
 
-/// The sync points, a line each: how many micro-operations come before, and what is covered.
-fn syncs_shown(alloc: Global, syncs: &[SyncPoint]) -> Result<String, AllocError> {
+/// How many micro-operations come before a sync point, and what is covered.
+fn show_sync(text: &mut String, sync: &SyncPoint) -> Result<(), AllocError> {
+    let at = sync.at;
+    match &sync.covers {
+        Covers::All => write!(text, "{at} all\n"),
+        Covers::File(file) => write!(text, "{at} file {file}\n"),
+        Covers::Directory(path) => write!(text, "{at} directory {path}\n"),
+    }
+}
+
+/// Looks at the sync points, a line each.
+fn are_syncs(rt: &impl Abort, alloc: Global, syncs: &[SyncPoint], wanted: &str) {
     let mut text = String::new(alloc);
     for sync in syncs {
-        let at = sync.at;
-        let line = match &sync.covers {
-            Covers::All => format!(in alloc; "{at} all\n")?,
-            Covers::File(file) => format!(in alloc; "{at} file {file}\n")?,
-            Covers::Directory(path) => format!(in alloc; "{at} directory {path}\n")?,
-        };
-        text.push_str(line.as_str())?;
+        show_sync(&mut text, sync).expect(rt, "memory");
     }
-    Ok(text)
+    assert_eq!(rt; text.as_str(), wanted);
 }
 
-/// What these operations break into, behind that start.
-fn broken(alloc: Global, start: &str, operations: &str) -> Result<Micros, Fail> {
-    let mut text = String::from_str(alloc, start)?;
-    text.push_str(operations)?;
-    let trace = read_trace(alloc, text.as_str())?;
-    Ok(break_up(alloc, &trace)?)
+/// Looks at the files that stand at the start, one after the other.
+fn are_starts(rt: &impl Abort, alloc: Global, micros: &Micros, wanted: &str) {
+    let mut text = String::new(alloc);
+    for path in micros.starts() {
+        write!(text, "{path} ").expect(rt, "memory");
+    }
+    assert_eq!(rt; text.as_str(), wanted);
 }
 
-#[test]
-fn seven_operations_are_six_micro_operations(rt: HostRuntime) -> Result<(), Fail> {
-    let alloc = rt.alloc();
-    let operations = r#"{"op":"write","path":"/f","offset":4095,"bytes":"4849"}
+const SEVEN: &str = r#"{"op":"write","path":"/f","offset":4095,"bytes":"4849"}
 {"op":"truncate","path":"/f","length":4097}
 {"op":"truncate","path":"/f","length":1}
 {"op":"write","path":"/f","offset":0,"bytes":"78"}
@@ -87,85 +90,74 @@ fn seven_operations_are_six_micro_operations(rt: HostRuntime) -> Result<(), Fail
 {"op":"rename","from":"/f","to":"/f"}
 {"op":"rename","from":"/f","to":"/n"}
 "#;
-    let micros = broken(alloc, START, operations)?;
-    assert_eq!(rt;
-        shown(alloc, micros.ops())?.as_str(),
-        "\
+
+const SIX: &str = "\
 change_file_size 1 4097
 write_block 1 0 4095 1
 write_block 1 1 0 1
 change_file_size 1 1
 write_block 1 0 0 1
 move_dir_entry /f /n
-"
-    );
-    assert_eq!(rt;
-        all_beside(alloc, micros.ops())?.as_str(),
-        "\n\
+";
+
+const BESIDE_SIX: &str = "\n\
 Some(72) to Some(72)
 Some(73) to Some(73)
 
 Some(120) to Some(120)
 
-"
-    );
-    assert_eq!(rt; micros.syncs().len(), 0);
-    assert_eq!(rt; micros.starts().len(), 3);
-    for (path, want) in micros.starts().iter().zip(["/d/s/z", "/f", "/n"]) {
-        assert_eq!(rt; path.to_string(alloc)?.as_str(), want);
-    }
-    Ok(())
-}
+";
 
 #[test]
-fn a_write_of_5000_bytes_is_two_blocks_before_its_fsync(rt: HostRuntime) -> Result<(), Fail> {
-    let alloc = rt.alloc();
-    let mut operations = String::from_str(
-        alloc,
-        r#"{"op":"creat","path":"/t","owner":"ann","group":"staff","mode":"644"}
-{"op":"write","path":"/t","offset":0,"bytes":""#,
-    )?;
-    for _ in 0..5000 {
-        operations.push_str("61")?;
-    }
-    operations.push_str(
-        r#""}
+fn seven_operations_are_six_micro_operations(rt: HostRuntime) {
+    let micros = broken(&rt, rt.alloc(), START, SEVEN);
+    are_shown(&rt, rt.alloc(), micros.ops(), SIX);
+    are_beside(&rt, rt.alloc(), micros.ops(), BESIDE_SIX);
+    assert_eq!(rt; micros.syncs().len(), 0);
+    are_starts(&rt, rt.alloc(), &micros, "/d/s/z /f /n ");
+}
+
+/// A file is made, written with 5,000 bytes 0x61, waited for and renamed.
+fn written(alloc: Global) -> Result<String, AllocError> {
+    let bytes = "61".repeat(alloc, 5_000)?;
+    [WRITTEN_HEAD, bytes.as_str(), WRITTEN_TAIL].concat(alloc)
+}
+
+const WRITTEN_HEAD: &str = r#"{"op":"creat","path":"/t","owner":"ann","group":"staff","mode":"644"}
+{"op":"write","path":"/t","offset":0,"bytes":""#;
+
+const WRITTEN_TAIL: &str = r#""}
 {"op":"fsync","path":"/t"}
 {"op":"rename","from":"/t","to":"/a"}
-"#,
-    )?;
-    let micros = broken(alloc, HEADER, operations.as_str())?;
-    assert_eq!(rt;
-        shown(alloc, micros.ops())?.as_str(),
-        "\
+"#;
+
+const WRITTEN: &str = "\
 create_dir_entry /t file
 change_file_size 0 5000
 write_block 0 0 0 4096
 write_block 0 1 0 904
 move_dir_entry /t /a
-"
-    );
-    assert_eq!(rt;
-        all_beside(alloc, micros.ops())?.as_str(),
-        "\
+";
+
+const BESIDE_WRITTEN: &str = "\
 File(0) ann staff 644
 
 Some(97) to Some(97)
 Some(97) to Some(97)
 
-"
-    );
-    assert_eq!(rt; syncs_shown(alloc, micros.syncs())?.as_str(), "4 file 0\n");
-    assert_eq!(rt; micros.starts().len(), 0);
-    Ok(())
-}
+";
 
 #[test]
-fn entries_are_made_and_deleted_and_syncs_cover_what_they_name(
-    rt: HostRuntime,
-) -> Result<(), Fail> {
-    let alloc = rt.alloc();
-    let operations = r#"{"op":"sync"}
+fn a_write_of_5000_bytes_is_two_blocks_before_its_fsync(rt: HostRuntime) {
+    let operations = written(rt.alloc()).expect(&rt, "memory");
+    let micros = broken(&rt, rt.alloc(), HEADER, operations.as_str());
+    are_shown(&rt, rt.alloc(), micros.ops(), WRITTEN);
+    are_beside(&rt, rt.alloc(), micros.ops(), BESIDE_WRITTEN);
+    are_syncs(&rt, rt.alloc(), micros.syncs(), "4 file 0\n");
+    are_starts(&rt, rt.alloc(), &micros, "");
+}
+
+const ENTRIES: &str = r#"{"op":"sync"}
 {"op":"mkdir","path":"/q","owner":"bob","group":"staff","mode":"750"}
 {"op":"creat","path":"/q/r","owner":"ann","group":"ann","mode":"600"}
 {"op":"fsync","path":"/q"}
@@ -175,52 +167,89 @@ fn entries_are_made_and_deleted_and_syncs_cover_what_they_name(
 {"op":"fsync","path":"/"}
 {"op":"fsync","path":"/n"}
 "#;
-    let micros = broken(alloc, START, operations)?;
-    assert_eq!(rt;
-        shown(alloc, micros.ops())?.as_str(),
-        "\
+
+const ENTRIES_MADE: &str = "\
 create_dir_entry /q dir
 create_dir_entry /q/r file
 delete_dir_entry /q/r
 delete_dir_entry /q
 say
-"
-    );
-    assert_eq!(rt;
-        all_beside(alloc, micros.ops())?.as_str(),
-        "\
+";
+
+const BESIDE_ENTRIES: &str = "\
 Directory bob staff 750
 File(3) ann ann 600
 File
 Directory
 
-"
-    );
-    assert_eq!(rt;
-        syncs_shown(alloc, micros.syncs())?.as_str(),
-        "\
+";
+
+const ENTRIES_COVERED: &str = "\
 0 all
 2 directory /q
 5 directory /
 5 file 2
-"
-    );
-    Ok(())
+";
+
+#[test]
+fn entries_are_made_and_deleted_and_syncs_cover_what_they_name(rt: HostRuntime) {
+    let micros = broken(&rt, rt.alloc(), START, ENTRIES);
+    are_shown(&rt, rt.alloc(), micros.ops(), ENTRIES_MADE);
+    are_beside(&rt, rt.alloc(), micros.ops(), BESIDE_ENTRIES);
+    are_syncs(&rt, rt.alloc(), micros.syncs(), ENTRIES_COVERED);
+}
+
+const SAY: &str = "{\"op\":\"say\",\"text\":\"\"}\n";
+
+/// Why these operations don't break up.
+fn fault_of(rt: &impl Abort, alloc: Global, start: &str, operations: &str) -> Option<MicroFault> {
+    let text = [start, operations].join(alloc, "\n").expect(rt, "memory");
+    let trace = read_trace(alloc, text.as_str()).expect(rt, "a trace");
+    break_up(alloc, &trace).err()
 }
 
 #[test]
-fn a_trace_has_1024_micro_operations_and_no_more(rt: HostRuntime) -> Result<(), Fail> {
-    let alloc = rt.alloc();
-    let mut lines = String::from_str(alloc, HEADER)?;
-    for _ in 0..1024 {
-        lines.push_str("{\"op\":\"say\",\"text\":\"\"}\n")?;
-    }
-    assert_eq!(rt; broken(alloc, lines.as_str(), "")?.ops().len(), 1024);
-    lines.push_str("{\"op\":\"say\",\"text\":\"\"}\n")?;
-    let trace = read_trace(alloc, lines.as_str())?;
-    let fault = break_up(alloc, &trace).err();
-    assert_eq!(rt; fault, Some(MicroFault::TooMany));
-    let message = MicroFault::TooMany.to_string(alloc)?;
+fn a_trace_has_1024_micro_operations_and_no_more(rt: HostRuntime) {
+    let lines = SAY.repeat(rt.alloc(), 1_024).expect(&rt, "memory");
+    let micros = broken(&rt, rt.alloc(), HEADER, lines.as_str());
+    assert_eq!(rt; micros.ops().len(), 1_024);
+    let lines = SAY.repeat(rt.alloc(), 1_025).expect(&rt, "memory");
+    let fault = fault_of(&rt, rt.alloc(), HEADER, lines.as_str());
+    assert!(rt; fault == Some(MicroFault::TooMany));
+    let message = MicroFault::TooMany
+        .to_string(rt.alloc())
+        .expect(&rt, "memory");
     assert_eq!(rt; message.as_str(), "too many micro-operations");
-    Ok(())
+}
+
+const LONGEST: &str = r#"{"op":"truncate","path":"/f","length":16777216}"#;
+
+#[test]
+fn the_largest_length_is_one_micro_operation(rt: HostRuntime) {
+    let micros = broken(&rt, rt.alloc(), START, LONGEST);
+    are_shown(
+        &rt,
+        rt.alloc(),
+        micros.ops(),
+        "change_file_size 1 16777216\n",
+    );
+}
+
+const BLOCKS_HEAD: &str = "{\"op\":\"write\",\"path\":\"/n\",\"offset\":0,\"bytes\":\"";
+
+/// A write of so many blocks to a file without a byte.
+fn write_of(alloc: Global, blocks: usize) -> Result<String, AllocError> {
+    let block = "61".repeat(alloc, 4_096)?;
+    let bytes = block.repeat(alloc, blocks)?;
+    [BLOCKS_HEAD, bytes.as_str(), "\"}"].concat(alloc)
+}
+
+#[test]
+fn a_write_of_1025_blocks_is_too_many_micro_operations(rt: HostRuntime) {
+    let line = write_of(rt.alloc(), 1_023).expect(&rt, "memory");
+    let micros = broken(&rt, rt.alloc(), START, line.as_str());
+    assert_eq!(rt; micros.ops().len(), 1_024);
+    let line = write_of(rt.alloc(), 1_025).expect(&rt, "memory");
+    let fault = fault_of(&rt, rt.alloc(), START, line.as_str());
+    assert!(rt; fault == Some(MicroFault::TooMany));
 }

@@ -1,133 +1,139 @@
-use cs_trace::{Covers, Node, Operation, Trace, TraceFault, TraceFaultKind, read_trace};
+use super::faults::{Faulty, OPERATION_FAULTS};
+use super::lines::{CREAT_Q, CREAT_X, HEADER, MKDIR_D, START, long_line, text_after};
+use cs_names::Path;
+use cs_trace::{Covers, Node, Operation, Rights, Trace, TraceFault, TraceFaultKind, read_trace};
 use std::alloc::{AllocError, Global};
-use std::test::Fail;
+use std::process::Abort;
 
-const HEADER: &str = r#"{"trace":1,"owner":"cat","group":"staff","mode":"775"}"#;
+fn show_rights(text: &mut String, rights: &Rights) -> Result<(), AllocError> {
+    let (owner, group) = (&rights.owner, &rights.group);
+    write!(text, "{owner} {group} {:o}", rights.permissions)
+}
 
-/// The tree of the first exchange: two files without a byte, and `/f` with five.
-const START: &str = r#"{"trace":1,"owner":"cat","group":"staff","mode":"775"}
-{"start":"dir","path":"/d","owner":"ann","group":"staff","mode":"755"}
-{"start":"dir","path":"/d/s","owner":"ann","group":"ann","mode":"700"}
-{"start":"file","path":"/d/s/z","owner":"ann","group":"ann","mode":"644","bytes":""}
-{"start":"file","path":"/f","owner":"ann","group":"staff","mode":"664","bytes":"68656c6c6f"}
-{"start":"file","path":"/n","owner":"none","group":"none","mode":"600","bytes":""}
-{"start":"dir","path":"/p","owner":"ann","group":"staff","mode":"750"}
-"#;
+fn show_made(text: &mut String, path: &Path, file: u32, rights: &Rights) -> Result<(), AllocError> {
+    write!(text, "creat {path} {file} ")?;
+    show_rights(text, rights)
+}
 
-fn shown(alloc: Global, operation: &Operation) -> Result<String, AllocError> {
+fn show_made_directory(text: &mut String, path: &Path, rights: &Rights) -> Result<(), AllocError> {
+    write!(text, "mkdir {path} ")?;
+    show_rights(text, rights)
+}
+
+fn show_write(
+    text: &mut String,
+    file: u32,
+    size: u64,
+    offset: u64,
+    bytes: &[u8],
+) -> Result<(), AllocError> {
+    write!(text, "write {file} {size} {offset} {bytes:?}")
+}
+
+fn show_truncate(text: &mut String, file: u32, size: u64, length: u64) -> Result<(), AllocError> {
+    write!(text, "truncate {file} {size} {length}")
+}
+
+fn show_sync(text: &mut String, covers: &Covers) -> Result<(), AllocError> {
+    match covers {
+        Covers::All => text.push_str("sync"),
+        Covers::File(file) => write!(text, "sync file {file}"),
+        Covers::Directory(path) => write!(text, "sync directory {path}"),
+    }
+}
+
+fn show(text: &mut String, operation: &Operation) -> Result<(), AllocError> {
     match operation {
-        Operation::Creat { path, file, rights } => {
-            let by = format!(in alloc; "{} {}", rights.owner, rights.group)?;
-            format!(in alloc; "creat {path} {file} {by} {:o}\n", rights.permissions)
-        }
-        Operation::Mkdir { path, rights } => {
-            let by = format!(in alloc; "{} {}", rights.owner, rights.group)?;
-            format!(in alloc; "mkdir {path} {by} {:o}\n", rights.permissions)
-        }
-        Operation::Unlink { path } => format!(in alloc; "unlink {path}\n"),
-        Operation::Rmdir { path } => format!(in alloc; "rmdir {path}\n"),
-        Operation::Rename { from, to } => format!(in alloc; "rename {from} {to}\n"),
+        Operation::Creat { path, file, rights } => show_made(text, path, *file, rights),
+        Operation::Mkdir { path, rights } => show_made_directory(text, path, rights),
+        Operation::Unlink { path } => write!(text, "unlink {path}"),
+        Operation::Rmdir { path } => write!(text, "rmdir {path}"),
+        Operation::Rename { from, to } => write!(text, "rename {from} {to}"),
         Operation::Write {
             file,
             size,
             offset,
             bytes,
-        } => {
-            let bytes = bytes.as_slice();
-            format!(in alloc; "write {file} {size} {offset} {bytes:?}\n")
-        }
-        Operation::Truncate { file, size, length } => {
-            format!(in alloc; "truncate {file} {size} {length}\n")
-        }
-        Operation::Sync(Covers::All) => format!(in alloc; "sync\n"),
-        Operation::Sync(Covers::File(file)) => format!(in alloc; "sync file {file}\n"),
-        Operation::Sync(Covers::Directory(path)) => format!(in alloc; "sync directory {path}\n"),
-        Operation::Say => format!(in alloc; "say\n"),
+        } => show_write(text, *file, *size, *offset, bytes.as_slice()),
+        Operation::Truncate { file, size, length } => show_truncate(text, *file, *size, *length),
+        Operation::Sync(covers) => show_sync(text, covers),
+        Operation::Say => text.push_str("say"),
     }
 }
 
-/// The operations of these lines after a text.
-fn operations_after(alloc: Global, before: &str, lines: &[&str]) -> Result<String, Fail> {
-    let mut whole = String::new(alloc);
-    for operation in read_after(alloc, before, lines)??.operations() {
-        whole.push_str(shown(alloc, operation)?.as_str())?;
-    }
-    Ok(whole)
+fn show_line(text: &mut String, operation: &Operation) -> Result<(), AllocError> {
+    show(text, operation)?;
+    text.push_str("\n")
 }
 
 /// The trace of these lines after a text.
-fn read_after(
-    alloc: Global,
-    before: &str,
-    lines: &[&str],
-) -> Result<Result<Trace, TraceFault>, AllocError> {
-    let mut text = String::from_str(alloc, before)?;
-    for line in lines {
-        text.push_str("\n")?;
-        text.push_str(line)?;
+fn trace_after(rt: &impl Abort, alloc: Global, before: &str, lines: &[&str]) -> Trace {
+    let text = text_after(alloc, before, lines).expect(rt, "memory");
+    read_trace(alloc, text.as_str()).expect(rt, "a trace")
+}
+
+/// Looks at the operations of these lines after a text.
+fn has_operations(rt: &impl Abort, alloc: Global, before: &str, lines: &[&str], wanted: &str) {
+    let trace = trace_after(rt, alloc, before, lines);
+    let mut text = String::new(alloc);
+    for operation in trace.operations() {
+        show_line(&mut text, operation).expect(rt, "memory");
     }
-    Ok(read_trace(alloc, text.as_str()))
+    assert_eq!(rt; text.as_str(), wanted);
 }
 
 /// The fault of these lines after a header.
-fn fault_of(alloc: Global, lines: &[&str]) -> Result<Option<TraceFault>, AllocError> {
-    Ok(read_after(alloc, HEADER, lines)?.err())
+fn fault_of(rt: &impl Abort, alloc: Global, lines: &[&str]) -> Option<TraceFault> {
+    let text = text_after(alloc, HEADER, lines).expect(rt, "memory");
+    read_trace(alloc, text.as_str()).err()
 }
 
 #[test]
-fn a_header_alone_is_a_trace(rt: HostRuntime) -> Result<(), Fail> {
-    let trace = read_trace(rt.alloc(), HEADER)?;
+fn a_header_alone_is_a_trace(rt: HostRuntime) {
+    let trace = read_trace(rt.alloc(), HEADER).expect(&rt, "a trace");
     assert_eq!(rt; trace.records().len(), 1);
-    assert_eq!(rt; trace.nodes(), [Node::Directory].as_slice());
+    assert!(rt; trace.nodes() == [Node::Directory].as_slice());
     assert_eq!(rt; trace.files().len(), 0);
     assert_eq!(rt; trace.operations().len(), 0);
     assert_eq!(rt; trace.into_records().len(), 1);
-    Ok(())
 }
 
+const THREE_FILES: [&str; 3] = [
+    r#"{"start":"file","path":"/z","owner":"a","group":"a","mode":"600","bytes":""}"#,
+    r#"{"start":"dir","path":"/d","owner":"a","group":"a","mode":"700"}"#,
+    r#"{"start":"file","path":"/b","owner":"a","group":"a","mode":"600","bytes":"00"}"#,
+];
+
+const THREE_NODES: [Node; 4] = [
+    Node::Directory,
+    Node::File(1),
+    Node::Directory,
+    Node::File(0),
+];
+
 #[test]
-fn files_have_the_numbers_of_their_lines(rt: HostRuntime) -> Result<(), Fail> {
-    let alloc = rt.alloc();
-    let lines = [
-        r#"{"start":"file","path":"/z","owner":"a","group":"a","mode":"600","bytes":""}"#,
-        r#"{"start":"dir","path":"/d","owner":"a","group":"a","mode":"700"}"#,
-        r#"{"start":"file","path":"/b","owner":"a","group":"a","mode":"600","bytes":"00"}"#,
-    ];
-    let trace = read_after(alloc, HEADER, &lines)??;
-    assert_eq!(rt;
-        trace.nodes(),
-        [
-            Node::Directory,
-            Node::File(1),
-            Node::Directory,
-            Node::File(0)
-        ]
-        .as_slice()
-    );
-    let mut paths = String::new(alloc);
+fn files_have_the_numbers_of_their_lines(rt: HostRuntime) {
+    let trace = trace_after(&rt, rt.alloc(), HEADER, &THREE_FILES);
+    assert!(rt; trace.nodes() == THREE_NODES.as_slice());
+    let mut paths = String::new(rt.alloc());
     for path in trace.files() {
-        paths.push_str(path.to_string(alloc)?.as_str())?;
+        write!(paths, "{path}").expect(&rt, "memory");
     }
     assert_eq!(rt; paths.as_str(), "/z/b");
-    Ok(())
 }
 
-#[test]
-fn operations_name_files_by_number_and_the_size_before(rt: HostRuntime) -> Result<(), Fail> {
-    let alloc = rt.alloc();
-    let lines = [
-        r#"{"op":"write","path":"/f","offset":4095,"bytes":"4849"}"#,
-        r#"{"op":"truncate","path":"/f","length":4097}"#,
-        r#"{"op":"truncate","path":"/f","length":1}"#,
-        r#"{"op":"write","path":"/f","offset":0,"bytes":"78"}"#,
-        r#"{"op":"write","path":"/f","offset":9,"bytes":""}"#,
-        r#"{"op":"rename","from":"/f","to":"/f"}"#,
-        r#"{"op":"rename","from":"/f","to":"/n"}"#,
-        r#"{"op":"write","path":"/n","offset":0,"bytes":"F0"}"#,
-    ];
-    assert_eq!(rt;
-        operations_after(alloc, START, &lines)?.as_str(),
-        "\
+const ONE_FILE: [&str; 8] = [
+    r#"{"op":"write","path":"/f","offset":4095,"bytes":"4849"}"#,
+    r#"{"op":"truncate","path":"/f","length":4097}"#,
+    r#"{"op":"truncate","path":"/f","length":1}"#,
+    r#"{"op":"write","path":"/f","offset":0,"bytes":"78"}"#,
+    r#"{"op":"write","path":"/f","offset":9,"bytes":""}"#,
+    r#"{"op":"rename","from":"/f","to":"/f"}"#,
+    r#"{"op":"rename","from":"/f","to":"/n"}"#,
+    r#"{"op":"write","path":"/n","offset":0,"bytes":"F0"}"#,
+];
+
+const ONE_FILE_SHOWN: &str = "\
 write 1 5 4095 [72, 73]
 truncate 1 4097 4097
 truncate 1 4097 1
@@ -136,32 +142,32 @@ write 1 1 9 []
 rename /f /f
 rename /f /n
 write 1 1 0 [240]
-"
-    );
-    Ok(())
-}
+";
 
 #[test]
-fn a_number_is_never_given_again(rt: HostRuntime) -> Result<(), Fail> {
-    let alloc = rt.alloc();
-    let lines = [
-        r#"{"op":"unlink","path":"/n"}"#,
-        r#"{"op":"creat","path":"/n","owner":"ann","group":"staff","mode":"640"}"#,
-        r#"{"op":"unlink","path":"/n"}"#,
-        r#"{"group":"staff","mode":"604","op":"creat","owner":"ann","path":"/n"}"#,
-        r#"{"op":"fsync","path":"/n"}"#,
-    ];
-    assert_eq!(rt;
-        operations_after(alloc, START, &lines)?.as_str(),
-        "\
+fn operations_name_files_by_number_and_the_size_before(rt: HostRuntime) {
+    has_operations(&rt, rt.alloc(), START, &ONE_FILE, ONE_FILE_SHOWN);
+}
+
+const MADE_AGAIN: [&str; 5] = [
+    r#"{"op":"unlink","path":"/n"}"#,
+    r#"{"op":"creat","path":"/n","owner":"ann","group":"staff","mode":"640"}"#,
+    r#"{"op":"unlink","path":"/n"}"#,
+    r#"{"group":"staff","mode":"604","op":"creat","owner":"ann","path":"/n"}"#,
+    r#"{"op":"fsync","path":"/n"}"#,
+];
+
+const MADE_AGAIN_SHOWN: &str = "\
 unlink /n
 creat /n 3 ann staff 640
 unlink /n
 creat /n 4 ann staff 604
 sync file 4
-"
-    );
-    Ok(())
+";
+
+#[test]
+fn a_number_is_never_given_again(rt: HostRuntime) {
+    has_operations(&rt, rt.alloc(), START, &MADE_AGAIN, MADE_AGAIN_SHOWN);
 }
 
 /// A key-value store that logs a change, and puts a new table in the place of the old one.
@@ -184,12 +190,7 @@ const STORE: &str = r#"{"trace":1,"owner":"kv","group":"kv","mode":"750"}
 {"op":"sync"}
 "#;
 
-#[test]
-fn a_store_that_logs_and_renames(rt: HostRuntime) -> Result<(), Fail> {
-    let alloc = rt.alloc();
-    assert_eq!(rt;
-        operations_after(alloc, STORE, &[])?.as_str(),
-        "\
+const STORE_SHOWN: &str = "\
 creat /log 1 kv kv 640
 sync directory /
 write 1 0 0 [97, 61, 50, 10]
@@ -204,347 +205,235 @@ sync directory /
 rmdir /tmp
 truncate 1 4 0
 sync
-"
+";
+
+#[test]
+fn a_store_that_logs_and_renames(rt: HostRuntime) {
+    has_operations(&rt, rt.alloc(), STORE, &[], STORE_SHOWN);
+}
+
+/// A line is at fault behind a directory, a file in it and a file beside it.
+fn is_fault(rt: &impl Abort, alloc: Global, line: &str, kind: TraceFaultKind) {
+    let found = fault_of(rt, alloc, &[MKDIR_D, CREAT_X, CREAT_Q, line]);
+    assert!(rt;
+        found == Some(TraceFault { line: 5, kind }),
+        "{line}: {found:?}"
     );
-    Ok(())
 }
 
-const CREAT_Q: &str = r#"{"op":"creat","path":"/q","owner":"ann","group":"ann","mode":"644"}"#;
-
-const MKDIR_D: &str = r#"{"op":"mkdir","path":"/d","owner":"ann","group":"ann","mode":"755"}"#;
-
-const CREAT_X: &str = r#"{"op":"creat","path":"/d/x","owner":"ann","group":"ann","mode":"644"}"#;
-
-#[test]
-fn each_fault_of_an_operation(rt: HostRuntime) -> Result<(), Fail> {
-    for (line, kind) in [
-        (r#"{"op":"rmdir"}"#, TraceFaultKind::Syntax),
-        (r#"{"op":"sync","path":"/d"}"#, TraceFaultKind::Syntax),
-        (
-            r#"{"op":"unlink","path":"d","mode":"644"}"#,
-            TraceFaultKind::Syntax,
-        ),
-        (
-            r#"{"op":"truncate","path":"/q","length":-1}"#,
-            TraceFaultKind::Syntax,
-        ),
-        (
-            r#"{"op":"truncate","path":"/q","length":1.0}"#,
-            TraceFaultKind::Syntax,
-        ),
-        (
-            r#"{"op":"truncate","path":"/q","length":"1"}"#,
-            TraceFaultKind::Syntax,
-        ),
-        (
-            r#"{"op":"truncate","path":"/q","length":18446744073709551616}"#,
-            TraceFaultKind::Syntax,
-        ),
-        (
-            r#"{"op":"write","path":"/q","offset":0,"bytes":"7"}"#,
-            TraceFaultKind::Syntax,
-        ),
-        (
-            r#"{"op":"rename","path":"/q","to":"/r"}"#,
-            TraceFaultKind::Syntax,
-        ),
-        (r#"{"op":"say","text":7}"#, TraceFaultKind::Syntax),
-        (
-            r#"{"start":"dir","path":"/x","owner":"a","group":"a","mode":"755"}"#,
-            TraceFaultKind::Syntax,
-        ),
-        (r#"{"start":"link"}"#, TraceFaultKind::Syntax),
-        (r#"{"op":"link"}"#, TraceFaultKind::UnknownOp),
-        (
-            r#"{"op":"chmod","path":"/q","mode":"600"}"#,
-            TraceFaultKind::UnknownOp,
-        ),
-        (r#"{"op":"rmdir","path":"/"}"#, TraceFaultKind::BadName),
-        (
-            r#"{"op":"rename","from":"/nothing","to":"/"}"#,
-            TraceFaultKind::BadName,
-        ),
-        (
-            r#"{"op":"rename","from":"","to":"/r"}"#,
-            TraceFaultKind::BadName,
-        ),
-        (
-            r#"{"op":"creat","path":"/q//r","owner":"a","group":"a","mode":"644"}"#,
-            TraceFaultKind::BadName,
-        ),
-        (
-            r#"{"op":"mkdir","path":"/q","owner":"","group":"a","mode":"644"}"#,
-            TraceFaultKind::BadName,
-        ),
-        (r#"{"op":"fsync","path":"/../q"}"#, TraceFaultKind::BadName),
-        (
-            r#"{"op":"creat","path":"/r/s","owner":"a","group":"a","mode":"644"}"#,
-            TraceFaultKind::NoParent,
-        ),
-        (
-            r#"{"op":"mkdir","path":"/q/s","owner":"a","group":"a","mode":"644"}"#,
-            TraceFaultKind::NotDir,
-        ),
-        (
-            r#"{"op":"mkdir","path":"/q","owner":"a","group":"a","mode":"644"}"#,
-            TraceFaultKind::Exists,
-        ),
-        (r#"{"op":"unlink","path":"/r"}"#, TraceFaultKind::Missing),
-        (r#"{"op":"unlink","path":"/d"}"#, TraceFaultKind::NotFile),
-        (r#"{"op":"rmdir","path":"/r"}"#, TraceFaultKind::Missing),
-        (r#"{"op":"rmdir","path":"/q"}"#, TraceFaultKind::NotDir),
-        (r#"{"op":"rmdir","path":"/d"}"#, TraceFaultKind::NotEmpty),
-        (
-            r#"{"op":"rename","from":"/r","to":"/s/t"}"#,
-            TraceFaultKind::Missing,
-        ),
-        (
-            r#"{"op":"rename","from":"/d","to":"/e"}"#,
-            TraceFaultKind::NotFile,
-        ),
-        (
-            r#"{"op":"rename","from":"/q","to":"/e/q"}"#,
-            TraceFaultKind::NoParent,
-        ),
-        (
-            r#"{"op":"rename","from":"/q","to":"/q/r"}"#,
-            TraceFaultKind::NotDir,
-        ),
-        (
-            r#"{"op":"rename","from":"/q","to":"/d"}"#,
-            TraceFaultKind::NotFile,
-        ),
-        (
-            r#"{"op":"write","path":"/r","offset":0,"bytes":""}"#,
-            TraceFaultKind::Missing,
-        ),
-        (
-            r#"{"op":"write","path":"/d","offset":0,"bytes":""}"#,
-            TraceFaultKind::NotFile,
-        ),
-        (
-            r#"{"op":"truncate","path":"/r","length":0}"#,
-            TraceFaultKind::Missing,
-        ),
-        (
-            r#"{"op":"truncate","path":"/d","length":1048577}"#,
-            TraceFaultKind::NotFile,
-        ),
-        (r#"{"op":"fsync","path":"/d/y"}"#, TraceFaultKind::Missing),
-        (
-            r#"{"op":"truncate","path":"/q","length":1048577}"#,
-            TraceFaultKind::TooLarge,
-        ),
-        (
-            r#"{"op":"write","path":"/q","offset":1048576,"bytes":"00"}"#,
-            TraceFaultKind::TooLarge,
-        ),
-        (
-            r#"{"op":"write","path":"/q","offset":18446744073709551615,"bytes":"00"}"#,
-            TraceFaultKind::TooLarge,
-        ),
-    ] {
-        let want = Some(TraceFault { line: 5, kind });
-        let lines = [MKDIR_D, CREAT_X, CREAT_Q, line];
-        assert_eq!(rt; fault_of(rt.alloc(), &lines)?, want, "{line}");
+fn are_faults(rt: &impl Abort, alloc: Global, faulty: &Faulty) {
+    for line in faulty.lines {
+        is_fault(rt, alloc, line, faulty.kind);
     }
-    Ok(())
 }
 
 #[test]
-fn the_first_line_after_the_header_is_judged_at_2(rt: HostRuntime) -> Result<(), Fail> {
-    for (lines, line, kind) in [
-        ([r#"{"op":"link"}"#, ""], 2, TraceFaultKind::UnknownOp),
-        (
-            [r#"{"op":"rmdir","path":"/q"}"#, ""],
-            2,
-            TraceFaultKind::Missing,
-        ),
-        ([CREAT_X, ""], 2, TraceFaultKind::NoParent),
-        ([CREAT_Q, CREAT_Q], 3, TraceFaultKind::Exists),
-    ] {
-        let want = Some(TraceFault { line, kind });
-        assert_eq!(rt; fault_of(rt.alloc(), &lines)?, want);
+fn each_fault_of_an_operation(rt: HostRuntime) {
+    for faulty in &OPERATION_FAULTS {
+        are_faults(&rt, rt.alloc(), faulty);
     }
-    Ok(())
+}
+
+/// These lines are at fault in that line.
+fn is_fault_at(rt: &impl Abort, alloc: Global, lines: &[&str], line: usize, kind: TraceFaultKind) {
+    let found = fault_of(rt, alloc, lines);
+    assert!(rt; found == Some(TraceFault { line, kind }), "{found:?}");
 }
 
 #[test]
-fn what_is_no_fault(rt: HostRuntime) -> Result<(), Fail> {
-    for line in [
-        r#"{"op":"write","path":"/q","offset":18446744073709551615,"bytes":""}"#,
-        r#"{"op":"write","path":"/q","offset":1048575,"bytes":"00"}"#,
-        r#"{"op":"truncate","path":"/q","length":1048576}"#,
-        r#"{"op":"rename","from":"/q","to":"/d/x"}"#,
-        r#"{"op":"say","text":"\u0000"}"#,
-        r#"{"op":"fsync","path":"/"}"#,
-    ] {
-        let lines = [MKDIR_D, CREAT_X, CREAT_Q, line];
-        assert_eq!(rt; fault_of(rt.alloc(), &lines)?, None, "{line}");
-    }
-    Ok(())
-}
-
-#[test]
-fn a_rename_leaves_nothing_at_the_old_name(rt: HostRuntime) -> Result<(), Fail> {
+fn the_first_line_after_the_header_is_judged_at_2(rt: HostRuntime) {
     let alloc = rt.alloc();
-    let moved = r#"{"op":"rename","from":"/d/x","to":"/q"}"#;
-    let again = r#"{"op":"unlink","path":"/d/x"}"#;
-    assert_eq!(rt;
-        fault_of(alloc, &[MKDIR_D, CREAT_X, CREAT_Q, moved, again])?,
-        Some(TraceFault {
-            line: 6,
-            kind: TraceFaultKind::Missing
-        })
-    );
-    let emptied = r#"{"op":"rmdir","path":"/d"}"#;
-    assert_eq!(rt;
-        fault_of(
-            alloc,
-            &[MKDIR_D, CREAT_X, CREAT_Q, moved, emptied, MKDIR_D, CREAT_X]
-        )?,
-        None
-    );
-    Ok(())
+    let link = [r#"{"op":"link"}"#, ""];
+    is_fault_at(&rt, alloc, &link, 2, TraceFaultKind::UnknownOp);
+    let rmdir = [r#"{"op":"rmdir","path":"/q"}"#, ""];
+    is_fault_at(&rt, alloc, &rmdir, 2, TraceFaultKind::Missing);
+    is_fault_at(&rt, alloc, &[CREAT_X, ""], 2, TraceFaultKind::NoParent);
+    is_fault_at(&rt, alloc, &[CREAT_Q, CREAT_Q], 3, TraceFaultKind::Exists);
 }
+
+/// These lines make a trace.
+fn is_no_fault(rt: &impl Abort, alloc: Global, lines: &[&str]) {
+    let found = fault_of(rt, alloc, lines);
+    assert!(rt; found.is_none(), "{found:?}");
+}
+
+const NO_FAULTS: [&str; 6] = [
+    r#"{"op":"write","path":"/q","offset":18446744073709551615,"bytes":""}"#,
+    r#"{"op":"write","path":"/q","offset":16777215,"bytes":"00"}"#,
+    r#"{"op":"truncate","path":"/q","length":16777216}"#,
+    r#"{"op":"rename","from":"/q","to":"/d/x"}"#,
+    r#"{"op":"say","text":"\u0000"}"#,
+    r#"{"op":"fsync","path":"/"}"#,
+];
 
 #[test]
-fn an_entry_of_another_directory_leaves_one_empty(rt: HostRuntime) -> Result<(), Fail> {
-    let alloc = rt.alloc();
-    let beside = r#"{"op":"creat","path":"/d-","owner":"ann","group":"ann","mode":"644"}"#;
-    let longer = r#"{"op":"mkdir","path":"/dd","owner":"ann","group":"ann","mode":"755"}"#;
-    let below = r#"{"op":"creat","path":"/dd/x","owner":"ann","group":"ann","mode":"644"}"#;
-    let emptied = r#"{"op":"rmdir","path":"/d"}"#;
-    assert_eq!(rt;
-        fault_of(alloc, &[MKDIR_D, beside, longer, below, emptied])?,
-        None
-    );
-    Ok(())
+fn what_is_no_fault(rt: HostRuntime) {
+    for line in &NO_FAULTS {
+        is_no_fault(&rt, rt.alloc(), &[MKDIR_D, CREAT_X, CREAT_Q, line]);
+    }
 }
 
-/// A line with so many names in its path, after a word and before the rest.
-fn long_line(alloc: Global, head: &str, count: usize, tail: &str) -> Result<String, AllocError> {
-    let mut line = String::from_str(alloc, head)?;
-    for _ in 0..count {
-        line.push_str("/x")?;
-    }
-    line.push_str(tail)?;
-    Ok(line)
-}
+const MOVE_X: &str = r#"{"op":"rename","from":"/d/x","to":"/q"}"#;
 
-/// The fault of a line below 64 directories in one another, and a file beside them.
-fn fault_deep(alloc: Global, line: &str) -> Result<Option<TraceFaultKind>, AllocError> {
-    let mut text = String::from_str(alloc, HEADER)?;
-    for count in 1..65 {
-        let tail = "\",\"owner\":\"a\",\"group\":\"a\",\"mode\":\"700\"}";
-        let made = long_line(alloc, "\n{\"op\":\"mkdir\",\"path\":\"", count, tail)?;
-        text.push_str(made.as_str())?;
-    }
-    text.push_str("\n")?;
-    text.push_str(CREAT_Q)?;
-    text.push_str("\n")?;
-    text.push_str(line)?;
-    Ok(
-        read_trace(alloc, text.as_str())
-            .err()
-            .map(|fault| fault.kind),
-    )
-}
+const UNLINK_X: &str = r#"{"op":"unlink","path":"/d/x"}"#;
+
+const RMDIR_D: &str = r#"{"op":"rmdir","path":"/d"}"#;
+
+const MOVED: [&str; 5] = [MKDIR_D, CREAT_X, CREAT_Q, MOVE_X, UNLINK_X];
+
+const MADE_ANEW: [&str; 7] = [MKDIR_D, CREAT_X, CREAT_Q, MOVE_X, RMDIR_D, MKDIR_D, CREAT_X];
 
 #[test]
-fn a_path_longer_than_64_names_is_too_large_or_nowhere(rt: HostRuntime) -> Result<(), Fail> {
-    let alloc = rt.alloc();
-    let made = "\",\"owner\":\"a\",\"group\":\"a\",\"mode\":\"600\"}";
-    for (head, count, tail, kind) in [
-        (
-            "{\"op\":\"creat\",\"path\":\"",
-            64,
-            made,
-            TraceFaultKind::Exists,
-        ),
-        (
-            "{\"op\":\"creat\",\"path\":\"",
-            65,
-            made,
-            TraceFaultKind::TooLarge,
-        ),
-        (
-            "{\"op\":\"mkdir\",\"path\":\"",
-            66,
-            made,
-            TraceFaultKind::NoParent,
-        ),
-        (
-            "{\"op\":\"rename\",\"from\":\"/q\",\"to\":\"",
-            65,
-            "\"}",
-            TraceFaultKind::TooLarge,
-        ),
-        (
-            "{\"op\":\"rename\",\"from\":\"/q\",\"to\":\"",
-            66,
-            "\"}",
-            TraceFaultKind::NoParent,
-        ),
-        (
-            "{\"op\":\"rename\",\"from\":\"/r\",\"to\":\"",
-            900,
-            "\"}",
-            TraceFaultKind::Missing,
-        ),
-        (
-            "{\"op\":\"unlink\",\"path\":\"",
-            65,
-            "\"}",
-            TraceFaultKind::Missing,
-        ),
-        (
-            "{\"op\":\"rmdir\",\"path\":\"",
-            66,
-            "\"}",
-            TraceFaultKind::Missing,
-        ),
-        (
-            "{\"op\":\"fsync\",\"path\":\"",
-            900,
-            "\"}",
-            TraceFaultKind::Missing,
-        ),
-        (
-            "{\"op\":\"truncate\",\"length\":0,\"path\":\"",
-            66,
-            "\"}",
-            TraceFaultKind::Missing,
-        ),
-        (
-            "{\"op\":\"write\",\"offset\":0,\"bytes\":\"\",\"path\":\"",
-            66,
-            "\"}",
-            TraceFaultKind::Missing,
-        ),
-    ] {
-        let line = long_line(alloc, head, count, tail)?;
-        assert_eq!(rt;
-            fault_deep(alloc, line.as_str())?,
-            Some(kind),
-            "{head}{count}"
-        );
-    }
-    Ok(())
+fn a_rename_leaves_nothing_at_the_old_name(rt: HostRuntime) {
+    is_fault_at(&rt, rt.alloc(), &MOVED, 6, TraceFaultKind::Missing);
+    is_no_fault(&rt, rt.alloc(), &MADE_ANEW);
 }
 
+/// A file beside `/d`, and one in another directory.
+const ENTRIES_ELSEWHERE: [&str; 5] = [
+    MKDIR_D,
+    r#"{"op":"creat","path":"/d-","owner":"ann","group":"ann","mode":"644"}"#,
+    r#"{"op":"mkdir","path":"/dd","owner":"ann","group":"ann","mode":"755"}"#,
+    r#"{"op":"creat","path":"/dd/x","owner":"ann","group":"ann","mode":"644"}"#,
+    RMDIR_D,
+];
+
 #[test]
-fn a_text_of_1024_bytes_may_be_said(rt: HostRuntime) -> Result<(), Fail> {
-    let alloc = rt.alloc();
-    let said = long_line(alloc, "{\"op\":\"say\",\"text\":\"", 512, "\"}")?;
-    assert_eq!(rt; fault_of(alloc, &[said.as_str()])?, None);
-    let too_long = long_line(alloc, "{\"op\":\"say\",\"text\":\"\u{e9}", 511, "x\"}")?;
-    assert_eq!(rt;
-        fault_of(alloc, &[too_long.as_str()])?,
-        Some(TraceFault {
-            line: 2,
-            kind: TraceFaultKind::TooLarge
-        })
+fn an_entry_of_another_directory_leaves_one_empty(rt: HostRuntime) {
+    is_no_fault(&rt, rt.alloc(), &ENTRIES_ELSEWHERE);
+}
+
+/// A line with so many names in its path, what stands before them and behind them, and its fault.
+struct LongPath {
+    head: &'static str,
+    count: usize,
+    tail: &'static str,
+    kind: TraceFaultKind,
+}
+
+fn push_directory(text: &mut String, names: usize) -> Result<(), AllocError> {
+    text.push_str("\n{\"op\":\"mkdir\",\"path\":\"")?;
+    for _ in 0..names {
+        text.push_str("/x")?;
+    }
+    text.push_str("\",\"owner\":\"a\",\"group\":\"a\",\"mode\":\"700\"}")
+}
+
+/// A header, and 64 directories in one another.
+fn deep(rt: &impl Abort, alloc: Global) -> String {
+    let mut text = String::from_str(alloc, HEADER).expect(rt, "memory");
+    for names in 1..65 {
+        push_directory(&mut text, names).expect(rt, "memory");
+    }
+    text
+}
+
+/// Looks at the fault of a line below 64 directories in one another, and a file beside them.
+fn is_long_path(rt: &impl Abort, alloc: Global, deep: &str, row: &LongPath) {
+    let line = long_line(alloc, row.head, row.count, row.tail).expect(rt, "memory");
+    let text = text_after(alloc, deep, &[CREAT_Q, line.as_str()]).expect(rt, "memory");
+    let fault = read_trace(alloc, text.as_str()).err();
+    let found = fault.map(|fault| fault.kind);
+    assert!(rt;
+        found == Some(row.kind),
+        "{}{}: {found:?}",
+        row.head,
+        row.count
     );
-    Ok(())
+}
+
+/// The end of a line that makes a file.
+const MADE: &str = "\",\"owner\":\"a\",\"group\":\"a\",\"mode\":\"600\"}";
+
+const LONG_PATHS: [LongPath; 11] = [
+    LongPath {
+        head: "{\"op\":\"creat\",\"path\":\"",
+        count: 64,
+        tail: MADE,
+        kind: TraceFaultKind::Exists,
+    },
+    LongPath {
+        head: "{\"op\":\"creat\",\"path\":\"",
+        count: 65,
+        tail: MADE,
+        kind: TraceFaultKind::TooLarge,
+    },
+    LongPath {
+        head: "{\"op\":\"mkdir\",\"path\":\"",
+        count: 66,
+        tail: MADE,
+        kind: TraceFaultKind::NoParent,
+    },
+    LongPath {
+        head: "{\"op\":\"rename\",\"from\":\"/q\",\"to\":\"",
+        count: 65,
+        tail: "\"}",
+        kind: TraceFaultKind::TooLarge,
+    },
+    LongPath {
+        head: "{\"op\":\"rename\",\"from\":\"/q\",\"to\":\"",
+        count: 66,
+        tail: "\"}",
+        kind: TraceFaultKind::NoParent,
+    },
+    LongPath {
+        head: "{\"op\":\"rename\",\"from\":\"/r\",\"to\":\"",
+        count: 900,
+        tail: "\"}",
+        kind: TraceFaultKind::Missing,
+    },
+    LongPath {
+        head: "{\"op\":\"unlink\",\"path\":\"",
+        count: 65,
+        tail: "\"}",
+        kind: TraceFaultKind::Missing,
+    },
+    LongPath {
+        head: "{\"op\":\"rmdir\",\"path\":\"",
+        count: 66,
+        tail: "\"}",
+        kind: TraceFaultKind::Missing,
+    },
+    LongPath {
+        head: "{\"op\":\"fsync\",\"path\":\"",
+        count: 900,
+        tail: "\"}",
+        kind: TraceFaultKind::Missing,
+    },
+    LongPath {
+        head: "{\"op\":\"truncate\",\"length\":0,\"path\":\"",
+        count: 66,
+        tail: "\"}",
+        kind: TraceFaultKind::Missing,
+    },
+    LongPath {
+        head: "{\"op\":\"write\",\"offset\":0,\"bytes\":\"\",\"path\":\"",
+        count: 66,
+        tail: "\"}",
+        kind: TraceFaultKind::Missing,
+    },
+];
+
+#[test]
+fn a_path_longer_than_64_names_is_too_large_or_nowhere(rt: HostRuntime) {
+    let deep = deep(&rt, rt.alloc());
+    for row in &LONG_PATHS {
+        is_long_path(&rt, rt.alloc(), deep.as_str(), row);
+    }
+}
+
+const SAY: &str = "{\"op\":\"say\",\"text\":\"";
+
+#[test]
+fn a_text_of_1024_bytes_may_be_said(rt: HostRuntime) {
+    let said = long_line(rt.alloc(), SAY, 512, "\"}").expect(&rt, "memory");
+    is_no_fault(&rt, rt.alloc(), &[said.as_str()]);
+    let longer = long_line(rt.alloc(), SAY, 511, "\u{e9}x\"}").expect(&rt, "memory");
+    is_fault_at(
+        &rt,
+        rt.alloc(),
+        &[longer.as_str()],
+        2,
+        TraceFaultKind::TooLarge,
+    );
 }

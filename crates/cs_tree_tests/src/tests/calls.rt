@@ -7,6 +7,7 @@ use super::allowed::{
 use cs_names::{Name, UserName};
 use cs_tree_model::{Change, New, Stamp, TreeStore, is_empty};
 use std::alloc::Global;
+use std::process::Abort;
 
 /// The fields of a change, by their texts.
 #[derive(Clone, Copy)]
@@ -125,13 +126,7 @@ fn change_of(alloc: Global, fields: &Fields) -> Option<Change> {
 }
 
 /// Makes the call, at a moment and by a user.
-pub fn make<T: TreeStore>(
-    tree: &mut T,
-    alloc: Global,
-    call: Call,
-    now: u32,
-    by: &str,
-) -> Option<()> {
+fn make<T: TreeStore>(tree: &mut T, alloc: Global, call: Call, now: u32, by: &str) -> Option<()> {
     let stamp = Stamp {
         now,
         user: user(alloc, by)?,
@@ -154,4 +149,16 @@ pub fn make<T: TreeStore>(
             change(tree, alloc, number, &fields, stamp)
         }
     }
+}
+
+/// Makes a call that may be made.
+pub fn must_make<T: TreeStore>(
+    rt: &impl Abort,
+    alloc: Global,
+    tree: &mut T,
+    call: Call,
+    now: u32,
+    by: &str,
+) {
+    make(tree, alloc, call, now, by).expect(rt, "a call that may be made");
 }

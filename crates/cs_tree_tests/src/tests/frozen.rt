@@ -1,8 +1,8 @@
 //! What a frozen tree shows.
 
-use super::calls::{Call, make, write};
-use super::runs::{BEFORE, cut_over, run_and_look, same_lines};
-use super::shown::listed;
+use super::calls::{Call, must_make, write};
+use super::runs::{BEFORE, cut_over, over, run_and_look};
+use super::shown::{has_entries, has_numbers, same_lines};
 use super::start::{START, frozen, over_frozen, over_plain, records, start_lower};
 use cs_lower::Lower;
 use cs_names::UserName;
@@ -10,6 +10,7 @@ use cs_overlay::Overlay;
 use cs_tree::PlainTree;
 use cs_tree_model::{DMDIR, Stamp, TreeRead};
 use std::alloc::Global;
+use std::process::Abort;
 use std::sync::Arc;
 
 /// A plain tree over which something was changed, frozen.
@@ -19,7 +20,7 @@ type State = Arc<Lower<Overlay<PlainTree>>>;
 fn files_made_in_another_order_freeze_to_the_start_tree(rt: HostRuntime) {
     let tree = over_frozen(rt.alloc()).expect(&rt, "the frozen tree");
     same_lines(&rt, rt.alloc(), &tree, &BEFORE);
-    assert_eq!(&rt; (tree.count(), tree.last_number()), (7, 6));
+    has_numbers(&rt, &tree, 7, 6);
 }
 
 /// What was changed over the start tree, each by another user.
@@ -42,25 +43,30 @@ const AFTER: [&str; 7] = [
     "6 /p 0 ann staff d750 0 0 ann",
 ];
 
+/// The start tree with the changes over it, frozen.
+fn changed(rt: &impl Abort, alloc: Global, lower: &Arc<PlainTree>) -> State {
+    let mut tree = over(rt, alloc, lower);
+    for call in &CALLS {
+        must_make(rt, alloc, &mut tree, *call, 10, "bob");
+    }
+    frozen(alloc, tree).expect(rt, "memory")
+}
+
+/// The entries of its directories; a file and no file have none.
+fn has_all_entries<T: TreeRead>(rt: &impl Abort, alloc: Global, tree: &T) {
+    has_entries(rt, alloc, tree, 0, "a 1, d 2, f 4, n 5, p 6, ");
+    has_entries(rt, alloc, tree, 2, "b 3, ");
+    has_entries(rt, alloc, tree, 4, "");
+    has_entries(rt, alloc, tree, 9, "");
+}
+
 #[test]
 fn a_frozen_tree_has_fresh_numbers_in_the_order_of_paths(rt: HostRuntime) {
     let lower = start_lower(rt.alloc()).expect(&rt, "the start tree");
-    let mut tree = Overlay::over(rt.alloc(), lower.clone().expect(&rt, "a share"));
-    for call in &CALLS {
-        make(&mut tree, rt.alloc(), *call, 10, "bob").expect(&rt, "a call that may be made");
-    }
-    let state = frozen(rt.alloc(), tree).expect(&rt, "memory");
+    let state = changed(&rt, rt.alloc(), &lower);
     same_lines(&rt, rt.alloc(), &*state, &AFTER);
-    assert_eq!(&rt; (state.count(), state.last_number()), (7, 6));
-    for (directory, entries) in [
-        (0, "a 1, d 2, f 4, n 5, p 6, "),
-        (2, "b 3, "),
-        (4, ""),
-        (9, ""),
-    ] {
-        let found = listed(rt.alloc(), &*state, directory).expect(&rt, "memory");
-        assert_eq!(&rt; found.as_str(), entries, "of {directory}");
-    }
+    has_numbers(&rt, &*state, 7, 6);
+    has_all_entries(&rt, rt.alloc(), &*state);
     assert!(&rt; state.record(7).is_none());
     same_lines(&rt, rt.alloc(), &*lower, &BEFORE);
 }
@@ -72,19 +78,23 @@ fn a_run_over_a_frozen_tree_leaves_it(rt: HostRuntime) {
     run_and_look(&rt, rt.alloc(), &state);
 }
 
+/// Bytes of 0x61 are written into `/a`.
+fn write_letters<L: TreeRead + Drop>(alloc: Global, tree: &mut Overlay<L>) -> Option<()> {
+    let user = UserName::read(alloc, b"ann").ok()?;
+    write(tree, alloc, 1, 0, &[b'a'; 5000], Stamp { now: 2, user })
+}
+
 /// `/a` with 5,000 bytes of 0x61, frozen.
-fn with_letters(alloc: Global) -> Option<State> {
+fn with_letters(rt: &impl Abort, alloc: Global) -> Option<State> {
     let plain = PlainTree::try_from_records(alloc, records(alloc, &START[..1])?).ok()?;
     let mut tree = Overlay::over(alloc, Arc::new(alloc, plain).ok()?);
-    make(&mut tree, alloc, Call::Add(0, "a", 0o644), 1, "ann")?;
-    let letters = [b'a'; 5000];
-    let user = UserName::read(alloc, b"ann").ok()?;
-    write(&mut tree, alloc, 1, 0, &letters, Stamp { now: 2, user })?;
+    must_make(rt, alloc, &mut tree, Call::Add(0, "a", 0o644), 1, "ann");
+    write_letters(alloc, &mut tree)?;
     frozen(alloc, tree)
 }
 
 #[test]
 fn a_cut_over_a_frozen_file_grows_by_zeros(rt: HostRuntime) {
-    let state = with_letters(rt.alloc()).expect(&rt, "a frozen tree");
+    let state = with_letters(&rt, rt.alloc()).expect(&rt, "a frozen tree");
     cut_over(&rt, rt.alloc(), &state);
 }

@@ -1,18 +1,15 @@
 //! What an overlay shows of the lower tree, and what the lower tree goes on showing.
 
-use super::calls::{Call, Fields, NONE, make};
-use super::runs::run_and_look;
-use super::shown::{lines, listed};
+use super::calls::{Call, Fields, NONE, must_make};
+use super::runs::{BEFORE, over, run_and_look};
+use super::shown::{has_bytes_from, has_entries, has_numbers, same_lines};
 use super::start::{over_plain, start_lower};
 use cs_overlay::Overlay;
-use cs_tree_model::TreeRead;
+use cs_tree::PlainTree;
+use cs_tree_model::{TreeRead, TreeStore};
 use std::alloc::Global;
 use std::process::Abort;
 use std::sync::Arc;
-
-fn bytes<T: TreeRead>(alloc: Global, tree: &T, number: u64, offset: u64) -> Option<Vec<u8>> {
-    tree.read_at(alloc, number, offset, 10_000).ok()?
-}
 
 fn resized(length: u64) -> Call {
     Call::Change(
@@ -24,38 +21,39 @@ fn resized(length: u64) -> Call {
     )
 }
 
-/// The start tree's `/f` is `hello`.
-fn hello<T: TreeRead>(rt: &impl Abort, alloc: Global, tree: &T) {
-    let found = bytes(alloc, tree, 4, 0).expect(rt, "bytes");
-    assert!(rt; found.as_slice() == b"hello".as_slice());
-}
-
 #[test]
 fn nothing_changed_is_the_lower_tree(rt: HostRuntime) {
     let lower = start_lower(rt.alloc()).expect(&rt, "the start tree");
-    let upper = Overlay::over(rt.alloc(), lower.clone().expect(&rt, "a share"));
-    let found = lines(rt.alloc(), &upper).expect(&rt, "memory");
-    let wanted = lines(rt.alloc(), &*lower).expect(&rt, "memory");
-    assert!(&rt; found == wanted);
-    assert_eq!(&rt; (upper.count(), upper.last_number()), (7, 6));
-    hello(&rt, rt.alloc(), &upper);
+    let upper = over(&rt, rt.alloc(), &lower);
+    same_lines(&rt, rt.alloc(), &upper, &BEFORE);
+    same_lines(&rt, rt.alloc(), &*lower, &BEFORE);
+    has_numbers(&rt, &upper, 7, 6);
+    has_bytes_from(&rt, rt.alloc(), &upper, 4, 0, b"hello");
+}
+
+const WRITE: Call = Call::Write(4, 0, b"HI");
+
+/// A run writes into `/f`.
+fn write_over<T: TreeStore>(rt: &impl Abort, alloc: Global, upper: &mut T) {
+    must_make(rt, alloc, upper, WRITE, 10, "bob");
+    has_bytes_from(rt, alloc, upper, 4, 0, b"HIllo");
+}
+
+/// A run removes `/f`.
+fn remove_over<T: TreeStore>(rt: &impl Abort, alloc: Global, upper: &mut T) {
+    must_make(rt, alloc, upper, Call::Remove(4), 11, "bob");
+    assert!(rt; upper.record(4).is_none());
 }
 
 #[test]
 fn the_lower_tree_reads_as_before(rt: HostRuntime) {
     let lower = start_lower(rt.alloc()).expect(&rt, "the start tree");
-    let before = lines(rt.alloc(), &*lower).expect(&rt, "memory");
-    let mut upper = Overlay::over(rt.alloc(), lower.clone().expect(&rt, "a share"));
-    let mut other = Overlay::over(rt.alloc(), lower.clone().expect(&rt, "a share"));
-    let write = Call::Write(4, 0, b"HI");
-    make(&mut upper, rt.alloc(), write, 10, "bob").expect(&rt, "a write");
-    let found = bytes(rt.alloc(), &upper, 4, 0).expect(&rt, "bytes");
-    assert!(&rt; found.as_slice() == b"HIllo".as_slice());
-    hello(&rt, rt.alloc(), &*lower);
-    make(&mut other, rt.alloc(), Call::Remove(4), 11, "bob").expect(&rt, "a remove");
-    assert!(&rt; other.record(4).is_none());
-    let after = lines(rt.alloc(), &*lower).expect(&rt, "memory");
-    assert!(&rt; before == after);
+    let mut upper = over(&rt, rt.alloc(), &lower);
+    let mut other = over(&rt, rt.alloc(), &lower);
+    write_over(&rt, rt.alloc(), &mut upper);
+    has_bytes_from(&rt, rt.alloc(), &*lower, 4, 0, b"hello");
+    remove_over(&rt, rt.alloc(), &mut other);
+    same_lines(&rt, rt.alloc(), &*lower, &BEFORE);
 }
 
 #[test]
@@ -64,47 +62,57 @@ fn a_run_over_a_plain_tree_leaves_it(rt: HostRuntime) {
     run_and_look(&rt, rt.alloc(), &lower);
 }
 
+/// The bytes of `/f`: its own five, and zeros in all but one place.
+fn has_one_letter<T: TreeRead>(rt: &impl Abort, alloc: Global, tree: &T) {
+    has_bytes_from(rt, alloc, tree, 4, 4090, b"\0\0\0\0a\0\0\0\0\0");
+    let found = tree.read_at(alloc, 4, 0, 10_000).expect(rt, "memory");
+    assert!(rt; found.expect(rt, "bytes").starts_with(b"hello\0\0"));
+}
+
 #[test]
 fn a_written_block_is_cut_too(rt: HostRuntime) {
     let mut tree = over_plain(rt.alloc()).expect(&rt, "the start tree");
     let write = Call::Write(4, 4094, b"abcd");
-    make(&mut tree, rt.alloc(), write, 10, "bob").expect(&rt, "a write");
-    make(&mut tree, rt.alloc(), resized(4095), 11, "bob").expect(&rt, "a cut");
-    make(&mut tree, rt.alloc(), resized(4100), 12, "bob").expect(&rt, "a growth");
-    let found = bytes(rt.alloc(), &tree, 4, 4090).expect(&rt, "bytes");
-    assert!(&rt; found.as_slice() == b"\0\0\0\0a\0\0\0\0\0".as_slice());
-    let found = bytes(rt.alloc(), &tree, 4, 0).expect(&rt, "bytes");
-    assert!(&rt; found.starts_with(b"hello\0\0"));
+    must_make(&rt, rt.alloc(), &mut tree, write, 10, "bob");
+    must_make(&rt, rt.alloc(), &mut tree, resized(4095), 11, "bob");
+    must_make(&rt, rt.alloc(), &mut tree, resized(4100), 12, "bob");
+    has_one_letter(&rt, rt.alloc(), &tree);
 }
 
 #[test]
 fn a_name_of_both_levels_is_listed_once(rt: HostRuntime) {
     let mut tree = over_plain(rt.alloc()).expect(&rt, "the start tree");
-    make(&mut tree, rt.alloc(), Call::Remove(4), 10, "bob").expect(&rt, "a remove");
-    let found = listed(rt.alloc(), &tree, 0).expect(&rt, "memory");
-    assert_eq!(&rt; found.as_str(), "d 1, n 5, p 6, ");
-    make(&mut tree, rt.alloc(), Call::Add(0, "f", 0o600), 11, "ann").expect(&rt, "a new file");
-    let found = listed(rt.alloc(), &tree, 0).expect(&rt, "memory");
-    assert_eq!(&rt; found.as_str(), "d 1, f 7, n 5, p 6, ");
-    assert!(&rt; bytes(rt.alloc(), &tree, 4, 0).is_none());
+    must_make(&rt, rt.alloc(), &mut tree, Call::Remove(4), 10, "bob");
+    has_entries(&rt, rt.alloc(), &tree, 0, "d 1, n 5, p 6, ");
+    let add = Call::Add(0, "f", 0o600);
+    must_make(&rt, rt.alloc(), &mut tree, add, 11, "ann");
+    has_entries(&rt, rt.alloc(), &tree, 0, "d 1, f 7, n 5, p 6, ");
+    let gone = tree.read_at(rt.alloc(), 4, 0, 10_000).expect(&rt, "memory");
+    assert!(&rt; gone.is_none());
+}
+
+/// A run over the start tree with `HI` in `/f`, and a new file `/d/g`.
+fn low_level(rt: &impl Abort, alloc: Global) -> Arc<Overlay<PlainTree>> {
+    let mut low = over_plain(alloc).expect(rt, "the start tree");
+    must_make(rt, alloc, &mut low, WRITE, 10, "bob");
+    must_make(rt, alloc, &mut low, Call::Add(1, "g", 0o644), 11, "bob");
+    Arc::new(alloc, low).expect(rt, "memory")
+}
+
+/// Looks at `/f` and at the entries of `/d`.
+fn shows<T: TreeRead>(rt: &impl Abort, alloc: Global, tree: &T, bytes: &[u8], entries: &str) {
+    has_bytes_from(rt, alloc, tree, 4, 0, bytes);
+    has_entries(rt, alloc, tree, 1, entries);
 }
 
 /// A second level says the same of each call as the first.
 #[test]
 fn levels_lie_over_levels(rt: HostRuntime) {
-    let mut low = over_plain(rt.alloc()).expect(&rt, "the start tree");
-    make(&mut low, rt.alloc(), Call::Write(4, 0, b"HI"), 10, "bob").expect(&rt, "a write");
-    make(&mut low, rt.alloc(), Call::Add(1, "g", 0o644), 11, "bob").expect(&rt, "a new file");
-    let low = Arc::new(rt.alloc(), low).expect(&rt, "memory");
-    let mut high = Overlay::over(rt.alloc(), low.clone().expect(&rt, "a share"));
-    make(&mut high, rt.alloc(), Call::Write(4, 3, b"LL"), 12, "bob").expect(&rt, "a write");
-    make(&mut high, rt.alloc(), Call::Remove(7), 13, "bob").expect(&rt, "a remove");
-    let found = bytes(rt.alloc(), &high, 4, 0).expect(&rt, "bytes");
-    assert!(&rt; found.as_slice() == b"HIlLL".as_slice());
-    let found = bytes(rt.alloc(), &*low, 4, 0).expect(&rt, "bytes");
-    assert!(&rt; found.as_slice() == b"HIllo".as_slice());
-    let found = listed(rt.alloc(), &high, 1).expect(&rt, "memory");
-    assert_eq!(&rt; found.as_str(), "s 2, ");
-    let found = listed(rt.alloc(), &*low, 1).expect(&rt, "memory");
-    assert_eq!(&rt; found.as_str(), "g 7, s 2, ");
+    let low = low_level(&rt, rt.alloc());
+    let mut high = over(&rt, rt.alloc(), &low);
+    let write = Call::Write(4, 3, b"LL");
+    must_make(&rt, rt.alloc(), &mut high, write, 12, "bob");
+    must_make(&rt, rt.alloc(), &mut high, Call::Remove(7), 13, "bob");
+    shows(&rt, rt.alloc(), &high, b"HIlLL", "s 2, ");
+    shows(&rt, rt.alloc(), &*low, b"HIllo", "g 7, s 2, ");
 }

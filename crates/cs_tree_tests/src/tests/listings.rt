@@ -1,7 +1,7 @@
 //! A directory's entries, one after the other.
 
-use super::calls::{Call, make};
-use super::shown::listed;
+use super::calls::{Call, must_make};
+use super::shown::has_entries;
 use super::start::{over_frozen, over_plain, start_tree};
 use super::states::over_state;
 use cs_names::Name;
@@ -9,18 +9,22 @@ use cs_tree_model::{TreeRead, TreeStore};
 use std::alloc::Global;
 use std::process::Abort;
 
+const NAMES: [&str; 5] = ["da", "D", "\u{e9}", "d0", "~"];
+
+const ALL: &str = "D 8, d 1, d0 10, da 7, f 4, n 5, p 6, ~ 11, \u{e9} 9, ";
+
 /// Makes files in the root, and lists it.
 fn make_and_list<T: TreeStore + Drop>(rt: &impl Abort, alloc: Global, tree: Option<T>) {
     let mut tree = tree.expect(rt, "the start tree");
-    for name in ["da", "D", "\u{e9}", "d0", "~"] {
+    for name in &NAMES {
         let call = Call::Add(0, name, 0o644);
-        make(&mut tree, alloc, call, 1, "cat").expect(rt, "a new file");
+        must_make(rt, alloc, &mut tree, call, 1, "cat");
     }
-    let all = "D 8, d 1, d0 10, da 7, f 4, n 5, p 6, ~ 11, \u{e9} 9, ";
-    for (directory, entries) in [(0, all), (1, "s 2, "), (6, ""), (4, ""), (99, "")] {
-        let found = listed(alloc, &tree, directory).expect(rt, "memory");
-        assert_eq!(rt; found.as_str(), entries, "of {directory}");
-    }
+    has_entries(rt, alloc, &tree, 0, ALL);
+    has_entries(rt, alloc, &tree, 1, "s 2, ");
+    has_entries(rt, alloc, &tree, 6, "");
+    has_entries(rt, alloc, &tree, 4, "");
+    has_entries(rt, alloc, &tree, 99, "");
 }
 
 #[test]
@@ -32,7 +36,11 @@ fn entries_come_in_byte_order_of_their_names(rt: HostRuntime) {
 }
 
 /// Last name, bound and answer of a step in the root's listing; no text stands for none.
-type Row = (&'static str, &'static str, &'static str);
+struct Step {
+    last: &'static str,
+    bound: &'static str,
+    answer: &'static str,
+}
 
 fn name(alloc: Global, text: &str) -> Option<Name> {
     Name::read(alloc, text.as_bytes()).ok()
@@ -40,45 +48,107 @@ fn name(alloc: Global, text: &str) -> Option<Name> {
 
 fn entry<T: TreeRead>(alloc: Global, tree: &T, last: &str, bound: &str) -> Option<String> {
     let (last, bound) = (name(alloc, last), name(alloc, bound));
-    let Some(entry) = tree.entry_after(0, last.as_ref(), bound.as_ref()) else {
-        return Some(String::new(alloc));
-    };
-    let (name, number) = (entry.name, entry.number);
-    format!(in alloc; "{name} {number}").ok()
+    let mut text = String::new(alloc);
+    if let Some(entry) = tree.entry_after(0, last.as_ref(), bound.as_ref()) {
+        let (name, number) = (entry.name, entry.number);
+        write!(text, "{name} {number}").ok()?;
+    }
+    Some(text)
 }
 
-fn step_through<T: TreeRead>(rt: &impl Abort, alloc: Global, tree: &T, rows: &[Row]) {
-    for (last, bound, answer) in rows {
-        let found = entry(alloc, tree, last, bound).expect(rt, "memory");
-        assert_eq!(rt; found.as_str(), *answer, "after {last}, before {bound}");
+fn gives<T: TreeRead>(rt: &impl Abort, alloc: Global, tree: &T, step: &Step) {
+    let (last, bound) = (step.last, step.bound);
+    let found = entry(alloc, tree, last, bound).expect(rt, "memory");
+    assert_eq!(rt; found.as_str(), step.answer, "after {last}, before {bound}");
+}
+
+fn step_through<T: TreeRead>(rt: &impl Abort, alloc: Global, tree: &T, steps: &[Step]) {
+    for step in steps {
+        gives(rt, alloc, tree, step);
     }
 }
 
-const WHOLE: [Row; 9] = [
-    ("", "", "d 1"),
-    ("d", "", "f 4"),
-    ("e", "", "f 4"),
-    ("p", "", ""),
-    ("", "d", ""),
-    ("", "d0", "d 1"),
-    ("d", "f", ""),
-    ("d", "g", "f 4"),
-    ("f", "e", ""),
+const WHOLE: [Step; 9] = [
+    Step {
+        last: "",
+        bound: "",
+        answer: "d 1",
+    },
+    Step {
+        last: "d",
+        bound: "",
+        answer: "f 4",
+    },
+    Step {
+        last: "e",
+        bound: "",
+        answer: "f 4",
+    },
+    Step {
+        last: "p",
+        bound: "",
+        answer: "",
+    },
+    Step {
+        last: "",
+        bound: "d",
+        answer: "",
+    },
+    Step {
+        last: "",
+        bound: "d0",
+        answer: "d 1",
+    },
+    Step {
+        last: "d",
+        bound: "f",
+        answer: "",
+    },
+    Step {
+        last: "d",
+        bound: "g",
+        answer: "f 4",
+    },
+    Step {
+        last: "f",
+        bound: "e",
+        answer: "",
+    },
 ];
 
-const WITHOUT_F: [Row; 5] = [
-    ("", "", "d 1"),
-    ("d", "", "n 5"),
-    ("f", "", "n 5"),
-    ("f", "n", ""),
-    ("n", "", "p 6"),
+const WITHOUT_F: [Step; 5] = [
+    Step {
+        last: "",
+        bound: "",
+        answer: "d 1",
+    },
+    Step {
+        last: "d",
+        bound: "",
+        answer: "n 5",
+    },
+    Step {
+        last: "f",
+        bound: "",
+        answer: "n 5",
+    },
+    Step {
+        last: "f",
+        bound: "n",
+        answer: "",
+    },
+    Step {
+        last: "n",
+        bound: "",
+        answer: "p 6",
+    },
 ];
 
 /// Lists the root of the start tree, and takes the last name that was given out of it.
 fn list_and_remove<T: TreeStore + Drop>(rt: &impl Abort, alloc: Global, tree: Option<T>) {
     let mut tree = tree.expect(rt, "the start tree");
     step_through(rt, alloc, &tree, &WHOLE);
-    make(&mut tree, alloc, Call::Remove(4), 1, "cat").expect(rt, "a remove");
+    must_make(rt, alloc, &mut tree, Call::Remove(4), 1, "cat");
     step_through(rt, alloc, &tree, &WITHOUT_F);
 }
 

@@ -4,49 +4,132 @@ use super::start::{Row, records};
 use cs_names::{Path, UserName};
 use cs_tree::{PlainTree, RecordsFault};
 use cs_tree_model::{Content, DMAPPEND, DMDIR, Record, TreeRead, number_of_path};
+use std::alloc::Global;
+use std::process::Abort;
 
-const ROOT: Row = (0, "/", b"cat", b"cat", DMDIR, None);
+/// What is cat's, of the group cat.
+const CATS: Row = Row {
+    number: 0,
+    path: "/",
+    owner: b"cat",
+    group: b"cat",
+    mode: 0,
+    bytes: None,
+};
 
-const FILE: Row = (1, "/f", b"cat", b"cat", 0, Some(b""));
+const ROOT: Row = Row {
+    mode: DMDIR,
+    ..CATS
+};
 
-#[test]
-fn records_that_make_no_tree_are_refused(rt: HostRuntime) {
-    let orphan: Row = (1, "/d/s", b"cat", b"cat", DMDIR, None);
-    let again: Row = (1, "/", b"cat", b"cat", DMDIR, None);
-    let below: Row = (2, "/f/g", b"cat", b"cat", DMDIR, None);
-    let twice: Row = (2, "/f", b"cat", b"cat", 0, Some(b""));
-    let same: Row = (1, "/g", b"cat", b"cat", 0, Some(b""));
-    let unmarked_root: Row = (0, "/", b"cat", b"cat", 0o775, None);
-    let file_at_root: Row = (0, "/", b"cat", b"cat", 0, Some(b""));
-    let unmarked: Row = (1, "/d", b"cat", b"cat", DMAPPEND | 0o775, None);
-    let marked: Row = (1, "/f", b"cat", b"cat", DMDIR | 0o664, Some(b""));
-    let lists: [&[Row]; 12] = [
-        &[],
-        &[again],
-        &[FILE],
-        &[file_at_root],
-        &[unmarked_root],
-        &[ROOT, orphan],
-        &[ROOT, again],
-        &[ROOT, FILE, below],
-        &[ROOT, FILE, twice],
-        &[ROOT, FILE, same],
-        &[ROOT, unmarked],
-        &[ROOT, marked],
-    ];
-    for (place, rows) in lists.iter().enumerate() {
-        let records = records(rt.alloc(), rows).expect(&rt, "memory");
-        let made = PlainTree::try_from_records(rt.alloc(), records);
-        assert_eq!(&rt; made.err(), Some(RecordsFault::NoTree), "list {place}");
-    }
+const FILE: Row = Row {
+    number: 1,
+    path: "/f",
+    bytes: Some(b""),
+    ..CATS
+};
+
+const ORPHAN: Row = Row {
+    number: 1,
+    path: "/d/s",
+    mode: DMDIR,
+    ..CATS
+};
+
+const AGAIN: Row = Row {
+    number: 1,
+    mode: DMDIR,
+    ..CATS
+};
+
+const BELOW: Row = Row {
+    number: 2,
+    path: "/f/g",
+    mode: DMDIR,
+    ..CATS
+};
+
+const TWICE: Row = Row {
+    number: 2,
+    path: "/f",
+    bytes: Some(b""),
+    ..CATS
+};
+
+const SAME: Row = Row {
+    number: 1,
+    path: "/g",
+    bytes: Some(b""),
+    ..CATS
+};
+
+const UNMARKED_ROOT: Row = Row {
+    mode: 0o775,
+    ..CATS
+};
+
+const FILE_AT_ROOT: Row = Row {
+    bytes: Some(b""),
+    ..CATS
+};
+
+const UNMARKED: Row = Row {
+    number: 1,
+    path: "/d",
+    mode: DMAPPEND | 0o775,
+    ..CATS
+};
+
+const MARKED: Row = Row {
+    number: 1,
+    path: "/f",
+    mode: DMDIR | 0o664,
+    bytes: Some(b""),
+    ..CATS
+};
+
+const NO_TREES: [&[Row]; 12] = [
+    &[],
+    &[AGAIN],
+    &[FILE],
+    &[FILE_AT_ROOT],
+    &[UNMARKED_ROOT],
+    &[ROOT, ORPHAN],
+    &[ROOT, AGAIN],
+    &[ROOT, FILE, BELOW],
+    &[ROOT, FILE, TWICE],
+    &[ROOT, FILE, SAME],
+    &[ROOT, UNMARKED],
+    &[ROOT, MARKED],
+];
+
+fn is_no_tree(rt: &impl Abort, alloc: Global, rows: &[Row]) {
+    let records = records(alloc, rows).expect(rt, "memory");
+    let made = PlainTree::try_from_records(alloc, records);
+    assert!(rt; made.err() == Some(RecordsFault::NoTree));
 }
 
 #[test]
+fn records_that_make_no_tree_are_refused(rt: HostRuntime) {
+    for rows in &NO_TREES {
+        is_no_tree(&rt, rt.alloc(), rows);
+    }
+}
+
+const FAR: Row = Row {
+    number: 1 << 40,
+    path: "/g",
+    mode: DMAPPEND,
+    bytes: Some(b""),
+    ..CATS
+};
+
+#[test]
 fn numbers_may_have_gaps(rt: HostRuntime) {
-    let far: Row = (1 << 40, "/g", b"cat", b"cat", DMAPPEND, Some(b""));
-    let records = records(rt.alloc(), &[ROOT, FILE, far]).expect(&rt, "memory");
+    let records = records(rt.alloc(), &[ROOT, FILE, FAR]).expect(&rt, "memory");
     let tree = PlainTree::try_from_records(rt.alloc(), records).expect(&rt, "a tree");
-    assert_eq!(&rt; (tree.count(), tree.last_number()), (3, 1 << 40));
+    assert_eq!(&rt; tree.count(), 3);
+    assert_eq!(&rt; tree.last_number(), 1 << 40);
     assert_eq!(&rt; tree.find_number(0, "g"), Some(1 << 40));
 }
 

@@ -1,12 +1,12 @@
 //! What runs over one lower tree leave, of it and of each other.
 
 use super::allowed::{has_bytes, takes_changes};
-use super::calls::{Call, Fields, NONE, make};
-use super::shown::{lines, listed};
+use super::calls::{Call, Fields, NONE, must_make};
+use super::shown::{has_bytes_from, has_entries, same_lines};
 use cs_names::UserName;
 use cs_overlay::Overlay;
 use cs_overlay::laws::lower_stays;
-use cs_tree_model::{Stamp, TreeRead};
+use cs_tree_model::{Stamp, TreeRead, TreeStore};
 use std::alloc::Global;
 use std::process::Abort;
 use std::sync::Arc;
@@ -22,18 +22,6 @@ pub const BEFORE: [&str; 7] = [
     "6 /p 0 ann staff d750 0 0 ann",
 ];
 
-pub fn same_lines<T: TreeRead>(rt: &impl Abort, alloc: Global, tree: &T, wanted: &[&str]) {
-    let found = lines(alloc, tree).expect(rt, "memory");
-    assert_eq!(rt; found.len(), wanted.len());
-    for (line, text) in found.iter().zip(wanted.iter()) {
-        assert_eq!(rt; line.as_str(), *text);
-    }
-}
-
-fn bytes<T: TreeRead>(alloc: Global, tree: &T, number: u64) -> Option<Vec<u8>> {
-    tree.read_at(alloc, number, 0, 10_000).ok()?
-}
-
 /// A run in which `/f` begins with `HI`, and one that was made after it.
 fn two_runs<L: TreeRead + Drop>(alloc: Global, state: &Arc<L>) -> Option<(Overlay<L>, Overlay<L>)> {
     let lower: &L = &**state;
@@ -47,8 +35,7 @@ fn two_runs<L: TreeRead + Drop>(alloc: Global, state: &Arc<L>) -> Option<(Overla
 /// A run over the start tree writes into `/f`; the next run and the tree itself don't show it.
 pub fn run_and_look<L: TreeRead + Drop>(rt: &impl Abort, alloc: Global, state: &Arc<L>) {
     let (first, second) = two_runs(alloc, state).expect(rt, "two runs");
-    let found = bytes(alloc, &first, 4).expect(rt, "bytes");
-    assert!(rt; found.as_slice() == b"HIllo".as_slice());
+    has_bytes_from(rt, alloc, &first, 4, 0, b"HIllo");
     same_lines(rt, alloc, &second, &BEFORE);
     same_lines(rt, alloc, &**state, &BEFORE);
 }
@@ -63,33 +50,63 @@ fn resized(length: u64) -> Call {
     )
 }
 
-/// What `/a` is: its version, its first byte, and how many letters and zeros it has.
-type Shape = (u32, Option<u8>, usize, usize);
-
-fn shape<T: TreeRead>(alloc: Global, tree: &T) -> Option<Shape> {
-    let vers = tree.record(1)?.vers;
-    let found = bytes(alloc, tree, 1)?;
-    let letters = found.iter().filter(|byte| **byte == b'a').count();
-    let zeros = found.iter().filter(|byte| **byte == 0).count();
-    Some((vers, found.first().copied(), letters, zeros))
+/// What `/a` is: its version, and how many letters and then zeros it has.
+#[derive(Clone, Copy)]
+struct Shape {
+    vers: u32,
+    letters: usize,
+    zeros: usize,
 }
 
-const WHOLE: Shape = (0, Some(b'a'), 5000, 0);
+fn has_shape<T: TreeRead>(rt: &impl Abort, alloc: Global, tree: &T, wanted: Shape) {
+    let file = tree.record(1).expect(rt, "a file");
+    assert_eq!(rt; file.vers, wanted.vers);
+    let found = tree.read_at(alloc, 1, 0, 10_000).expect(rt, "memory");
+    let found = found.expect(rt, "bytes");
+    assert_eq!(rt; found.len(), wanted.letters.wrapping_add(wanted.zeros));
+    assert!(rt; found.iter().take(wanted.letters).all(|byte| *byte == b'a'));
+    assert!(rt; found.iter().skip(wanted.letters).all(|byte| *byte == 0));
+}
+
+const WHOLE: Shape = Shape {
+    vers: 0,
+    letters: 5000,
+    zeros: 0,
+};
+
+const CUT: Shape = Shape {
+    vers: 1,
+    letters: 1,
+    zeros: 0,
+};
+
+const GROWN: Shape = Shape {
+    vers: 2,
+    letters: 1,
+    zeros: 4999,
+};
+
+fn cut_and_grow<T: TreeStore>(rt: &impl Abort, alloc: Global, tree: &mut T) {
+    must_make(rt, alloc, tree, resized(1), 10, "ann");
+    has_shape(rt, alloc, tree, CUT);
+    must_make(rt, alloc, tree, resized(5000), 11, "ann");
+    has_shape(rt, alloc, tree, GROWN);
+}
+
+/// A run over a tree that it shares.
+pub fn over<L: TreeRead + Drop>(rt: &impl Abort, alloc: Global, lower: &Arc<L>) -> Overlay<L> {
+    Overlay::over(alloc, lower.clone().expect(rt, "a share"))
+}
 
 /// Over a tree of `/a`, with 5,000 bytes of 0x61, a run cuts it, lets it grow and removes it. Another run
 /// and the tree itself show it as it was.
 pub fn cut_over<L: TreeRead + Drop>(rt: &impl Abort, alloc: Global, state: &Arc<L>) {
-    let mut first = Overlay::over(alloc, state.clone().expect(rt, "a share"));
-    let other = Overlay::over(alloc, state.clone().expect(rt, "a share"));
-    make(&mut first, alloc, resized(1), 10, "ann").expect(rt, "a cut");
-    assert_eq!(rt; shape(alloc, &first), Some((1, Some(b'a'), 1, 0)));
-    make(&mut first, alloc, resized(5000), 11, "ann").expect(rt, "a growth");
-    assert_eq!(rt; shape(alloc, &first), Some((2, Some(b'a'), 1, 4999)));
-    assert_eq!(rt; shape(alloc, &other), Some(WHOLE));
-    make(&mut first, alloc, Call::Remove(1), 12, "ann").expect(rt, "a remove");
-    let found = listed(alloc, &first, 0).expect(rt, "memory");
-    assert_eq!(rt; found.as_str(), "");
-    let found = listed(alloc, &other, 0).expect(rt, "memory");
-    assert_eq!(rt; found.as_str(), "a 1, ");
-    assert_eq!(rt; shape(alloc, &**state), Some(WHOLE));
+    let mut first = over(rt, alloc, state);
+    let other = over(rt, alloc, state);
+    cut_and_grow(rt, alloc, &mut first);
+    has_shape(rt, alloc, &other, WHOLE);
+    must_make(rt, alloc, &mut first, Call::Remove(1), 12, "ann");
+    has_entries(rt, alloc, &first, 0, "");
+    has_entries(rt, alloc, &other, 0, "a 1, ");
+    has_shape(rt, alloc, &**state, WHOLE);
 }

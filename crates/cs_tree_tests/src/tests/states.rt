@@ -1,6 +1,7 @@
 //! Crash states as lower trees.
 
-use super::runs::{BEFORE, cut_over, run_and_look, same_lines};
+use super::runs::{BEFORE, cut_over, run_and_look};
+use super::shown::{has_numbers, same_lines};
 use cs_apm::Order;
 use cs_apm::laws::rules_are_sentences;
 use cs_micro::break_up;
@@ -59,7 +60,7 @@ pub fn over_state(alloc: Global) -> Option<Overlay<StateTree>> {
 fn members_make_what_the_start_tree_has(rt: HostRuntime) {
     let state = start_state(rt.alloc()).expect(&rt, "the start tree");
     same_lines(&rt, rt.alloc(), &*state, &BEFORE);
-    assert_eq!(&rt; (state.count(), state.last_number()), (7, 6));
+    has_numbers(&rt, &*state, 7, 6);
 }
 
 #[test]
@@ -68,25 +69,20 @@ fn a_run_over_a_state_leaves_it(rt: HostRuntime) {
     run_and_look(&rt, rt.alloc(), &state);
 }
 
-/// `/a` is written and waited for at another name.
-fn with_letters(alloc: Global) -> Option<Arc<StateTree>> {
-    let mut text = String::from_str(
-        alloc,
-        r#"{"trace":1,"owner":"cat","group":"staff","mode":"775"}
+const LETTERS_BEFORE: &str = r#"{"trace":1,"owner":"cat","group":"staff","mode":"775"}
 {"op":"creat","path":"/t","owner":"ann","group":"bob","mode":"640"}
-{"op":"write","path":"/t","offset":0,"bytes":""#,
-    )
-    .ok()?;
-    for _ in 0..5_000 {
-        text.push_str("61").ok()?;
-    }
-    text.push_str(
-        r#""}
+{"op":"write","path":"/t","offset":0,"bytes":""#;
+
+const LETTERS_AFTER: &str = r#""}
 {"op":"fsync","path":"/t"}
 {"op":"rename","from":"/t","to":"/a"}
-"#,
-    )
-    .ok()?;
+"#;
+
+/// `/a` is written and waited for at another name.
+fn with_letters(alloc: Global) -> Option<Arc<StateTree>> {
+    let bytes = "61".repeat(alloc, 5_000).ok()?;
+    let pieces = [LETTERS_BEFORE, bytes.as_str(), LETTERS_AFTER];
+    let text = pieces.concat(alloc).ok()?;
     state_of(alloc, text.as_str(), &[0, 1, 2, 3, 4])
 }
 

@@ -10,7 +10,7 @@ loop-operation-init c = record { so_far = sym (ap length micros_none); few = ome
 pub returns-then-count-total : goal.returns-then-count-total
 returns-then-count-total c =
     let within = micros_within c.args.operations.now c.loop-operation.operation-index c.operation-item.result c.loop-operation-test.true c.operation-item.is in
-    ((λ t. absurd (false≢true t)), (λ few. absurd (omega (arith, within, few, c.loop-operation.invariant.so_far, c.count_of-count.ensures, c.if-count-total.true, c.loop-operation.invariant.few))))
+    ((λ t. absurd (false≢true t)), (λ few. absurd (omega (arith, within, few, c.loop-operation.invariant.so_far, c.micro_count-count.ensures, c.if-count-total.true, c.loop-operation.invariant.few))))
 
 pub loop-operation-preserved : goal.loop-operation-preserved
 loop-operation-preserved c =
@@ -18,7 +18,7 @@ loop-operation-preserved c =
     let so_far = micro_operations_of (take i c.args.operations.now) in
     let more = ap length (micros_more c.args.operations.now i c.operation-item.result c.loop-operation-test.true c.operation-item.is) ∙ length-append so_far (micros_of c.operation-item.result) in
     record {
-      so_far = omega (arith, more, c.loop-operation.invariant.so_far, c.count_of-count.ensures);
+      so_far = omega (arith, more, c.loop-operation.invariant.so_far, c.micro_count-count.ensures);
       few = omega arith;
     }
 

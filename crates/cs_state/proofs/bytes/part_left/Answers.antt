@@ -1,7 +1,5 @@
-use Rattle.std.proofs.Common.{◌≡◌, ℕ, ◌+◌, ◌<◌, ◌≤◌, ◌*◌, inl, inr, ⊎_elim, Some, sym, ap, ◌∙◌, arith, length, get_or}
+use Rattle.std.proofs.Common.{◌≡◌, ℕ, ◌+◌, ◌<◌, ◌≤◌, ◌*◌, inl, inr, ⊎_elim, ap, ◌∙◌, arith, length, get_or}
 use Rattle.std.proofs.lemmas.Bool.{cases_lt}
-use Rattle.std.proofs.lemmas.Option.{slice_get-get_or}
-use Rattle.std.specs.Prelude.{slice_get}
 use Rattle.cs_micro.specs.declared.blocks.TheConstants.{BLOCK_BYTES}
 use Rattle.cs_state.specs.Steps.{struck_by}
 use Rattle.cs_state.specs.Windows.{byte_of, whole}
@@ -12,15 +10,12 @@ pub loop-block-preserved : goal.loop-block-preserved
 loop-block-preserved c =
     let b = c.loop-block.block in
     let offset = c.args.offset in
-    let blocks = c.args.blocks.now in
     let new = c.take_block.new.part in
     let old = c.loop-block.part.items in
-    let row = c.index-blocks-block.result in
     let was = c.deref_mut.ensures.value in
     let long : length new ≡ length old = c.take_block.ensures.long ∙ ap length was in
     let all = rejoined 0 c.loop-block.part.len new old c.loop-block.part.ok.0 long in
     let many = c.loop-block.invariant.long in
-    let there : slice_get blocks b ≡ Some row = slice_get-get_or blocks b row (omega arith) ∙ ap Some (sym c.index-blocks-block.is) in
     let outside : (k : ℕ) → _ → get_or new k 0 ≡ get_or old k 0 = λ k apart. c.take_block.ensures.outside k apart ∙ ap (λ xs. get_or xs k 0) was in
     record {
       long = ap length all ∙ long ∙ many;
@@ -30,8 +25,8 @@ loop-block-preserved c =
           c.take_block.ensures.inside (whole c.args.start.now)
           (λ j l ge less. ap (λ xs. get_or xs j 0) was ∙ c.loop-block.invariant.rest j (let same = ap length was in omega (arith, l, same, many)) ge)
           k (omega (arith, low, long, many)) here (omega (arith, before))
-          ∙ ap (λ places. byte_of (struck_by c.args.ops.now c.args.members.now (whole c.args.start.now) places) (offset + k)) c.deref.ensures.value
-          ∙ agrees b row there (offset + k) here (omega (arith, before)))
+          ∙ ap (λ places. byte_of (struck_by c.args.ops.now c.args.members.now (whole c.args.start.now) places) (offset + k)) c.row-row.ensures
+          ∙ agrees b (offset + k) here (omega (arith, before)))
           (cases_lt (offset + k) (b * BLOCK_BYTES));
       rest = λ k low ge. ap (λ xs. get_or xs k 0) all ∙ outside k (inr (omega (arith, ge))) ∙ c.loop-block.invariant.rest k low (omega (arith, ge));
     }

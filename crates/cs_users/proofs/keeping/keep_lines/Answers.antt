@@ -20,9 +20,9 @@ pub loop-line-preserved : goal.loop-line-preserved
 loop-line-preserved c = record {
   within = within_more (pieces 10 c.args.text.now) _ _ c.loop-line.before _ c.loop-line.invariant.left c.in-Some.ensures.steps;
   left = dropped_more (pieces 10 c.args.text.now) _ _ c.loop-line.before _ c.loop-line.invariant.left c.in-Some.ensures.steps;
-  same = first_fault-more (pieces 10 c.args.text.now) _ _ c.loop-line.before _ c.loop-line.users _ c.loop-line.invariant.left c.in-Some.ensures.steps c.loop-line.invariant.rows c.in_ok-users.ensures.good c.loop-line.invariant.same;
-  rows = rows_in-more (pieces 10 c.args.text.now) _ _ c.loop-line.before _ c.loop-line.users _ c.loop-line.invariant.left c.in-Some.ensures.steps c.loop-line.invariant.rows c.in_ok-users.ensures.kept;
+  same = first_fault-more (pieces 10 c.args.text.now) _ _ c.loop-line.before _ c.loop-line.rows _ c.loop-line.invariant.left c.in-Some.ensures.steps c.loop-line.invariant.rows c.in_ok-rows.ensures.good c.loop-line.invariant.same;
+  rows = rows_in-more (pieces 10 c.args.text.now) _ _ c.loop-line.before _ c.loop-line.rows _ c.loop-line.invariant.left c.in-Some.ensures.steps c.loop-line.invariant.rows c.in_ok-rows.ensures.kept;
 }
 
 pub returns-clause-kept : goal.returns-clause-kept
-returns-clause-kept c = rows_or_fault-end (pieces 10 c.args.text.now) _ c.loop-line.before c.loop-line.users c.loop-line.invariant.left c.in-None.ensures.steps.0 c.loop-line.invariant.same c.loop-line.invariant.rows
+returns-clause-kept c = rows_or_fault-end (pieces 10 c.args.text.now) _ c.loop-line.before c.loop-line.rows c.loop-line.invariant.left c.in-None.ensures.steps.0 c.loop-line.invariant.same c.loop-line.invariant.rows

@@ -9,5 +9,5 @@ invariant-loop-line l = record {
   within : l.before ≤ length (pieces 10 l.text);
   left : pieces_left l.line-iterator ≡ drop l.before (pieces 10 l.text);
   same : first_fault (take l.before (pieces 10 l.text)) (pieces_left l.line-iterator) ≡ first_fault [] (pieces 10 l.text);
-  rows : l.users ≡ rows_in (take l.before (pieces 10 l.text));
+  rows : l.rows ≡ rows_in (take l.before (pieces 10 l.text));
 }

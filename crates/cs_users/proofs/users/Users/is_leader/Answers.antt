@@ -1,13 +1,42 @@
-use Rattle.std.proofs.Common.{rules}
+use Rattle.std.proofs.Common.{sym, ◌∙◌}
 use Rattle.std.proofs.lemmas.Bool.Decides.{Decides-at}
+use Rattle.cs_users.specs.Members.{is_leader}
 use Rattle.cs_users.proofs.Belonging.{is_leader-decides}
+use Rattle.cs_users.proofs.Membership.{asked_at, is_leader-no_group, is_leader-no_user, place_seen}
 use Rattle.cs_users.proofs.users.Users.is_leader.Goals as goal
 
-pub returns-then-has_leader-clause-leader : goal.returns-then-has_leader-clause-leader
-returns-then-has_leader-clause-leader c = Decides-at _ _ (search rules) (is_leader-decides c.args.self.now c.args.user.now c.args.group.now)
+pub returns-in_default-clause-test : goal.returns-in_default-clause-test
+returns-in_default-clause-test c =
+    sym (is_leader-no_user c.args.self.now c.args.user.now c.args.group.now (place_seen c.self.inside.rows c.args.self.now c.args.user.now _ _ c.self.view_is c.place_of.ensures c.in_default.is))
 
-pub returns-then-has_leader-2-clause-leader : goal.returns-then-has_leader-2-clause-leader
-returns-then-has_leader-2-clause-leader c = Decides-at _ _ (search rules) (is_leader-decides c.args.self.now c.args.user.now c.args.group.now)
+pub returns-in_default-clause-leader : goal.returns-in_default-clause-leader
+returns-in_default-clause-leader c =
+    Decides-at _ _
+    (sym (is_leader-no_user c.args.self.now c.args.user.now c.args.group.now (place_seen c.self.inside.rows c.args.self.now c.args.user.now _ _ c.self.view_is c.place_of.ensures c.in_default.is)))
+    (is_leader-decides c.args.self.now c.args.user.now c.args.group.now)
 
-pub returns-else-has_leader-2-clause-leader : goal.returns-else-has_leader-2-clause-leader
-returns-else-has_leader-2-clause-leader c = Decides-at _ _ (search rules) (is_leader-decides c.args.self.now c.args.user.now c.args.group.now)
+pub returns-in-Some-place_of-clause-test : goal.returns-in-Some-place_of-clause-test
+returns-in-Some-place_of-clause-test c =
+    c.has_leader.ensures
+    ∙ asked_at is_leader c.args.self.now c.args.user.now c.args.group.now c.in-Some.place c.in-Some-place_of.line
+    (place_seen c.self.inside.rows c.args.self.now c.args.user.now _ _ c.self.view_is c.place_of.ensures c.in-Some.is)
+    (place_seen c.self.inside.rows c.args.self.now c.args.group.now _ _ c.self.view_is c.place_of-2.ensures c.in-Some-place_of.is)
+
+pub returns-in-Some-place_of-clause-leader : goal.returns-in-Some-place_of-clause-leader
+returns-in-Some-place_of-clause-leader c =
+    Decides-at _ _
+    (c.has_leader.ensures
+    ∙ asked_at is_leader c.args.self.now c.args.user.now c.args.group.now c.in-Some.place c.in-Some-place_of.line
+    (place_seen c.self.inside.rows c.args.self.now c.args.user.now _ _ c.self.view_is c.place_of.ensures c.in-Some.is)
+    (place_seen c.self.inside.rows c.args.self.now c.args.group.now _ _ c.self.view_is c.place_of-2.ensures c.in-Some-place_of.is))
+    (is_leader-decides c.args.self.now c.args.user.now c.args.group.now)
+
+pub returns-in-None-clause-test : goal.returns-in-None-clause-test
+returns-in-None-clause-test c =
+    sym (is_leader-no_group c.args.self.now c.args.user.now c.args.group.now (place_seen c.self.inside.rows c.args.self.now c.args.group.now _ _ c.self.view_is c.place_of-2.ensures c.in-None.is))
+
+pub returns-in-None-clause-leader : goal.returns-in-None-clause-leader
+returns-in-None-clause-leader c =
+    Decides-at _ _
+    (sym (is_leader-no_group c.args.self.now c.args.user.now c.args.group.now (place_seen c.self.inside.rows c.args.self.now c.args.group.now _ _ c.self.view_is c.place_of-2.ensures c.in-None.is)))
+    (is_leader-decides c.args.self.now c.args.user.now c.args.group.now)

@@ -1,0 +1,12 @@
+//! Values that are printed.
+
+use std::alloc::Global;
+use std::fmt::Display;
+
+/// Whether the value is printed as this text.
+pub fn prints<T: Display>(alloc: Global, value: &T, text: &str) -> bool {
+    match value.to_string(alloc) {
+        Ok(printed) => printed.as_str() == text,
+        Err(_) => false,
+    }
+}

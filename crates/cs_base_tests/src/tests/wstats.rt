@@ -1,0 +1,228 @@
+//! Stats of files of the start tree, what a wstat changes, and the rules of its fields.
+
+use super::world::{USERS, start_tree};
+use cs_names::{RuleId, UserName};
+use cs_permit::changes::changes_fixed;
+use cs_permit::{
+    Call, WstatCall, first_failing, new_group, new_length, new_mode, new_mtime, new_name, qid_at,
+    stat_ref, stat_size,
+};
+use cs_tree::PlainTree;
+use cs_tree_model::{DMDIR, DMEXCL, TreeRead};
+use cs_users::Users;
+use cs_wire::{Qid, Stat};
+use std::alloc::Global;
+use std::process::Abort;
+use std::test::Fail;
+
+/// How many bytes the entry of a file has in a read of its directory.
+fn entry_bytes(tree: &PlainTree, number: u64) -> Option<usize> {
+    Some(stat_size(&stat_ref(tree, number)?))
+}
+
+#[test]
+fn an_entry_has_49_bytes_and_its_texts(rt: HostRuntime) -> Result<(), Fail> {
+    let tree = start_tree(rt.alloc()).ok_or("the tree")?;
+    assert_eq!(rt; entry_bytes(&tree, 1), Some(61));
+    assert_eq!(rt; qid_at(&tree, 1).kind, 0x80);
+    assert_eq!(rt; entry_bytes(&tree, 5), Some(62));
+    Ok(())
+}
+
+/// The fields of a wstat that tests touch.
+#[derive(Clone, Copy)]
+struct Fields {
+    qid: Qid,
+    mode: u32,
+    atime: u32,
+    length: u64,
+    uid: &'static str,
+    gid: &'static str,
+}
+
+/// A qid of ones.
+const ONES: Qid = Qid {
+    kind: u8::MAX,
+    vers: u32::MAX,
+    path: u64::MAX,
+};
+
+/// No field.
+const UNTOUCHED: Fields = Fields {
+    qid: ONES,
+    mode: u32::MAX,
+    atime: u32::MAX,
+    length: u64::MAX,
+    uid: "",
+    gid: "",
+};
+
+fn stat_of(alloc: Global, fields: &Fields) -> Option<Stat> {
+    Some(Stat {
+        kind: u16::MAX,
+        dev: u32::MAX,
+        qid: fields.qid,
+        mode: fields.mode,
+        atime: fields.atime,
+        mtime: u32::MAX,
+        length: fields.length,
+        name: String::new(alloc),
+        uid: String::from_str(alloc, fields.uid).ok()?,
+        gid: String::from_str(alloc, fields.gid).ok()?,
+        muid: String::new(alloc),
+    })
+}
+
+fn wstat(alloc: Global, user: &[u8], number: u64, stat: Stat) -> Option<WstatCall> {
+    Some(WstatCall {
+        number,
+        user: UserName::read(alloc, user).ok()?,
+        stat,
+    })
+}
+
+/// Whether no field has a new value.
+fn changes_nothing(tree: &PlainTree, call: &WstatCall) -> Option<bool> {
+    let file = tree.record(call.number)?;
+    Some(
+        !changes_fixed(call, &file)
+            && new_name(tree, call).is_none()
+            && new_length(call, &file).is_none()
+            && new_mode(call, &file).is_none()
+            && new_mtime(call, &file).is_none()
+            && new_group(call, &file).is_none(),
+    )
+}
+
+/// Whether nothing changes by that stat, which none sends for `/f`.
+fn changes_nothing_by(alloc: Global, tree: &PlainTree, stat: Stat) -> Option<bool> {
+    changes_nothing(tree, &wstat(alloc, b"none", 4, stat)?)
+}
+
+/// The same of the stat that the tree tells of `/f`.
+fn changes_nothing_sent_back(alloc: Global, tree: &PlainTree) -> Option<bool> {
+    let stat = stat_ref(tree, 4)?.copied(alloc).ok()?;
+    changes_nothing_by(alloc, tree, stat)
+}
+
+/// The same of a stat with no field to be touched.
+fn changes_nothing_untouched(alloc: Global, tree: &PlainTree) -> Option<bool> {
+    changes_nothing_by(alloc, tree, stat_of(alloc, &UNTOUCHED)?)
+}
+
+#[test]
+fn a_stat_that_is_sent_back_changes_nothing(rt: HostRuntime) -> Result<(), Fail> {
+    let tree = start_tree(rt.alloc()).ok_or("the tree")?;
+    assert_eq!(rt; changes_nothing_sent_back(rt.alloc(), &tree), Some(true));
+    assert_eq!(rt; changes_nothing_untouched(rt.alloc(), &tree), Some(true));
+    Ok(())
+}
+
+/// Whether a field of `/f` changes that can't be changed.
+fn is_fixed(alloc: Global, tree: &PlainTree, fields: &Fields) -> Option<bool> {
+    let call = wstat(alloc, b"ann", 4, stat_of(alloc, fields)?)?;
+    Some(changes_fixed(&call, &tree.record(4)?))
+}
+
+fn atime(atime: u32) -> Fields {
+    Fields { atime, ..UNTOUCHED }
+}
+
+fn qid(kind: u8, vers: u32, path: u64) -> Fields {
+    let qid = Qid { kind, vers, path };
+    Fields { qid, ..UNTOUCHED }
+}
+
+fn uid(uid: &'static str) -> Fields {
+    Fields { uid, ..UNTOUCHED }
+}
+
+#[test]
+fn some_fields_of_a_stat_cannot_be_changed(rt: HostRuntime) -> Result<(), Fail> {
+    let tree = start_tree(rt.alloc()).ok_or("the tree")?;
+    for (fields, fixed) in [
+        (atime(1), true),
+        (atime(0), false),
+        (qid(u8::MAX, 0, u64::MAX), true),
+        (qid(0, 0, 4), false),
+        (uid("bob"), true),
+    ] {
+        assert_eq!(rt; is_fixed(rt.alloc(), &tree, &fields), Some(fixed));
+    }
+    Ok(())
+}
+
+/// A user, a file's number, what the user sends, and the rule that this fails first.
+type Line = (&'static [u8], u64, Fields, Option<RuleId>);
+
+/// The rule of the call that fails first, or nothing for want of memory.
+fn first_of(alloc: Global, tree: &PlainTree, users: &Users, line: &Line) -> Option<Option<RuleId>> {
+    let (user, number, fields, _) = line;
+    let call = Call::Wstat(wstat(alloc, user, *number, stat_of(alloc, fields)?)?);
+    Some(first_failing(&call, tree, &[], users))
+}
+
+fn assert_rules(rt: &(impl Abort + AllocGlobal), lines: &[Line]) -> Result<(), Fail> {
+    let tree = start_tree(rt.alloc()).ok_or("the tree")?;
+    let users = Users::read(rt.alloc(), USERS)?;
+    for line in lines {
+        assert_eq!(rt; first_of(rt.alloc(), &tree, &users, line), Some(line.3));
+    }
+    Ok(())
+}
+
+fn mode(mode: u32) -> Fields {
+    Fields { mode, ..UNTOUCHED }
+}
+
+#[test]
+fn a_mode_needs_its_owner_or_the_groups_leader(rt: HostRuntime) -> Result<(), Fail> {
+    assert_rules(
+        &rt,
+        &[
+            (b"bob", 4, mode(0o600), Some(RuleId::Q12)),
+            (b"ann", 4, mode(0o600), None),
+            (b"ann", 4, mode(DMDIR | 0o600), Some(RuleId::Q11)),
+            (b"ann", 0, mode(DMDIR | DMEXCL | 0o555), Some(RuleId::Q11)),
+            (b"ann", 0, mode(DMDIR | 0o555), None),
+        ],
+    )
+}
+
+fn group(gid: &'static str) -> Fields {
+    Fields { gid, ..UNTOUCHED }
+}
+
+#[test]
+fn a_group_needs_a_member_who_owns_or_the_leader_of_both(rt: HostRuntime) -> Result<(), Fail> {
+    assert_rules(
+        &rt,
+        &[
+            (b"ann", 4, group("nosuch"), Some(RuleId::Q13)),
+            (b"ann", 4, group("cat"), Some(RuleId::Q14)),
+            (b"ann", 4, group("ann"), None),
+            (b"bob", 4, group("bob"), Some(RuleId::Q14)),
+        ],
+    )
+}
+
+fn length(length: u64) -> Fields {
+    Fields {
+        length,
+        ..UNTOUCHED
+    }
+}
+
+#[test]
+fn a_length_needs_the_right_to_write(rt: HostRuntime) -> Result<(), Fail> {
+    assert_rules(
+        &rt,
+        &[
+            (b"cat", 4, length(5), None),
+            (b"cat", 4, length(0), Some(RuleId::Q9)),
+            (b"bob", 4, length(0), None),
+            (b"bob", 4, length(16_777_216), None),
+            (b"bob", 4, length(16_777_217), Some(RuleId::Q10)),
+        ],
+    )
+}

@@ -1,0 +1,15 @@
+//! Worked examples of connections over the start tree, of a world's steps, and of many connections at once.
+mod asking;
+mod exchange;
+mod files;
+mod fixture;
+mod groups;
+mod limits;
+mod lists;
+mod program;
+mod server;
+mod sessions;
+mod states;
+mod steps;
+mod walks;
+mod wstats;

@@ -1,0 +1,33 @@
+-- A map of blocks' rows with one row more.
+use Rattle.std.proofs.Common.{◌≡◌, ◌≢◌, ℕ, ◌<◌, ◌≤◌, ◌==◌, nat_lt, true, false, cond, List, Option, Some, refl, sym, ap, ◌∙◌, arith, ⊎_elim}
+use Rattle.std.proofs.lemmas.Bool.{cases_eq, cases_lt, eq-eqb, le-ltb, lt-ltb, ne_eqb}
+use Rattle.std.specs.Global.{Vec}
+use Rattle.std.specs.Ordering.{is_eq, nat_cmp}
+use Rattle.std.specs.Prelude.{IsSome}
+use Rattle.cs_micro.specs.declared.micro_op.MicroOp.{MicroOp}
+use Rattle.cs_state.specs.Steps.{reaching, AreRows}
+
+module _ (rows new : ℕ → Option (Vec ℕ)) (block : ℕ) (row : Vec ℕ) (goes : (q : ℕ) → new q ≡ cond (is_eq (nat_cmp block q)) (Some row) (rows q)) where
+  pub row_there : (q : ℕ) → q ≡ block → new q ≡ Some row
+  row_there q e = let t : block == q ≡ true = eq-eqb _ _ (sym e) in let u : nat_lt block q ≡ false = le-ltb _ _ (omega (arith, e)) in goes q ∙ rw (t, u) refl
+
+  row_other : (q : ℕ) → q ≢ block → new q ≡ rows q
+  row_other q ne = let t : block == q ≡ false = ne_eqb _ _ (λ e. ne (sym e)) in ⊎_elim
+      (λ (a : block < q). let u : nat_lt block q ≡ true = lt-ltb _ _ a in goes q ∙ rw (t, u) refl)
+      (λ (a : q ≤ block). let u : nat_lt block q ≡ false = le-ltb _ _ a in goes q ∙ rw (t, u) refl)
+      (cases_lt block q)
+
+  pub rows_keep : (q : ℕ) → IsSome (rows q) → IsSome (new q)
+  rows_keep q some = ⊎_elim
+      (λ (e : q ≡ block). cc (row_there q e))
+      (λ (ne : q ≢ block). cc (row_other q ne))
+      (cases_eq q block)
+
+  pub rows_right : (sizes : List ℕ) (ops : List MicroOp) (places : List ℕ) → row.items ≡ reaching sizes ops places (Some block) → AreRows sizes ops places rows → AreRows sizes ops places new
+  rows_right sizes ops places is are q r there = ⊎_elim
+      (λ (e : q ≡ block).
+      let same : Some row ≡ Some r = sym (row_there q e) ∙ there in
+      let one : row ≡ r = cc in
+      ap (λ (v : Vec ℕ). v.items) (sym one) ∙ is ∙ ap (λ b. reaching sizes ops places (Some b)) (sym e))
+      (λ (ne : q ≢ block). are q r (sym (row_other q ne) ∙ there))
+      (cases_eq q block)

@@ -1,0 +1,94 @@
+//! What the lines of a users file say of other lines, as places of rows.
+ghost use Rattle.std.specs.Prelude.{◌≡◌, ◌==◌, ◌<◌, ◌++◌, ◌∷◌, [], false, length, IfOk};
+ghost use Rattle.std.specs.List.{filter_map, list_any};
+ghost use Rattle.std.specs.List.Sorted.{IsStrictlyIncreasing};
+ghost use Rattle.std.specs.Option.{option_map_or};
+ghost use Rattle.cs_users.specs.Groups.{somebody_at};
+ghost use Rattle.cs_users.specs.Kept.{AreGroups, IsGroup};
+ghost use Rattle.cs_users.specs.Rows.{AreNamed};
+
+use crate::row::Row;
+use crate::rows::Rows;
+use std::alloc::{AllocError, Global};
+
+/// The places of a line's leader and members: of none that isn't there, and never that of `none`.
+#[derive(Debug, Drop)]
+pub(crate) struct Group {
+    leader: Option<usize>,
+    // they ascend
+    members: Vec<usize>,
+}
+
+/// The places of those that the line lists, as they come.
+fn listed(alloc: Global, rows: &Rows, row: &Row) -> Result<Vec<usize>, AllocError>
+    ensures { IfOk result (λ places. places.items ≡ filter_map (somebody_at rows.now) row.now.members) }
+{
+    row.members()
+        .filter_map(|name| rows.somebody_at(name))
+        .collect(alloc)
+}
+
+/// The same, and the place of the line's own user.
+fn belonging(alloc: Global, rows: &Rows, row: &Row) -> Result<Vec<usize>, AllocError>
+    ensures { IfOk result (λ places. places.items ≡ filter_map (somebody_at rows.now) (row.now.members ++ row.now.name ∷ [])) }
+{
+    let mut places = listed(alloc, rows, row)?;
+    if let Some(own) = rows.somebody_at(row.name()) {
+        places.push(own)?;
+    }
+    Ok(places)
+}
+
+impl Group {
+    /// What the line at that place says.
+    fn of(alloc: Global, rows: &Rows, place: usize) -> Result<Group, AllocError>
+        requires { place < length rows.now }
+        ensures { IfOk result (IsGroup rows.now place) }
+    {
+        let row = rows.at(place);
+        let mut members = belonging(alloc, rows, row)?;
+        members.sort_unstable();
+        members.dedup();
+        Ok(Group {
+            leader: rows.somebody_at(row.leader()),
+            members,
+        })
+    }
+
+    pub(crate) fn members(&self) -> &[usize]
+        ensures { result.now ≡ self.now.members.items }
+    {
+        self.members.as_slice()
+    }
+
+    /// Whether the user at that place is a member.
+    pub(crate) fn has(&self, user: usize) -> bool
+        requires { IsStrictlyIncreasing self.now.members.items }
+        ensures { result ≡ list_any (λ place. place == user) self.now.members.items }
+    {
+        self.members.binary_search(&user).is_ok()
+    }
+
+    /// Whether the line names the user at that place as the leader.
+    pub(crate) fn is_led_by(&self, user: usize) -> bool
+        ensures { result ≡ option_map_or (λ place. place == user) self.now.leader false }
+    {
+        match self.leader {
+            Some(leader) => leader == user,
+            None => false,
+        }
+    }
+}
+
+/// What each of the lines says, in their order.
+pub(crate) fn groups_of(alloc: Global, rows: &Rows) -> Result<Vec<Group>, AllocError>
+    ensures named { AreNamed rows.now }
+    ensures groups { IfOk result (λ groups. AreGroups rows.now (length rows.now) groups.items) }
+{
+    let mut groups = Vec::new(alloc);
+    for place in 0..rows.len() {
+        let group = Group::of(alloc, rows, place)?;
+        groups.push(group)?;
+    }
+    Ok(groups)
+}

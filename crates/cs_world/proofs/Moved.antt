@@ -1,0 +1,202 @@
+-- A connection with each place of a run moved: what its table of fids tells, and what it asks, is the same but for the places.
+use Rattle.std.proofs.Common.{◌≡◌, ◌∙◌, ℕ, ◌==◌, not, ◌&&◌, ◌||◌, Bool, true, false, cond, List, [], ◌∷◌, length, Option, None, Some, Ok, Err, refl, sym, ap}
+use Rattle.std.specs.Prelude.{is_err, is_none, is_some, nat_le, option_and_then}
+use Rattle.std.specs.Option.{option_map, option_map_or}
+use Rattle.std.specs.Cmp.{nat_cmp_total}
+use Rattle.std.specs.FinMap.{empty, entries, get, insert, remove, len, get-empty, get-insert, get-remove, len-entries, same_map, nat_cmp-IsAntisymmetric}
+use Rattle.std.specs.Ordering.{eq_by_cmp, nat_cmp}
+use Rattle.std.proofs.lemmas.List.{length-map}
+use Rattle.cs_fids.specs.declared.entry.Entry.{Entry}
+use Rattle.cs_fids.specs.declared.entry.Entry.TheVariants as entry
+use Rattle.cs_fids.specs.declared.fid.Opened.{Opened}
+use Rattle.cs_fids.specs.declared.fid.Walked.{Walked}
+use Rattle.cs_fids.specs.declared.fid.TheConstants.{NOFID}
+use Rattle.cs_fids.specs.Entries.{as_opened, as_walked, number_of, pass_of, run_of, user_of}
+use Rattle.cs_fids.specs.FidOf.{FidOf}
+use Rattle.cs_fids.specs.Tables.{FidMap, first_open, least_open}
+use Rattle.cs_names.specs.declared.limits.TheConstants.{FIDS}
+use Rattle.cs_names.specs.declared.rule_id.RuleId.TheVariants.{A1, A2, A3, K1, K2, K3, K4, O1, O2, O3, C1, C2, C3, C4, C5, G1, G2, E1, E2}
+use Rattle.cs_names.specs.Legal.{name_in}
+use Rattle.cs_permit.specs.Modes.{are_bad_permissions, covers_read, covers_write, is_bad_open_mode}
+use Rattle.cs_permit.specs.Table.{attach_table_rules, create_table_rules, is_full, is_unknown, open_mode, open_table_rules, read_table_rules, walk_table_rules, write_table_rules}
+use Rattle.cs_permit.specs.TreeNames.{tree_name_in}
+use Rattle.cs_session.specs.declared.reply.Reply.{Reply}
+use Rattle.cs_session.specs.Judgements.{opened_at, walked_at}
+use Rattle.cs_session.specs.Questions.{Question, Find, Enter, Ask, Told, Found, Entered, Got}
+use Rattle.cs_session.specs.Sessions.{Awaited, Sess, blank}
+use Rattle.cs_session.specs.Steps.{Front, Done, Asks}
+use Rattle.cs_tree_model.specs.Maps.Values.{map_entries, map_values, entries-map_values, get-map_values}
+
+-- ---- with each place moved
+
+abbrev pub moved_fid : {S : Type 0} → (ℕ → ℕ) → FidOf S → FidOf S
+moved_fid f x = record x { run = f x.run }
+
+abbrev pub moved_entry : (ℕ → ℕ) → Entry → Entry
+moved_entry f (entry.Walked x) = entry.Walked (moved_fid f x)
+moved_entry f (entry.Opened x) = entry.Opened (moved_fid f x)
+
+abbrev pub moved_fids : (ℕ → ℕ) → FidMap → FidMap
+moved_fids f fids = map_values (moved_entry f) fids
+
+abbrev pub moved_awaited : (ℕ → ℕ) → Awaited → Awaited
+moved_awaited f p = record p { run = f p.run }
+
+abbrev pub moved : (ℕ → ℕ) → Sess → Sess
+moved f s = record { msize = s.msize; pending = option_map (moved_awaited f) s.pending; fids = moved_fids f s.fids }
+
+abbrev pub moved_question : (ℕ → ℕ) → Question → Question
+moved_question f (Find state name) = Find state name
+moved_question f (Enter now place call) = Enter now (f place) call
+moved_question f (Ask now place pass call) = Ask now (f place) pass call
+
+abbrev pub moved_front : (ℕ → ℕ) → Front → Front
+moved_front f (Done reply s) = Done reply (moved f s)
+moved_front f (Asks q) = Asks (moved_question f q)
+
+abbrev pub moved_told : (ℕ → ℕ) → Told → Told
+moved_told f (Found (Ok place)) = Found (Ok (f place))
+moved_told f (Found (Err fault)) = Found (Err fault)
+moved_told f (Entered x) = Entered x
+moved_told f (Got answer) = Got answer
+
+abbrev pub moved_reply : (ℕ → ℕ) → Reply × Sess → Reply × Sess
+moved_reply f x = (x.0, moved f x.1)
+
+abbrev pub moved_left : (ℕ → ℕ) → Reply × FidMap → Reply × FidMap
+moved_left f x = (x.0, moved_fids f x.1)
+
+module _ (f : ℕ → ℕ) where
+  -- ---- tables
+
+  pub get_moved : (fids : FidMap) (k : ℕ) → get (moved_fids f fids) k ≡ option_map (moved_entry f) (get fids k)
+  get_moved fids k = get-map_values nat_cmp (moved_entry f) fids k
+
+  len_moved : (fids : FidMap) → len (moved_fids f fids) ≡ len fids
+  len_moved fids = len-entries (moved_fids f fids) ∙ ap length (entries-map_values nat_cmp (moved_entry f) fids) ∙ length-map (entries fids) (λ (e : ℕ × Entry). (e.0, moved_entry f e.1)) ∙ sym (len-entries fids)
+
+  within_cond : (b : Bool) (e : Option Entry) (o : Option Entry) → option_map (moved_entry f) (cond b e o) ≡ cond b (option_map (moved_entry f) e) (option_map (moved_entry f) o)
+  within_cond true e o = refl
+  within_cond false e o = refl
+
+  pub insert_moved : (fids : FidMap) (k : ℕ) (e : Entry) → moved_fids f (insert fids k e) ≡ insert (moved_fids f fids) k (moved_entry f e)
+  insert_moved fids k e = same_map nat_cmp_total nat_cmp-IsAntisymmetric _ _ (λ q.
+      get_moved (insert fids k e) q ∙ ap (option_map (moved_entry f)) (get-insert nat_cmp_total fids k e q) ∙ within_cond (eq_by_cmp nat_cmp q k) (Some e) (get fids q)
+      ∙ ap (cond (eq_by_cmp nat_cmp q k) (Some (moved_entry f e))) (sym (get_moved fids q)) ∙ sym (get-insert nat_cmp_total (moved_fids f fids) k (moved_entry f e) q))
+
+  pub remove_moved : (fids : FidMap) (k : ℕ) → moved_fids f (remove fids k) ≡ remove (moved_fids f fids) k
+  remove_moved fids k = same_map nat_cmp_total nat_cmp-IsAntisymmetric _ _ (λ q.
+      get_moved (remove fids k) q ∙ ap (option_map (moved_entry f)) (get-remove nat_cmp_total fids k q) ∙ within_cond (eq_by_cmp nat_cmp q k) None (get fids q)
+      ∙ ap (cond (eq_by_cmp nat_cmp q k) None) (sym (get_moved fids q)) ∙ sym (get-remove nat_cmp_total (moved_fids f fids) k q))
+
+  empty_moved : moved_fids f empty ≡ empty
+  empty_moved = same_map nat_cmp_total nat_cmp-IsAntisymmetric _ _ (λ q. get_moved empty q ∙ ap (option_map (moved_entry f)) (get-empty nat_cmp q) ∙ sym (get-empty nat_cmp q))
+
+  first_moved : (es : List (ℕ × Entry)) → first_open (map_entries (moved_entry f) es) ≡ first_open es
+  first_moved [] = refl
+  first_moved ((n, entry.Walked x) ∷ es) = first_moved es
+  first_moved ((n, entry.Opened x) ∷ es) = refl
+
+  pub least_moved : (fids : FidMap) → least_open (moved_fids f fids) ≡ least_open fids
+  least_moved fids = ap first_open (entries-map_values nat_cmp (moved_entry f) fids) ∙ first_moved (entries fids)
+
+  pub blank_moved : (msize : Option ℕ) → moved f (blank msize) ≡ blank msize
+  blank_moved msize i = record { msize = msize; pending = None; fids = empty_moved i }
+
+  -- ---- an entry
+
+  walked_by : (o : Option Entry) → option_and_then as_walked (option_map (moved_entry f) o) ≡ option_map (moved_fid f) (option_and_then as_walked o)
+  walked_by None = refl
+  walked_by (Some (entry.Walked x)) = refl
+  walked_by (Some (entry.Opened x)) = refl
+
+  opened_by : (o : Option Entry) → option_and_then as_opened (option_map (moved_entry f) o) ≡ option_map (moved_fid f) (option_and_then as_opened o)
+  opened_by None = refl
+  opened_by (Some (entry.Walked x)) = refl
+  opened_by (Some (entry.Opened x)) = refl
+
+  mode_by : (o : Option (FidOf Opened)) → option_map (λ (x : FidOf Opened). x.state.mode) (option_map (moved_fid f) o) ≡ option_map (λ (x : FidOf Opened). x.state.mode) o
+  mode_by None = refl
+  mode_by (Some x) = refl
+
+  none_by : {A : Type 0} (g : A → A) (o : Option A) → is_none (option_map g o) ≡ is_none o
+  none_by g None = refl
+  none_by g (Some x) = refl
+
+  pub some_by : {A : Type 0} (g : A → A) (o : Option A) → is_some (option_map g o) ≡ is_some o
+  some_by g None = refl
+  some_by g (Some x) = refl
+
+  module _ (fids : FidMap) where
+    pub walked_moved : (k : ℕ) → walked_at (moved_fids f fids) k ≡ option_map (moved_fid f) (walked_at fids k)
+    walked_moved k = ap (option_and_then as_walked) (get_moved fids k) ∙ walked_by (get fids k)
+
+    pub opened_moved : (k : ℕ) → opened_at (moved_fids f fids) k ≡ option_map (moved_fid f) (opened_at fids k)
+    opened_moved k = ap (option_and_then as_opened) (get_moved fids k) ∙ opened_by (get fids k)
+
+    pub unknown : (k : ℕ) → is_unknown (moved_fids f fids) k ≡ is_unknown fids k
+    unknown k = ap (λ (o : Option Entry). is_none o) (get_moved fids k) ∙ none_by (moved_entry f) (get fids k)
+
+    known : (k : ℕ) → is_some (get (moved_fids f fids) k) ≡ is_some (get fids k)
+    known k = ap (λ (o : Option Entry). is_some o) (get_moved fids k) ∙ some_by (moved_entry f) (get fids k)
+
+    pub mode : (k : ℕ) → open_mode (moved_fids f fids) k ≡ open_mode fids k
+    mode k = ap (option_map (λ (x : FidOf Opened). x.state.mode)) (opened_moved k) ∙ mode_by (opened_at fids k)
+
+    full : is_full (moved_fids f fids) ≡ is_full fids
+    full = ap (nat_le FIDS) (len_moved fids)
+
+    -- ---- the connection's rules
+
+    pub attach_rules : (fid afid : ℕ) (aname : List ℕ) → attach_table_rules (moved_fids f fids) fid afid aname ≡ attach_table_rules fids fid afid aname
+    attach_rules fid afid aname i = (A1, known fid i || fid == NOFID || full i) ∷ (A2, not (afid == NOFID)) ∷ (A3, is_none (tree_name_in aname)) ∷ []
+
+    pub walk_rules : (fid newfid : ℕ) → walk_table_rules (moved_fids f fids) fid newfid ≡ walk_table_rules fids fid newfid
+    walk_rules fid newfid i = (K1, unknown fid i) ∷ (K2, is_some (mode fid i)) ∷ (K3, newfid == NOFID || known newfid i && not (newfid == fid)) ∷ (K4, not (newfid == fid) && full i) ∷ []
+
+    pub open_rules : (fid by : ℕ) → open_table_rules (moved_fids f fids) fid by ≡ open_table_rules fids fid by
+    open_rules fid by i = (O1, unknown fid i) ∷ (O2, is_some (mode fid i)) ∷ (O3, is_bad_open_mode by) ∷ []
+
+    pub create_rules : (fid : ℕ) (name : List ℕ) (perm by : ℕ) → create_table_rules (moved_fids f fids) fid name perm by ≡ create_table_rules fids fid name perm by
+    create_rules fid name perm by i = (C1, unknown fid i) ∷ (C2, is_some (mode fid i)) ∷ (C3, is_bad_open_mode by) ∷ (C4, is_err (name_in name)) ∷ (C5, are_bad_permissions perm by) ∷ []
+
+    pub read_rules : (fid : ℕ) → read_table_rules (moved_fids f fids) fid ≡ read_table_rules fids fid
+    read_rules fid i = (G1, unknown fid i) ∷ (G2, not (option_map_or covers_read (mode fid i) false)) ∷ []
+
+    pub write_rules : (fid : ℕ) → write_table_rules (moved_fids f fids) fid ≡ write_table_rules fids fid
+    write_rules fid i = (E1, unknown fid i) ∷ (E2, not (option_map_or covers_write (mode fid i) false)) ∷ []
+
+  -- ---- questions
+
+  pub asks : {A : Type 0} (ask : A → Question) (g : A → A) → ((x : A) → ask (g x) ≡ moved_question f (ask x)) → (o : Option A) → option_map ask (option_map g o) ≡ option_map (moved_question f) (option_map ask o)
+  asks ask g each None = refl
+  asks ask g each (Some x) = ap Some (each x)
+
+  module _ (now : ℕ) (fids : FidMap) where
+    pub of_walked : (call : FidOf Walked → _) → ((x : FidOf Walked) → call (moved_fid f x) ≡ call x) → (k : ℕ)
+        → option_map (λ (x : FidOf Walked). Ask now x.run x.pass (call x)) (walked_at (moved_fids f fids) k) ≡ option_map (moved_question f) (option_map (λ (x : FidOf Walked). Ask now x.run x.pass (call x)) (walked_at fids k))
+    of_walked call same k = ap (option_map (λ (x : FidOf Walked). Ask now x.run x.pass (call x))) (walked_moved fids k) ∙ asks (λ (x : FidOf Walked). Ask now x.run x.pass (call x)) (moved_fid f) (λ x. ap (Ask now (f x.run) x.pass) (same x)) (walked_at fids k)
+
+    pub of_opened : (call : FidOf Opened → _) → ((x : FidOf Opened) → call (moved_fid f x) ≡ call x) → (k : ℕ)
+        → option_map (λ (x : FidOf Opened). Ask now x.run x.pass (call x)) (opened_at (moved_fids f fids) k) ≡ option_map (moved_question f) (option_map (λ (x : FidOf Opened). Ask now x.run x.pass (call x)) (opened_at fids k))
+    of_opened call same k = ap (option_map (λ (x : FidOf Opened). Ask now x.run x.pass (call x))) (opened_moved fids k) ∙ asks (λ (x : FidOf Opened). Ask now x.run x.pass (call x)) (moved_fid f) (λ x. ap (Ask now (f x.run) x.pass) (same x)) (opened_at fids k)
+
+    entry_asks : (call : Entry → _) → ((x : Entry) → call (moved_entry f x) ≡ call x) → (x : Entry) → Ask now (run_of (moved_entry f x)) (pass_of (moved_entry f x)) (call (moved_entry f x)) ≡ Ask now (f (run_of x)) (pass_of x) (call x)
+    entry_asks call same (entry.Walked x) = ap (Ask now (f x.run) x.pass) (same (entry.Walked x))
+    entry_asks call same (entry.Opened x) = ap (Ask now (f x.run) x.pass) (same (entry.Opened x))
+
+    pub of_entry : (call : Entry → _) → ((x : Entry) → call (moved_entry f x) ≡ call x) → (k : ℕ)
+        → option_map (λ (x : Entry). Ask now (run_of x) (pass_of x) (call x)) (get (moved_fids f fids) k) ≡ option_map (moved_question f) (option_map (λ (x : Entry). Ask now (run_of x) (pass_of x) (call x)) (get fids k))
+    of_entry call same k = ap (option_map (λ (x : Entry). Ask now (run_of x) (pass_of x) (call x))) (get_moved fids k) ∙ asks (λ (x : Entry). Ask now (run_of x) (pass_of x) (call x)) (moved_entry f) (entry_asks call same) (get fids k)
+
+  pub number_same : (x : Entry) → number_of (moved_entry f x) ≡ number_of x
+  number_same (entry.Walked x) = refl
+  number_same (entry.Opened x) = refl
+
+  pub user_same : (x : Entry) → user_of (moved_entry f x) ≡ user_of x
+  user_same (entry.Walked x) = refl
+  user_same (entry.Opened x) = refl
+
+  pub open_same : (x : Entry) → option_map (λ (y : FidOf Opened). y.state.open_number) (as_opened (moved_entry f x)) ≡ option_map (λ (y : FidOf Opened). y.state.open_number) (as_opened x)
+  open_same (entry.Walked x) = refl
+  open_same (entry.Opened x) = refl

@@ -1,0 +1,64 @@
+-- Steps whose marks that no reply tells of are left out lead to the same.
+use Rattle.std.proofs.Common.{◌≡◌, ◌∙◌, Bool, true, false, cond, List, [], ◌∷◌, map, refl, sym, ap, subst}
+use Rattle.cs_world.specs.declared.reply.Reply.{Reply}
+use Rattle.cs_world.specs.declared.step.Step.{Step}
+use Rattle.cs_world.specs.Ample.{ample, is_short}
+use Rattle.cs_world.specs.Isolation.{OnlyTold}
+use Rattle.cs_world.specs.Lists.{IsRun, before, steps_of}
+use Rattle.cs_world.specs.Marks.{Mark}
+use Rattle.cs_world.specs.Steps.{step_of}
+use Rattle.cs_world.specs.Worlds.{World}
+use Rattle.cs_world.proofs.AmpleSteps.{same_ample}
+
+abbrev told_of : World → Step → Mark → Bool
+told_of w x mark = is_short (step_of w x mark).0
+
+-- a mark that the reply tells of, and else none
+abbrev reached : World → Step × Mark → Mark
+reached w x = cond (told_of w x.0 x.1) x.1 ample
+
+abbrev remarked : World → List (Step × Mark) → List (Step × Mark)
+remarked w [] = []
+remarked w (x ∷ xs) = (x.0, reached w x) ∷ remarked (step_of w x.0 x.1).1 xs
+
+module _ (w : World) (x : Step) (mark : Mark) where
+  same_by : (b : Bool) → told_of w x mark ≡ b → step_of w x (cond b mark ample) ≡ step_of w x mark
+  same_by true is = refl
+  same_by false is = sym (same_ample w x mark is)
+
+  told_by : (b : Bool) → told_of w x mark ≡ b → told_of w x (cond b mark ample) ≡ false → cond b mark ample ≡ ample
+  told_by true is told = absurd (let e : told_of w x mark ≡ false = told in cc)
+  told_by false is told = refl
+
+  same_step : step_of w x (reached w (x, mark)) ≡ step_of w x mark
+  same_step = same_by (told_of w x mark) refl
+
+  only_told : told_of w x (reached w (x, mark)) ≡ false → reached w (x, mark) ≡ ample
+  only_told told = told_by (told_of w x mark) refl told
+
+steps_are : (w : World) (xs : List (Step × Mark)) → map (λ (x : Step × Mark). x.0) (remarked w xs) ≡ map (λ (x : Step × Mark). x.0) xs
+steps_are w [] = refl
+steps_are w (x ∷ xs) = ap (λ (ys : List Step). x.0 ∷ ys) (steps_are (step_of w x.0 x.1).1 xs)
+
+same_steps : (w : World) (xs : List (Step × Mark)) → steps_of w (remarked w xs) ≡ steps_of w xs
+same_steps w [] = refl
+same_steps w (x ∷ xs) =
+    let next : World = (step_of w x.0 x.1).1 in
+    ap (λ (y : Reply × World). before y.0 (steps_of y.1 (remarked next xs))) (same_step w x.0 x.1) ∙ ap (before (step_of w x.0 x.1).0) (same_steps next xs)
+
+all_told : (w : World) (xs : List (Step × Mark)) → OnlyTold w (remarked w xs)
+all_told w [] = tt
+all_told w (x ∷ xs) =
+    let next : World = (step_of w x.0 x.1).1 in
+    (only_told w x.0 x.1, subst (λ (y : Reply × World). OnlyTold y.1 (remarked next xs)) (sym (same_step w x.0 x.1)) (all_told next xs))
+
+-- a run of steps is one whose marks are all told of
+pub run_told : (w : World) (steps : List Step) (replies : List Reply) (w' : World) → IsRun w steps replies w' → (run : IsRun w steps replies w') × OnlyTold w run.marked
+run_told w steps replies w' run = (
+  record {
+    marked = remarked w run.marked;
+    steps_are = steps_are w run.marked ∙ run.steps_are;
+    leads = run.leads ∙ sym (same_steps w run.marked);
+  },
+  all_told w run.marked,
+)

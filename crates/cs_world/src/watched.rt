@@ -1,0 +1,130 @@
+//! The runs of a world, with what reaches one of them.
+ghost use Rattle.std.specs.Prelude.{◌≡◌, [], false, IfOk, string_bytes};
+ghost use Rattle.cs_journal.specs.Asked.{Attach, asked};
+ghost use Rattle.cs_journal.specs.Said.{written};
+ghost use Rattle.cs_world.specs.Projections.{stands_at};
+ghost use Rattle.cs_world.specs.Watching.{Hears, HearsAttach, HearsCall};
+
+use crate::copying::copy_call;
+use crate::heard::Heard;
+use crate::runs::Runs;
+use cs_permit::{AttachCall, Call, TreeName};
+use cs_registry::RunKey;
+use cs_run::Answer;
+use cs_session::{FindFault, PassFault, Port};
+use std::alloc::{AllocError, Global};
+
+/// The runs of a world, which are the port of its connections, and what reached the run of a key. It is
+/// short where memory for a note was refused.
+#[derive(Drop)]
+pub(crate) struct WatchedRuns {
+    pub(crate) runs: Runs,
+    pub(crate) key: RunKey,
+    pub(crate) heard: Vec<Heard>,
+    pub(crate) is_short: bool,
+}
+
+impl WatchedRuns {
+    /// Whether the run of the key stands at that place.
+    fn stands_at(&self, place: u32) -> bool
+        ensures { result ≡ stands_at self.now.runs self.now.key place }
+    {
+        match self.runs.states.place_of(&self.key) {
+            Some(found) => found == place,
+            None => false,
+        }
+    }
+
+    /// Notes a call that reached the run.
+    fn hear(&mut self, pass: u32, now: u32, call: Result<Call, AllocError>)
+        ensures runs { self.new.runs ≡ self.old.runs }
+        ensures key { self.new.key ≡ self.old.key }
+        ensures heard { self.new.is_short ≡ false →
+            Hears self.old.heard.items self.old.is_short pass now call self.new.heard.items }
+    {
+        match call {
+            Ok(call) => {
+                let heard = Heard { pass, now, call };
+                if self.heard.push(heard).is_err() {
+                    self.is_short = true;
+                }
+            }
+            Err(_) => self.is_short = true,
+        }
+    }
+
+    /// Notes a call, if it reaches the run.
+    fn hear_call(&mut self, alloc: Global, reaches: bool, pass: u32, now: u32, call: &Call)
+        ensures runs { self.new.runs ≡ self.old.runs }
+        ensures key { self.new.key ≡ self.old.key }
+        ensures heard { self.new.is_short ≡ false →
+            HearsCall self.old.heard.items self.old.is_short reaches pass now call.now
+            self.new.heard.items }
+    {
+        if reaches {
+            self.hear(pass, now, copy_call(alloc, call));
+        }
+    }
+
+    /// Notes an attach that got a pass, if it reaches the run. One that got none is taken for want of
+    /// memory.
+    fn hear_attach(
+        &mut self,
+        reaches: bool,
+        now: u32,
+        call: Result<Call, AllocError>,
+        entered: &Result<(u32, Answer), PassFault>,
+    )
+        ensures runs { self.new.runs ≡ self.old.runs }
+        ensures key { self.new.key ≡ self.old.key }
+        ensures heard { self.new.is_short ≡ false →
+            HearsAttach self.old.heard.items self.old.is_short reaches now call entered.now
+            self.new.heard.items }
+    {
+        if reaches {
+            match entered {
+                Ok((pass, _)) => self.hear(*pass, now, call),
+                Err(_) => self.is_short = true,
+            }
+        }
+    }
+}
+
+impl Port for WatchedRuns {
+    ghost use Rattle.cs_world.specs.Watching.{IsWatched};
+
+    ghost gives = { λ old mark question told new. IsWatched old question told new };
+
+    fn find(&mut self, alloc: Global, name: &TreeName) -> Result<u32, FindFault> {
+        self.runs.find(alloc, name)
+    }
+
+    fn attach(
+        &mut self,
+        alloc: Global,
+        now: u32,
+        run: u32,
+        user: String,
+    ) -> Result<(u32, Answer), PassFault> {
+        let reaches = self.stands_at(run);
+        let call = copy_user(&user);
+        let entered = self.runs.attach(alloc, now, run, user);
+        self.hear_attach(reaches, now, call, &entered);
+        entered
+    }
+
+    fn call(&mut self, alloc: Global, now: u32, run: u32, pass: u32, call: Call) -> Answer {
+        let reaches = self.stands_at(run);
+        self.hear_call(alloc, reaches, pass, now, &call);
+        self.runs.call(alloc, now, run, pass, call)
+    }
+}
+
+/// The call of an attach of that user.
+fn copy_user(user: &String) -> Result<Call, AllocError>
+    ensures { IfOk result (λ call. (asked call ≡ Attach (string_bytes user.now)) × (written call ≡ [])) }
+{
+    Ok(Call::Attach(AttachCall {
+        user: user.clone()?,
+    }))
+}

@@ -1,0 +1,1 @@
+"""Records what a program does to a directory, and checks a recovery in its crash states."""

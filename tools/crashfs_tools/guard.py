@@ -1,0 +1,143 @@
+"""A temporary directory and processes that are gone when a run ends, whatever ends it.
+
+A second process waits for the end of the first, also by a kill. It then ends every process that
+still has the run's token in its environment, and removes the directory.
+"""
+
+from __future__ import annotations
+
+import os
+import secrets
+import shutil
+import signal
+import tempfile
+import time
+from types import TracebackType
+from typing import Dict, List, Optional, Type
+
+VARIABLE = 'CRASHFS_GUARD'
+
+
+class Guard:
+    """Used by `with`. Start processes with `environment`, and put files below `directory`."""
+
+    def __init__(self, prefix: str) -> None:
+        self.prefix = prefix
+        self.token = secrets.token_hex(16)
+        self.directory = ''
+
+    def __enter__(self) -> Guard:
+        self.directory = tempfile.mkdtemp(prefix=self.prefix)
+        waiting, self.alive = os.pipe()
+        self.watcher = os.fork()
+        if self.watcher == 0:
+            os.close(self.alive)
+            self.watch(waiting)
+        os.close(waiting)
+        return self
+
+    @property
+    def environment(self) -> Dict[str, str]:
+        return {**os.environ, VARIABLE: self.token}
+
+    @property
+    def mark(self) -> bytes:
+        return f'{VARIABLE}={self.token}'.encode()
+
+    def end_processes(self) -> None:
+        """Ends all that was started with the environment, and all that came of it."""
+        end_all(self.mark)
+
+    def __exit__(self, kind: Optional[Type[BaseException]], error: Optional[BaseException],
+                 trace: Optional[TracebackType]) -> None:
+        os.close(self.alive)
+        os.waitpid(self.watcher, 0)
+
+    def watch(self, waiting: int) -> None:
+        """The second process: it never returns."""
+        try:
+            for number in (signal.SIGINT, signal.SIGTERM, signal.SIGHUP):
+                signal.signal(number, signal.SIG_IGN)
+            os.setsid()
+            nothing = os.open(os.devnull, os.O_RDWR)
+            for stream in (0, 1, 2):
+                os.dup2(nothing, stream)
+            os.read(waiting, 1)
+            self.end_processes()
+            remove_tree(self.directory)
+        finally:
+            os._exit(0)
+
+
+def bearers(mark: bytes) -> List[int]:
+    """The processes that have a mark in their environment."""
+    found = []
+    for name in os.listdir('/proc'):
+        if not name.isdigit():
+            continue
+        try:
+            with open(f'/proc/{name}/environ', 'rb') as file:
+                if mark in file.read().split(b'\0'):
+                    found.append(int(name))
+        except OSError:
+            continue
+    return found
+
+
+def end_all(mark: bytes) -> None:
+    """Ends all bearers; again until none is found, since one may have just forked."""
+    for _ in range(100):
+        found = bearers(mark)
+        if not found:
+            return
+        for process in found:
+            try:
+                os.kill(process, signal.SIGKILL)
+            except OSError:
+                pass
+        time.sleep(0.01)
+
+
+def remove_tree(path: str) -> None:
+    """Removes a directory, also where modes forbid it."""
+    try:
+        shutil.rmtree(path)
+    except OSError:
+        open_up(path)
+        shutil.rmtree(path, ignore_errors=True)
+
+
+def open_up(path: str) -> None:
+    """Gives every directory the modes that its removal needs."""
+    try:
+        os.chmod(path, 0o700)
+        with os.scandir(path) as entries:
+            below = [entry.path for entry in entries if entry.is_dir(follow_symlinks=False)]
+    except OSError:
+        return
+    for directory in below:
+        open_up(directory)
+
+
+class Stopped(Exception):
+    """A signal that asks for the end."""
+
+    def __init__(self, number: int) -> None:
+        super().__init__(signal.Signals(number).name)
+        self.number = number
+
+    @property
+    def status(self) -> int:
+        return 128 + self.number
+
+
+def stop_by_exception() -> None:
+    """From here on SIGINT, SIGTERM and SIGHUP raise Stopped in the main thread."""
+
+    def stop(number: int, _: object) -> None:
+        for later in (signal.SIGINT, signal.SIGTERM, signal.SIGHUP):
+            signal.signal(later, signal.SIG_IGN)
+        raise Stopped(number)
+
+    for number in (signal.SIGINT, signal.SIGTERM, signal.SIGHUP):
+        signal.signal(number, stop)

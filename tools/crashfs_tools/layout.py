@@ -1,0 +1,75 @@
+"""States laid out as directories, from the archive that `crashfs tar` writes."""
+
+from __future__ import annotations
+
+import os
+import shutil
+import tarfile
+from typing import Dict, Iterator, List, Set, Tuple
+
+from .program import Crashfs, path_of
+
+
+class Layout:
+    """Lays states out below a folder, each as a directory that has its number."""
+
+    def __init__(self, program: Crashfs, plan_options: List[str], folder: str,
+                 environment: Dict[str, str]) -> None:
+        self.program = program
+        self.plan_options = plan_options
+        self.folder = folder
+        self.environment = environment
+
+    def states(self, wanted: Set[int]) -> Iterator[Tuple[int, str]]:
+        """Each wanted state with its directory, in ascending order: one archive is read, as
+        fast as the states are taken. Who takes a directory removes it."""
+        first, last = min(wanted), max(wanted)
+        words = [*self.plan_options, '--states', f'{first}-{last}']
+        left = set(wanted)
+        with self.program.archive(words, self.environment) as members:
+            for number, path in self.lay_out(members, wanted):
+                left.remove(number)
+                yield number, path
+        # A tree without an entry may stand in the archive by nothing at all.
+        for number in sorted(left):
+            os.mkdir(self.path(number))
+            yield number, self.path(number)
+
+    def lay_out(self, members: tarfile.TarFile, wanted: Set[int]) -> Iterator[Tuple[int, str]]:
+        number = -1
+        modes: Dict[str, int] = {}
+        for member in members:
+            top, _, below = path_of(member)[1:].partition('/')
+            if int(top) != number:
+                if number in wanted:
+                    yield number, self.finish(number, modes)
+                number, modes = int(top), {}
+                if number in wanted:
+                    os.mkdir(self.path(number))
+            if number in wanted:
+                self.put(members, member, os.path.join(self.path(number), below), modes)
+        if number in wanted:
+            yield number, self.finish(number, modes)
+
+    def path(self, number: int) -> str:
+        return os.path.join(self.folder, str(number))
+
+    def finish(self, number: int, modes: Dict[str, int]) -> str:
+        """Directories get their modes last, since these may forbid entries."""
+        for path, mode in modes.items():
+            os.chmod(path, mode)
+        return self.path(number)
+
+    @staticmethod
+    def put(members: tarfile.TarFile, member: tarfile.TarInfo, path: str,
+            modes: Dict[str, int]) -> None:
+        if member.isdir():
+            os.makedirs(path, exist_ok=True)
+            modes[path] = member.mode
+            return
+        source = members.extractfile(member)
+        if source is None:
+            return
+        with open(path, 'wb') as file:
+            shutil.copyfileobj(source, file)
+        os.chmod(path, member.mode)

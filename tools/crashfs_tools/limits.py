@@ -1,0 +1,10 @@
+"""The limits of a trace and its plan, as docs/BEHAVIOUR.md has them."""
+
+BLOCK_BYTES = 4_096
+FILE_BYTES = 16_777_216
+MICRO_OPERATIONS = 1_024
+NAME_BYTES = 255
+PATH_NAMES = 64
+RECORDS = 65_536
+SAY_BYTES = 1_024
+USER_BYTES = 64

@@ -1,0 +1,131 @@
+"""strace's log as calls: each with the lines at which it began and ended."""
+
+from __future__ import annotations
+
+import re
+from dataclasses import dataclass, field
+from typing import Dict, Iterable, List, Optional
+
+from . import arguments
+
+LINE = re.compile(r'^(\d+)\s+(\w+)\((.*)\)\s+= (0x[0-9a-f]+|-?\d+|\?)(.*)$', re.S)
+UNFINISHED = re.compile(r'^(\d+)\s+(\w+)\((.*?)\s*<unfinished \.\.\.>$', re.S)
+RESUMED = re.compile(r'^(\d+)\s+<\.\.\. (\w+) resumed>(.*)$', re.S)
+ENDED = re.compile(r'^(\d+)\s+\+\+\+ (?:exited with|killed by) ')
+SUPERSEDED = re.compile(r'^(\d+)\s+\+\+\+ superseded by execve in pid (\d+) \+\+\+')
+RESULT_PATH = re.compile(r'^<((?:\\x[0-9a-f]{2})*)>')
+
+# Names for what is no call, and stands among the calls all the same.
+EXIT = '+exit'
+SUPERSEDE = '+supersede'
+
+
+@dataclass
+class Call:
+    """A call that returned. Lines count from 1; they order all calls of all threads."""
+
+    process: int
+    name: str
+    words: List[str]
+    result: int
+    result_path: Optional[str]
+    begin: int
+    end: int
+
+    def word(self, place: int, default: str = '') -> str:
+        return self.words[place] if place < len(self.words) else default
+
+    def descriptor(self, place: int = 0) -> arguments.Descriptor:
+        return arguments.descriptor(self.word(place))
+
+
+@dataclass
+class Log:
+    """A whole log. copies gives, by the line of a call's end, which copy of the mapped files
+    was taken there. first is the process that strace started, and ended all that ended."""
+
+    calls: List[Call] = field(default_factory=list)
+    copies: Dict[int, int] = field(default_factory=dict)
+    ended: List[int] = field(default_factory=list)
+    first: Optional[int] = None
+
+    @property
+    def is_whole(self) -> bool:
+        return self.first in self.ended
+
+
+@dataclass
+class _Waiting:
+    begin: int
+    name: str
+    head: str
+
+
+class LogReader:
+    """Reads a log line by line; a call that another thread's line cuts in two is put together."""
+
+    def __init__(self) -> None:
+        self.log = Log()
+        self.waiting: Dict[str, _Waiting] = {}
+        self.newest: Dict[int, int] = {}
+
+    def read(self, lines: Iterable[str]) -> Log:
+        for number, line in enumerate(lines, 1):
+            self.line(number, line.rstrip('\n'))
+        return self.log
+
+    def line(self, number: int, line: str) -> None:
+        unfinished = UNFINISHED.match(line)
+        if unfinished:
+            process, name, head = unfinished.groups()
+            self.waiting[process] = _Waiting(number, name, head)
+            return
+        begin = number
+        resumed = RESUMED.match(line)
+        if resumed:
+            waiting = self.waiting.pop(resumed[1], None)
+            if waiting is None:
+                return
+            begin = waiting.begin
+            line = f'{resumed[1]} {waiting.name}({waiting.head}{resumed[3]}'
+        match = LINE.match(line)
+        if match:
+            self.call(match, begin, number)
+        else:
+            self.event(number, line)
+
+    def call(self, match: re.Match[str], begin: int, end: int) -> None:
+        process, name, text, result, tail = match.groups()
+        if self.log.first is None:
+            self.log.first = int(process)
+        self.newest[int(process)] = end
+        shown = RESULT_PATH.match(tail)
+        self.log.calls.append(Call(
+            process=int(process),
+            name=name,
+            words=arguments.split(text),
+            result=-1 if result == '?' else arguments.integer(result),
+            result_path=arguments.shown_path(shown[1]) if shown else None,
+            begin=begin,
+            end=end,
+        ))
+
+    def event(self, number: int, line: str) -> None:
+        ended, superseded = ENDED.match(line), SUPERSEDED.match(line)
+        if ended:
+            self.log.ended.append(int(ended[1]))
+            self.mark(number, int(ended[1]), EXIT, 0)
+        elif superseded:
+            self.mark(number, int(superseded[1]), SUPERSEDE, int(superseded[2]))
+
+    def copied(self, process: int, copy: int) -> None:
+        """A copy of the mapped files was taken at the process's newest call."""
+        if process in self.newest:
+            self.log.copies[self.newest[process]] = copy
+
+    def mark(self, number: int, process: int, name: str, result: int) -> None:
+        self.log.calls.append(Call(process, name, [], result, None, number, number))
+
+
+def read_log(lines: Iterable[str]) -> Log:
+    return LogReader().read(lines)

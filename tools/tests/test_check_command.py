@@ -1,0 +1,252 @@
+"""crashfs-check as its users run it, on the fake program."""
+
+import json
+import os
+import signal
+import time
+import unittest
+
+from .support import EXAMPLES, FAKE, InFolder
+
+CHECK = """\
+#!/bin/sh
+test "$CRASHFS_SAYS" = "$(grep -c stored)" || { echo "texts: not those told"; exit 1; }
+test "$CRASHFS_SAYS" = 0 && exit 0
+grep -qs a=2 log table && exit 0
+echo some more
+echo 'lost: a=2 was told'
+exit 1
+"""
+
+
+class InStore(InFolder):
+
+    def setUp(self):
+        super().setUp()
+        self.good = str(EXAMPLES / 'store.trace')
+        lines = (EXAMPLES / 'store.trace').read_text(encoding='utf-8').splitlines(True)
+        syncs = [place for place, line in enumerate(lines) if '"fsync","path":"/"' in line]
+        # Without the second sync of the root, the one behind the rename.
+        self.bad = self.write('bad.trace', ''.join(lines[:syncs[1]] + lines[syncs[1] + 1:]))
+        self.command = self.write('recover.sh', CHECK, 0o755)
+
+    def check(self, *words, command=None):
+        return self.run_tool('crashfs-check', '--crashfs', FAKE, *words, '--',
+                             *(command or ['./recover.sh']))
+
+
+class Checks(InStore):
+
+    def test_a_store_that_is_right_fails_nowhere(self):
+        ran = self.check(self.good)
+        self.assertEqual((ran.returncode, ran.stderr), (0, ''))
+        self.assertEqual(ran.stdout, 'store.trace: 11 micro-operations, 26 states, 20 different: '
+                                     'none fails\n')
+        self.assert_nothing_left()
+
+    def test_a_missing_sync_is_told_by_its_pair(self):
+        ran = self.check(self.bad)
+        self.assertEqual(ran.returncode, 1, ran.stderr)
+        self.assertEqual(ran.stdout.splitlines(), [
+            'bad.trace: 11 micro-operations, 29 states, 23 different: 3 fail (lost 3)',
+            '  lost: a=2 was told                                   '
+            '3 states, as: --state 25',
+            '    kept      op 10 change_file_size /log 0          line 15',
+            '    but not   op 8 move_dir_entry /tmp/table /table  line 13',
+        ])
+        self.assert_nothing_left()
+
+    def test_prefixes_alone_find_nothing_of_it(self):
+        ran = self.check('--prefixes', self.bad)
+        self.assertEqual((ran.returncode, ran.stdout.split(', ')[1]), (0, '12 states'))
+
+    def test_families_of_picks_are_tried_too(self):
+        for families, states in ([['--lost'], 23], [['--files'], 14],
+                                 [['--lost', '--files'], 24]):
+            ran = self.check('--prefixes', *families, self.good,
+                             command=['sh', '-c', 'test $CRASHFS_STATE -lt 12'])
+            self.assertIn(f', {states} states, ', ran.stdout)
+            # What --files has in this trace are trees of prefixes, which are tried already.
+            self.assertEqual(ran.returncode, int('--lost' in families), ran.stdout)
+
+    def test_a_state_is_left_as_the_crash_left_it(self):
+        ran = self.check('--state', '27', self.bad,
+                         command=['sh', '-c', 'cat log table; ls; rm log; echo "$CRASHFS_STATE"; '
+                                              'exit 1'])
+        self.assertEqual((ran.returncode, ran.stderr), (1, ''))
+        self.assertIn('state 27, hole 8 11, says 1: bad: 27\n', ran.stdout)
+        folder, = os.listdir(self.temporary)
+        left = os.path.join(self.temporary, folder, '27')
+        self.assertIn(f'It is laid out in {left}.', ran.stdout)
+        self.assertEqual(sorted(os.listdir(left)), ['log', 'table', 'tmp'])
+        with open(os.path.join(left, 'table'), encoding='utf-8') as file:
+            self.assertEqual(file.read(), 'a=1\n')
+        self.assertEqual(os.stat(os.path.join(left, 'tmp')).st_mode & 0o777, 0o700)
+        with open(os.path.join(left, '..', 'says-1'), encoding='utf-8') as file:
+            self.assertEqual(file.read(), 'a=2 is stored\n')
+
+    def test_shards_are_merged_into_the_whole(self):
+        whole = self.check(self.bad)
+        files = []
+        for part in (1, 2, 3):
+            files.append(self.path(f'{part}.json'))
+            ran = self.check('--shard', f'{part}/3', '--json', files[-1], self.bad)
+            self.assertIn(f'tried by shard {part}/3', ran.stdout)
+        ran = self.run_tool('crashfs-check', '--json', 'all.json', '--merge', *files)
+        self.assertEqual((ran.returncode, ran.stdout), (1, whole.stdout), ran.stderr)
+        parts = [json.loads(self.read(f'{part}.json'))['outcomes'] for part in (1, 2, 3)]
+        merged = json.loads(self.read('all.json'))['outcomes']
+        self.assertEqual(merged, {**parts[0], **parts[1], **parts[2]})
+        self.assertEqual(len(merged), sum(map(len, parts)))
+        ran = self.run_tool('crashfs-check', '--merge', files[0], files[2])
+        self.assertEqual(ran.returncode, 2)
+        self.assertEqual(ran.stderr, 'crashfs-check: of 3 shards these are given: 1, 3\n')
+
+    def test_causes_are_last_lines_signals_and_statuses(self):
+        for script, told in [('echo a; echo "b: c"; echo', 'b: c'), ('true', 'status 7'),
+                             ('kill -9 $$', 'ended by SIGKILL')]:
+            with self.subTest(script):
+                ran = self.check('--prefixes', self.good, command=['sh', '-c', f'{script}; exit 7'])
+                self.assertEqual(ran.stdout.splitlines()[1].strip().split('  ')[0], told)
+                self.assertEqual(ran.returncode, 1)
+
+    def test_a_command_that_hangs_is_ended_and_has_no_answer(self):
+        ran = self.check('--prefixes', '--timeout', '0.3', '--jobs', '4', self.good,
+                         command=['sh', '-c', 'test $CRASHFS_STATE != 3 || sleep 60'])
+        self.assertEqual(ran.returncode, 3, ran.stderr)
+        self.assertIn('1 gave no answer', ran.stdout)
+        self.assertIn('it had not ended after 0.3 seconds', ran.stdout)
+        self.assert_nothing_left()
+
+    def test_what_a_command_leaves_running_is_ended(self):
+        self.check('--prefixes', self.good,
+                   command=['sh', '-c', 'sleep 77.7 & setsid sleep 77.7 &'])
+        self.assertEqual(processes('sleep\x0077.7'), [])
+        self.assert_nothing_left()
+
+    def test_an_empty_tree_is_an_empty_directory(self):
+        trace = self.write('empty.trace', '{"trace":1,"owner":"u","group":"u","mode":"755"}\n')
+        no_root = self.write('no_root', f'#!/bin/sh\ntest $1 != tar || exec head -c 10240 /dev/zero'
+                                        f'\nexec {FAKE} "$@"\n', 0o755)
+        for program in (FAKE, no_root):
+            ran = self.check('--crashfs', program, trace, command=['sh', '-c', 'test -z "$(ls)"'])
+            self.assertEqual((ran.returncode, ran.stderr), (0, ''))
+
+    def test_modes_that_forbid_everything_are_no_hindrance(self):
+        trace = self.write('modes.trace', '\n'.join([
+            '{"trace":1,"owner":"u","group":"u","mode":"755"}',
+            '{"start":"dir","path":"/d","owner":"u","group":"u","mode":"500"}',
+            '{"start":"file","path":"/d/f","owner":"u","group":"u","mode":"000","bytes":"00"}',
+            '{"start":"dir","path":"/e","owner":"u","group":"u","mode":"000"}']))
+        ran = self.check(trace, command=[
+            'sh', '-c', 'test "$(stat -c %a d d/f e | xargs)" = "500 0 0" && chmod 0 .'])
+        self.assertEqual(ran.returncode, 0, ran.stdout + ran.stderr)
+        self.assert_nothing_left()
+
+
+class Room(InStore):
+
+    def test_what_has_no_room_is_told_and_not_there(self):
+        for words, told in [(('--json', 'r.json'), 'r.json: File too large'),
+                            ((), f'{self.temporary}: File too large')]:
+            ran = self.run_tool('crashfs-check', '--crashfs', FAKE, *words, self.good, '--', 'true',
+                                file_bytes=300 if words else 3)
+            self.assertEqual((ran.returncode, ran.stdout), (3, ''))
+            self.assertEqual(ran.stderr, f'crashfs-check: {told}\n')
+            self.assertFalse(os.path.exists(self.path('r.json')))
+            self.assert_nothing_left()
+
+
+class Stops(InStore):
+
+    def begin(self):
+        child = self.start('crashfs-check', '--crashfs', FAKE, self.good, '--', 'sh', '-c',
+                           f'echo > {self.path("begun")}; sleep 88.8')
+        deadline = time.monotonic() + 30
+        while not os.path.exists(self.path('begun')) and time.monotonic() < deadline:
+            time.sleep(0.02)
+        return child
+
+    def test_a_stop_leaves_nothing(self):
+        for number in (signal.SIGINT, signal.SIGTERM):
+            child = self.begin()
+            child.send_signal(number)
+            out, err = child.communicate(timeout=30)
+            self.assertEqual((child.returncode, out), (128 + number, ''))
+            self.assertEqual(err, f'crashfs-check: stopped by {signal.Signals(number).name}\n')
+            self.assertEqual(processes('sleep\x0088.8'), [])
+            self.assert_nothing_left()
+            os.unlink(self.path('begun'))
+
+    def test_a_kill_leaves_nothing(self):
+        child = self.begin()
+        child.kill()
+        child.communicate(timeout=30)
+        deadline = time.monotonic() + 10
+        while os.listdir(self.temporary) and time.monotonic() < deadline:
+            time.sleep(0.05)
+        self.assertEqual(processes('sleep\x0088.8'), [])
+        self.assert_nothing_left()
+
+
+class Refuses(InStore):
+
+    def refusal(self, *words, status=2):
+        ran = self.run_tool('crashfs-check', *words)
+        self.assertEqual((ran.returncode, ran.stdout), (status, ''), ran.stderr)
+        self.assert_nothing_left()
+        return ran.stderr
+
+    def test_bad_input_is_told_in_one_line(self):
+        broken = self.write('broken.trace', 'nothing\n')
+        for told, *words in [
+                ('none: No such file or directory', '--crashfs', FAKE, 'none', '--', 'true'),
+                ('no-such is not there', '--crashfs', FAKE, self.good, '--', 'no-such'),
+                ('--crashfs /none: no such program', '--crashfs', '/none', self.good, '--', 'true'),
+                ('no such state: 99', '--crashfs', FAKE, '--state', '99', self.good, '--', 'true'),
+                ('x/r.json: its directory is not there', '--json', 'x/r.json', '--crashfs', FAKE,
+                 self.good, '--', 'true'),
+                (f'{broken} is no report', '--merge', broken)]:
+            with self.subTest(told):
+                err = self.refusal(*words)
+                self.assertTrue(err.startswith(f'crashfs-check: {told}'), err)
+                self.assertEqual(err.count('\n'), 1, err)
+        self.assertIn('crashfs-check: ', self.refusal('--crashfs', FAKE, broken, '--', 'true'))
+
+    def test_a_program_without_the_options_is_told(self):
+        old = self.write('old', f'#!/bin/sh\nexec {FAKE} "$@" --old\n', 0o755)
+        err = self.refusal('--crashfs', old, self.good, '--', 'true')
+        self.assertIn('has no `list --lines --same` yet', err)
+        no_tar = self.write('no_tar', f'#!/bin/sh\ntest $1 = tar && set -- --old\n'
+                                      f'exec {FAKE} "$@"\n', 0o755)
+        err = self.refusal('--crashfs', no_tar, self.good, '--', 'true')
+        self.assertIn('has no `tar --states` yet', err)
+
+    def test_the_command_line_is_refused(self):
+        for words in [(), (self.good,), (self.good, '--'), ('--jobs', '0', self.good, '--', 'x'),
+                      ('--shard', '3/2', self.good, '--', 'x'),
+                      ('--timeout', 'x', self.good, '--', 'x')]:
+            self.assertIn('error: ', self.refusal(*words))
+
+    def test_a_trace_that_the_program_refuses_is_told_with_its_line(self):
+        refusing = self.write('refusing', '#!/bin/sh\necho "crashfs: trace line 3: Exists" >&2\n'
+                                          'exit 1\n', 0o755)
+        err = self.refusal('--crashfs', refusing, self.good, '--', 'true')
+        self.assertEqual(err, 'crashfs-check: crashfs: trace line 3: Exists\n')
+
+
+def processes(command):
+    """The processes whose command line has a text."""
+    found = []
+    for name in filter(str.isdigit, os.listdir('/proc')):
+        try:
+            with open(f'/proc/{name}/cmdline', encoding='utf-8', errors='replace') as file:
+                if command in file.read():
+                    found.append(int(name))
+        except OSError:
+            continue
+    return found
+
+
+if __name__ == '__main__':
+    unittest.main()

@@ -1,0 +1,77 @@
+"""The two examples: what they record, and their reports."""
+
+import os
+import re
+import shutil
+import unittest
+
+from .support import EXAMPLES, FAKE, InFolder, strace_works
+
+OWNERS = re.compile(r'"(owner|group)":"[^"]*"')
+
+
+def example(*names: str) -> str:
+    return str(EXAMPLES.joinpath(*names))
+
+
+class Examples(InFolder):
+
+    def lines(self, path):
+        with open(path, encoding='utf-8') as file:
+            return file.read().splitlines()
+
+    def check(self, trace, command):
+        ran = self.run_tool('crashfs-check', '--crashfs', FAKE, trace, '--', command)
+        self.assertEqual(ran.stderr, '')
+        return ran.stdout.splitlines()
+
+    def test_the_config_saver_s_report(self):
+        report = self.check(example('config', 'config.trace'), example('config', 'check.sh'))
+        self.assertEqual(report, self.lines(example('config', 'config.report')))
+
+    @unittest.skipUnless(shutil.which('sqlite3'), 'sqlite3 is not there')
+    def test_sqlite_s_report_with_full(self):
+        report = self.check(example('sqlite', 'full.trace'), example('sqlite', 'recover.sh'))
+        self.assertEqual(report, self.lines(example('sqlite', 'full.report')))
+
+    @unittest.skipUnless(shutil.which('sqlite3'), 'sqlite3 is not there')
+    def test_sqlite_s_report_with_extra(self):
+        # EXTRA is FULL with a sync of the directory behind each unlink of the journal.
+        lines = []
+        for line in self.lines(example('sqlite', 'full.trace')):
+            lines.append(line)
+            if '"unlink"' in line:
+                lines.append('{"op":"fsync","path":"/"}')
+        trace = self.write('extra.trace', '\n'.join(lines) + '\n')
+        self.assertEqual(self.check(trace, example('sqlite', 'recover.sh')),
+                         self.lines(example('sqlite', 'extra.report')))
+
+
+@unittest.skipUnless(strace_works(), 'strace is not there, or may not trace')
+class Recorded(InFolder):
+
+    def record(self, *command):
+        ran = self.run_tool('crashfs-record', 'store', 'out.trace', '--', *command)
+        self.assertEqual(ran.returncode, 0, ran.stderr)
+        return self.read('out.trace').splitlines()
+
+    def test_the_config_saver_is_recorded_as_its_trace(self):
+        os.umask(0o022)
+        os.mkdir(self.path('store'))
+        self.write('store/config', 'version=0\n')
+        with open(example('config', 'config.trace'), encoding='utf-8') as file:
+            wanted = OWNERS.sub('', file.read()).splitlines()
+        found = self.record(example('config', 'save.py'))
+        self.assertEqual([OWNERS.sub('', line) for line in found], wanted)
+
+    @unittest.skipUnless(shutil.which('sqlite3'), 'sqlite3 is not there')
+    def test_a_session_of_sqlite_has_its_rows_told_and_its_journals_removed(self):
+        os.mkdir(self.path('store'))
+        os.system(f'sqlite3 {self.path("store", "test.db")} "CREATE TABLE city (name TEXT)"')
+        found = self.record('sqlite3', 'test.db', f'.read {example("sqlite", "session.sql")}')
+        self.assertEqual(sum('"say"' in line for line in found), 4)
+        self.assertEqual(sum('"unlink","path":"/test.db-journal"' in line for line in found), 4)
+
+
+if __name__ == '__main__':
+    unittest.main()

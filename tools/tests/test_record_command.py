@@ -1,0 +1,236 @@
+"""crashfs-record as its users run it, with strace."""
+
+import os
+import shutil
+import signal
+import sys
+import time
+import unittest
+
+from .support import FAKE, TOOLS, InFolder, strace_works
+
+NO_STRACE = 'strace is not there, or may not trace'
+STORE_MAPPED = """
+import mmap, os
+f = os.open('map', os.O_RDWR | os.O_CREAT, 0o600)
+os.ftruncate(f, 8192)
+m = mmap.mmap(f, 8192)
+m[5:7] = b'hi'
+m[4096:4097] = b'x'
+m.flush()
+m[0:1] = b'y'
+os.write(1, b'told\\n')
+"""
+
+
+@unittest.skipUnless(strace_works(), NO_STRACE)
+class Records(InFolder):
+
+    def setUp(self):
+        super().setUp()
+        os.umask(0o022)
+        os.mkdir(self.path('d'))
+        with open(self.path('d', 'old'), 'w', encoding='utf-8') as file:
+            file.write('1\n')
+
+    def record(self, script, *options):
+        return self.run_tool('crashfs-record', *options, 'd', 'out.trace', '--',
+                             'sh', '-c', script)
+
+    def operations(self):
+        lines = self.read('out.trace').splitlines()
+        return [line for line in lines if line.startswith('{"op"')]
+
+    def test_a_session_of_a_shell_is_whole(self):
+        ran = self.record('echo 2 > new; echo stored; mv new old; mkdir s; sync; echo 3 >> old')
+        self.assertEqual((ran.returncode, ran.stdout), (0, 'stored\n'), ran.stderr)
+        self.assertIn('its last state is that of', ran.stderr)
+        names = [line.split('"')[3] for line in self.operations()]
+        self.assertEqual(names, ['creat', 'write', 'say', 'rename', 'mkdir', 'sync', 'write'])
+        self.assert_nothing_left()
+
+    def test_random_sessions_end_as_their_directories(self):
+        program = str(TOOLS / 'tests' / 'random_session.py')
+        for seed in (1, 2, 3):
+            with self.subTest(seed):
+                shutil.rmtree(self.path('d'))
+                os.makedirs(self.path('d', 's'))
+                self.write('d/a', 'old')
+                ran = self.run_tool('crashfs-record', 'd', 'out.trace', '--', sys.executable,
+                                    program, str(seed))
+                self.assertEqual(ran.returncode, 0, ran.stderr)
+                self.assertGreater(len(self.operations()), 40)
+
+    def test_the_program_tells_the_last_state_where_it_can(self):
+        ran = self.record('echo 2 > new; rm old', '--crashfs', FAKE)
+        self.assertIn('(by crashfs tar)', ran.stderr)
+        self.assertEqual(ran.returncode, 0, ran.stderr)
+
+    def test_what_no_trace_says_is_told_and_the_rest_is_written(self):
+        ran = self.record('ln -s old link; chmod 600 old; echo 2 > new; exit 4')
+        self.assertEqual(ran.returncode, 3)
+        for told in ['/link: a symbolic link was made', '/old: its mode becomes 600',
+                     'COMMAND ended with status 4']:
+            self.assertIn(told, ran.stderr)
+        self.assertEqual(len(self.operations()), 2)
+
+    def test_a_start_tree_leaves_out_what_no_trace_says(self):
+        os.symlink('old', self.path('d', 'link'))
+        ran = self.record('echo 2 >> old')
+        self.assertEqual(ran.returncode, 3)
+        self.assertIn('/link: the start tree leaves out a symbolic link', ran.stderr)
+        self.assertEqual(len(self.operations()), 1)
+
+    def test_ignored_files_stand_nowhere(self):
+        ran = self.record('mkdir log; echo 2 > log/a; echo 3 > b', '--ignore', 'lo*')
+        self.assertEqual((ran.returncode, len(self.operations())), (0, 2), ran.stderr)
+
+    def test_a_difference_at_the_end_is_told(self):
+        child = self.start('crashfs-record', 'd', 'out.trace', '--', 'sh', '-c',
+                           'echo $$ > ../pid; until test -e other; do sleep 0.05; done')
+        self.pid_of('pid')
+        self.write('d/other', 'made by the test, which strace does not follow')
+        _, err = child.communicate(timeout=30)
+        self.assertEqual(child.returncode, 3)
+        self.assertIn('/other: it is there at the end, and the trace has it not', err)
+
+    def test_a_log_is_converted_as_it_was_recorded(self):
+        before = self.read('d/old')
+        ran = self.record('echo 2 > new; mv new old', '--keep-log', self.path('log'))
+        self.assertEqual(ran.returncode, 0, ran.stderr)
+        recorded = self.read('out.trace')
+        os.mkdir(self.path('copy'))
+        self.write('copy/old', before)
+        ran = self.run_tool('crashfs-record', '--from-log', 'log', '--log-dir', self.path('d'),
+                            'copy', 'second.trace')
+        self.assertEqual(ran.returncode, 0, ran.stderr)
+        self.assertEqual(self.read('second.trace'), recorded)
+
+    def test_stores_through_a_mapping_are_told_with_mapped(self):
+        script = self.write('mapped.py', STORE_MAPPED)
+        ran = self.record(f'{sys.executable} {script}', '--mapped')
+        self.assertEqual(ran.returncode, 0, ran.stderr)
+        self.assertEqual([line.partition(',')[2] for line in self.operations()[1:]], [
+            '"path":"/map","length":8192}',
+            '"path":"/map","offset":5,"bytes":"6869"}',
+            '"path":"/map","offset":4096,"bytes":"78"}',
+            '"path":"/map"}',
+            '"path":"/map","offset":0,"bytes":"79"}',
+            '"text":"told"}',
+        ])
+        self.assert_nothing_left()
+
+    def test_without_mapped_a_mapping_is_a_trouble(self):
+        script = self.write('mapped.py', STORE_MAPPED)
+        ran = self.record(f'{sys.executable} {script}')
+        self.assertEqual(ran.returncode, 3)
+        self.assertIn('/map: mapped for writing', ran.stderr)
+
+    def test_what_has_no_room_is_not_there(self):
+        for keep, told in [((), 'out.trace: File too large; no trace is written'),
+                           (('--keep-log', 'log'), 'log: File too large; no trace is written')]:
+            ran = self.run_tool('crashfs-record', *keep, 'd', 'out.trace', '--', 'sh', '-c',
+                                'for i in 1 2 3 4 5; do echo $i > f$i; done', file_bytes=300)
+            self.assertEqual(ran.returncode, 1)
+            self.assertEqual(ran.stderr, f'crashfs-record: {told}\n')
+            self.assertEqual(sorted(os.listdir(self.folder)), ['d', 'tmp'])
+            self.assert_nothing_left()
+
+    def test_a_stop_leaves_nothing(self):
+        for number, told in [(signal.SIGINT, 'SIGINT'), (signal.SIGTERM, 'SIGTERM')]:
+            with self.subTest(told):
+                child = self.start('crashfs-record', 'd', 'out.trace', '--', 'sh', '-c',
+                                   'echo $$ > ../pid; echo 2 > new; sleep 60')
+                pid = self.pid_of('pid')
+                child.send_signal(number)
+                out, err = child.communicate(timeout=30)
+                self.assertEqual((child.returncode, out), (128 + number, ''))
+                self.assertEqual(err, f'crashfs-record: stopped by {told}; nothing is written\n')
+                self.assert_gone(pid)
+                self.assertFalse(os.path.exists(self.path('out.trace')))
+                self.assert_nothing_left()
+                os.unlink(self.path('pid'))
+
+    def test_a_kill_leaves_nothing(self):
+        child = self.start('crashfs-record', 'd', 'out.trace', '--', 'sh', '-c',
+                           'echo $$ > ../pid; sleep 60')
+        pid = self.pid_of('pid')
+        child.kill()
+        child.communicate(timeout=30)
+        self.assert_gone(pid)
+        deadline = time.monotonic() + 10
+        while os.listdir(self.temporary) and time.monotonic() < deadline:
+            time.sleep(0.05)
+        self.assert_nothing_left()
+
+    def pid_of(self, name):
+        deadline = time.monotonic() + 30
+        while time.monotonic() < deadline:
+            if os.path.exists(self.path(name)) and self.read(name).strip():
+                return int(self.read(name))
+            time.sleep(0.05)
+        raise AssertionError('COMMAND did not start')
+
+    def assert_gone(self, pid):
+        deadline = time.monotonic() + 10
+        while os.path.exists(f'/proc/{pid}') and time.monotonic() < deadline:
+            time.sleep(0.05)
+        self.assertFalse(os.path.exists(f'/proc/{pid}'))
+
+
+class Refuses(InFolder):
+
+    def setUp(self):
+        super().setUp()
+        os.mkdir(self.path('d'))
+
+    def refusal(self, *words):
+        ran = self.run_tool('crashfs-record', *words)
+        self.assertEqual((ran.returncode, ran.stdout), (1, ''), ran.stderr)
+        self.assert_nothing_left()
+        self.assertEqual(sorted(os.listdir(self.folder)), ['d', 'tmp'])
+        return ran.stderr
+
+    def test_bad_input_is_told_in_one_line(self):
+        for told, *words in [
+                ('x is no directory', 'x', 'o', '--', 'true'),
+                ('no-such-command is not there', 'd', 'o', '--', 'no-such-command'),
+                ('./d is no program that may be run', 'd', 'o', '--', './d'),
+                ('x/o: its directory is not there', 'd', 'x/o', '--', 'true'),
+                ('d/o would stand in ', 'd', 'd/o', '--', 'true'),
+                ('--crashfs /none: no such program', '--crashfs', '/none', 'd', 'o', '--',
+                 'true'),
+                ('none: No such file or directory', '--from-log', 'none', 'd', 'o')]:
+            with self.subTest(told):
+                err = self.refusal(*words)
+                self.assertTrue(err.startswith(f'crashfs-record: {told}'), err)
+                self.assertEqual(err.count('\n'), 1, err)
+
+    def test_without_strace_nothing_runs(self):
+        ran = self.run_tool('crashfs-record', 'd', 'o', '--', '/bin/sh', '-c', 'echo 1 > a',
+                            path=self.path('tmp'))
+        self.assertEqual(ran.returncode, 1)
+        self.assertIn('strace is not there', ran.stderr)
+        self.assertEqual(os.listdir(self.path('d')), [])
+
+    def test_a_strace_that_is_old_or_may_not_trace_is_told(self):
+        os.mkdir(self.path('tmp', 'bin'))
+        for version, told in [('5.10', 'strace is 5.10; 5.18 or later is needed'),
+                              ('6.1', 'strace recorded nothing')]:
+            strace = self.write('tmp/bin/strace', f"""#!/bin/sh
+                test "$1" = -V && echo 'strace -- version {version}' && exit
+                exit 1""", 0o755)
+            ran = self.run_tool('crashfs-record', '--keep-log', 'log', 'd', 'o', '--', '/bin/true',
+                                path=os.path.dirname(strace))
+            self.assertEqual(ran.returncode, 1)
+            self.assertIn(told, ran.stderr)
+            self.assertEqual(sorted(os.listdir(self.folder)), ['d', 'tmp'])
+
+    def test_the_command_line_is_refused_with_status_2(self):
+        for words in [('d',), ('d', 'o'), ('d', 'o', '--'),
+                      ('--from-log', 'l', 'd', 'o', '--', 'x')]:
+            self.assertEqual(self.run_tool('crashfs-record', *words).returncode, 2)
+
+
+if __name__ == '__main__':
+    unittest.main()
