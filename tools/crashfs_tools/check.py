@@ -9,18 +9,20 @@ import shlex
 import sys
 import tempfile
 import threading
-from typing import Iterator, List, Optional, Set, Tuple
+from typing import List, Optional, Set, Tuple
 
 from .check_options import NAME, Options, read_options
-from .command import Refused, folder_of, found, tell
+from .command import Refused, folder_of, found, standard_output, tell
 from .guard import Guard, Stopped, remove_tree, stop_by_exception
-from .layout import Layout
+from .layout import Archive, Layout
+from .limits import RUNS
+from .mounts import Mounts
 from .pairs import Needs
 from .plan import Plan, PlanError, State, read_plan
 from .program import Crashfs, ProgramFault
 from .report import NO_ANSWERS, NONE_FAILS, SOME_FAIL, Report, Results, merged, read_json
 from .runner import BAD, GOOD, NO_ANSWER, Checker, Outcome, Pool, Says
-from .trace import told_texts
+from .trace import root_owner, told_texts
 
 BAD_INPUT = 2
 STATUSES = {GOOD: NONE_FAILS, BAD: SOME_FAIL, NO_ANSWER: NO_ANSWERS}
@@ -77,39 +79,52 @@ class Check:
             return Needs([])
         return Needs.from_picks(json.loads(line) for line in lines)
 
-    def checker(self) -> Checker:
+    def trace_text(self) -> str:
         with open(self.trace, encoding='utf-8', newline='\n') as file:
-            says = Says(told_texts(file.read()), self.guard.directory)
+            return file.read()
+
+    def checker(self) -> Checker:
+        says = Says(told_texts(self.trace_text()), self.guard.directory)
         return Checker(self.options.command, self.options.timeout, self.guard.environment, says)
 
-    def laid_out(self, folder: str, wanted: Set[int]) -> Iterator[Tuple[int, str]]:
-        """Each wanted state with its directory."""
-        layout = Layout(self.program, self.plan_options, folder, self.guard.environment)
-        try:
-            yield from layout.states(wanted)
-        except ProgramFault as fault:
-            raise self.refused('tar', fault) from fault
+    def archive(self, folder: str) -> Archive:
+        return Archive(self.program, self.plan_options, folder, self.guard.environment)
+
+    def layout(self) -> Layout:
+        """Where a state is tried; nothing of it is there any more when the guard has ended."""
+        if self.options.serve is None:
+            return self.archive(self.guard.directory)
+        uname = self.options.uname or root_owner(self.trace_text())
+        return Mounts(self.options.serve, uname, self.guard.directory, self.guard.environment)
+
+    def wanted(self) -> Set[int]:
+        """The states that are tried: of the shard, the first of each that are alike."""
+        firsts = {state for place, state in enumerate(self.plan.trials().values())
+                  if self.options.shard.has(place)}
+        if self.options.serve is not None and len(firsts) > RUNS:
+            raise Refused(f'{len(firsts):,} states are more than the {RUNS:,} runs of one server: '
+                          'try them by --shard, each part with a server of its own')
+        return firsts
 
     def run(self) -> Results:
         """Tries each different state of the shard."""
-        firsts = [state for place, state in enumerate(self.plan.trials().values())
-                  if self.options.shard.has(place)]
+        wanted = self.wanted()
         results = Results(os.path.basename(self.trace), digest(self.trace), self.listed,
                           self.options.command, self.options.shard)
         results.needs = self.needs()
-        progress = Progress(len(firsts))
+        progress = Progress(len(wanted))
 
         def told(number: int, outcome: Outcome) -> None:
             results.outcomes[number] = outcome
             progress.step(outcome)
 
-        pool = Pool(self.checker(), self.options.jobs, told)
+        pool = Pool(self.checker(), self.layout(), self.options.jobs, told)
         says_of = {state.number: state.says for state in self.plan.states}
         try:
-            if firsts:
-                pool.run(self.laid_out(self.guard.directory, set(firsts)), says_of)
+            if wanted:
+                pool.run(wanted, says_of)
         finally:
-            pool.end()
+            pool.end(self.guard.end_processes)
             self.guard.end_processes()
             progress.end()
         return results
@@ -121,23 +136,27 @@ class Check:
         state = self.plan.states[number]
         outcome = self.try_one(state)
         left, told = self.leave(state)
-        print(f'state {number}, {state.text}, says {state.says}: '
-              f'{outcome.result}{": " if outcome.cause else ""}{outcome.cause}')
-        print(f'It is laid out in {left}. To try it there:\n'
-              f'    cd {shlex.quote(left)}\n'
-              f'    CRASHFS_STATE={number} CRASHFS_SAYS={state.says} '
-              f'{shlex.join(self.options.command)} < {shlex.quote(told)}')
+        with standard_output():
+            print(f'state {number}, {state.text}, says {state.says}: '
+                  f'{outcome.result}{": " if outcome.cause else ""}{outcome.cause}')
+            print(f'It is laid out in {left}. To try it there:\n'
+                  f'    cd {shlex.quote(left)}\n'
+                  f'    CRASHFS_STATE={number} CRASHFS_SAYS={state.says} '
+                  f'{shlex.join(self.options.command)} < {shlex.quote(told)}')
         return STATUSES[outcome.result]
 
     def try_one(self, state: State) -> Outcome:
-        (_, directory), = self.laid_out(self.guard.directory, {state.number})
-        return self.checker().run(state.number, state.says, directory)
+        layout = self.layout()
+        (number, directory), = layout.states({state.number})
+        with layout.laid_out(number, directory):
+            return self.checker().run(number, state.says, directory)
 
     def leave(self, state: State) -> Tuple[str, str]:
-        """Lays a state out where nothing removes it: its directory, and the file of its says."""
+        """Lays a state out where nothing removes it: its directory, and the file of its says. That
+        is no mount, also with --serve: none is left."""
         folder = tempfile.mkdtemp(prefix=f'crashfs-state-{state.number}-')
         try:
-            (_, directory), = self.laid_out(folder, {state.number})
+            (_, directory), = self.archive(folder).states({state.number})
             return directory, Says(self.checker().says.texts, folder).path(state.says)
         except BaseException:
             remove_tree(folder)
@@ -183,9 +202,12 @@ def check(options: Options) -> int:
     options.command = found(options.command)
     with Guard('crashfs-check-') as guard:
         one = Check(options, trace, program, guard)
-        if options.state is not None:
-            return one.show(options.state)
-        results = one.run()
+        try:
+            if options.state is not None:
+                return one.show(options.state)
+            results = one.run()
+        except ProgramFault as fault:
+            raise one.refused('tar', fault) from fault
     return tell_results(options, results)
 
 
@@ -198,10 +220,11 @@ def readable(trace: str) -> str:
 
 
 def tell_results(options: Options, results: Results) -> int:
+    report = Report(results)
+    with standard_output():
+        print('\n'.join(report.lines()))
     if options.json is not None:
         results.write_json(options.json)
-    report = Report(results)
-    print('\n'.join(report.lines()))
     return report.status
 
 

@@ -8,6 +8,7 @@ from dataclasses import dataclass
 from typing import List, Optional
 
 from .command import halves
+from .mounts import Address
 from .report import Shard
 
 NAME = 'crashfs-check'
@@ -41,6 +42,8 @@ class Options:
     json: Optional[str]
     timeout: float
     crashfs: Optional[str]
+    serve: Optional[Address]
+    uname: Optional[str]
     merge: Optional[List[str]]
 
 
@@ -49,6 +52,13 @@ def shard(text: str) -> Shard:
     if not (slash and part.isdigit() and parts.isdigit() and 1 <= int(part) <= int(parts)):
         raise argparse.ArgumentTypeError(f'{text} is not I/N with I from 1 to N')
     return Shard(int(part), int(parts))
+
+
+def address(text: str) -> Address:
+    host, colon, port = text.rpartition(':')
+    if not (host and colon and port.isdigit() and 1 <= int(port) <= 65_535):
+        raise argparse.ArgumentTypeError(f'{text} is not HOST:PORT')
+    return Address(host[1:-1] if host.startswith('[') and host.endswith(']') else host, int(port))
 
 
 def positive(text: str) -> int:
@@ -90,6 +100,11 @@ def parser() -> argparse.ArgumentParser:
     made.add_argument('--timeout', metavar='S', type=seconds, default=10,
                       help='end a command after so many seconds (default 10)')
     made.add_argument('--crashfs', metavar='PATH', help='the program (else that of PATH)')
+    made.add_argument('--serve', metavar='ADDR', type=address,
+                      help='mount each state from the `crashfs serve --again --client linux` that '
+                           'listens at this host and port, with the same trace and plan (as root)')
+    made.add_argument('--uname', metavar='NAME',
+                      help="with --serve: the user who attaches (default: the root's owner)")
     made.add_argument('--merge', metavar='FILE', nargs='+',
                       help='try nothing: the report of all shards from their --json files')
     return made
@@ -103,4 +118,6 @@ def read_options(arguments: List[str]) -> Options:
         made.error('TRACE is missing')
     if values.merge is None and not command:
         made.error('COMMAND is missing behind --')
+    if values.uname is not None and values.serve is None:
+        made.error('--uname goes with --serve')
     return Options(command=command, **vars(values))

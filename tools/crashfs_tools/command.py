@@ -4,8 +4,10 @@ from __future__ import annotations
 
 import os
 import shutil
+import signal
 import sys
-from typing import Iterable, List, Tuple
+from contextlib import contextmanager
+from typing import Iterable, Iterator, List, Tuple
 
 
 class Refused(Exception):
@@ -31,10 +33,14 @@ def found(command: List[str]) -> List[str]:
 
 
 def folder_of(path: str) -> str:
-    """The directory of a file that will be written; Refused where it isn't there."""
+    """The directory of a file that will be written; Refused where it can be seen that it won't."""
     folder = os.path.dirname(os.path.realpath(path))
     if not os.path.isdir(folder):
         raise Refused(f'{path}: its directory is not there')
+    if not os.access(folder, os.W_OK):
+        raise Refused(f'{path}: its directory may not be written')
+    if os.path.isdir(path):
+        raise Refused(f'{path} is a directory')
     return folder
 
 
@@ -50,6 +56,28 @@ def write_whole(path: str, pieces: Iterable[str]) -> None:
     finally:
         if os.path.exists(part):
             os.unlink(part)
+
+
+@contextmanager
+def standard_output() -> Iterator[None]:
+    """What is printed within this is written at its end; an OSError has the stream's name."""
+    try:
+        yield
+        sys.stdout.flush()
+    except OSError as error:
+        # What is left in the buffer is written as Python ends, and has to go somewhere.
+        os.dup2(os.open(os.devnull, os.O_WRONLY), sys.stdout.fileno())
+        raise OSError(error.errno, error.strerror, 'standard output') from error
+
+
+def ended(status: int) -> str:
+    """How a process ended, from the status that Popen has."""
+    if status >= 0:
+        return f'ended with status {status}'
+    try:
+        return f'was ended by {signal.Signals(-status).name}'
+    except ValueError:
+        return f'was ended by signal {-status}'
 
 
 def tell(program: str, text: str) -> None:

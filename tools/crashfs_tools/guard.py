@@ -1,21 +1,23 @@
 """A temporary directory and processes that are gone when a run ends, whatever ends it.
 
 A second process waits for the end of the first, also by a kill. It then ends every process that
-still has the run's token in its environment, and removes the directory.
+still has the run's token in its environment, unmounts what is mounted in the directory's own folder
+for mounts, and removes the directory.
 """
 
 from __future__ import annotations
 
 import os
-import secrets
 import shutil
 import signal
+import subprocess
 import tempfile
 import time
 from types import TracebackType
 from typing import Dict, List, Optional, Type
 
 VARIABLE = 'CRASHFS_GUARD'
+STOPS = (signal.SIGINT, signal.SIGTERM, signal.SIGHUP)
 
 
 class Guard:
@@ -23,16 +25,24 @@ class Guard:
 
     def __init__(self, prefix: str) -> None:
         self.prefix = prefix
-        self.token = secrets.token_hex(16)
+        self.token = os.urandom(16).hex()
         self.directory = ''
 
     def __enter__(self) -> Guard:
-        self.directory = tempfile.mkdtemp(prefix=self.prefix)
+        try:
+            self.directory = tempfile.mkdtemp(prefix=self.prefix)
+        except OSError as error:
+            # Where no place for temporary files can be written, the error has no name.
+            name = error.filename or 'temporary files'
+            raise OSError(error.errno, error.strerror, name) from error
         waiting, self.alive = os.pipe()
+        # A signal waits meanwhile: it must not reach the second process before that ignores it.
+        before = signal.pthread_sigmask(signal.SIG_BLOCK, STOPS)
         self.watcher = os.fork()
         if self.watcher == 0:
             os.close(self.alive)
             self.watch(waiting)
+        signal.pthread_sigmask(signal.SIG_SETMASK, before)
         os.close(waiting)
         return self
 
@@ -56,7 +66,7 @@ class Guard:
     def watch(self, waiting: int) -> None:
         """The second process: it never returns."""
         try:
-            for number in (signal.SIGINT, signal.SIGTERM, signal.SIGHUP):
+            for number in STOPS:
                 signal.signal(number, signal.SIG_IGN)
             os.setsid()
             nothing = os.open(os.devnull, os.O_RDWR)
@@ -64,7 +74,8 @@ class Guard:
                 os.dup2(nothing, stream)
             os.read(waiting, 1)
             self.end_processes()
-            remove_tree(self.directory)
+            if unmount_all(mount_folder(self.directory)):
+                remove_tree(self.directory)
         finally:
             os._exit(0)
 
@@ -96,6 +107,27 @@ def end_all(mark: bytes) -> None:
             except OSError:
                 pass
         time.sleep(0.01)
+
+
+def mount_folder(directory: str) -> str:
+    """The folder below a guard's directory in which all mounts stand."""
+    return os.path.join(directory, 'mounts')
+
+
+def unmount_all(folder: str) -> bool:
+    """Unmounts, also what is in use, and tells whether nothing stays mounted: what is below a
+    mount is none of the directory's, and isn't to be removed with it."""
+    if not os.path.isdir(folder):
+        return True
+    with os.scandir(folder) as entries:
+        paths = [entry.path for entry in entries if not entry.name.endswith('.out')]
+    for path in paths:
+        try:
+            subprocess.run(['umount', '-l', path], stdin=subprocess.DEVNULL,
+                           stdout=subprocess.DEVNULL, stderr=subprocess.DEVNULL, check=False)
+        except OSError:
+            break
+    return not any(map(os.path.ismount, paths))
 
 
 def remove_tree(path: str) -> None:
@@ -135,9 +167,9 @@ def stop_by_exception() -> None:
     """From here on SIGINT, SIGTERM and SIGHUP raise Stopped in the main thread."""
 
     def stop(number: int, _: object) -> None:
-        for later in (signal.SIGINT, signal.SIGTERM, signal.SIGHUP):
+        for later in STOPS:
             signal.signal(later, signal.SIG_IGN)
         raise Stopped(number)
 
-    for number in (signal.SIGINT, signal.SIGTERM, signal.SIGHUP):
+    for number in STOPS:
         signal.signal(number, stop)

@@ -1,16 +1,32 @@
-"""States laid out as directories, from the archive that `crashfs tar` writes."""
+"""What states are laid out by, and one way of it: from the archive that `crashfs tar` writes."""
 
 from __future__ import annotations
 
 import os
 import shutil
 import tarfile
-from typing import Dict, Iterator, List, Set, Tuple
+from abc import ABC, abstractmethod
+from contextlib import contextmanager
+from typing import ContextManager, Dict, Iterator, List, Set, Tuple
 
+from .guard import remove_tree
 from .program import Crashfs, path_of
 
 
-class Layout:
+class Layout(ABC):
+    """Gives states directories for a command to run in."""
+
+    @abstractmethod
+    def states(self, wanted: Set[int]) -> Iterator[Tuple[int, str]]:
+        """Each wanted state with its directory, in ascending order."""
+
+    @abstractmethod
+    def laid_out(self, number: int, directory: str) -> ContextManager[None]:
+        """Within this a state's directory has the state's tree; behind it the directory is gone.
+        Several states may be laid out at once, by several threads."""
+
+
+class Archive(Layout):
     """Lays states out below a folder, each as a directory that has its number."""
 
     def __init__(self, program: Crashfs, plan_options: List[str], folder: str,
@@ -20,9 +36,13 @@ class Layout:
         self.folder = folder
         self.environment = environment
 
+    @contextmanager
+    def laid_out(self, number: int, directory: str) -> Iterator[None]:
+        yield
+        remove_tree(directory)
+
     def states(self, wanted: Set[int]) -> Iterator[Tuple[int, str]]:
-        """Each wanted state with its directory, in ascending order: one archive is read, as
-        fast as the states are taken. Who takes a directory removes it."""
+        """One archive is read, as fast as the states are taken: each has its tree already."""
         first, last = min(wanted), max(wanted)
         words = [*self.plan_options, '--states', f'{first}-{last}']
         left = set(wanted)
@@ -55,8 +75,9 @@ class Layout:
         return os.path.join(self.folder, str(number))
 
     def finish(self, number: int, modes: Dict[str, int]) -> str:
-        """Directories get their modes last, since these may forbid entries."""
-        for path, mode in modes.items():
+        """Directories get their modes last, and inner ones before outer ones, since modes may
+        forbid what is done below."""
+        for path, mode in reversed(list(modes.items())):
             os.chmod(path, mode)
         return self.path(number)
 

@@ -7,15 +7,17 @@ import shutil
 import subprocess
 import tarfile
 from contextlib import contextmanager
-from pathlib import Path
 from typing import Dict, Iterator, List, Optional
 
-from .command import Refused
+from .command import Refused, ended
 from .tree import Entries, Entry
 
-BUILT = Path(__file__).resolve().parents[2] / 'crates' / 'crashfs' / 'out' / 'crashfs'
+TOP = os.path.dirname(os.path.dirname(os.path.dirname(os.path.realpath(__file__))))
+BUILT = os.path.join(TOP, 'crates', 'crashfs', 'out', 'crashfs')
 # The status of a command line that the program doesn't know.
 UNKNOWN_OPTION = 2
+# A shell's status for a program that can't be started.
+NOT_STARTED = 126
 
 
 class ProgramFault(Exception):
@@ -24,7 +26,7 @@ class ProgramFault(Exception):
     def __init__(self, status: int, told: bytes) -> None:
         lines = told.decode('utf-8', 'replace').strip().splitlines()
         # A command line parser has its usage behind its first line.
-        line = lines[0 if status == UNKNOWN_OPTION else -1] if lines else f'status {status}'
+        line = lines[0 if status == UNKNOWN_OPTION else -1] if lines else f'crashfs {ended(status)}'
         super().__init__(line)
         self.status = status
 
@@ -46,23 +48,32 @@ class Crashfs:
             if shutil.which(given) is None:
                 raise Refused(f'--crashfs {given}: no such program')
             return Crashfs(os.path.abspath(shutil.which(given) or given))
-        path = shutil.which('crashfs') or (str(BUILT) if os.access(BUILT, os.X_OK) else None)
+        path = shutil.which('crashfs') or (BUILT if os.access(BUILT, os.X_OK) else None)
         return None if path is None else Crashfs(path)
 
     def text(self, words: List[str], environment: Optional[Dict[str, str]] = None) -> str:
         """What a command prints; ProgramFault where its status isn't 0."""
-        ran = subprocess.run([self.path, *words], stdin=subprocess.DEVNULL, capture_output=True,
-                             env=environment, check=False)
-        if ran.returncode != 0:
-            raise ProgramFault(ran.returncode, ran.stderr)
-        return ran.stdout.decode('utf-8', 'surrogateescape')
+        child = self.start(words, environment)
+        out, told = child.communicate()
+        if child.returncode != 0:
+            raise ProgramFault(child.returncode, told)
+        return out.decode('utf-8', 'surrogateescape')
+
+    def start(self, words: List[str],
+              environment: Optional[Dict[str, str]]) -> subprocess.Popen[bytes]:
+        try:
+            return subprocess.Popen([self.path, *words], stdin=subprocess.DEVNULL,
+                                    stdout=subprocess.PIPE, stderr=subprocess.PIPE,
+                                    env=environment)
+        except OSError as error:
+            told = f'{self.path}: {error.strerror}'
+            raise ProgramFault(NOT_STARTED, told.encode()) from error
 
     @contextmanager
     def archive(self, words: List[str],
                 environment: Optional[Dict[str, str]] = None) -> Iterator[tarfile.TarFile]:
         """The archive that `crashfs tar` writes, as a stream that is read once."""
-        child = subprocess.Popen([self.path, 'tar', *words], stdin=subprocess.DEVNULL,
-                                 stdout=subprocess.PIPE, stderr=subprocess.PIPE, env=environment)
+        child = self.start(['tar', *words], environment)
         assert child.stdout is not None and child.stderr is not None
         try:
             with tarfile.open(fileobj=child.stdout, mode='r|', encoding='utf-8') as members:

@@ -11,7 +11,7 @@ from dataclasses import dataclass
 from typing import List, Optional, Tuple
 
 from . import limits, strace_run
-from .command import Refused, folder_of, found, halves, tell, write_whole
+from .command import Refused, ended, folder_of, found, halves, tell, write_whole
 from .compare import ByProgram, LastState, Replayed, differences
 from .directory import group_name, scan, user_name
 from .guard import Guard, Stopped, stop_by_exception
@@ -19,7 +19,7 @@ from .log_stream import LogStream
 from .mapped import MappedFiles
 from .program import Crashfs, ProgramFault
 from .session import Beginning, Session
-from .strace_log import Log, read_log
+from .strace_log import Log, LogError, read_log
 from .trace import TraceError
 from .translate import Copy, Translator
 
@@ -130,6 +130,8 @@ def run_command(options: Options, guard: Guard) -> Recorded:
             raise Refused('strace recorded nothing (it may not trace here: see what it said)')
         if not log.is_whole:
             raise Refused("strace's log ends before COMMAND did")
+        if not log.has_begun:
+            raise Refused(f'{options.command[0]} could not be started (strace said why)')
     except BaseException:
         stream.drop_kept()
         raise
@@ -138,7 +140,10 @@ def run_command(options: Options, guard: Guard) -> Recorded:
 
 def load_log(path: str) -> Log:
     with open(path, encoding='ascii', errors='replace') as lines:
-        return read_log(lines)
+        log = read_log(lines)
+    if log.first is None:
+        raise Refused(f'{path} has no call of any process: strace -f -o FILE writes such a log')
+    return log
 
 
 def beginning(options: Options) -> Beginning:
@@ -224,10 +229,6 @@ def counted(count: int, what: str) -> str:
     return f'{count:,} {what}' + ('' if count == 1 else 's')
 
 
-def ended(status: int) -> str:
-    return f'was ended by signal {-status}' if status < 0 else f'ended with status {status}'
-
-
 def main(arguments: Optional[List[str]] = None) -> int:
     options = read_options(sys.argv[1:] if arguments is None else arguments)
     stop_by_exception()
@@ -236,7 +237,7 @@ def main(arguments: Optional[List[str]] = None) -> int:
     except Stopped as stopped:
         tell(NAME, f'stopped by {stopped}; nothing is written')
         return stopped.status
-    except (Refused, TraceError) as refused:
+    except (Refused, TraceError, LogError) as refused:
         tell(NAME, f'{refused}')
     except OSError as error:
         tell(NAME, f'{error.filename or options.out}: {error.strerror}; no trace is written')

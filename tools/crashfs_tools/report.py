@@ -59,9 +59,10 @@ def read_json(path: str) -> Results:
     """Refused for a file that write_json didn't write."""
     try:
         with open(path, encoding='utf-8', errors='surrogateescape') as file:
-            fields = json.load(file)
-        return results_of(fields)
-    except (ValueError, KeyError, TypeError) as error:
+            return results_of(json.load(file))
+    except OSError as error:
+        raise Refused(f'{path}: {error.strerror}') from error
+    except (ValueError, KeyError, TypeError, AttributeError) as error:
         raise Refused(f'{path} is no report of crashfs-check') from error
 
 

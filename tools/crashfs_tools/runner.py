@@ -10,14 +10,16 @@ import subprocess
 import threading
 import time
 from dataclasses import dataclass
-from typing import Callable, Dict, Iterator, List, Optional, Tuple
+from typing import BinaryIO, Callable, Dict, List, Optional, Set, Tuple
 
-from .guard import remove_tree
+from .command import Refused, ended
+from .layout import Layout
 from .program import last_line
 
 GOOD, BAD, NO_ANSWER = 'good', 'bad', 'no answer'
 TAIL_BYTES = 65_536
 CAUSE_LETTERS = 200
+ENDING_SECONDS = 5
 
 
 @dataclass(frozen=True)
@@ -68,20 +70,29 @@ class Checker:
         """Runs the command in a state's directory; what it leaves running is ended."""
         environment = {**self.environment, 'CRASHFS_STATE': str(state), 'CRASHFS_SAYS': str(says)}
         with open(self.says.path(says), 'rb') as told, open(f'{directory}.out', 'w+b') as output:
-            child = subprocess.Popen(self.command, cwd=directory, env=environment, stdin=told,
-                                     stdout=output, stderr=subprocess.STDOUT,
-                                     start_new_session=True)
+            child = self.start(directory, environment, told, output)
             status = wait(child, self.timeout)
             end_group(child.pid)
             child.wait()
             return self.outcome(status, tail(output.fileno()))
+
+    def start(self, directory: str, environment: Dict[str, str], told: BinaryIO,
+              output: BinaryIO) -> subprocess.Popen[bytes]:
+        try:
+            return subprocess.Popen(self.command, cwd=directory, env=environment, stdin=told,
+                                    stdout=output, stderr=subprocess.STDOUT,
+                                    start_new_session=True)
+        except OSError as error:
+            if error.filename == self.command[0]:
+                raise Refused(f'{self.command[0]}: {error.strerror}') from error
+            raise
 
     def outcome(self, status: Optional[int], output: bytes) -> Outcome:
         if status is None:
             return Outcome(NO_ANSWER, f'it had not ended after {self.timeout:g} seconds')
         if status == 0:
             return Outcome(GOOD)
-        how = f'status {status}' if status > 0 else signal_name(-status)
+        how = f'status {status}' if status > 0 else ended(status).replace('was ', '')
         line = last_line(output)[:CAUSE_LETTERS]
         if status < 0:
             line = f'{how}: {line}' if line else how
@@ -111,13 +122,6 @@ def wait_for_end(process: int, timeout: float) -> None:
     os.close(descriptor)
 
 
-def signal_name(number: int) -> str:
-    try:
-        return f'ended by {signal.Signals(number).name}'
-    except ValueError:
-        return f'ended by signal {number}'
-
-
 def end_group(group: int) -> None:
     try:
         os.killpg(group, signal.SIGKILL)
@@ -136,21 +140,24 @@ Told = Callable[[int, Outcome], None]
 class Pool:
     """Threads that take states as they are laid out; few wait, so little room is taken."""
 
-    def __init__(self, checker: Checker, jobs: int, told: Told) -> None:
+    def __init__(self, checker: Checker, layout: Layout, jobs: int, told: Told) -> None:
         self.checker = checker
+        self.layout = layout
         self.told = told
         self.says_of: Dict[int, int] = {}
         self.waiting: queue.Queue[Optional[Tuple[int, str]]] = queue.Queue(2 * jobs)
         self.faults: List[BaseException] = []
         self.ending = False
-        self.threads = [threading.Thread(target=self.work, daemon=True) for _ in range(jobs)]
+        self.busy = [False] * jobs
+        self.threads = [threading.Thread(target=self.work, args=(place,), daemon=True)
+                        for place in range(jobs)]
 
-    def run(self, states: Iterator[Tuple[int, str]], says_of: Dict[int, int]) -> None:
-        """Runs the command in each state; the first fault ends it all."""
+    def run(self, wanted: Set[int], says_of: Dict[int, int]) -> None:
+        """Runs the command in each wanted state; the first fault ends it all."""
         self.says_of = says_of
         for thread in self.threads:
             thread.start()
-        for state in states:
+        for state in self.layout.states(wanted):
             self.waiting.put(state)
             if self.faults:
                 break
@@ -161,17 +168,30 @@ class Pool:
         if self.faults:
             raise self.faults[0]
 
-    def end(self) -> None:
-        """No more commands are started; those that run have to be ended by who calls this."""
+    def end(self, end_processes: Callable[[], None]) -> None:
+        """No more commands are started, and those that run are ended by what is handed over. It
+        waits a moment for threads that have to undo what they laid out. It takes no lock: a stop
+        may have come while one was held."""
         self.ending = True
+        deadline = time.monotonic() + ENDING_SECONDS
+        while any(self.busy) and time.monotonic() < deadline:
+            end_processes()
+            time.sleep(0.02)
 
-    def work(self) -> None:
+    def work(self, place: int) -> None:
         for number, directory in iter(self.waiting.get, None):
+            # Set before `ending` is looked at, so that `end` sees a state that is begun.
+            self.busy[place] = True
+            self.try_state(number, directory)
+            self.busy[place] = False
+
+    def try_state(self, number: int, directory: str) -> None:
+        if not self.faults and not self.ending:
             try:
-                if not self.faults and not self.ending:
+                with self.layout.laid_out(number, directory):
                     outcome = self.checker.run(number, self.says_of[number], directory)
+                os.unlink(f'{directory}.out')
+                if not self.ending:
                     self.told(number, outcome)
-                    os.unlink(f'{directory}.out')
-                remove_tree(directory)
             except Exception as fault:  # The thread has to go on, or who fills the queue waits.
                 self.faults.append(fault)

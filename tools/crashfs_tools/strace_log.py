@@ -20,6 +20,10 @@ EXIT = '+exit'
 SUPERSEDE = '+supersede'
 
 
+class LogError(Exception):
+    """A log that isn't as strace writes it with the options that it needs."""
+
+
 @dataclass
 class Call:
     """A call that returned. Lines count from 1; they order all calls of all threads."""
@@ -52,6 +56,11 @@ class Log:
     @property
     def is_whole(self) -> bool:
         return self.first in self.ended
+
+    @property
+    def has_begun(self) -> bool:
+        """Whether the first process became the program that strace was to start."""
+        return any(call.name == 'execve' and call.result == 0 for call in self.calls)
 
 
 @dataclass

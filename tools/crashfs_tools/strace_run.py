@@ -9,7 +9,7 @@ import subprocess
 import sys
 from typing import Callable, Dict, List
 
-from .command import Refused
+from .command import Refused, standard_output
 from .log_stream import LogStream
 from .mapped import STOPPING_CALLS
 from .translate import FORKS, HANDLERS
@@ -63,9 +63,7 @@ def hand_on(source: int, write: Callable[[bytes], object]) -> None:
     for piece in iter(lambda: os.read(source, 65_536), b''):
         if open_end:
             try:
-                write(piece)
-                sys.stdout.flush()
+                with standard_output():
+                    write(piece)
             except BrokenPipeError:
                 open_end = False
-                nothing = os.open(os.devnull, os.O_WRONLY)
-                os.dup2(nothing, sys.stdout.fileno())

@@ -180,6 +180,12 @@ def told_texts(text: str) -> List[str]:
     return [fields['text'] for fields in lines if fields.get('op') == 'say']
 
 
+def root_owner(text: str) -> str:
+    """The owner of the root in a trace's header, which `crashfs` has judged."""
+    header = next(line for line in text.split('\n') if line.strip(' \t\r'))
+    return str(json.loads(header)['owner'])
+
+
 def with_line(trace: Optional[Trace], fields: Dict[str, Any]) -> Trace:
     if trace is None:
         if fields['trace'] != VERSION:

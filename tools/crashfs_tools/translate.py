@@ -15,7 +15,7 @@ from . import (
 )
 from .processes import Descriptors, Place, Process
 from .session import Session
-from .strace_log import EXIT, SUPERSEDE, Call, Log
+from .strace_log import EXIT, SUPERSEDE, Call, Log, LogError
 
 Handler = Callable[[Session, Process, Call], None]
 # The bytes of each mapped file that changed since the copy before, by path.
@@ -47,9 +47,13 @@ class Translator:
     def run(self) -> None:
         session = self.session
         session.has_copies = bool(self.copies)
-        for call in order.in_order(self.log.calls):
-            session.call = call
-            self.step(call)
+        try:
+            for call in order.in_order(self.log.calls):
+                session.call = call
+                self.step(call)
+        except (ValueError, IndexError) as error:
+            where = f', in line {session.call.end}' if session.call else ''
+            raise LogError(f'the log is not as strace -f -y -xx writes it{where}') from error
         session.call = None
         if session.untold_text:
             session.say(b'\n')

@@ -1,14 +1,13 @@
-#!/usr/bin/env python3
+#!/usr/bin/env -S python3 -S
 """A small crashfs for the tests: list, tar and picks, as docs/FORMATS.md defines the states.
 
 Nothing of it is proved, and nothing of it is shared with the program: it is a second reading of
 the same page. It keeps whole trees, so it is for small traces alone.
 """
 
-import io
 import json
 import sys
-import tarfile
+from io import BytesIO
 
 BLOCK = 4096
 
@@ -293,6 +292,7 @@ def files(model):
 
 
 def write_archive(model, states, options):
+    import tarfile  # Here, since `list` and `picks` begin faster without it.
     if '--state' in options:
         first = last = int(options['--state'])
     else:
@@ -305,16 +305,16 @@ def write_archive(model, states, options):
             prefix = '' if '--state' in options else f'{number}/'
             for path, (fields, data) in sorted(model.tree(states[number][1]).items()):
                 if prefix or path != '/':
-                    out.addfile(*member(prefix + path[1:], fields, data))
+                    info = tarfile.TarInfo((prefix + path[1:]).rstrip('/'))
+                    out.addfile(*member(info, fields, data))
     return 0
 
 
-def member(name, fields, data):
-    info = tarfile.TarInfo(name.rstrip('/'))
-    info.type = tarfile.DIRTYPE if data is None else tarfile.REGTYPE
+def member(info, fields, data):
+    info.type = b'5' if data is None else b'0'
     info.uname, info.gname = fields['owner'], fields['group']
     info.mode, info.size = int(fields['mode'], 8), len(data or b'')
-    return info, io.BytesIO(data or b'')
+    return info, BytesIO(data or b'')
 
 
 if __name__ == '__main__':

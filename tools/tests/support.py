@@ -2,15 +2,20 @@
 
 from __future__ import annotations
 
+import atexit
+import itertools
+import json
 import os
 import re
 import shutil
 import subprocess
 import sys
 import tempfile
+import threading
+import time
 import unittest
 from pathlib import Path
-from typing import List, Optional
+from typing import Any, Callable, Dict, List, Optional, Sequence
 
 from crashfs_tools.directory import Scan
 from crashfs_tools.session import Beginning, Session
@@ -21,6 +26,10 @@ from crashfs_tools.translate import Translator
 TOOLS = Path(__file__).resolve().parents[1]
 EXAMPLES = TOOLS.parent / 'examples'
 FAKE = str(TOOLS / 'tests' / 'fake_crashfs.py')
+# First on PATH, so that scripts are run by the Python that runs the tests.
+PYTHON_FOLDER = os.path.dirname(sys.executable)
+# How long a test waits for what has to come: so long only where a machine is overloaded.
+PATIENCE = 120
 QUOTED = re.compile(r'"([^"]*)"|<(/[^>]*)>')
 
 
@@ -77,26 +86,70 @@ class InFolder(unittest.TestCase):
             return file.read()
 
     def start(self, command: str, *words: str, path: Optional[str] = None,
-              file_bytes: Optional[int] = None) -> subprocess.Popen:
+              file_bytes: Optional[int] = None, output: Any = subprocess.PIPE) -> subprocess.Popen:
         """Starts one of the two commands, with the test's folder for what it lays down; with
         file_bytes no file may become larger, as on a disk that is full."""
-        environment = {**os.environ, 'TMPDIR': self.temporary, 'LC_ALL': 'C'}
-        environment['PATH'] = path or environment['PATH']
-        line = [sys.executable, str(TOOLS / command), *words]
+        # The standard library is all that is needed, and starts faster without `site`.
+        line = [sys.executable, '-S', str(TOOLS / command), *words]
         if file_bytes is not None:
             line = ['prlimit', f'--fsize={file_bytes}', *line]
-        return subprocess.Popen(line, cwd=self.folder, stdout=subprocess.PIPE,
+        return subprocess.Popen(line, cwd=self.folder, stdout=output,
                                 stderr=subprocess.PIPE, text=True, stdin=subprocess.DEVNULL,
-                                env=environment)
+                                env={**os.environ, **self.environment(path)})
+
+    def environment(self, path: Optional[str]) -> Dict[str, str]:
+        return {'TMPDIR': self.temporary, 'LC_ALL': 'C',
+                'PATH': path or f"{PYTHON_FOLDER}:{os.environ['PATH']}"}
 
     def run_tool(self, command: str, *words: str, path: Optional[str] = None,
-                 file_bytes: Optional[int] = None) -> subprocess.CompletedProcess:
-        child = self.start(command, *words, path=path, file_bytes=file_bytes)
-        out, err = child.communicate(timeout=120)
+                 file_bytes: Optional[int] = None,
+                 output: Optional[str] = None) -> subprocess.CompletedProcess:
+        if file_bytes is None and output is None:
+            return forked(command, words, self.folder, self.environment(path))
+        with open(output or os.devnull, 'w', encoding='utf-8') as file:
+            child = self.start(command, *words, path=path, file_bytes=file_bytes,
+                               output=file if output else subprocess.PIPE)
+        out, err = child.communicate(timeout=PATIENCE)
         return subprocess.CompletedProcess(words, child.returncode, out, err)
+
+    def wait_until(self, holds: Callable[[], bool], what: str) -> None:
+        deadline = time.monotonic() + PATIENCE
+        while not holds():
+            self.assertLess(time.monotonic(), deadline, f'in {PATIENCE} seconds not: {what}')
+            time.sleep(0.02)
 
     def assert_nothing_left(self) -> None:
         self.assertEqual(os.listdir(self.temporary), [])
+
+
+def forked(command: str, words: Sequence[str], folder: str,
+           environment: Dict[str, str]) -> subprocess.CompletedProcess:
+    """Runs one of the two commands to its end, by a forker that each thread of tests has."""
+    if not hasattr(_own, 'forker'):
+        _own.forker = subprocess.Popen(
+            [sys.executable, '-S', '-m', 'tests.forker'], cwd=TOOLS, text=True,
+            env={**os.environ, 'LC_ALL': 'C'}, stdin=subprocess.PIPE, stdout=subprocess.PIPE)
+        atexit.register(end_forker, _own.forker)
+    asked = {'command': command, 'words': words, 'folder': folder, 'environment': environment,
+             'seconds': PATIENCE}
+    print(json.dumps(asked), file=_own.forker.stdin, flush=True)
+    told = json.loads(_own.forker.stdout.readline())
+    return subprocess.CompletedProcess(words, told['status'], told['out'], told['err'])
+
+
+def end_forker(forker: subprocess.Popen) -> None:
+    forker.communicate()
+
+
+_own = threading.local()
+
+
+def long_time() -> str:
+    """Seconds for a `sleep` that is found by them: no other test, and no other run, has these."""
+    return f'300.{os.getpid()}{next(_times)}'
+
+
+_times = itertools.count(1)
 
 
 def strace_works() -> bool:
@@ -105,3 +158,14 @@ def strace_works() -> bool:
         return False
     return subprocess.run(['strace', '-o', os.devnull, 'true'], check=False,
                           stdout=subprocess.DEVNULL, stderr=subprocess.DEVNULL).returncode == 0
+
+
+def needed(there: bool, what: str) -> Callable[[Any], Any]:
+    """Skips tests that need what isn't there. A line says so once: unittest alone counts them."""
+    if not there:
+        print(f'{what}: the tests that need it are skipped', file=sys.stderr, flush=True)
+    return unittest.skipUnless(there, what)
+
+
+needs_strace = needed(strace_works(), 'strace is not there, or may not trace')
+needs_sqlite = needed(shutil.which('sqlite3') is not None, 'sqlite3 is not there')

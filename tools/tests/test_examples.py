@@ -2,10 +2,9 @@
 
 import os
 import re
-import shutil
 import unittest
 
-from .support import EXAMPLES, FAKE, InFolder, strace_works
+from .support import EXAMPLES, FAKE, InFolder, needs_sqlite, needs_strace
 
 OWNERS = re.compile(r'"(owner|group)":"[^"]*"')
 
@@ -20,8 +19,8 @@ class Examples(InFolder):
         with open(path, encoding='utf-8') as file:
             return file.read().splitlines()
 
-    def check(self, trace, command):
-        ran = self.run_tool('crashfs-check', '--crashfs', FAKE, trace, '--', command)
+    def check(self, trace, command, *options):
+        ran = self.run_tool('crashfs-check', '--crashfs', FAKE, *options, trace, '--', command)
         self.assertEqual(ran.stderr, '')
         return ran.stdout.splitlines()
 
@@ -29,13 +28,13 @@ class Examples(InFolder):
         report = self.check(example('config', 'config.trace'), example('config', 'check.sh'))
         self.assertEqual(report, self.lines(example('config', 'config.report')))
 
-    @unittest.skipUnless(shutil.which('sqlite3'), 'sqlite3 is not there')
+    @needs_sqlite
     def test_sqlite_s_report_with_full(self):
         report = self.check(example('sqlite', 'full.trace'), example('sqlite', 'recover.sh'))
         self.assertEqual(report, self.lines(example('sqlite', 'full.report')))
 
-    @unittest.skipUnless(shutil.which('sqlite3'), 'sqlite3 is not there')
-    def test_sqlite_s_report_with_extra(self):
+    @needs_sqlite
+    def test_an_eighth_of_sqlite_s_report_with_extra(self):
         # EXTRA is FULL with a sync of the directory behind each unlink of the journal.
         lines = []
         for line in self.lines(example('sqlite', 'full.trace')):
@@ -43,11 +42,12 @@ class Examples(InFolder):
             if '"unlink"' in line:
                 lines.append('{"op":"fsync","path":"/"}')
         trace = self.write('extra.trace', '\n'.join(lines) + '\n')
-        self.assertEqual(self.check(trace, example('sqlite', 'recover.sh')),
-                         self.lines(example('sqlite', 'extra.report')))
+        report, = self.check(trace, example('sqlite', 'recover.sh'), '--shard', '1/8')
+        whole, = self.lines(example('sqlite', 'extra.report'))
+        self.assertEqual(re.sub(', [0-9]+ tried by shard 1/8', '', report), whole)
 
 
-@unittest.skipUnless(strace_works(), 'strace is not there, or may not trace')
+@needs_strace
 class Recorded(InFolder):
 
     def record(self, *command):
@@ -64,7 +64,7 @@ class Recorded(InFolder):
         found = self.record(example('config', 'save.py'))
         self.assertEqual([OWNERS.sub('', line) for line in found], wanted)
 
-    @unittest.skipUnless(shutil.which('sqlite3'), 'sqlite3 is not there')
+    @needs_sqlite
     def test_a_session_of_sqlite_has_its_rows_told_and_its_journals_removed(self):
         os.mkdir(self.path('store'))
         os.system(f'sqlite3 {self.path("store", "test.db")} "CREATE TABLE city (name TEXT)"')

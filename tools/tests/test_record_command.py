@@ -4,12 +4,10 @@ import os
 import shutil
 import signal
 import sys
-import time
 import unittest
 
-from .support import FAKE, TOOLS, InFolder, strace_works
+from .support import FAKE, PATIENCE, TOOLS, InFolder, needs_strace
 
-NO_STRACE = 'strace is not there, or may not trace'
 STORE_MAPPED = """
 import mmap, os
 f = os.open('map', os.O_RDWR | os.O_CREAT, 0o600)
@@ -23,7 +21,7 @@ os.write(1, b'told\\n')
 """
 
 
-@unittest.skipUnless(strace_works(), NO_STRACE)
+@needs_strace
 class Records(InFolder):
 
     def setUp(self):
@@ -90,7 +88,7 @@ class Records(InFolder):
                            'echo $$ > ../pid; until test -e other; do sleep 0.05; done')
         self.pid_of('pid')
         self.write('d/other', 'made by the test, which strace does not follow')
-        _, err = child.communicate(timeout=30)
+        _, err = child.communicate(timeout=PATIENCE)
         self.assertEqual(child.returncode, 3)
         self.assertIn('/other: it is there at the end, and the trace has it not', err)
 
@@ -126,6 +124,27 @@ class Records(InFolder):
         self.assertEqual(ran.returncode, 3)
         self.assertIn('/map: mapped for writing', ran.stderr)
 
+    def test_a_command_that_cannot_be_started_is_told(self):
+        odd = self.write('odd', 'true\n', 0o755)
+        ran = self.run_tool('crashfs-record', 'd', 'out.trace', '--', odd)
+        self.assertEqual(ran.returncode, 1)
+        self.assertIn(f'crashfs-record: {odd} could not be started', ran.stderr)
+        self.assertFalse(os.path.exists(self.path('out.trace')))
+
+    def test_a_log_of_other_options_is_told(self):
+        os.system(f'cd {self.path("d")} && strace -f -y -o ../log sh -c "echo 2 > new"')
+        ran = self.run_tool('crashfs-record', '--from-log', 'log', 'd', 'out.trace')
+        self.assertEqual((ran.returncode, ran.stdout), (1, ''))
+        self.assertRegex(ran.stderr, '^crashfs-record: the log is not as strace -f -y -xx writes '
+                                     'it(, in line [0-9]+)?\n$')
+
+    def test_a_standard_output_that_takes_nothing_is_told(self):
+        ran = self.run_tool('crashfs-record', 'd', 'out.trace', '--', 'echo', 'stored',
+                            output='/dev/full')
+        self.assertEqual(ran.returncode, 1)
+        self.assertEqual(ran.stderr, 'crashfs-record: standard output: No space left on device; '
+                                     'no trace is written\n')
+
     def test_what_has_no_room_is_not_there(self):
         for keep, told in [((), 'out.trace: File too large; no trace is written'),
                            (('--keep-log', 'log'), 'log: File too large; no trace is written')]:
@@ -143,7 +162,7 @@ class Records(InFolder):
                                    'echo $$ > ../pid; echo 2 > new; sleep 60')
                 pid = self.pid_of('pid')
                 child.send_signal(number)
-                out, err = child.communicate(timeout=30)
+                out, err = child.communicate(timeout=PATIENCE)
                 self.assertEqual((child.returncode, out), (128 + number, ''))
                 self.assertEqual(err, f'crashfs-record: stopped by {told}; nothing is written\n')
                 self.assert_gone(pid)
@@ -156,26 +175,17 @@ class Records(InFolder):
                            'echo $$ > ../pid; sleep 60')
         pid = self.pid_of('pid')
         child.kill()
-        child.communicate(timeout=30)
+        child.communicate(timeout=PATIENCE)
         self.assert_gone(pid)
-        deadline = time.monotonic() + 10
-        while os.listdir(self.temporary) and time.monotonic() < deadline:
-            time.sleep(0.05)
-        self.assert_nothing_left()
+        self.wait_until(lambda: os.listdir(self.temporary) == [], 'nothing left')
 
     def pid_of(self, name):
-        deadline = time.monotonic() + 30
-        while time.monotonic() < deadline:
-            if os.path.exists(self.path(name)) and self.read(name).strip():
-                return int(self.read(name))
-            time.sleep(0.05)
-        raise AssertionError('COMMAND did not start')
+        self.wait_until(lambda: os.path.exists(self.path(name)) and self.read(name).strip() != '',
+                        'COMMAND has started')
+        return int(self.read(name))
 
     def assert_gone(self, pid):
-        deadline = time.monotonic() + 10
-        while os.path.exists(f'/proc/{pid}') and time.monotonic() < deadline:
-            time.sleep(0.05)
-        self.assertFalse(os.path.exists(f'/proc/{pid}'))
+        self.wait_until(lambda: not os.path.exists(f'/proc/{pid}'), 'COMMAND has ended')
 
 
 class Refuses(InFolder):
@@ -200,6 +210,8 @@ class Refuses(InFolder):
                 ('d/o would stand in ', 'd', 'd/o', '--', 'true'),
                 ('--crashfs /none: no such program', '--crashfs', '/none', 'd', 'o', '--',
                  'true'),
+                ('tmp is a directory', 'd', 'tmp', '--', 'true'),
+                ('/dev/null has no call of any process', '--from-log', '/dev/null', 'd', 'o'),
                 ('none: No such file or directory', '--from-log', 'none', 'd', 'o')]:
             with self.subTest(told):
                 err = self.refusal(*words)
