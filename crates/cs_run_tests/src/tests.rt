@@ -1,5 +1,6 @@
 //! What calls answer, what a journal keeps of them, and which runs are found.
 
+mod answers;
 mod asks;
 mod directories;
 mod files;

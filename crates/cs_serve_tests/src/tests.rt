@@ -1,5 +1,6 @@
 //! Worked examples of connections over the start tree, of a world's steps, and of many connections at once.
 mod asking;
+mod commands;
 mod exchange;
 mod files;
 mod fixture;
@@ -10,6 +11,8 @@ mod program;
 mod server;
 mod sessions;
 mod states;
+mod stepping;
 mod steps;
+mod telling;
 mod walks;
 mod wstats;

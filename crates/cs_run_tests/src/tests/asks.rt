@@ -1,4 +1,4 @@
-//! Calls in short, and answers in words.
+//! Calls by their words.
 
 use cs_fids::Place;
 use cs_names::{Name, UserName};
@@ -6,195 +6,233 @@ use cs_permit::{
     AttachCall, Call, CloseCall, CreateCall, OpenCall, ReadCall, RemoveCall, StatCall, WalkCall,
     WriteCall, WstatCall,
 };
-use cs_run::Answer;
 use cs_wire::{Qid, Stat};
 use std::alloc::Global;
 
-/// A call in short. Numbers are those of files, and of a close that of the open.
-#[derive(Clone, Copy)]
-pub enum Ask {
-    Attach,
-    /// From a file, by these names.
-    Walk(u64, &'static [&'static str]),
-    /// The mode.
-    Open(u64, u8),
-    /// The name, the permissions and the mode.
-    Create(u64, &'static str, u32, u8),
-    /// The offset and the count.
-    Read(u64, u64, u32),
-    /// The offset and the bytes.
-    Write(u64, u64, &'static str),
-    Close(u32),
-    /// With the fid's open, if it is open.
-    Remove(u64, Option<u32>),
-    Stat(u64),
-    Wstat(u64, Fields),
+/// The first word, and those behind it.
+pub fn cut(words: &str) -> (&str, &str) {
+    words.split_once(' ').unwrap_or((words, ""))
 }
 
-/// The fields of a wstat that are to be touched.
-#[derive(Clone, Copy)]
-pub struct Fields {
-    pub name: &'static str,
-    pub length: u64,
-    pub mode: u32,
-    pub mtime: u32,
-    pub gid: &'static str,
-    pub uid: &'static str,
+fn number(word: &str) -> Option<u64> {
+    word.parse::<u64>().ok()
 }
 
-/// No field.
-pub const UNTOUCHED: Fields = Fields {
-    name: "",
-    length: u64::MAX,
-    mode: u32::MAX,
-    mtime: u32::MAX,
-    gid: "",
-    uid: "",
+fn short(word: &str) -> Option<u32> {
+    word.parse::<u32>().ok()
+}
+
+/// A mode of an open: hexadecimal digits.
+fn mode_of(word: &str) -> Option<u8> {
+    u8::from_str_radix(word, 16).ok()
+}
+
+/// Permissions: octal digits, with `dir:`, `append:` or `excl:` before them where it is no plain
+/// file (stat(5)).
+fn perm_of(word: &str) -> Option<u32> {
+    let (bit, digits) = match word.split_once(':') {
+        Some(("dir", digits)) => (0x8000_0000, digits),
+        Some(("append", digits)) => (0x4000_0000, digits),
+        Some((_, digits)) => (0x2000_0000, digits),
+        None => (0, word),
+    };
+    Some(bit | u32::from_str_radix(digits, 8).ok()?)
+}
+
+fn attach(alloc: Global, user: UserName) -> Option<Call> {
+    let user = String::from_str(alloc, user.as_str()).ok()?;
+    Some(Call::Attach(AttachCall { user }))
+}
+
+/// Names, with slashes between them.
+fn names_of(alloc: Global, text: &str) -> Option<Vec<String>> {
+    let mut names = Vec::new(alloc);
+    if text.is_empty() {
+        return Some(names);
+    }
+    for name in text.split('/') {
+        names.push(String::from_str(alloc, name).ok()?).ok()?;
+    }
+    Some(names)
+}
+
+/// From a file, by these names.
+fn walk(alloc: Global, user: UserName, words: &str) -> Option<Call> {
+    let (file, names) = cut(words);
+    let number = number(file)?;
+    let names = names_of(alloc, names)?;
+    Some(Call::Walk(WalkCall {
+        number,
+        user,
+        names,
+    }))
+}
+
+/// The file and the mode.
+fn open(user: UserName, words: &str) -> Option<Call> {
+    let (file, mode) = cut(words);
+    let (number, mode) = (number(file)?, mode_of(mode)?);
+    Some(Call::Open(OpenCall { number, user, mode }))
+}
+
+/// The directory, the name, the permissions and the mode.
+fn create(alloc: Global, user: UserName, words: &str) -> Option<Call> {
+    let (file, words) = cut(words);
+    let (name, words) = cut(words);
+    let (perm, mode) = cut(words);
+    let (number, perm, mode) = (number(file)?, perm_of(perm)?, mode_of(mode)?);
+    let name = Name::read(alloc, name.as_bytes()).ok()?;
+    Some(Call::Create(CreateCall {
+        number,
+        user,
+        name,
+        perm,
+        mode,
+    }))
+}
+
+/// The file, the offset and the count; it goes on from a place.
+fn read(words: &str, place: &Place) -> Option<Call> {
+    let (file, words) = cut(words);
+    let (offset, count) = cut(words);
+    let (number, offset, count) = (number(file)?, number(offset)?, short(count)?);
+    let place = place.try_clone().ok()?;
+    Some(Call::Read(ReadCall {
+        number,
+        offset,
+        count,
+        place,
+    }))
+}
+
+/// The file, the offset and the bytes.
+fn write(alloc: Global, user: UserName, words: &str) -> Option<Call> {
+    let (file, words) = cut(words);
+    let (offset, text) = cut(words);
+    let (number, offset) = (number(file)?, number(offset)?);
+    let bytes = Vec::from_slice(alloc, text.as_bytes()).ok()?;
+    Some(Call::Write(WriteCall {
+        number,
+        user,
+        offset,
+        bytes,
+    }))
+}
+
+/// The number of the open.
+fn close(user: UserName, words: &str) -> Option<Call> {
+    let open_number = short(words)?;
+    Some(Call::Close(CloseCall { open_number, user }))
+}
+
+/// The file, of a fid that isn't open.
+fn remove(user: UserName, words: &str) -> Option<Call> {
+    let number = number(words)?;
+    Some(Call::Remove(RemoveCall {
+        number,
+        user,
+        open_number: None,
+    }))
+}
+
+/// The file, of a fid that is open, and the number of the open.
+fn remove_open(user: UserName, words: &str) -> Option<Call> {
+    let (file, open_number) = cut(words);
+    let (number, open_number) = (number(file)?, short(open_number)?);
+    Some(Call::Remove(RemoveCall {
+        number,
+        user,
+        open_number: Some(open_number),
+    }))
+}
+
+/// What `name=g,mode=600` says of a field, such as `mode=`.
+fn change_in<'a>(changes: &'a str, field: &str) -> Option<&'a str> {
+    for change in changes.split(',') {
+        if let Some(value) = change.strip_prefix(field) {
+            return Some(value);
+        }
+    }
+    None
+}
+
+fn text_in(alloc: Global, changes: &str, field: &str) -> Option<String> {
+    String::from_str(alloc, change_in(changes, field).unwrap_or("")).ok()
+}
+
+fn length_in(changes: &str) -> Option<u64> {
+    match change_in(changes, "length=") {
+        Some(length) => number(length),
+        None => Some(u64::MAX),
+    }
+}
+
+fn mode_in(changes: &str) -> Option<u32> {
+    match change_in(changes, "mode=") {
+        Some(mode) => perm_of(mode),
+        None => Some(u32::MAX),
+    }
+}
+
+fn mtime_in(changes: &str) -> Option<u32> {
+    match change_in(changes, "mtime=") {
+        Some(mtime) => short(mtime),
+        None => Some(u32::MAX),
+    }
+}
+
+/// That of a wstat that says "don't touch".
+const ANY_QID: Qid = Qid {
+    kind: u8::MAX,
+    vers: u32::MAX,
+    path: u64::MAX,
 };
 
-fn stat_of(alloc: Global, fields: &Fields) -> Option<Stat> {
+/// A stat that says "don't touch" of every field but those of the changes.
+fn stat_of(alloc: Global, changes: &str) -> Option<Stat> {
+    let (mode, mtime) = (mode_in(changes)?, mtime_in(changes)?);
+    let length = length_in(changes)?;
     Some(Stat {
         kind: u16::MAX,
         dev: u32::MAX,
-        qid: Qid {
-            kind: u8::MAX,
-            vers: u32::MAX,
-            path: u64::MAX,
-        },
-        mode: fields.mode,
+        qid: ANY_QID,
+        mode,
         atime: u32::MAX,
-        mtime: fields.mtime,
-        length: fields.length,
-        name: String::from_str(alloc, fields.name).ok()?,
-        uid: String::from_str(alloc, fields.uid).ok()?,
-        gid: String::from_str(alloc, fields.gid).ok()?,
+        mtime,
+        length,
+        name: text_in(alloc, changes, "name=")?,
+        uid: text_in(alloc, changes, "uid=")?,
+        gid: text_in(alloc, changes, "gid=")?,
         muid: String::new(alloc),
     })
 }
 
-fn texts(alloc: Global, names: &[&str]) -> Option<Vec<String>> {
-    let mut texts = Vec::new(alloc);
-    for name in names {
-        texts.push(String::from_str(alloc, name).ok()?).ok()?;
-    }
-    Some(texts)
+/// The file and the changes.
+fn wstat(alloc: Global, user: UserName, words: &str) -> Option<Call> {
+    let (file, changes) = cut(words);
+    let number = number(file)?;
+    let stat = stat_of(alloc, changes)?;
+    Some(Call::Wstat(WstatCall { number, user, stat }))
 }
 
-/// The call, of that user; a read goes on from that place.
-pub fn call_of(alloc: Global, user: &str, ask: &Ask, place: &Place) -> Option<Call> {
+/// The call that words ask for, of that user: a word, and what its function takes. A read goes on
+/// from that place. Numbers are those of files, and of a close that of the open.
+pub fn call_of(alloc: Global, user: &str, words: &str, place: &Place) -> Option<Call> {
+    let (word, words) = cut(words);
     let user = UserName::read(alloc, user.as_bytes()).ok()?;
-    Some(match *ask {
-        Ask::Attach => Call::Attach(AttachCall {
-            user: String::from_str(alloc, user.as_str()).ok()?,
-        }),
-        Ask::Walk(number, names) => Call::Walk(WalkCall {
-            number,
-            user,
-            names: texts(alloc, names)?,
-        }),
-        Ask::Open(number, mode) => Call::Open(OpenCall { number, user, mode }),
-        Ask::Create(number, name, perm, mode) => Call::Create(CreateCall {
-            number,
-            user,
-            name: Name::read(alloc, name.as_bytes()).ok()?,
-            perm,
-            mode,
-        }),
-        Ask::Read(number, offset, count) => Call::Read(ReadCall {
-            number,
-            offset,
-            count,
-            place: place.try_clone().ok()?,
-        }),
-        Ask::Write(number, offset, bytes) => Call::Write(WriteCall {
-            number,
-            user,
-            offset,
-            bytes: Vec::from_slice(alloc, bytes.as_bytes()).ok()?,
-        }),
-        Ask::Close(open_number) => Call::Close(CloseCall { open_number, user }),
-        Ask::Remove(number, open_number) => Call::Remove(RemoveCall {
-            number,
-            user,
-            open_number,
-        }),
-        Ask::Stat(number) => Call::Stat(StatCall { number }),
-        Ask::Wstat(number, fields) => Call::Wstat(WstatCall {
-            number,
-            user,
-            stat: stat_of(alloc, &fields)?,
-        }),
-    })
-}
-
-/// How far a walk came: the qids as `number.version`, and the rule that stopped it, if any.
-fn walked(alloc: Global, walk: &cs_run::Walk) -> Option<String> {
-    let mut said = format!(in alloc; "at {}:", walk.last()).ok()?;
-    for qid in walk.qids() {
-        said.push_str(
-            format!(in alloc; " {}.{}", qid.path, qid.vers)
-                .ok()?
-                .as_str(),
-        )
-        .ok()?;
+    match word {
+        "attach" => attach(alloc, user),
+        "walk" => walk(alloc, user, words),
+        "open" => open(user, words),
+        "create" => create(alloc, user, words),
+        "read" => read(words, place),
+        "write" => write(alloc, user, words),
+        "close" => close(user, words),
+        "remove" => remove(user, words),
+        "remove_open" => remove_open(user, words),
+        "stat" => Some(Call::Stat(StatCall {
+            number: number(words)?,
+        })),
+        _ => wstat(alloc, user, words),
     }
-    if let Some(rule) = walk.stopped() {
-        said.push_str(
-            format!(in alloc; " stopped by {}", rule.text())
-                .ok()?
-                .as_str(),
-        )
-        .ok()?;
-    }
-    Some(said)
-}
-
-/// What a stat tells: name, mode, version, length, mtime, owner, group and muid.
-fn told(alloc: Global, stat: &Stat) -> Option<String> {
-    format!(in alloc;
-        "{} {:o} version {} length {} at {} of {} {} by {}",
-        stat.name, stat.mode, stat.qid.vers, stat.length, stat.mtime, stat.uid, stat.gid, stat.muid
-    )
-    .ok()
-}
-
-/// What a read gives: bytes of a file as text, or how many bytes of entries, with the new place.
-fn given(alloc: Global, bytes: Vec<u8>, place: Option<Place>) -> Option<(String, Option<Place>)> {
-    let said = match &place {
-        Some(place) => {
-            let last = place.last.as_ref()?;
-            format!(in alloc; "{} bytes to {} at {}", bytes.len(), place.end, last).ok()?
-        }
-        None => String::from_utf8(bytes).ok()?,
-    };
-    Some((said, place))
-}
-
-/// The answer in words, and the new place of a read of a directory.
-pub fn said(alloc: Global, answer: Answer) -> Option<(String, Option<Place>)> {
-    let said = match answer {
-        Answer::Attached(qid) => {
-            format!(in alloc; "root {:x} {}.{}", qid.kind, qid.path, qid.vers).ok()?
-        }
-        Answer::Walked(walk) => walked(alloc, &walk)?,
-        Answer::Opened {
-            qid,
-            open_number,
-            number,
-        } => {
-            format!(in alloc; "open {open_number} of {number}: {}.{}", qid.path, qid.vers).ok()?
-        }
-        Answer::Data(data) => {
-            let (bytes, place) = data.into_parts();
-            return given(alloc, bytes, place);
-        }
-        Answer::Written(count) => format!(in alloc; "wrote {count}").ok()?,
-        Answer::Closed => String::from_str(alloc, "closed").ok()?,
-        Answer::Removed => String::from_str(alloc, "removed").ok()?,
-        Answer::Stat(stat) => told(alloc, &stat.into_stat())?,
-        Answer::Changed => String::from_str(alloc, "changed").ok()?,
-        Answer::Denied(rule) => String::from_str(alloc, rule.text()).ok()?,
-        Answer::Short => String::from_str(alloc, "short of memory").ok()?,
-    };
-    Some((said, None))
 }

@@ -1,8 +1,9 @@
 //! A run over a root with one file, and a pass of it.
 ghost use Rattle.std.specs.Prelude.{◌≡◌};
 
+use super::asks::cut;
 use cs_journal::{Pass, Run, can_grow};
-use cs_names::{Name, Path, UserName};
+use cs_names::{Path, UserName};
 use cs_permit::{AttachCall, Call, CloseCall, OpenCall, RemoveCall, StatCall, WalkCall, WriteCall};
 use cs_run::Answer;
 use cs_tree::PlainTree;
@@ -13,9 +14,9 @@ use std::marker::Model;
 use std::sync::Arc;
 
 /// The number of the file.
-pub const FILE: u64 = 1;
+const FILE: u64 = 1;
 
-pub fn user(alloc: Global) -> Option<UserName> {
+fn user(alloc: Global) -> Option<UserName> {
     UserName::read(alloc, b"ann").ok()
 }
 
@@ -33,33 +34,40 @@ fn record(alloc: Global, number: u64, mode: u32, content: Content) -> Option<Rec
     })
 }
 
+fn root(alloc: Global) -> Option<Record> {
+    record(alloc, 0, DMDIR | 0o755, Content::directory())
+}
+
+fn file(alloc: Global) -> Option<Record> {
+    let bytes = Vec::from_slice(alloc, b"hello").ok()?;
+    record(alloc, FILE, 0o644, Content::file(bytes))
+}
+
+fn push_record(
+    alloc: Global,
+    records: &mut Vec<(Path, Record)>,
+    path: &str,
+    record: Record,
+) -> Option<()> {
+    let path = Path::read(alloc, path).ok()?;
+    records.push((path, record)).ok()
+}
+
 fn tree(alloc: Global) -> Option<PlainTree> {
     let mut records = Vec::new(alloc);
-    let root = record(alloc, 0, DMDIR | 0o755, Content::directory())?;
-    records.push((Path::root(alloc), root)).ok()?;
-    let file = record(
-        alloc,
-        FILE,
-        0o644,
-        Content::file(Vec::from_slice(alloc, b"hello").ok()?),
-    )?;
-    let mut names = Vec::new(alloc);
-    names.push(Name::read(alloc, b"f").ok()?).ok()?;
-    records
-        .push((Path::from_names(alloc, &names).ok()?, file))
-        .ok()?;
+    push_record(alloc, &mut records, "/", root(alloc)?)?;
+    push_record(alloc, &mut records, "/f", file(alloc)?)?;
     PlainTree::try_from_records(alloc, records).ok()
 }
 
 /// A run over the root and the file `f`, which ann owns.
 pub fn run(alloc: Global) -> Option<Run<PlainTree>> {
-    let lower = tree(alloc)?;
-    let users = Users::read(alloc, b"1:ann::\n").ok()?;
-    let lower = Arc::new(alloc, lower).ok()?;
+    let users = Arc::new(alloc, Users::read(alloc, b"1:ann::\n").ok()?).ok()?;
+    let lower = Arc::new(alloc, tree(alloc)?).ok()?;
     if !can_grow(&*lower) {
         return None;
     }
-    Run::fresh(alloc, lower, Arc::new(alloc, users).ok()?).ok()
+    Run::fresh(alloc, lower, users).ok()
 }
 
 /// A run, and a pass of it that fits.
@@ -99,32 +107,32 @@ impl Side {
         self.run.fits(&other.pass)
     }
 
-    /// How many entries there are, receipts, and places for closes.
-    pub fn counts(&self) -> (usize, usize, usize) {
-        (
-            self.run.entries(),
-            self.pass.receipts().len(),
-            self.pass.reserved(),
-        )
+    /// Adds how many entries there are, receipts, and places for closes.
+    pub fn push_counts(&self, text: &mut String) -> Option<()> {
+        let entries = self.run.entries();
+        let (receipts, reserved) = (self.pass.receipts().len(), self.pass.reserved());
+        write!(text, " {entries} {receipts} {reserved}").ok()
     }
 }
 
-pub fn attach(alloc: Global) -> Option<Call> {
+fn attach(alloc: Global) -> Option<Call> {
     let user = String::from_str(alloc, "ann").ok()?;
     Some(Call::Attach(AttachCall { user }))
 }
 
-pub fn walk(alloc: Global) -> Option<Call> {
+fn walk(alloc: Global) -> Option<Call> {
+    let user = user(alloc)?;
     let mut names = Vec::new(alloc);
     names.push(String::from_str(alloc, "f").ok()?).ok()?;
     Some(Call::Walk(WalkCall {
         number: 0,
-        user: user(alloc)?,
+        user,
         names,
     }))
 }
 
-pub fn open(alloc: Global, mode: u8) -> Option<Call> {
+fn open(alloc: Global, mode: &str) -> Option<Call> {
+    let mode = mode.parse::<u8>().ok()?;
     Some(Call::Open(OpenCall {
         number: FILE,
         user: user(alloc)?,
@@ -132,12 +140,32 @@ pub fn open(alloc: Global, mode: u8) -> Option<Call> {
     }))
 }
 
-pub fn write(alloc: Global, offset: u64, bytes: &[u8]) -> Option<Call> {
+/// The offset and the bytes.
+fn write(alloc: Global, words: &str) -> Option<Call> {
+    let (offset, text) = words.split_once(' ')?;
+    let offset = offset.parse::<u64>().ok()?;
+    let user = user(alloc)?;
+    let bytes = Vec::from_slice(alloc, text.as_bytes()).ok()?;
     Some(Call::Write(WriteCall {
         number: FILE,
-        user: user(alloc)?,
+        user,
         offset,
-        bytes: Vec::from_slice(alloc, bytes).ok()?,
+        bytes,
+    }))
+}
+
+fn close(alloc: Global, open_number: &str) -> Option<Call> {
+    let open_number = open_number.parse::<u32>().ok()?;
+    let user = user(alloc)?;
+    Some(Call::Close(CloseCall { open_number, user }))
+}
+
+fn remove(alloc: Global, open_number: &str) -> Option<Call> {
+    let open_number = open_number.parse::<u32>().ok()?;
+    Some(Call::Remove(RemoveCall {
+        number: FILE,
+        user: user(alloc)?,
+        open_number: Some(open_number),
     }))
 }
 
@@ -145,17 +173,17 @@ pub fn stat() -> Call {
     Call::Stat(StatCall { number: FILE })
 }
 
-pub fn close(alloc: Global, open_number: u32) -> Option<Call> {
-    Some(Call::Close(CloseCall {
-        open_number,
-        user: user(alloc)?,
-    }))
-}
-
-pub fn remove(alloc: Global, open_number: Option<u32>) -> Option<Call> {
-    Some(Call::Remove(RemoveCall {
-        number: FILE,
-        user: user(alloc)?,
-        open_number,
-    }))
+/// The call that words ask for: `attach`, `walk` or `stat`; `open` with its mode, `write` with its
+/// offset and bytes, `close` or `remove` with the number of the open.
+pub fn call_of(alloc: Global, words: &str) -> Option<Call> {
+    let (word, words) = cut(words);
+    match word {
+        "attach" => attach(alloc),
+        "walk" => walk(alloc),
+        "open" => open(alloc, words),
+        "write" => write(alloc, words),
+        "close" => close(alloc, words),
+        "remove" => remove(alloc, words),
+        _ => Some(stat()),
+    }
 }

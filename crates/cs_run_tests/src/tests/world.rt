@@ -1,6 +1,7 @@
 //! A run over the start tree, made by hand, with the users of the worked examples.
 
-use super::asks::{Ask, call_of, said};
+use super::answers::push_answer;
+use super::asks::call_of;
 use cs_fids::Place;
 use cs_names::{Path, UserName};
 use cs_permit::Call;
@@ -8,14 +9,13 @@ use cs_run::{Answer, CountedRun};
 use cs_tree::PlainTree;
 use cs_tree_model::{Content, DMDIR, Record};
 use cs_users::Users;
-use std::alloc::{AllocGlobal, Global};
+use std::alloc::Global;
 use std::process::Abort;
-use std::test::Fail;
 
 const USERS: &str = "# people\n1:ann::\n2:bob::\n3:cat::\n4:staff:ann:ann,bob,zed\n5:none::\n";
 
-/// Number, path, owner, group, mode and bytes of a record; None for a directory.
-type Row = (
+/// A record: its number, path, owner, group and mode, and the bytes of a file.
+struct Row(
     u64,
     &'static str,
     &'static [u8],
@@ -25,39 +25,50 @@ type Row = (
 );
 
 const START: [Row; 7] = [
-    (0, "/", b"cat", b"staff", DMDIR | 0o775, None),
-    (1, "/d", b"ann", b"staff", DMDIR | 0o755, None),
-    (2, "/d/s", b"ann", b"ann", DMDIR | 0o700, None),
-    (3, "/d/s/z", b"ann", b"ann", 0o644, Some(b"")),
-    (4, "/f", b"ann", b"staff", 0o664, Some(b"hello")),
-    (5, "/n", b"none", b"none", 0o600, Some(b"")),
-    (6, "/p", b"ann", b"staff", DMDIR | 0o750, None),
+    Row(0, "/", b"cat", b"staff", DMDIR | 0o775, None),
+    Row(1, "/d", b"ann", b"staff", DMDIR | 0o755, None),
+    Row(2, "/d/s", b"ann", b"ann", DMDIR | 0o700, None),
+    Row(3, "/d/s/z", b"ann", b"ann", 0o644, Some(b"")),
+    Row(4, "/f", b"ann", b"staff", 0o664, Some(b"hello")),
+    Row(5, "/n", b"none", b"none", 0o600, Some(b"")),
+    Row(6, "/p", b"ann", b"staff", DMDIR | 0o750, None),
 ];
 
-fn record(alloc: Global, row: &Row) -> Option<(Path, Record)> {
-    let (number, path, owner, group, mode, bytes) = *row;
-    let content = match bytes {
-        None => Content::directory(),
-        Some(bytes) => Content::file(Vec::from_slice(alloc, bytes).ok()?),
-    };
-    let record = Record {
-        number,
+fn content(alloc: Global, bytes: Option<&[u8]>) -> Option<Content> {
+    match bytes {
+        None => Some(Content::directory()),
+        Some(bytes) => Some(Content::file(Vec::from_slice(alloc, bytes).ok()?)),
+    }
+}
+
+fn user(alloc: Global, name: &[u8]) -> Option<UserName> {
+    UserName::read(alloc, name).ok()
+}
+
+fn record(alloc: Global, row: &Row) -> Option<Record> {
+    Some(Record {
+        number: row.0,
         vers: 0,
-        owner: UserName::read(alloc, owner).ok()?,
-        group: UserName::read(alloc, group).ok()?,
-        mode,
+        owner: user(alloc, row.2)?,
+        group: user(alloc, row.3)?,
+        mode: row.4,
         atime: 0,
         mtime: 0,
-        muid: UserName::read(alloc, owner).ok()?,
-        content,
-    };
-    Some((Path::read(alloc, path).ok()?, record))
+        muid: user(alloc, row.2)?,
+        content: content(alloc, row.5)?,
+    })
+}
+
+fn push_record(alloc: Global, records: &mut Vec<(Path, Record)>, row: &Row) -> Option<()> {
+    let path = Path::read(alloc, row.1).ok()?;
+    let record = record(alloc, row)?;
+    records.push((path, record)).ok()
 }
 
 fn start_tree(alloc: Global) -> Option<PlainTree> {
     let mut records = Vec::new(alloc);
     for row in &START {
-        records.push(record(alloc, row)?).ok()?;
+        push_record(alloc, &mut records, row)?;
     }
     PlainTree::try_from_records(alloc, records).ok()
 }
@@ -71,12 +82,10 @@ pub struct World {
 
 impl World {
     fn start(alloc: Global) -> Option<World> {
+        let tree = start_tree(alloc)?;
+        let users = Users::read(alloc, USERS.as_bytes()).ok()?;
         Some(World {
-            run: CountedRun::new(
-                alloc,
-                start_tree(alloc)?,
-                Users::read(alloc, USERS.as_bytes()).ok()?,
-            ),
+            run: CountedRun::new(alloc, tree, users),
             place: Place::start(),
         })
     }
@@ -90,28 +99,38 @@ impl World {
         Some(answer)
     }
 
-    /// Makes a call, and tells the answer in words. The place of a read is kept for the next one.
-    fn ask(&mut self, alloc: Global, pass: u32, user: &str, ask: &Ask) -> Option<String> {
-        let call = call_of(alloc, user, ask, &self.place)?;
-        let answer = self.step(alloc, pass, &call)?;
-        let (said, place) = said(alloc, answer)?;
-        if let Some(place) = place {
-            self.place = place;
-        }
-        Some(said)
+    /// Makes a call, and adds the answer in words. The place of a read is kept for the next one.
+    fn ask(&mut self, alloc: Global, text: &mut String, line: &str) -> Option<()> {
+        let (pass, words) = line.split_once(' ')?;
+        let (user, words) = words.split_once(' ')?;
+        let call = call_of(alloc, user, words, &self.place)?;
+        let answer = self.step(alloc, pass.parse::<u32>().ok()?, &call)?;
+        push_answer(text, answer, &mut self.place)
+    }
+
+    /// Adds a line with the answer that its call had.
+    fn push_line(&mut self, alloc: Global, text: &mut String, line: &str) -> Option<()> {
+        let (asked, _) = line.split_once(" => ")?;
+        text.push_str(asked).ok()?;
+        text.push_str(" => ").ok()?;
+        self.ask(alloc, text, asked)?;
+        text.push_str("\n").ok()
     }
 }
 
-/// A call: the pass and the user, what is asked, and the answer that is wanted.
-pub type Line = (u32, &'static str, Ask, &'static str);
-
-/// Makes the calls one after the other in a new run. An open has the number of its line, from 0.
-pub fn run(rt: &(impl Abort + AllocGlobal), lines: &[Line]) -> Result<(), Fail> {
-    let alloc = rt.alloc();
-    let mut world = World::start(alloc).ok_or("the start")?;
-    for (pass, user, ask, wanted) in lines {
-        let said = world.ask(alloc, *pass, user, ask).ok_or("an answer")?;
-        assert_eq!(rt; said.as_str(), *wanted);
+fn push_lines(alloc: Global, text: &mut String, lines: &str) -> Option<()> {
+    let mut world = World::start(alloc)?;
+    for line in lines.lines() {
+        world.push_line(alloc, text, line)?;
     }
-    Ok(())
+    Some(())
+}
+
+/// Makes calls one after the other in a new run, and looks for their answers. Each line has the
+/// pass, the user, the call in words, an arrow, and the answer. An open has the number of its line,
+/// from 0.
+pub fn run(rt: &(impl Abort + AllocGlobal), lines: &str) {
+    let mut text = String::new(rt.alloc());
+    push_lines(rt.alloc(), &mut text, lines).expect(rt, "answers");
+    assert_eq!(rt; text.as_str(), lines);
 }

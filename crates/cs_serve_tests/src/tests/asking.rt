@@ -1,208 +1,162 @@
-//! Messages by their words, and the replies to them as text.
-use cs_wire::{Qid, RBody, RMessage, Stat, TBody, TMessage, encode_t};
+//! Messages by their words, as bytes.
 use std::alloc::Global;
-use std::test::Fail;
 
-/// DMDIR, DMAPPEND and DMEXCL (stat(5)).
-const KINDS: [(&str, u32); 3] = [
-    ("dir", 0x8000_0000),
-    ("append", 0x4000_0000),
-    ("excl", 0x2000_0000),
+/// A word for a message, its type, and its fields in their order, a letter each. `1`, `2`, `4` and
+/// `8` are numbers of so many bytes, `o` is NOFID and takes no word; the others are in
+/// `push_field`.
+struct Kind(&'static str, u8, &'static str);
+
+const KINDS: [Kind; 16] = [
+    Kind("version", 100, "4s"),
+    Kind("auth", 102, "4ss"),
+    Kind("attach", 104, "4oss"),
+    Kind("attach_by", 104, "44ss"),
+    Kind("flush", 108, "2"),
+    Kind("walk", 110, "44n"),
+    Kind("open", 112, "41"),
+    Kind("create", 114, "4sp1"),
+    Kind("read", 116, "484"),
+    Kind("list", 116, "484"),
+    Kind("count", 116, "484"),
+    Kind("write", 118, "48d"),
+    Kind("clunk", 120, "4"),
+    Kind("remove", 122, "4"),
+    Kind("stat", 124, "4"),
+    Kind("wstat", 126, "4w"),
 ];
 
-/// A number in octal digits.
-fn octal(digits: &str) -> u32 {
-    let mut number = 0u32;
-    for digit in digits.as_bytes() {
-        number = number.wrapping_mul(8) | u32::from(digit & 7);
-    }
-    number
-}
-
-/// A mode: octal digits, with a kind and a colon before them where it is no plain file's.
-fn mode_in(text: &str) -> u32 {
-    match text.split_once(':') {
-        Some((kind, digits)) => {
-            let bit = KINDS.iter().find(|known| known.0 == kind);
-            octal(digits) | bit.map_or(0, |known| known.1)
+fn kind_of(word: &str) -> Option<&'static Kind> {
+    for kind in &KINDS {
+        if kind.0 == word {
+            return Some(kind);
         }
-        None => octal(text),
     }
+    None
 }
 
-/// The message that words ask for, with the tag 1. An attach of no more words gives no authentication
-/// fid.
-pub fn request(alloc: Global, words: &[&str]) -> Result<TMessage, Fail> {
-    let body = match words {
-        ["version", msize, version] => TBody::Version {
-            msize: msize.parse::<u32>()?,
-            version: String::from_str(alloc, version)?,
-        },
-        ["attach", fid, uname, aname] => attach(alloc, fid, "4294967295", uname, aname)?,
-        ["attach", fid, uname, aname, afid] => attach(alloc, fid, afid, uname, aname)?,
-        ["auth", uname, aname] => TBody::Auth {
-            afid: 0,
-            uname: String::from_str(alloc, uname)?,
-            aname: String::from_str(alloc, aname)?,
-        },
-        ["walk", fid, newfid, names @ ..] => TBody::Walk {
-            fid: fid.parse::<u32>()?,
-            newfid: newfid.parse::<u32>()?,
-            wname: texts(alloc, names)?,
-        },
-        ["create", fid, name, perm, mode] => TBody::Create {
-            fid: fid.parse::<u32>()?,
-            name: String::from_str(alloc, name)?,
-            perm: mode_in(perm),
-            mode: mode.parse::<u8>()?,
-        },
-        ["write", fid, offset, data @ ..] => TBody::Write {
-            fid: fid.parse::<u32>()?,
-            offset: offset.parse::<u64>()?,
-            data: bytes(alloc, data)?,
-        },
-        ["wstat", fid, fields @ ..] => TBody::Wstat {
-            fid: fid.parse::<u32>()?,
-            stat: changes(alloc, fields)?,
-        },
-        other => numbers(other)?,
+/// Adds the lowest bytes of a number, so many.
+fn push_number(bytes: &mut Vec<u8>, width: usize, number: u64) -> Option<()> {
+    let spelled = number.to_le_bytes();
+    bytes.extend_from_slice(spelled.get(..width)?).ok()
+}
+
+/// Adds a text, with its length before it in so many bytes.
+fn push_text(bytes: &mut Vec<u8>, width: usize, text: &str) -> Option<()> {
+    push_number(bytes, width, text.len() as u64)?;
+    bytes.extend_from_slice(text.as_bytes()).ok()
+}
+
+/// Adds names, which stand between slashes, with their count before them.
+fn push_names(bytes: &mut Vec<u8>, names: &str) -> Option<()> {
+    if names.is_empty() {
+        return push_number(bytes, 2, 0);
+    }
+    push_number(bytes, 2, names.split('/').count() as u64)?;
+    for name in names.split('/') {
+        push_text(bytes, 2, name)?;
+    }
+    Some(())
+}
+
+/// A mode: octal digits, with `dir:`, `append:` or `excl:` before them where it is no plain file's
+/// (stat(5)).
+fn mode_in(mode: &str) -> Option<u64> {
+    let (bit, digits) = match mode.split_once(':') {
+        Some(("dir", digits)) => (0x8000_0000, digits),
+        Some(("append", digits)) => (0x4000_0000, digits),
+        Some((_, digits)) => (0x2000_0000, digits),
+        None => (0, mode),
     };
-    Ok(TMessage { tag: 1, body })
+    Some(bit | u64::from_str_radix(digits, 8).ok()?)
 }
 
-fn attach(alloc: Global, fid: &str, afid: &str, uname: &str, aname: &str) -> Result<TBody, Fail> {
-    Ok(TBody::Attach {
-        fid: fid.parse::<u32>()?,
-        afid: afid.parse::<u32>()?,
-        uname: String::from_str(alloc, uname)?,
-        aname: String::from_str(alloc, aname)?,
-    })
-}
-
-/// The message whose fields are all numbers.
-fn numbers(words: &[&str]) -> Result<TBody, Fail> {
-    match words {
-        ["open", fid, mode] => Ok(TBody::Open {
-            fid: fid.parse::<u32>()?,
-            mode: mode.parse::<u8>()?,
-        }),
-        ["read" | "list", fid, offset, count] => Ok(TBody::Read {
-            fid: fid.parse::<u32>()?,
-            offset: offset.parse::<u64>()?,
-            count: count.parse::<u32>()?,
-        }),
-        ["clunk", fid] => Ok(TBody::Clunk {
-            fid: fid.parse::<u32>()?,
-        }),
-        ["remove", fid] => Ok(TBody::Remove {
-            fid: fid.parse::<u32>()?,
-        }),
-        ["stat", fid] => Ok(TBody::Stat {
-            fid: fid.parse::<u32>()?,
-        }),
-        _ => Ok(TBody::Flush { oldtag: 0 }),
-    }
-}
-
-fn texts(alloc: Global, words: &[&str]) -> Result<Vec<String>, Fail> {
-    let mut all = Vec::new(alloc);
-    for word in words {
-        all.push(String::from_str(alloc, word)?)?;
-    }
-    Ok(all)
-}
-
-/// The bytes of words.
-fn bytes(alloc: Global, words: &[&str]) -> Result<Vec<u8>, Fail> {
-    let mut all = Vec::new(alloc);
-    for word in words {
-        all.extend_from_slice(word.as_bytes())?;
-    }
-    Ok(all)
-}
-
-/// A stat that says "don't touch" of every field.
-fn untouched(alloc: Global) -> Stat {
-    Stat {
-        kind: u16::MAX,
-        dev: u32::MAX,
-        qid: Qid {
-            kind: u8::MAX,
-            vers: u32::MAX,
-            path: u64::MAX,
-        },
-        mode: u32::MAX,
-        atime: u32::MAX,
-        mtime: u32::MAX,
-        length: u64::MAX,
-        name: String::new(alloc),
-        uid: String::new(alloc),
-        gid: String::new(alloc),
-        muid: String::new(alloc),
-    }
-}
-
-/// The stat of a wstat that changes the named fields.
-fn changes(alloc: Global, fields: &[&str]) -> Result<Stat, Fail> {
-    let mut stat = untouched(alloc);
-    for field in fields.chunks(2) {
-        match field {
-            ["name", name] => stat.name = String::from_str(alloc, name)?,
-            ["gid", gid] => stat.gid = String::from_str(alloc, gid)?,
-            ["mode", mode] => stat.mode = mode_in(mode),
-            ["length", length] => stat.length = length.parse::<u64>()?,
-            ["mtime", mtime] => stat.mtime = mtime.parse::<u32>()?,
-            _ => {}
+/// What `name=g,mode=600` says of a field, such as `mode=`.
+fn change_in<'a>(changes: &'a str, field: &str) -> Option<&'a str> {
+    for change in changes.split(',') {
+        if let Some(value) = change.strip_prefix(field) {
+            return Some(value);
         }
     }
-    Ok(stat)
+    None
 }
 
-/// The bytes of the message that words ask for.
-pub fn spelled(alloc: Global, words: &[&str]) -> Result<Vec<u8>, Fail> {
-    let message = request(alloc, words)?;
+/// The number that changes say of a field, or all ones: "don't touch".
+fn number_in(changes: &str, field: &str) -> Option<u64> {
+    match change_in(changes, field) {
+        Some(number) => number.parse::<u64>().ok(),
+        None => Some(u64::MAX),
+    }
+}
+
+/// The mode that changes say, or all ones.
+fn new_mode(changes: &str) -> Option<u64> {
+    match change_in(changes, "mode=") {
+        Some(mode) => mode_in(mode),
+        None => Some(u64::MAX),
+    }
+}
+
+/// Adds a stat that says "don't touch" of every field but those of the changes.
+fn push_stat(bytes: &mut Vec<u8>, changes: &str) -> Option<()> {
+    let name = change_in(changes, "name=").unwrap_or("");
+    let gid = change_in(changes, "gid=").unwrap_or("");
+    let texts = (name.len() as u64).saturating_add(gid.len() as u64);
+    push_number(bytes, 2, texts.saturating_add(49))?;
+    push_number(bytes, 2, texts.saturating_add(47))?;
+    // type, dev and qid
+    push_number(bytes, 8, u64::MAX)?;
+    push_number(bytes, 8, u64::MAX)?;
+    push_number(bytes, 3, u64::MAX)?;
+    push_number(bytes, 4, new_mode(changes)?)?;
+    push_number(bytes, 4, u64::MAX)?;
+    push_number(bytes, 4, number_in(changes, "mtime=")?)?;
+    push_number(bytes, 8, number_in(changes, "length=")?)?;
+    push_text(bytes, 2, name)?;
+    push_text(bytes, 2, "")?;
+    push_text(bytes, 2, gid)?;
+    push_text(bytes, 2, "")
+}
+
+/// Adds the field of a letter.
+fn push_field(bytes: &mut Vec<u8>, letter: u8, word: &str) -> Option<()> {
+    match letter {
+        b's' => push_text(bytes, 2, word),
+        b'd' => push_text(bytes, 4, word),
+        b'n' => push_names(bytes, word),
+        b'p' => push_number(bytes, 4, mode_in(word)?),
+        b'w' => push_stat(bytes, word),
+        width => push_number(bytes, usize::from(width & 15), word.parse::<u64>().ok()?),
+    }
+}
+
+/// Adds the fields of a message. A word that isn't there is empty.
+fn push_fields(bytes: &mut Vec<u8>, fields: &str, words: &str) -> Option<()> {
+    let mut words = words.split(' ');
+    for letter in fields.as_bytes() {
+        if *letter == b'o' {
+            push_number(bytes, 4, u64::MAX)?;
+        } else {
+            push_field(bytes, *letter, words.next().unwrap_or(""))?;
+        }
+    }
+    Some(())
+}
+
+/// Adds the message of that type with these fields, and with the tag 1.
+fn push_message(bytes: &mut Vec<u8>, number: u8, fields: &[u8]) -> Option<()> {
+    push_number(bytes, 4, (fields.len() as u64).saturating_add(7))?;
+    bytes.push(number).ok()?;
+    push_number(bytes, 2, 1)?;
+    bytes.extend_from_slice(fields).ok()
+}
+
+/// The bytes of the message that words ask for, with the tag 1.
+pub fn message_of(alloc: Global, words: &str) -> Option<Vec<u8>> {
+    let (word, words) = words.split_once(' ')?;
+    let kind = kind_of(word)?;
+    let mut fields = Vec::new(alloc);
+    push_fields(&mut fields, kind.2, words)?;
     let mut bytes = Vec::new(alloc);
-    if message.fits() {
-        encode_t(&message, &mut bytes)?;
-    }
-    Ok(bytes)
-}
-
-/// The bytes of the next entry of a directory, and those behind it.
-fn next_entry(entries: &[u8]) -> Option<(&[u8], &[u8])> {
-    let size = u16::from_le_bytes([*entries.get(0)?, *entries.get(1)?]);
-    let end = usize::from(size).saturating_add(2);
-    Some((entries.get(..end)?, entries.get(end..)?))
-}
-
-/// The name in an entry.
-fn name_in(entry: &[u8]) -> Option<&str> {
-    let length = usize::from(*entry.get(41)?);
-    std::str::from_utf8(entry.get(43..length.saturating_add(43))?).ok()
-}
-
-/// The names of a directory's entries, after how many bytes they take.
-fn names_in(alloc: Global, data: &[u8]) -> Result<String, Fail> {
-    let mut names = format!(in alloc; "Rread {}", data.len())?;
-    let mut entries = data;
-    for _ in 0..data.len() {
-        let Some((entry, others)) = next_entry(entries) else {
-            break;
-        };
-        names.push_str(" ")?;
-        names.push_str(name_in(entry).unwrap_or("?"))?;
-        entries = others;
-    }
-    Ok(names)
-}
-
-/// A reply as text: a read's with its bytes, and those of a directory with the names.
-pub fn shown(alloc: Global, words: &[&str], reply: &RMessage) -> Result<String, Fail> {
-    match (words.first(), &reply.body) {
-        (Some(&"list"), RBody::Read { data }) => names_in(alloc, data),
-        (Some(&"read"), RBody::Read { data }) => {
-            Ok(format!(in alloc; "Rread {}", std::str::from_utf8(data)?)?)
-        }
-        _ => Ok(reply.to_string(alloc)?),
-    }
+    push_message(&mut bytes, kind.1, &fields)?;
+    Some(bytes)
 }

@@ -1,142 +1,130 @@
-//! The start tree of the worked examples, its users, and worlds over it.
-use crate::tests::asking::{shown, spelled};
+//! The start tree of the worked examples, its users, and dialogues with worlds over it.
+use crate::tests::asking::message_of;
+use crate::tests::telling::push_reply;
 use cs_plan::Scene;
-use cs_serve::{Inputs, script_of, world_of};
+use cs_serve::world_of;
 use cs_trace::read_trace;
 use cs_users::Users;
 use cs_world::World;
 use std::alloc::Global;
-use std::io::{self, ErrorKind, Write};
 use std::process::Abort;
-use std::test::Fail;
 
-pub const USERS: &str = "# people\n1:ann::\n2:bob::\n3:cat::\n4:staff:ann:ann,bob,zed\n5:none::\n";
+pub const USERS: &[u8] =
+    b"# people\n1:ann::\n2:bob::\n3:cat::\n4:staff:ann:ann,bob,zed\n5:none::\n";
 
-pub const TRACE: &str =
-    "{\"trace\":1,\"owner\":\"cat\",\"group\":\"staff\",\"mode\":\"775\"}\n{\"start\":\"dir\",\"path\":\"/d\",\"owner\":\"ann\",\"group\":\"staff\",\"mode\":\"755\"}\n{\"start\":\"dir\",\"path\":\"/d/s\",\"owner\":\"ann\",\"group\":\"ann\",\"mode\":\"700\"}\n{\"start\":\"file\",\"path\":\"/d/s/z\",\"owner\":\"ann\",\"group\":\"ann\",\"mode\":\"644\",\"bytes\":\"\"}\n{\"start\":\"file\",\"path\":\"/f\",\"owner\":\"ann\",\"group\":\"staff\",\"mode\":\"664\",\"bytes\":\"68656c6c6f\"}\n{\"start\":\"file\",\"path\":\"/n\",\"owner\":\"none\",\"group\":\"none\",\"mode\":\"600\",\"bytes\":\"\"}\n{\"start\":\"dir\",\"path\":\"/p\",\"owner\":\"ann\",\"group\":\"staff\",\"mode\":\"750\"}\n";
+pub const TRACE: &str = r#"{"trace":1,"owner":"cat","group":"staff","mode":"775"}
+{"start":"dir","path":"/d","owner":"ann","group":"staff","mode":"755"}
+{"start":"dir","path":"/d/s","owner":"ann","group":"ann","mode":"700"}
+{"start":"file","path":"/d/s/z","owner":"ann","group":"ann","mode":"644","bytes":""}
+{"start":"file","path":"/f","owner":"ann","group":"staff","mode":"664","bytes":"68656c6c6f"}
+{"start":"file","path":"/n","owner":"none","group":"none","mode":"600","bytes":""}
+{"start":"dir","path":"/p","owner":"ann","group":"staff","mode":"750"}
+"#;
 
 /// The line that begins each trace here.
-pub const HEADER: &str = "{\"trace\":1,\"owner\":\"cat\",\"group\":\"staff\",\"mode\":\"775\"}\n";
+pub const HEADER: &str = r#"{"trace":1,"owner":"cat","group":"staff","mode":"775"}
+"#;
 
-/// A session of 8,192 bytes begins.
-pub const VERSIONED: &str = "Rversion tag 1 msize 8192 version \"9P2000\"";
-
-/// An attach is granted.
-pub const ATTACHED: &str = "Rattach tag 1 qid (80 0 0)";
+fn scene_of(alloc: Global, trace: &str) -> Option<Scene> {
+    let trace = read_trace(alloc, trace).ok()?;
+    Scene::of(alloc, trace, false, Vec::new(alloc)).ok()
+}
 
 /// A world of the states of a trace's prefixes, with no session.
-pub fn world_over(alloc: Global, trace: &str) -> Result<World, Fail> {
-    let trace = read_trace(alloc, trace)?;
-    let scene = Scene::of(alloc, trace, false, Vec::new(alloc))?;
-    let users = Users::read(alloc, USERS.as_bytes())?;
-    Ok(world_of(alloc, scene, users)?)
+pub fn world_over(alloc: Global, trace: &str) -> Option<World> {
+    let scene = scene_of(alloc, trace)?;
+    let users = Users::read(alloc, USERS).ok()?;
+    world_of(alloc, scene, users).ok()
 }
 
-/// Does what a line asks: a connection's number, and words of a message, or `hangup`. The reply as
-/// text; a hang-up has none.
-pub fn ask(rt: &(impl Abort + AllocGlobal), world: &mut World, line: &str) -> Result<String, Fail> {
-    let words: Vec<&str> = line.split_whitespace().collect(rt.alloc())?;
-    let [conn, words @ ..] = words.as_slice() else {
-        return Ok(String::new(rt.alloc()));
-    };
-    let conn = conn.parse::<u32>()?;
-    assert!(rt; conn < 64);
-    if words.first() == Some(&"hangup") {
-        let _closed = world.hang_up(rt.alloc(), conn, 7);
-        return Ok(String::new(rt.alloc()));
+fn push_closed(alloc: Global, world: &mut World, text: &mut String, conn: u32) -> Option<()> {
+    if conn >= 64 {
+        return None;
     }
-    let bytes = spelled(rt.alloc(), words)?;
-    assert!(rt; bytes.len() >= 7);
-    let reply = world.message(rt.alloc(), conn, 7, &bytes);
-    shown(rt.alloc(), words, &reply)
+    let closed = world.hang_up(alloc, conn, 7);
+    write!(text, "{closed:?}").ok()
 }
 
-/// Asks line by line in a world, and looks for the replies.
-pub fn expect_in(
-    rt: &(impl Abort + AllocGlobal),
+fn push_answered(
+    alloc: Global,
     world: &mut World,
-    exchange: &[(&str, &str)],
-) -> Result<(), Fail> {
-    for (line, wanted) in exchange {
-        let reply = ask(rt, world, line)?;
-        assert_eq!(rt; reply.as_str(), *wanted, "{line}");
+    text: &mut String,
+    conn: u32,
+    asked: &str,
+) -> Option<()> {
+    let message = message_of(alloc, asked)?;
+    if conn >= 64 || message.len() < 7 {
+        return None;
     }
-    Ok(())
+    let reply = world.message(alloc, conn, 7, &message);
+    push_reply(text, asked, &reply)
+}
+
+/// Does what a line asks, which is a connection's number, and a message in words or `hangup`; adds
+/// the reply.
+pub fn push_answer(alloc: Global, world: &mut World, text: &mut String, line: &str) -> Option<()> {
+    let (conn, asked) = line.split_once(' ')?;
+    let conn = conn.parse::<u32>().ok()?;
+    if asked == "hangup" {
+        return push_closed(alloc, world, text, conn);
+    }
+    push_answered(alloc, world, text, conn, asked)
+}
+
+/// Adds a line of a dialogue with the reply that its message had.
+fn push_line(alloc: Global, world: &mut World, text: &mut String, line: &str) -> Option<()> {
+    let (asked, _) = line.split_once(" => ")?;
+    text.push_str(asked).ok()?;
+    text.push_str(" => ").ok()?;
+    push_answer(alloc, world, text, asked)
+}
+
+/// Adds a dialogue with the replies that its messages had. It may have empty lines.
+fn push_dialogue(
+    alloc: Global,
+    world: &mut World,
+    text: &mut String,
+    dialogue: &str,
+) -> Option<()> {
+    for line in dialogue.lines() {
+        if !line.is_empty() {
+            push_line(alloc, world, text, line)?;
+        }
+        text.push_str("\n").ok()?;
+    }
+    Some(())
+}
+
+/// Has a dialogue with a world, and looks for its replies. Each line has what is asked, an arrow,
+/// and the reply.
+pub fn expect_in(rt: &(impl Abort + AllocGlobal), world: &mut World, dialogue: &str) {
+    let mut told = String::new(rt.alloc());
+    push_dialogue(rt.alloc(), world, &mut told, dialogue).expect(rt, "a dialogue");
+    assert_eq!(rt; told.as_str(), dialogue);
+}
+
+/// Has a dialogue with a world over a trace, with no session.
+pub fn expect_over(rt: &(impl Abort + AllocGlobal), trace: &str, dialogue: &str) {
+    let mut world = world_over(rt.alloc(), trace).expect(rt, "a world");
+    expect_in(rt, &mut world, dialogue);
 }
 
 /// Begins a session on a connection and attaches a user as the fid 0.
-pub fn join(
-    rt: &(impl Abort + AllocGlobal),
-    world: &mut World,
-    conn: u32,
-    user: &str,
-) -> Result<(), Fail> {
-    let version = format!(in rt.alloc(); "{conn} version 8192 9P2000")?;
-    let attach = format!(in rt.alloc(); "{conn} attach 0 {user} 0/x")?;
-    assert_eq!(rt; ask(rt, world, version.as_str())?.as_str(), VERSIONED);
-    assert_eq!(rt; ask(rt, world, attach.as_str())?.as_str(), ATTACHED);
-    Ok(())
+pub fn join(rt: &(impl Abort + AllocGlobal), world: &mut World, conn: u32, user: &str) {
+    let begun = format!(in rt.alloc();
+        "{conn} version 8192 9P2000 => Rversion tag 1 msize 8192 version \"9P2000\"\n{conn} attach 0 {user} 0/x => Rattach tag 1 qid (80 0 0)\n"
+    );
+    expect_in(rt, world, begun.expect(rt, "memory").as_str());
 }
 
-/// Asks line by line in a world over the start tree, and looks for the replies. Its connections are
-/// those of these users, each attached as the fid 0.
-pub fn expect(
-    rt: &(impl Abort + AllocGlobal),
-    users: &[&str],
-    exchange: &[(&str, &str)],
-) -> Result<(), Fail> {
-    let mut world = world_over(rt.alloc(), TRACE)?;
+/// Has a dialogue with a world over the start tree. Its connections are those of these users, each
+/// attached as the fid 0.
+pub fn expect(rt: &(impl Abort + AllocGlobal), users: &[&str], dialogue: &str) {
+    let mut world = world_over(rt.alloc(), TRACE).expect(rt, "a world");
     let mut conn = 0u32;
     for user in users {
-        join(rt, &mut world, conn, user)?;
+        join(rt, &mut world, conn, user);
         conn = conn.saturating_add(1);
     }
-    expect_in(rt, &mut world, exchange)
-}
-
-/// What the commands print on a script, and their status.
-pub fn run(
-    alloc: Global,
-    users: &[u8],
-    trace: &[u8],
-    script: &[u8],
-) -> Result<(String, String, u8), Fail> {
-    let inputs = Inputs {
-        users,
-        trace,
-        picks: &[],
-        holes: false,
-        verbose: false,
-    };
-    let mut input = script;
-    let mut out: Vec<u8> = Vec::new(alloc);
-    let mut err: Vec<u8> = Vec::new(alloc);
-    let status = script_of(alloc, &inputs, &mut input, &mut out, &mut err);
-    Ok((String::from_utf8(out)?, String::from_utf8(err)?, status))
-}
-
-/// A writer that takes some bytes, and whose writes fail from then on; its flushes too, where it doesn't
-/// flush.
-#[derive(Drop)]
-pub struct BrokenOutput {
-    pub left: usize,
-    pub flushes: bool,
-}
-
-impl Write for BrokenOutput {
-    fn write(&mut self, buf: &[u8]) -> io::Result<usize> {
-        let taken = buf.len().min(self.left);
-        if taken == 0 && !buf.is_empty() {
-            return Err(io::Error::from(ErrorKind::BrokenPipe));
-        }
-        self.left -= taken;
-        Ok(taken)
-    }
-
-    fn flush(&mut self) -> io::Result<()> {
-        if self.flushes {
-            return Ok(());
-        }
-        Err(io::Error::from(ErrorKind::BrokenPipe))
-    }
+    expect_in(rt, &mut world, dialogue);
 }

@@ -1,9 +1,11 @@
 //! What `list` prints of traces.
-use crate::tests::fixture::{BrokenOutput, HEADER};
+use crate::tests::commands::{
+    BrokenOutput, expect_fault, expect_printed, inputs_of, listed, trace_of,
+};
+use crate::tests::fixture::HEADER;
 use cs_serve::{Inputs, list_of};
 use std::alloc::{AllocError, Global};
 use std::process::Abort;
-use std::test::Fail;
 
 /// A file is written under another name, waited for, and renamed.
 const RENAMED: &str = r#"{"op":"fsync","path":"/t"}
@@ -31,124 +33,26 @@ state 10 hole 1 4 says 0
 state 11 hole 2 4 says 0
 ";
 
-/// A file that is moved twice, and then a text.
+/// What it prints behind that with the picks `[3]` and `[]`.
+const PICKS_LIST: &str = "\
+state 12 pick 3 says 0
+state 13 pick - says 0
+";
+
+/// A file that is moved twice.
 const MOVED_TWICE: &str = r#"{"op":"creat","path":"/t","owner":"ann","group":"staff","mode":"644"}
 {"op":"rename","from":"/t","to":"/a"}
 {"op":"rename","from":"/a","to":"/b"}
 "#;
 
+const SYNC: &str = r#"{"op":"sync"}
+"#;
+
 const SAY: &str = r#"{"op":"say","text":"done"}
 "#;
 
-fn push_creat(trace: &mut String, name: &str) -> Result<(), AllocError> {
-    trace.push_str("{\"op\":\"creat\",\"path\":\"/")?;
-    trace.push_str(name)?;
-    trace.push_str("\",\"owner\":\"ann\",\"group\":\"staff\",\"mode\":\"644\"}\n")
-}
-
-/// A header and these operations.
-fn trace_of(alloc: Global, operations: &[&str]) -> Result<String, AllocError> {
-    let mut trace = String::from_str(alloc, HEADER)?;
-    for operation in operations {
-        trace.push_str(operation)?;
-    }
-    Ok(trace)
-}
-
-/// A file of 5,000 bytes 0x61 that is made, waited for and renamed.
-fn renamed(alloc: Global) -> Result<String, AllocError> {
-    let mut trace = String::from_str(alloc, HEADER)?;
-    push_creat(&mut trace, "t")?;
-    trace.push_str("{\"op\":\"write\",\"path\":\"/t\",\"offset\":0,\"bytes\":\"")?;
-    for _ in 0..5000 {
-        trace.push_str("61")?;
-    }
-    trace.push_str("\"}\n")?;
-    trace.push_str(RENAMED)?;
-    Ok(trace)
-}
-
-/// A header and so many files that are made.
-fn creats(alloc: Global, count: u32) -> Result<String, Fail> {
-    let mut trace = String::from_str(alloc, HEADER)?;
-    for number in 0..count {
-        push_creat(&mut trace, format!(in alloc; "{number}")?.as_str())?;
-    }
-    Ok(trace)
-}
-
-/// A header and so many texts.
-fn says(alloc: Global, count: u32) -> Result<String, AllocError> {
-    let mut trace = String::from_str(alloc, HEADER)?;
-    for _ in 0..count {
-        trace.push_str(SAY)?;
-    }
-    Ok(trace)
-}
-
-/// What `list` prints on a trace with holes and picks, and its status.
-fn list(
-    alloc: Global,
-    trace: &str,
-    holes: bool,
-    picks: &str,
-) -> Result<(String, String, u8), Fail> {
-    let inputs = Inputs {
-        users: &[],
-        trace: trace.as_bytes(),
-        picks: picks.as_bytes(),
-        holes,
-        verbose: false,
-    };
-    let mut out: Vec<u8> = Vec::new(alloc);
-    let mut err: Vec<u8> = Vec::new(alloc);
-    let status = list_of(alloc, &inputs, &mut out, &mut err);
-    Ok((String::from_utf8(out)?, String::from_utf8(err)?, status))
-}
-
-/// Looks for what is printed, and for the status 0.
-fn expect(
-    rt: &(impl Abort + AllocGlobal),
-    trace: &str,
-    holes: bool,
-    picks: &str,
-    wanted: &str,
-) -> Result<(), Fail> {
-    let (out, err, status) = list(rt.alloc(), trace, holes, picks)?;
-    assert_eq!(rt; out.as_str(), wanted);
-    assert_eq!(rt; err.as_str(), "");
-    assert_eq!(rt; status, 0);
-    Ok(())
-}
-
-/// Looks for a fault, and for the status 1.
-fn expect_fault(
-    rt: &(impl Abort + AllocGlobal),
-    trace: &str,
-    holes: bool,
-    picks: &str,
-    wanted: &str,
-) -> Result<(), Fail> {
-    let (out, err, status) = list(rt.alloc(), trace, holes, picks)?;
-    assert_eq!(rt; err.as_str(), wanted);
-    assert_eq!(rt; out.as_str(), "");
-    assert_eq!(rt; status, 1);
-    Ok(())
-}
-
-#[test]
-fn lists_the_states_of_a_file_that_is_renamed(rt: HostRuntime) -> Result<(), Fail> {
-    expect(&rt, HEADER, false, "", "state 0 prefix 0 says 0\n")?;
-    let trace = renamed(rt.alloc())?;
-    expect(&rt, trace.as_str(), true, "", RENAMED_LIST)?;
-    let mut with_pick = String::from_str(rt.alloc(), RENAMED_LIST)?;
-    with_pick.push_str("state 12 pick 3 says 0\nstate 13 pick - says 0\n")?;
-    expect(&rt, trace.as_str(), true, "[3]\n\n[]", with_pick.as_str())
-}
-
-#[test]
-fn lists_a_hole_only_where_its_last_place_stays(rt: HostRuntime) -> Result<(), Fail> {
-    let ops = "\
+/// What `list` prints of a file that is moved twice, and then a text.
+const MOVED_LIST: &str = "\
 op 0 create_dir_entry /t file
 op 1 move_dir_entry /t /a
 op 2 move_dir_entry /a /b
@@ -159,65 +63,136 @@ state 2 prefix 2 says 0
 state 3 prefix 3 says 0
 state 4 prefix 4 says 1
 ";
-    let mut wanted = String::from_str(rt.alloc(), ops)?;
-    wanted.push_str("state 5 hole 0 4 says 1\nstate 6 hole 1 4 says 1\nstate 7 hole 2 4 says 1\n")?;
-    let trace = trace_of(rt.alloc(), &[MOVED_TWICE, SAY])?;
-    expect(&rt, trace.as_str(), true, "", wanted.as_str())?;
-    let synced = trace_of(rt.alloc(), &[MOVED_TWICE, "{\"op\":\"sync\"}\n", SAY])?;
-    expect(&rt, synced.as_str(), true, "", ops)
-}
 
-#[test]
-fn tells_each_fault_of_a_plan(rt: HostRuntime) -> Result<(), Fail> {
-    let trace = renamed(rt.alloc())?;
-    for (picks, wanted) in [
-        ("[4]", "crashfs: pick 0 not allowed\n"),
-        ("[3]\n[3,3]", "crashfs: pick 1 not allowed\n"),
-        ("[0]\n[1,]", "crashfs: picks line 2: Syntax\n"),
-        ("\n \n", "crashfs: picks line 2: Syntax\n"),
-    ] {
-        expect_fault(&rt, trace.as_str(), true, picks, wanted)?;
+/// What it prints behind that with holes.
+const HOLES_LIST: &str = "\
+state 5 hole 0 4 says 1
+state 6 hole 1 4 says 1
+state 7 hole 2 4 says 1
+";
+
+/// A trace, with holes, and these picks.
+fn with_holes<'a>(trace: &'a str, picks: &'a str) -> Inputs<'a> {
+    Inputs {
+        picks: picks.as_bytes(),
+        holes: true,
+        ..inputs_of(&[], trace.as_bytes())
     }
-    let many = says(rt.alloc(), 1025)?;
-    expect_fault(
-        &rt,
-        many.as_str(),
-        false,
-        "",
-        "crashfs: too many micro-operations\n",
-    )?;
-    expect_fault(&rt, "", false, "x", "crashfs: trace line 1: Syntax\n")
 }
 
-#[test]
-fn lists_up_to_16_384_states(rt: HostRuntime) -> Result<(), Fail> {
-    let most = creats(rt.alloc(), 180)?;
-    let (out, err, status) = list(rt.alloc(), most.as_str(), true, "")?;
-    assert!(rt;
-        out.as_str()
-            .ends_with("\nstate 16290 hole 178 180 says 0\n")
-    );
-    assert_eq!(rt; err.as_str(), "");
-    assert_eq!(rt; status, 0);
-    let more = creats(rt.alloc(), 181)?;
-    expect_fault(&rt, more.as_str(), true, "", "crashfs: plan too large\n")
+/// Looks for what is printed of a trace with holes.
+fn expect_listed(rt: &(impl Abort + AllocGlobal), trace: &str, picks: &str, wanted: [&str; 2]) {
+    let [front, back] = wanted;
+    let wanted = format!(in rt.alloc(); "{front}{back}").expect(rt, "memory");
+    let printed = listed(rt.alloc(), &with_holes(trace, picks));
+    expect_printed(rt, printed, wanted.as_str(), "");
 }
 
-#[test]
-fn tells_an_output_that_fails(rt: HostRuntime) -> Result<(), Fail> {
-    let inputs = Inputs {
-        users: &[],
-        trace: HEADER.as_bytes(),
-        picks: &[],
-        holes: false,
-        verbose: false,
-    };
-    for (left, flushes) in [(0, true), (10, true), (1_000, false)] {
-        let mut out = BrokenOutput { left, flushes };
-        let mut err: Vec<u8> = Vec::new(rt.alloc());
-        let status = list_of(rt.alloc(), &inputs, &mut out, &mut err);
-        assert_eq!(rt; err.as_slice(), b"crashfs: output failed\n".as_slice());
-        assert_eq!(rt; status, 1);
+fn push_creat(trace: &mut String, number: u32) -> Result<(), AllocError> {
+    write!(trace, "{{\"op\":\"creat\",\"path\":\"/{number}\"")?;
+    trace.push_str(",\"owner\":\"ann\",\"group\":\"staff\",\"mode\":\"644\"}\n")
+}
+
+/// A header and so many files that are made.
+fn creats(alloc: Global, count: u32) -> Result<String, AllocError> {
+    let mut trace = String::from_str(alloc, HEADER)?;
+    for number in 0..count {
+        push_creat(&mut trace, number)?;
+    }
+    Ok(trace)
+}
+
+fn push_times(text: &mut String, part: &str, count: u32) -> Result<(), AllocError> {
+    for _ in 0..count {
+        text.push_str(part)?;
     }
     Ok(())
+}
+
+/// A file of 5,000 bytes 0x61 that is made, waited for and renamed.
+fn push_renamed(trace: &mut String) -> Result<(), AllocError> {
+    trace.push_str(HEADER)?;
+    trace.push_str(r#"{"op":"creat","path":"/t","owner":"ann","group":"staff","mode":"644"}"#)?;
+    trace.push_str("\n")?;
+    trace.push_str(r#"{"op":"write","path":"/t","offset":0,"bytes":""#)?;
+    push_times(trace, "61", 5000)?;
+    trace.push_str("\"}\n")?;
+    trace.push_str(RENAMED)
+}
+
+fn renamed(rt: &(impl Abort + AllocGlobal)) -> String {
+    let mut trace = String::new(rt.alloc());
+    push_renamed(&mut trace).expect(rt, "memory");
+    trace
+}
+
+#[test]
+fn lists_the_states_of_a_file_that_is_renamed(rt: HostRuntime) {
+    let one = listed(rt.alloc(), &inputs_of(&[], HEADER.as_bytes()));
+    expect_printed(&rt, one, "state 0 prefix 0 says 0\n", "");
+    let trace = renamed(&rt);
+    expect_listed(&rt, trace.as_str(), "", [RENAMED_LIST, ""]);
+    expect_listed(&rt, trace.as_str(), "[3]\n\n[]", [RENAMED_LIST, PICKS_LIST]);
+}
+
+#[test]
+fn lists_a_hole_only_where_its_last_place_stays(rt: HostRuntime) {
+    let trace = trace_of(rt.alloc(), MOVED_TWICE, SAY).expect(&rt, "memory");
+    expect_listed(&rt, trace.as_str(), "", [MOVED_LIST, HOLES_LIST]);
+    let synced = format!(in rt.alloc(); "{HEADER}{MOVED_TWICE}{SYNC}{SAY}").expect(&rt, "memory");
+    expect_listed(&rt, synced.as_str(), "", [MOVED_LIST, ""]);
+}
+
+/// Looks for a fault of a trace with holes.
+fn expect_refused(rt: &(impl Abort + AllocGlobal), trace: &str, picks: &str, fault: &str) {
+    expect_fault(rt, listed(rt.alloc(), &with_holes(trace, picks)), fault);
+}
+
+#[test]
+fn tells_each_fault_of_a_plan(rt: HostRuntime) {
+    let trace = renamed(&rt);
+    expect_refused(&rt, trace.as_str(), "[4]", "pick 0 not allowed");
+    expect_refused(&rt, trace.as_str(), "[3]\n[3,3]", "pick 1 not allowed");
+    expect_refused(&rt, trace.as_str(), "[0]\n[1,]", "picks line 2: Syntax");
+    expect_refused(&rt, trace.as_str(), "\n \n", "picks line 2: Syntax");
+    expect_refused(&rt, "", "x", "trace line 1: Syntax");
+    let mut many = String::from_str(rt.alloc(), HEADER).expect(&rt, "memory");
+    push_times(&mut many, SAY, 1025).expect(&rt, "memory");
+    let refused = listed(rt.alloc(), &inputs_of(&[], many.as_bytes()));
+    expect_fault(&rt, refused, "too many micro-operations");
+}
+
+#[test]
+fn lists_up_to_16_384_states(rt: HostRuntime) {
+    let most = creats(rt.alloc(), 180).expect(&rt, "memory");
+    let printed = listed(rt.alloc(), &with_holes(most.as_str(), "")).expect(&rt, "text");
+    assert!(rt;
+        printed
+            .as_str()
+            .starts_with("status 0\nop 0 create_dir_entry /0 file\n")
+    );
+    assert!(rt;
+        printed
+            .as_str()
+            .ends_with("\nstate 16290 hole 178 180 says 0\n--\n")
+    );
+    let more = creats(rt.alloc(), 181).expect(&rt, "memory");
+    expect_refused(&rt, more.as_str(), "", "plan too large");
+}
+
+/// Looks for the fault of an output that takes so many bytes.
+fn expect_broken(rt: &(impl Abort + AllocGlobal), left: usize, flushes: bool) {
+    let mut out = BrokenOutput { left, flushes };
+    let mut err: Vec<u8> = Vec::new(rt.alloc());
+    let inputs = inputs_of(&[], HEADER.as_bytes());
+    let status = list_of(rt.alloc(), &inputs, &mut out, &mut err);
+    assert_eq!(rt; status, 1);
+    assert!(rt; err.as_slice() == b"crashfs: output failed\n".as_slice());
+}
+
+#[test]
+fn tells_an_output_that_fails(rt: HostRuntime) {
+    expect_broken(&rt, 0, true);
+    expect_broken(&rt, 10, true);
+    expect_broken(&rt, 1_000, false);
 }

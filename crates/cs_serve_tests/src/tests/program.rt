@@ -1,47 +1,68 @@
 //! The command `script`: what it prints, and each of its faults.
-use crate::tests::fixture::{BrokenOutput, HEADER, TRACE, USERS, run};
+use crate::tests::commands::{
+    BrokenInput, BrokenOutput, Faulty, expect_fault, expect_printed, inputs_of, scripted, trace_of,
+};
+use crate::tests::fixture::{HEADER, TRACE, USERS};
 use cs_serve::{Inputs, script_of};
-use std::io::{self, ErrorKind, Read};
 use std::process::Abort;
-use std::test::Fail;
+
+const SCRIPT: &str = "\
+0 00 1300000064FFFF002000000600395032303030
+0 4294967295 hangup
+0 1 0b0000007c010001000000";
+
+const REPLIES: &str = "\
+0 1300000065ffff002000000600395032303030
+0 closed
+0 160000006b01000d005331206e6f2073657373696f6e
+";
 
 #[test]
-fn runs_a_script(rt: HostRuntime) -> Result<(), Fail> {
-    let (users, trace) = (USERS.as_bytes(), TRACE.as_bytes());
-    let script =
-        b"0 00 1300000064FFFF002000000600395032303030\n0 4294967295 hangup\n0 1 0b0000007c010001000000";
-    let (out, err, status) = run(rt.alloc(), users, trace, script)?;
-    assert_eq!(rt; err.as_str(), "");
-    assert_eq!(rt;
-        out.as_str(),
-        "0 1300000065ffff002000000600395032303030\n0 closed\n0 160000006b01000d005331206e6f2073657373696f6e\n"
-    );
-    assert_eq!(rt; status, 0);
-    let (out, err, status) = run(rt.alloc(), users, trace, b"")?;
-    assert!(rt; out.is_empty() && err.is_empty() && status == 0);
-    Ok(())
+fn runs_a_script(rt: HostRuntime) {
+    let inputs = inputs_of(USERS, TRACE.as_bytes());
+    let printed = scripted(rt.alloc(), &inputs, &mut SCRIPT.as_bytes());
+    expect_printed(&rt, printed, REPLIES, "");
+    let printed = scripted(rt.alloc(), &inputs, &mut "".as_bytes());
+    expect_printed(&rt, printed, "", "");
 }
 
+const SPOKEN: &str = "\
+0 0 1300000064ffff002000000600395032303030
+0 0 hangup
+0 0 07000000ff0100
+";
+
+const SPOKEN_REPLIES: &str = "\
+0 1300000065ffff002000000600395032303030
+0 closed
+0 160000006b01000d005331206e6f2073657373696f6e
+";
+
+const SPOKEN_TEXT: &str = r#"0 <- Tversion tag 65535 msize 8192 version "9P2000"
+0 -> Rversion tag 65535 msize 8192 version "9P2000"
+0 <- no message: unknown message type
+0 -> Rerror tag 1 ename "S1 no session"
+"#;
+
 #[test]
-fn tells_each_message_as_text(rt: HostRuntime) -> Result<(), Fail> {
+fn tells_each_message_as_text(rt: HostRuntime) {
     let inputs = Inputs {
-        users: USERS.as_bytes(),
-        trace: TRACE.as_bytes(),
-        picks: &[],
-        holes: false,
         verbose: true,
+        ..inputs_of(USERS, TRACE.as_bytes())
     };
-    let mut input =
-        "0 0 1300000064ffff002000000600395032303030\n0 0 hangup\n0 0 07000000ff0100\n".as_bytes();
-    let mut out: Vec<u8> = Vec::new(rt.alloc());
-    let mut err: Vec<u8> = Vec::new(rt.alloc());
-    let status = script_of(rt.alloc(), &inputs, &mut input, &mut out, &mut err);
-    assert_eq!(rt; status, 0);
-    assert_eq!(rt;
-        String::from_utf8(err)?.as_str(),
-        "0 <- Tversion tag 65535 msize 8192 version \"9P2000\"\n0 -> Rversion tag 65535 msize 8192 version \"9P2000\"\n0 <- no message: unknown message type\n0 -> Rerror tag 1 ename \"S1 no session\"\n"
+    let printed = scripted(rt.alloc(), &inputs, &mut SPOKEN.as_bytes());
+    expect_printed(&rt, printed, SPOKEN_REPLIES, SPOKEN_TEXT);
+}
+
+/// Looks for the fault of a trace, with an empty script.
+fn expect_trace_fault(rt: &(impl Abort + AllocGlobal), users: &[u8], front: &str, faulty: &Faulty) {
+    let trace = trace_of(rt.alloc(), front, faulty.0).expect(rt, "memory");
+    let inputs = inputs_of(users, trace.as_bytes());
+    expect_fault(
+        rt,
+        scripted(rt.alloc(), &inputs, &mut "".as_bytes()),
+        faulty.1,
     );
-    Ok(())
 }
 
 /// A file, and operations that make a directory with a file.
@@ -51,219 +72,184 @@ const MADE: &str =
 {"op":"creat","path":"/e/x","owner":"ann","group":"ann","mode":"644"}
 "#;
 
+/// Operations after these.
+const OPERATION_FAULTS: [Faulty; 8] = [
+    Faulty(r#"{"op":"link"}"#, "trace line 5: UnknownOp"),
+    Faulty(r#"{"op":"sync","path":"/f"}"#, "trace line 5: Syntax"),
+    Faulty(r#"{"op":"unlink","path":"f"}"#, "trace line 5: BadName"),
+    Faulty(r#"{"op":"rmdir","path":"/q"}"#, "trace line 5: Missing"),
+    Faulty(r#"{"op":"rmdir","path":"/f"}"#, "trace line 5: NotDir"),
+    Faulty(r#"{"op":"rmdir","path":"/e"}"#, "trace line 5: NotEmpty"),
+    Faulty(r#"{"op":"unlink","path":"/e"}"#, "trace line 5: NotFile"),
+    Faulty(
+        r#"{"op":"truncate","path":"/f","length":16777217}"#,
+        "trace line 5: TooLarge",
+    ),
+];
+
 #[test]
-fn tells_each_fault_of_an_operation(rt: HostRuntime) -> Result<(), Fail> {
-    for (operation, wanted) in [
-        (r#"{"op":"link"}"#, "UnknownOp"),
-        (r#"{"op":"sync","path":"/f"}"#, "Syntax"),
-        (r#"{"op":"unlink","path":"f"}"#, "BadName"),
-        (r#"{"op":"rmdir","path":"/q"}"#, "Missing"),
-        (r#"{"op":"rmdir","path":"/f"}"#, "NotDir"),
-        (r#"{"op":"rmdir","path":"/e"}"#, "NotEmpty"),
-        (r#"{"op":"unlink","path":"/e"}"#, "NotFile"),
-        (
-            r#"{"op":"truncate","path":"/f","length":16777217}"#,
-            "TooLarge",
-        ),
-    ] {
-        let mut trace = String::from_str(rt.alloc(), HEADER)?;
-        trace.push_str(MADE)?;
-        trace.push_str(operation)?;
-        let wanted = format!(in rt.alloc(); "crashfs: trace line 5: {wanted}\n")?;
-        expect_fault(
-            &rt,
-            USERS.as_bytes(),
-            trace.as_bytes(),
-            b"",
-            wanted.as_str(),
-        )?;
+fn tells_each_fault_of_an_operation(rt: HostRuntime) {
+    for faulty in &OPERATION_FAULTS {
+        expect_trace_fault(&rt, USERS, MADE, faulty);
     }
-    Ok(())
 }
 
-/// Runs an empty script on files one of which is at fault, and looks for the text and the status.
-fn expect_fault(
+const USERS_FAULTS: [Faulty; 5] = [
+    Faulty("1:ann::\n1:ann::\n", "users line 2: Twice"),
+    Faulty("1:ann:", "users line 1: FieldCount"),
+    Faulty("1:::", "users line 1: EmptyName"),
+    Faulty(
+        "\n#\n1:xxxxxxxxxxxxxxxxxxxxxxxxxxxxxxxxxxxxxxxxxxxxxxxxxxxxxxxxxxxxxxxxx::",
+        "users line 3: LongName",
+    ),
+    Faulty("a\0", "users: NotText"),
+];
+
+/// Looks for the fault of a users file, with an empty script.
+fn expect_users_fault(rt: &(impl Abort + AllocGlobal), users: &[u8], fault: &str) {
+    let inputs = inputs_of(users, HEADER.as_bytes());
+    expect_fault(rt, scripted(rt.alloc(), &inputs, &mut "".as_bytes()), fault);
+}
+
+#[test]
+fn tells_each_fault_of_the_users(rt: HostRuntime) {
+    for faulty in &USERS_FAULTS {
+        expect_users_fault(&rt, faulty.0.as_bytes(), faulty.1);
+    }
+    expect_users_fault(&rt, b"\xff", "users: NotText");
+}
+
+/// Start lines from line 3 on.
+const START_FAULTS: [Faulty; 5] = [
+    Faulty(
+        r#"{"start":"dir","path":"q","owner":"ann","group":"ann","mode":"755"}"#,
+        "trace line 3: BadName",
+    ),
+    Faulty(
+        r#"{"start":"link","path":"/q","owner":"ann","group":"ann","mode":"755"}"#,
+        "trace line 3: UnknownOp",
+    ),
+    Faulty(
+        r#"{"start":"dir","path":"/q/r","owner":"ann","group":"ann","mode":"755"}"#,
+        "trace line 3: NoParent",
+    ),
+    Faulty(
+        r#"{"start":"dir","path":"/q","owner":"ann","group":"ann","mode":"755"}
+{"start":"dir","path":"/q","owner":"ann","group":"ann","mode":"755"}
+"#,
+        "trace line 4: Exists",
+    ),
+    Faulty(
+        r#"{"start":"file","path":"/q","owner":"ann","group":"ann","mode":"755","bytes":""}
+{"start":"dir","path":"/q/r","owner":"ann","group":"ann","mode":"755"}
+"#,
+        "trace line 4: NotDir",
+    ),
+];
+
+#[test]
+fn tells_each_fault_of_the_trace(rt: HostRuntime) {
+    for faulty in &START_FAULTS {
+        expect_trace_fault(&rt, b"1:ann:", " \t\r\n", faulty);
+    }
+    let none = scripted(rt.alloc(), &inputs_of(b"1:ann:", b""), &mut "".as_bytes());
+    expect_fault(&rt, none, "trace line 1: Syntax");
+    let bytes = scripted(
+        rt.alloc(),
+        &inputs_of(b"1:ann:", b"\xff"),
+        &mut "".as_bytes(),
+    );
+    expect_fault(&rt, bytes, "trace: NotText");
+}
+
+const SCRIPT_FAULTS: [Faulty; 7] = [
+    Faulty("\n", "script line 1: Syntax"),
+    Faulty("63 0 hangup\n64 0 hangup\n", "script line 2: Syntax"),
+    Faulty("0 0  hangup", "script line 1: Syntax"),
+    Faulty("0 +1 hangup", "script line 1: Syntax"),
+    Faulty("0 4294967296 hangup", "script line 1: Syntax"),
+    Faulty("0 0 0600000064ff", "script line 1: Syntax"),
+    Faulty("0 0 0700000064ffff0", "script line 1: Syntax"),
+];
+
+fn expect_script_fault(rt: &(impl Abort + AllocGlobal), script: &str, fault: &str) {
+    let inputs = inputs_of(USERS, HEADER.as_bytes());
+    expect_fault(
+        rt,
+        scripted(rt.alloc(), &inputs, &mut script.as_bytes()),
+        fault,
+    );
+}
+
+/// Looks for the fault of a script that has a text so many times, after another.
+fn expect_long_fault(
     rt: &(impl Abort + AllocGlobal),
-    users: &[u8],
-    trace: &[u8],
-    script: &[u8],
-    wanted: &str,
-) -> Result<(), Fail> {
-    let (out, err, status) = run(rt.alloc(), users, trace, script)?;
-    assert_eq!(rt; err.as_str(), wanted);
-    assert_eq!(rt; out.as_str(), "");
-    assert_eq!(rt; status, 1);
-    Ok(())
+    front: &str,
+    part: &str,
+    count: u32,
+    fault: &str,
+) {
+    let mut script = String::from_str(rt.alloc(), front).expect(rt, "memory");
+    for _ in 0..count {
+        script.push_str(part).expect(rt, "memory");
+    }
+    expect_script_fault(rt, script.as_str(), fault);
 }
 
 #[test]
-fn tells_each_fault_of_the_users(rt: HostRuntime) -> Result<(), Fail> {
-    let header = HEADER.as_bytes();
-    let long = vec![in rt.alloc(); b'x'; 65]?;
-    let mut name = String::from_str(rt.alloc(), "\n#\n1:")?;
-    name.push_str(std::str::from_utf8(&long)?)?;
-    name.push_str("::")?;
-    for (users, wanted) in [
-        ("1:ann::\n1:ann::\n", "crashfs: users line 2: Twice\n"),
-        ("1:ann:", "crashfs: users line 1: FieldCount\n"),
-        ("1:::", "crashfs: users line 1: EmptyName\n"),
-        (name.as_str(), "crashfs: users line 3: LongName\n"),
-        ("a\0", "crashfs: users: NotText\n"),
-    ] {
-        expect_fault(&rt, users.as_bytes(), header, b"", wanted)?;
+fn tells_each_fault_of_the_script(rt: HostRuntime) {
+    for faulty in &SCRIPT_FAULTS {
+        expect_script_fault(&rt, faulty.0, faulty.1);
     }
-    expect_fault(&rt, b"\xff", header, b"", "crashfs: users: NotText\n")
+    expect_long_fault(&rt, "", "0 0 hangup\n", 65_537, "script line 65537: Syntax");
+    expect_long_fault(&rt, "0 0 ", "0", 131_074, "script line 1: Syntax");
 }
 
-/// A header, and start lines of these kinds and paths, from line 3 on.
-fn trace_of(rt: &impl AllocGlobal, starts: &[(&str, &str)]) -> Result<String, Fail> {
-    let mut trace = String::from_str(rt.alloc(), HEADER)?;
-    trace.push_str(" \t\r\n")?;
-    for (kind, path) in starts {
-        trace.push_str("{\"start\":\"")?;
-        trace.push_str(kind)?;
-        trace.push_str("\",\"owner\":\"ann\",\"group\":\"ann\",\"mode\":\"755\",\"path\":\"")?;
-        trace.push_str(path)?;
-        trace.push_str(if *kind == "file" {
-            "\",\"bytes\":\"\"}\n"
-        } else {
-            "\"}\n"
-        })?;
-    }
-    Ok(trace)
-}
-
-#[test]
-fn tells_each_fault_of_the_trace(rt: HostRuntime) -> Result<(), Fail> {
-    let users = b"1:ann:";
-    for (starts, wanted) in [
-        (
-            [("dir", "q")].as_slice(),
-            "crashfs: trace line 3: BadName\n",
-        ),
-        (
-            [("link", "/q")].as_slice(),
-            "crashfs: trace line 3: UnknownOp\n",
-        ),
-        (
-            [("dir", "/q/r")].as_slice(),
-            "crashfs: trace line 3: NoParent\n",
-        ),
-        (
-            [("dir", "/q"), ("dir", "/q")].as_slice(),
-            "crashfs: trace line 4: Exists\n",
-        ),
-        (
-            [("file", "/q"), ("dir", "/q/r")].as_slice(),
-            "crashfs: trace line 4: NotDir\n",
-        ),
-    ] {
-        let trace = trace_of(&rt, starts)?;
-        expect_fault(&rt, users, trace.as_bytes(), b"", wanted)?;
-    }
-    expect_fault(&rt, users, b"", b"", "crashfs: trace line 1: Syntax\n")?;
-    expect_fault(&rt, users, b"\xff", b"", "crashfs: trace: NotText\n")
-}
-
-#[test]
-fn tells_each_fault_of_the_script(rt: HostRuntime) -> Result<(), Fail> {
-    let (users, header) = (USERS.as_bytes(), HEADER.as_bytes());
-    for (script, wanted) in [
-        ("\n", "crashfs: script line 1: Syntax\n"),
-        (
-            "63 0 hangup\n64 0 hangup\n",
-            "crashfs: script line 2: Syntax\n",
-        ),
-        ("0 0  hangup", "crashfs: script line 1: Syntax\n"),
-        ("0 +1 hangup", "crashfs: script line 1: Syntax\n"),
-        ("0 4294967296 hangup", "crashfs: script line 1: Syntax\n"),
-        ("0 0 0600000064ff", "crashfs: script line 1: Syntax\n"),
-        ("0 0 0700000064ffff0", "crashfs: script line 1: Syntax\n"),
-    ] {
-        expect_fault(&rt, users, header, script.as_bytes(), wanted)?;
-    }
-    let mut lines = String::new(rt.alloc());
-    for _ in 0..65_537u32 {
-        lines.push_str("0 0 hangup\n")?;
-    }
-    expect_fault(
-        &rt,
-        users,
-        header,
-        lines.as_bytes(),
-        "crashfs: script line 65537: Syntax\n",
-    )?;
-    let digits = vec![in rt.alloc(); b'0'; 131_074]?;
-    let mut long = String::from_str(rt.alloc(), "0 0 ")?;
-    long.push_str(std::str::from_utf8(&digits)?)?;
-    expect_fault(
-        &rt,
-        users,
-        header,
-        long.as_bytes(),
-        "crashfs: script line 1: Syntax\n",
-    )
-}
-
-/// A reader whose reads fail.
-#[derive(Drop)]
-struct BrokenInput;
-
-impl Read for BrokenInput {
-    fn read(&mut self, _buf: &mut [u8]) -> io::Result<usize> {
-        Err(io::Error::from(ErrorKind::ConnectionReset))
-    }
-}
-
-#[test]
-fn tells_an_input_or_an_output_that_fails(rt: HostRuntime) -> Result<(), Fail> {
-    let inputs = Inputs {
-        users: USERS.as_bytes(),
-        trace: TRACE.as_bytes(),
-        picks: &[],
-        holes: false,
-        verbose: false,
+/// Looks for the fault of an output that takes so many bytes.
+fn expect_broken(rt: &(impl Abort + AllocGlobal), left: usize) {
+    let inputs = inputs_of(USERS, TRACE.as_bytes());
+    let mut input = "0 0 hangup\n0 0 hangup\n".as_bytes();
+    let mut out = BrokenOutput {
+        left,
+        flushes: true,
     };
     let mut err: Vec<u8> = Vec::new(rt.alloc());
-    let mut out: Vec<u8> = Vec::new(rt.alloc());
-    let status = script_of(rt.alloc(), &inputs, &mut BrokenInput, &mut out, &mut err);
-    assert_eq!(rt; err.as_slice(), b"crashfs: input failed\n".as_slice());
-    assert!(rt; status == 1 && out.is_empty());
-    for left in [0, 5, 12] {
-        let mut err: Vec<u8> = Vec::new(rt.alloc());
-        let mut input = "0 0 hangup\n0 0 hangup\n".as_bytes();
-        let mut out = BrokenOutput {
-            left,
-            flushes: true,
-        };
-        let status = script_of(rt.alloc(), &inputs, &mut input, &mut out, &mut err);
-        assert_eq!(rt; err.as_slice(), b"crashfs: output failed\n".as_slice());
-        assert_eq!(rt; status, 1);
-    }
-    Ok(())
+    let status = script_of(rt.alloc(), &inputs, &mut input, &mut out, &mut err);
+    assert_eq!(rt; status, 1);
+    assert!(rt; err.as_slice() == b"crashfs: output failed\n".as_slice());
 }
 
 #[test]
-fn tells_of_the_trace_and_then_the_picks_and_then_the_users(rt: HostRuntime) -> Result<(), Fail> {
-    let header = HEADER.as_bytes();
-    for (trace, picks, wanted) in [
-        (&b"{}"[..], &b"x"[..], "crashfs: trace line 1: Syntax\n"),
-        (header, b"[0]\nx", "crashfs: picks line 2: Syntax\n"),
-        (header, b"[0]", "crashfs: pick 0 not allowed\n"),
-        (header, b"[]", "crashfs: users line 1: FieldCount\n"),
-    ] {
-        let inputs = Inputs {
-            users: b"1:ann:",
-            trace,
-            picks,
-            holes: false,
-            verbose: false,
-        };
-        let mut out: Vec<u8> = Vec::new(rt.alloc());
-        let mut err: Vec<u8> = Vec::new(rt.alloc());
-        let status = script_of(rt.alloc(), &inputs, &mut BrokenInput, &mut out, &mut err);
-        assert_eq!(rt; String::from_utf8(err)?.as_str(), wanted);
-        assert!(rt; status == 1 && out.is_empty());
+fn tells_an_input_or_an_output_that_fails(rt: HostRuntime) {
+    let inputs = inputs_of(USERS, TRACE.as_bytes());
+    let broken = scripted(rt.alloc(), &inputs, &mut BrokenInput);
+    expect_fault(&rt, broken, "input failed");
+    expect_broken(&rt, 0);
+    expect_broken(&rt, 5);
+    expect_broken(&rt, 12);
+}
+
+/// A trace and picks, with a users file at fault, and the fault that is told.
+struct Files(&'static str, &'static str, &'static str);
+
+const FILES: [Files; 4] = [
+    Files("{}", "x", "trace line 1: Syntax"),
+    Files(HEADER, "[0]\nx", "picks line 2: Syntax"),
+    Files(HEADER, "[0]", "pick 0 not allowed"),
+    Files(HEADER, "[]", "users line 1: FieldCount"),
+];
+
+fn expect_first_fault(rt: &(impl Abort + AllocGlobal), files: &Files) {
+    let inputs = Inputs {
+        picks: files.1.as_bytes(),
+        ..inputs_of(b"1:ann:", files.0.as_bytes())
+    };
+    expect_fault(rt, scripted(rt.alloc(), &inputs, &mut BrokenInput), files.2);
+}
+
+#[test]
+fn tells_of_the_trace_and_then_the_picks_and_then_the_users(rt: HostRuntime) {
+    for files in &FILES {
+        expect_first_fault(&rt, files);
     }
-    Ok(())
 }

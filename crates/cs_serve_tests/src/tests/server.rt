@@ -1,24 +1,24 @@
 //! Connections over runs that they share, of a state that is published.
 
-use cs_names::RuleId;
+use cs_names::RunName;
 use cs_permit::{Call, StatCall, TreeName};
 use cs_plan::Scene;
 use cs_run::Answer;
 use cs_server::{Connection, Server, SharedPort, serve_connection, serve_streams};
 use cs_session::{Clock, Counted, FindFault, PassFault, Port, ServeFault, TwoEnded};
-use cs_shared::{AnyScene, SharedRegistry, SharedRun};
+use cs_shared::{AnyScene, NamedRun, SharedRegistry, SharedRun};
 use cs_trace::read_trace;
 use cs_users::Users;
-use cs_wire::FrameFault;
 use std::alloc::Global;
 use std::io::{self, Error, ErrorKind, Read, Write};
+use std::process::Abort;
 use std::sync::atomic::{AtomicU32, Ordering};
 use std::sync::{Arc, Wait};
-use std::test::Fail;
 use std::thread;
 
-const TRACE: &str =
-    "{\"trace\":1,\"owner\":\"cat\",\"group\":\"staff\",\"mode\":\"775\"}\n{\"start\":\"file\",\"path\":\"/f\",\"owner\":\"ann\",\"group\":\"staff\",\"mode\":\"664\",\"bytes\":\"68656c6c6f\"}\n";
+const TRACE: &str = r#"{"trace":1,"owner":"cat","group":"staff","mode":"775"}
+{"start":"file","path":"/f","owner":"ann","group":"staff","mode":"664","bytes":"68656c6c6f"}
+"#;
 
 const USERS: &[u8] = b"1:ann::\n2:bob::\n3:cat::\n4:staff:ann:ann,bob\n";
 
@@ -68,8 +68,8 @@ fn come(count: &AtomicU32, least: u32) -> bool {
     false
 }
 
-/// A client that sends a request at each read, the second once another client had a reply, and counts
-/// its replies.
+/// A client that sends a request at each read, the second once another client had a reply, and
+/// counts its replies.
 #[derive(Drop)]
 struct Client<'a> {
     requests: &'a [&'a [u8]],
@@ -116,58 +116,71 @@ impl<'a> Write for Client<'a> {
     }
 }
 
-fn server_of<R: Wait>(rt: &R, alloc: Global) -> Option<Server<AnyScene>> {
+fn scene(alloc: Global) -> Option<Arc<Scene>> {
     let trace = read_trace(alloc, TRACE).ok()?;
     let scene = Scene::of(alloc, trace, false, Vec::new(alloc)).ok()?;
-    let scene = Arc::new(alloc, scene).ok()?;
-    let state = Scene::make(alloc, &scene, 0).ok()?;
-    let users = Arc::new(alloc, Users::read(alloc, USERS).ok()?).ok()?;
-    let registry = SharedRegistry::<AnyScene>::new(alloc, scene, users).ok()?;
-    registry.publish(rt, alloc, state).ok()?;
-    Some(Server::new(registry))
+    Arc::new(alloc, scene).ok()
 }
 
-/// The runs' keys with their entries.
-fn runs_of<R: Wait>(
-    rt: &R,
-    alloc: Global,
-    server: &Server<AnyScene>,
-) -> Option<Vec<(u32, String, usize)>> {
-    let mut told = Vec::new(alloc);
-    for run in server.registry().runs(rt, alloc).ok()?.iter() {
-        let entries = run.run().inspect(rt, |run| run.entries());
-        let name = run.name().to_string(alloc).ok()?;
-        told.push((run.run().number(), name, entries)).ok()?;
+fn users(alloc: Global) -> Option<Arc<Users>> {
+    Arc::new(alloc, Users::read(alloc, USERS).ok()?).ok()
+}
+
+fn registry(alloc: Global) -> Option<SharedRegistry<AnyScene>> {
+    SharedRegistry::<AnyScene>::new(alloc, scene(alloc)?, users(alloc)?).ok()
+}
+
+/// A server whose one state is published.
+fn server_of<R: Wait + Abort>(rt: &R, alloc: Global) -> Server<AnyScene> {
+    let registry = registry(alloc).expect(rt, "a registry");
+    let state = Scene::make(alloc, registry.scene(), 0).expect(rt, "a state");
+    assert!(rt; registry.publish(rt, alloc, state).is_ok());
+    Server::new(registry)
+}
+
+fn push_run<R: Wait>(rt: &R, text: &mut String, run: &NamedRun<AnyScene>) -> Option<()> {
+    let entries = run.run().inspect(rt, |run| run.entries());
+    let number = run.run().number();
+    write!(text, "{number}/{} {entries}\n", run.name()).ok()
+}
+
+/// The runs' keys with their entries, a line each.
+fn runs_of<R: Wait>(rt: &R, alloc: Global, server: &Server<AnyScene>) -> Option<String> {
+    let runs = server.registry().runs(rt, alloc).ok()?;
+    let mut text = String::new(alloc);
+    for run in &runs {
+        push_run(rt, &mut text, run)?;
     }
-    Some(told)
+    Some(text)
 }
 
-/// Of each pass the run's key, and how many receipts it has.
-fn passes_of(
-    alloc: Global,
-    connection: &Connection<AnyScene>,
-) -> Option<Vec<(u32, String, usize)>> {
-    let mut told = Vec::new(alloc);
+/// Adds how a connection ended, and of each of its passes the run's key and how many receipts it
+/// has.
+fn push_connection(text: &mut String, connection: &Connection<AnyScene>) -> Option<()> {
     let kept = connection.kept();
+    write!(text, "{:?}", connection.result()).ok()?;
     for place in 0..kept.passes().len() {
         let key = kept.key_at(place);
-        let name = key.name().to_string(alloc).ok()?;
         let receipts = kept.passes()[place].pass.receipts().len();
-        told.push((key.number(), name, receipts)).ok()?;
+        write!(text, " {}/{} {receipts}", key.number(), key.name()).ok()?;
     }
-    Some(told)
+    text.push_str("\n").ok()
 }
 
-/// Whether there is one alone, of the run `0/x`, with so many.
-fn is_of_x(told: Option<Vec<(u32, String, usize)>>, count: usize) -> bool {
-    let Some(told) = told else {
-        return false;
-    };
-    match told.as_slice() {
-        [told] => told.0 == 0 && told.1.as_str() == "x" && told.2 == count,
-        _ => false,
+fn told_of(alloc: Global, connections: &[Connection<AnyScene>]) -> Option<String> {
+    let mut text = String::new(alloc);
+    for connection in connections {
+        push_connection(&mut text, connection)?;
     }
+    Some(text)
 }
+
+const ANN: [&[u8]; 3] = [VERSION, ANN_TO_X, STAT];
+
+const BOB: [&[u8]; 3] = [VERSION, BOB_TO_X, STAT];
+
+/// A version, and a size that no message has.
+const NOBODY: [&[u8]; 2] = [VERSION, b"\x05\0\0\0"];
 
 /// What serving three streams comes to, of which two wait for one another.
 fn served_at_once<R: thread::Threads + Wait + Sync>(
@@ -177,67 +190,85 @@ fn served_at_once<R: thread::Threads + Wait + Sync>(
 ) -> Option<Vec<Connection<AnyScene>>> {
     let (ann, bob) = (AtomicU32::new(0), AtomicU32::new(0));
     let ready = AtomicU32::new(1);
-    let (of_ann, of_bob) = ([VERSION, ANN_TO_X, STAT], [VERSION, BOB_TO_X, STAT]);
-    let of_none = [VERSION, b"\x05\0\0\0".as_slice()];
     let mut streams = Vec::new(alloc);
-    streams.push(Client::new(&of_ann, &ann, &bob)).ok()?;
-    streams.push(Client::new(&of_none, &ready, &ready)).ok()?;
-    streams.push(Client::new(&of_bob, &bob, &ann)).ok()?;
+    streams.push(Client::new(&ANN, &ann, &bob)).ok()?;
+    streams.push(Client::new(&NOBODY, &ready, &ready)).ok()?;
+    streams.push(Client::new(&BOB, &bob, &ann)).ok()?;
     serve_streams(rt, alloc, server, streams, Standing).ok()
 }
 
+const SERVED: &str = "\
+Ok(()) 0/x 2
+Err(FrameFault(Undersize))
+Ok(()) 0/x 2
+";
+
 #[test]
-fn streams_are_served_at_once_and_told_in_their_order(rt: HostRuntime) -> Result<(), Fail> {
-    let alloc = rt.alloc();
-    let server = server_of(&rt, alloc).ok_or("the server")?;
-    let connections = served_at_once(&rt, alloc, &server).ok_or("the connections")?;
-    assert_eq!(rt; connections.len(), 3);
-    let undersize = Err(ServeFault::FrameFault(FrameFault::Undersize));
-    for (connection, result) in connections.iter().zip([Ok(()), undersize, Ok(())].iter()) {
-        assert_eq!(rt; connection.result(), *result);
-        let attached = is_of_x(passes_of(alloc, connection), 2);
-        assert_eq!(rt; attached, result.is_ok());
-    }
-    assert!(rt; is_of_x(runs_of(&rt, alloc, &server), 4));
-    Ok(())
+fn streams_are_served_at_once_and_told_in_their_order(rt: HostRuntime) {
+    let server = server_of(&rt, rt.alloc());
+    let connections = served_at_once(&rt, rt.alloc(), &server).expect(&rt, "connections");
+    let told = told_of(rt.alloc(), &connections).expect(&rt, "memory");
+    assert_eq!(rt; told.as_str(), SERVED);
+    let runs = runs_of(&rt, rt.alloc(), &server).expect(&rt, "memory");
+    assert_eq!(rt; runs.as_str(), "0/x 4\n");
 }
 
-/// The replies to these requests, on a connection that ends well.
-fn replies_to<R: Wait>(
-    rt: &R,
-    alloc: Global,
-    server: &Server<AnyScene>,
-    requests: &[&[u8]],
-) -> Option<Vec<u8>> {
+fn joined(alloc: Global, requests: &[&[u8]]) -> Option<Vec<u8>> {
     let mut bytes = Vec::new(alloc);
     for request in requests {
         bytes.extend_from_slice(request).ok()?;
     }
-    let mut stream = TwoEnded::new(bytes.as_slice(), Vec::new(alloc));
-    let connection = serve_connection(rt, alloc, server, &mut stream, &mut Standing);
-    connection.result().ok()?;
-    Some(stream.into_writer())
+    Some(bytes)
 }
 
+/// Looks for the last reply to these requests, on a connection that ends well.
+fn expect_last<R: Wait + Abort>(
+    rt: &R,
+    alloc: Global,
+    server: &Server<AnyScene>,
+    requests: &[&[u8]],
+    last: &[u8],
+) {
+    let bytes = joined(alloc, requests).expect(rt, "memory");
+    let mut stream = TwoEnded::new(bytes.as_slice(), Vec::new(alloc));
+    let connection = serve_connection(rt, alloc, server, &mut stream, &mut Standing);
+    assert!(rt; connection.result().is_ok());
+    assert!(rt; stream.into_writer().ends_with(last));
+}
+
+const ANN_WRITES: [&[u8]; 5] = [VERSION, ANN_TO_A, WALK, OPEN_TO_WRITE, WRITE];
+
+const CAT_READS: [&[u8]; 5] = [VERSION, CAT_TO_A, WALK, OPEN_TO_READ, READ];
+
+const BOB_READS: [&[u8]; 5] = [VERSION, BOB_TO_B, WALK, OPEN_TO_READ, READ];
+
 #[test]
-fn what_is_written_on_a_connection_is_read_on_others_of_its_run(
-    rt: HostRuntime,
-) -> Result<(), Fail> {
+fn what_is_written_on_a_connection_is_read_on_others_of_its_run(rt: HostRuntime) {
     let alloc = rt.alloc();
-    let server = server_of(&rt, alloc).ok_or("the server")?;
-    let ann = [VERSION, ANN_TO_A, WALK, OPEN_TO_WRITE, WRITE];
-    let cat = [VERSION, CAT_TO_A, WALK, OPEN_TO_READ, READ];
-    let bob = [VERSION, BOB_TO_B, WALK, OPEN_TO_READ, READ];
-    for (requests, last) in [
-        (ann, b"\x0b\0\0\0w\x04\0\x02\0\0\0".as_slice()),
-        (cat, b"\x10\0\0\0u\x04\0\x05\0\0\0HIllo".as_slice()),
-        (bob, b"\x10\0\0\0u\x04\0\x05\0\0\0hello".as_slice()),
-    ] {
-        let replies = replies_to(&rt, alloc, &server, &requests).ok_or("the replies")?;
-        assert!(rt; replies.ends_with(last));
-    }
-    assert_eq!(rt; server.registry().runs(&rt, alloc)?.len(), 2);
-    Ok(())
+    let server = server_of(&rt, alloc);
+    expect_last(
+        &rt,
+        alloc,
+        &server,
+        &ANN_WRITES,
+        b"\x0b\0\0\0w\x04\0\x02\0\0\0",
+    );
+    expect_last(
+        &rt,
+        alloc,
+        &server,
+        &CAT_READS,
+        b"\x10\0\0\0u\x04\0\x05\0\0\0HIllo",
+    );
+    expect_last(
+        &rt,
+        alloc,
+        &server,
+        &BOB_READS,
+        b"\x10\0\0\0u\x04\0\x05\0\0\0hello",
+    );
+    let runs = runs_of(&rt, alloc, &server).expect(&rt, "memory");
+    assert_eq!(rt; runs.as_str().lines().count(), 2);
 }
 
 /// Looks at a run until a client had so many replies.
@@ -253,6 +284,8 @@ fn look<R: Wait>(
     })
 }
 
+const BOB_ELSEWHERE: [&[u8]; 3] = [VERSION, BOB_TO_B, STAT];
+
 /// Serves a client of another run, which goes on once the first is looked at.
 fn stat_elsewhere<R: Wait>(
     rt: &R,
@@ -261,42 +294,45 @@ fn stat_elsewhere<R: Wait>(
     looking: &AtomicU32,
     replied: &AtomicU32,
 ) -> Result<(), ServeFault> {
-    let requests = [VERSION, BOB_TO_B, STAT];
-    let mut stream = Counted::new(Client::new(&requests, replied, looking));
+    let mut stream = Counted::new(Client::new(&BOB_ELSEWHERE, replied, looking));
     serve_connection(rt, alloc, server, &mut stream, &mut Standing).result()
 }
 
+/// The run `0/a`.
+fn run_of_a<R: Wait>(
+    rt: &R,
+    alloc: Global,
+    server: &Server<AnyScene>,
+) -> Option<SharedRun<AnyScene>> {
+    let name = RunName::read(alloc, b"a").ok()?;
+    server.registry().find(rt, alloc, 0, &name).ok()
+}
+
 #[test]
-fn a_connection_is_answered_while_another_run_is_locked(rt: HostRuntime) -> Result<(), Fail> {
-    let alloc = rt.alloc();
-    let server = server_of(&rt, alloc).ok_or("the server")?;
-    let name = cs_names::RunName::read(alloc, b"a")?;
-    let a = server.registry().find(&rt, alloc, 0, &name);
-    let Ok(a) = a else {
-        return Err(Fail::from("0/a"));
-    };
+fn a_connection_is_answered_while_another_run_is_locked(rt: HostRuntime) {
+    let server = server_of(&rt, rt.alloc());
+    let a = run_of_a(&rt, rt.alloc(), &server).expect(&rt, "a run");
     let (looking, replied) = (AtomicU32::new(0), AtomicU32::new(0));
     let looked = thread::join(
         &rt,
         || look(&rt, &a, &looking, &replied),
-        || stat_elsewhere(&rt, alloc, &server, &looking, &replied),
+        || stat_elsewhere(&rt, rt.alloc(), &server, &looking, &replied),
     );
-    assert_eq!(rt; looked, (true, Ok(())));
-    Ok(())
+    assert!(rt; looked == (true, Ok(())));
 }
 
-/// Whether the run answers a stat of the root under the pass, or denies it by S5.
-fn stats(alloc: Global, port: &mut impl Port, run: u32, pass: u32) -> Option<bool> {
-    let stat = Call::Stat(StatCall { number: 0 });
-    match port.call(alloc, 720, run, pass, stat) {
-        Answer::Stat(_) => Some(true),
-        Answer::Denied(RuleId::S5) => Some(false),
-        _ => None,
+/// What the run answers a stat of the root under the pass.
+fn stat(alloc: Global, port: &mut impl Port, run: u32, pass: u32) -> &'static str {
+    let answer = port.call(alloc, 720, run, pass, Call::Stat(StatCall { number: 0 }));
+    match &answer {
+        Answer::Stat(_) => "stat",
+        Answer::Denied(rule) => rule.text(),
+        _ => "another",
     }
 }
 
 /// The place of the run of a state that is found.
-fn found_of(alloc: Global, port: &mut impl Port, state: &str, run: &str) -> Result<u32, FindFault> {
+fn find(alloc: Global, port: &mut impl Port, state: &str, run: &str) -> Result<u32, FindFault> {
     let name = TreeName {
         state: state.as_bytes(),
         run: run.as_bytes(),
@@ -304,54 +340,53 @@ fn found_of(alloc: Global, port: &mut impl Port, state: &str, run: &str) -> Resu
     port.find(alloc, &name)
 }
 
-/// The place of the run of state 0 that is found.
-fn found(alloc: Global, port: &mut impl Port, run: &str) -> Result<u32, FindFault> {
-    found_of(alloc, port, "0", run)
-}
-
 #[test]
-fn a_port_tells_why_a_run_is_not_found(rt: HostRuntime) -> Result<(), Fail> {
+fn a_port_tells_why_a_run_is_not_found(rt: HostRuntime) {
     let alloc = rt.alloc();
-    let server = server_of(&rt, alloc).ok_or("the server")?;
+    let server = server_of(&rt, alloc);
     let mut port = SharedPort::new(&rt, alloc, server.registry());
-    let unpublished = Err(FindFault::Unpublished);
-    assert_eq!(rt; found_of(alloc, &mut port, "1", "x"), unpublished);
+    assert!(rt; find(alloc, &mut port, "1", "x") == Err(FindFault::Unpublished));
     for place in 0..64 {
-        assert_eq!(rt; found(alloc, &mut port, "x"), Ok(place));
+        assert!(rt; find(alloc, &mut port, "0", "x") == Ok(place));
     }
-    assert_eq!(rt; found(alloc, &mut port, "x"), Err(FindFault::Full));
-    assert_eq!(rt; found_of(alloc, &mut port, "1", "x"), unpublished);
-    assert_eq!(rt; found(alloc, &mut port, "y"), Ok(64));
-    Ok(())
+    assert!(rt; find(alloc, &mut port, "0", "x") == Err(FindFault::Full));
+    assert!(rt; find(alloc, &mut port, "1", "x") == Err(FindFault::Unpublished));
+    assert!(rt; find(alloc, &mut port, "0", "y") == Ok(64));
+}
+
+/// How an attach to the run at a place comes out: the place of the pass.
+fn attach(alloc: Global, port: &mut impl Port, run: u32, user: &str) -> Result<u32, PassFault> {
+    let Ok(user) = user.to_string(alloc) else {
+        return Err(PassFault::Memory);
+    };
+    match port.attach(alloc, 720, run, user) {
+        Ok((pass, Answer::Attached(_))) => Ok(pass),
+        Ok(_) => Err(PassFault::Memory),
+        Err(fault) => Err(fault),
+    }
 }
 
 #[test]
-fn a_port_keeps_the_places_of_runs_and_passes(rt: HostRuntime) -> Result<(), Fail> {
+fn a_port_keeps_the_places_of_runs_and_passes(rt: HostRuntime) {
     let alloc = rt.alloc();
-    let server = server_of(&rt, alloc).ok_or("the server")?;
+    let server = server_of(&rt, alloc);
     let mut port = SharedPort::new(&rt, alloc, server.registry());
-    let early = port.attach(alloc, 720, 0, "ann".to_string(alloc)?);
-    assert!(rt; matches!(early, Err(PassFault::Foreign)));
-    assert_eq!(rt; found(alloc, &mut port, "a"), Ok(0));
-    assert_eq!(rt; found(alloc, &mut port, "b"), Ok(1));
-    let bob = port.attach(alloc, 720, 1, "bob".to_string(alloc)?);
-    assert!(rt; matches!(bob, Ok((0, Answer::Attached(_)))));
-    for (run, pass, answered) in [(1, 0, true), (0, 0, false), (1, 1, false), (2, 0, false)] {
-        assert_eq!(rt; stats(alloc, &mut port, run, pass), Some(answered));
-    }
-    let kept = port.into_kept();
-    assert_eq!(rt; kept.passes().len(), 1);
-    assert_eq!(rt;
-        runs_of(&rt, alloc, &server).map(|runs| runs.len()),
-        Some(2)
-    );
-    Ok(())
+    assert!(rt; attach(alloc, &mut port, 0, "ann") == Err(PassFault::Foreign));
+    assert!(rt; find(alloc, &mut port, "0", "a") == Ok(0));
+    assert!(rt; find(alloc, &mut port, "0", "b") == Ok(1));
+    assert!(rt; attach(alloc, &mut port, 1, "bob") == Ok(0));
+    assert_eq!(rt; stat(alloc, &mut port, 1, 0), "stat");
+    assert_eq!(rt; stat(alloc, &mut port, 0, 0), "S5 out of turn");
+    assert_eq!(rt; stat(alloc, &mut port, 1, 1), "S5 out of turn");
+    assert_eq!(rt; stat(alloc, &mut port, 2, 0), "S5 out of turn");
+    assert_eq!(rt; port.into_kept().passes().len(), 1);
+    let runs = runs_of(&rt, alloc, &server).expect(&rt, "memory");
+    assert_eq!(rt; runs.as_str().lines().count(), 2);
 }
 
 #[test]
-fn a_stream_without_a_thread_is_not_served(rt: HostRuntime) -> Result<(), Fail> {
+fn a_stream_without_a_thread_is_not_served(rt: HostRuntime) {
     let unserved: Connection<AnyScene> = Connection::unserved(rt.alloc());
-    assert_eq!(rt; unserved.result(), Err(ServeFault::Memory));
+    assert!(rt; unserved.result() == Err(ServeFault::Memory));
     assert!(rt; unserved.kept().passes().is_empty());
-    Ok(())
 }

@@ -1,304 +1,295 @@
-//! Worked examples of steps and messages: states that are published, runs by their keys, and connections
-//! that take their turns.
+//! Worked examples of steps and messages: states that are published, runs by their keys, and
+//! connections that take their turns.
+use crate::tests::stepping::step_of;
 use cs_names::RunName;
 use cs_plan::Scene;
-use cs_session::{
-    AttachMessage, CallMessage, OpenMessage, ReadMessage, TableStep, WalkMessage, WriteMessage,
-};
 use cs_trace::read_trace;
 use cs_users::Users;
-use cs_wire::RBody;
 use cs_world::{Step, World};
 use std::alloc::Global;
 use std::process::Abort;
 use std::sync::Arc;
-use std::test::Fail;
 
-const USERS: &str = "1:ann::\n2:bob::\n3:cat::\n4:staff:ann:ann,bob,zed\n";
+const USERS: &[u8] = b"1:ann::\n2:bob::\n3:cat::\n4:staff:ann:ann,bob,zed\n";
 
-const TRACE: &str =
-    "{\"trace\":1,\"owner\":\"cat\",\"group\":\"staff\",\"mode\":\"775\"}\n{\"start\":\"file\",\"path\":\"/f\",\"owner\":\"ann\",\"group\":\"staff\",\"mode\":\"666\",\"bytes\":\"68656c6c6f\"}\n";
+const TRACE: &str = r#"{"trace":1,"owner":"cat","group":"staff","mode":"775"}
+{"start":"file","path":"/f","owner":"ann","group":"staff","mode":"666","bytes":"68656c6c6f"}
+"#;
 
 /// A Tversion of 8,192 bytes.
 const VERSION: &[u8] = b"\x13\0\0\0\x64\xff\xff\0\x20\0\0\x06\09P2000";
 
-/// The attach of fid 0 is granted.
-const ATTACHED: &str = "Connection(Attach(Qid { kind: 128, vers: 0, path: 0 }))";
+fn scene(alloc: Global) -> Option<Arc<Scene>> {
+    let trace = read_trace(alloc, TRACE).ok()?;
+    let scene = Scene::of(alloc, trace, false, Vec::new(alloc)).ok()?;
+    Arc::new(alloc, scene).ok()
+}
 
-/// A connection's step is out of turn.
-const OUT_OF_TURN: &str = "Connection(Error(S5))";
+fn users(alloc: Global) -> Option<Arc<Users>> {
+    Arc::new(alloc, Users::read(alloc, USERS).ok()?).ok()
+}
 
 /// A world of the trace's states, of which none is published.
-fn new_world(alloc: Global) -> Result<World, Fail> {
-    let trace = read_trace(alloc, TRACE)?;
-    let scene = Scene::of(alloc, trace, false, Vec::new(alloc))?;
-    let users = Users::read(alloc, USERS.as_bytes())?;
-    let world = World::new(alloc, Arc::new(alloc, scene)?, Arc::new(alloc, users)?)?;
-    Ok(world)
+fn new_world(rt: &(impl Abort + AllocGlobal)) -> World {
+    let scene = scene(rt.alloc()).expect(rt, "a scene");
+    let users = users(rt.alloc()).expect(rt, "users");
+    World::new(rt.alloc(), scene, users).expect(rt, "memory")
 }
 
-/// Takes a step; its reply as text.
-fn take(alloc: Global, world: &mut World, step: Step) -> Result<String, Fail> {
-    let reply = world.step(alloc, step);
-    Ok(format!(in alloc; "{reply:?}")?)
+/// Answers the Tversion on connection 0, with its reply as text.
+fn push_answered(alloc: Global, world: &mut World, text: &mut String) -> Option<()> {
+    let reply = world.message(alloc, 0, 7, VERSION);
+    write!(text, "{reply}").ok()
 }
 
-fn begin(alloc: Global, conn: u32) -> Result<Step, Fail> {
-    let version = String::from_str(alloc, "9P2000")?;
-    let change = TableStep::Version {
-        msize: 8192,
-        version,
-    };
-    Ok(Step::Table { conn, change })
+/// Hangs connection 0 up, with the reply as text.
+fn push_closed(alloc: Global, world: &mut World, text: &mut String) -> Option<()> {
+    let reply = world.hang_up(alloc, 0, 7);
+    write!(text, "{reply:?}").ok()
 }
 
-fn find(alloc: Global, conn: u32, fid: u32, user: &str, name: &str) -> Result<Step, Fail> {
-    let message = AttachMessage {
-        fid,
-        afid: u32::MAX,
-        uname: String::from_str(alloc, user)?,
-        aname: String::from_str(alloc, name)?,
-    };
-    Ok(Step::Find { conn, message })
+fn push_taken(alloc: Global, world: &mut World, text: &mut String, asked: &str) -> Option<()> {
+    let reply = world.step(alloc, step_of(alloc, asked)?);
+    write!(text, "{reply:?}").ok()
 }
 
-/// Finds a run and attaches to it; what the attach answers, or the find that found none.
-fn attach(
-    alloc: Global,
-    world: &mut World,
-    conn: u32,
-    fid: u32,
-    user: &str,
-    name: &str,
-) -> Result<String, Fail> {
-    let found = find(alloc, conn, fid, user, name)?;
-    let reply = take(alloc, world, found)?;
-    if reply.as_str() != "Connection(Found)" {
-        return Ok(reply);
+/// Does what is asked: a step in words, `message` or `hangup`. Adds it with an arrow and the reply.
+fn push_line(alloc: Global, world: &mut World, text: &mut String, asked: &str) -> Option<()> {
+    text.push_str(asked).ok()?;
+    text.push_str(" => ").ok()?;
+    match asked {
+        "message" => push_answered(alloc, world, text),
+        "hangup" => push_closed(alloc, world, text),
+        _ => push_taken(alloc, world, text, asked),
     }
-    take(alloc, world, Step::Attach { conn, now: 7 })
 }
 
-/// A world with state 0, and a session on each of these connections.
-fn ready(rt: &(impl Abort + AllocGlobal), connections: u32) -> Result<World, Fail> {
-    let mut world = new_world(rt.alloc())?;
-    let published = take(rt.alloc(), &mut world, Step::Publish(0))?;
-    assert_eq!(rt; published.as_str(), "Published");
-    for conn in 0..connections {
-        let step = begin(rt.alloc(), conn)?;
-        let reply = take(rt.alloc(), &mut world, step)?;
-        assert_eq!(rt;
-            reply.as_str(),
-            "Connection(Version { msize: 8192, is_spoken: true })"
-        );
+fn push_lines(alloc: Global, world: &mut World, text: &mut String, lines: &str) -> Option<()> {
+    for line in lines.lines() {
+        if let Some((asked, _)) = line.split_once(" => ") {
+            push_line(alloc, world, text, asked)?;
+        }
+        text.push_str("\n").ok()?;
     }
-    Ok(world)
+    Some(())
 }
 
-fn call(alloc: Global, world: &mut World, conn: u32, message: CallMessage) -> Result<String, Fail> {
-    take(
-        alloc,
-        world,
-        Step::Call {
-            conn,
-            now: 7,
-            message,
-        },
-    )
+/// Takes steps in a world, and looks for their replies. Each line has a step, an arrow, and the
+/// reply.
+fn expect_in(rt: &(impl Abort + AllocGlobal), world: &mut World, lines: &str) {
+    let mut told = String::new(rt.alloc());
+    push_lines(rt.alloc(), world, &mut told, lines).expect(rt, "replies");
+    assert_eq!(rt; told.as_str(), lines);
 }
 
-/// Attaches a user, walks to `/f` as fid 1, and opens it.
-fn open_f(
-    rt: &(impl Abort + AllocGlobal),
-    world: &mut World,
-    conn: u32,
-    user: &str,
-    name: &str,
-) -> Result<(), Fail> {
-    let reply = attach(rt.alloc(), world, conn, 0, user, name)?;
-    assert_eq!(rt; reply.as_str(), ATTACHED);
-    let f = String::from_str(rt.alloc(), "f")?;
-    let walk = WalkMessage {
-        fid: 0,
-        newfid: 1,
-        names: vec![in rt.alloc(); f]?,
-    };
-    let _walked = call(rt.alloc(), world, conn, CallMessage::Walk(walk))?;
-    let open = OpenMessage { fid: 1, mode: 2 };
-    let opened = call(rt.alloc(), world, conn, CallMessage::Open(open))?;
-    assert!(rt; opened.as_str().starts_with("Connection(Open("), "{opened}");
-    Ok(())
+/// The same in a new world.
+fn expect(rt: &(impl Abort + AllocGlobal), lines: &str) {
+    let mut world = new_world(rt);
+    expect_in(rt, &mut world, lines);
 }
 
-/// What a connection reads of the file that it has open.
-fn read_f(alloc: Global, world: &mut World, conn: u32) -> Result<String, Fail> {
-    let read = ReadMessage {
-        fid: 1,
-        offset: 0,
-        count: 10,
-    };
-    call(alloc, world, conn, CallMessage::Read(read))
+/// State 0 is published, and a user is attached to one run of it on each of the connections 0 and
+/// 1; then an attach that nothing was found for, and a find on a connection above the last.
+const TWO_USERS: &str = "\
+publish 0
+version 0
+version 1
+find 0 0 ann 0/x
+find 1 0 bob 0/x
+attach 0 7
+attach 1 8
+attach 0 9
+find 64 0 ann 0/x
+";
+
+fn steps_of(alloc: Global, lines: &str) -> Option<Vec<Step>> {
+    let mut steps = Vec::new(alloc);
+    for line in lines.lines() {
+        steps.push(step_of(alloc, line)?).ok()?;
+    }
+    Some(steps)
 }
 
-/// Publishes state 0, and attaches a user to one run of it on each of the connections 0 and 1; then an attach
-/// that nothing was found for, and a find on a connection above the last.
-fn steps_of_two_users(alloc: Global) -> Result<Vec<Step>, Fail> {
-    let steps = vec![in alloc;
-        Step::Publish(0),
-        begin(alloc, 0)?,
-        begin(alloc, 1)?,
-        find(alloc, 0, 0, "ann", "0/x")?,
-        find(alloc, 1, 0, "bob", "0/x")?,
-        Step::Attach { conn: 0, now: 7 },
-        Step::Attach { conn: 1, now: 8 },
-        Step::Attach { conn: 0, now: 9 },
-        find(alloc, 64, 0, "ann", "0/x")?,
-    ]?;
-    Ok(steps)
+/// The replies to steps that are taken at once, a line each.
+fn replies_to(alloc: Global, world: &mut World, steps: Vec<Step>) -> Option<String> {
+    let replies = world.run(alloc, steps).ok()?;
+    let mut text = String::new(alloc);
+    for reply in &replies {
+        write!(text, "{reply:?}\n").ok()?;
+    }
+    Some(text)
 }
+
+const TWO_USERS_REPLIES: &str = "\
+Published
+Connection(Version { msize: 8192, is_spoken: true })
+Connection(Version { msize: 8192, is_spoken: true })
+Connection(Found)
+Connection(Found)
+Connection(Attach(Qid { kind: 128, vers: 0, path: 0 }))
+Connection(Attach(Qid { kind: 128, vers: 0, path: 0 }))
+Connection(Error(S5))
+Connection(Error(S5))
+";
 
 #[test]
-fn two_users_attach_to_one_run(rt: HostRuntime) -> Result<(), Fail> {
-    let mut world = new_world(rt.alloc())?;
-    let Ok(replies) = world.run(rt.alloc(), steps_of_two_users(rt.alloc())?) else {
-        panic!(rt; "want of memory");
-    };
-    let version = "Connection(Version { msize: 8192, is_spoken: true })";
-    let wanted = [
-        "Published",
-        version,
-        version,
-        "Connection(Found)",
-        "Connection(Found)",
-        ATTACHED,
-        ATTACHED,
-        OUT_OF_TURN,
-        OUT_OF_TURN,
-    ];
-    assert_eq!(rt; replies.len(), wanted.len());
-    for (reply, wanted) in replies.iter().zip(wanted.iter()) {
-        assert_eq!(rt; format!(in rt.alloc(); "{reply:?}")?.as_str(), *wanted);
-    }
+fn two_users_attach_to_one_run(rt: HostRuntime) {
+    let mut world = new_world(&rt);
+    let steps = steps_of(rt.alloc(), TWO_USERS).expect(&rt, "steps");
+    let replies = replies_to(rt.alloc(), &mut world, steps).expect(&rt, "replies");
+    assert_eq!(rt; replies.as_str(), TWO_USERS_REPLIES);
     assert_eq!(rt; world.run_count(), 1);
-    Ok(())
 }
 
-#[test]
-fn projection_on_a_run_has_what_reached_it(rt: HostRuntime) -> Result<(), Fail> {
-    let world = new_world(rt.alloc())?;
-    let steps = steps_of_two_users(rt.alloc())?;
-    let name = RunName::read(rt.alloc(), b"x")?;
-    let heard = world.project(rt.alloc(), &steps, 0, &name)?;
-    let wanted = [
-        "Heard { pass: 0, now: 7, call: Attach(AttachCall { user: \"ann\" }) }",
-        "Heard { pass: 1, now: 8, call: Attach(AttachCall { user: \"bob\" }) }",
-    ];
-    assert_eq!(rt; heard.len(), wanted.len());
-    for (call, wanted) in heard.iter().zip(wanted.iter()) {
-        assert_eq!(rt; format!(in rt.alloc(); "{call:?}")?.as_str(), *wanted);
+/// What of the steps of two users reaches a run of state 0, a line each.
+fn projected(alloc: Global, world: &World, run: &[u8]) -> Option<String> {
+    let steps = steps_of(alloc, TWO_USERS)?;
+    let name = RunName::read(alloc, run).ok()?;
+    let heard = world.project(alloc, &steps, 0, &name).ok()?;
+    let mut text = String::new(alloc);
+    for call in &heard {
+        write!(text, "{call:?}\n").ok()?;
     }
-    let other = RunName::read(rt.alloc(), b"y")?;
-    let none = world.project(rt.alloc(), &steps, 0, &other)?;
-    assert_eq!(rt; none.len(), 0);
-    assert_eq!(rt; world.run_count(), 0);
-    Ok(())
+    Some(text)
 }
 
 #[test]
-fn steps_come_in_their_turn(rt: HostRuntime) -> Result<(), Fail> {
-    let mut world = ready(&rt, 1)?;
-    let early = take(rt.alloc(), &mut world, Step::Attach { conn: 0, now: 7 })?;
-    assert_eq!(rt; early.as_str(), OUT_OF_TURN);
-    let nobody = find(rt.alloc(), 64, 0, "ann", "0/x")?;
-    assert_eq!(rt; take(rt.alloc(), &mut world, nobody)?.as_str(), OUT_OF_TURN);
-    let close = Step::Close {
-        conn: 0,
-        now: 7,
-        fid: 0,
-    };
-    assert_eq!(rt; take(rt.alloc(), &mut world, close)?.as_str(), OUT_OF_TURN);
-    Ok(())
-}
-
-#[test]
-fn nothing_comes_between_a_find_and_its_attach(rt: HostRuntime) -> Result<(), Fail> {
-    let mut world = ready(&rt, 1)?;
-    let found = find(rt.alloc(), 0, 0, "ann", "0/x")?;
+fn projection_on_a_run_has_what_reached_it(rt: HostRuntime) {
+    let world = new_world(&rt);
+    let heard = projected(rt.alloc(), &world, b"x").expect(&rt, "calls");
     assert_eq!(rt;
-        take(rt.alloc(), &mut world, found)?.as_str(),
-        "Connection(Found)"
+        heard.as_str(),
+        r#"Heard { pass: 0, now: 7, call: Attach(AttachCall { user: "ann" }) }
+Heard { pass: 1, now: 8, call: Attach(AttachCall { user: "bob" }) }
+"#
     );
-    let stat = call(rt.alloc(), &mut world, 0, CallMessage::Stat(0))?;
-    assert_eq!(rt; stat.as_str(), OUT_OF_TURN);
-    let reply = world.message(rt.alloc(), 0, 7, VERSION);
-    assert!(rt; matches!(reply.body, RBody::Error { .. }));
-    let left = world.hang_up(rt.alloc(), 0, 7);
-    assert_eq!(rt; format!(in rt.alloc(); "{left:?}")?.as_str(), "Error(S5)");
-    let attached = take(rt.alloc(), &mut world, Step::Attach { conn: 0, now: 7 })?;
-    assert_eq!(rt; attached.as_str(), ATTACHED);
-    let left = world.hang_up(rt.alloc(), 0, 7);
-    assert_eq!(rt; format!(in rt.alloc(); "{left:?}")?.as_str(), "Closed");
-    Ok(())
+    let other = projected(rt.alloc(), &world, b"y").expect(&rt, "calls");
+    assert_eq!(rt; other.as_str(), "");
+    assert_eq!(rt; world.run_count(), 0);
 }
 
 #[test]
-fn a_message_is_answered(rt: HostRuntime) -> Result<(), Fail> {
-    let mut world = new_world(rt.alloc())?;
+fn steps_come_in_their_turn(rt: HostRuntime) {
+    expect(
+        &rt,
+        "
+publish 0 => Published
+version 0 => Connection(Version { msize: 8192, is_spoken: true })
+attach 0 7 => Connection(Error(S5))
+find 64 0 ann 0/x => Connection(Error(S5))
+close 0 0 => Connection(Error(S5))
+",
+    );
+}
+
+#[test]
+fn nothing_comes_between_a_find_and_its_attach(rt: HostRuntime) {
+    expect(
+        &rt,
+        r#"
+publish 0 => Published
+version 0 => Connection(Version { msize: 8192, is_spoken: true })
+find 0 0 ann 0/x => Connection(Found)
+stat 0 => Connection(Error(S5))
+message => Rerror tag 65535 ename "S5 out of turn"
+hangup => Error(S5)
+attach 0 7 => Connection(Attach(Qid { kind: 128, vers: 0, path: 0 }))
+hangup => Closed
+"#,
+    );
+}
+
+#[test]
+fn a_message_is_answered(rt: HostRuntime) {
+    let mut world = new_world(&rt);
+    let mut text = String::new(rt.alloc());
     let reply = world.message(rt.alloc(), 63, 7, VERSION);
-    assert_eq!(rt; reply.tag, 0xffff);
-    assert!(rt; matches!(reply.body, RBody::Version { msize: 8192, .. }));
-    Ok(())
+    write!(text, "{reply}").expect(&rt, "memory");
+    assert_eq!(rt;
+        text.as_str(),
+        r#"Rversion tag 65535 msize 8192 version "9P2000""#
+    );
 }
 
 #[test]
-fn states_are_published_once(rt: HostRuntime) -> Result<(), Fail> {
-    let mut world = ready(&rt, 1)?;
-    let twice = take(rt.alloc(), &mut world, Step::Publish(0))?;
-    assert_eq!(rt; twice.as_str(), "Unpublished(Twice)");
-    let past = take(rt.alloc(), &mut world, Step::Publish(1))?;
-    assert_eq!(rt; past.as_str(), "Unpublished(NoSuchState)");
-    let missing = attach(rt.alloc(), &mut world, 0, 0, "ann", "1/x")?;
-    assert_eq!(rt; missing.as_str(), "Connection(Error(A4))");
-    let malformed = attach(rt.alloc(), &mut world, 0, 0, "ann", "00/x")?;
-    assert_eq!(rt; malformed.as_str(), "Connection(Error(A3))");
-    let granted = attach(rt.alloc(), &mut world, 0, 0, "ann", "0/x")?;
-    assert_eq!(rt; granted.as_str(), ATTACHED);
+fn states_are_published_once(rt: HostRuntime) {
+    let mut world = new_world(&rt);
+    expect_in(
+        &rt,
+        &mut world,
+        "
+publish 0 => Published
+version 0 => Connection(Version { msize: 8192, is_spoken: true })
+publish 0 => Unpublished(Twice)
+publish 1 => Unpublished(NoSuchState)
+find 0 0 ann 1/x => Connection(Error(A4))
+find 0 0 ann 00/x => Connection(Error(A3))
+find 0 0 ann 0/x => Connection(Found)
+attach 0 7 => Connection(Attach(Qid { kind: 128, vers: 0, path: 0 }))
+",
+    );
     assert_eq!(rt; world.scene().plan().len(), 1);
-    Ok(())
+}
+
+/// Attaches ann to the run `0/x` as this fid.
+fn expect_attached(rt: &(impl Abort + AllocGlobal), world: &mut World, fid: u32) {
+    let lines = format!(in rt.alloc();
+        "find 0 {fid} ann 0/x => Connection(Found)\nattach 0 7 => Connection(Attach(Qid {{ kind: 128, vers: 0, path: 0 }}))\n"
+    );
+    expect_in(rt, world, lines.expect(rt, "memory").as_str());
 }
 
 #[test]
-fn a_run_is_attached_to_64_times(rt: HostRuntime) -> Result<(), Fail> {
-    let mut world = ready(&rt, 1)?;
+fn a_run_is_attached_to_64_times(rt: HostRuntime) {
+    let mut world = new_world(&rt);
+    expect_in(
+        &rt,
+        &mut world,
+        "
+publish 0 => Published
+version 0 => Connection(Version { msize: 8192, is_spoken: true })
+",
+    );
     for fid in 0..64u32 {
-        let granted = attach(rt.alloc(), &mut world, 0, fid, "ann", "0/x")?;
-        assert_eq!(rt; granted.as_str(), ATTACHED);
+        expect_attached(&rt, &mut world, fid);
     }
-    let full = attach(rt.alloc(), &mut world, 0, 64, "ann", "0/x")?;
-    assert_eq!(rt; full.as_str(), "Connection(Error(A5))");
-    let unknown = attach(rt.alloc(), &mut world, 0, 64, "zed", "0/y")?;
-    assert_eq!(rt; unknown.as_str(), "Connection(Error(A6))");
+    expect_in(
+        &rt,
+        &mut world,
+        "
+find 0 64 ann 0/x => Connection(Error(A5))
+find 0 64 zed 0/y => Connection(Found)
+attach 0 7 => Connection(Error(A6))
+",
+    );
     assert_eq!(rt; world.run_count(), 2);
-    Ok(())
 }
 
 #[test]
-fn runs_are_apart_and_shared_by_name(rt: HostRuntime) -> Result<(), Fail> {
-    let mut world = ready(&rt, 3)?;
-    open_f(&rt, &mut world, 0, "ann", "0/a")?;
-    open_f(&rt, &mut world, 1, "bob", "0/b")?;
-    open_f(&rt, &mut world, 2, "cat", "0/a")?;
-    let write = WriteMessage {
-        fid: 1,
-        offset: 0,
-        bytes: b"HI".to_vec(rt.alloc())?,
-    };
-    let written = call(rt.alloc(), &mut world, 0, CallMessage::Write(write))?;
-    assert_eq!(rt; written.as_str(), "Connection(Write(2))");
-    let changed = "Connection(Read(Bytes { bytes: [72, 73, 108, 108, 111] }))";
-    assert_eq!(rt; read_f(rt.alloc(), &mut world, 0)?.as_str(), changed);
-    let unchanged = "Connection(Read(Bytes { bytes: [104, 101, 108, 108, 111] }))";
-    assert_eq!(rt; read_f(rt.alloc(), &mut world, 1)?.as_str(), unchanged);
-    assert_eq!(rt; read_f(rt.alloc(), &mut world, 2)?.as_str(), changed);
-    Ok(())
+fn runs_are_apart_and_shared_by_name(rt: HostRuntime) {
+    expect(
+        &rt,
+        "
+publish 0 => Published
+version 0 => Connection(Version { msize: 8192, is_spoken: true })
+version 1 => Connection(Version { msize: 8192, is_spoken: true })
+version 2 => Connection(Version { msize: 8192, is_spoken: true })
+find 0 0 ann 0/a => Connection(Found)
+attach 0 7 => Connection(Attach(Qid { kind: 128, vers: 0, path: 0 }))
+find 1 0 bob 0/b => Connection(Found)
+attach 1 7 => Connection(Attach(Qid { kind: 128, vers: 0, path: 0 }))
+find 2 0 cat 0/a => Connection(Found)
+attach 2 7 => Connection(Attach(Qid { kind: 128, vers: 0, path: 0 }))
+walk 0 => Connection(Walk(Walk { qids: [Qid { kind: 0, vers: 0, path: 1 }], stopped: None, last: 1 }))
+walk 1 => Connection(Walk(Walk { qids: [Qid { kind: 0, vers: 0, path: 1 }], stopped: None, last: 1 }))
+walk 2 => Connection(Walk(Walk { qids: [Qid { kind: 0, vers: 0, path: 1 }], stopped: None, last: 1 }))
+open 0 => Connection(Open(Qid { kind: 0, vers: 0, path: 1 }))
+open 1 => Connection(Open(Qid { kind: 0, vers: 0, path: 1 }))
+open 2 => Connection(Open(Qid { kind: 0, vers: 0, path: 1 }))
+write 0 => Connection(Write(2))
+read 0 => Connection(Read(Bytes { bytes: [72, 73, 108, 108, 111] }))
+read 1 => Connection(Read(Bytes { bytes: [104, 101, 108, 108, 111] }))
+read 2 => Connection(Read(Bytes { bytes: [72, 73, 108, 108, 111] }))
+",
+    );
 }

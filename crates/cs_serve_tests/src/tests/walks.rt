@@ -1,98 +1,85 @@
 //! Walks, and files that move or go while a fid stands on them.
-use crate::tests::fixture::{TRACE, expect, expect_in, join, world_over};
-use std::test::Fail;
+use crate::tests::fixture::expect;
 
 #[test]
-fn stops_at_a_missing_name(rt: HostRuntime) -> Result<(), Fail> {
+fn stops_at_a_missing_name(rt: HostRuntime) {
     expect(
         &rt,
         &["ann"],
-        &[
-            ("0 walk 0 1 q z", "Rerror tag 1 ename \"K8 no such name\""),
-            ("0 walk 0 1 . d", "Rerror tag 1 ename \"K8 no such name\""),
-            ("0 walk 0 1 f ..", "Rwalk tag 1 wqid [(00 0 4)]"),
-            ("0 walk 0 1 d q", "Rwalk tag 1 wqid [(80 0 1)]"),
-            ("0 clunk 1", "Rerror tag 1 ename \"N1 unknown fid\""),
-        ],
-    )
+        r#"
+0 walk 0 1 q/z => Rerror tag 1 ename "K8 no such name"
+0 walk 0 1 ./d => Rerror tag 1 ename "K8 no such name"
+0 walk 0 1 f/.. => Rwalk tag 1 wqid [(00 0 4)]
+0 walk 0 1 d/q => Rwalk tag 1 wqid [(80 0 1)]
+0 clunk 1 => Rerror tag 1 ename "N1 unknown fid"
+"#,
+    );
 }
 
 #[test]
-fn stops_at_missing_search_right(rt: HostRuntime) -> Result<(), Fail> {
+fn stops_at_missing_search_right(rt: HostRuntime) {
     expect(
         &rt,
         &["bob"],
-        &[
-            ("0 walk 0 1 d", "Rwalk tag 1 wqid [(80 0 1)]"),
-            ("0 walk 1 2 s z q", "Rwalk tag 1 wqid [(80 0 2)]"),
-            ("0 stat 2", "Rerror tag 1 ename \"H1 unknown fid\""),
-            ("0 walk 1 2 s", "Rwalk tag 1 wqid [(80 0 2)]"),
-            ("0 walk 2 3 z", "Rerror tag 1 ename \"K7 no search right\""),
-            ("0 walk 2 3 ..", "Rerror tag 1 ename \"K7 no search right\""),
-        ],
-    )
+        r#"
+0 walk 0 1 d => Rwalk tag 1 wqid [(80 0 1)]
+0 walk 1 2 s/z/q => Rwalk tag 1 wqid [(80 0 2)]
+0 stat 2 => Rerror tag 1 ename "H1 unknown fid"
+0 walk 1 2 s => Rwalk tag 1 wqid [(80 0 2)]
+0 walk 2 3 z => Rerror tag 1 ename "K7 no search right"
+0 walk 2 3 .. => Rerror tag 1 ename "K7 no search right"
+"#,
+    );
 }
 
 #[test]
-fn goes_up_from_the_root_and_clones_by_no_names(rt: HostRuntime) -> Result<(), Fail> {
+fn goes_up_from_the_root_and_clones_by_no_names(rt: HostRuntime) {
     expect(
         &rt,
         &["ann"],
-        &[
-            ("0 walk 0 1 ..", "Rwalk tag 1 wqid [(80 0 0)]"),
-            (
-                "0 walk 0 2 d s z",
-                "Rwalk tag 1 wqid [(80 0 1), (80 0 2), (00 0 3)]",
-            ),
-            ("0 walk 2 3", "Rwalk tag 1 wqid []"),
-            (
-                "0 stat 3",
-                "Rstat tag 1 type 0 dev 0 qid (00 0 3) mode 644 atime 0 mtime 0 length 0 name \"z\" uid \"ann\" gid \"ann\" muid \"ann\"",
-            ),
-            ("0 walk 9 4", "Rerror tag 1 ename \"K1 unknown fid\""),
-            ("0 walk 0 3", "Rerror tag 1 ename \"K3 new fid not free\""),
-            (
-                "0 walk 0 4294967295",
-                "Rerror tag 1 ename \"K3 new fid not free\"",
-            ),
-            ("0 walk 0 0", "Rwalk tag 1 wqid []"),
-        ],
-    )
+        r#"
+0 walk 0 1 .. => Rwalk tag 1 wqid [(80 0 0)]
+0 walk 0 2 d/s/z => Rwalk tag 1 wqid [(80 0 1), (80 0 2), (00 0 3)]
+0 walk 2 3 => Rwalk tag 1 wqid []
+0 stat 3 => Rstat tag 1 type 0 dev 0 qid (00 0 3) mode 644 atime 0 mtime 0 length 0 name "z" uid "ann" gid "ann" muid "ann"
+0 walk 9 4 => Rerror tag 1 ename "K1 unknown fid"
+0 walk 0 3 => Rerror tag 1 ename "K3 new fid not free"
+0 walk 0 4294967295 => Rerror tag 1 ename "K3 new fid not free"
+0 walk 0 0 => Rwalk tag 1 wqid []
+"#,
+    );
 }
 
 #[test]
-fn file_that_was_made_again_is_another(rt: HostRuntime) -> Result<(), Fail> {
+fn file_that_was_made_again_is_another(rt: HostRuntime) {
     expect(
         &rt,
         &["ann", "bob"],
-        &[
-            ("0 walk 0 1 f", "Rwalk tag 1 wqid [(00 0 4)]"),
-            ("1 walk 0 1 f", "Rwalk tag 1 wqid [(00 0 4)]"),
-            ("1 remove 1", "Rremove tag 1"),
-            ("1 walk 0 1", "Rwalk tag 1 wqid []"),
-            ("1 create 1 f 666 1", "Rcreate tag 1 qid (00 0 7) iounit 0"),
-            (
-                "0 stat 0",
-                "Rstat tag 1 type 0 dev 0 qid (80 2 0) mode 20000000775 atime 0 mtime 7 length 0 name \"/\" uid \"cat\" gid \"staff\" muid \"bob\"",
-            ),
-            ("0 open 1 0", "Rerror tag 1 ename \"O4 file is gone\""),
-            ("0 walk 0 2 f", "Rwalk tag 1 wqid [(00 0 7)]"),
-        ],
-    )
+        r#"
+0 walk 0 1 f => Rwalk tag 1 wqid [(00 0 4)]
+1 walk 0 1 f => Rwalk tag 1 wqid [(00 0 4)]
+1 remove 1 => Rremove tag 1
+1 walk 0 1 => Rwalk tag 1 wqid []
+1 create 1 f 666 1 => Rcreate tag 1 qid (00 0 7) iounit 0
+0 stat 0 => Rstat tag 1 type 0 dev 0 qid (80 2 0) mode 20000000775 atime 0 mtime 7 length 0 name "/" uid "cat" gid "staff" muid "bob"
+0 open 1 0 => Rerror tag 1 ename "O4 file is gone"
+0 walk 0 2 f => Rwalk tag 1 wqid [(00 0 7)]
+"#,
+    );
 }
 
 #[test]
-fn fid_follows_a_renamed_directory(rt: HostRuntime) -> Result<(), Fail> {
+fn fid_follows_a_renamed_directory(rt: HostRuntime) {
     expect(
         &rt,
         &["ann", "bob"],
-        &[
-            ("0 walk 0 1 d s", "Rwalk tag 1 wqid [(80 0 1), (80 0 2)]"),
-            ("1 walk 0 1 d", "Rwalk tag 1 wqid [(80 0 1)]"),
-            ("1 wstat 1 name e", "Rwstat tag 1"),
-            ("0 walk 1 2 z", "Rwalk tag 1 wqid [(00 0 3)]"),
-            ("0 walk 1 3 ..", "Rwalk tag 1 wqid [(80 1 1)]"),
-            ("0 walk 0 4 d", "Rerror tag 1 ename \"K8 no such name\""),
-        ],
-    )
+        r#"
+0 walk 0 1 d/s => Rwalk tag 1 wqid [(80 0 1), (80 0 2)]
+1 walk 0 1 d => Rwalk tag 1 wqid [(80 0 1)]
+1 wstat 1 name=e => Rwstat tag 1
+0 walk 1 2 z => Rwalk tag 1 wqid [(00 0 3)]
+0 walk 1 3 .. => Rwalk tag 1 wqid [(80 1 1)]
+0 walk 0 4 d => Rerror tag 1 ename "K8 no such name"
+"#,
+    );
 }

@@ -1,36 +1,29 @@
 //! Examples of fids and of a connection's table of them.
 use cs_fids::{Entry, Fid, FidFault, FidTable, NOFID, Place, Walked};
 use cs_names::{Name, UserName};
-use std::alloc::Global;
 use std::process::Abort;
-use std::test::Fail;
 
 /// A fid of ann's for that file, in the run at place 2 by the pass at place 5.
-fn fid_of(alloc: Global, number: u64) -> Result<Fid<Walked>, Fail> {
-    Ok(Fid::new(2, 5, number, UserName::read(alloc, b"ann")?))
+fn fid_of(rt: &(impl Abort + AllocGlobal), number: u64) -> Fid<Walked> {
+    let user = UserName::read(rt.alloc(), b"ann").expect(rt, "memory");
+    Fid::new(2, 5, number, user)
 }
 
 /// Puts a fid for that file, with the room made for it.
-fn put(
-    rt: &(impl Abort + AllocGlobal),
-    table: &mut FidTable,
-    fid: u32,
-    number: u64,
-) -> Result<(), Fail> {
-    let walked = fid_of(rt.alloc(), number)?;
-    table.reserve()?;
+fn put(rt: &(impl Abort + AllocGlobal), table: &mut FidTable, fid: u32, number: u64) {
+    let walked = fid_of(rt, number);
+    table.reserve().expect(rt, "room");
     assert!(rt; table.has_room() && fid != NOFID);
     assert!(rt; table.put(fid, Entry::Walked(walked)).is_ok());
-    Ok(())
 }
 
 /// A table where fid 1 was walked to file 10, and fid 2 to file 20 and opened.
-fn table_of_two(rt: &(impl Abort + AllocGlobal)) -> Result<FidTable, Fail> {
+fn table_of_two(rt: &(impl Abort + AllocGlobal)) -> FidTable {
     let mut table = FidTable::new(rt.alloc());
-    put(rt, &mut table, 1, 10)?;
-    put(rt, &mut table, 2, 20)?;
-    table.open(2, 0, 4)?;
-    Ok(table)
+    put(rt, &mut table, 1, 10);
+    put(rt, &mut table, 2, 20);
+    table.open(2, 0, 4).expect(rt, "an open");
+    table
 }
 
 /// The number of the file that the fid stands for.
@@ -39,187 +32,189 @@ fn number_at(table: &FidTable, fid: u32) -> Option<u64> {
 }
 
 #[test]
-fn moves_a_fid_and_opens_it(rt: HostRuntime) -> Result<(), Fail> {
-    let walked = fid_of(rt.alloc(), 1)?.try_clone()?.moved_to(7);
-    assert_eq!(rt; (walked.run(), walked.pass(), walked.number()), (2, 5, 7));
+fn moves_a_fid_and_opens_it(rt: HostRuntime) {
+    let walked = fid_of(&rt, 1).try_clone().expect(&rt, "memory").moved_to(7);
+    assert!(rt; walked.run() == 2 && walked.pass() == 5 && walked.number() == 7);
     assert_eq!(rt; walked.user().as_str(), "ann");
     let opened = walked.open(0x41, 12);
-    assert_eq!(rt;
-        (opened.mode(), opened.open_number(), opened.number()),
-        (0x41, 12, 7)
-    );
-    Ok(())
+    assert!(rt; opened.mode() == 0x41 && opened.open_number() == 12 && opened.number() == 7);
+}
+
+/// Looks at the run, the pass, the file and the user of an entry.
+fn expect_entry(rt: &impl Abort, entry: &Entry, number: u64) {
+    assert!(rt; entry.run() == 2 && entry.pass() == 5 && entry.number() == number);
+    assert_eq!(rt; entry.user().as_str(), "ann");
 }
 
 #[test]
-fn tells_of_an_entry_whatever_its_state(rt: HostRuntime) -> Result<(), Fail> {
-    let walked = Entry::Walked(fid_of(rt.alloc(), 3)?);
-    let opened = Entry::Opened(fid_of(rt.alloc(), 4)?.open(1, 0));
-    for (entry, number, open) in [(&walked, 3, false), (&opened, 4, true)] {
-        assert_eq!(rt; (entry.run(), entry.pass(), entry.number()), (2, 5, number));
-        assert_eq!(rt; entry.user().as_str(), "ann");
-        assert_eq!(rt;
-            (entry.as_walked().is_some(), entry.as_opened().is_some()),
-            (!open, open)
-        );
-    }
-    Ok(())
+fn tells_of_an_entry_whatever_its_state(rt: HostRuntime) {
+    let walked = Entry::Walked(fid_of(&rt, 3));
+    expect_entry(&rt, &walked, 3);
+    assert!(rt; walked.as_walked().is_some() && walked.as_opened().is_none());
+    let opened = Entry::Opened(fid_of(&rt, 4).open(1, 0));
+    expect_entry(&rt, &opened, 4);
+    assert!(rt; opened.as_walked().is_none() && opened.as_opened().is_some());
 }
 
 #[test]
-fn changes_a_fid_in_its_place(rt: HostRuntime) -> Result<(), Fail> {
-    let mut table = table_of_two(&rt)?;
-    table.move_to(1, 6)?;
-    table.open(1, 2, 5)?;
-    let opened = table.get_opened(1)?;
-    assert_eq!(rt;
-        (opened.number(), opened.mode(), opened.open_number()),
-        (6, 2, 5)
-    );
-    assert_eq!(rt; number_at(&table, 2), Some(20));
-    Ok(())
+fn changes_a_fid_in_its_place(rt: HostRuntime) {
+    let mut table = table_of_two(&rt);
+    table.move_to(1, 6).expect(&rt, "a move");
+    table.open(1, 2, 5).expect(&rt, "an open");
+    let opened = table.get_opened(1).expect(&rt, "an open fid");
+    assert!(rt; opened.number() == 6 && opened.mode() == 2 && opened.open_number() == 5);
+    assert!(rt; number_at(&table, 2) == Some(20));
 }
 
 #[test]
-fn keeps_the_place_of_a_read(rt: HostRuntime) -> Result<(), Fail> {
-    let mut table = table_of_two(&rt)?;
-    let last = Some(Name::read(rt.alloc(), b"s")?);
-    table.set_place(2, Place { end: 61, last })?;
-    let place = table.get_opened(2)?.place().try_clone()?;
-    assert_eq!(rt; (place.end, place.last.is_some()), (61, true));
-    Ok(())
+fn keeps_the_place_of_a_read(rt: HostRuntime) {
+    let mut table = table_of_two(&rt);
+    let last = Some(Name::read(rt.alloc(), b"s").expect(&rt, "a name"));
+    table
+        .set_place(2, Place { end: 61, last })
+        .expect(&rt, "an open fid");
+    let place = table.get_opened(2).expect(&rt, "an open fid").place();
+    let place = place.try_clone().expect(&rt, "memory");
+    assert!(rt; place.end == 61 && place.last.is_some());
+}
+
+/// Looks for the fault where a fid is taken as one that was walked to, opened, or moved.
+fn expect_not_walked(rt: &impl Abort, table: &mut FidTable, fid: u32, fault: FidFault) {
+    assert!(rt; table.take_walked(fid).err() == Some(fault));
+    assert!(rt; table.open(fid, 1, 1) == Err(fault));
+    assert!(rt; table.move_to(fid, 1) == Err(fault));
 }
 
 #[test]
-fn refuses_to_take_or_open_what_was_not_walked_to(rt: HostRuntime) -> Result<(), Fail> {
-    let mut table = table_of_two(&rt)?;
-    for (fid, fault) in [
-        (0, FidFault::Unknown),
-        (NOFID, FidFault::Unknown),
-        (2, FidFault::AlreadyOpen),
-    ] {
-        let taken = table.take_walked(fid).err();
-        let faults = (
-            taken,
-            table.open(fid, 1, 1).err(),
-            table.move_to(fid, 1).err(),
-        );
-        assert_eq!(rt; faults, (Some(fault), Some(fault), Some(fault)));
-    }
-    assert_eq!(rt; table.take_walked(1)?.number(), 10);
-    Ok(())
+fn refuses_to_take_or_open_what_was_not_walked_to(rt: HostRuntime) {
+    let mut table = table_of_two(&rt);
+    expect_not_walked(&rt, &mut table, 0, FidFault::Unknown);
+    expect_not_walked(&rt, &mut table, NOFID, FidFault::Unknown);
+    expect_not_walked(&rt, &mut table, 2, FidFault::AlreadyOpen);
+    assert_eq!(rt; table.take_walked(1).expect(&rt, "a fid").number(), 10);
+}
+
+/// Looks for the fault where a fid is lent as an open one, or its read goes on.
+fn expect_not_open(rt: &impl Abort, table: &mut FidTable, fid: u32, fault: FidFault) {
+    assert!(rt; table.set_place(fid, Place::start()) == Err(fault));
+    assert!(rt; table.get_opened(fid).err() == Some(fault));
 }
 
 #[test]
-fn refuses_to_read_on_where_no_fid_is_open(rt: HostRuntime) -> Result<(), Fail> {
-    let mut table = table_of_two(&rt)?;
-    for (fid, fault) in [(0, FidFault::Unknown), (1, FidFault::NotOpen)] {
-        let placed = table.set_place(fid, Place::start()).err();
-        assert_eq!(rt;
-            (placed, table.get_opened(fid).err()),
-            (Some(fault), Some(fault))
-        );
-    }
-    Ok(())
+fn refuses_to_read_on_where_no_fid_is_open(rt: HostRuntime) {
+    let mut table = table_of_two(&rt);
+    expect_not_open(&rt, &mut table, 0, FidFault::Unknown);
+    expect_not_open(&rt, &mut table, 1, FidFault::NotOpen);
+}
+
+/// Takes a fid of this file, and a second time in vain.
+fn expect_taken(rt: &impl Abort, table: &mut FidTable, fid: u32, number: u64) {
+    assert_eq!(rt; table.take_any(fid).expect(rt, "a fid").number(), number);
+    assert!(rt; table.take_any(fid).is_err());
 }
 
 #[test]
-fn takes_a_fid_in_any_state_once(rt: HostRuntime) -> Result<(), Fail> {
-    let mut table = table_of_two(&rt)?;
-    for (fid, number) in [(1, 10), (2, 20)] {
-        assert_eq!(rt; table.take_any(fid)?.number(), number);
-        assert!(rt; table.take_any(fid).is_err());
-    }
-    Ok(())
+fn takes_a_fid_in_any_state_once(rt: HostRuntime) {
+    let mut table = table_of_two(&rt);
+    expect_taken(&rt, &mut table, 1, 10);
+    expect_taken(&rt, &mut table, 2, 20);
 }
 
 #[test]
-fn gives_a_fid_back_where_its_number_is_taken(rt: HostRuntime) -> Result<(), Fail> {
-    let mut table = table_of_two(&rt)?;
-    let walked = fid_of(rt.alloc(), 30)?;
-    table.reserve()?;
+fn gives_a_fid_back_where_its_number_is_taken(rt: HostRuntime) {
+    let mut table = table_of_two(&rt);
+    let walked = fid_of(&rt, 30);
+    table.reserve().expect(&rt, "room");
     let refused = table.put(1, Entry::Walked(walked)).err();
-    let given_back = refused.map(|(fault, entry)| (fault, entry.number()));
-    assert_eq!(rt; given_back, Some((FidFault::InUse, 30)));
-    assert_eq!(rt; number_at(&table, 1), Some(10));
-    Ok(())
-}
-
-/// Opens the fid, under its own number, and tells the least open one then.
-fn least_after_open(table: &mut FidTable, fid: u32) -> Result<Option<u32>, Fail> {
-    table.open(fid, 0, fid)?;
-    Ok(table.least_open())
-}
-
-/// Takes the fid out, and tells the least open one then.
-fn least_after_take(table: &mut FidTable, fid: u32) -> Result<Option<u32>, Fail> {
-    let _taken = table.take_any(fid)?;
-    Ok(table.least_open())
+    let (fault, entry) = refused.expect(&rt, "a refusal");
+    assert!(rt; fault == FidFault::InUse && entry.number() == 30);
+    assert!(rt; number_at(&table, 1) == Some(10));
 }
 
 /// A table where fids 9, 1, 7 and 3 were walked to.
-fn table_of_four(rt: &(impl Abort + AllocGlobal)) -> Result<FidTable, Fail> {
+fn table_of_four(rt: &(impl Abort + AllocGlobal)) -> FidTable {
     let mut table = FidTable::new(rt.alloc());
-    for fid in [9, 1, 7, 3] {
-        put(rt, &mut table, fid, 0)?;
-    }
-    Ok(table)
+    put(rt, &mut table, 9, 0);
+    put(rt, &mut table, 1, 0);
+    put(rt, &mut table, 7, 0);
+    put(rt, &mut table, 3, 0);
+    table
+}
+
+/// Opens the fid, under its own number, and looks for the least open one then.
+fn expect_after_open(rt: &impl Abort, table: &mut FidTable, fid: u32, least: u32) {
+    table.open(fid, 0, fid).expect(rt, "an open");
+    assert!(rt; table.least_open() == Some(least));
+}
+
+/// Takes the fid out, and looks for the least open one then.
+fn expect_after_take(rt: &impl Abort, table: &mut FidTable, fid: u32, least: u32) {
+    assert!(rt; table.take_any(fid).is_ok());
+    assert!(rt; table.least_open() == Some(least));
 }
 
 #[test]
-fn finds_the_least_open_fid(rt: HostRuntime) -> Result<(), Fail> {
-    let mut table = table_of_four(&rt)?;
-    assert_eq!(rt; table.least_open(), None);
-    assert_eq!(rt; least_after_open(&mut table, 7)?, Some(7));
-    assert_eq!(rt; least_after_open(&mut table, 3)?, Some(3));
-    assert_eq!(rt; least_after_open(&mut table, 9)?, Some(3));
-    Ok(())
+fn finds_the_least_open_fid(rt: HostRuntime) {
+    let mut table = table_of_four(&rt);
+    assert!(rt; table.least_open().is_none());
+    expect_after_open(&rt, &mut table, 7, 7);
+    expect_after_open(&rt, &mut table, 3, 3);
+    expect_after_open(&rt, &mut table, 9, 3);
+}
+
+/// Puts an open fid.
+fn put_opened(rt: &(impl Abort + AllocGlobal), table: &mut FidTable, fid: u32) {
+    let opened = fid_of(rt, 0).open(0, fid);
+    table.reserve().expect(rt, "room");
+    assert!(rt; fid != NOFID);
+    assert!(rt; table.put(fid, Entry::Opened(opened)).is_ok());
 }
 
 #[test]
-fn finds_the_next_open_fid_once_the_least_is_taken(rt: HostRuntime) -> Result<(), Fail> {
-    let mut table = table_of_four(&rt)?;
-    for fid in [9, 3] {
-        table.open(fid, 0, fid)?;
-    }
-    let opened = fid_of(rt.alloc(), 0)?.open(0, 5);
-    table.reserve()?;
-    assert!(rt; table.put(5, Entry::Opened(opened)).is_ok());
-    assert_eq!(rt; least_after_take(&mut table, 3)?, Some(5));
-    assert_eq!(rt; least_after_take(&mut table, 7)?, Some(5));
-    assert_eq!(rt; least_after_take(&mut table, 5)?, Some(9));
+fn finds_the_next_open_fid_once_the_least_is_taken(rt: HostRuntime) {
+    let mut table = table_of_four(&rt);
+    expect_after_open(&rt, &mut table, 9, 9);
+    expect_after_open(&rt, &mut table, 3, 3);
+    put_opened(&rt, &mut table, 5);
+    expect_after_take(&rt, &mut table, 3, 5);
+    expect_after_take(&rt, &mut table, 7, 5);
+    expect_after_take(&rt, &mut table, 5, 9);
     table.clear();
-    assert_eq!(rt; (table.least_open(), table.len()), (None, 0));
-    Ok(())
+    assert!(rt; table.least_open().is_none() && table.len() == 0);
 }
 
 #[test]
-fn takes_no_more_than_4_096_fids(rt: HostRuntime) -> Result<(), Fail> {
+fn takes_no_more_than_4_096_fids(rt: HostRuntime) {
     let mut table = FidTable::new(rt.alloc());
     for fid in 0..4_096u32 {
-        put(&rt, &mut table, fid, u64::from(fid))?;
+        put(&rt, &mut table, fid, u64::from(fid));
     }
-    assert_eq!(rt; (table.len(), table.has_room()), (4_096, false));
-    assert_eq!(rt; table.reserve().err(), Some(FidFault::TableFull));
-    assert_eq!(rt; table.take_walked(2_000)?.number(), 2_000);
+    assert!(rt; table.len() == 4_096 && !table.has_room());
+    assert!(rt; table.reserve() == Err(FidFault::TableFull));
     assert_eq!(rt;
-        (number_at(&table, 2_000), number_at(&table, 4_095)),
-        (None, Some(4_095))
+        table.take_walked(2_000).expect(&rt, "a fid").number(),
+        2_000
     );
-    Ok(())
+    assert!(rt; number_at(&table, 2_000).is_none());
+    assert!(rt; number_at(&table, 4_095) == Some(4_095));
 }
 
+/// A fault, and what it says.
+struct Said(FidFault, &'static str);
+
+const SAID: [Said; 6] = [
+    Said(FidFault::TableFull, "fid table full"),
+    Said(FidFault::Unknown, "unknown fid"),
+    Said(FidFault::AlreadyOpen, "fid is open"),
+    Said(FidFault::NotOpen, "fid not open"),
+    Said(FidFault::InUse, "fid in use"),
+    Said(FidFault::Memory, "out of memory"),
+];
+
 #[test]
-fn says_why_a_call_was_refused(rt: HostRuntime) -> Result<(), Fail> {
-    for (fault, text) in [
-        (FidFault::TableFull, "fid table full"),
-        (FidFault::Unknown, "unknown fid"),
-        (FidFault::AlreadyOpen, "fid is open"),
-        (FidFault::NotOpen, "fid not open"),
-        (FidFault::InUse, "fid in use"),
-        (FidFault::Memory, "out of memory"),
-    ] {
-        assert_eq!(rt; fault.to_string(rt.alloc())?.as_str(), text);
+fn says_why_a_call_was_refused(rt: HostRuntime) {
+    for said in &SAID {
+        let text = said.0.to_string(rt.alloc()).expect(&rt, "memory");
+        assert_eq!(rt; text.as_str(), said.1);
     }
-    Ok(())
 }

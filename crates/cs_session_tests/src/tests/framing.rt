@@ -1,9 +1,7 @@
 //! Streams of messages, cut in every way.
 
 use cs_wire::{FrameFault, Framer};
-use std::alloc::{AllocError, Global};
 use std::process::Abort;
-use std::test::*;
 
 /// What a client says first, from outside: version, attach, walk to `f`, open, read, stat, clunk.
 const MESSAGES: [&[u8]; 7] = [
@@ -16,125 +14,125 @@ const MESSAGES: [&[u8]; 7] = [
     b"\x0b\0\0\0x\x01\0\x01\0\0\0",
 ];
 
-fn exchange(alloc: Global) -> Result<Vec<u8>, AllocError> {
-    let mut bytes = Vec::new(alloc);
-    for message in MESSAGES {
-        bytes.extend_from_slice(message)?;
-    }
-    Ok(bytes)
-}
+/// The same messages, one behind the other.
+const EXCHANGE: &[u8] =
+    b"\x13\0\0\0d\xff\xff\0 \0\0\x06\09P2000\x19\0\0\0h\x01\0\0\0\0\0\xff\xff\xff\xff\x03\0ann\x03\00/x\x14\0\0\0n\x01\0\0\0\0\0\x01\0\0\0\x01\0\x01\0f\x0c\0\0\0p\x01\0\x01\0\0\0\0\x17\0\0\0t\x01\0\x01\0\0\0\0\0\0\0\0\0\0\0@\0\0\0\x0b\0\0\0|\x01\0\x01\0\0\0\x0b\0\0\0x\x01\0\x01\0\0\0";
 
-/// Feeds a piece, and adds each whole message to the list.
-fn take_all(
-    alloc: Global,
-    framer: &mut Framer,
-    piece: &[u8],
-    messages: &mut Vec<Vec<u8>>,
-) -> Result<(), Fail> {
-    framer.feed(piece)?;
+/// Takes the whole messages, which are those of the exchange from the first that isn't taken yet.
+fn take_all(framer: &mut Framer, taken: &mut usize) -> Option<()> {
     for _ in 0..=MESSAGES.len() {
-        match framer.next() {
-            Ok(Some(message)) => messages.push(Vec::from_slice(alloc, message)?)?,
-            Ok(None) => return Ok(()),
-            Err(_) => return Err(Fail::from("each size is that of a message")),
+        let Some(message) = framer.next().ok()? else {
+            return Some(());
+        };
+        if message != *MESSAGES.get(*taken)? {
+            return None;
         }
+        *taken = taken.wrapping_add(1);
     }
-    Ok(())
+    None
 }
 
-/// The whole messages of the pieces are those of the exchange, and no byte is left.
-fn assert_exchange(rt: &impl Abort, alloc: Global, pieces: &[&[u8]]) -> Result<(), Fail> {
-    let mut framer = Framer::new(alloc);
-    let mut messages = Vec::new(alloc);
-    for piece in pieces {
-        take_all(alloc, &mut framer, piece, &mut messages)?;
-    }
-    assert_eq!(rt; messages.len(), MESSAGES.len());
-    for (given, message) in messages.iter().zip(MESSAGES) {
-        assert_eq!(rt; given.as_slice(), message);
-    }
-    assert_eq!(rt; framer.end(), Ok(()));
-    Ok(())
+/// Feeds a piece, and takes what is whole.
+fn expect_piece(rt: &impl Abort, framer: &mut Framer, piece: &[u8], taken: &mut usize) {
+    framer.feed(piece).expect(rt, "memory");
+    take_all(framer, taken).expect(rt, "messages");
 }
 
-#[test]
-fn pieces_of_one_byte_give_the_same_messages(rt: HostRuntime) -> Result<(), Fail> {
-    let bytes = exchange(rt.alloc())?;
-    assert_eq!(rt; bytes.len(), 121);
-    let mut pieces = Vec::new(rt.alloc());
-    for piece in bytes.chunks(1) {
-        pieces.push(piece)?;
-    }
-    assert_exchange(&rt, rt.alloc(), &pieces)
+/// All messages were taken, and no byte is left.
+fn expect_end(rt: &impl Abort, framer: &Framer, taken: usize) {
+    assert_eq!(rt; taken, MESSAGES.len());
+    assert!(rt; framer.end().is_ok());
 }
 
 #[test]
-fn a_stream_cut_in_two_gives_the_same_messages(rt: HostRuntime) -> Result<(), Fail> {
-    let bytes = exchange(rt.alloc())?;
-    for place in 0..=bytes.len() {
-        let (front, back) = bytes.split_at(place);
-        assert_exchange(&rt, rt.alloc(), &[front, back])?;
-    }
-    Ok(())
-}
-
-#[test]
-fn three_bytes_more_stay_buffered(rt: HostRuntime) -> Result<(), Fail> {
+fn pieces_of_one_byte_give_the_same_messages(rt: HostRuntime) {
+    assert_eq!(rt; EXCHANGE.len(), 121);
     let mut framer = Framer::new(rt.alloc());
-    framer.feed(MESSAGES[0])?;
-    framer.feed(b"\x19\0\0")?;
-    assert_eq!(rt; framer.next(), Ok(Some(MESSAGES[0])));
-    assert_eq!(rt; framer.next(), Ok(None));
+    let mut taken = 0;
+    for piece in EXCHANGE.chunks(1) {
+        expect_piece(&rt, &mut framer, piece, &mut taken);
+    }
+    expect_end(&rt, &framer, taken);
+}
+
+fn expect_cut(rt: &(impl Abort + AllocGlobal), front: &[u8], back: &[u8]) {
+    let mut framer = Framer::new(rt.alloc());
+    let mut taken = 0;
+    expect_piece(rt, &mut framer, front, &mut taken);
+    expect_piece(rt, &mut framer, back, &mut taken);
+    expect_end(rt, &framer, taken);
+}
+
+#[test]
+fn a_stream_cut_in_two_gives_the_same_messages(rt: HostRuntime) {
+    for place in 0..=EXCHANGE.len() {
+        let (front, back) = EXCHANGE.split_at(place);
+        expect_cut(&rt, front, back);
+    }
+}
+
+/// Looks for this message as the next one.
+fn expect_next(rt: &impl Abort, framer: &mut Framer, wanted: &[u8]) {
+    let message = framer.next().expect(rt, "no fault");
+    assert!(rt; message.expect(rt, "a message") == wanted);
+}
+
+/// Looks for no message, since bytes are missing.
+fn expect_none(rt: &impl Abort, framer: &mut Framer) {
+    assert!(rt; framer.next().expect(rt, "no fault").is_none());
+}
+
+#[test]
+fn three_bytes_more_stay_buffered(rt: HostRuntime) {
+    let mut framer = Framer::new(rt.alloc());
+    framer.feed(MESSAGES[0]).expect(&rt, "memory");
+    framer.feed(b"\x19\0\0").expect(&rt, "memory");
+    expect_next(&rt, &mut framer, MESSAGES[0]);
+    expect_none(&rt, &mut framer);
     let (bytes, place) = framer.buffered();
     assert_eq!(rt; bytes.len(), 22);
     assert_eq!(rt; place, 19);
-    assert_eq!(rt; framer.end(), Err(FrameFault::Cut));
-    Ok(())
+    assert!(rt; framer.end() == Err(FrameFault::Cut));
 }
 
-#[test]
-fn a_size_that_no_message_has_is_told_again(rt: HostRuntime) -> Result<(), Fail> {
-    let sizes = [
-        (b"\x06\0\0\0".as_slice(), FrameFault::Undersize),
-        (b"\x01\0\x01\0".as_slice(), FrameFault::Oversize),
-    ];
-    for (size, fault) in sizes {
-        let mut framer = Framer::new(rt.alloc());
-        framer.feed(size)?;
-        assert_eq!(rt; framer.next(), Err(fault));
-        framer.feed(MESSAGES[0])?;
-        assert_eq!(rt; framer.next(), Err(fault));
-        assert_eq!(rt; framer.buffered().1, 0);
-    }
-    Ok(())
-}
-
-#[test]
-fn a_message_of_65536_bytes_is_whole(rt: HostRuntime) -> Result<(), Fail> {
+/// Feeds a size, and a message behind it: both times the fault is told, and nothing is taken.
+fn expect_fault(rt: &(impl Abort + AllocGlobal), size: &[u8], fault: FrameFault) {
     let mut framer = Framer::new(rt.alloc());
-    framer.feed(b"\0\0\x01\0")?;
-    let bytes = vec![in rt.alloc(); 0; 65_531]?;
-    framer.feed(&bytes)?;
-    assert_eq!(rt; framer.next(), Ok(None));
-    framer.feed(b"x")?;
-    match framer.next() {
-        Ok(Some(message)) => assert_eq!(rt; message.len(), 65_536),
-        _ => return Err(Fail::from("it is whole")),
-    }
-    Ok(())
+    framer.feed(size).expect(rt, "memory");
+    assert!(rt; framer.next() == Err(fault));
+    framer.feed(MESSAGES[0]).expect(rt, "memory");
+    assert!(rt; framer.next() == Err(fault));
+    assert_eq!(rt; framer.buffered().1, 0);
 }
 
 #[test]
-fn what_is_written_to_the_room_comes_as_if_it_was_fed(rt: HostRuntime) -> Result<(), Fail> {
+fn a_size_that_no_message_has_is_told_again(rt: HostRuntime) {
+    expect_fault(&rt, b"\x06\0\0\0", FrameFault::Undersize);
+    expect_fault(&rt, b"\x01\0\x01\0", FrameFault::Oversize);
+}
+
+#[test]
+fn a_message_of_65536_bytes_is_whole(rt: HostRuntime) {
+    let bytes = vec![in rt.alloc(); 0; 65_531].expect(&rt, "memory");
     let mut framer = Framer::new(rt.alloc());
-    framer.reserve(64)?;
+    framer.feed(b"\0\0\x01\0").expect(&rt, "memory");
+    framer.feed(&bytes).expect(&rt, "memory");
+    expect_none(&rt, &mut framer);
+    framer.feed(b"x").expect(&rt, "memory");
+    let message = framer.next().expect(&rt, "no fault");
+    assert_eq!(rt; message.expect(&rt, "it is whole").len(), 65_536);
+}
+
+#[test]
+fn what_is_written_to_the_room_comes_as_if_it_was_fed(rt: HostRuntime) {
+    let mut framer = Framer::new(rt.alloc());
+    framer.reserve(64).expect(&rt, "memory");
     let (front, _) = framer.room().split_at_mut(19);
     front.copy_from_slice(MESSAGES[0]);
     framer.took(19);
-    assert_eq!(rt; framer.next(), Ok(Some(MESSAGES[0])));
-    framer.reserve(45)?;
+    expect_next(&rt, &mut framer, MESSAGES[0]);
+    framer.reserve(45).expect(&rt, "memory");
     assert_eq!(rt; framer.buffered().1, 19);
-    framer.reserve(46)?;
+    framer.reserve(46).expect(&rt, "memory");
     assert_eq!(rt; framer.buffered().1, 0);
-    Ok(())
 }

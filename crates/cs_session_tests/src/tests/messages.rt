@@ -1,360 +1,352 @@
 //! Messages as they stand on the wire, from outside.
 
-use cs_wire::{RBody, RMessage, Stat, TBody, WireFault, decode, decode_r, encode, encode_t};
+use cs_wire::{
+    RBody, RMessage, Stat, TBody, TMessage, WireFault, decode, decode_r, encode, encode_t,
+};
 use std::borrow::CowStr;
-use std::test::*;
+use std::process::Abort;
 
-#[test]
-fn requests_are_read_and_written_again(rt: HostRuntime) -> Result<(), Fail> {
-    let examples = [
-        (
-            b"\x13\0\0\0d\xff\xff\0 \0\0\x06\09P2000".as_slice(),
-            "Tversion tag 65535 msize 8192 version \"9P2000\"",
-        ),
-        (
-            b"\x19\0\0\0h\x01\0\0\0\0\0\xff\xff\xff\xff\x03\0ann\x03\00/x".as_slice(),
-            "Tattach tag 1 fid 0 afid 4294967295 uname \"ann\" aname \"0/x\"",
-        ),
-        (
-            b"\x14\0\0\0n\x01\0\0\0\0\0\x01\0\0\0\x01\0\x01\0f".as_slice(),
-            "Twalk tag 1 fid 0 newfid 1 wname [\"f\"]",
-        ),
-        (
-            b"\x0c\0\0\0p\x01\0\x01\0\0\0\0".as_slice(),
-            "Topen tag 1 fid 1 mode 0x00",
-        ),
-        (
-            b"\x17\0\0\0t\x01\0\x01\0\0\0\0\0\0\0\0\0\0\0@\0\0\0".as_slice(),
-            "Tread tag 1 fid 1 offset 0 count 64",
-        ),
-        (
-            b"\x0b\0\0\0|\x01\0\x01\0\0\0".as_slice(),
-            "Tstat tag 1 fid 1",
-        ),
-        (
-            b"\x0b\0\0\0x\x01\0\x01\0\0\0".as_slice(),
-            "Tclunk tag 1 fid 1",
-        ),
-        (
-            b"\x15\0\0\0d\xff\xff\0 \0\0\x08\09P2000.L".as_slice(),
-            "Tversion tag 65535 msize 8192 version \"9P2000.L\"",
-        ),
-        (
-            b"\x0f\0\0\0d\xff\xff\0 \0\0\x02\08P".as_slice(),
-            "Tversion tag 65535 msize 8192 version \"8P\"",
-        ),
-        (
-            b"\x19\0\0\0h\x01\0\0\0\0\0\xff\xff\xff\xff\x03\0ann\x03\00/x".as_slice(),
-            "Tattach tag 1 fid 0 afid 4294967295 uname \"ann\" aname \"0/x\"",
-        ),
-        (
-            b"\x13\0\0\0r\x01\0\x01\0\0\0\x01\0g\xa4\x01\0\0\x01".as_slice(),
-            "Tcreate tag 1 fid 1 name \"g\" perm 644 mode 0x01",
-        ),
-        (
-            b"\x1a\0\0\0v\x01\0\x01\0\0\0\x05\0\0\0\0\0\0\0\x03\0\0\0abc".as_slice(),
-            "Twrite tag 1 fid 1 offset 5 count 3",
-        ),
-        (
-            b"\x0b\0\0\0z\x01\0\x01\0\0\0".as_slice(),
-            "Tremove tag 1 fid 1",
-        ),
-        (
-            b"?\0\0\0~\x01\0\x01\0\0\0\x32\0\x30\0\xff\xff\xff\xff\xff\xff\xff\xff\xff\xff\xff\xff\xff\xff\xff\xff\xff\xff\xff\xff\xff\xff\xff\xff\xff\xff\xff\xff\xff\xff\xff\xff\xff\xff\xff\xff\xff\xff\xff\x01\0g\0\0\0\0\0\0".as_slice(),
-            "Twstat tag 1 fid 1 type 65535 dev 4294967295 qid (ff 4294967295 18446744073709551615) mode 37777777777 atime 4294967295 mtime 4294967295 length 18446744073709551615 name \"g\" uid \"\" gid \"\" muid \"\"",
-        ),
-    ];
-    for (bytes, line) in examples {
-        let message = decode(rt.alloc(), bytes)
-            .ok()
-            .ok_or("the bytes are a message")?;
-        let shown = format!(in rt.alloc(); "{message}")?;
-        assert_eq!(rt; shown.as_str(), line);
-        assert!(rt; message.fits());
-        if message.fits() {
-            let mut out = Vec::new(rt.alloc());
-            encode_t(&message, &mut out)?;
-            assert_eq!(rt; out.as_slice(), bytes);
-            assert_eq!(rt; message.spelled_length(), bytes.len());
-        }
-    }
-    Ok(())
+/// The bytes of a message, and its line.
+struct Spelled(&'static [u8], &'static str);
+
+/// Bytes that are no message, and their fault.
+struct Faulty(&'static [u8], WireFault);
+
+const REQUESTS: [Spelled; 14] = [
+    Spelled(
+        b"\x13\0\0\0d\xff\xff\0 \0\0\x06\09P2000",
+        "Tversion tag 65535 msize 8192 version \"9P2000\"",
+    ),
+    Spelled(
+        b"\x19\0\0\0h\x01\0\0\0\0\0\xff\xff\xff\xff\x03\0ann\x03\00/x",
+        "Tattach tag 1 fid 0 afid 4294967295 uname \"ann\" aname \"0/x\"",
+    ),
+    Spelled(
+        b"\x14\0\0\0n\x01\0\0\0\0\0\x01\0\0\0\x01\0\x01\0f",
+        "Twalk tag 1 fid 0 newfid 1 wname [\"f\"]",
+    ),
+    Spelled(
+        b"\x0c\0\0\0p\x01\0\x01\0\0\0\0",
+        "Topen tag 1 fid 1 mode 0x00",
+    ),
+    Spelled(
+        b"\x17\0\0\0t\x01\0\x01\0\0\0\0\0\0\0\0\0\0\0@\0\0\0",
+        "Tread tag 1 fid 1 offset 0 count 64",
+    ),
+    Spelled(b"\x0b\0\0\0|\x01\0\x01\0\0\0", "Tstat tag 1 fid 1"),
+    Spelled(b"\x0b\0\0\0x\x01\0\x01\0\0\0", "Tclunk tag 1 fid 1"),
+    Spelled(
+        b"\x15\0\0\0d\xff\xff\0 \0\0\x08\09P2000.L",
+        "Tversion tag 65535 msize 8192 version \"9P2000.L\"",
+    ),
+    Spelled(
+        b"\x0f\0\0\0d\xff\xff\0 \0\0\x02\08P",
+        "Tversion tag 65535 msize 8192 version \"8P\"",
+    ),
+    Spelled(
+        b"\x19\0\0\0h\x01\0\0\0\0\0\xff\xff\xff\xff\x03\0ann\x03\00/x",
+        "Tattach tag 1 fid 0 afid 4294967295 uname \"ann\" aname \"0/x\"",
+    ),
+    Spelled(
+        b"\x13\0\0\0r\x01\0\x01\0\0\0\x01\0g\xa4\x01\0\0\x01",
+        "Tcreate tag 1 fid 1 name \"g\" perm 644 mode 0x01",
+    ),
+    Spelled(
+        b"\x1a\0\0\0v\x01\0\x01\0\0\0\x05\0\0\0\0\0\0\0\x03\0\0\0abc",
+        "Twrite tag 1 fid 1 offset 5 count 3",
+    ),
+    Spelled(b"\x0b\0\0\0z\x01\0\x01\0\0\0", "Tremove tag 1 fid 1"),
+    Spelled(
+        b"?\0\0\0~\x01\0\x01\0\0\0\x32\0\x30\0\xff\xff\xff\xff\xff\xff\xff\xff\xff\xff\xff\xff\xff\xff\xff\xff\xff\xff\xff\xff\xff\xff\xff\xff\xff\xff\xff\xff\xff\xff\xff\xff\xff\xff\xff\xff\xff\xff\xff\x01\0g\0\0\0\0\0\0",
+        "Twstat tag 1 fid 1 type 65535 dev 4294967295 qid (ff 4294967295 18446744073709551615) mode 37777777777 atime 4294967295 mtime 4294967295 length 18446744073709551615 name \"g\" uid \"\" gid \"\" muid \"\"",
+    ),
+];
+
+fn expect_request_written(rt: &(impl Abort + AllocGlobal), message: &TMessage, bytes: &[u8]) {
+    assert!(rt; message.fits());
+    let mut out = Vec::new(rt.alloc());
+    encode_t(message, &mut out).expect(rt, "memory");
+    assert!(rt; out.as_slice() == bytes);
+    assert_eq!(rt; message.spelled_length(), bytes.len());
+}
+
+fn expect_request(rt: &(impl Abort + AllocGlobal), spelled: &Spelled) {
+    let message = decode(rt.alloc(), spelled.0).expect(rt, "a message");
+    let mut shown = String::new(rt.alloc());
+    write!(shown, "{message}").expect(rt, "memory");
+    assert_eq!(rt; shown.as_str(), spelled.1);
+    expect_request_written(rt, &message, spelled.0);
 }
 
 #[test]
-fn replies_are_read_and_written_again(rt: HostRuntime) -> Result<(), Fail> {
-    let examples = [
-        (
-            b"\x13\0\0\0e\xff\xff\0 \0\0\x06\09P2000".as_slice(),
-            "Rversion tag 65535 msize 8192 version \"9P2000\"",
-        ),
-        (
-            b"\x14\0\0\0i\x01\0\x80\0\0\0\0\0\0\0\0\0\0\0\0".as_slice(),
-            "Rattach tag 1 qid (80 0 0)",
-        ),
-        (
-            b"\x16\0\0\0o\x01\0\x01\0\0\0\0\0\0\x04\0\0\0\0\0\0\0".as_slice(),
-            "Rwalk tag 1 wqid [(00 0 4)]",
-        ),
-        (
-            b"\x18\0\0\0q\x01\0\0\0\0\0\0\x04\0\0\0\0\0\0\0\0\0\0\0".as_slice(),
-            "Ropen tag 1 qid (00 0 4) iounit 0",
-        ),
-        (
-            b"\x10\0\0\0u\x01\0\x05\0\0\0hello".as_slice(),
-            "Rread tag 1 count 5",
-        ),
-        (
-            b"F\0\0\0}\x01\0=\0;\0\0\0\0\0\0\0\0\0\0\0\0\x04\0\0\0\0\0\0\0\xb4\x01\0\0\0\0\0\0\0\0\0\0\x05\0\0\0\0\0\0\0\x01\0f\x03\0ann\x05\0staff\x03\0ann".as_slice(),
-            "Rstat tag 1 type 0 dev 0 qid (00 0 4) mode 664 atime 0 mtime 0 length 5 name \"f\" uid \"ann\" gid \"staff\" muid \"ann\"",
-        ),
-        (b"\x07\0\0\0y\x01\0".as_slice(), "Rclunk tag 1"),
-        (
-            b"\x13\0\0\0e\xff\xff\0 \0\0\x06\09P2000".as_slice(),
-            "Rversion tag 65535 msize 8192 version \"9P2000\"",
-        ),
-        (
-            b"\x14\0\0\0e\xff\xff\0 \0\0\x07\0unknown".as_slice(),
-            "Rversion tag 65535 msize 8192 version \"unknown\"",
-        ),
-        (
-            b"\x16\0\0\0k\x01\0\x0d\0S1 no session".as_slice(),
-            "Rerror tag 1 ename \"S1 no session\"",
-        ),
-        (
-            b"#\0\0\0o\x01\0\x02\0\x80\0\0\0\0\x01\0\0\0\0\0\0\0\0\x02\0\0\0\x04\0\0\0\0\0\0\0".as_slice(),
-            "Rwalk tag 1 wqid [(80 0 1), (00 2 4)]",
-        ),
-        (
-            b"\x18\0\0\0s\x01\0\0\0\0\0\0\x06\0\0\0\0\0\0\0\0\0\0\0".as_slice(),
-            "Rcreate tag 1 qid (00 0 6) iounit 0",
-        ),
-        (
-            b"\x0b\0\0\0w\x01\0\x03\0\0\0".as_slice(),
-            "Rwrite tag 1 count 3",
-        ),
-        (b"\x07\0\0\0{\x01\0".as_slice(), "Rremove tag 1"),
-        (b"\x07\0\0\0\x7f\x01\0".as_slice(), "Rwstat tag 1"),
-    ];
-    for (bytes, line) in examples {
-        let message = decode_r(rt.alloc(), bytes)
-            .ok()
-            .ok_or("the bytes are a reply")?;
-        let shown = format!(in rt.alloc(); "{message}")?;
-        assert_eq!(rt; shown.as_str(), line);
-        assert!(rt; message.fits());
-        if message.fits() {
-            let mut out = Vec::new(rt.alloc());
-            encode(&message, &mut out)?;
-            assert_eq!(rt; out.as_slice(), bytes);
-            assert_eq!(rt; message.spelled_length(), bytes.len());
-        }
+fn requests_are_read_and_written_again(rt: HostRuntime) {
+    for spelled in &REQUESTS {
+        expect_request(&rt, spelled);
     }
-    Ok(())
+}
+
+const REPLIES: [Spelled; 15] = [
+    Spelled(
+        b"\x13\0\0\0e\xff\xff\0 \0\0\x06\09P2000",
+        "Rversion tag 65535 msize 8192 version \"9P2000\"",
+    ),
+    Spelled(
+        b"\x14\0\0\0i\x01\0\x80\0\0\0\0\0\0\0\0\0\0\0\0",
+        "Rattach tag 1 qid (80 0 0)",
+    ),
+    Spelled(
+        b"\x16\0\0\0o\x01\0\x01\0\0\0\0\0\0\x04\0\0\0\0\0\0\0",
+        "Rwalk tag 1 wqid [(00 0 4)]",
+    ),
+    Spelled(
+        b"\x18\0\0\0q\x01\0\0\0\0\0\0\x04\0\0\0\0\0\0\0\0\0\0\0",
+        "Ropen tag 1 qid (00 0 4) iounit 0",
+    ),
+    Spelled(b"\x10\0\0\0u\x01\0\x05\0\0\0hello", "Rread tag 1 count 5"),
+    Spelled(
+        b"F\0\0\0}\x01\0=\0;\0\0\0\0\0\0\0\0\0\0\0\0\x04\0\0\0\0\0\0\0\xb4\x01\0\0\0\0\0\0\0\0\0\0\x05\0\0\0\0\0\0\0\x01\0f\x03\0ann\x05\0staff\x03\0ann",
+        "Rstat tag 1 type 0 dev 0 qid (00 0 4) mode 664 atime 0 mtime 0 length 5 name \"f\" uid \"ann\" gid \"staff\" muid \"ann\"",
+    ),
+    Spelled(b"\x07\0\0\0y\x01\0", "Rclunk tag 1"),
+    Spelled(
+        b"\x13\0\0\0e\xff\xff\0 \0\0\x06\09P2000",
+        "Rversion tag 65535 msize 8192 version \"9P2000\"",
+    ),
+    Spelled(
+        b"\x14\0\0\0e\xff\xff\0 \0\0\x07\0unknown",
+        "Rversion tag 65535 msize 8192 version \"unknown\"",
+    ),
+    Spelled(
+        b"\x16\0\0\0k\x01\0\x0d\0S1 no session",
+        "Rerror tag 1 ename \"S1 no session\"",
+    ),
+    Spelled(
+        b"#\0\0\0o\x01\0\x02\0\x80\0\0\0\0\x01\0\0\0\0\0\0\0\0\x02\0\0\0\x04\0\0\0\0\0\0\0",
+        "Rwalk tag 1 wqid [(80 0 1), (00 2 4)]",
+    ),
+    Spelled(
+        b"\x18\0\0\0s\x01\0\0\0\0\0\0\x06\0\0\0\0\0\0\0\0\0\0\0",
+        "Rcreate tag 1 qid (00 0 6) iounit 0",
+    ),
+    Spelled(b"\x0b\0\0\0w\x01\0\x03\0\0\0", "Rwrite tag 1 count 3"),
+    Spelled(b"\x07\0\0\0{\x01\0", "Rremove tag 1"),
+    Spelled(b"\x07\0\0\0\x7f\x01\0", "Rwstat tag 1"),
+];
+
+fn expect_reply_written(rt: &(impl Abort + AllocGlobal), message: &RMessage, bytes: &[u8]) {
+    assert!(rt; message.fits());
+    let mut out = Vec::new(rt.alloc());
+    encode(message, &mut out).expect(rt, "memory");
+    assert!(rt; out.as_slice() == bytes);
+    assert_eq!(rt; message.spelled_length(), bytes.len());
+}
+
+fn expect_reply(rt: &(impl Abort + AllocGlobal), spelled: &Spelled) {
+    let message = decode_r(rt.alloc(), spelled.0).expect(rt, "a reply");
+    let mut shown = String::new(rt.alloc());
+    write!(shown, "{message}").expect(rt, "memory");
+    assert_eq!(rt; shown.as_str(), spelled.1);
+    expect_reply_written(rt, &message, spelled.0);
+}
+
+#[test]
+fn replies_are_read_and_written_again(rt: HostRuntime) {
+    for spelled in &REPLIES {
+        expect_reply(&rt, spelled);
+    }
+}
+
+const FAULTS: [Faulty; 9] = [
+    Faulty(b"\x07\0\0\0j\x01\0", WireFault::UnknownType),
+    Faulty(b"\x0c\0\0\0x\x01\0\x01\0\0\0", WireFault::SizeLies),
+    Faulty(b"\x0d\0\0\0d\xff\xff\0 \0\0\x01\0", WireFault::Short),
+    Faulty(b"\x0e\0\0\0d\xff\xff\0 \0\0\x01\0\0", WireFault::BadText),
+    Faulty(
+        b"\x11\0\0\0n\x01\0\0\0\0\0\x01\0\0\0\x11\0",
+        WireFault::TooManyNames,
+    ),
+    Faulty(
+        b"\x18\0\0\0t\x01\0\x01\0\0\0\0\0\0\0\0\0\0\0@\0\0\0\0",
+        WireFault::Trailing,
+    ),
+    Faulty(b"\x07\0\0\0d\xff", WireFault::Short),
+    Faulty(
+        b"\x1a\0\0\0v\x01\0\x01\0\0\0\x05\0\0\0\0\0\0\0\x04\0\0\0abc",
+        WireFault::Short,
+    ),
+    Faulty(
+        b"\x1a\0\0\0v\x01\0\x01\0\0\0\x05\0\0\0\0\0\0\0\x02\0\0\0abc",
+        WireFault::Trailing,
+    ),
+];
+
+fn expect_fault(rt: &(impl Abort + AllocGlobal), faulty: &Faulty) {
+    let fault = decode(rt.alloc(), faulty.0).err().expect(rt, "a fault");
+    assert_eq!(rt; fault, faulty.1);
 }
 
 #[test]
 fn the_first_fault_is_told(rt: HostRuntime) {
-    let examples = [
-        (b"\x07\0\0\0j\x01\0".as_slice(), WireFault::UnknownType),
-        (
-            b"\x0c\0\0\0x\x01\0\x01\0\0\0".as_slice(),
-            WireFault::SizeLies,
-        ),
-        (
-            b"\x0d\0\0\0d\xff\xff\0 \0\0\x01\0".as_slice(),
-            WireFault::Short,
-        ),
-        (
-            b"\x0e\0\0\0d\xff\xff\0 \0\0\x01\0\0".as_slice(),
-            WireFault::BadText,
-        ),
-        (
-            b"\x11\0\0\0n\x01\0\0\0\0\0\x01\0\0\0\x11\0".as_slice(),
-            WireFault::TooManyNames,
-        ),
-        (
-            b"\x18\0\0\0t\x01\0\x01\0\0\0\0\0\0\0\0\0\0\0@\0\0\0\0".as_slice(),
-            WireFault::Trailing,
-        ),
-        (b"\x07\0\0\0d\xff".as_slice(), WireFault::Short),
-        (
-            b"\x1a\0\0\0v\x01\0\x01\0\0\0\x05\0\0\0\0\0\0\0\x04\0\0\0abc".as_slice(),
-            WireFault::Short,
-        ),
-        (
-            b"\x1a\0\0\0v\x01\0\x01\0\0\0\x05\0\0\0\0\0\0\0\x02\0\0\0abc".as_slice(),
-            WireFault::Trailing,
-        ),
-    ];
-    for (bytes, fault) in examples {
-        assert!(rt; decode(rt.alloc(), bytes).err() == Some(fault), "{fault}");
+    for faulty in &FAULTS {
+        expect_fault(&rt, faulty);
     }
+}
+
+const REPLY_FAULTS: [Faulty; 10] = [
+    Faulty(b"\x09\0\0\0o\x01\0\x11\0", WireFault::TooManyNames),
+    Faulty(
+        b"F\0\0\0}\x01\0=\0<\0\0\0\0\0\0\0\0\0\0\0\0\x04\0\0\0\0\0\0\0\xb4\x01\0\0\0\0\0\0\0\0\0\0\x05\0\0\0\0\0\0\0\x01\0f\x03\0ann\x05\0staff\x03\0ann",
+        WireFault::SizeLies,
+    ),
+    Faulty(b"\x0a\0\0\0}\x01\0\x01\0\0", WireFault::SizeLies),
+    Faulty(b"\x07\0\0\0j\x01\0", WireFault::UnknownType),
+    Faulty(b"\x0b\0\0\0u\x01\0\x05\0\0\0", WireFault::Short),
+    Faulty(
+        b"<\0\0\0}\x01\0\x32\0\x30\0\0\0\0\0\0\0\0\0\0\0\0\0\0\0\0\0\0\0\0\0\0\0\0\0\0\0\0\0\0\0\0\0\0\0\0\0\0\0\0\x01\0f\0\0\0\0\x01\0\0",
+        WireFault::SizeLies,
+    ),
+    Faulty(
+        b";\0\0\0}\x01\0\x32\0\x30\0\0\0\0\0\0\0\0\0\0\0\0\0\0\0\0\0\0\0\0\0\0\0\0\0\0\0\0\0\0\0\0\0\0\0\0\0\0\0\0\x01\0\0\0\0\0\0\0\0",
+        WireFault::BadText,
+    ),
+    Faulty(
+        b"<\0\0\0}\x01\0\x33\0\x31\0\0\0\0\0\0\0\0\0\0\0\0\0\0\0\0\0\0\0\0\0\0\0\0\0\0\0\0\0\0\0\0\0\0\0\0\0\0\0\0\x01\0f\0\0\0\0\0\0\0",
+        WireFault::SizeLies,
+    ),
+    Faulty(
+        b"<\0\0\0}\x01\0\x32\0\x30\0\0\0\0\0\0\0\0\0\0\0\0\0\0\0\0\0\0\0\0\0\0\0\0\0\0\0\0\0\0\0\0\0\0\0\0\0\0\0\0\x01\0f\0\0\0\0\0\0\0",
+        WireFault::Trailing,
+    ),
+    Faulty(
+        b";\0\0\0}\x01\0\x33\0\x30\0\0\0\0\0\0\0\0\0\0\0\0\0\0\0\0\0\0\0\0\0\0\0\0\0\0\0\0\0\0\0\0\0\0\0\0\0\0\0\0\x01\0f\0\0\0\0\0\0",
+        WireFault::Short,
+    ),
+];
+
+fn expect_reply_fault(rt: &(impl Abort + AllocGlobal), faulty: &Faulty) {
+    let fault = decode_r(rt.alloc(), faulty.0).err().expect(rt, "a fault");
+    assert_eq!(rt; fault, faulty.1);
 }
 
 #[test]
 fn the_first_fault_of_a_reply_is_told(rt: HostRuntime) {
-    let examples = [
-        (
-            b"\x09\0\0\0o\x01\0\x11\0".as_slice(),
-            WireFault::TooManyNames,
-        ),
-        (
-            b"F\0\0\0}\x01\0=\0<\0\0\0\0\0\0\0\0\0\0\0\0\x04\0\0\0\0\0\0\0\xb4\x01\0\0\0\0\0\0\0\0\0\0\x05\0\0\0\0\0\0\0\x01\0f\x03\0ann\x05\0staff\x03\0ann".as_slice(),
-            WireFault::SizeLies,
-        ),
-        (b"\x0a\0\0\0}\x01\0\x01\0\0".as_slice(), WireFault::SizeLies),
-        (b"\x07\0\0\0j\x01\0".as_slice(), WireFault::UnknownType),
-        (b"\x0b\0\0\0u\x01\0\x05\0\0\0".as_slice(), WireFault::Short),
-        (
-            b"<\0\0\0}\x01\0\x32\0\x30\0\0\0\0\0\0\0\0\0\0\0\0\0\0\0\0\0\0\0\0\0\0\0\0\0\0\0\0\0\0\0\0\0\0\0\0\0\0\0\0\x01\0f\0\0\0\0\x01\0\0".as_slice(),
-            WireFault::SizeLies,
-        ),
-        (
-            b";\0\0\0}\x01\0\x32\0\x30\0\0\0\0\0\0\0\0\0\0\0\0\0\0\0\0\0\0\0\0\0\0\0\0\0\0\0\0\0\0\0\0\0\0\0\0\0\0\0\0\x01\0\0\0\0\0\0\0\0".as_slice(),
-            WireFault::BadText,
-        ),
-        (
-            b"<\0\0\0}\x01\0\x33\0\x31\0\0\0\0\0\0\0\0\0\0\0\0\0\0\0\0\0\0\0\0\0\0\0\0\0\0\0\0\0\0\0\0\0\0\0\0\0\0\0\0\x01\0f\0\0\0\0\0\0\0".as_slice(),
-            WireFault::SizeLies,
-        ),
-        (
-            b"<\0\0\0}\x01\0\x32\0\x30\0\0\0\0\0\0\0\0\0\0\0\0\0\0\0\0\0\0\0\0\0\0\0\0\0\0\0\0\0\0\0\0\0\0\0\0\0\0\0\0\x01\0f\0\0\0\0\0\0\0".as_slice(),
-            WireFault::Trailing,
-        ),
-        (
-            b";\0\0\0}\x01\0\x33\0\x30\0\0\0\0\0\0\0\0\0\0\0\0\0\0\0\0\0\0\0\0\0\0\0\0\0\0\0\0\0\0\0\0\0\0\0\0\0\0\0\0\x01\0f\0\0\0\0\0\0".as_slice(),
-            WireFault::Short,
-        ),
-    ];
-    for (bytes, fault) in examples {
-        assert!(rt; decode_r(rt.alloc(), bytes).err() == Some(fault), "{fault}");
+    for faulty in &REPLY_FAULTS {
+        expect_reply_fault(&rt, faulty);
     }
 }
+
+const STAT_FAULTS: [Faulty; 12] = [
+    // No byte, and one byte: no room for the size.
+    Faulty(b"\x0d\0\0\0~\x01\0\x01\0\0\0\0\0", WireFault::SizeLies),
+    Faulty(b"\x0e\0\0\0~\x01\0\x01\0\0\0\x01\0\0", WireFault::SizeLies),
+    // A size one above, and one below.
+    Faulty(
+        b"?\0\0\0~\x01\0\x01\0\0\0\x32\0\x31\0\0\0\0\0\0\0\0\0\0\0\0\0\0\0\0\0\0\0\0\0\0\0\0\0\0\0\0\0\0\0\0\0\0\0\0\0\0\0\0\x01\0f\0\0\0\0\0\0",
+        WireFault::SizeLies,
+    ),
+    Faulty(
+        b"?\0\0\0~\x01\0\x01\0\0\0\x32\0/\0\0\0\0\0\0\0\0\0\0\0\0\0\0\0\0\0\0\0\0\0\0\0\0\0\0\0\0\0\0\0\0\0\0\0\0\0\0\0\0\x01\0f\0\0\0\0\0\0",
+        WireFault::SizeLies,
+    ),
+    // A text that runs past the stat, and not past the message.
+    Faulty(
+        b"@\0\0\0~\x01\0\x01\0\0\0\x32\0\x30\0\0\0\0\0\0\0\0\0\0\0\0\0\0\0\0\0\0\0\0\0\0\0\0\0\0\0\0\0\0\0\0\0\0\0\0\0\0\0\0\x01\0f\0\0\0\0\x01\0\0",
+        WireFault::SizeLies,
+    ),
+    // No last text at all.
+    Faulty(
+        b"=\0\0\0~\x01\0\x01\0\0\0\x30\0.\0\0\0\0\0\0\0\0\0\0\0\0\0\0\0\0\0\0\0\0\0\0\0\0\0\0\0\0\0\0\0\0\0\0\0\0\0\0\0\0\x01\0f\0\0\0\0",
+        WireFault::SizeLies,
+    ),
+    // A name with NUL; a group that is no UTF-8, before a text that runs past the stat.
+    Faulty(
+        b"?\0\0\0~\x01\0\x01\0\0\0\x32\0\x30\0\0\0\0\0\0\0\0\0\0\0\0\0\0\0\0\0\0\0\0\0\0\0\0\0\0\0\0\0\0\0\0\0\0\0\0\0\0\0\0\x01\0\0\0\0\0\0\0\0",
+        WireFault::BadText,
+    ),
+    Faulty(
+        b"@\0\0\0~\x01\0\x01\0\0\0\x33\0\x31\0\0\0\0\0\0\0\0\0\0\0\0\0\0\0\0\0\0\0\0\0\0\0\0\0\0\0\0\0\0\0\0\0\0\0\0\0\0\0\0\x01\0f\0\0\x01\0\xff\x01\0",
+        WireFault::BadText,
+    ),
+    // A byte left in the stat, and after it.
+    Faulty(
+        b"@\0\0\0~\x01\0\x01\0\0\0\x33\0\x31\0\0\0\0\0\0\0\0\0\0\0\0\0\0\0\0\0\0\0\0\0\0\0\0\0\0\0\0\0\0\0\0\0\0\0\0\0\0\0\0\x01\0f\0\0\0\0\0\0\0",
+        WireFault::SizeLies,
+    ),
+    Faulty(
+        b"@\0\0\0~\x01\0\x01\0\0\0\x32\0\x30\0\0\0\0\0\0\0\0\0\0\0\0\0\0\0\0\0\0\0\0\0\0\0\0\0\0\0\0\0\0\0\0\0\0\0\0\0\0\0\0\x01\0f\0\0\0\0\0\0\0",
+        WireFault::Trailing,
+    ),
+    // A stat that runs past the message, and half of its length.
+    Faulty(
+        b"?\0\0\0~\x01\0\x01\0\0\0\x33\0\x30\0\0\0\0\0\0\0\0\0\0\0\0\0\0\0\0\0\0\0\0\0\0\0\0\0\0\0\0\0\0\0\0\0\0\0\0\0\0\0\0\x01\0f\0\0\0\0\0\0",
+        WireFault::Short,
+    ),
+    Faulty(b"\x0c\0\0\0~\x01\0\x01\0\0\0\0", WireFault::Short),
+];
 
 #[test]
 fn the_first_fault_of_a_stat_is_told(rt: HostRuntime) {
-    let examples = [
-        // No byte, and one byte: no room for the size.
-        (
-            b"\x0d\0\0\0~\x01\0\x01\0\0\0\0\0".as_slice(),
-            WireFault::SizeLies,
-        ),
-        (
-            b"\x0e\0\0\0~\x01\0\x01\0\0\0\x01\0\0".as_slice(),
-            WireFault::SizeLies,
-        ),
-        // A size one above, and one below.
-        (
-            b"?\0\0\0~\x01\0\x01\0\0\0\x32\0\x31\0\0\0\0\0\0\0\0\0\0\0\0\0\0\0\0\0\0\0\0\0\0\0\0\0\0\0\0\0\0\0\0\0\0\0\0\0\0\0\0\x01\0f\0\0\0\0\0\0".as_slice(),
-            WireFault::SizeLies,
-        ),
-        (
-            b"?\0\0\0~\x01\0\x01\0\0\0\x32\0/\0\0\0\0\0\0\0\0\0\0\0\0\0\0\0\0\0\0\0\0\0\0\0\0\0\0\0\0\0\0\0\0\0\0\0\0\0\0\0\0\x01\0f\0\0\0\0\0\0".as_slice(),
-            WireFault::SizeLies,
-        ),
-        // A text that runs past the stat, and not past the message.
-        (
-            b"@\0\0\0~\x01\0\x01\0\0\0\x32\0\x30\0\0\0\0\0\0\0\0\0\0\0\0\0\0\0\0\0\0\0\0\0\0\0\0\0\0\0\0\0\0\0\0\0\0\0\0\0\0\0\0\x01\0f\0\0\0\0\x01\0\0".as_slice(),
-            WireFault::SizeLies,
-        ),
-        // No last text at all.
-        (
-            b"=\0\0\0~\x01\0\x01\0\0\0\x30\0.\0\0\0\0\0\0\0\0\0\0\0\0\0\0\0\0\0\0\0\0\0\0\0\0\0\0\0\0\0\0\0\0\0\0\0\0\0\0\0\0\x01\0f\0\0\0\0".as_slice(),
-            WireFault::SizeLies,
-        ),
-        // A name with NUL; a group that is no UTF-8, before a text that runs past the stat.
-        (
-            b"?\0\0\0~\x01\0\x01\0\0\0\x32\0\x30\0\0\0\0\0\0\0\0\0\0\0\0\0\0\0\0\0\0\0\0\0\0\0\0\0\0\0\0\0\0\0\0\0\0\0\0\0\0\0\0\x01\0\0\0\0\0\0\0\0".as_slice(),
-            WireFault::BadText,
-        ),
-        (
-            b"@\0\0\0~\x01\0\x01\0\0\0\x33\0\x31\0\0\0\0\0\0\0\0\0\0\0\0\0\0\0\0\0\0\0\0\0\0\0\0\0\0\0\0\0\0\0\0\0\0\0\0\0\0\0\0\x01\0f\0\0\x01\0\xff\x01\0".as_slice(),
-            WireFault::BadText,
-        ),
-        // A byte left in the stat, and after it.
-        (
-            b"@\0\0\0~\x01\0\x01\0\0\0\x33\0\x31\0\0\0\0\0\0\0\0\0\0\0\0\0\0\0\0\0\0\0\0\0\0\0\0\0\0\0\0\0\0\0\0\0\0\0\0\0\0\0\0\x01\0f\0\0\0\0\0\0\0".as_slice(),
-            WireFault::SizeLies,
-        ),
-        (
-            b"@\0\0\0~\x01\0\x01\0\0\0\x32\0\x30\0\0\0\0\0\0\0\0\0\0\0\0\0\0\0\0\0\0\0\0\0\0\0\0\0\0\0\0\0\0\0\0\0\0\0\0\0\0\0\0\x01\0f\0\0\0\0\0\0\0".as_slice(),
-            WireFault::Trailing,
-        ),
-        // A stat that runs past the message, and half of its length.
-        (
-            b"?\0\0\0~\x01\0\x01\0\0\0\x33\0\x30\0\0\0\0\0\0\0\0\0\0\0\0\0\0\0\0\0\0\0\0\0\0\0\0\0\0\0\0\0\0\0\0\0\0\0\0\0\0\0\0\x01\0f\0\0\0\0\0\0".as_slice(),
-            WireFault::Short,
-        ),
-        (
-            b"\x0c\0\0\0~\x01\0\x01\0\0\0\0".as_slice(),
-            WireFault::Short,
-        ),
-    ];
-    for (bytes, fault) in examples {
-        assert!(rt; decode(rt.alloc(), bytes).err() == Some(fault), "{fault}");
+    for faulty in &STAT_FAULTS {
+        expect_fault(&rt, faulty);
     }
 }
 
 #[test]
-fn a_reply_to_version_can_have_a_constant_text(rt: HostRuntime) -> Result<(), Fail> {
+fn a_reply_to_version_can_have_a_constant_text(rt: HostRuntime) {
     let body = RBody::Version {
         msize: 8192,
         version: CowStr::Borrowed("9P2000"),
     };
     let message = RMessage { tag: 65535, body };
-    assert!(rt; message.fits());
-    if message.fits() {
-        let mut out = Vec::new(rt.alloc());
-        encode(&message, &mut out)?;
-        assert_eq!(rt;
-            out.as_slice(),
-            b"\x13\0\0\0e\xff\xff\0 \0\0\x06\09P2000".as_slice()
-        );
-    }
-    Ok(())
+    expect_reply_written(&rt, &message, b"\x13\0\0\0e\xff\xff\0 \0\0\x06\09P2000");
 }
 
-#[test]
-fn an_entry_is_what_a_reply_to_stat_holds(rt: HostRuntime) -> Result<(), Fail> {
-    let bytes =
-        b"F\0\0\0}\x01\0=\0;\0\0\0\0\0\0\0\0\0\0\0\0\x04\0\0\0\0\0\0\0\xb4\x01\0\0\0\0\0\0\0\0\0\0\x05\0\0\0\0\0\0\0\x01\0f\x03\0ann\x05\0staff\x03\0ann";
-    let reply = decode_r(rt.alloc(), bytes)
-        .ok()
-        .ok_or("the bytes are a reply")?;
-    let RBody::Stat { stat } = reply.body else {
-        return Err("the reply is Rstat".into());
-    };
+/// The reply to a stat of `/f`.
+const F: &[u8] =
+    b"F\0\0\0}\x01\0=\0;\0\0\0\0\0\0\0\0\0\0\0\0\x04\0\0\0\0\0\0\0\xb4\x01\0\0\0\0\0\0\0\0\0\0\x05\0\0\0\0\0\0\0\x01\0f\x03\0ann\x05\0staff\x03\0ann";
+
+fn expect_entry(rt: &(impl Abort + AllocGlobal), stat: &Stat, bytes: &[u8]) {
     let stat = stat.borrowed();
     assert!(rt; stat.fits());
-    if stat.fits() {
-        let mut out = Vec::new(rt.alloc());
-        stat.encode_entry(&mut out)?;
-        assert_eq!(rt; out.as_slice(), &bytes[9..]);
-        assert_eq!(rt; stat.entry_length(), 61);
-    }
-    Ok(())
+    let mut out = Vec::new(rt.alloc());
+    stat.encode_entry(&mut out).expect(rt, "memory");
+    assert!(rt; out.as_slice() == bytes);
+    assert_eq!(rt; stat.entry_length(), 61);
 }
 
 #[test]
-fn a_stat_that_was_read_is_taken_apart(rt: HostRuntime) -> Result<(), Fail> {
-    let bytes =
-        b"?\0\0\0~\x01\0\x01\0\0\0\x32\0\x30\0\xff\xff\xff\xff\xff\xff\xff\xff\xff\xff\xff\xff\xff\xff\xff\xff\xff\xff\xff\xff\xff\xff\xff\xff\xff\xff\xff\xff\xff\xff\xff\xff\xff\xff\xff\xff\xff\xff\xff\x01\0g\0\0\0\0\0\0";
-    let request = decode(rt.alloc(), bytes)
-        .ok()
-        .ok_or("the bytes are a message")?;
-    let TBody::Wstat { fid, stat } = request.body else {
-        return Err("the message is Twstat".into());
+fn an_entry_is_what_a_reply_to_stat_holds(rt: HostRuntime) {
+    let reply = decode_r(rt.alloc(), F).expect(&rt, "a reply");
+    let RBody::Stat { stat } = &reply.body else {
+        panic!(rt; "the reply is Rstat");
     };
+    expect_entry(&rt, stat, &F[9..]);
+}
+
+/// A Twstat that changes the name alone.
+const NAMED_G: &[u8] =
+    b"?\0\0\0~\x01\0\x01\0\0\0\x32\0\x30\0\xff\xff\xff\xff\xff\xff\xff\xff\xff\xff\xff\xff\xff\xff\xff\xff\xff\xff\xff\xff\xff\xff\xff\xff\xff\xff\xff\xff\xff\xff\xff\xff\xff\xff\xff\xff\xff\xff\xff\x01\0g\0\0\0\0\0\0";
+
+/// The mode, and the name and the gid, which are moved out.
+fn taken_apart(stat: Stat) -> (u32, String, String) {
     let Stat {
         mode,
         name,
         gid,
         ..
     } = stat;
+    (mode, name, gid)
+}
+
+#[test]
+fn a_stat_that_was_read_is_taken_apart(rt: HostRuntime) {
+    let request = decode(rt.alloc(), NAMED_G).expect(&rt, "a message");
+    let TBody::Wstat { fid, stat } = request.body else {
+        panic!(rt; "the message is Twstat");
+    };
     assert_eq!(rt; fid, 1);
+    let (mode, name, gid) = taken_apart(stat);
     assert_eq!(rt; mode, 4294967295);
     assert_eq!(rt; name.as_str(), "g");
     assert_eq!(rt; gid.as_str(), "");
-    Ok(())
 }

@@ -4,9 +4,9 @@ use cs_session::{
     Clock, Counted, Counts, ServeFault, Stream, Transfer, TwoEnded, serve_stream, write_all,
 };
 use cs_wire::FrameFault;
-use std::alloc::{AllocError, Global};
+use std::alloc::Global;
 use std::io::{self, Error, ErrorKind, Read, Write};
-use std::test::Fail;
+use std::process::Abort;
 
 /// A client's version, attach of ann to `0/a`, open of the root, and clunk, from outside.
 const REQUESTS: [&[u8]; 4] = [
@@ -20,13 +20,17 @@ const REQUESTS: [&[u8]; 4] = [
 const REPLIES: &[u8] =
     b"\x13\0\0\0e\xff\xff\0 \0\0\x06\09P2000\x14\0\0\0i\x01\0\0\x04\0\0\0\x03\0\0\0\0\0\0\0\x18\0\0\0q\x01\0\0\x04\0\0\0\x03\0\0\0\0\0\0\0\0\0\0\0\x07\0\0\0y\x01\0";
 
-fn requests(alloc: Global) -> Result<Vec<u8>, AllocError> {
-    let mut bytes = Vec::new(alloc);
-    for request in REQUESTS {
-        bytes.extend_from_slice(request)?;
-    }
-    Ok(bytes)
-}
+/// The same requests, one behind the other.
+const ALL_REQUESTS: &[u8] =
+    b"\x13\0\0\0d\xff\xff\0 \0\0\x06\09P2000\x19\0\0\0h\x01\0\0\0\0\0\xff\xff\xff\xff\x03\0ann\x03\00/a\x0c\0\0\0p\x01\0\0\0\0\0\0\x0b\0\0\0x\x01\0\0\0\0\0";
+
+/// All of them but the clunk.
+const THREE_REQUESTS: &[u8] =
+    b"\x13\0\0\0d\xff\xff\0 \0\0\x06\09P2000\x19\0\0\0h\x01\0\0\0\0\0\xff\xff\xff\xff\x03\0ann\x03\00/a\x0c\0\0\0p\x01\0\0\0\0\0\0";
+
+/// These, and a size that no message has.
+const UNFINISHED: &[u8] =
+    b"\x13\0\0\0d\xff\xff\0 \0\0\x06\09P2000\x19\0\0\0h\x01\0\0\0\0\0\xff\xff\xff\xff\x03\0ann\x03\00/a\x0c\0\0\0p\x01\0\0\0\0\0\0\x05\0\0\0";
 
 /// A clock that stands.
 #[derive(Drop)]
@@ -140,176 +144,156 @@ impl Write for Client {
     }
 }
 
-/// What serving a stream with this end for reading comes to, and what it wrote.
-fn served<R: Read + Drop>(alloc: Global, reader: R) -> (Result<(), ServeFault>, Vec<u8>) {
-    let mut stream = TwoEnded::new(reader, Vec::new(alloc));
-    let mut port = Fake::new(alloc);
-    let result = serve_stream(alloc, &mut stream, &mut port, &mut Standing);
-    (result, stream.into_writer())
+/// Serves a stream with this end for reading, and looks for what it comes to, and for what it
+/// writes.
+fn expect_served<R: Read + Drop>(
+    rt: &(impl Abort + AllocGlobal),
+    reader: R,
+    wanted: Result<(), ServeFault>,
+    written: &[u8],
+) {
+    let mut stream = TwoEnded::new(reader, Vec::new(rt.alloc()));
+    let mut port = Fake::new(rt.alloc());
+    let served = serve_stream(rt.alloc(), &mut stream, &mut port, &mut Standing);
+    assert!(rt; served == wanted);
+    assert!(rt; stream.into_writer().as_slice() == written);
 }
 
+const CUT: Result<(), ServeFault> = Err(ServeFault::FrameFault(FrameFault::Cut));
+
+const UNDERSIZE: Result<(), ServeFault> = Err(ServeFault::FrameFault(FrameFault::Undersize));
+
+const OVERSIZE: Result<(), ServeFault> = Err(ServeFault::FrameFault(FrameFault::Oversize));
+
 #[test]
-fn a_version_and_three_bytes_more_is_cut(rt: HostRuntime) -> Result<(), Fail> {
-    let bytes = b"\x13\0\0\0d\xff\xff\0 \0\0\x06\09P2000\x19\0\0".as_slice();
-    let (result, written) = served(rt.alloc(), bytes);
-    assert_eq!(rt; result, Err(ServeFault::FrameFault(FrameFault::Cut)));
-    assert_eq!(rt;
-        written.as_slice(),
-        b"\x13\0\0\0e\xff\xff\0 \0\0\x06\09P2000".as_slice()
+fn a_version_and_three_bytes_more_is_cut(rt: HostRuntime) {
+    expect_served(
+        &rt,
+        b"\x13\0\0\0d\xff\xff\0 \0\0\x06\09P2000\x19\0\0".as_slice(),
+        CUT,
+        b"\x13\0\0\0e\xff\xff\0 \0\0\x06\09P2000",
     );
-    Ok(())
 }
 
 #[test]
-fn a_size_that_no_message_has_ends_the_connection(rt: HostRuntime) -> Result<(), Fail> {
-    let (result, written) = served(rt.alloc(), b"\x06\0\0\0d\xff\xff".as_slice());
-    assert_eq!(rt; result, Err(ServeFault::FrameFault(FrameFault::Undersize)));
-    assert!(rt; written.is_empty());
-    let (result, written) = served(rt.alloc(), b"\x01\0\x01\0d\xff\xff".as_slice());
-    assert_eq!(rt; result, Err(ServeFault::FrameFault(FrameFault::Oversize)));
-    assert!(rt; written.is_empty());
-    Ok(())
+fn a_size_that_no_message_has_ends_the_connection(rt: HostRuntime) {
+    expect_served(&rt, b"\x06\0\0\0d\xff\xff".as_slice(), UNDERSIZE, b"");
+    expect_served(&rt, b"\x01\0\x01\0d\xff\xff".as_slice(), OVERSIZE, b"");
 }
 
-#[test]
-fn pieces_of_one_byte_have_the_same_replies(rt: HostRuntime) -> Result<(), Fail> {
-    let bytes = requests(rt.alloc())?;
-    for most in [1, 2, 7, 1_000] {
-        let pieces = Pieces {
-            bytes: &bytes,
-            most,
-            interruptions: 0,
-        };
-        let (result, written) = served(rt.alloc(), pieces);
-        assert_eq!(rt; result, Ok(()));
-        assert_eq!(rt; written.as_slice(), REPLIES);
+/// The requests in pieces of at most so many bytes, after so many interruptions.
+fn cut_up(most: usize, interruptions: u32) -> Pieces<'static> {
+    Pieces {
+        bytes: ALL_REQUESTS,
+        most,
+        interruptions,
     }
-    Ok(())
 }
 
 #[test]
-fn a_stream_cut_in_two_has_the_same_replies(rt: HostRuntime) -> Result<(), Fail> {
-    let bytes = requests(rt.alloc())?;
-    for place in 0..=bytes.len() {
-        let (front, back) = bytes.split_at(place);
-        let (result, written) = served(rt.alloc(), front.chain(back));
-        assert_eq!(rt; result, Ok(()));
-        assert_eq!(rt; written.as_slice(), REPLIES);
-    }
-    Ok(())
+fn pieces_of_one_byte_have_the_same_replies(rt: HostRuntime) {
+    expect_served(&rt, cut_up(1, 0), Ok(()), REPLIES);
+    expect_served(&rt, cut_up(2, 0), Ok(()), REPLIES);
+    expect_served(&rt, cut_up(7, 0), Ok(()), REPLIES);
+    expect_served(&rt, cut_up(1_000, 0), Ok(()), REPLIES);
 }
 
 #[test]
-fn a_thousand_interruptions_in_a_row_are_too_many(rt: HostRuntime) -> Result<(), Fail> {
-    let bytes = requests(rt.alloc())?;
-    for (interruptions, expected) in [(999, Ok(())), (1_000, Err(ServeFault::ReadFault))] {
-        let pieces = Pieces {
-            bytes: &bytes,
-            most: 64,
-            interruptions,
-        };
-        let (result, _) = served(rt.alloc(), pieces);
-        assert_eq!(rt; result, expected);
+fn a_stream_cut_in_two_has_the_same_replies(rt: HostRuntime) {
+    for place in 0..=ALL_REQUESTS.len() {
+        let (front, back) = ALL_REQUESTS.split_at(place);
+        expect_served(&rt, front.chain(back), Ok(()), REPLIES);
     }
-    for (interruptions, expected) in [(999, Ok(())), (1_000, Err(ServeFault::WriteFault))] {
-        let narrow = Narrow {
-            taken: Vec::new(rt.alloc()),
-            most: 64,
-            interruptions,
-        };
-        let mut stream = TwoEnded::new(bytes.as_slice(), narrow);
-        let mut port = Fake::new(rt.alloc());
-        let result = serve_stream(rt.alloc(), &mut stream, &mut port, &mut Standing);
-        assert_eq!(rt; result, expected);
-    }
-    Ok(())
 }
 
+/// Serves the requests to a writer that takes so many bytes at a time, after so many interruptions.
+fn expect_narrow(
+    rt: &(impl Abort + AllocGlobal),
+    most: usize,
+    interruptions: u32,
+    wanted: Result<(), ServeFault>,
+    written: &[u8],
+    idle_writes: u64,
+) {
+    let taken = Vec::new(rt.alloc());
+    let narrow = Narrow {
+        taken,
+        most,
+        interruptions,
+    };
+    let mut stream = TwoEnded::new(ALL_REQUESTS, narrow);
+    let mut port = Fake::new(rt.alloc());
+    let served = serve_stream(rt.alloc(), &mut stream, &mut port, &mut Standing);
+    assert!(rt; served == wanted);
+    assert_eq!(rt; stream.counts().idle_writes, idle_writes);
+    assert!(rt; stream.into_writer().taken.as_slice() == written);
+}
+
+const READ_FAULT: Result<(), ServeFault> = Err(ServeFault::ReadFault);
+
+const WRITE_FAULT: Result<(), ServeFault> = Err(ServeFault::WriteFault);
+
 #[test]
-fn a_client_has_each_reply_before_it_sends_more(rt: HostRuntime) -> Result<(), Fail> {
-    let mut stream = Counted::new(Client {
+fn a_thousand_interruptions_in_a_row_are_too_many(rt: HostRuntime) {
+    expect_served(&rt, cut_up(64, 999), Ok(()), REPLIES);
+    expect_served(&rt, cut_up(64, 1_000), READ_FAULT, b"");
+    expect_narrow(&rt, 64, 999, Ok(()), REPLIES, 0);
+    expect_narrow(&rt, 64, 1_000, WRITE_FAULT, b"", 0);
+}
+
+/// A client that has not sent anything yet.
+fn new_client(alloc: Global) -> Client {
+    Client {
         sent: 0,
         replied: 0,
-        replies: Vec::new(rt.alloc()),
-    });
-    let mut port = Fake::new(rt.alloc());
-    let result = serve_stream(rt.alloc(), &mut stream, &mut port, &mut Standing);
-    assert_eq!(rt; result, Err(ServeFault::ReadFault));
-    let counts = stream.counts();
-    assert_eq!(rt;
-        (counts.reads, counts.failed_reads, counts.writes),
-        (5, 1, 4)
-    );
-    assert_eq!(rt; stream.into_inner().replies.as_slice(), REPLIES);
-    Ok(())
+        replies: Vec::new(alloc),
+    }
 }
 
 #[test]
-fn each_message_is_answered_at_a_moment_of_its_own(rt: HostRuntime) -> Result<(), Fail> {
-    let mut bytes = Vec::new(rt.alloc());
-    for request in [REQUESTS[0], REQUESTS[1], REQUESTS[2]] {
-        bytes.extend_from_slice(request)?;
-    }
-    let mut stream = TwoEnded::new(bytes.as_slice(), Vec::new(rt.alloc()));
+fn a_client_has_each_reply_before_it_sends_more(rt: HostRuntime) {
+    let mut stream = Counted::new(new_client(rt.alloc()));
+    let mut port = Fake::new(rt.alloc());
+    let result = serve_stream(rt.alloc(), &mut stream, &mut port, &mut Standing);
+    assert!(rt; result == READ_FAULT);
+    let counts = stream.counts();
+    assert!(rt; counts.reads == 5 && counts.failed_reads == 1 && counts.writes == 4);
+    assert!(rt; stream.into_inner().replies.as_slice() == REPLIES);
+}
+
+#[test]
+fn each_message_is_answered_at_a_moment_of_its_own(rt: HostRuntime) {
+    let mut stream = TwoEnded::new(THREE_REQUESTS, Vec::new(rt.alloc()));
     let mut port = Fake::new(rt.alloc());
     let mut clock = Ticking { moment: 720 };
     let result = serve_stream(rt.alloc(), &mut stream, &mut port, &mut clock);
-    assert_eq!(rt; result, Ok(()));
+    assert!(rt; result.is_ok());
     // A version asks nothing; the attach, the open, and the close at the hang-up.
-    assert_eq!(rt; port.moments.as_slice(), [780, 840, 900].as_slice());
-    Ok(())
+    assert!(rt; port.moments.as_slice() == [780, 840, 900].as_slice());
 }
 
 #[test]
-fn writes_go_on_until_one_takes_no_byte(rt: HostRuntime) -> Result<(), Fail> {
-    let bytes = requests(rt.alloc())?;
-    for (most, expected) in [(1, Ok(())), (0, Err(ServeFault::WriteFault))] {
-        let narrow = Narrow {
-            taken: Vec::new(rt.alloc()),
-            most,
-            interruptions: 0,
-        };
-        let mut stream = TwoEnded::new(bytes.as_slice(), narrow);
-        let mut port = Fake::new(rt.alloc());
-        let result = serve_stream(rt.alloc(), &mut stream, &mut port, &mut Standing);
-        assert_eq!(rt; result, expected);
-        assert_eq!(rt; stream.counts().idle_writes, 1 - most as u64);
-        let narrow = stream.into_writer();
-        assert_eq!(rt; narrow.taken.len(), most * REPLIES.len());
-    }
-    Ok(())
+fn writes_go_on_until_one_takes_no_byte(rt: HostRuntime) {
+    expect_narrow(&rt, 1, 0, Ok(()), REPLIES, 0);
+    expect_narrow(&rt, 0, 0, WRITE_FAULT, b"", 1);
 }
 
 #[test]
-fn it_hangs_up_before_it_returns(rt: HostRuntime) -> Result<(), Fail> {
-    let mut bytes = Vec::new(rt.alloc());
-    for request in [
-        REQUESTS[0],
-        REQUESTS[1],
-        REQUESTS[2],
-        b"\x05\0\0\0".as_slice(),
-    ] {
-        bytes.extend_from_slice(request)?;
-    }
-    let mut stream = TwoEnded::new(bytes.as_slice(), Vec::new(rt.alloc()));
+fn it_hangs_up_before_it_returns(rt: HostRuntime) {
+    let mut stream = TwoEnded::new(UNFINISHED, Vec::new(rt.alloc()));
     let mut port = Fake::new(rt.alloc());
     let result = serve_stream(rt.alloc(), &mut stream, &mut port, &mut Standing);
-    assert_eq!(rt; result, Err(ServeFault::FrameFault(FrameFault::Undersize)));
-    assert_eq!(rt; port.closed.as_slice(), [0].as_slice());
-    Ok(())
+    assert!(rt; result == UNDERSIZE);
+    assert!(rt; port.closed.as_slice() == [0].as_slice());
 }
 
 #[test]
-fn counts_the_calls_of_a_stream(rt: HostRuntime) -> Result<(), Fail> {
+fn counts_the_calls_of_a_stream(rt: HostRuntime) {
     let mut stream = Counted::new(io::Cursor::new(Vec::new(rt.alloc())));
-    assert_eq!(rt; stream.counts(), Counts::NONE);
-    assert_eq!(rt; write_all(&mut stream, b"abc"), Ok(()));
-    let mut buf = [0; 4];
-    assert_eq!(rt; stream.read(&mut buf), Transfer::Bytes(0));
+    assert!(rt; stream.counts() == Counts::NONE);
+    assert!(rt; write_all(&mut stream, b"abc").is_ok());
+    assert!(rt; stream.read(&mut [0; 4]) == Transfer::Bytes(0));
     let counts = stream.counts();
-    assert_eq!(rt; counts.writes, 1);
-    assert_eq!(rt; counts.reads, 1);
-    assert_eq!(rt; counts.ends, 1);
+    assert!(rt; counts.writes == 1 && counts.reads == 1 && counts.ends == 1);
     assert_eq!(rt; stream.into_inner().position(), 3);
-    Ok(())
 }

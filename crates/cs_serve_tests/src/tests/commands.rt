@@ -1,0 +1,101 @@
+//! What the commands print, and their status.
+use crate::tests::fixture::HEADER;
+use cs_serve::{Inputs, list_of, script_of};
+use std::alloc::Global;
+use std::io::{self, ErrorKind, Read, Write};
+use std::process::Abort;
+
+/// These users and this trace, and no more.
+pub fn inputs_of<'a>(users: &'a [u8], trace: &'a [u8]) -> Inputs<'a> {
+    Inputs {
+        users,
+        trace,
+        picks: &[],
+        holes: false,
+        verbose: false,
+    }
+}
+
+/// A status, what was printed, and, after a line of `--`, what was told on standard error.
+pub fn outcome(alloc: Global, status: u8, out: &[u8], err: &[u8]) -> Option<String> {
+    let out = std::str::from_utf8(out).ok()?;
+    let err = std::str::from_utf8(err).ok()?;
+    format!(in alloc; "status {status}\n{out}--\n{err}").ok()
+}
+
+/// What `script` comes to.
+pub fn scripted<R: Read>(alloc: Global, inputs: &Inputs, input: &mut R) -> Option<String> {
+    let mut out: Vec<u8> = Vec::new(alloc);
+    let mut err: Vec<u8> = Vec::new(alloc);
+    let status = script_of(alloc, inputs, input, &mut out, &mut err);
+    outcome(alloc, status, &out, &err)
+}
+
+/// What `list` comes to.
+pub fn listed(alloc: Global, inputs: &Inputs) -> Option<String> {
+    let mut out: Vec<u8> = Vec::new(alloc);
+    let mut err: Vec<u8> = Vec::new(alloc);
+    let status = list_of(alloc, inputs, &mut out, &mut err);
+    outcome(alloc, status, &out, &err)
+}
+
+/// Looks for the status 0, and for what is printed and told.
+pub fn expect_printed(
+    rt: &(impl Abort + AllocGlobal),
+    outcome: Option<String>,
+    out: &str,
+    err: &str,
+) {
+    let wanted = format!(in rt.alloc(); "status 0\n{out}--\n{err}").expect(rt, "memory");
+    assert_eq!(rt; outcome.expect(rt, "text").as_str(), wanted.as_str());
+}
+
+/// Looks for a fault, which is told in one line, for no output, and for the status 1.
+pub fn expect_fault(rt: &(impl Abort + AllocGlobal), outcome: Option<String>, fault: &str) {
+    let wanted = format!(in rt.alloc(); "status 1\n--\ncrashfs: {fault}\n").expect(rt, "memory");
+    assert_eq!(rt; outcome.expect(rt, "text").as_str(), wanted.as_str());
+}
+
+/// What is given, and the fault that is told of it.
+pub struct Faulty(pub &'static str, pub &'static str);
+
+/// A header, and these two texts.
+pub fn trace_of(alloc: Global, front: &str, back: &str) -> Option<String> {
+    format!(in alloc; "{HEADER}{front}{back}").ok()
+}
+
+/// A reader whose reads fail.
+#[derive(Drop)]
+pub struct BrokenInput;
+
+impl Read for BrokenInput {
+    fn read(&mut self, _buf: &mut [u8]) -> io::Result<usize> {
+        Err(io::Error::from(ErrorKind::ConnectionReset))
+    }
+}
+
+/// A writer that takes some bytes, and whose writes fail from then on; its flushes too, where it
+/// doesn't flush.
+#[derive(Drop)]
+pub struct BrokenOutput {
+    pub left: usize,
+    pub flushes: bool,
+}
+
+impl Write for BrokenOutput {
+    fn write(&mut self, buf: &[u8]) -> io::Result<usize> {
+        let taken = buf.len().min(self.left);
+        if taken == 0 && !buf.is_empty() {
+            return Err(io::Error::from(ErrorKind::BrokenPipe));
+        }
+        self.left -= taken;
+        Ok(taken)
+    }
+
+    fn flush(&mut self) -> io::Result<()> {
+        if self.flushes {
+            return Ok(());
+        }
+        Err(io::Error::from(ErrorKind::BrokenPipe))
+    }
+}

@@ -1,0 +1,45 @@
+//! Replies as text.
+use cs_wire::{RBody, RMessage};
+
+/// The bytes of the next entry of a directory, and those behind it.
+fn next_entry(entries: &[u8]) -> Option<(&[u8], &[u8])> {
+    let size = u16::from_le_bytes([*entries.get(0)?, *entries.get(1)?]);
+    let end = usize::from(size).saturating_add(2);
+    Some((entries.get(..end)?, entries.get(end..)?))
+}
+
+/// The name in an entry.
+fn name_in(entry: &[u8]) -> Option<&str> {
+    let length = usize::from(*entry.get(41)?);
+    std::str::from_utf8(entry.get(43..length.saturating_add(43))?).ok()
+}
+
+/// Adds how many bytes the entries of a directory take, and their names.
+fn push_entries(text: &mut String, data: &[u8]) -> Option<()> {
+    write!(text, "Rread {}", data.len()).ok()?;
+    let mut entries = data;
+    for _ in 0..data.len() {
+        let Some((entry, others)) = next_entry(entries) else {
+            break;
+        };
+        text.push_str(" ").ok()?;
+        text.push_str(name_in(entry)?).ok()?;
+        entries = others;
+    }
+    Some(())
+}
+
+/// Adds the bytes of a file that were read, between quotes.
+fn push_bytes(text: &mut String, data: &[u8]) -> Option<()> {
+    write!(text, "Rread '{}'", std::str::from_utf8(data).ok()?).ok()
+}
+
+/// Adds the reply to a message in words. That to a `read` is told with its bytes, and that to a
+/// `list` with the names of the entries.
+pub fn push_reply(text: &mut String, asked: &str, reply: &RMessage) -> Option<()> {
+    match &reply.body {
+        RBody::Read { data } if asked.starts_with("read") => push_bytes(text, data),
+        RBody::Read { data } if asked.starts_with("list") => push_entries(text, data),
+        _ => write!(text, "{reply}").ok(),
+    }
+}
