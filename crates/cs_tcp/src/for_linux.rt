@@ -1,9 +1,10 @@
 //! A connection's stream, as Linux's own client needs it.
 
+use crate::asked::{Asked, Outcome};
 use cs_linux::{reply_to_linux, request_of_linux};
 use cs_names::limits::MESSAGE_BYTES;
 use cs_wire::{Framer, RMessage, TMessage, decode, decode_r, encode, encode_t};
-use std::alloc::{AllocError, Global};
+use std::alloc::Global;
 use std::collections::VecDeque;
 use std::io::{self, Read, Write};
 
@@ -15,7 +16,8 @@ const RERROR: u8 = 107;
 
 /// A stream to a client of Linux: what is read from it is what the client means, and what is written to
 /// it is told in texts that the client knows. A message goes on once it is whole; one that memory is
-/// wanting for goes on as it is.
+/// wanting for goes on as it is. Where the client renames a file onto one that stands, more requests are
+/// read than it sent, and their replies it doesn't get.
 #[derive(Drop)]
 pub(crate) struct ForLinux<RW> {
     stream: RW,
@@ -26,6 +28,8 @@ pub(crate) struct ForLinux<RW> {
     meant: VecDeque<u8>,
     /// What was written, from the first reply on that isn't whole.
     replies: Framer,
+    /// What was read of what it means, as far as replies to it matter.
+    asked: Asked,
 }
 
 /// What the client means by a Twstat. None of any other request.
@@ -66,12 +70,27 @@ fn bytes_told(alloc: Global, reply: &[u8]) -> Option<Vec<u8>> {
     Some(bytes)
 }
 
-/// Appends what the client means by each whole request, and all of the rest where that begins no request.
-fn mean_each(alloc: Global, requests: &mut Framer, meant: &mut VecDeque<u8>) -> io::Result<()> {
+/// Appends what the client means by each whole request, up to one whose reply matters, and all of the rest
+/// where that begins no request.
+fn mean_some(
+    alloc: Global,
+    requests: &mut Framer,
+    asked: &mut Asked,
+    meant: &mut VecDeque<u8>,
+) -> io::Result<()> {
     while let Ok(Some(request)) = requests.next() {
-        match bytes_meant(alloc, request) {
-            Some(bytes) => meant.write_all(&bytes)?,
-            None => meant.write_all(request)?,
+        let waits = match bytes_meant(alloc, request) {
+            Some(bytes) => {
+                meant.write_all(&bytes)?;
+                asked.ask(&bytes)
+            }
+            None => {
+                meant.write_all(request)?;
+                asked.ask(request)
+            }
+        };
+        if waits {
+            return Ok(());
         }
     }
     if requests.next().is_err() {
@@ -88,12 +107,42 @@ fn give_rest(alloc: Global, requests: &mut Framer, meant: &mut VecDeque<u8>) -> 
     Ok(())
 }
 
-/// Appends what the client is told of each whole reply.
-fn tell_each(alloc: Global, replies: &mut Framer, told: &mut Vec<u8>) -> Result<(), AllocError> {
+/// Appends a request of no client's.
+fn put_request(alloc: Global, request: &TMessage, meant: &mut VecDeque<u8>) -> io::Result<()> {
+    if !request.fits() {
+        return Err(io::Error::from(io::ErrorKind::InvalidData));
+    }
+    let mut bytes = Vec::new(alloc);
+    encode_t(request, &mut bytes)?;
+    meant.write_all(&bytes)
+}
+
+/// Appends what the client is told of a reply.
+fn put_reply(reply: RMessage, told: &mut Vec<u8>) -> io::Result<()> {
+    let reply = reply_to_linux(reply);
+    if !reply.fits() {
+        return Err(io::Error::from(io::ErrorKind::InvalidData));
+    }
+    encode(&reply, told)?;
+    Ok(())
+}
+
+/// Appends what the client is told of each whole reply, or what the server is asked then.
+fn tell_each(
+    alloc: Global,
+    replies: &mut Framer,
+    asked: &mut Asked,
+    meant: &mut VecDeque<u8>,
+    told: &mut Vec<u8>,
+) -> io::Result<()> {
     while let Ok(Some(reply)) = replies.next() {
-        match bytes_told(alloc, reply) {
-            Some(bytes) => told.extend_from_slice(&bytes)?,
-            None => told.extend_from_slice(reply)?,
+        match asked.answer(reply) {
+            Outcome::Asked(request) => put_request(alloc, &request, meant)?,
+            Outcome::Instead(reply) => put_reply(reply, told)?,
+            Outcome::Told => match bytes_told(alloc, reply) {
+                Some(bytes) => told.extend_from_slice(&bytes)?,
+                None => told.extend_from_slice(reply)?,
+            },
         }
     }
     Ok(())
@@ -108,7 +157,18 @@ impl<RW> ForLinux<RW> {
             requests: Framer::new(alloc),
             meant: VecDeque::new(alloc),
             replies: Framer::new(alloc),
+            asked: Asked::new(alloc),
         }
+    }
+
+    /// Appends what the client means by requests that came.
+    fn mean(&mut self) -> io::Result<()> {
+        mean_some(
+            self.alloc,
+            &mut self.requests,
+            &mut self.asked,
+            &mut self.meant,
+        )
     }
 
     /// Takes what the client sent; no byte where it sends no more.
@@ -117,7 +177,7 @@ impl<RW> ForLinux<RW> {
             return give_rest(self.alloc, &mut self.requests, &mut self.meant);
         }
         self.requests.feed(bytes)?;
-        mean_each(self.alloc, &mut self.requests, &mut self.meant)
+        self.mean()
     }
 }
 
@@ -125,6 +185,9 @@ impl<RW: Read> Read for ForLinux<RW> {
     fn read(&mut self, buf: &mut [u8]) -> io::Result<usize> {
         if buf.is_empty() {
             return Ok(0);
+        }
+        if self.meant.is_empty() {
+            self.mean()?;
         }
         // each read but the last gives a byte at least of a request that isn't whole
         for _ in 0..MESSAGE_BYTES {
@@ -145,7 +208,13 @@ impl<RW: Write> Write for ForLinux<RW> {
     fn write(&mut self, buf: &[u8]) -> io::Result<usize> {
         let mut told = Vec::new(self.alloc);
         self.replies.feed(buf)?;
-        tell_each(self.alloc, &mut self.replies, &mut told)?;
+        tell_each(
+            self.alloc,
+            &mut self.replies,
+            &mut self.asked,
+            &mut self.meant,
+            &mut told,
+        )?;
         self.stream.write_all(&told)?;
         Ok(buf.len())
     }

@@ -4,14 +4,17 @@
 
 mod accepting;
 mod address;
+mod asked;
 pub mod client;
 mod connection;
+mod entrance;
 mod for_linux;
 mod heard;
 mod log;
 mod progress;
 mod publishing;
 mod serving;
+mod slots;
 mod summary;
 mod wall_clock;
 

@@ -1,23 +1,23 @@
 //! The command `serve`, after its files were read.
 ghost use Rattle.std.specs.Prelude.{◌≤◌};
 
-use crate::accepting::accept;
 use crate::address::Address;
 use crate::client::Client;
-use crate::connection;
+use crate::entrance::Entrance;
 use crate::log::Log;
 use crate::publishing::publish;
+use crate::slots::{start_slots, start_watch};
 use crate::summary::print_runs;
 use cs_serve::{Inputs, ProgramFault, scene_of, users_of};
 use cs_server::Server;
 use cs_shared::{AnyScene, SharedRegistry};
 use std::alloc::Global;
-use std::io::Write;
+use std::io::{Read, Write};
 use std::net::{Net, TcpListener, TcpStream};
 use std::rt::Clock;
 use std::sync::{Arc, Mutex, Wait};
 use std::thread;
-use std::thread::{Scope, Threads};
+use std::thread::Threads;
 
 /// What is served, and to whom.
 #[derive(Clone, Copy, Debug, PartialEq, Eq)]
@@ -27,8 +27,10 @@ pub struct Serving<'a> {
     pub listen: &'a str,
     /// How many threads make the states.
     pub workers: u32,
-    /// How many connections are served before the end.
+    /// How many connections are served before the end, or at once where others come after them.
     pub connections: u32,
+    /// Whether another connection is accepted where one ends, until the input ends.
+    pub again: bool,
     /// Whether all states are published before the first connection is accepted.
     pub ready: bool,
     /// Whose clients connect.
@@ -50,7 +52,7 @@ pub(crate) fn server_of(alloc: Global, inputs: &Inputs) -> Result<Server<AnyScen
     }
 }
 
-/// Listens on the address, and prints it.
+/// Listens on the address, and prints it. The listener's accepts don't wait.
 fn listen<R: Net<Listener = TcpListener, Stream = TcpStream>, W: Write>(
     rt: &R,
     given: &str,
@@ -59,7 +61,7 @@ fn listen<R: Net<Listener = TcpListener, Stream = TcpStream>, W: Write>(
     let Ok(listener) = TcpListener::bind(rt, given) else {
         return Err(ProgramFault::Listen);
     };
-    let Ok(local) = listener.local_addr() else {
+    let (Ok(local), Ok(())) = (listener.local_addr(), listener.set_nonblocking(true)) else {
         return Err(ProgramFault::Listen);
     };
     let address = Address {
@@ -71,72 +73,51 @@ fn listen<R: Net<Listener = TcpListener, Stream = TcpStream>, W: Write>(
     Ok(listener)
 }
 
-/// Accepts so many connections, and starts a thread for each: whether it did. Else it told why.
-fn accept_each<'s, Env, R: Wait + Clock + Sync, E: Write + Send>(
-    scope: &'s Scope<'s, Env>,
+/// Accepts connections and serves each in a thread until all have ended, and publishes meanwhile if that
+/// is still to be done: whether no fault was told.
+fn serve_each<'s, R: Threads + Wait + Clock + Sync, I: Read + Drop + Send, E: Write + Send>(
     rt: &'s R,
     alloc: Global,
     server: &'s Server<AnyScene>,
-    listener: TcpListener,
-    connections: u32,
-    client: Client,
-    log: Log<'s, E>,
-) -> bool {
-    for conn in 0..connections {
-        let Some((stream, from)) = accept(rt, &listener) else {
-            log.fault(rt, &ProgramFault::Listen);
-            return false;
-        };
-        log.accepted(rt, conn, from);
-        let served = scope.spawn(move || connection::serve(
-            rt, alloc, server, stream, conn, client, log,
-        ));
-        if served.is_err() {
-            log.fault(rt, &ProgramFault::Memory);
-            return false;
-        }
-    }
-    true
-}
-
-/// Accepts connections and serves each in a thread of its own until all have ended, and publishes
-/// meanwhile if that is still to be done: whether no fault was told.
-fn serve_each<'s, R: Threads + Wait + Clock + Sync, E: Write + Send>(
-    rt: &'s R,
-    alloc: Global,
-    server: &'s Server<AnyScene>,
-    listener: TcpListener,
+    entrance: &'s Entrance,
     serving: Serving,
+    input: I,
     log: Log<'s, E>,
 ) -> bool {
     let Serving {
         workers,
         connections,
+        again,
         ready,
         client,
         ..
     } = serving;
     thread::scope(thread::scope_env(), rt, move |scope| {
+        if !start_watch(scope, rt, again, input, entrance, log) {
+            return false;
+        }
         if ready {
-            return accept_each(scope, rt, alloc, server, listener, connections, client, log);
+            return start_slots(scope, rt, alloc, server, entrance, connections, client, log);
         }
         let publisher = scope.spawn(move || publish(rt, alloc, server, workers, log));
         let Ok(publisher) = publisher else {
             log.fault(rt, &ProgramFault::Memory);
+            entrance.close(rt);
             return false;
         };
-        let accepted = accept_each(scope, rt, alloc, server, listener, connections, client, log);
-        publisher.join(rt) && accepted
+        let started = start_slots(scope, rt, alloc, server, entrance, connections, client, log);
+        publisher.join(rt) && started
     })
 }
 
 /// The command, but for the fault that ends it: that is given, and not told yet. Else whether no fault
 /// was told.
-fn serve<R, W: Write, E: Write + Send>(
+fn serve<R, I: Read + Drop + Send, W: Write, E: Write + Send>(
     rt: &R,
     alloc: Global,
     inputs: &Inputs,
     serving: Serving,
+    input: I,
     out: &mut W,
     log: Log<E>,
 ) -> Result<bool, ProgramFault>
@@ -148,23 +129,36 @@ where
         return Ok(false);
     }
     let listener = listen(rt, serving.listen, out)?;
-    let served = serve_each(rt, alloc, &server, listener, serving, log);
+    let left = if serving.again {
+        None
+    } else {
+        Some(serving.connections)
+    };
+    let entrance = Entrance::new(listener, left);
+    let served = serve_each(rt, alloc, &server, &entrance, serving, input, log);
     print_runs(rt, alloc, &server, out)?;
-    Ok(served)
+    Ok(served && !entrance.failed(rt))
 }
 
 /// The command `serve`: publishes all states, before it listens or meanwhile, prints the address that it
-/// listens on, serves so many connections, each in a thread of its own, and at the end prints a line for
-/// each run. Its status: 0, or 1 where a fault was told, each by a line on `err`. A fault of a connection
-/// is none of the command. Where accepting or publishing fails while there are connections, these are
-/// served to their end, and the runs are printed. Where the inputs ask for it, `err` also gets a line for
-/// each connection that comes and for each that ends, each message with its reply, and each attach that was
-/// granted. It may wait for clients for ever.
-pub fn serve_of<R, W: Write, E: Write + Send>(
+/// listens on, serves connections, each in a thread, and at the end prints a line for each run.
+///
+/// It ends when so many connections have ended. With `again` no more than so many are served at once; when
+/// one has ended another is accepted, until `input` ends or can't be read, which is standard input, and
+/// whose bytes count for nothing. Then it listens no more, serves those that it has to their end, and ends.
+/// Without `again` nothing is read of `input`.
+///
+/// Its status: 0, or 1 where a fault was told, each by a line on `err`. A fault of a connection is none of
+/// the command. Where accepting or publishing fails while there are connections, these are served to their
+/// end, and the runs are printed; with `again` not before `input` ends. Where the inputs ask for it, `err`
+/// also gets a line for each connection that comes and for each that ends, each message with its reply, and
+/// each attach that was granted. It may wait for clients for ever.
+pub fn serve_of<R, I: Read + Drop + Send, W: Write, E: Write + Send>(
     rt: &R,
     alloc: Global,
     inputs: &Inputs,
     serving: Serving,
+    input: I,
     out: &mut W,
     err: &Mutex<E>,
 ) -> u8
@@ -177,7 +171,7 @@ where
         verbose: inputs.verbose,
         progress: serving.progress,
     };
-    match serve(rt, alloc, inputs, serving, out, log) {
+    match serve(rt, alloc, inputs, serving, input, out, log) {
         Ok(true) => 0,
         Ok(false) => 1,
         Err(fault) => {

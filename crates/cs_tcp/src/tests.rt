@@ -1,8 +1,10 @@
 //! The command over loopback.
+mod again;
 mod client;
 mod fixture;
 mod linux;
 mod loopback;
 mod refusals;
+mod renames;
 mod telling;
 mod workers;

@@ -132,6 +132,24 @@ pub fn looks_for_g<R: Net<Stream = TcpStream>>(
     ask(alloc, &mut stream, WALK_TO_G).ok()
 }
 
+/// Begins a session, attaches ann, and asks this: the type of each reply, and the last reply.
+pub fn asks<R: Net<Stream = TcpStream>>(
+    rt: &R,
+    alloc: Global,
+    port: &AtomicU64,
+    messages: &[&[u8]],
+) -> Option<(Vec<u8>, Vec<u8>)> {
+    let mut stream = connect(rt, port)?;
+    granted(alloc, &mut stream, VERSION)?;
+    granted(alloc, &mut stream, ATTACH_ANN)?;
+    let (mut types, mut last) = (Vec::new(alloc), Vec::new(alloc));
+    for message in messages {
+        last = ask(alloc, &mut stream, message).ok()?;
+        types.push(*last.first()?).ok()?;
+    }
+    Some((types, last))
+}
+
 /// Sends three bytes of a message and no more, and waits for the end.
 pub fn hang_up_early<R: Net<Stream = TcpStream>>(rt: &R, port: &AtomicU64) -> Option<()> {
     let mut stream = connect(rt, port)?;

@@ -3,7 +3,7 @@
 use crate::{Serving, serve_of};
 use cs_serve::Inputs;
 use std::alloc::Global;
-use std::io::{self, Write};
+use std::io::{self, Read, Write};
 use std::net::{Net, TcpListener, TcpStream};
 use std::rt::Clock;
 use std::sync::atomic::{AtomicU64, Ordering};
@@ -82,15 +82,23 @@ pub fn served<R>(rt: &R, alloc: Global, trace: &[u8], serving: Serving, port: &A
 where
     R: Net<Listener = TcpListener, Stream = TcpStream> + Threads + Wait + Clock + Sync,
 {
-    told_of(rt, alloc, &inputs_of(trace, true), serving, port)
+    told_of(
+        rt,
+        alloc,
+        &inputs_of(trace, true),
+        serving,
+        io::empty(),
+        port,
+    )
 }
 
 /// The command on these inputs.
-pub fn told_of<R>(
+pub fn told_of<R, I: Read + Drop + Send>(
     rt: &R,
     alloc: Global,
     inputs: &Inputs,
     serving: Serving,
+    input: I,
     port: &AtomicU64,
 ) -> Told
 where
@@ -101,7 +109,7 @@ where
         port,
     };
     let err = Mutex::new(Vec::new(alloc));
-    let status = serve_of(rt, alloc, inputs, serving, &mut out, &err);
+    let status = serve_of(rt, alloc, inputs, serving, input, &mut out, &err);
     Told {
         status,
         out: out.text,

@@ -7,10 +7,11 @@ use std::sync::atomic::{AtomicBool, AtomicU64};
 use std::test::Fail;
 use std::thread;
 
-const LOOPBACK: Serving = Serving {
+pub const LOOPBACK: Serving = Serving {
     listen: "127.0.0.1:0",
     workers: 2,
     connections: 2,
+    again: false,
     ready: true,
     client: Client::Plan9,
     progress: false,

@@ -1,14 +1,14 @@
 //! What is served to nobody.
 
 use super::fixture::{TRACE, served};
-use crate::accepting::accept;
+use crate::accepting::{Accepted, accept};
 use crate::{Client, Serving};
 use std::alloc::Global;
 use std::io::{self, Error, ErrorKind};
 use std::net::{Ipv4Addr, Net, OpenListener, SocketAddr, TcpListener, TcpStream};
 use std::rt::Clock;
 use std::sync::Wait;
-use std::sync::atomic::{AtomicU64, Ordering};
+use std::sync::atomic::{AtomicBool, AtomicU64, Ordering};
 use std::test::Fail;
 use std::thread::Threads;
 
@@ -25,6 +25,7 @@ const NOWHERE: Serving = Serving {
     listen: "nowhere",
     workers: 1,
     connections: 1,
+    again: false,
     ready: false,
     client: Client::Plan9,
     progress: false,
@@ -75,12 +76,15 @@ impl OpenListener for Failing {
 }
 
 /// Whether a connection is accepted after so many failures, and by how many accepts.
-fn accepted_after(rt: &impl Clock, failures: u64) -> (bool, u64) {
+fn accepted_after<R: Wait + Clock>(rt: &R, failures: u64) -> (bool, u64) {
     let listener = Failing {
         failures,
         accepts: AtomicU64::new(0),
     };
-    let accepted = accept(rt, &listener).is_some();
+    let accepted = match accept(rt, &listener, &AtomicBool::new(false)) {
+        Accepted::Connection((), _) => true,
+        Accepted::Ended | Accepted::Failed => false,
+    };
     (accepted, listener.accepts.load(Ordering::SeqCst))
 }
 

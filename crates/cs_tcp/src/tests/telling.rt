@@ -161,6 +161,7 @@ const NOWHERE: Serving = Serving {
     listen: "nowhere",
     workers: 2,
     connections: 1,
+    again: false,
     ready: true,
     client: Client::Plan9,
     progress: false,
@@ -186,7 +187,14 @@ fn publishing_is_told_when_it_is_asked_for(rt: HostRuntime) -> Result<(), Fail> 
             ..NOWHERE
         };
         let inputs = inputs_of(TRACE, verbose);
-        let told = told_of(&rt, rt.alloc(), &inputs, serving, &AtomicU64::new(0));
+        let told = told_of(
+            &rt,
+            rt.alloc(),
+            &inputs,
+            serving,
+            io::empty(),
+            &AtomicU64::new(0),
+        );
         assert_eq!(rt; told.err.as_slice(), text);
     }
     Ok(())

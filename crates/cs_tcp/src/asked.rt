@@ -1,0 +1,146 @@
+//! What is asked of the server in place of a client of Linux.
+
+use cs_rename::{Directories, Renaming, Step, directory_of, is_rename, renaming_of};
+use cs_wire::{RBody, RMessage, TBody, TMessage, decode, decode_r};
+use std::alloc::Global;
+use std::borrow::CowStr;
+
+/// The number of an Rversion (version(5)).
+const RVERSION: u8 = 101;
+
+/// The number of an Rattach (attach(5)).
+const RATTACH: u8 = 105;
+
+/// The number of a Twalk (walk(5)).
+const TWALK: u8 = 110;
+
+/// The number of a Twstat (stat(5)).
+const TWSTAT: u8 = 126;
+
+/// What is done with a reply.
+#[derive(Drop)]
+pub(crate) enum Outcome {
+    /// The client gets it.
+    Told,
+    /// The client gets this.
+    Instead(RMessage),
+    /// The client isn't answered yet: the server is asked this.
+    Asked(TMessage),
+}
+
+/// What was asked of the server, as far as its replies matter: walks, since renames need to know
+/// directories, and renames. A rename onto a file that stands goes on from here: the client gets one reply
+/// to its request.
+#[derive(Drop)]
+pub(crate) struct Asked {
+    alloc: Global,
+    /// How many requests aren't answered.
+    unanswered: u64,
+    /// The last one, where its reply matters.
+    last: Option<TMessage>,
+    directories: Directories,
+    /// The rename that goes on.
+    renaming: Option<Renaming>,
+}
+
+/// The request, where its reply matters. A walk that memory is wanting for does not.
+fn that_matters(alloc: Global, request: &[u8]) -> Option<TMessage> {
+    match request.get(4).copied() {
+        Some(TWALK | TWSTAT) => {}
+        _ => return None,
+    }
+    let request = decode(alloc, request).ok()?;
+    let matters = match &request.body {
+        TBody::Walk { .. } => true,
+        TBody::Wstat { stat, .. } => is_rename(stat),
+        _ => false,
+    };
+    if matters { Some(request) } else { None }
+}
+
+/// The reply; where memory is wanting for it, an error that says so.
+fn reply_of(alloc: Global, reply: &[u8]) -> RMessage {
+    match decode_r(alloc, reply) {
+        Ok(reply) => reply,
+        Err(_) => {
+            let (low, high) = (reply.get(5).copied(), reply.get(6).copied());
+            RMessage {
+                tag: u16::from_le_bytes([low.unwrap_or(0), high.unwrap_or(0)]),
+                body: RBody::Error {
+                    ename: CowStr::Borrowed("out of memory"),
+                },
+            }
+        }
+    }
+}
+
+impl Asked {
+    /// Nothing was asked.
+    pub(crate) fn new(alloc: Global) -> Asked {
+        Asked {
+            alloc,
+            unanswered: 0,
+            last: None,
+            directories: Directories::new(),
+            renaming: None,
+        }
+    }
+
+    /// Takes note of a request that is asked now: whether its reply matters, so that no more is to be asked
+    /// before it comes.
+    pub(crate) fn ask(&mut self, request: &[u8]) -> bool {
+        self.unanswered = self.unanswered.saturating_add(1);
+        self.last = that_matters(self.alloc, request);
+        self.last.is_some()
+    }
+
+    /// What comes of a step of a rename.
+    fn stepped(&mut self, step: Step) -> Outcome {
+        match step {
+            Step::Ask(renaming, request) => {
+                self.unanswered = 1;
+                self.renaming = Some(renaming);
+                Outcome::Asked(request)
+            }
+            Step::Answer(reply) => Outcome::Instead(reply),
+        }
+    }
+
+    /// What is done with the reply to a request that matters.
+    fn answered(&mut self, request: TMessage, reply: &[u8]) -> Outcome {
+        let Ok(reply) = decode_r(self.alloc, reply) else {
+            return Outcome::Told;
+        };
+        if let TBody::Walk { .. } = &request.body {
+            if let Some(fid) = directory_of(&request.body, &reply.body) {
+                self.directories.keep(fid);
+            }
+            return Outcome::Told;
+        }
+        match Vec::from_slice(self.alloc, self.directories.of_one_attach()) {
+            Ok(directories) => self.stepped(renaming_of(request, reply, directories)),
+            Err(_) => Outcome::Told,
+        }
+    }
+
+    /// What is done with the reply to the first request that isn't answered.
+    pub(crate) fn answer(&mut self, reply: &[u8]) -> Outcome {
+        self.unanswered = self.unanswered.saturating_sub(1);
+        match reply.get(4).copied() {
+            Some(RVERSION) => self.directories = Directories::new(),
+            Some(RATTACH) => self.directories.attach(),
+            _ => {}
+        }
+        if self.unanswered > 0 {
+            return Outcome::Told;
+        }
+        if let Some(renaming) = self.renaming.take() {
+            let step = renaming.next(self.alloc, reply_of(self.alloc, reply));
+            return self.stepped(step);
+        }
+        match self.last.take() {
+            Some(request) => self.answered(request, reply),
+            None => Outcome::Told,
+        }
+    }
+}

@@ -1,0 +1,90 @@
+//! Threads that serve connections, one after another each.
+
+use crate::client::Client;
+use crate::connection;
+use crate::entrance::{Admitted, Entrance};
+use crate::log::Log;
+use cs_serve::ProgramFault;
+use cs_server::Server;
+use cs_shared::AnyScene;
+use std::alloc::Global;
+use std::io::{self, Read, Write};
+use std::rt::Clock;
+use std::sync::Wait;
+use std::thread::Scope;
+
+/// Serves connections until no more come in.
+fn serve_slot<R: Wait + Clock, E: Write>(
+    rt: &R,
+    alloc: Global,
+    server: &Server<AnyScene>,
+    entrance: &Entrance,
+    client: Client,
+    log: Log<E>,
+) {
+    for _ in rt.forever() {
+        let admitted = entrance.admit(rt);
+        match admitted {
+            Admitted::Connection(conn, stream, from) => {
+                log.accepted(rt, conn, from);
+                connection::serve(rt, alloc, server, stream, conn, client, log);
+            }
+            Admitted::Closed => return,
+            Admitted::Failed => {
+                log.fault(rt, &ProgramFault::Listen);
+                return;
+            }
+        }
+    }
+}
+
+/// Starts so many threads that serve connections: whether it did. Else it told why, and closed the
+/// entrance.
+pub(crate) fn start_slots<'s, Env, R: Wait + Clock + Sync, E: Write + Send>(
+    scope: &'s Scope<'s, Env>,
+    rt: &'s R,
+    alloc: Global,
+    server: &'s Server<AnyScene>,
+    entrance: &'s Entrance,
+    slots: u32,
+    client: Client,
+    log: Log<'s, E>,
+) -> bool {
+    for _ in 0..slots {
+        let slot = scope.spawn(move || serve_slot(rt, alloc, server, entrance, client, log));
+        if slot.is_err() {
+            log.fault(rt, &ProgramFault::Memory);
+            entrance.close(rt);
+            return false;
+        }
+    }
+    true
+}
+
+/// Reads to the end, or to a read that fails, keeps nothing of it, and closes the entrance.
+fn close_at_end<I: Read + Drop>(rt: &impl Wait, mut input: I, entrance: &Entrance) {
+    let _thrown_away = io::copy(&mut input, &mut io::sink());
+    entrance.close(rt);
+}
+
+/// Starts a thread that closes the entrance where `input` ends, if connections are accepted again:
+/// whether it did. Else it told why, and closed the entrance.
+pub(crate) fn start_watch<'s, Env, R: Wait + Sync, I: Read + Drop + Send + 's, E: Write + Send>(
+    scope: &'s Scope<'s, Env>,
+    rt: &'s R,
+    again: bool,
+    input: I,
+    entrance: &'s Entrance,
+    log: Log<'s, E>,
+) -> bool {
+    if !again {
+        return true;
+    }
+    let watch = scope.spawn(move || close_at_end(rt, input, entrance));
+    if watch.is_err() {
+        log.fault(rt, &ProgramFault::Memory);
+        entrance.close(rt);
+        return false;
+    }
+    true
+}

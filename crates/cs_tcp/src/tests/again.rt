@@ -1,0 +1,63 @@
+//! Connections that are accepted where others have ended.
+
+use super::client::looks_for_g;
+use super::fixture::{TRACE, comes, inputs_of, told_of};
+use super::loopback::LOOPBACK;
+use crate::Serving;
+use std::io::{self, Read};
+use std::sync::atomic::{AtomicBool, AtomicU64, Ordering};
+use std::test::Fail;
+use std::thread;
+
+/// Standard input, which ends once it is to.
+#[derive(Drop)]
+struct Input<'a> {
+    ends: &'a AtomicBool,
+}
+
+impl Read for Input<'_> {
+    fn read(&mut self, buf: &mut [u8]) -> io::Result<usize> {
+        let ended = comes(|| self.ends.load(Ordering::SeqCst));
+        Ok(if ended { 0 } else { buf.len().min(1) })
+    }
+}
+
+const AGAIN: Serving = Serving {
+    connections: 1,
+    again: true,
+    ..LOOPBACK
+};
+
+#[test]
+fn three_clients_are_served_one_after_another_until_the_input_ends(
+    rt: HostRuntime,
+) -> Result<(), Fail> {
+    let alloc = rt.alloc();
+    let (port, ends) = (AtomicU64::new(0), AtomicBool::new(false));
+    let (told, replies) = thread::join(
+        &rt,
+        || told_of(
+            &rt,
+            alloc,
+            &inputs_of(TRACE, true),
+            AGAIN,
+            Input { ends: &ends },
+            &port,
+        ),
+        || {
+            let look = || looks_for_g(&rt, alloc, &port).is_some();
+            let at_once = thread::join(&rt, look, look);
+            let after = looks_for_g(&rt, alloc, &port).is_some();
+            ends.store(true, Ordering::SeqCst);
+            (at_once, after)
+        },
+    );
+    assert_eq!(rt; replies, ((true, true), true));
+    assert_eq!(rt; told.status, 0);
+    assert!(rt; std::str::from_utf8(told.out.as_slice())?.ends_with("\nrun 0/x entries 6\n"));
+    let err = std::str::from_utf8(told.err.as_slice())?;
+    let first_ended = err.find("\n0 ended\n1 accepted from 127.0.0.1:");
+    let second_ended = err.find("\n1 ended\n2 accepted from 127.0.0.1:");
+    assert!(rt; first_ended.is_some() && first_ended < second_ended);
+    Ok(())
+}
