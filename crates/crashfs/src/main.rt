@@ -1,16 +1,21 @@
 //! `crashfs`: serves the states in which a crash may leave an application's files, over 9P2000.
 #![tactic(auto)]
 
+mod ask;
 mod command_line;
+mod commands;
+mod files;
 
-ghost use Rattle.std.specs.Prelude.{◌≡◌};
-
+use ask::{Ask, Job};
 use clap::Error;
 use clap::error::ErrorKind;
-use command_line::{Ask, Wanted, ask_of};
-use cs_serve::{Inputs, list_of, script_of};
+use command_line::ask_of;
+use cs_archive::tar_of;
+use cs_families::picks_of;
+use cs_lists::list_with;
+use cs_serve::{Inputs, script_of};
 use cs_tcp::{Serving, serve_of};
-use std::fs;
+use files::{Given, out_of_memory};
 use std::io::{self, BufWriter, IsTerminal, Write};
 use std::net::{Net, TcpListener, TcpStream};
 use std::process::ExitCode;
@@ -18,115 +23,55 @@ use std::rt::{Clock, Env, Files};
 use std::sync::{Mutex, Wait};
 use std::thread::Threads;
 
-/// The status of a command that a fault ended.
-const FAULT: u8 = 1;
-
 /// The status of a command line that is refused.
 const REFUSED: u8 = 2;
 
-fn out_of_memory(rt: &impl Eprint) -> u8
-    ensures { result ≡ 1 }
-{
-    let _unheard = eprintln!(rt; "crashfs: out of memory");
-    FAULT
-}
-
-/// The file's bytes, or the status where it can't be read, which is told.
-fn read_file<R: Files + Eprint + AllocGlobal>(rt: &R, path: &str) -> Result<Vec<u8>, u8> {
-    match fs::read(rt, path) {
-        Ok(bytes) => Ok(bytes),
-        Err(error) if error.kind() == io::ErrorKind::OutOfMemory => Err(out_of_memory(rt)),
-        Err(_) => {
-            let _unheard = eprintln!(rt; "crashfs: {path}: cannot read");
-            Err(FAULT)
-        }
-    }
-}
-
-/// The bytes of the trace, and of the picks, of which there are none where no file is given.
-fn read_wanted<R: Files + Eprint + AllocGlobal>(
+/// Serves the states.
+fn run_serve<R, W: Write, E: Write + Send>(
     rt: &R,
-    wanted: Wanted,
-) -> Result<(Vec<u8>, Vec<u8>), u8> {
-    let trace = read_file(rt, wanted.trace)?;
-    let picks = match wanted.picks {
-        Some(path) => read_file(rt, path)?,
-        None => Vec::new(rt.alloc()),
-    };
-    Ok((trace, picks))
-}
-
-fn run_list<R: Files + Print + Eprint + AllocGlobal, E: Write>(
-    rt: &R,
-    err: &mut E,
-    wanted: Wanted,
-) -> Result<u8, u8> {
-    let (trace, picks) = read_wanted(rt, wanted)?;
-    let inputs = Inputs {
-        users: &[],
-        trace: &trace,
-        picks: &picks,
-        holes: wanted.holes,
-        verbose: false,
-    };
-    let Ok(mut out) = BufWriter::new(rt.alloc(), io::writer(rt)) else {
-        return Err(out_of_memory(rt));
-    };
-    Ok(list_of(rt.alloc(), &inputs, &mut out, err))
-}
-
-fn run_script<R: Files + Input + Print + Eprint + AllocGlobal, E: Write>(
-    rt: &R,
-    err: &mut E,
-    wanted: Wanted,
-    users: &str,
-    verbose: bool,
-) -> Result<u8, u8> {
-    let (trace, picks) = read_wanted(rt, wanted)?;
-    let users = read_file(rt, users)?;
-    let inputs = Inputs {
-        users: &users,
-        trace: &trace,
-        picks: &picks,
-        holes: wanted.holes,
-        verbose,
-    };
-    let Ok(mut out) = BufWriter::new(rt.alloc(), io::writer(rt)) else {
-        return Err(out_of_memory(rt));
-    };
-    let mut input = rt.reader();
-    Ok(script_of(rt.alloc(), &inputs, &mut input, &mut out, err))
-}
-
-fn run_serve<R, E: Write + Send>(
-    rt: &R,
-    err: &mut E,
-    wanted: Wanted,
-    users: &str,
+    inputs: &Inputs,
     serving: Serving,
-    verbose: bool,
-) -> Result<u8, u8>
+    out: &mut W,
+    err: &mut E,
+) -> u8
 where
-    R: Files + Print + Eprint + AllocGlobal + Clock + Threads + Wait + Sync,
+    R: Input + Eprint + AllocGlobal + Clock + Threads + Wait + Sync,
     R: Net<Listener = TcpListener, Stream = TcpStream>,
+    R::Reader: Send,
 {
-    let (trace, picks) = read_wanted(rt, wanted)?;
-    let users = read_file(rt, users)?;
-    let inputs = Inputs {
-        users: &users,
-        trace: &trace,
-        picks: &picks,
-        holes: wanted.holes,
-        verbose,
-    };
     let Ok(err) = BufWriter::new(rt.alloc(), err) else {
-        return Err(out_of_memory(rt));
-    };
-    let Ok(mut out) = BufWriter::new(rt.alloc(), io::writer(rt)) else {
-        return Err(out_of_memory(rt));
+        return out_of_memory(rt);
     };
     let err = Mutex::new(err);
-    Ok(serve_of(rt, rt.alloc(), &inputs, serving, &mut out, &err))
+    serve_of(rt, rt.alloc(), inputs, serving, rt.reader(), out, &err)
+}
+
+/// Does what is asked for, once its files are read. Err where one of them can't be.
+fn run_job<R, E: Write + Send>(rt: &R, err: &mut E, on_terminal: bool, ask: &Ask) -> Result<u8, u8>
+where
+    R: Files + Input + Print + Eprint + AllocGlobal + Clock + Threads + Wait + Sync,
+    R: Net<Listener = TcpListener, Stream = TcpStream>,
+    R::Reader: Send,
+{
+    let given = Given::read(rt, ask)?;
+    let inputs = given.inputs(ask);
+    let alloc = rt.alloc();
+    let Ok(mut out) = BufWriter::new(alloc, io::writer(rt)) else {
+        return Err(out_of_memory(rt));
+    };
+    Ok(match ask.job {
+        Job::List(options) => list_with(alloc, &inputs, options, &mut out, err),
+        Job::Tar(states) => tar_of(alloc, &inputs, states, &mut out, err),
+        Job::Picks(family) => picks_of(alloc, &inputs, family, &mut out, err),
+        Job::Script => script_of(alloc, &inputs, &mut rt.reader(), &mut out, err),
+        Job::Serve(serving) => {
+            let serving = Serving {
+                progress: on_terminal,
+                ..serving
+            };
+            run_serve(rt, &inputs, serving, &mut out, err)
+        }
+    })
 }
 
 /// The status of a command line that asks for nothing; what it is told is printed.
@@ -142,41 +87,13 @@ fn run<R, E: Write + Send>(rt: &R, err: &mut E, on_terminal: bool, words: &[&str
 where
     R: Files + Input + Print + Eprint + AllocGlobal + Clock + Threads + Wait + Sync,
     R: Net<Listener = TcpListener, Stream = TcpStream>,
+    R::Reader: Send,
 {
-    let ask = match ask_of(rt.alloc(), words) {
-        Ok(ask) => ask,
-        Err(error) => return unasked(rt, &error),
-    };
-    let ended = match ask {
-        Ask::List { wanted } => run_list(rt, err, wanted),
-        Ask::Script {
-            wanted,
-            users,
-            verbose,
-        } => run_script(rt, err, wanted, users, verbose),
-        Ask::Serve {
-            wanted,
-            users,
-            listen,
-            workers,
-            connections,
-            ready,
-            client,
-            verbose,
-        } => {
-            let serving = Serving {
-                listen,
-                workers,
-                connections,
-                ready,
-                client,
-                progress: on_terminal,
-            };
-            run_serve(rt, err, wanted, users, serving, verbose)
-        }
-    };
-    match ended {
-        Ok(status) | Err(status) => status,
+    match ask_of(rt.alloc(), words) {
+        Ok(ask) => match run_job(rt, err, on_terminal, &ask) {
+            Ok(status) | Err(status) => status,
+        },
+        Err(error) => unasked(rt, &error),
     }
 }
 

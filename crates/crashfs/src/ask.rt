@@ -1,0 +1,42 @@
+//! What the command line asks for.
+use cs_archive::States;
+use cs_families::Family;
+use cs_lists::ListOptions;
+use cs_tcp::Serving;
+
+/// Which crash states a command is about.
+#[derive(Clone, Copy, Debug)]
+pub struct Wanted<'a> {
+    /// The path of the trace.
+    pub trace: &'a str,
+    /// Whether the states of prefixes with a hole are among them.
+    pub holes: bool,
+    /// The path of a file of further sets.
+    pub picks: Option<&'a str>,
+}
+
+/// What is to be done with these states.
+#[derive(Clone, Copy, Debug)]
+pub enum Job<'a> {
+    /// To list the micro-operations and the states.
+    List(ListOptions),
+    /// To write the trees of some states as an archive.
+    Tar(States),
+    /// To print the sets of a family.
+    Picks(Family),
+    /// To run a script from standard input.
+    Script,
+    /// To serve connections over TCP.
+    Serve(Serving<'a>),
+}
+
+/// What the command line asks for.
+#[derive(Clone, Copy, Debug)]
+pub struct Ask<'a> {
+    pub wanted: Wanted<'a>,
+    /// The path of the users file, of a command that has users.
+    pub users: Option<&'a str>,
+    /// Whether messages are told as text on standard error.
+    pub verbose: bool,
+    pub job: Job<'a>,
+}

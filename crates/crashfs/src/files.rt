@@ -1,0 +1,83 @@
+//! The files that the command line names.
+ghost use Rattle.std.specs.Prelude.{◌≡◌};
+
+use crate::ask::Ask;
+use cs_serve::Inputs;
+use std::fs::{File, OpenFile};
+use std::io::{self, Read};
+use std::rt::Files;
+
+/// The status of a command that a fault ended.
+pub const FAULT: u8 = 1;
+
+/// The bytes of each file that the command line names, none of one that it doesn't name.
+#[derive(Drop)]
+pub struct Given {
+    trace: Vec<u8>,
+    picks: Vec<u8>,
+    users: Vec<u8>,
+}
+
+/// Tells that memory ran out, and gives the status.
+pub fn out_of_memory(rt: &impl Eprint) -> u8
+    ensures { result ≡ 1 }
+{
+    let _unheard = eprintln!(rt; "crashfs: out of memory");
+    FAULT
+}
+
+/// The file's bytes. Room for as many as it has is made at once; a pipe, which has no size, grows.
+fn read_bytes<R: Files + AllocGlobal>(rt: &R, path: &str) -> io::Result<Vec<u8>> {
+    let mut file = File::open(rt, path)?;
+    let size = file.metadata()?.len();
+    let mut bytes = Vec::new(rt.alloc());
+    bytes.reserve_exact(usize::try_from(size).unwrap_or(0).saturating_add(1))?;
+    file.read_to_end(&mut bytes)?;
+    Ok(bytes)
+}
+
+/// The file's bytes, or the status where it can't be read, which is told.
+fn read_file<R: Files + Eprint + AllocGlobal>(rt: &R, path: &str) -> Result<Vec<u8>, u8> {
+    match read_bytes(rt, path) {
+        Ok(bytes) => Ok(bytes),
+        Err(error) if error.kind() == io::ErrorKind::OutOfMemory => Err(out_of_memory(rt)),
+        Err(_) => {
+            let _unheard = eprintln!(rt; "crashfs: {path}: cannot read");
+            Err(FAULT)
+        }
+    }
+}
+
+/// As `read_file`; of no file no bytes.
+fn read_if<R: Files + Eprint + AllocGlobal>(rt: &R, path: Option<&str>) -> Result<Vec<u8>, u8> {
+    match path {
+        Some(path) => read_file(rt, path),
+        None => Ok(Vec::new(rt.alloc())),
+    }
+}
+
+impl Given {
+    /// Reads the trace, the picks and the users, in this order. Or the status where one can't be read,
+    /// which is told.
+    pub fn read<R: Files + Eprint + AllocGlobal>(rt: &R, ask: &Ask) -> Result<Given, u8> {
+        let trace = read_file(rt, ask.wanted.trace)?;
+        let picks = read_if(rt, ask.wanted.picks)?;
+        let users = read_if(rt, ask.users)?;
+        Ok(Given {
+            trace,
+            picks,
+            users,
+        })
+    }
+
+    /// The files, with what else the command line says of the states and of what is told.
+    pub fn inputs(&self, ask: &Ask) -> Inputs<'_> {
+        Inputs {
+            users: &self.users,
+            trace: &self.trace,
+            picks: &self.picks,
+            holes: ask.wanted.holes,
+            verbose: ask.verbose,
+        }
+    }
+}

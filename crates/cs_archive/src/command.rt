@@ -1,0 +1,52 @@
+//! The command `tar`, after its files were read.
+ghost use Rattle.std.specs.Prelude.{◌≡◌, ◌≤◌, OnOk};
+ghost use Rattle.cs_archive.specs.Archives.{WritesArchive};
+
+use crate::fault::{ArchiveFault, CommandFault};
+use crate::states::{States, write_states};
+use cs_serve::{Inputs, scene_of};
+use std::alloc::Global;
+use std::io::Write;
+use std::sync::Arc;
+
+fn tar<W: Write>(
+    alloc: Global,
+    inputs: &Inputs,
+    states: States,
+    out: &mut W,
+) -> Result<(), CommandFault>
+    ensures { OnOk result (WritesArchive states (W.contents out.old) (W.contents out.new)) }
+{
+    let scene = scene_of(alloc, inputs)?;
+    let Ok(scene) = Arc::new(alloc, scene) else {
+        return Err(CommandFault::Archive(ArchiveFault::Memory));
+    };
+    write_states(alloc, &scene, states, out)?;
+    match out.flush() {
+        Ok(()) => Ok(()),
+        Err(_) => Err(CommandFault::Archive(ArchiveFault::Output)),
+    }
+}
+
+/// The command `tar`: writes the trees of the states that are asked for, as one archive. Its status: 0, or
+/// 1 where a fault ended it, which is told by one line on `err`; what was written before stands. If a state
+/// is past the plan's end, nothing is written.
+pub fn tar_of<W: Write, E: Write>(
+    alloc: Global,
+    inputs: &Inputs,
+    states: States,
+    out: &mut W,
+    err: &mut E,
+) -> u8
+    ensures status { result ≤ 1 }
+    ensures archive { result ≡ 0 → WritesArchive states (W.contents out.old) (W.contents out.new) }
+{
+    match tar(alloc, inputs, states, out) {
+        Ok(()) => 0,
+        Err(fault) => {
+            let _written = out.flush();
+            let _unheard = writeln!(err, "crashfs: {fault}");
+            1
+        }
+    }
+}

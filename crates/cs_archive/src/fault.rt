@@ -1,0 +1,41 @@
+//! Why not all of an archive is written.
+ghost use Rattle.std.specs.Prelude.{◌≡◌};
+ghost use Rattle.cs_archive.specs.Faults.{of_writing};
+
+use cs_serve::ProgramFault;
+use cs_tar::TarFault;
+use thiserror::Error;
+
+/// Why not all of an archive is written.
+#[derive(Clone, Copy, Debug, PartialEq, Eq, Error)]
+pub enum ArchiveFault {
+    /// A state that is asked for is past the plan's end.
+    #[error("no such state")]
+    NoSuchState,
+    #[error("out of memory")]
+    Memory,
+    /// A write failed, took no byte, or was interrupted again and again.
+    #[error("output failed")]
+    Output,
+}
+
+impl From<TarFault> for ArchiveFault {
+    ghost from_gives = { λ given fault. fault ≡ of_writing given };
+
+    fn from(fault: TarFault) -> ArchiveFault {
+        match fault {
+            TarFault::Memory => ArchiveFault::Memory,
+            TarFault::Output => ArchiveFault::Output,
+        }
+    }
+}
+
+/// Why the command ends with status 1. Its text stands after `crashfs: ` on standard error.
+#[derive(Debug, Drop, Error)]
+pub(crate) enum CommandFault {
+    /// The trace is at fault, or has no plan of states.
+    #[error("{0}")]
+    Inputs(#[from] ProgramFault),
+    #[error("{0}")]
+    Archive(#[from] ArchiveFault),
+}

@@ -1,0 +1,12 @@
+//! The command `tar`: the trees of crash states, written as one archive.
+#![tactic(auto)]
+
+mod command;
+mod fault;
+mod states;
+#[cfg(test)]
+mod tests;
+
+pub use command::tar_of;
+pub use fault::ArchiveFault;
+pub use states::{States, write_states};

@@ -1,0 +1,32 @@
+-- The files that micro-operations change.
+use Rattle.std.specs.Prelude.{ℕ, ◌+◌, ◌==◌, max, fold, Bool, false, List, Option, None, Some}
+use Rattle.std.specs.List.{filter, list_any}
+use Rattle.cs_micro.specs.declared.micro_op.MicroOp.{MicroOp}
+use Rattle.cs_micro.specs.declared.micro_op.MicroOp.TheVariants.{ChangeFileSize, WriteBlock}
+use Rattle.cs_plan.specs.Plans.{first}
+
+-- the file of which the micro-operation changes the size or a block
+abbrev pub file_changed : MicroOp → Option ℕ
+file_changed (ChangeFileSize file to) = Some file
+file_changed (WriteBlock file block at bytes) = Some file
+file_changed _ = None
+
+abbrev pub is_file : ℕ → Option ℕ → Bool
+is_file file None = false
+is_file file (Some other) = other == file
+
+-- some micro-operation changes the file
+abbrev pub is_changed : List MicroOp → ℕ → Bool
+is_changed ops file = list_any (λ op. is_file file (file_changed op)) ops
+
+abbrev pub number_after : Option ℕ → ℕ
+number_after None = 0
+number_after (Some file) = file + 1
+
+-- one more than the greatest number of a file that is changed
+abbrev pub file_end : List MicroOp → ℕ
+file_end ops = fold (λ end op. max (number_after (file_changed op)) end) 0 ops
+
+-- the files that are changed, in the order of their numbers
+unfoldable pub changed_files : List MicroOp → List ℕ
+changed_files ops = filter (is_changed ops) (first (file_end ops))

@@ -1,0 +1,56 @@
+-- The families of sets.
+use Rattle.std.specs.Prelude.{ℕ, ◌+◌, ◌==◌, ◌||◌, if◌then◌else◌, Bool, List, [], ◌∷◌, length, map, Option}
+use Rattle.std.specs.Io.KnownBytes.{Appends}
+use Rattle.std.specs.List.{filter, flat_map}
+use Rattle.cs_micro.specs.Micros.{Micros}
+use Rattle.cs_apm.specs.Chains.{by_chain}
+use Rattle.cs_apm.specs.Orders.{needs_in}
+use Rattle.cs_plan.specs.Plans.{first}
+use Rattle.cs_plan.specs.Scenes.{Scene, micros_of, order_in}
+use Rattle.cs_families.specs.Changes.{changed_files}
+use Rattle.cs_families.specs.Losses.{losses_of}
+use Rattle.cs_families.specs.Left.{is_given, left_of, lost_places}
+use Rattle.cs_families.specs.Texts.{picks_text}
+use Rattle.cs_families.specs.declared.family.Family.{Family}
+use Rattle.cs_families.specs.declared.family.Family.TheVariants.{Lost, Files}
+
+-- ---- the least sets
+
+-- it is the place itself, or the place needs it by any chain
+abbrev pub is_needed : (ℕ → ℕ → Bool) → ℕ → ℕ → Bool
+is_needed needs place i = i == place || by_chain needs i place
+
+-- the least allowed set that has the place
+abbrev pub least_with : (ℕ → ℕ → Bool) → ℕ → List ℕ
+least_with needs place = filter (is_needed needs place) (first (place + 1))
+
+-- that of each place
+abbrev pub lost_sets : List (List Bool) → List (List ℕ)
+lost_sets order = map (least_with (needs_in order)) (first (length order))
+
+-- ---- the prefixes that lose a file's changes
+
+-- what is left of a prefix without these places, if it is given
+abbrev pub sets_left : (ℕ → ℕ → Bool) → List ℕ → ℕ → List (List ℕ)
+sets_left needs lost end = if is_given lost end then left_of needs lost end ∷ [] else []
+
+abbrev pub sets_without : (ℕ → ℕ → Bool) → List (Option ℕ) → ℕ → List (List ℕ)
+sets_without needs losses file = sets_left needs (lost_places losses file) (length losses)
+
+-- that of each file
+abbrev pub prefix_sets : Micros → List (List Bool) → ℕ → List (List ℕ)
+prefix_sets m order end = flat_map (sets_without (needs_in order) (losses_of m.ops m.syncs end)) (changed_files m.ops)
+
+-- those of each prefix
+abbrev pub files_sets : Micros → List (List Bool) → List (List ℕ)
+files_sets m order = flat_map (prefix_sets m order) (first (length m.ops + 1))
+
+-- ---- of a scene
+
+abbrev pub family_in : Scene → Family → List (List ℕ)
+family_in s Lost = lost_sets (order_in s)
+family_in s Files = files_sets (micros_of s) (order_in s)
+
+-- known bytes grow by this family of some scene
+abbrev pub WritesFamily : Family → Option (List ℕ) → Option (List ℕ) → Type 0
+WritesFamily family old new = (s : Scene) × Appends old new (picks_text (family_in s family))

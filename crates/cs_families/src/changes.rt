@@ -1,0 +1,69 @@
+//! The files that micro-operations change.
+ghost use Rattle.std.specs.Prelude.{◌≡◌, ◌≤◌, ◌^◌, IfOk};
+ghost use Rattle.cs_families.specs.Changes.{changed_files, file_changed, file_end, is_changed, is_file, number_after};
+
+use cs_micro::MicroOp;
+use std::alloc::{AllocError, Global};
+
+/// The file of which the operation changes the size or a block, if it does.
+pub fn file_changed(op: &MicroOp) -> Option<u32>
+    ensures { result ≡ file_changed op.now }
+{
+    match op {
+        MicroOp::ChangeFileSize { file, .. } | MicroOp::WriteBlock { file, .. } => Some(*file),
+        _ => None,
+    }
+}
+
+/// Whether it is that file.
+pub fn is_file(found: Option<u32>, file: u32) -> bool
+    ensures { result ≡ is_file file found }
+{
+    match found {
+        Some(other) => other == file,
+        None => false,
+    }
+}
+
+/// One more than the file's number.
+fn number_after(found: Option<u32>) -> usize
+    ensures value { result ≡ number_after found }
+    ensures small { result ≤ 2 ^ 32 }
+{
+    match found {
+        Some(file) => file as usize + 1,
+        None => 0,
+    }
+}
+
+/// One more than the greatest number of a file that is changed, or 0.
+fn file_end(ops: &[MicroOp]) -> usize
+    ensures value { result ≡ file_end ops.now }
+    ensures small { result ≤ 2 ^ 32 }
+{
+    let mut end = 0;
+    for op in ops {
+        end = number_after(file_changed(op)).max(end);
+    }
+    end
+}
+
+fn is_changed(ops: &[MicroOp], file: u32) -> bool
+    ensures { result ≡ is_changed ops.now file }
+{
+    ops.iter().any(|op| is_file(file_changed(op), file))
+}
+
+/// The files that are changed, in the order of their numbers.
+pub fn changed_files(alloc: Global, ops: &[MicroOp]) -> Result<Vec<u32>, AllocError>
+    ensures { IfOk result (λ files. files.items ≡ changed_files ops.now) }
+{
+    let mut files = Vec::new(alloc);
+    for number in 0..file_end(ops) {
+        let file = number as u32;
+        if is_changed(ops, file) {
+            files.push(file)?;
+        }
+    }
+    Ok(files)
+}

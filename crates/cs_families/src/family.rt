@@ -1,0 +1,45 @@
+//! A family of sets of a trace's micro-operations.
+ghost use Rattle.std.specs.Prelude.{OnOk};
+ghost use Rattle.std.specs.List.{All};
+ghost use Rattle.std.specs.Io.KnownBytes.{Appends};
+ghost use Rattle.cs_plan.specs.Plans.{IsAllowedIn};
+ghost use Rattle.cs_plan.specs.Scenes.{order_in};
+ghost use Rattle.cs_families.specs.Families.{family_in};
+ghost use Rattle.cs_families.specs.Texts.{picks_text};
+
+use crate::fault::FamilyFault;
+use crate::files::write_files;
+use crate::lost::write_lost;
+use cs_plan::Scene;
+use std::alloc::Global;
+use std::io::Write;
+
+/// Which sets are asked for. A crash may leave each of them.
+#[derive(Clone, Copy, Debug, PartialEq, Eq)]
+pub enum Family {
+    /// For each micro-operation the least set that has it: with it all that it needs by any chain.
+    Lost,
+    /// For each prefix, and each file with a change there that no sync point of the prefix covers: the
+    /// prefix without these changes, and without all that need one of them by any chain. A set that the
+    /// prefix before gives for the file isn't given again.
+    Files,
+}
+
+/// Writes the sets of a family as a picks file has them: in the order of their places or prefixes, and then
+/// of the files' numbers. After a fault some of the lines may be written.
+pub fn write_family<W: Write>(
+    alloc: Global,
+    scene: &Scene,
+    family: Family,
+    out: &mut W,
+) -> Result<(), FamilyFault>
+    ensures sets { OnOk result (Appends (W.contents out.old) (W.contents out.new) (picks_text (family_in scene.now family))) }
+    ensures allowed { All (IsAllowedIn (order_in scene.now)) (family_in scene.now family) }
+{
+    let order = scene.order();
+    let _few = order.len();
+    match family {
+        Family::Lost => write_lost(alloc, order, out),
+        Family::Files => write_files(alloc, scene.micros(), order, out),
+    }
+}

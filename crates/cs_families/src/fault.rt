@@ -1,0 +1,29 @@
+//! Why not all sets are printed.
+use cs_serve::ProgramFault;
+use std::alloc::AllocError;
+use thiserror::Error;
+
+/// Why not all sets of a family are printed.
+#[derive(Clone, Copy, Debug, PartialEq, Eq, Error)]
+pub enum FamilyFault {
+    #[error("out of memory")]
+    Memory,
+    #[error("output failed")]
+    Output,
+}
+
+impl From<AllocError> for FamilyFault {
+    fn from(_refused: AllocError) -> FamilyFault {
+        FamilyFault::Memory
+    }
+}
+
+/// Why the command ends with status 1. Its text stands after `crashfs: ` on standard error.
+#[derive(Debug, Drop, Error)]
+pub(crate) enum CommandFault {
+    /// The trace is at fault, or has no plan of states.
+    #[error("{0}")]
+    Inputs(#[from] ProgramFault),
+    #[error("{0}")]
+    Family(#[from] FamilyFault),
+}

@@ -1,0 +1,91 @@
+//! The family of prefixes that lose a file's changes.
+ghost use Rattle.std.specs.Prelude.{◌≡◌, ◌<◌, ◌≤◌, length, OnOk};
+ghost use Rattle.std.specs.Io.KnownBytes.{Appends};
+ghost use Rattle.std.specs.List.{All, flat_map};
+ghost use Rattle.cs_apm.specs.Orders.{needs_in};
+ghost use Rattle.cs_families.specs.Families.{files_sets, sets_left, sets_without};
+ghost use Rattle.cs_families.specs.Texts.{picks_text};
+
+use crate::changes::changed_files;
+use crate::fault::FamilyFault;
+use crate::left::{is_given, left_of, lost_places};
+use crate::losses::losses_of;
+use crate::printing::write_pick;
+use cs_apm::Order;
+use cs_micro::Micros;
+use cs_plan::Places;
+use std::alloc::Global;
+use std::io::Write;
+
+/// Writes what is left of a prefix without these places, unless the prefix that is a place shorter gives
+/// that too.
+fn write_left<W: Write>(
+    alloc: Global,
+    order: &Order,
+    lost: &[u32],
+    end: usize,
+    out: &mut W,
+) -> Result<(), FamilyFault>
+    requires few { end ≤ length order.now }
+    requires inside { All (λ place. place < length order.now) lost.now }
+    ensures { OnOk result (Appends (W.contents out.old) (W.contents out.new) (picks_text (sets_left (needs_in order.now) lost.now end))) }
+{
+    if !is_given(lost, end) {
+        return Ok(());
+    }
+    let left = left_of(alloc, order, lost, end)?;
+    write_pick(&Places::of(left), out)
+}
+
+/// Writes what is left of a prefix without the file's changes, if that is given.
+fn write_without<W: Write>(
+    alloc: Global,
+    order: &Order,
+    losses: &[Option<u32>],
+    file: u32,
+    out: &mut W,
+) -> Result<(), FamilyFault>
+    requires { length losses.now ≤ length order.now }
+    ensures { OnOk result (Appends (W.contents out.old) (W.contents out.new) (picks_text (sets_without (needs_in order.now) losses.now file))) }
+{
+    let _few = order.len();
+    let lost = lost_places(alloc, losses, file)?;
+    write_left(alloc, order, &lost, losses.len(), out)
+}
+
+/// Writes the sets of a prefix, in the order of the files.
+fn write_prefix<W: Write>(
+    alloc: Global,
+    order: &Order,
+    losses: &[Option<u32>],
+    files: &[u32],
+    out: &mut W,
+) -> Result<(), FamilyFault>
+    requires { length losses.now ≤ length order.now }
+    ensures { OnOk result (Appends (W.contents out.old) (W.contents out.new) (picks_text (flat_map (sets_without (needs_in order.now) losses.now) files.now))) }
+{
+    for file in files {
+        write_without(alloc, order, losses, *file, out)?;
+    }
+    Ok(())
+}
+
+/// Writes the sets of each prefix.
+pub fn write_files<W: Write>(
+    alloc: Global,
+    micros: &Micros,
+    order: &Order,
+    out: &mut W,
+) -> Result<(), FamilyFault>
+    requires { length order.now ≡ length micros.now.ops }
+    ensures { OnOk result (Appends (W.contents out.old) (W.contents out.new) (picks_text (files_sets micros.now order.now))) }
+{
+    let ops = micros.ops();
+    let syncs = micros.syncs();
+    let files = changed_files(alloc, ops)?;
+    for end in 0..ops.len() + 1 {
+        let losses = losses_of(alloc, ops, syncs, end)?;
+        write_prefix(alloc, order, &losses, &files, out)?;
+    }
+    Ok(())
+}

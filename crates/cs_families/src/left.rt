@@ -1,0 +1,90 @@
+//! What is left of a prefix if a crash loses a file's changes.
+ghost use Rattle.std.specs.Prelude.{◌≡◌, ◌<◌, ◌≤◌, length, IfOk};
+ghost use Rattle.std.specs.List.{All};
+ghost use Rattle.cs_apm.specs.Orders.{needs_in};
+ghost use Rattle.cs_plan.specs.Plans.{IsAllowedIn, is_kept};
+ghost use Rattle.cs_families.specs.Left.{is_given, left_of, loses_at, lost_places, stays};
+
+use crate::changes::is_file;
+use cs_apm::Order;
+use cs_names::limits::MICRO_OPERATIONS;
+use std::alloc::{AllocError, Global};
+
+/// Whether the file loses the change at the place.
+fn loses_at(losses: &[Option<u32>], file: u32, place: usize) -> bool
+    requires { place < length losses.now }
+    ensures { result ≡ loses_at losses.now file place }
+{
+    is_file(losses[place], file)
+}
+
+/// The places at which changes of the file are lost.
+pub fn lost_places(alloc: Global, losses: &[Option<u32>], file: u32) -> Result<Vec<u32>, AllocError>
+    requires { length losses.now ≤ MICRO_OPERATIONS }
+    ensures value { IfOk result (λ lost. lost.items ≡ lost_places losses.now file) }
+    ensures inside { IfOk result (λ lost. All (λ place. place < length losses.now) lost.items) }
+{
+    let mut lost = Vec::new(alloc);
+    for place in 0..losses.len() {
+        if loses_at(losses, file, place) {
+            lost.push(place as u32)?;
+        }
+    }
+    Ok(lost)
+}
+
+/// Whether another set is left of the prefix than of the one that is a place shorter.
+pub fn is_given(lost: &[u32], end: usize) -> bool
+    ensures { result ≡ is_given lost.now end }
+{
+    let count = lost.len();
+    if count == 0 {
+        return false;
+    }
+    count == 1 || lost[count - 1] as usize + 1 != end
+}
+
+/// Whether the operation at one place stays where that at another is missing.
+fn keeps(order: &Order, missing: usize, place: usize) -> bool
+    requires first { missing < length order.now }
+    requires second { place < length order.now }
+    ensures { result ≡ is_kept (needs_in order.now) missing place }
+{
+    !(missing == place || order.needs_by_chain(missing, place))
+}
+
+/// Whether the operation at the place stays where those at other places are missing.
+fn stays(order: &Order, lost: &[u32], place: usize) -> bool
+    requires there { place < length order.now }
+    requires inside { All (λ missing. missing < length order.now) lost.now }
+    ensures { result ≡ stays (needs_in order.now) lost.now place }
+{
+    for missing in lost {
+        if !keeps(order, *missing as usize, place) {
+            return false;
+        }
+    }
+    true
+}
+
+/// The places before the end, without the lost ones and all that need one by any chain.
+pub fn left_of(
+    alloc: Global,
+    order: &Order,
+    lost: &[u32],
+    end: usize,
+) -> Result<Vec<u32>, AllocError>
+    requires few { end ≤ length order.now }
+    requires inside { All (λ missing. missing < length order.now) lost.now }
+    ensures value { IfOk result (λ left. left.items ≡ left_of (needs_in order.now) lost.now end) }
+    ensures allowed { IfOk result (λ left. IsAllowedIn order.now left.items) }
+{
+    let mut left = Vec::new(alloc);
+    let _few = order.len();
+    for place in 0..end {
+        if stays(order, lost, place) {
+            left.push(place as u32)?;
+        }
+    }
+    Ok(left)
+}

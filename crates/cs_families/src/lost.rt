@@ -1,0 +1,51 @@
+//! The family of least sets: an operation reached the disk, and nothing that it doesn't need.
+ghost use Rattle.std.specs.Prelude.{◌≡◌, ◌<◌, ◌≤◌, length, IfOk, OnOk};
+ghost use Rattle.std.specs.Io.KnownBytes.{Appends};
+ghost use Rattle.cs_apm.specs.Orders.{needs_in};
+ghost use Rattle.cs_plan.specs.Plans.{IsAllowedIn};
+ghost use Rattle.cs_families.specs.Families.{is_needed, least_with, lost_sets};
+ghost use Rattle.cs_families.specs.Texts.{picks_text};
+
+use crate::fault::FamilyFault;
+use crate::printing::write_pick;
+use cs_apm::Order;
+use cs_plan::Places;
+use std::alloc::{AllocError, Global};
+use std::io::Write;
+
+/// Whether it is the place, or the operation there needs it by any chain.
+fn is_needed(order: &Order, place: usize, needed: usize) -> bool
+    requires first { place < length order.now }
+    requires second { needed < length order.now }
+    ensures { result ≡ is_needed (needs_in order.now) place needed }
+{
+    needed == place || order.needs_by_chain(needed, place)
+}
+
+/// The place, and all that the operation there needs by any chain.
+fn least_with(alloc: Global, order: &Order, place: usize) -> Result<Vec<u32>, AllocError>
+    requires { place < length order.now }
+    ensures value { IfOk result (λ set. set.items ≡ least_with (needs_in order.now) place) }
+    ensures allowed { IfOk result (λ set. IsAllowedIn order.now set.items) }
+{
+    let mut set = Vec::new(alloc);
+    let _few = order.len();
+    for needed in 0..place + 1 {
+        if is_needed(order, place, needed) {
+            set.push(needed as u32)?;
+        }
+    }
+    Ok(set)
+}
+
+/// Writes the least set of each operation.
+pub fn write_lost<W: Write>(alloc: Global, order: &Order, out: &mut W) -> Result<(), FamilyFault>
+    ensures { OnOk result (Appends (W.contents out.old) (W.contents out.new) (picks_text (lost_sets order.now))) }
+{
+    for place in 0..order.len() {
+        let set = least_with(alloc, order, place)?;
+        let pick = Places::of(set);
+        write_pick(&pick, out)?;
+    }
+    Ok(())
+}

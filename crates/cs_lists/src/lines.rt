@@ -1,0 +1,93 @@
+//! The line of a trace that each micro-operation came from.
+ghost use Rattle.std.specs.Prelude.{◌≡◌, ◌≤◌, ◌++◌, ◌^◌, IfOk, OnOk, length, replicate, slice_index};
+ghost use Rattle.std.specs.List.{All};
+ghost use Rattle.cs_trace.specs.Lines.{is_blank};
+ghost use Rattle.cs_trace.specs.States.{lines_in};
+ghost use Rattle.cs_micro.specs.MicroOperations.{IsWithinLimit};
+ghost use Rattle.cs_lists.specs.Lines.{lines_of, lines_told, spread, told};
+
+use cs_micro::micro_count;
+use cs_names::limits::TREE_RECORDS;
+use cs_trace::{Operation, Trace};
+use std::alloc::{AllocError, Global};
+
+/// Whether the line has JSON's blanks alone: it is skipped, and counted.
+fn is_blank(line: &str) -> bool
+    ensures { result ≡ is_blank line.now }
+{
+    line.as_bytes()
+        .iter()
+        .all(|c| *c == b' ' || *c == b'\t' || *c == b'\r')
+}
+
+/// Adds the number of the line at the place, if it says something.
+fn push_told(numbers: &mut Vec<usize>, place: usize, line: &str) -> Result<(), AllocError>
+    requires { place ≤ 2 ^ 63 }
+    ensures { OnOk result (numbers.new.items ≡ numbers.old.items ++ told (place, line.now)) }
+{
+    if !is_blank(line) {
+        numbers.push(place + 1)?;
+    }
+    Ok(())
+}
+
+/// The numbers of the lines that say something. Lines count from 1.
+fn told_of(alloc: Global, text: &str) -> Result<Vec<usize>, AllocError>
+    ensures { IfOk result (λ numbers. numbers.items ≡ lines_told (lines_in text.now)) }
+{
+    let mut numbers = Vec::new(alloc);
+    for (place, line) in text.split('\n').enumerate() {
+        push_told(&mut numbers, place, line)?;
+    }
+    Ok(numbers)
+}
+
+/// The number at the place.
+fn number_at(numbers: &[usize], place: usize) -> usize
+    ensures { result ≡ slice_index numbers.now place }
+{
+    numbers.get(place).copied().unwrap_or(0)
+}
+
+/// Adds the line so many times.
+fn push_line(
+    alloc: Global,
+    lines: &mut Vec<usize>,
+    line: usize,
+    count: usize,
+) -> Result<(), AllocError>
+    ensures { OnOk result (lines.new.items ≡ lines.old.items ++ replicate count line) }
+{
+    let same = vec![in alloc; line; count]?;
+    lines.extend_from_slice(&same)
+}
+
+/// For each micro-operation of these operations its line: so many numbers come before the first's.
+fn spread(
+    alloc: Global,
+    numbers: &[usize],
+    first: usize,
+    operations: &[Operation],
+) -> Result<Vec<usize>, AllocError>
+    requires within { All IsWithinLimit operations.now }
+    requires few { first ≤ TREE_RECORDS }
+    ensures { IfOk result (λ lines. lines.items ≡ spread numbers.now first operations.now) }
+{
+    let mut lines = Vec::new(alloc);
+    for (place, operation) in operations.iter().enumerate() {
+        let line = number_at(numbers, first + place);
+        push_line(alloc, &mut lines, line, micro_count(operation))?;
+    }
+    Ok(lines)
+}
+
+/// For each micro-operation of a trace the number of the line that it came from; lines count from 1. The
+/// first lines that say something are the header and those of the start, one for each record, and then
+/// each gives an operation.
+pub fn lines_of(alloc: Global, text: &str, trace: &Trace) -> Result<Vec<usize>, AllocError>
+    ensures { IfOk result (λ lines. lines.items ≡ lines_of text.now trace.now) }
+{
+    let numbers = told_of(alloc, text)?;
+    let first = trace.records().len();
+    spread(alloc, &numbers, first, trace.operations())
+}

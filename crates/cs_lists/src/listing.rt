@@ -1,0 +1,142 @@
+//! The command `list` with more about its lines.
+ghost use Rattle.std.specs.Prelude.{◌≤◌};
+
+use crate::lines::lines_of;
+use crate::paths::FilePaths;
+use crate::printed::{OpLine, Origin, StateLine};
+use cs_plan::Scene;
+use cs_same::first_same;
+use cs_serve::{Inputs, ProgramFault, list_of, scene_of};
+use std::alloc::{AllocError, Global};
+use std::io::Write;
+use std::sync::Arc;
+
+/// What `list` tells beside the micro-operations and the states.
+#[derive(Clone, Copy, Debug)]
+pub struct ListOptions {
+    /// Behind each micro-operation the line of the trace that it came from, and of a change of a file the
+    /// path at which it then stands.
+    pub lines: bool,
+    /// Behind each state the first one with an equal tree.
+    pub same: bool,
+}
+
+/// The lines of the micro-operations, if they are asked for.
+fn asked_lines(
+    alloc: Global,
+    inputs: &Inputs,
+    scene: &Scene,
+    options: ListOptions,
+) -> Result<Option<Vec<usize>>, AllocError> {
+    let Ok(text) = std::str::from_utf8(inputs.trace) else {
+        return Ok(None);
+    };
+    if !options.lines {
+        return Ok(None);
+    }
+    Ok(Some(lines_of(alloc, text, scene.trace())?))
+}
+
+/// The first state with the tree of each, if that is asked for.
+fn asked_firsts(
+    alloc: Global,
+    scene: &Arc<Scene>,
+    options: ListOptions,
+) -> Result<Option<Vec<u32>>, AllocError> {
+    if !options.same {
+        return Ok(None);
+    }
+    Ok(Some(first_same(alloc, scene)?))
+}
+
+/// Prints a line for each micro-operation.
+fn print_ops<W: Write>(
+    alloc: Global,
+    scene: &Scene,
+    lines: &Option<Vec<usize>>,
+    out: &mut W,
+) -> Result<(), ProgramFault> {
+    let Ok(mut paths) = FilePaths::of(alloc, scene.trace()) else {
+        return Err(ProgramFault::Memory);
+    };
+    for (place, op) in scene.micros().ops().iter().enumerate() {
+        let line = told_at(lines, place);
+        let path = paths.changed(op);
+        let origin = Origin { line, path };
+        write!(out, "{}", OpLine { place, op, origin }).map_err(|_| ProgramFault::Output)?;
+        if paths.take(op).is_err() {
+            return Err(ProgramFault::Memory);
+        }
+    }
+    Ok(())
+}
+
+/// What is told at the place, if anything is.
+fn told_at<T: Copy>(told: &Option<Vec<T>>, place: usize) -> Option<T> {
+    match told {
+        Some(told) => told.get(place).copied(),
+        None => None,
+    }
+}
+
+/// Prints a line for each state.
+fn print_states<W: Write>(
+    scene: &Scene,
+    firsts: &Option<Vec<u32>>,
+    out: &mut W,
+) -> Result<(), ProgramFault> {
+    for (number, recipe) in scene.plan().recipes().iter().enumerate() {
+        let line = StateLine {
+            number,
+            recipe,
+            says: scene.says(number as u32).unwrap_or(0),
+            first: told_at(firsts, number),
+        };
+        write!(out, "{line}").map_err(|_| ProgramFault::Output)?;
+    }
+    Ok(())
+}
+
+fn list<W: Write>(
+    alloc: Global,
+    inputs: &Inputs,
+    options: ListOptions,
+    out: &mut W,
+) -> Result<(), ProgramFault> {
+    let Ok(scene) = Arc::new(alloc, scene_of(alloc, inputs)?) else {
+        return Err(ProgramFault::Memory);
+    };
+    let Ok(lines) = asked_lines(alloc, inputs, &scene, options) else {
+        return Err(ProgramFault::Memory);
+    };
+    let Ok(firsts) = asked_firsts(alloc, &scene, options) else {
+        return Err(ProgramFault::Memory);
+    };
+    print_ops(alloc, &scene, &lines, out)?;
+    print_states(&scene, &firsts, out)?;
+    out.flush().map_err(|_| ProgramFault::Output)
+}
+
+/// The command `list` with options: as `list_of`, and behind each line what is asked for. Its status and its
+/// faults are those of `list_of`, which it is where nothing is asked for.
+pub fn list_with<W: Write, E: Write>(
+    alloc: Global,
+    inputs: &Inputs,
+    options: ListOptions,
+    out: &mut W,
+    err: &mut E,
+) -> u8
+    ensures { result ≤ 1 }
+{
+    if !options.lines && !options.same {
+        return list_of(alloc, inputs, out, err);
+    }
+    match list(alloc, inputs, options, out) {
+        Ok(()) => 0,
+        Err(fault) => {
+            let _printed = out.flush();
+            let _unheard = writeln!(err, "crashfs: {fault}");
+            1
+        }
+    }
+}

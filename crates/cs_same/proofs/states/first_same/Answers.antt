@@ -1,0 +1,13 @@
+use Rattle.std.specs.Arc.{arc_value}
+use Rattle.cs_same.proofs.Firsts.{each_more, longer}
+use Rattle.cs_same.proofs.states.first_same.Goals as goal
+
+pub loop-place-preserved : goal.loop-place-preserved
+loop-place-preserved c =
+    let firsts = c.loop-place.firsts.items in
+    let new = c.push.new.self.items in
+    let first = c.in_ok-first_of.field-0 in
+    record {
+      long = longer firsts new c.loop-place.place first c.loop-place.invariant.long c.in_ok-push.ensures.items;
+      each = each_more (arc_value c.args.scene.now) firsts new c.loop-place.place first c.loop-place.invariant.long c.in_ok-push.ensures.items c.loop-place.invariant.each c.in_ok-first_of.ensures;
+    }

@@ -1,0 +1,121 @@
+//! Which micro-operations change each file of a trace, and in which blocks.
+use cs_micro::{BLOCK_BYTES, MicroOp};
+use cs_trace::{Node, Trace};
+use cs_tree_model::{Content, Kind};
+use std::alloc::{AllocError, Global};
+
+/// What a micro-operation does to a file.
+#[derive(Clone, Copy, Debug)]
+pub enum Change {
+    /// The file has this length.
+    Size(u64),
+    /// It is written into the block at this place among those that are read.
+    Write(usize),
+}
+
+/// A file, with what the micro-operations do to it.
+#[derive(Debug, Drop)]
+pub struct File {
+    /// How many bytes it has at first.
+    pub length: u64,
+    /// The place of each micro-operation that changes it, and what it does.
+    pub changes: Vec<(u32, Change)>,
+}
+
+/// The block into which the micro-operation writes, or in which it ends a file.
+fn block_of(op: &MicroOp) -> Option<u64> {
+    match op {
+        MicroOp::WriteBlock { block, .. } => Some(*block),
+        MicroOp::ChangeFileSize { length, .. } => Some(*length / BLOCK_BYTES),
+        _ => None,
+    }
+}
+
+/// The blocks that some micro-operation writes into or ends a file in, in ascending order.
+pub fn blocks_of(alloc: Global, ops: &[MicroOp]) -> Result<Vec<u64>, AllocError> {
+    let mut blocks = Vec::new(alloc);
+    for op in ops {
+        if let Some(block) = block_of(op) {
+            blocks.push(block)?;
+        }
+    }
+    blocks.sort_unstable();
+    blocks.dedup();
+    Ok(blocks)
+}
+
+/// Adds a file with so many bytes.
+fn push_file(alloc: Global, files: &mut Vec<File>, length: u64) -> Result<(), AllocError> {
+    files.push(File {
+        length,
+        changes: Vec::new(alloc),
+    })?;
+    Ok(())
+}
+
+/// Adds what the micro-operation does.
+fn push_change(
+    alloc: Global,
+    files: &mut Vec<File>,
+    blocks: &[u64],
+    place: u32,
+    op: &MicroOp,
+) -> Result<(), AllocError> {
+    let (file, change) = match op {
+        MicroOp::CreateDirEntry {
+            node: Node::File(_),
+            ..
+        } => return push_file(alloc, files, 0),
+        MicroOp::ChangeFileSize { file, length } => (*file, Change::Size(*length)),
+        MicroOp::WriteBlock { file, block, .. } => {
+            let Some(at) = blocks.iter().position(|other| *other == *block) else {
+                return Ok(());
+            };
+            (*file, Change::Write(at))
+        }
+        _ => return Ok(()),
+    };
+    if let Some(file) = files.get_mut(file as usize) {
+        file.changes.push((place, change))?;
+    }
+    Ok(())
+}
+
+fn length_of(content: &Content) -> u64 {
+    match content.kind() {
+        Kind::Directory => 0,
+        Kind::File { length } => length,
+    }
+}
+
+/// The files at the start, which nothing has changed yet.
+fn start_files(alloc: Global, trace: &Trace) -> Result<Vec<File>, AllocError> {
+    let mut files = Vec::new(alloc);
+    for _ in trace.files() {
+        push_file(alloc, &mut files, 0)?;
+    }
+    for ((_, record), node) in trace.records().iter().zip(trace.nodes()) {
+        if let Node::File(number) = node {
+            if let Some(file) = files.get_mut(*number as usize) {
+                file.length = length_of(&record.content);
+            }
+        }
+    }
+    Ok(files)
+}
+
+/// The files by their numbers, each with what changes it; writes are told by the blocks that are read.
+pub fn files_of(
+    alloc: Global,
+    trace: &Trace,
+    ops: &[MicroOp],
+    blocks: &[u64],
+) -> Result<Vec<File>, AllocError> {
+    let mut files = start_files(alloc, trace)?;
+    let mut place = 0u32;
+    for op in ops {
+        push_change(alloc, &mut files, blocks, place, op)?;
+        place = place.saturating_add(1);
+    }
+    Ok(files)
+}

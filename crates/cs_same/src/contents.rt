@@ -1,0 +1,156 @@
+//! Digests of what is in the files of a state. They read no more of a file than the blocks that some
+//! micro-operation writes into, or ends a file in.
+use crate::changes::{Change, File, blocks_of, files_of};
+use crate::mixing::{digest_of, mixed};
+use cs_micro::BLOCK_BYTES;
+use cs_names::Path;
+use cs_plan::Scene;
+use cs_tree_model::{TreeRead, number_of_path};
+use std::alloc::{AllocError, Global};
+use std::collections::BTreeMap;
+use std::sync::Arc;
+
+/// What tells the bytes that a block of a file has in a state: the last micro-operations that write into it
+/// and that change the file's size. Those before them are in the state too, as they need them.
+#[derive(Clone, Copy, Debug, PartialEq, Eq, PartialOrd, Ord)]
+struct Version {
+    file: u32,
+    block: u64,
+    write: Option<u32>,
+    size: Option<u32>,
+}
+
+/// A file as it is in a state.
+#[derive(Debug, Drop)]
+struct Left {
+    length: u64,
+    size: Option<u32>,
+    /// The last micro-operation that writes into each of the blocks that are read.
+    writes: Vec<Option<u32>>,
+}
+
+/// A state, and the path at which one of its files stands.
+#[derive(Clone, Copy)]
+pub struct Standing<'a> {
+    pub scene: &'a Arc<Scene>,
+    pub number: u32,
+    pub path: &'a Path,
+    pub file: u32,
+}
+
+/// The files of a trace, with the digests that were found so far.
+#[derive(Drop)]
+pub struct Contents {
+    files: Vec<File>,
+    /// The blocks that are read, in ascending order.
+    blocks: Vec<u64>,
+    digests: BTreeMap<Version, u64>,
+}
+
+/// The file as the members leave it.
+fn left_of(
+    alloc: Global,
+    file: &File,
+    members: &[bool],
+    blocks: usize,
+) -> Result<Left, AllocError> {
+    let mut left = Left {
+        length: file.length,
+        size: None,
+        writes: vec![in alloc; None; blocks]?,
+    };
+    for (place, change) in &file.changes {
+        if members.get(*place as usize).copied().unwrap_or(false) {
+            left.take(*place, *change);
+        }
+    }
+    Ok(left)
+}
+
+impl Left {
+    /// Takes what a micro-operation does.
+    fn take(&mut self, place: u32, change: Change) {
+        match change {
+            Change::Size(length) => {
+                self.length = length;
+                self.size = Some(place);
+            }
+            Change::Write(at) => {
+                if let Some(write) = self.writes.get_mut(at) {
+                    *write = Some(place);
+                }
+            }
+        }
+    }
+}
+
+/// The digest of a block of a file that stands in the state, which is made for this.
+fn read_block(alloc: Global, standing: Standing<'_>, block: u64) -> Result<u64, AllocError> {
+    let Ok(made) = Scene::make(alloc, standing.scene, standing.number) else {
+        return Err(AllocError);
+    };
+    let store = made.store();
+    let Some(number) = number_of_path(store, standing.path.names()) else {
+        return Ok(0);
+    };
+    let offset = block.wrapping_mul(BLOCK_BYTES);
+    match store.read_at(alloc, number, offset, BLOCK_BYTES as usize)? {
+        Some(bytes) => Ok(digest_of(&bytes)),
+        None => Ok(0),
+    }
+}
+
+impl Contents {
+    /// The files of a scene's trace.
+    pub fn of(alloc: Global, scene: &Scene) -> Result<Contents, AllocError> {
+        let ops = scene.micros().ops();
+        let blocks = blocks_of(alloc, ops)?;
+        Ok(Contents {
+            files: files_of(alloc, scene.trace(), ops, &blocks)?,
+            blocks,
+            digests: BTreeMap::new(alloc),
+        })
+    }
+
+    /// The digest of a block, found before or read now.
+    fn block_digest(
+        &mut self,
+        alloc: Global,
+        standing: Standing<'_>,
+        version: Version,
+    ) -> Result<u64, AllocError> {
+        if let Some(digest) = self.digests.get(&version) {
+            return Ok(*digest);
+        }
+        let digest = read_block(alloc, standing, version.block)?;
+        self.digests.insert(version, digest)?;
+        Ok(digest)
+    }
+
+    /// The digest of what is in a file of the state that has these members.
+    pub fn digest(
+        &mut self,
+        alloc: Global,
+        standing: Standing<'_>,
+        members: &[bool],
+    ) -> Result<u64, AllocError> {
+        let Some(file) = self.files.get(standing.file as usize) else {
+            return Ok(0);
+        };
+        let left = left_of(alloc, file, members, self.blocks.len())?;
+        let mut digest = left.length;
+        for (at, write) in left.writes.iter().enumerate() {
+            let block = self.blocks.get(at).copied().unwrap_or(0);
+            if block <= left.length / BLOCK_BYTES {
+                let version = Version {
+                    file: standing.file,
+                    block,
+                    write: *write,
+                    size: left.size,
+                };
+                digest = mixed(digest, self.block_digest(alloc, standing, version)?);
+            }
+        }
+        Ok(digest)
+    }
+}

@@ -1,0 +1,58 @@
+//! The paths at which the states of a trace may differ.
+use cs_micro::MicroOp;
+use cs_names::Path;
+use std::alloc::{AllocError, Global};
+use std::collections::BTreeMap;
+
+/// The paths that some micro-operation touches, and those of the start's files that one changes.
+#[derive(Debug, Drop)]
+pub struct Places {
+    pub paths: Vec<Path>,
+    /// The place of each among them.
+    pub by_path: BTreeMap<Path, usize>,
+}
+
+impl Places {
+    pub fn new(alloc: Global) -> Places {
+        Places {
+            paths: Vec::new(alloc),
+            by_path: BTreeMap::new(alloc),
+        }
+    }
+
+    fn add(&mut self, alloc: Global, path: &Path) -> Result<(), AllocError> {
+        if self.by_path.contains_key(path) {
+            return Ok(());
+        }
+        let place = self.paths.len();
+        self.paths.push(path.try_clone(alloc)?)?;
+        self.by_path.insert(path.try_clone(alloc)?, place)?;
+        Ok(())
+    }
+
+    /// Adds the paths of a micro-operation: those that it touches, or that of a file which stands at the
+    /// start at one of these.
+    pub fn add_touched(
+        &mut self,
+        alloc: Global,
+        files: &[Path],
+        op: &MicroOp,
+    ) -> Result<(), AllocError> {
+        match op {
+            MicroOp::CreateDirEntry { path, .. } | MicroOp::DeleteDirEntry { path, .. } => {
+                self.add(alloc, path)
+            }
+            MicroOp::MoveDirEntry { from, to } => {
+                self.add(alloc, from)?;
+                self.add(alloc, to)
+            }
+            MicroOp::ChangeFileSize { file, .. } | MicroOp::WriteBlock { file, .. } => {
+                match files.get(*file as usize) {
+                    Some(path) => self.add(alloc, path),
+                    None => Ok(()),
+                }
+            }
+            MicroOp::Say => Ok(()),
+        }
+    }
+}
