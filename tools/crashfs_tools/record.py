@@ -20,7 +20,7 @@ from .mapped import MappedFiles
 from .program import Crashfs, ProgramFault
 from .session import Beginning, Session
 from .strace_log import Log, LogError, read_log
-from .trace import TraceError
+from .trace import Say, TraceError
 from .translate import Copy, Translator
 
 NAME = 'crashfs-record'
@@ -197,6 +197,10 @@ def record(options: Options) -> int:
             recorded = run_command(options, guard)
         log, copies, status = recorded.log, recorded.copies, recorded.status
     Translator(session, log, copies).run()
+    operations = session.trace.operations
+    if options.from_log is not None and all(isinstance(it, Say) for it in operations):
+        raise Refused(f'{options.from_log} changes nothing below {beginning(options).top}: '
+                      '--log-dir is the path that DIR had there')
     write_whole(options.out, (line + '\n' for line in session.trace.lines()))
     return report(options, session, status)
 

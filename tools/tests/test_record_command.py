@@ -104,6 +104,15 @@ class Records(InFolder):
         self.assertEqual(ran.returncode, 0, ran.stderr)
         self.assertEqual(self.read('second.trace'), recorded)
 
+    def test_a_log_of_another_directory_is_refused(self):
+        ran = self.record('echo 2 > $PWD/new; echo told', '--keep-log', self.path('log'))
+        self.assertEqual(ran.returncode, 0, ran.stderr)
+        os.mkdir(self.path('copy'))
+        ran = self.run_tool('crashfs-record', '--from-log', 'log', 'copy', 'second.trace')
+        self.assertEqual(ran.returncode, 1)
+        self.assertRegex(ran.stderr, 'log changes nothing below .*/copy: --log-dir is the path')
+        self.assertFalse(os.path.exists(self.path('second.trace')))
+
     def test_stores_through_a_mapping_are_told_with_mapped(self):
         script = self.write('mapped.py', STORE_MAPPED)
         ran = self.record(f'{sys.executable} {script}', '--mapped')
