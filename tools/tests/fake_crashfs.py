@@ -280,7 +280,7 @@ def files(model):
     for count in range(len(model.ops) + 1):
         synced = set()
         for when, covered in model.syncs:
-            synced |= covered if when <= count else set()
+            synced |= covered if when < count else set()
         for number in model.sizes:
             gone = {p for p in range(count) if p not in synced and
                     model.ops[p]['kind'] in ('size', 'block') and model.ops[p]['file'] == number}

@@ -65,8 +65,8 @@ class Checks(InStore):
         self.assertEqual((ran.returncode, ran.stdout.split(', ')[1]), (0, '12 states'))
 
     def test_families_of_picks_are_tried_too(self):
-        for families, states in ([['--lost'], 23], [['--files'], 14],
-                                 [['--lost', '--files'], 24]):
+        for families, states in ([['--lost'], 23], [['--files'], 15],
+                                 [['--lost', '--files'], 25]):
             ran = self.check('--prefixes', *families, self.good,
                              command=['sh', '-c', 'test $CRASHFS_STATE -lt 12'])
             self.assertIn(f', {states} states, ', ran.stdout)

@@ -1,5 +1,5 @@
 -- Each set of a family is allowed.
-use Rattle.std.proofs.Common.{◌≡◌, ℕ, zero, suc, ◌+◌, ◌<◌, ◌≤◌, ◌==◌, Bool, true, false, cond, List, [], ◌∷◌, length, map, Option, refl, sym, ap, ◌∙◌, ⊎_elim, arith}
+use Rattle.std.proofs.Common.{◌≡◌, ℕ, zero, suc, ◌+◌, ◌-◌, ◌<◌, ◌≤◌, ◌==◌, Bool, true, false, cond, List, [], ◌∷◌, length, map, Option, refl, sym, ap, ◌∙◌, ⊎_elim, arith}
 use Rattle.std.proofs.lemmas.Bool.{and_from, and_parts, eqb-true, or_cases, or_right}
 use Rattle.std.proofs.lemmas.List.Elements.{All-append, All-cons, All-nil}
 use Rattle.std.proofs.lemmas.List.FromFn.{length-map-range_with_len}
@@ -77,7 +77,7 @@ lost_good order back = all_range (IsAllowed (needs_in order) (length order)) (le
 
 pub files_good : (m : Micros) (order : List (List Bool)) → length order ≡ length m.ops → IsBackward (needs_in order) → All (IsAllowed (needs_in order) (length order)) (files_sets m order)
 files_good m order long back = all_flat_range (IsAllowed (needs_in order) (length order)) (prefix_sets m order) 0 (length m.ops + 1) (λ end l.
-    let e = length-map-range_with_len (lost_at m.ops m.syncs end) 0 end in
+    let e = length-map-range_with_len (lost_at m.ops m.syncs (end - 1)) 0 end in
     all_flat (IsAllowed (needs_in order) (length order)) (sets_without (needs_in order) (losses_of m.ops m.syncs end)) (changed_files m.ops) (λ file.
     without_allowed (needs_in order) (length order) back (losses_of m.ops m.syncs end) file (omega (arith, e, l, long))))
 

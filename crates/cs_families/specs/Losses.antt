@@ -1,5 +1,5 @@
 -- The changes of files that a crash may lose.
-use Rattle.std.specs.Prelude.{ℕ, ◌==◌, ◌&&◌, nat_lt, nat_le, if◌then◌else◌, Bool, true, false, List, map, Option, None}
+use Rattle.std.specs.Prelude.{ℕ, ◌-◌, ◌==◌, ◌&&◌, nat_lt, nat_le, if◌then◌else◌, Bool, true, false, List, map, Option, None}
 use Rattle.std.specs.List.{list_any}
 use Rattle.cs_trace.specs.declared.operation.Covers.{Covers}
 use Rattle.cs_trace.specs.declared.operation.Covers.TheVariants as covers
@@ -9,13 +9,13 @@ use Rattle.cs_apm.specs.Rules as rules
 use Rattle.cs_plan.specs.Plans.{first}
 use Rattle.cs_families.specs.Changes.{file_changed}
 
--- the file whose change at the place is lost where a crash comes at the end: no sync point between covers the change
+-- the file whose change at the place is lost where the last operation comes after no sync point that covers it
 abbrev pub lost_at : List MicroOp → List SyncPoint → ℕ → ℕ → Option ℕ
-lost_at ops syncs end place = if rules.is_synced syncs place end (rules.op_at ops place) then None else file_changed (rules.op_at ops place)
+lost_at ops syncs last place = if rules.is_synced syncs place last (rules.op_at ops place) then None else file_changed (rules.op_at ops place)
 
 -- that of each place of a prefix
 abbrev pub losses_of : List MicroOp → List SyncPoint → ℕ → List (Option ℕ)
-losses_of ops syncs end = map (lost_at ops syncs end) (first end)
+losses_of ops syncs end = map (lost_at ops syncs (end - 1)) (first end)
 
 -- ---- of a file's changes
 
@@ -25,6 +25,6 @@ covers_file file covers.All = true
 covers_file file (covers.File other) = other == file
 covers_file file (covers.Directory d) = false
 
--- a sync point between the place and the end covers them
+-- a sync point between the place and the last operation covers them
 abbrev pub is_synced : List SyncPoint → ℕ → ℕ → ℕ → Bool
-is_synced syncs place end file = list_any (λ s. (nat_lt place s.at && nat_le s.at end) && covers_file file s.covers) syncs
+is_synced syncs place last file = list_any (λ s. (nat_lt place s.at && nat_le s.at last) && covers_file file s.covers) syncs

@@ -19,9 +19,9 @@ use std::io::Write;
 pub enum Family {
     /// For each micro-operation the least set that has it: with it all that it needs by any chain.
     Lost,
-    /// For each prefix, and each file with a change there that no sync point of the prefix covers: the
-    /// prefix without these changes, and without all that need one of them by any chain. A set that the
-    /// prefix before gives for the file isn't given again.
+    /// For each prefix, and each file with a change there that no sync point before its last operation
+    /// covers: the prefix without these changes, and without all that need one of them by any chain. A set
+    /// that the prefix before gives for the file isn't given again.
     Files,
 }
 

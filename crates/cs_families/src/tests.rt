@@ -17,8 +17,8 @@ const TRACE: &str = r#"{"trace":1,"owner":"kv","group":"kv","mode":"750"}
 /// Each has the entry of the log, which was waited for; the text has the log's record too.
 const LOST: &[u8] = b"[0]\n[0,1]\n[0,2]\n[0,3]\n[0,4]\n[0,1,2,5]\n";
 
-/// Before the second fsync both files may lose their changes, and then `/t` alone.
-const FILES: &[u8] = b"[0]\n[0,1,2]\n[0,3]\n[0,1,2,5]\n";
+/// Until the second fsync has ended both files may lose their changes, and then `/t` alone.
+const FILES: &[u8] = b"[0]\n[0,1,2]\n[0,3]\n[0,3,4]\n[0,1,2,5]\n";
 
 fn picks(alloc: std::alloc::Global, family: Family) -> (Vec<u8>, u8) {
     let inputs = Inputs {

@@ -1,4 +1,4 @@
-use Rattle.std.proofs.Common.{◌++◌, ap, arith, length, ◌∙◌}
+use Rattle.std.proofs.Common.{◌-◌, ◌++◌, ap, arith, length, ◌∙◌}
 use Rattle.std.proofs.lemmas.List.FromFn.{length-map-range_with_len}
 use Rattle.std.specs.List.{flat_map, range_with_len}
 use Rattle.cs_apm.specs.Orders.{needs_in}
@@ -11,7 +11,7 @@ use Rattle.cs_families.proofs.files.write_files.Goals as goal
 pub write_prefix-requires : goal.write_prefix-requires
 write_prefix-requires g c =
     let long = ap length (c.deref.ensures.value ∙ c.in_ok-losses.ensures) in
-    let count = length-map-range_with_len (lost_at c.ops-ops.result.now c.syncs-syncs.result.now c.loop-end.end) 0 c.loop-end.end in
+    let count = length-map-range_with_len (lost_at c.ops-ops.result.now c.syncs-syncs.result.now (c.loop-end.end - 1)) 0 c.loop-end.end in
     let ops = ap length c.ops-ops.ensures.value in
     omega (arith, long, count, ops, c.requires, c.loop-end-test.true)
 
