@@ -1,16 +1,19 @@
-"""Calls that change modes and owners: a trace of version 1 can't say these."""
+"""Calls that change modes and owners."""
 
 from __future__ import annotations
 
 from typing import Optional
 
+from .arguments import integer
 from .directory import group_name, user_name
 from .live import Node
 from .processes import Process
 from .session import Session
 from .strace_log import Call
+from .trace import Chmod, Chown
 
 UNCHANGED = {'-1', '4294967295', '0xffffffff'}
+PERMISSIONS = 0o777
 
 
 def chmod(session: Session, process: Process, call: Call) -> None:
@@ -18,7 +21,7 @@ def chmod(session: Session, process: Process, call: Call) -> None:
 
 
 def fchmod(session: Session, process: Process, call: Call) -> None:
-    file = process.descriptors.files.get(call.descriptor().number)
+    file = session.open_file(process, call)
     mode_set(session, file.node if file else None, call.word(1))
 
 
@@ -27,13 +30,14 @@ def fchmodat(session: Session, process: Process, call: Call) -> None:
 
 
 def mode_set(session: Session, node: Optional[Node], word: str) -> None:
-    if node is None or not node.names or node.told_path is None:
+    path = told_path(node)
+    if path is None:
         return
-    bits = int(word.rpartition('|')[2], 8) if word.rpartition('|')[2].isdigit() else 0
-    if bits != node.mode:
-        session.trouble(f'its mode becomes {bits:03o}; the trace leaves it {node.mode:03o}',
-                        node.told_path)
-        node.mode = bits
+    mode = int(word, 8)
+    if mode & ~PERMISSIONS:
+        session.trouble(f'it gets the mode bits {mode & ~PERMISSIONS:o}, beyond 777', path)
+    if mode & PERMISSIONS != session.told.entries[path].mode:
+        session.tell(Chmod(path, mode & PERMISSIONS))
 
 
 def chown(session: Session, process: Process, call: Call) -> None:
@@ -42,7 +46,7 @@ def chown(session: Session, process: Process, call: Call) -> None:
 
 
 def fchown(session: Session, process: Process, call: Call) -> None:
-    file = process.descriptors.files.get(call.descriptor().number)
+    file = session.open_file(process, call)
     owner_set(session, file.node if file else None, call.word(1), call.word(2))
 
 
@@ -52,14 +56,19 @@ def fchownat(session: Session, process: Process, call: Call) -> None:
 
 
 def owner_set(session: Session, node: Optional[Node], user: str, group: str) -> None:
-    if node is None or not node.names or node.told_path is None:
+    path = told_path(node)
+    if path is None:
         return
-    entry = session.told.entries[node.told_path]
-    owner = entry.owner if user in UNCHANGED else user_name(int(user))
-    owning_group = entry.group if group in UNCHANGED else group_name(int(group))
+    entry = session.told.entries[path]
+    owner = entry.owner if user in UNCHANGED else user_name(integer(user))
+    owning_group = entry.group if group in UNCHANGED else group_name(integer(group))
     if (owner, owning_group) != (entry.owner, entry.group):
-        session.trouble(f'its owner becomes {owner}:{owning_group}; the trace leaves it '
-                        f'{entry.owner}:{entry.group}', node.told_path)
+        session.tell(Chown(path, owner, owning_group))
+
+
+def told_path(node: Optional[Node]) -> Optional[str]:
+    """Where the trace has a file or directory that has a name."""
+    return node.told_path if node is not None and node.names else None
 
 
 HANDLERS = {

@@ -23,6 +23,9 @@ NAME_CHANGES = {
     'rename', 'renameat', 'renameat2', 'unlink', 'unlinkat', 'rmdir', 'mkdir', 'mkdirat', 'link',
     'linkat', 'symlink', 'symlinkat', 'mknod', 'mknodat', 'truncate',
 }
+RIGHT_CHANGES = {'chmod', 'fchmodat', 'fchmodat2', 'chown', 'lchown', 'fchownat'}
+# The changes of a descriptor's file, beside those of its bytes.
+DESCRIPTOR_CHANGES = DATA_CHANGES | {'fchmod', 'fchown'}
 FILE_SYNCS = {'fsync', 'fdatasync', 'msync'}
 WHOLE_SYNCS = {'sync', 'syncfs'}
 TARGET_PLACES = {'copy_file_range': 2}
@@ -41,7 +44,7 @@ def in_order(calls: List[Call]) -> List[Call]:
 
 
 def is_change(call: Call) -> bool:
-    return call.name in DATA_CHANGES or call.name in NAME_CHANGES
+    return call.name in DESCRIPTOR_CHANGES | NAME_CHANGES | RIGHT_CHANGES
 
 
 def moment_of(call: Call) -> Moment:
@@ -87,7 +90,7 @@ def synced_path(sync: Call) -> Optional[str]:
 
 def changed_paths(change: Call) -> Optional[Set[str]]:
     """The paths whose syncs cover a change; None where that can't be told."""
-    if change.name in DATA_CHANGES:
+    if change.name in DESCRIPTOR_CHANGES:
         path = change.descriptor(TARGET_PLACES.get(change.name, 0)).path
         return set() if path is None else {path}
     paths: Set[str] = set()

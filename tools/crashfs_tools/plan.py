@@ -8,6 +8,10 @@ from typing import Dict, FrozenSet, List, Tuple
 
 FILE_OPERATION = re.compile(
     r'^op (\d+) (change_file_size|write_block) \d+ ([\d ]+) line (\d+) (/.*)$')
+FILE_RIGHTS = re.compile(
+    r'^op (\d+) (set_attr) file \d+ ([0-7]{3} \S+ \S+) line (\d+) (/.*)$')
+DIRECTORY_RIGHTS = re.compile(
+    r'^op (\d+) (set_attr) dir (/.*) ([0-7]{3} \S+ \S+) line (\d+)$')
 ENTRY_OPERATION = re.compile(r'^op (\d+) (\w+_dir_entry) (/.*) line (\d+)$')
 SAY = re.compile(r'^op (\d+) (say) line (\d+)$')
 STATE = re.compile(r'^state (\d+) (prefix|hole|pick) (\S+(?: \d+)?) says (\d+)(?: same (\d+))?$')
@@ -87,9 +91,13 @@ def read_plan(listed: str) -> Plan:
 
 
 def read_operation(line: str) -> MicroOperation:
-    match = FILE_OPERATION.match(line)
+    match = FILE_OPERATION.match(line) or FILE_RIGHTS.match(line)
     if match:
         place, kind, rest, number, path = match.groups()
+        return MicroOperation(int(place), kind, path, rest, int(number))
+    match = DIRECTORY_RIGHTS.match(line)
+    if match:
+        place, kind, path, rest, number = match.groups()
         return MicroOperation(int(place), kind, path, rest, int(number))
     match = ENTRY_OPERATION.match(line)
     if match:

@@ -20,7 +20,7 @@ from .mapped import MappedFiles
 from .program import Crashfs, ProgramFault
 from .session import Beginning, Session
 from .strace_log import Log, LogError, read_log
-from .trace import Say, TraceError
+from .trace import ORDERED, PROFILES, Say, TraceError
 from .translate import Copy, Translator
 
 NAME = 'crashfs-record'
@@ -52,6 +52,7 @@ class Options:
     from_log: Optional[str]
     log_directory: Optional[str]
     crashfs: Optional[str]
+    profile: Optional[str]
 
     def ignored(self, path: str) -> bool:
         """Whether a path below DIR, or a directory above it, matches a --ignore."""
@@ -79,6 +80,9 @@ def parser() -> argparse.ArgumentParser:
                            'before that run')
     made.add_argument('--log-dir', metavar='PATH', dest='log_directory',
                       help="with --from-log: DIR's path where the log was written")
+    made.add_argument('--profile', choices=PROFILES,
+                      help='which directory operations the file system keeps in order: none but '
+                           'those of the same names (blocks, as without this), or all (ordered)')
     made.add_argument('--crashfs', metavar='PATH',
                       help='the program that tells the last state (else that of PATH)')
     return made
@@ -187,6 +191,8 @@ def record(options: Options) -> int:
     Crashfs.find(options.crashfs)
     before = scan(options.directory, options.ignored)
     session = Session(beginning(options), before, options.ignored)
+    if options.profile == ORDERED:
+        session.trace.profile = ORDERED
     status = 0
     if options.from_log is not None:
         log, copies = load_log(options.from_log), []

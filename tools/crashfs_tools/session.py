@@ -131,7 +131,7 @@ class Session:
             self.trouble(f'{name} is left out: {fault}', place_of(operation))
             return False
         self.told.apply(operation)
-        self.trace.operations.append(operation)
+        self.trace.add(operation)
         return True
 
     def say(self, data: bytes) -> None:

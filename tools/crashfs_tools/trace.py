@@ -7,7 +7,8 @@ import json
 from dataclasses import dataclass, field
 from typing import Any, Dict, Iterator, List, Optional, Type, Union
 
-VERSION = 1
+BLOCKS, ORDERED = 'blocks', 'ordered'
+PROFILES = (BLOCKS, ORDERED)
 
 
 class TraceError(Exception):
@@ -80,6 +81,19 @@ class Truncate:
 
 
 @dataclass(frozen=True)
+class Chmod:
+    path: str
+    mode: int
+
+
+@dataclass(frozen=True)
+class Chown:
+    path: str
+    owner: str
+    group: str
+
+
+@dataclass(frozen=True)
 class Fsync:
     path: str
 
@@ -94,7 +108,8 @@ class Say:
     text: str
 
 
-Operation = Union[Creat, Mkdir, Unlink, Rmdir, Rename, Write, Truncate, Fsync, Sync, Say]
+Operation = Union[Creat, Mkdir, Unlink, Rmdir, Rename, Write, Truncate, Chmod, Chown, Fsync, Sync,
+                  Say]
 
 KINDS: Dict[str, Type[Any]] = {
     'creat': Creat,
@@ -104,10 +119,14 @@ KINDS: Dict[str, Type[Any]] = {
     'rename': Rename,
     'write': Write,
     'truncate': Truncate,
+    'chmod': Chmod,
+    'chown': Chown,
     'fsync': Fsync,
     'sync': Sync,
     'say': Say,
 }
+# What a trace of version 1 hasn't.
+NEW_KINDS = (Chmod, Chown)
 KIND_OF = {made: kind for kind, made in KINDS.items()}
 # The keys of a line that have another name in Python.
 KEYS = {'source': 'from', 'target': 'to', 'data': 'bytes'}
@@ -115,15 +134,24 @@ KEYS = {'source': 'from', 'target': 'to', 'data': 'bytes'}
 
 @dataclass
 class Trace:
-    """A whole trace."""
+    """A whole trace. One of version 1 has no profile: its directory operations are in no order
+    but that of `blocks`."""
 
     header: Header
     start: List[Start] = field(default_factory=list)
     operations: List[Operation] = field(default_factory=list)
+    profile: Optional[str] = None
+
+    def add(self, operation: Operation) -> None:
+        """Adds an operation; one that version 1 hasn't makes the trace one of version 2."""
+        if isinstance(operation, NEW_KINDS) and self.profile is None:
+            self.profile = BLOCKS
+        self.operations.append(operation)
 
     def lines(self) -> Iterator[str]:
         """The trace's lines, each without its line feed."""
-        yield as_json({'trace': VERSION, **values_of(self.header)})
+        version = {'trace': 1} if self.profile is None else {'trace': 2, 'profile': self.profile}
+        yield as_json({**version, **values_of(self.header)})
         for entry in self.start:
             yield start_line(entry)
         for operation in self.operations:
@@ -188,16 +216,26 @@ def root_owner(text: str) -> str:
 
 def with_line(trace: Optional[Trace], fields: Dict[str, Any]) -> Trace:
     if trace is None:
-        if fields['trace'] != VERSION:
-            raise ValueError(f"a header of version {fields['trace']}")
-        return Trace(Header(fields['owner'], fields['group'], int(fields['mode'], 8)))
+        return Trace(Header(fields['owner'], fields['group'], int(fields['mode'], 8)),
+                     profile=read_profile(fields))
     if 'start' in fields:
         values = read_values(fields, Start) if 'bytes' in fields else directory_values(fields)
         trace.start.append(Start(**values))
     else:
         made = KINDS[fields['op']]
-        trace.operations.append(made(**read_values(fields, made)))
+        if made in NEW_KINDS and trace.profile is None:
+            raise ValueError(f"{fields['op']} in a trace of version 1")
+        trace.add(made(**read_values(fields, made)))
     return trace
+
+
+def read_profile(fields: Dict[str, Any]) -> Optional[str]:
+    """The profile of a header of version 2, and None of one of version 1."""
+    if fields['trace'] == 1 and 'profile' not in fields:
+        return None
+    if fields['trace'] != 2 or fields['profile'] not in PROFILES:
+        raise ValueError(f"a header of version {fields['trace']}, profile {fields.get('profile')}")
+    return str(fields['profile'])
 
 
 def directory_values(fields: Dict[str, Any]) -> Dict[str, Any]:

@@ -3,10 +3,12 @@
 from __future__ import annotations
 
 from dataclasses import dataclass
-from typing import Dict, Optional
+from typing import Dict, Optional, Union
 
 from . import limits
 from .trace import (
+    Chmod,
+    Chown,
     Creat,
     Fsync,
     Mkdir,
@@ -81,7 +83,7 @@ class Tree:
             return self.rename_fault(operation)
         if isinstance(operation, Rmdir):
             return self.rmdir_fault(operation.path)
-        if isinstance(operation, Fsync):
+        if isinstance(operation, (Chmod, Chown, Fsync)):
             return None if operation.path in self.entries else f'{operation.path} is not there'
         if isinstance(operation, (Unlink, Write, Truncate)):
             return self.file_fault(operation.path) or self.size_fault(operation)
@@ -143,13 +145,16 @@ class Tree:
         self.micro_operations += self.steps(operation)
 
     def steps(self, operation: Operation) -> int:
-        """The number of micro-operations, with the bytes of a write or truncate put in place."""
+        """The number of micro-operations, with the bytes of a write or truncate put in place, and
+        the rights of a chmod or chown."""
         if isinstance(operation, Write):
             return self.write(operation)
         if isinstance(operation, Truncate):
             return self.truncate(operation)
         if isinstance(operation, Rename):
             return int(operation.source != operation.target)
+        if isinstance(operation, (Chmod, Chown)):
+            return self.set_rights(operation)
         return int(isinstance(operation, (Creat, Mkdir, Unlink, Rmdir, Say)))
 
     def write(self, operation: Write) -> int:
@@ -170,6 +175,15 @@ class Tree:
         changes = len(data) != operation.length
         resize(data, operation.length)
         return int(changes)
+
+    def set_rights(self, operation: Union[Chmod, Chown]) -> int:
+        entry = self.entries[operation.path]
+        before = entry.owner, entry.group, entry.mode
+        if isinstance(operation, Chmod):
+            entry.mode = operation.mode
+        else:
+            entry.owner, entry.group = operation.owner, operation.group
+        return int((entry.owner, entry.group, entry.mode) != before)
 
 
 def resize(data: bytearray, length: int) -> None:

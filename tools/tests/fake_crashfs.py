@@ -56,7 +56,7 @@ class Model:
 
     def __init__(self, lines):
         self.start, self.ops, self.syncs, self.needs_so_far = {}, [], [], {}
-        self.path_of_file, self.sizes, self.names = {}, {}, {}
+        self.sizes, self.names, self.rights, self.profile = {}, {}, {}, 'blocks'
         for number, line in enumerate(lines, 1):
             if line.strip():
                 self.line(number, json.loads(line))
@@ -65,9 +65,13 @@ class Model:
     def line(self, number, fields):
         if 'trace' in fields:
             self.start['/'] = (fields, None, None)
+            self.rights['/'] = rights_of(fields)
+            self.profile = fields.get('profile', 'blocks')
         elif 'start' in fields:
             data = bytes.fromhex(fields['bytes']) if 'bytes' in fields else None
-            self.start[fields['path']] = (fields, data, self.new_file(fields['path'], data))
+            number = self.new_file(fields['path'], data)
+            self.start[fields['path']] = (fields, data, number)
+            self.rights[fields['path'] if number is None else number] = rights_of(fields)
         else:
             getattr(self, 'op_' + fields['op'])(number, fields)
 
@@ -83,9 +87,11 @@ class Model:
 
     def op_creat(self, line, fields):
         number = self.new_file(fields['path'], b'')
+        self.rights[number] = rights_of(fields)
         self.add('create', line, fields=fields, file=number, paths=[fields['path']])
 
     def op_mkdir(self, line, fields):
+        self.rights[fields['path']] = rights_of(fields)
         self.add('create', line, fields=fields, file=None, paths=[fields['path']])
 
     def op_unlink(self, line, fields):
@@ -121,6 +127,21 @@ class Model:
             self.sizes[number] = fields['length']
             self.add('size', line, file=number, length=fields['length'], path=fields['path'])
 
+    def op_chmod(self, line, fields):
+        self.set_rights(line, fields)
+
+    def op_chown(self, line, fields):
+        self.set_rights(line, fields)
+
+    def set_rights(self, line, fields):
+        path = fields['path']
+        number = self.names.get(path)
+        key = path if number is None else number
+        after = {**self.rights[key], **rights_of(fields)}
+        if after != self.rights[key]:
+            self.rights[key] = after
+            self.add('rights', line, file=number, path=path, rights=after)
+
     def op_say(self, line, fields):
         self.add('say', line, text=fields['text'])
 
@@ -134,9 +155,10 @@ class Model:
     def covered(self, number, path):
         if number is not None:
             return {op['place'] for op in self.ops
-                    if op['kind'] in ('size', 'block') and op['file'] == number}
+                    if op['kind'] in ('size', 'block', 'rights') and op['file'] == number}
         return {op['place'] for op in self.ops
-                if any(parent(one) == path for one in op['paths'])}
+                if any(parent(one) == path for one in op['paths'])
+                or sets_directory(op) and op['path'] == path}
 
     def needed_by(self, place):
         """All that a micro-operation needs, by any chain."""
@@ -150,8 +172,8 @@ class Model:
                 direct.add(op['place'])
             if op['kind'] == 'create' and op['file'] is None:
                 latest[op['paths'][0]] = op['place']
-        for path in self.ops[place]['paths']:
-            if parent(path) in latest:
+        for path in named(self.ops[place]):
+            if path != '/' and parent(path) in latest:
                 direct.add(latest[parent(path)])
         out = set(direct)
         for one in direct:
@@ -159,15 +181,18 @@ class Model:
         self.needs_so_far[place] = out
         return out
 
-    @staticmethod
-    def direct(i, j):
+    def direct(self, i, j):
         if i['kind'] == j['kind'] == 'block':
             return (i['file'], i['block']) == (j['file'], j['block'])
         if i['kind'] == j['kind'] == 'size':
             return i['file'] == j['file']
+        if i['kind'] == j['kind'] == 'rights' and i['file'] is not None:
+            return i['file'] == j['file']
         if i['kind'] == j['kind'] == 'say':
             return True
-        if set(i['paths']) & set(j['paths']):
+        if set(named(i)) & set(named(j)):
+            return True
+        if self.profile == 'ordered' and i['paths'] and j['paths']:
             return True
         deletes = j['kind'] == 'delete' and j['directory']
         return deletes and any(parent(path) == j['paths'][0] for path in i['paths'])
@@ -178,9 +203,13 @@ class Model:
         hidden = {number: bytearray(data) for _, data, number in self.start.values()
                   if number is not None}
         sizes = {number: len(data) for number, data in hidden.items()}
+        set_last = {}
         for place in sorted(places):
             self.apply(self.ops[place], entries, hidden, sizes)
-        return {path: (fields, None if number is None else content(hidden, sizes, number))
+            if self.ops[place]['kind'] == 'rights' and self.ops[place]['file'] is not None:
+                set_last[self.ops[place]['file']] = self.ops[place]['rights']
+        return {path: (set_last.get(number, rights_of(fields)),
+                       None if number is None else content(hidden, sizes, number))
                 for path, (fields, number) in entries.items()}
 
     @staticmethod
@@ -191,6 +220,8 @@ class Model:
             del entries[op['paths'][0]]
         elif op['kind'] == 'move':
             entries[op['paths'][1]] = entries.pop(op['paths'][0])
+        elif sets_directory(op):
+            entries[op['path']] = (op['rights'], None)
         elif op['kind'] == 'size':
             if op['length'] < sizes.get(op['file'], 0):
                 del hidden.setdefault(op['file'], bytearray())[op['length']:]
@@ -203,6 +234,19 @@ class Model:
 
     def says(self, places):
         return sum(self.ops[place]['kind'] == 'say' for place in places)
+
+
+def rights_of(fields):
+    return {key: fields[key] for key in ('owner', 'group', 'mode') if key in fields}
+
+
+def sets_directory(op):
+    return op['kind'] == 'rights' and op['file'] is None
+
+
+def named(op):
+    """The paths that an operation touches, or whose directory it changes."""
+    return [op['path']] if sets_directory(op) else op['paths']
 
 
 def content(hidden, sizes, number):
@@ -227,6 +271,8 @@ def plan(model, holes, picks):
 
 def op_text(op, lines):
     tail = f" line {op['line']}" if lines else ''
+    if op['kind'] == 'rights':
+        return rights_text(op, tail, lines)
     shown = ' ' + op['path'] if lines and 'path' in op else ''
     if op['kind'] == 'create':
         kind = 'dir' if op['file'] is None else 'file'
@@ -241,6 +287,14 @@ def op_text(op, lines):
         count = len(op['data'])
         return f"write_block {op['file']} {op['block']} {op['at']} {count}{tail}{shown}"
     return f'say{tail}'
+
+
+def rights_text(op, tail, lines):
+    shown = '{mode} {owner} {group}'.format(**op['rights'])
+    if op['file'] is None:
+        return f"set_attr dir {op['path']} {shown}{tail}"
+    path = ' ' + op['path'] if lines else ''
+    return f"set_attr file {op['file']} {shown}{tail}{path}"
 
 
 def listing(model, states, lines, same):
@@ -283,7 +337,8 @@ def files(model):
             synced |= covered if when < count else set()
         for number in model.sizes:
             gone = {p for p in range(count) if p not in synced and
-                    model.ops[p]['kind'] in ('size', 'block') and model.ops[p]['file'] == number}
+                    model.ops[p]['kind'] in ('size', 'block', 'rights')
+                    and model.ops[p]['file'] == number}
             kept = frozenset(p for p in range(count)
                              if p not in gone and not model.needs[p] & gone)
             if gone and kept not in seen:
@@ -300,7 +355,7 @@ def write_archive(model, states, options):
     if last >= len(states):
         print('crashfs: no such state', file=sys.stderr)
         return 1
-    with tarfile.open(fileobj=sys.stdout.buffer, mode='w|', format=tarfile.USTAR_FORMAT) as out:
+    with tarfile.open(fileobj=sys.stdout.buffer, mode='w|', format=tarfile.PAX_FORMAT) as out:
         for number in range(first, last + 1):
             prefix = '' if '--state' in options else f'{number}/'
             for path, (fields, data) in sorted(model.tree(states[number][1]).items()):

@@ -20,7 +20,7 @@ from typing import Any, Callable, Dict, List, Optional, Sequence
 from crashfs_tools.directory import Scan
 from crashfs_tools.session import Beginning, Session
 from crashfs_tools.strace_log import read_log
-from crashfs_tools.trace import Header, Start
+from crashfs_tools.trace import Creat, Header, Mkdir, Start
 from crashfs_tools.translate import Translator
 
 TOOLS = Path(__file__).resolve().parents[1]
@@ -52,14 +52,20 @@ def session_of(lines: List[str], start: Optional[List[Start]] = None, ignored=No
 
 
 def operations_of(lines: List[str], start: Optional[List[Start]] = None) -> List[str]:
-    """The operations of a log as short texts: `creat /a`, `write /a 0 hi`, `rename /a /b`."""
+    """The operations of a log as short texts: `creat /a`, `write /a 0 hi`, `chmod /a 600`."""
     return [short(operation) for operation in session_of(lines, start).trace.operations]
 
 
 def short(operation) -> str:
-    parts = [value.decode() if isinstance(value, bytes) else str(value)
-             for name, value in vars(operation).items() if name not in ('owner', 'group', 'mode')]
+    hidden = ('owner', 'group', 'mode') if isinstance(operation, (Creat, Mkdir)) else ()
+    parts = [shown(name, value) for name, value in vars(operation).items() if name not in hidden]
     return ' '.join([type(operation).__name__.lower(), *parts])
+
+
+def shown(name, value) -> str:
+    if name == 'mode':
+        return f'{value:03o}'
+    return value.decode() if isinstance(value, bytes) else str(value)
 
 
 class InFolder(unittest.TestCase):

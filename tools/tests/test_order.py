@@ -43,6 +43,12 @@ CASES = [
         '1 <... sync resumed>) = 0',
         '2 <... write resumed>) = 5',
     ], ['say done', 'sync']),
+    ('a mode that is set while the file is synced is not covered', [
+        '1 fsync(3</d/f> <unfinished ...>',
+        '2 fchmod(3</d/f>, 0600) = 0',
+        '2 fchmodat(AT_FDCWD</d>, "g", 0600) = 0',
+        '1 <... fsync resumed>) = 0',
+    ], ['fsync /f', 'chmod /f 600', 'chmod /g 600']),
     ('an entry that comes while its directory is synced is not covered', [
         '1 openat(AT_FDCWD</d>, ".", O_RDONLY) = 5</d>',
         '1 fsync(5</d> <unfinished ...>',

@@ -42,6 +42,13 @@ class Listed(unittest.TestCase):
         self.assertEqual(plan.states[9], State(9, 'hole', (1, 5), 1, 8))
         self.assertEqual(plan.states[12].numbers, ())
 
+    def test_modes_and_owners_are_read(self):
+        plan = read_plan('op 0 set_attr file 0 600 ann staff line 3 /a b\n'
+                         'op 1 set_attr dir /d 7 700 bob staff line 4\n')
+        self.assertEqual([operation.text for operation in plan.operations],
+                         ['op 0 set_attr /a b 600 ann staff', 'op 1 set_attr /d 7 700 bob staff'])
+        self.assertEqual([operation.line for operation in plan.operations], [3, 4])
+
     def test_equal_trees_are_tried_once_for_each_number_of_says(self):
         self.assertEqual(read_plan(LISTED).trials(), {
             Trial(0, 0): 0, Trial(1, 0): 1, Trial(2, 0): 2, Trial(3, 0): 3, Trial(4, 0): 4,

@@ -67,10 +67,18 @@ class Records(InFolder):
     def test_what_no_trace_says_is_told_and_the_rest_is_written(self):
         ran = self.record('ln -s old link; chmod 600 old; echo 2 > new; exit 4')
         self.assertEqual(ran.returncode, 3)
-        for told in ['/link: a symbolic link was made', '/old: its mode becomes 600',
-                     'COMMAND ended with status 4']:
+        for told in ['/link: a symbolic link was made', 'COMMAND ended with status 4']:
             self.assertIn(told, ran.stderr)
-        self.assertEqual(len(self.operations()), 2)
+        self.assertEqual(len(self.operations()), 3)
+
+    def test_modes_that_change_make_a_trace_of_version_2(self):
+        ran = self.record('umask 077; echo 2 > new; chmod 640 new; chmod 700 .; mv new old')
+        self.assertEqual(ran.returncode, 0, ran.stderr)
+        self.assertTrue(self.read('out.trace').startswith('{"trace":2,"profile":"blocks",'))
+        self.assertIn('{"op":"chmod","path":"/new","mode":"640"}', self.operations())
+        self.assertIn('{"op":"chmod","path":"/","mode":"700"}', self.operations())
+        ran = self.record('echo 3 > old', '--profile', 'ordered')
+        self.assertTrue(self.read('out.trace').startswith('{"trace":2,"profile":"ordered",'))
 
     def test_a_start_tree_leaves_out_what_no_trace_says(self):
         os.symlink('old', self.path('d', 'link'))

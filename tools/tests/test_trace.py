@@ -8,6 +8,8 @@ from crashfs_tools.compare import ByProgram, Replayed, differences
 from crashfs_tools.directory import Scan
 from crashfs_tools.program import Crashfs
 from crashfs_tools.trace import (
+    Chmod,
+    Chown,
     Creat,
     Header,
     Mkdir,
@@ -22,9 +24,37 @@ from crashfs_tools.trace import (
 )
 from crashfs_tools.tree import Tree, replay
 
-from .support import EXAMPLES, FAKE
+from .support import EXAMPLES, FAKE, InFolder
 
-EXAMPLE_TRACES = ['store.trace', 'start.trace']
+EXAMPLE_TRACES = [path.name for path in sorted(EXAMPLES.glob('*.trace'))]
+HEADER_2 = '{"trace":2,"profile":"blocks","owner":"cat","group":"staff","mode":"775"}\n'
+# A file that gets its mode and its owner before it is renamed into place.
+RIGHTS = HEADER_2 + """\
+{"op":"creat","path":"/a","owner":"ann","group":"staff","mode":"644"}
+{"op":"chmod","path":"/a","mode":"600"}
+{"op":"chown","path":"/a","owner":"bob","group":"staff"}
+{"op":"rename","from":"/a","to":"/b"}
+"""
+# The states of it, and of it with a sync of the file before the rename, by the definition alone.
+RIGHTS_LIST = """\
+op 0 create_dir_entry /a file
+op 1 set_attr file 0 600 ann staff
+op 2 set_attr file 0 600 bob staff
+op 3 move_dir_entry /a /b
+state 0 prefix 0 says 0
+state 1 prefix 1 says 0
+state 2 prefix 2 says 0
+state 3 prefix 3 says 0
+state 4 prefix 4 says 0
+state 5 hole 0 2 says 0
+state 6 hole 0 3 says 0
+state 7 hole 1 4 says 0
+state 8 hole 2 4 says 0
+"""
+TWO_FILES = """\
+{"op":"creat","path":"/a","owner":"ann","group":"staff","mode":"644"}
+{"op":"creat","path":"/b","owner":"ann","group":"staff","mode":"644"}
+"""
 
 
 def example(name: str) -> str:
@@ -37,6 +67,7 @@ class Traces(unittest.TestCase):
         for name in EXAMPLE_TRACES:
             lines = [line for line in example(name).split('\n') if line]
             self.assertEqual(list(read_trace(example(name)).lines()), lines)
+        self.assertEqual('\n'.join(read_trace(RIGHTS).lines()) + '\n', RIGHTS)
 
     def test_what_is_no_trace_is_refused_with_its_line(self):
         header = '{"trace":1,"owner":"u","group":"u","mode":"755"}\n'
@@ -45,6 +76,10 @@ class Traces(unittest.TestCase):
                 (header + '\n{"op":"chown","path":"/a"}', 'line 3 '),
                 (header + '{"op":"write","path":"/a","offset":0,"bytes":"4"}', 'line 2 '),
                 (header.replace('1', '3', 1), 'line 1 '),
+                (header + '{"op":"chmod","path":"/","mode":"700"}', 'line 2 '),
+                (header.replace('1,', '1,"profile":"blocks",'), 'line 1 '),
+                (header.replace('1', '2', 1), 'line 1 '),
+                (HEADER_2.replace('blocks', 'some'), 'line 1 '),
                 ('[]', 'line 1 ')]:
             with self.subTest(text), self.assertRaises(TraceError) as caught:
                 read_trace(text)
@@ -59,6 +94,13 @@ class Traces(unittest.TestCase):
             path = str(EXAMPLES / name)
             self.assertEqual(Replayed().entries(path), ByProgram(Crashfs(FAKE)).entries(path))
 
+    def test_modes_and_owners_are_counted_where_they_change(self):
+        again = RIGHTS + '{"op":"chmod","path":"/b","mode":"600"}\n'
+        tree = replay(read_trace(again))
+        self.assertEqual(tree.micro_operations, 4)
+        entry = tree.entries['/b']
+        self.assertEqual((entry.owner, entry.group, entry.mode), ('bob', 'staff', 0o600))
+
     def test_an_operation_that_the_program_would_refuse_is_a_fault(self):
         tree = Tree('u', 'u', 0o755)
         tree.start(Start('/d', 'u', 'u', 0o755, None))
@@ -70,6 +112,8 @@ class Traces(unittest.TestCase):
                 (Mkdir('/d/f/g', 'u', 'u', 0), 'no directory'),
                 (Creat('/d/' + 'n' * 256, 'u', 'u', 0), 'more than 255 bytes'),
                 (Creat('/d/\udcff', 'u', 'u', 0), 'not UTF-8'),
+                (Chmod('/x', 0), 'not there'),
+                (Chown('/x', 'u', 'u'), 'not there'),
                 (Unlink('/d'), 'is a directory'),
                 (Unlink('/x'), 'not there'),
                 (Rmdir('/d'), 'has entries'),
@@ -99,12 +143,40 @@ class Traces(unittest.TestCase):
         self.assertEqual(differences(scan(log, other), last, ['/table']), [])
 
 
-class Fake(unittest.TestCase):
+class Fake(InFolder):
 
-    def test_the_fake_lists_the_example_as_the_program_does(self):
-        listed = subprocess.run([FAKE, 'list', '--trace', str(EXAMPLES / 'store.trace'),
-                                 '--holes'], stdout=subprocess.PIPE, text=True, check=True)
-        self.assertEqual(listed.stdout, example('store.list'))
+    def listed(self, text, *options):
+        trace = self.write('a.trace', text)
+        ran = subprocess.run([FAKE, 'list', '--trace', trace, *options], stdout=subprocess.PIPE,
+                             text=True, check=True)
+        return ran.stdout
+
+    def test_the_fake_lists_modes_and_owners_as_they_are_defined(self):
+        self.assertEqual(self.listed(RIGHTS, '--holes'), RIGHTS_LIST)
+        synced = RIGHTS.replace('{"op":"rename"', '{"op":"fsync","path":"/a"}\n{"op":"rename"')
+        wanted = ''.join(RIGHTS_LIST.splitlines(True)[:-2])
+        self.assertEqual(self.listed(synced, '--holes'), wanted)
+
+    def test_the_fake_s_trees_have_the_modes_and_owners_of_their_sets(self):
+        trace = self.write('a.trace', RIGHTS)
+        for state, wanted in [(4, {'b': ('bob', 0o600)}), (6, {}), (7, {'b': ('ann', 0o644)}),
+                              (8, {'b': ('ann', 0o600)})]:
+            words = ['--trace', trace, '--holes', '--state', str(state)]
+            with self.subTest(state), Crashfs(FAKE).archive(words) as members:
+                found = {one.name: (one.uname, one.mode) for one in members}
+                self.assertEqual(found, wanted)
+
+    def test_ordered_takes_states_away(self):
+        self.assertTrue(self.listed(HEADER_2 + TWO_FILES, '--holes').endswith(
+            'state 3 hole 0 2 says 0\n'))
+        ordered = HEADER_2.replace('blocks', 'ordered') + TWO_FILES
+        self.assertTrue(self.listed(ordered, '--holes').endswith('state 2 prefix 2 says 0\n'))
+
+    def test_the_fake_lists_the_examples_as_the_program_does(self):
+        for listed in sorted(EXAMPLES.glob('*.list')):
+            with self.subTest(listed.name):
+                trace = example(listed.stem + '.trace')
+                self.assertEqual(self.listed(trace, '--holes'), example(listed.name))
 
 
 if __name__ == '__main__':

@@ -79,6 +79,36 @@ CASES = [
         '1 unlink("g") = 0',
         '1 rmdir("../t") = 0',
     ], ['mkdir /t', 'rename /s/f /t/g', 'rmdir /s', 'unlink /t/g', 'rmdir /t']),
+    ('modes, by path and by descriptor, where they change', IN_DIRECTORY, [
+        '1 chmod("s/f", 0600) = 0',
+        '1 chmod("s/f", 0600) = 0',
+        '1 fchmodat(AT_FDCWD</d>, "s", 0700) = 0',
+        '1 openat(AT_FDCWD</d>, "s/f", O_RDONLY) = 3</d/s/f>',
+        '1 fchmod(3</d/s/f>, 007) = 0',
+        '1 fchmodat2(3</d/s/f>, "", 0640, AT_EMPTY_PATH) = 0',
+        '1 chmod(".", 0750) = 0',
+        '1 chmod("/etc", 0750) = 0',
+    ], ['chmod /s/f 600', 'chmod /s 700', 'chmod /s/f 007', 'chmod /s/f 640', 'chmod / 750']),
+    ('owners and groups, each with the other as it stands', FILE, [
+        '1 chown("f", 54321, -1) = 0',
+        '1 lchown("f", -1, 65432) = 0',
+        '1 fchownat(AT_FDCWD</d>, "f", 54322, 0x10932, 0) = 0',
+        OPEN_F,
+        '1 fchown(3</d/f>, 4294967295, 67891) = 0',
+        '1 fchown(3</d/f>, -1, -1) = 0',
+    ], ['chown /f u54321 u', 'chown /f u54321 g65432', 'chown /f u54322 g67890',
+        'chown /f u54322 g67891']),
+    ('a file under a new name has the mode that it was given', FILE, [
+        '1 rename("f", "g") = 0',
+        '1 chmod("g", 0600) = 0',
+        '1 rename("g", "f") = 0',
+        '1 chmod("f", 0600) = 0',
+    ], ['rename /f /g', 'chmod /g 600', 'rename /g /f']),
+    ('a file without a name has no mode to be told', FILE, [
+        OPEN_F,
+        '1 unlink("f") = 0',
+        '1 fchmod(3</d/f>(deleted), 0600) = 0',
+    ], ['unlink /f']),
     ('a link and an unlink are a rename', FILE, [
         '1 link("f", "g") = 0',
         '1 unlink("f") = 0',
@@ -121,8 +151,9 @@ TROUBLES = [
     ('/f: renamed to from outside the directory', FILE, ['1 rename("/etc/a", "f") = 0']),
     ('/f: exchanged with /g', TWO_FILES,
      ['1 renameat2(AT_FDCWD</d>, "f", AT_FDCWD</d>, "g", RENAME_EXCHANGE) = 0']),
-    ('/f: its mode becomes 600; the trace leaves it 644', FILE, ['1 chmod("f", 0600) = 0']),
-    ('/f: its owner becomes', FILE, ['1 chown("f", 54321, -1) = 0']),
+    ('/f: it gets the mode bits 4000, beyond 777', FILE, ['1 chmod("f", 04644) = 0']),
+    ('/f: fchmod by a descriptor that was opened by something', FILE,
+     ['1 fchmod(7</d/f>, 0600) = 0']),
     ('/f: write by a descriptor that was opened by something', FILE,
      ['1 write(7</d/f>, "x", 1) = 1']),
     ('/f: mapped for writing', FILE,
@@ -178,6 +209,15 @@ class Calls(unittest.TestCase):
         session = session_of(log, IN_DIRECTORY)
         self.assertEqual(session.trace.operations, [])
         self.assertEqual({trouble.where for trouble in session.troubles.values()}, {'/s'})
+
+    def test_a_trace_is_of_version_2_where_modes_or_owners_change(self):
+        for call, version in [('mkdir("t", 0700)', '{"trace":1,'),
+                              ('chmod("f", 0644)', '{"trace":1,'),
+                              ('chmod("f", 0600)', '{"trace":2,"profile":"blocks",'),
+                              ('chown("f", 54321, -1)', '{"trace":2,"profile":"blocks",')]:
+            with self.subTest(call):
+                header = next(session_of([f'1 {call} = 0'], FILE).trace.lines())
+                self.assertTrue(header.startswith(version), header)
 
     def test_modes_are_cut_by_the_umask_that_counts_then(self):
         log = ['1 umask(027) = 022',

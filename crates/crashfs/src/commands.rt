@@ -69,7 +69,8 @@ fn list_command<'a>(alloc: Global) -> Result<Command<'a>, AllocError> {
     with_states(alloc, list)
 }
 
-fn tar_command<'a>(alloc: Global) -> Result<Command<'a>, AllocError> {
+/// The command `tar`.
+pub fn tar_command<'a>(alloc: Global) -> Result<Command<'a>, AllocError> {
     let state = value_argument(alloc, "state", "N", "The state of that number").value_parser(
         value_parser!(u32),
     );

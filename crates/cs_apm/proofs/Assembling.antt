@@ -9,10 +9,11 @@ use Rattle.std.specs.Prelude.{slice_get}
 use Rattle.cs_tree_model.specs.Tree.{Path}
 use Rattle.cs_trace.specs.declared.operation.Node.TheVariants as nodes
 use Rattle.cs_trace.specs.declared.operation.Rights.{Rights}
+use Rattle.cs_trace.specs.declared.operation.Target.TheVariants as targets
 use Rattle.cs_trace.specs.Operations.{Paths}
 use Rattle.cs_trace.specs.Traces.{Trace, start_paths}
 use Rattle.cs_micro.specs.declared.micro_op.MicroOp.{MicroOp}
-use Rattle.cs_micro.specs.declared.micro_op.MicroOp.TheVariants.{CreateDirEntry, DeleteDirEntry, MoveDirEntry, ChangeFileSize, WriteBlock, Say}
+use Rattle.cs_micro.specs.declared.micro_op.MicroOp.TheVariants.{CreateDirEntry, DeleteDirEntry, MoveDirEntry, ChangeFileSize, WriteBlock, SetAttr, Say}
 use Rattle.cs_micro.specs.Legal.{AreLegal, made_after, paths_after}
 use Rattle.cs_apm.specs.Rules.{op_at}
 use Rattle.cs_apm.specs.States.{Entries, Entry, owners_made, start_entries}
@@ -20,7 +21,7 @@ use Rattle.cs_apm.specs.States as states
 use Rattle.cs_apm.specs.declared.slot.Slot.{Slot}
 use Rattle.cs_apm.specs.declared.slot.Slot.TheVariants.{Nothing, Directory, File}
 use Rattle.cs_apm.specs.declared.slot.Step.{Step}
-use Rattle.cs_apm.specs.declared.slot.Step.TheVariants.{Set, Move, Other}
+use Rattle.cs_apm.specs.declared.slot.Step.TheVariants.{Set, Move, Own, Other}
 use Rattle.cs_apm.specs.Slots.{AreAscending, AreKnown, AreKnownSteps, AreSteps, HasRights, HasStepRights, HaveRights, HaveStepRights, IsKnown, IsKnownStep, IsStep, Mirror, entry_of, path_at, slot_at, step_at}
 use Rattle.cs_apm.specs.Laws.Mirrors.{at_place, step_is}
 use Rattle.cs_apm.specs.Laws.Starts.{start_nodes}
@@ -67,6 +68,7 @@ counted made (DeleteDirEntry p kind) ops = refl
 counted made (MoveDirEntry p q) ops = refl
 counted made (ChangeFileSize file size) ops = refl
 counted made (WriteBlock file block at bytes) ops = refl
+counted made (SetAttr target rights) ops = refl
 counted made Say ops = refl
 
 creates_first : (m : Paths) (made : ℕ) (o : MicroOp) (ops : List MicroOp) → AreLegal m made (o ∷ ops) → CreatesBelow (made + length (owners_made (o ∷ ops))) o
@@ -76,6 +78,7 @@ creates_first m made (DeleteDirEntry p kind) ops h = tt
 creates_first m made (MoveDirEntry p q) ops h = tt
 creates_first m made (ChangeFileSize file size) ops h = tt
 creates_first m made (WriteBlock file block at bytes) ops h = tt
+creates_first m made (SetAttr target rights) ops h = tt
 creates_first m made Say ops h = tt
 
 creates_below : (m : Paths) (made : ℕ) (ops : List MicroOp) → AreLegal m made ops → (k : ℕ) → CreatesBelow (made + length (owners_made ops)) (op_at ops k)
@@ -91,6 +94,8 @@ known_step rights paths n f (DeleteDirEntry p kind) (Set i Nothing) long below h
 known_step rights paths n f (MoveDirEntry p q) (Move i j) long below have is = (subst (λ w. i < w) (sym long) is.0.0, subst (λ w. j < w) (sym long) is.1.0)
 known_step rights paths n f (ChangeFileSize file size) Other long below have is = tt
 known_step rights paths n f (WriteBlock file block at bytes) Other long below have is = tt
+known_step rights paths n f (SetAttr (targets.Directory p) r) (Own i k) long below have is = (subst (λ w. i < w) (sym long) is.0.0, have)
+known_step rights paths n f (SetAttr (targets.File m) r) Other long below have is = tt
 known_step rights paths n f Say Other long below have is = tt
 known_step rights paths n f o s long below have is = absurd is
 

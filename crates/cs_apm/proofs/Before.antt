@@ -13,7 +13,7 @@ use Rattle.cs_micro.specs.declared.micro_op.MicroOp.TheVariants.{Say}
 use Rattle.cs_apm.specs.Atlases.{AreChanged, AreStarts, content_before, files_left, no_record}
 use Rattle.cs_apm.specs.Contents.{changes, content_left}
 use Rattle.cs_apm.specs.Rules.{op_at}
-use Rattle.cs_apm.specs.States.{Content, bytes_of, content_at, content_of, created, no_content, owner_at, owners_made, owners_of, start_state, state_of}
+use Rattle.cs_apm.specs.States.{Content, bytes_of, content_at, content_of, created, no_content, owner_at, owners_made, owners_of, start_state, state_of, with_created}
 use Rattle.cs_apm.proofs.Contents.{content_idle, file_left}
 
 all_same : {X Y : Type 0} (d : Y) (xs : List X) (n : ℕ) → get_or (map (λ _. d) xs) n d ≡ d
@@ -69,4 +69,4 @@ module _ (t : Trace) (ops : List MicroOp) (places : List ℕ) where
 
   pub left_file : (n : ℕ) → n < length (owners_of t ops) → content_left n (content_before t ops n) ops places ≡ get_or (files_left t ops places) n no_content
   unfolding files_left state_of
-  left_file n low = sym (file_left (record { paths = (start_state t).paths; files = map (content_at t.records) t.files ++ created ops }) ops places n (subst (λ k. n < k) (sym as_many) low))
+  left_file n low = sym (file_left (with_created (start_state t) ops) ops places n (subst (λ k. n < k) (sym as_many) low))

@@ -10,16 +10,16 @@ use Rattle.cs_tree_model.specs.Tree.{IsTree}
 use Rattle.cs_trace.specs.Operations.{AreNested}
 use Rattle.cs_trace.specs.Traces.{Trace}
 use Rattle.cs_micro.specs.Micros.{Micros}
-use Rattle.cs_apm.specs.Atlases.{Atlas, IsAtlas, files_left}
+use Rattle.cs_apm.specs.Atlases.{Atlas, IsAtlas, files_left, owners_left}
 use Rattle.cs_micro.specs.Legal.{AreLegal}
 use Rattle.cs_apm.specs.Orders.{needs_of}
 use Rattle.cs_apm.specs.Rules.{op_at}
 use Rattle.cs_apm.specs.Sets.{IsAllowed}
 use Rattle.cs_apm.specs.Slots.{AreKnown, FitsIn, IsKnownStep, mirrored, slots_after, step_at}
-use Rattle.cs_apm.specs.States.{crash_state_of, entries_after, owners_of, record_of, records_of, start_state, state_of}
+use Rattle.cs_apm.specs.States.{crash_state_of, entries_after, record_of, records_of, start_state, state_of}
 use Rattle.cs_apm.specs.declared.slot.Slot.{Slot}
 use Rattle.cs_apm.specs.declared.slot.Step.{Step}
-use Rattle.cs_apm.specs.declared.slot.Step.TheVariants.{Set, Move, Other}
+use Rattle.cs_apm.specs.declared.slot.Step.TheVariants.{Set, Move, Own, Other}
 use Rattle.cs_apm.specs.Laws.Mirrors.{mirror_is}
 use Rattle.cs_apm.specs.Laws.Starts.{start_nodes}
 use Rattle.cs_apm.specs.Laws.Trees.{nodes_in, paths_left, state_nested}
@@ -28,6 +28,7 @@ use Rattle.cs_apm.proofs.Folding.{all_inside, fold_known, fold_mirrored}
 step_fits : (n r f : ℕ) (s : Step) → IsKnownStep n r f s → FitsIn n s
 step_fits n r f (Set i s) h = h.0
 step_fits n r f (Move i j) h = h
+step_fits n r f (Own i k) h = h.0
 step_fits n r f Other h = tt
 
 module _ (t : Trace) (m : Micros) (a : Atlas) (is : IsAtlas t m.ops a) where
@@ -58,18 +59,18 @@ module _ (t : Trace) (m : Micros) (a : Atlas) (is : IsAtlas t m.ops a) where
 
     state_paths : (state_of (start_state t) m.ops places).paths ≡ mirrored a.rights a.paths left
     state_paths =
-        paths_left (owners_of t m.ops) (start_state t) m.ops m.syncs places nested (length t.files) legal allowed
+        paths_left (start_state t) m.ops m.syncs m.profile places nested (length t.files) legal allowed
         ∙ ap (λ w. fold entries_after w (map (op_at m.ops) places)) (mirror_is a.rights a.paths a.slots is.ascending (start_state t).paths is.start)
-        ∙ fold_mirrored a.rights a.paths (owners_of t m.ops) (files_left t m.ops places) is.ascending m.ops a.steps is.steps a.slots is.long places
+        ∙ fold_mirrored a.rights a.paths (owners_left t m.ops places) (files_left t m.ops places) is.ascending m.ops a.steps is.steps a.slots is.long places
 
-    records_same : records_of (owners_of t m.ops) (state_of (start_state t) m.ops places) ≡ map_values (record_of (owners_of t m.ops) (files_left t m.ops places)) (mirrored a.rights a.paths left)
-    unfolding files_left
-    records_same = ap (map_values (record_of (owners_of t m.ops) (state_of (start_state t) m.ops places).files)) state_paths
+    records_same : records_of (state_of (start_state t) m.ops places) ≡ map_values (record_of (owners_left t m.ops places) (files_left t m.ops places)) (mirrored a.rights a.paths left)
+    unfolding files_left owners_left
+    records_same = ap (map_values (record_of (state_of (start_state t) m.ops places).owners (state_of (start_state t) m.ops places).files)) state_paths
 
-    pub nested_records_left : IsNested (map_values (record_of (owners_of t m.ops) (files_left t m.ops places)) (mirrored a.rights a.paths left))
-    nested_records_left = subst IsNested records_same (state_nested (owners_of t m.ops) (start_state t) m.ops m.syncs places nested (length t.files) legal allowed)
+    pub nested_records_left : IsNested (map_values (record_of (owners_left t m.ops places) (files_left t m.ops places)) (mirrored a.rights a.paths left))
+    nested_records_left = subst IsNested records_same (state_nested (start_state t) m.ops m.syncs m.profile places nested (length t.files) legal allowed)
 
-    pub tree_left : fresh (map_values (record_of (owners_of t m.ops) (files_left t m.ops places)) (mirrored a.rights a.paths left)) ≡ crash_state_of t m places
+    pub tree_left : fresh (map_values (record_of (owners_left t m.ops places) (files_left t m.ops places)) (mirrored a.rights a.paths left)) ≡ crash_state_of t m places
     tree_left = sym (ap fresh records_same)
 
     pub is_tree_left : IsTree (crash_state_of t m places)

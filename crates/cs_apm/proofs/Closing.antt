@@ -9,22 +9,24 @@ use Rattle.cs_tree_model.specs.Tree.{Path, path_cmp, parent_path}
 use Rattle.cs_trace.specs.declared.operation.Node.{Node}
 use Rattle.cs_trace.specs.declared.operation.Node.TheVariants as nodes
 use Rattle.cs_trace.specs.declared.operation.Rights.{Rights}
+use Rattle.cs_trace.specs.declared.operation.Target.TheVariants as targets
 use Rattle.cs_trace.specs.Operations.{AreNested, IsDirectoryAt, Paths}
 use Rattle.cs_trace.specs.Traces.{Trace, start_paths}
 use Rattle.cs_micro.specs.declared.micro_op.EntryKind.TheVariants as kinds
 use Rattle.cs_micro.specs.declared.micro_op.MicroOp.{MicroOp}
-use Rattle.cs_micro.specs.declared.micro_op.MicroOp.TheVariants.{CreateDirEntry, DeleteDirEntry, MoveDirEntry, ChangeFileSize, WriteBlock, Say}
+use Rattle.cs_micro.specs.declared.micro_op.MicroOp.TheVariants.{CreateDirEntry, DeleteDirEntry, MoveDirEntry, ChangeFileSize, WriteBlock, SetAttr, Say}
 use Rattle.cs_micro.specs.Legal.{AreLegal}
 use Rattle.cs_names.specs.Paths.{path_eq}
-use Rattle.cs_apm.specs.Atlases.{HasAllTouched, IsKnownPath, no_record, node_at}
+use Rattle.cs_apm.specs.Atlases.{HasAllNamed, IsKnownPath, no_record, node_at}
 use Rattle.cs_apm.specs.Legal.{IsLegalThere, nodes_of}
-use Rattle.cs_apm.specs.Rules.{op_at, touched, touches}
+use Rattle.cs_apm.specs.Rules.{named, op_at, touches}
 use Rattle.cs_apm.specs.Slots.{AreAscending, Mirror, slot_entry}
 use Rattle.cs_apm.specs.States.{Entry, start_entries}
 use Rattle.cs_apm.specs.declared.slot.Slot.{Slot}
 use Rattle.cs_apm.specs.Laws.Nested.{legal_nested}
 use Rattle.cs_apm.specs.Laws.One.{untouched}
-use Rattle.cs_apm.specs.Laws.Paths.{any_found, path_from_eq, same_cases}
+use Rattle.cs_apm.specs.Laws.Paths.{same_cases}
+use Rattle.cs_apm.specs.Laws.Reasons.{listed, only_one, touches_says}
 use Rattle.cs_apm.specs.Laws.Shown.{all}
 use Rattle.cs_apm.specs.Laws.Starts.{start_nodes}
 use Rattle.cs_apm.specs.Laws.Trees.{get_nodes, legal_at, node_of}
@@ -40,39 +42,36 @@ slot_there rights (p ∷ ps) (s ∷ ss) q e is = ⊎_elim
     (λ (two : (path_eq p q ≡ false) × (p ≢ q)). (let w = slot_there rights ps ss q e (rw two.0 at is) in let l = w.1 in (suc w.0, omega (arith, l), w.2)))
     (same_cases p q)
 
--- ---- a path that a legal micro-operation touches is in a directory
-
-only_one : (q p : Path) (k : ℕ) → k < 1 → get_or (q ∷ []) k p ≡ p → q ≡ p
-only_one q p zero low is = is
-only_one q p (suc k) low is = absurd (omega (arith, low))
+-- ---- a path that a legal micro-operation names is in a directory
 
 one_of_two : (q r p : Path) (k : ℕ) → k < 2 → get_or (q ∷ r ∷ []) k p ≡ p → (q ≡ p) ⊎ (r ≡ p)
 one_of_two q r p zero low is = inl is
 one_of_two q r p (suc k) low is = inr (only_one r p k (omega (arith, low)) is)
 
-touched_there : (o : MicroOp) (q : Path) → touches o q ≡ true → Contains (touched o) q
-touched_there o q is = (let w = any_found (λ p. path_eq p q) (touched o) is in subst (Contains (touched o)) (path_from_eq w.0 q w.2) w.1)
-
-directory_of : (m : Paths) (o : MicroOp) → IsLegalThere m o → AreNested m → (p : Path) → Contains (touched o) p → p ≢ [] → IsDirectoryAt m (parent_path p)
-directory_of m (CreateDirEntry q nodes.Directory r) h nested p there named = subst (λ w. IsDirectoryAt m (parent_path w)) (only_one q p there.0 there.1 there.2) h.1.0.1
-directory_of m (CreateDirEntry q (nodes.File f) r) h nested p there named = subst (λ w. IsDirectoryAt m (parent_path w)) (only_one q p there.0 there.1 there.2) h.1.0.1
-directory_of m (DeleteDirEntry q kinds.File) h nested p there named =
+directory_of : (m : Paths) (o : MicroOp) → IsLegalThere m o → AreNested m → (p : Path) → Contains (named o) p → p ≢ [] → IsDirectoryAt m (parent_path p)
+directory_of m (CreateDirEntry q nodes.Directory r) h nested p there below = subst (λ w. IsDirectoryAt m (parent_path w)) (only_one q p there.0 there.1 there.2) h.1.0.1
+directory_of m (CreateDirEntry q (nodes.File f) r) h nested p there below = subst (λ w. IsDirectoryAt m (parent_path w)) (only_one q p there.0 there.1 there.2) h.1.0.1
+directory_of m (DeleteDirEntry q kinds.File) h nested p there below =
     let same = only_one q p there.0 there.1 there.2 in
-    nested.nested p (nodes.File h.1.0) (ap (get m) (sym same) ∙ h.1.1) named
-directory_of m (DeleteDirEntry q kinds.Directory) h nested p there named =
+    nested.nested p (nodes.File h.1.0) (ap (get m) (sym same) ∙ h.1.1) below
+directory_of m (DeleteDirEntry q kinds.Directory) h nested p there below =
     let same = only_one q p there.0 there.1 there.2 in
-    nested.nested p nodes.Directory (ap (get m) (sym same) ∙ h.1.1) named
-directory_of m (MoveDirEntry q r) h nested p there named = ⊎_elim
-    (λ (same : q ≡ p). nested.nested p (nodes.File h.1.1.0) (ap (get m) (sym same) ∙ h.1.1.1) named)
+    nested.nested p nodes.Directory (ap (get m) (sym same) ∙ h.1.1) below
+directory_of m (MoveDirEntry q r) h nested p there below = ⊎_elim
+    (λ (same : q ≡ p). nested.nested p (nodes.File h.1.1.0) (ap (get m) (sym same) ∙ h.1.1.1) below)
     (λ (same : r ≡ p). subst (λ w. IsDirectoryAt m (parent_path w)) same h.1.2.1)
     (one_of_two q r p there.0 there.1 there.2)
-directory_of m (ChangeFileSize file size) h nested p there named = absurd (let l = there.1 in omega (arith, l))
-directory_of m (WriteBlock file block at bytes) h nested p there named = absurd (let l = there.1 in omega (arith, l))
-directory_of m Say h nested p there named = absurd (let l = there.1 in omega (arith, l))
+directory_of m (ChangeFileSize file size) h nested p there below = absurd (let l = there.1 in omega (arith, l))
+directory_of m (WriteBlock file block at bytes) h nested p there below = absurd (let l = there.1 in omega (arith, l))
+directory_of m (SetAttr (targets.File f) r) h nested p there below = absurd (let l = there.1 in omega (arith, l))
+directory_of m (SetAttr (targets.Directory q) r) h nested p there below =
+    let same = only_one q p there.0 there.1 there.2 in
+    nested.nested p nodes.Directory (ap (get m) (sym same) ∙ h.1.0) below
+directory_of m Say h nested p there below = absurd (let l = there.1 in omega (arith, l))
 
 module _ (t : Trace) (ops : List MicroOp) (rights : List Rights) (paths : List Path) (slots : List Slot) (made : ℕ)
     (mirror : Mirror rights paths slots (start_entries t.records t.nodes)) (nested : AreNested (start_paths t)) (legal : AreLegal (start_paths t) made ops)
-    (all_touched : HasAllTouched paths ops (length ops)) where
+    (all_named : HasAllNamed paths ops (length ops)) where
   start_there : (q : Path) (n : Node) → get (start_paths t) q ≡ Some n → Contains paths q
   start_there q n is = by (get (start_entries t.records t.nodes) q) refl
     where
@@ -83,7 +82,7 @@ module _ (t : Trace) (ops : List MicroOp) (rights : List Rights) (paths : List P
   run_there : (k : ℕ) → k ≤ length ops → (q : Path) (n : Node) → get (nodes_of all (start_paths t) ops k) q ≡ Some n → Contains paths q
   run_there zero le q n is = start_there q n is
   run_there (suc k) le q n is = ⊎_elim
-      (λ (yes : touches (op_at ops k) q ≡ true). all_touched k (omega (arith, le)) q (touched_there (op_at ops k) q yes))
+      (λ (yes : touches (op_at ops k) q ≡ true). all_named k (omega (arith, le)) q (listed (op_at ops k) q (inl (touches_says (op_at ops k) q yes))))
       (λ (no : touches (op_at ops k) q ≡ false). run_there k (omega (arith, le)) q n (sym (untouched (nodes_of all (start_paths t) ops k) (op_at ops k) q no) ∙ is))
       (cases_Bool (touches (op_at ops k) q))
 
@@ -100,13 +99,13 @@ module _ (t : Trace) (ops : List MicroOp) (rights : List Rights) (paths : List P
     )
 
     pub parent_there : (p : Path) → IsKnownPath t.records ops (length ops) p → p ≢ [] → Contains paths (parent_path p)
-    parent_there p known named = ⊎_elim
+    parent_there p known below = ⊎_elim
         (λ (w : (k : ℕ) × (k < length t.records) × ((get_or t.records k no_record).0 ≡ p)).
         let there = record_there w.0 p w.1 w.2 in
-        start_there (parent_path p) nodes.Directory (nested.nested p there.0 there.1 named))
-        (λ (w : (k : ℕ) × (k < length ops) × Contains (touched (op_at ops k)) p).
+        start_there (parent_path p) nodes.Directory (nested.nested p there.0 there.1 below))
+        (λ (w : (k : ℕ) × (k < length ops) × Contains (named (op_at ops k)) p).
         let lower = w.1 in
         run_there w.0 (omega (arith, lower)) (parent_path p) nodes.Directory
         (directory_of (nodes_of all (start_paths t) ops w.0) (op_at ops w.0) (legal_at (start_paths t) made ops legal w.0 lower)
-        (legal_nested ops (start_paths t) nested (legal_at (start_paths t) made ops legal) w.0 (omega (arith, lower))) p w.2 named))
+        (legal_nested ops (start_paths t) nested (legal_at (start_paths t) made ops legal) w.0 (omega (arith, lower))) p w.2 below))
         known

@@ -1,6 +1,7 @@
 -- Entries of the table.
 use Rattle.std.specs.Option.{option_map_or}
 use Rattle.std.proofs.lemmas.Option.{slice_get-get_or, slice_get_read, slice_get_past}
+use Rattle.cs_trace.specs.declared.profile.Profile.{Profile}
 use Rattle.cs_apm.specs.declared.row.Row.{Row}
 use Rattle.cs_apm.specs.Bits.{has}
 use Rattle.std.proofs.Common.{◌≡◌, ℕ, zero, suc, ◌∷◌, ◌+◌, ◌<◌, ◌≤◌, Bool, false, List, [], length, map, get_or, refl, sym, ap, ◌∙◌, subst, ⊎_elim, arith}
@@ -28,8 +29,8 @@ entry need n i j later low =
     (λ (h : j ≤ i). get_or_past (map (λ i. need i j) (range_with_len 0 j)) i false (omega (arith, h, length-map-range_with_len (λ i. need i j) 0 j)) ∙ sym (later i j h))
     (cases_lt i j)
 
-pub entry_of_rules : (ops : List MicroOp) (syncs : List SyncPoint) (n i j : ℕ) → j < n → needs_in (table (needs ops syncs) n) i j ≡ needs ops syncs i j
-entry_of_rules ops syncs n i j low = entry (needs ops syncs) n i j (λ a b h. needs_later ops syncs a b h) low
+pub entry_of_rules : (ops : List MicroOp) (syncs : List SyncPoint) (profile : Profile) (n i j : ℕ) → j < n → needs_in (table (needs ops syncs profile) n) i j ≡ needs ops syncs profile i j
+entry_of_rules ops syncs profile n i j low = entry (needs ops syncs profile) n i j (λ a b h. needs_later ops syncs profile a b h) low
 
 map_same : {X : Type 0} (f g : ℕ → X) (a n : ℕ) → ((k : ℕ) → k < a + n → f k ≡ g k) → map f (range_with_len a n) ≡ map g (range_with_len a n)
 map_same f g a zero same = refl
@@ -53,8 +54,8 @@ pub bits_past : (rows : List Row) (i j : ℕ) → length rows ≤ j → bit_in r
 unfolding bit_in
 bits_past rows i j high = ap (λ o. option_map_or (λ r. has r i) o false) (slice_get_past rows j high)
 
-pub bits_later : (ops : List MicroOp) (syncs : List SyncPoint) (rows : List Row) (d : Row) → AreRows (needs ops syncs) (length ops) rows → (a b : ℕ) → b ≤ a → bit_in rows a b ≡ false
-bits_later ops syncs rows d are a b h = ⊎_elim
-    (λ (l : b < length ops). bits_say (needs ops syncs) (length ops) rows d are a b l ∙ needs_later ops syncs a b h)
+pub bits_later : (ops : List MicroOp) (syncs : List SyncPoint) (profile : Profile) (rows : List Row) (d : Row) → AreRows (needs ops syncs profile) (length ops) rows → (a b : ℕ) → b ≤ a → bit_in rows a b ≡ false
+bits_later ops syncs profile rows d are a b h = ⊎_elim
+    (λ (l : b < length ops). bits_say (needs ops syncs profile) (length ops) rows d are a b l ∙ needs_later ops syncs profile a b h)
     (λ (l : length ops ≤ b). bits_past rows a b (subst (λ m. m ≤ b) (sym are.long) l))
     (cases_lt b (length ops))

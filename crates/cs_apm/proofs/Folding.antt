@@ -12,8 +12,8 @@ use Rattle.cs_apm.specs.States.{Content, entries_after}
 use Rattle.cs_apm.specs.declared.slot.Slot.{Slot}
 use Rattle.cs_apm.specs.declared.slot.Slot.TheVariants.{Nothing, Directory, File}
 use Rattle.cs_apm.specs.declared.slot.Step.{Step}
-use Rattle.cs_apm.specs.declared.slot.Step.TheVariants.{Set, Move, Other}
-use Rattle.cs_apm.specs.Slots.{slot_at, step_at, moved_slot, slots_after, AreAscending, mirrored, AreSteps, IsKnown, AreKnown, IsKnownStep, AreKnownSteps}
+use Rattle.cs_apm.specs.declared.slot.Step.TheVariants.{Set, Move, Own, Other}
+use Rattle.cs_apm.specs.Slots.{slot_at, step_at, moved_slot, owned_slot, slots_after, AreAscending, mirrored, AreSteps, IsKnown, AreKnown, IsKnownStep, AreKnownSteps}
 use Rattle.cs_apm.specs.Laws.Mirrors.{length_after, fold_mirror, mirror_is, mirror_of}
 
 module _ (n r f : ℕ) where
@@ -28,9 +28,15 @@ module _ (n r f : ℕ) where
   known_moved slots i j (Directory k) low high known is = known_set (slice_set slots i Nothing) j (Directory k) (subst (λ w. j < w) (sym (length-set slots i Nothing)) high) (known_set slots i Nothing low known tt) is
   known_moved slots i j (File k) low high known is = known_set (slice_set slots i Nothing) j (File k) (subst (λ w. j < w) (sym (length-set slots i Nothing)) high) (known_set slots i Nothing low known tt) is
 
+  known_owned : (slots : List Slot) (i k : ℕ) (s : Slot) → i < length slots → k < r → AreKnown r f slots → AreKnown r f (owned_slot i k slots s)
+  known_owned slots i k Nothing low there known = known
+  known_owned slots i k (File n) low there known = known
+  known_owned slots i k (Directory old) low there known = known_set slots i (Directory k) low known there
+
   known_after : (slots : List Slot) (s : Step) → length slots ≡ n → AreKnown r f slots → IsKnownStep n r f s → AreKnown r f (slots_after slots s)
   known_after slots (Set i s) long known is = known_set slots i s (subst (λ w. i < w) (sym long) is.0) known is.1
   known_after slots (Move i j) long known is = known_moved slots i j (slot_at slots i) (subst (λ w. i < w) (sym long) is.0) (subst (λ w. j < w) (sym long) is.1) known (known i)
+  known_after slots (Own i k) long known is = known_owned slots i k (slot_at slots i) (subst (λ w. i < w) (sym long) is.0) is.1 known
   known_after slots Other long known is = known
 
   pub fold_known : (rights : List Rights) (steps : List Step) → AreKnownSteps n r f steps → (places : List ℕ) (slots : List Slot) → length slots ≡ n → AreKnown r f slots

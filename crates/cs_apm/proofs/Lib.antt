@@ -8,6 +8,7 @@ pub mod Admitting
 pub mod Ordering
 pub mod Folding
 pub mod Contents
+pub mod Owning
 pub mod Before
 pub mod Listing
 pub mod Standing

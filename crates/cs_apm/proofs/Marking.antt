@@ -9,7 +9,7 @@ use Rattle.std.specs.List.{list_any}
 use Rattle.std.specs.Prelude.{slice_get, slice_set}
 use Rattle.cs_trace.specs.declared.operation.Node.TheVariants as nodes
 use Rattle.cs_micro.specs.declared.micro_op.MicroOp.{MicroOp}
-use Rattle.cs_micro.specs.declared.micro_op.MicroOp.TheVariants.{CreateDirEntry, DeleteDirEntry, MoveDirEntry, ChangeFileSize, WriteBlock, Say}
+use Rattle.cs_micro.specs.declared.micro_op.MicroOp.TheVariants.{CreateDirEntry, DeleteDirEntry, MoveDirEntry, ChangeFileSize, WriteBlock, SetAttr, Say}
 use Rattle.cs_apm.specs.Atlases.{AreChanged, marked}
 use Rattle.cs_apm.specs.Contents.{changes}
 use Rattle.cs_apm.specs.States.{owners_made}
@@ -24,6 +24,7 @@ length-marked flags (DeleteDirEntry p kind) = refl
 length-marked flags (MoveDirEntry p q) = refl
 length-marked flags (ChangeFileSize file size) = length-set flags file true
 length-marked flags (WriteBlock file block at bytes) = length-set flags file true
+length-marked flags (SetAttr target rights) = refl
 length-marked flags Say = refl
 
 or_true : (b : Bool) → (b || true) ≡ true
@@ -58,6 +59,7 @@ changed_more ops count flags o are = record {
     one (MoveDirEntry p q) n flag there = are.each n flag there ∙ sym (or_false (list_any (changes n) ops))
     one (ChangeFileSize file size) n flag there = set_flag flags file n flag (list_any (changes n) ops) (are.each n) there
     one (WriteBlock file block at bytes) n flag there = set_flag flags file n flag (list_any (changes n) ops) (are.each n) there
+    one (SetAttr target rights) n flag there = are.each n flag there ∙ sym (or_false (list_any (changes n) ops))
     one Say n flag there = are.each n flag there ∙ sym (or_false (list_any (changes n) ops))
 
 pub owners_made-append : (xs ys : List MicroOp) → owners_made (xs ++ ys) ≡ owners_made xs ++ owners_made ys
@@ -68,4 +70,5 @@ owners_made-append (DeleteDirEntry p kind ∷ xs) ys = owners_made-append xs ys
 owners_made-append (MoveDirEntry p q ∷ xs) ys = owners_made-append xs ys
 owners_made-append (ChangeFileSize file size ∷ xs) ys = owners_made-append xs ys
 owners_made-append (WriteBlock file block at bytes ∷ xs) ys = owners_made-append xs ys
+owners_made-append (SetAttr target rights ∷ xs) ys = owners_made-append xs ys
 owners_made-append (Say ∷ xs) ys = owners_made-append xs ys

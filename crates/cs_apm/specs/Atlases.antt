@@ -12,7 +12,7 @@ use Rattle.cs_micro.specs.declared.micro_op.MicroOp.{MicroOp}
 use Rattle.cs_micro.specs.declared.micro_op.MicroOp.TheVariants.{ChangeFileSize, WriteBlock}
 use Rattle.cs_apm.specs.Contents.{IsSmall, changes}
 use Rattle.cs_micro.specs.Legal.{AreLegal}
-use Rattle.cs_apm.specs.Rules.{op_at, touched}
+use Rattle.cs_apm.specs.Rules.{named, op_at}
 use Rattle.cs_apm.specs.States.{Content, content_at, content_of, created, no_content, owners_of, start_state, state_of}
 use Rattle.cs_apm.specs.Slots.{AreAscending, AreKnown, AreKnownSteps, AreSteps, Mirror}
 use Rattle.cs_apm.specs.declared.tables.Tables.{Tables}
@@ -20,8 +20,8 @@ use Rattle.cs_apm.specs.declared.slot.Slot.{Slot}
 use Rattle.cs_apm.specs.declared.slot.Step.{Step}
 
 -- every path that ever stands, in order; what stands there at the start; what each micro-operation does
--- there; owner, group and permissions of the directories and of the files; where the record of each of
--- the start's files stands; which files an operation changes
+-- there; owner, group and permissions of the directories, and of the files as they are made; where the
+-- record of each of the start's files stands; which files' bytes an operation changes
 pub record Atlas : Type 0 where
   pub paths : List Path
   pub slots : List Slot
@@ -68,6 +68,10 @@ pub record IsAtlas (t : Trace) (ops : List MicroOp) (a : Atlas) : Type 0 where
 unfoldable pub files_left : Trace → List MicroOp → List ℕ → List Content
 files_left t ops places = (state_of (start_state t) ops places).files
 
+-- owner, group and permissions of the files after them
+unfoldable pub owners_left : Trace → List MicroOp → List ℕ → List Rights
+owners_left t ops places = (state_of (start_state t) ops places).owners
+
 -- the file of the number at the start, or as it is made
 abbrev pub content_before : Trace → List MicroOp → ℕ → Content
 content_before t ops n = slice_index_or (map (content_at t.records) t.files ++ created ops) n no_content
@@ -80,17 +84,17 @@ atlas_in t = record { paths = t.paths.items; slots = t.slots.items; steps = t.st
 abbrev pub HasFirst : List Path → List (Path × Record) → ℕ → Type 0
 HasFirst paths records n = (k : ℕ) → k < n → Contains paths (slice_index_or records k no_record).0
 
--- the paths that a micro-operation touches are among these
-abbrev pub HasTouched : List Path → MicroOp → Type 0
-HasTouched paths o = (p : Path) → Contains (touched o) p → Contains paths p
+-- the paths that a micro-operation names are among these
+abbrev pub HasNamed : List Path → MicroOp → Type 0
+HasNamed paths o = (p : Path) → Contains (named o) p → Contains paths p
 
-abbrev pub HasAllTouched : List Path → List MicroOp → ℕ → Type 0
-HasAllTouched paths ops n = (k : ℕ) → k < n → HasTouched paths (op_at ops k)
+abbrev pub HasAllNamed : List Path → List MicroOp → ℕ → Type 0
+HasAllNamed paths ops n = (k : ℕ) → k < n → HasNamed paths (op_at ops k)
 
--- the path is that of a record, or one of the first n micro-operations touches it
+-- the path is that of a record, or one of the first n micro-operations names it
 abbrev pub IsKnownPath : List (Path × Record) → List MicroOp → ℕ → Path → Type 0
 IsKnownPath records ops n p =
-    ((k : ℕ) × (k < length records) × ((slice_index_or records k no_record).0 ≡ p)) ⊎ ((k : ℕ) × (k < n) × Contains (touched (op_at ops k)) p)
+    ((k : ℕ) × (k < length records) × ((slice_index_or records k no_record).0 ≡ p)) ⊎ ((k : ℕ) × (k < n) × Contains (named (op_at ops k)) p)
 
 -- ---- as the tables of files are made
 

@@ -8,6 +8,7 @@ pub mod Rows
 pub mod Legal
 pub mod States
 pub mod Contents
+pub mod Owners
 pub mod Slots
 pub mod Atlases
 pub mod Files

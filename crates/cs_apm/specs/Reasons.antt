@@ -1,4 +1,4 @@
--- Why one micro-operation of a trace needs another: the six rules as sentences.
+-- Why one micro-operation of a trace needs another: the eight rules as sentences.
 use Rattle.std.specs.Prelude.{◌≡◌, ◌<◌, ◌≤◌, ◌⊎◌, ℕ, List}
 use Rattle.std.specs.List.{Contains}
 use Rattle.cs_tree_model.specs.Tree.{Path, parent_path}
@@ -6,9 +6,12 @@ use Rattle.cs_trace.specs.declared.operation.Covers.{Covers}
 use Rattle.cs_trace.specs.declared.operation.Covers.TheVariants as covers
 use Rattle.cs_trace.specs.declared.operation.Node.{Node}
 use Rattle.cs_trace.specs.declared.operation.Rights.{Rights}
+use Rattle.cs_trace.specs.declared.operation.Target.TheVariants as targets
+use Rattle.cs_trace.specs.declared.profile.Profile.{Profile}
+use Rattle.cs_trace.specs.declared.profile.Profile.TheVariants as profiles
 use Rattle.cs_micro.specs.declared.micro_op.EntryKind.TheVariants as kinds
 use Rattle.cs_micro.specs.declared.micro_op.MicroOp.{MicroOp}
-use Rattle.cs_micro.specs.declared.micro_op.MicroOp.TheVariants.{CreateDirEntry, DeleteDirEntry, ChangeFileSize, WriteBlock, Say}
+use Rattle.cs_micro.specs.declared.micro_op.MicroOp.TheVariants.{CreateDirEntry, DeleteDirEntry, MoveDirEntry, ChangeFileSize, WriteBlock, SetAttr, Say}
 use Rattle.cs_micro.specs.declared.sync_point.SyncPoint.{SyncPoint}
 use Rattle.cs_apm.specs.Rules.{op_at, touched}
 
@@ -34,17 +37,36 @@ WritesBlock o file block = (at : ℕ) × (bytes : List ℕ) × (o ≡ WriteBlock
 abbrev pub ChangesSize : MicroOp → ℕ → Type 0
 ChangesSize o file = (size : ℕ) × (o ≡ ChangeFileSize file size)
 
+-- it sets owner, group and permissions of the file
+abbrev pub SetsFile : MicroOp → ℕ → Type 0
+SetsFile o file = (rights : Rights) × (o ≡ SetAttr (targets.File file) rights)
+
+-- it sets those of the directory
+abbrev pub SetsDirectory : MicroOp → Path → Type 0
+SetsDirectory o d = (rights : Rights) × (o ≡ SetAttr (targets.Directory d) rights)
+
+-- it touches the path, or sets those of the directory there
+abbrev pub Names : MicroOp → Path → Type 0
+Names o p = Touches o p ⊎ SetsDirectory o p
+
+-- it makes, deletes or moves an entry
+abbrev pub IsEntryOperation : MicroOp → Type 0
+IsEntryOperation (CreateDirEntry p node rights) = Unit {0}
+IsEntryOperation (DeleteDirEntry p kind) = Unit {0}
+IsEntryOperation (MoveDirEntry p q) = Unit {0}
+IsEntryOperation _ = ⊥
+
 -- i is the latest create of the path before j
 pub record IsLatestCreate (ops : List MicroOp) (i j : ℕ) (p : Path) : Type 0 where
   pub made : Creates (op_at ops i) p
   pub last : (k : ℕ) → i < k → k < j → Creates (op_at ops k) p → ⊥
 
--- a sync of everything covers every operation, one of a file its blocks and sizes, and one of a directory
--- what touches an entry of it
+-- a sync of everything covers every operation, one of a file its blocks, its sizes and what sets its owner,
+-- group and permissions, and one of a directory what touches an entry of it and what sets its own
 abbrev pub IsCovered : Covers → MicroOp → Type 0
 IsCovered covers.All o = Unit {0}
-IsCovered (covers.File file) o = ((block : ℕ) × WritesBlock o file block) ⊎ ChangesSize o file
-IsCovered (covers.Directory d) o = TouchesEntryOf o d
+IsCovered (covers.File file) o = (((block : ℕ) × WritesBlock o file block) ⊎ ChangesSize o file) ⊎ SetsFile o file
+IsCovered (covers.Directory d) o = TouchesEntryOf o d ⊎ SetsDirectory o d
 
 -- a sync between i and j covers i
 pub record IsSyncedBetween (ops : List MicroOp) (syncs : List SyncPoint) (i j : ℕ) : Type 0 where
@@ -54,24 +76,28 @@ pub record IsSyncedBetween (ops : List MicroOp) (syncs : List SyncPoint) (i j : 
   pub ahead : point.at ≤ j
   pub covered : IsCovered point.covers (op_at ops i)
 
--- the six rules, the first of them for blocks and for sizes
-pub data Reason (ops : List MicroOp) (syncs : List SyncPoint) (i j : ℕ) : Type 0 where
+-- the eight rules, the first of them for blocks and for sizes
+pub data Reason (ops : List MicroOp) (syncs : List SyncPoint) (profile : Profile) (i j : ℕ) : Type 0 where
   -- both write one block of one file
-  writes_one_block : (file block : ℕ) → WritesBlock (op_at ops i) file block → WritesBlock (op_at ops j) file block → Reason ops syncs i j
+  writes_one_block : (file block : ℕ) → WritesBlock (op_at ops i) file block → WritesBlock (op_at ops j) file block → Reason ops syncs profile i j
   -- both change the size of one file
-  resizes_one_file : (file : ℕ) → ChangesSize (op_at ops i) file → ChangesSize (op_at ops j) file → Reason ops syncs i j
-  -- both touch one path
-  touches_one_path : (p : Path) → Touches (op_at ops i) p → Touches (op_at ops j) p → Reason ops syncs i j
-  -- i is the latest create, before j, of the parent directory of a path that j touches
-  makes_directory : (p : Path) → Touches (op_at ops j) p → IsLatestCreate ops i j (parent_path p) → Reason ops syncs i j
+  resizes_one_file : (file : ℕ) → ChangesSize (op_at ops i) file → ChangesSize (op_at ops j) file → Reason ops syncs profile i j
+  -- both name one path
+  names_one_path : (p : Path) → Names (op_at ops i) p → Names (op_at ops j) p → Reason ops syncs profile i j
+  -- i is the latest create, before j, of the parent directory of a path that j names
+  makes_directory : (p : Path) → Names (op_at ops j) p → IsLatestCreate ops i j (parent_path p) → Reason ops syncs profile i j
   -- j deletes a directory, and i touches an entry in it
-  empties_directory : (d : Path) → op_at ops j ≡ DeleteDirEntry d kinds.Directory → TouchesEntryOf (op_at ops i) d → Reason ops syncs i j
+  empties_directory : (d : Path) → op_at ops j ≡ DeleteDirEntry d kinds.Directory → TouchesEntryOf (op_at ops i) d → Reason ops syncs profile i j
   -- a sync between them covers i
-  is_waited_for : IsSyncedBetween ops syncs i j → Reason ops syncs i j
+  is_waited_for : IsSyncedBetween ops syncs i j → Reason ops syncs profile i j
   -- both are a text that is told
-  tells_after : op_at ops i ≡ Say → op_at ops j ≡ Say → Reason ops syncs i j
+  tells_after : op_at ops i ≡ Say → op_at ops j ≡ Say → Reason ops syncs profile i j
+  -- both set owner, group and permissions of one file
+  sets_one_file : (file : ℕ) → SetsFile (op_at ops i) file → SetsFile (op_at ops j) file → Reason ops syncs profile i j
+  -- both make, delete or move an entry, and the file system keeps these in order
+  is_kept_in_order : profile ≡ profiles.Ordered → IsEntryOperation (op_at ops i) → IsEntryOperation (op_at ops j) → Reason ops syncs profile i j
 
 -- j needs i
-pub record Needs (ops : List MicroOp) (syncs : List SyncPoint) (i j : ℕ) : Type 0 where
+pub record Needs (ops : List MicroOp) (syncs : List SyncPoint) (profile : Profile) (i j : ℕ) : Type 0 where
   pub before : i < j
-  pub reason : Reason ops syncs i j
+  pub reason : Reason ops syncs profile i j

@@ -1,13 +1,16 @@
--- Which micro-operation of a trace needs which: the six rules, as tests.
+-- Which micro-operation of a trace needs which: the eight rules, as tests.
 use Rattle.std.specs.Prelude.{ℕ, ◌+◌, ◌-◌, ◌==◌, ◌&&◌, ◌||◌, not, nat_lt, nat_le, Bool, true, false, List, [], ◌∷◌, slice_index_or}
 use Rattle.std.specs.List.{list_any, range_with_len}
 use Rattle.cs_names.specs.Paths.{path_eq}
 use Rattle.cs_tree_model.specs.Tree.{Path, parent_path}
 use Rattle.cs_trace.specs.declared.operation.Covers.{Covers}
 use Rattle.cs_trace.specs.declared.operation.Covers.TheVariants as covers
+use Rattle.cs_trace.specs.declared.operation.Target.TheVariants as targets
+use Rattle.cs_trace.specs.declared.profile.Profile.{Profile}
+use Rattle.cs_trace.specs.declared.profile.Profile.TheVariants as profiles
 use Rattle.cs_micro.specs.declared.micro_op.EntryKind.TheVariants as kinds
 use Rattle.cs_micro.specs.declared.micro_op.MicroOp.{MicroOp}
-use Rattle.cs_micro.specs.declared.micro_op.MicroOp.TheVariants.{CreateDirEntry, DeleteDirEntry, MoveDirEntry, ChangeFileSize, WriteBlock, Say}
+use Rattle.cs_micro.specs.declared.micro_op.MicroOp.TheVariants.{CreateDirEntry, DeleteDirEntry, MoveDirEntry, ChangeFileSize, WriteBlock, SetAttr, Say}
 use Rattle.cs_micro.specs.declared.sync_point.SyncPoint.{SyncPoint}
 
 -- the micro-operation at a place
@@ -24,6 +27,15 @@ touched _ = []
 abbrev pub touches : MicroOp → Path → Bool
 touches o q = list_any (λ p. path_eq p q) (touched o)
 
+-- the paths that it names: those that it touches, and that of the directory whose owner, group and
+-- permissions it sets
+abbrev pub named : MicroOp → List Path
+named (SetAttr (targets.Directory p) rights) = p ∷ []
+named o = touched o
+
+abbrev pub names : MicroOp → Path → Bool
+names o q = list_any (λ p. path_eq p q) (named o)
+
 -- it touches an entry of the directory
 abbrev pub touches_entry_of : MicroOp → Path → Bool
 touches_entry_of o d = list_any (λ p. path_eq d (parent_path p)) (touched o)
@@ -33,6 +45,18 @@ abbrev pub creates : MicroOp → Path → Bool
 creates (CreateDirEntry p node rights) q = path_eq p q
 creates _ q = false
 
+-- it sets owner, group and permissions of the directory
+abbrev pub sets_directory : MicroOp → Path → Bool
+sets_directory (SetAttr (targets.Directory p) rights) d = path_eq p d
+sets_directory _ d = false
+
+-- it makes, deletes or moves an entry
+abbrev pub is_entry_operation : MicroOp → Bool
+is_entry_operation (CreateDirEntry p node rights) = true
+is_entry_operation (DeleteDirEntry p kind) = true
+is_entry_operation (MoveDirEntry p q) = true
+is_entry_operation _ = false
+
 -- ---- the rules
 
 -- P1: both write one block of one file, or both change the size of one file
@@ -41,9 +65,9 @@ same_place (WriteBlock file block at bytes) (WriteBlock other number from more) 
 same_place (ChangeFileSize file to) (ChangeFileSize other size) = file == other
 same_place _ _ = false
 
--- P2: both touch one path
+-- P2: both name one path
 abbrev pub shares_path : MicroOp → MicroOp → Bool
-shares_path a b = list_any (touches a) (touched b)
+shares_path a b = list_any (names a) (named b)
 
 -- the places after i and before j
 abbrev pub between : ℕ → ℕ → List ℕ
@@ -53,22 +77,24 @@ between i j = range_with_len (i + 1) (j - (i + 1))
 unfoldable pub is_latest : List MicroOp → ℕ → ℕ → Path → Bool
 is_latest ops i j q = creates (op_at ops i) q && not (list_any (λ k. creates (op_at ops k) q) (between i j))
 
--- P3: i is the latest create, before j, of the parent directory of a path that j touches
+-- P3: i is the latest create, before j, of the parent directory of a path that j names
 abbrev pub makes_parent : List MicroOp → ℕ → ℕ → Bool
-makes_parent ops i j = list_any (λ p. is_latest ops i j (parent_path p)) (touched (op_at ops j))
+makes_parent ops i j = list_any (λ p. is_latest ops i j (parent_path p)) (named (op_at ops j))
 
 -- P4: b deletes a directory, and a touches an entry in it
 abbrev pub empties : MicroOp → MicroOp → Bool
 empties a (DeleteDirEntry d kinds.Directory) = touches_entry_of a d
 empties a _ = false
 
--- a sync of a file covers its blocks and sizes, one of a directory what touches an entry of it
+-- a sync of a file covers its blocks, its sizes and what sets its owner, group and permissions, and one of
+-- a directory what touches an entry of it and what sets its own
 abbrev pub is_covered : Covers → MicroOp → Bool
 is_covered covers.All a = true
 is_covered (covers.File file) (WriteBlock other block at bytes) = file == other
 is_covered (covers.File file) (ChangeFileSize other size) = file == other
+is_covered (covers.File file) (SetAttr (targets.File other) rights) = file == other
 is_covered (covers.File file) _ = false
-is_covered (covers.Directory d) a = touches_entry_of a d
+is_covered (covers.Directory d) a = touches_entry_of a d || sets_directory a d
 
 -- P5: a sync between them covers i, which is a
 abbrev pub is_synced : List SyncPoint → ℕ → ℕ → MicroOp → Bool
@@ -79,10 +105,20 @@ abbrev pub both_say : MicroOp → MicroOp → Bool
 both_say Say Say = true
 both_say _ _ = false
 
+-- P7: both set owner, group and permissions of one file
+abbrev pub sets_same_file : MicroOp → MicroOp → Bool
+sets_same_file (SetAttr (targets.File file) rights) (SetAttr (targets.File other) more) = file == other
+sets_same_file _ _ = false
+
+-- P8: both are entry operations, and the file system keeps these in order
+abbrev pub keeps_order : Profile → MicroOp → MicroOp → Bool
+keeps_order profiles.Blocks a b = false
+keeps_order profiles.Ordered a b = is_entry_operation a && is_entry_operation b
+
 -- the rules that look at the two alone
-abbrev pub pair_needs : MicroOp → MicroOp → Bool
-pair_needs a b = same_place a b || shares_path a b || empties a b || both_say a b
+abbrev pub pair_needs : Profile → MicroOp → MicroOp → Bool
+pair_needs profile a b = same_place a b || shares_path a b || empties a b || both_say a b || sets_same_file a b || keeps_order profile a b
 
 -- j needs i: i is before j, and one of the rules says so
-unfoldable pub needs : List MicroOp → List SyncPoint → ℕ → ℕ → Bool
-needs ops syncs i j = nat_lt i j && (pair_needs (op_at ops i) (op_at ops j) || makes_parent ops i j || is_synced syncs i j (op_at ops i))
+unfoldable pub needs : List MicroOp → List SyncPoint → Profile → ℕ → ℕ → Bool
+needs ops syncs profile i j = nat_lt i j && (pair_needs profile (op_at ops i) (op_at ops j) || makes_parent ops i j || is_synced syncs i j (op_at ops i))

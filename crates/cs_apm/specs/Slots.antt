@@ -7,14 +7,15 @@ use Rattle.cs_names.specs.Paths.{path_eq}
 use Rattle.cs_tree_model.specs.Tree.{Path, path_cmp}
 use Rattle.cs_trace.specs.declared.operation.Node.TheVariants as nodes
 use Rattle.cs_trace.specs.declared.operation.Rights.{Rights}
+use Rattle.cs_trace.specs.declared.operation.Target.TheVariants as targets
 use Rattle.cs_micro.specs.declared.micro_op.MicroOp.{MicroOp}
-use Rattle.cs_micro.specs.declared.micro_op.MicroOp.TheVariants.{CreateDirEntry, DeleteDirEntry, MoveDirEntry, ChangeFileSize, WriteBlock, Say}
+use Rattle.cs_micro.specs.declared.micro_op.MicroOp.TheVariants.{CreateDirEntry, DeleteDirEntry, MoveDirEntry, ChangeFileSize, WriteBlock, SetAttr, Say}
 use Rattle.cs_apm.specs.States.{Entries, Entry, nobody}
 use Rattle.cs_apm.specs.States as states
 use Rattle.cs_apm.specs.declared.slot.Slot.{Slot}
 use Rattle.cs_apm.specs.declared.slot.Slot.TheVariants.{Nothing, Directory, File}
 use Rattle.cs_apm.specs.declared.slot.Step.{Step}
-use Rattle.cs_apm.specs.declared.slot.Step.TheVariants.{Set, Move, Other}
+use Rattle.cs_apm.specs.declared.slot.Step.TheVariants.{Set, Move, Own, Other}
 
 abbrev pub slot_at : List Slot → ℕ → Slot
 slot_at slots i = slice_index_or slots i Nothing
@@ -27,15 +28,22 @@ abbrev pub moved_slot : ℕ → ℕ → List Slot → Slot → List Slot
 moved_slot i j slots Nothing = slots
 moved_slot i j slots s = slice_set (slice_set slots i Nothing) j s
 
+-- where a directory stands in slot i, it has the k-th rights
+abbrev pub owned_slot : ℕ → ℕ → List Slot → Slot → List Slot
+owned_slot i k slots (Directory old) = slice_set slots i (Directory k)
+owned_slot i k slots _ = slots
+
 abbrev pub slots_after : List Slot → Step → List Slot
 slots_after slots (Set i s) = slice_set slots i s
 slots_after slots (Move i j) = moved_slot i j slots (slot_at slots i)
+slots_after slots (Own i k) = owned_slot i k slots (slot_at slots i)
 slots_after slots Other = slots
 
 -- the step's slots are there
 abbrev pub FitsIn : ℕ → Step → Type 0
 FitsIn n (Set i s) = i < n
 FitsIn n (Move i j) = (i < n) × (j < n)
+FitsIn n (Own i k) = i < n
 FitsIn n Other = Unit {0}
 
 -- ---- what the slots mean
@@ -93,6 +101,8 @@ IsStep rights paths (DeleteDirEntry p kind) (Set i Nothing) = IsPlace paths i p
 IsStep rights paths (MoveDirEntry p q) (Move i j) = IsPlace paths i p × IsPlace paths j q
 IsStep rights paths (ChangeFileSize n size) Other = Unit {0}
 IsStep rights paths (WriteBlock n block at bytes) Other = Unit {0}
+IsStep rights paths (SetAttr (targets.Directory p) r) (Own i k) = IsPlace paths i p × (rights_at rights k ≡ r)
+IsStep rights paths (SetAttr (targets.File n) r) Other = Unit {0}
 IsStep rights paths Say Other = Unit {0}
 IsStep rights paths _ _ = ⊥
 
@@ -115,6 +125,7 @@ AreKnown rights files slots = (i : ℕ) → IsKnown rights files (slot_at slots 
 abbrev pub IsKnownStep : ℕ → ℕ → ℕ → Step → Type 0
 IsKnownStep n rights files (Set i s) = (i < n) × IsKnown rights files s
 IsKnownStep n rights files (Move i j) = (i < n) × (j < n)
+IsKnownStep n rights files (Own i k) = (i < n) × (k < rights)
 IsKnownStep n rights files Other = Unit {0}
 
 abbrev pub AreKnownSteps : ℕ → ℕ → ℕ → List Step → Type 0
@@ -139,6 +150,7 @@ HaveRights n slots = (i : ℕ) → HasRights n (slot_at slots i)
 abbrev pub HasStepRights : ℕ → Step → Type 0
 HasStepRights n (Set i s) = HasRights n s
 HasStepRights n (Move i j) = Unit {0}
+HasStepRights n (Own i k) = k < n
 HasStepRights n Other = Unit {0}
 
 abbrev pub HaveStepRights : ℕ → List Step → Type 0

@@ -1,4 +1,4 @@
--- The state of a set of micro-operations: two plain maps, and the tree that they are read as.
+-- The state of a set of micro-operations: plain maps, and the tree that they are read as.
 use Rattle.std.specs.Prelude.{ℕ, ◌+◌, ◌-◌, ◌*◌, ◌%◌, nat_lt, if◌then◌else◌, List, [], ◌∷◌, ◌++◌, Option, None, Some, unwrap_or, length, take, drop, replicate, fold, map, slice_set, slice_index_or, refl}
 use Rattle.std.specs.Coded.{Coded, code_by, coded×, coded_ℕ, coded_list}
 use Rattle.std.specs.FinMap.{FinMap, from_entries, get, insert, remove}
@@ -12,10 +12,11 @@ use Rattle.cs_tree_model.specs.Tree.{Path, path_cmp, Tree}
 use Rattle.cs_trace.specs.declared.operation.Node.{Node}
 use Rattle.cs_trace.specs.declared.operation.Node.TheVariants as nodes
 use Rattle.cs_trace.specs.declared.operation.Rights.{Rights}
+use Rattle.cs_trace.specs.declared.operation.Target.TheVariants as targets
 use Rattle.cs_trace.specs.Traces.{Trace, record_in}
 use Rattle.cs_micro.specs.declared.blocks.TheConstants.{BLOCK_BYTES}
 use Rattle.cs_micro.specs.declared.micro_op.MicroOp.{MicroOp}
-use Rattle.cs_micro.specs.declared.micro_op.MicroOp.TheVariants.{CreateDirEntry, DeleteDirEntry, MoveDirEntry, ChangeFileSize, WriteBlock}
+use Rattle.cs_micro.specs.declared.micro_op.MicroOp.TheVariants.{CreateDirEntry, DeleteDirEntry, MoveDirEntry, ChangeFileSize, WriteBlock, SetAttr}
 use Rattle.cs_micro.specs.Micros.{Micros}
 use Rattle.cs_apm.specs.Rules.{op_at}
 
@@ -36,10 +37,12 @@ pub record Content : Type 0 where
 abbrev pub content_code : Coded Content
 content_code = code_by (ℕ × List ℕ) (coded× coded_ℕ (coded_list coded_ℕ)) (λ c. (c.size, c.bytes)) (λ p. record { size = p.0; bytes = p.1 }) (λ _. refl)
 
--- what stands at each path, and the files by their numbers
+-- what stands at each path, and of the files by their numbers what is in them, and owner, group and
+-- permissions
 pub record State : Type 0 where
   pub paths : Entries
   pub files : List Content
+  pub owners : List Rights
 
 -- ---- one operation
 
@@ -52,10 +55,16 @@ abbrev pub entry_made : Node → Rights → Entry
 entry_made nodes.Directory rights = Directory rights
 entry_made (nodes.File file) rights = File file
 
+-- what stands at p has these rights, if it is a directory
+abbrev pub owned : Entries → Path → Rights → Option Entry → Entries
+owned m p rights (Some (Directory old)) = insert m p (Directory rights)
+owned m p rights _ = m
+
 abbrev pub entries_after : Entries → MicroOp → Entries
 entries_after m (CreateDirEntry p node rights) = insert m p (entry_made node rights)
 entries_after m (DeleteDirEntry p kind) = remove m p
 entries_after m (MoveDirEntry p q) = moved p q m
+entries_after m (SetAttr (targets.Directory p) rights) = owned m p rights (get m p)
 entries_after m _ = m
 
 -- a size that shrinks drops every byte past it, hidden ones too
@@ -89,8 +98,12 @@ files_after files (ChangeFileSize file size) = with_file file (resized size) fil
 files_after files (WriteBlock file block at bytes) = with_file file (overwritten (block * BLOCK_BYTES + at) bytes) files
 files_after files _ = files
 
+abbrev pub owners_after : List Rights → MicroOp → List Rights
+owners_after owners (SetAttr (targets.File file) rights) = slice_set owners file rights
+owners_after owners _ = owners
+
 abbrev pub after : State → MicroOp → State
-after s o = record { paths = entries_after s.paths o; files = files_after s.files o }
+after s o = record { paths = entries_after s.paths o; files = files_after s.files o; owners = owners_after s.owners o }
 
 -- ---- the state of a set
 
@@ -100,13 +113,17 @@ owners_made [] = []
 owners_made (CreateDirEntry p (nodes.File file) rights ∷ ops) = rights ∷ owners_made ops
 owners_made (_ ∷ ops) = owners_made ops
 
--- each of these files without a byte: no set is without its number
+-- each of these files without a byte
 abbrev pub created : List MicroOp → List Content
 created ops = map (λ _. no_content) (owners_made ops)
 
+-- all files as they are made, those of the start first; no set is without its number
+abbrev pub with_created : State → List MicroOp → State
+with_created start ops = record start { files = start.files ++ created ops; owners = start.owners ++ owners_made ops }
+
 -- the members of the set in the trace's order
 unfoldable pub state_of : State → List MicroOp → List ℕ → State
-state_of start ops places = fold after (record start { files = start.files ++ created ops }) (map (op_at ops) places)
+state_of start ops places = fold after (with_created start ops) (map (op_at ops) places)
 
 -- ---- the start
 
@@ -140,12 +157,13 @@ content_at records p = option_map_or content_of (record_in records p) no_content
 abbrev pub owner_at : List (Path × Record) → Path → Rights
 owner_at records p = option_map_or rights_of (record_in records p) nobody
 
--- owner, group and permissions of each file by its number: those of the start, and those that are made
+-- owner, group and permissions of each file by its number as it is made: those of the start, and those
+-- that are made
 abbrev pub owners_of : Trace → List MicroOp → List Rights
 owners_of t ops = map (owner_at t.records) t.files ++ owners_made ops
 
 abbrev pub start_state : Trace → State
-start_state t = record { paths = start_entries t.records t.nodes; files = map (content_at t.records) t.files }
+start_state t = record { paths = start_entries t.records t.nodes; files = map (content_at t.records) t.files; owners = map (owner_at t.records) t.files }
 
 -- ---- read as a tree
 
@@ -170,13 +188,13 @@ abbrev pub record_of : List Rights → List Content → Entry → Record
 record_of owners files (Directory rights) = record_with rights DMDIR None
 record_of owners files (File file) = record_with (slice_index_or owners file nobody) 0 (Some (visible (slice_index_or files file no_content)))
 
-abbrev pub records_of : List Rights → State → FinMap path_cmp Record
-records_of owners s = map_values (record_of owners s.files) s.paths
+abbrev pub records_of : State → FinMap path_cmp Record
+records_of s = map_values (record_of s.owners s.files) s.paths
 
 -- with fresh numbers, in the order of paths
-abbrev pub tree_of_state : List Rights → State → Tree
-tree_of_state owners s = fresh (records_of owners s)
+abbrev pub tree_of_state : State → Tree
+tree_of_state s = fresh (records_of s)
 
 -- the tree that a crash leaves of a trace, of which the set reached the disk
 abbrev pub crash_state_of : Trace → Micros → List ℕ → Tree
-crash_state_of t micros places = tree_of_state (owners_of t micros.ops) (state_of (start_state t) micros.ops places)
+crash_state_of t micros places = tree_of_state (state_of (start_state t) micros.ops places)

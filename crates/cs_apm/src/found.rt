@@ -1,5 +1,5 @@
-//! What is found once for each micro-operation: the latest creates of the directories that it touches,
-//! and the first sync behind it that covers it.
+//! What is found once for each micro-operation: the latest creates of the directories of the paths that it
+//! names, and the first sync behind it that covers it.
 ghost use Rattle.std.specs.Prelude.{◌≡◌, ◌<◌, ◌≤◌, ℕ, length, IfOk};
 ghost use Rattle.cs_tree_model.specs.Tree.{parent_path};
 ghost use Rattle.cs_apm.specs.Rows.{AreSynced, is_at, is_before, is_by, is_maker};
@@ -8,9 +8,10 @@ ghost use Rattle.cs_apm.specs.Rules as rules;
 use crate::rules::{creates_parent, is_covered, op_at};
 use cs_micro::{MicroOp, SyncPoint};
 use cs_names::Path;
+use cs_trace::Target;
 use std::alloc::{AllocError, Global};
 
-/// The latest creates of the parent directories of the paths that a micro-operation touches, of which
+/// The latest creates of the parent directories of the paths that a micro-operation names, of which
 /// there are two at most.
 #[derive(Clone, Copy, Debug)]
 pub struct Makers {
@@ -44,6 +45,10 @@ impl Makers {
             MicroOp::MoveDirEntry { from, to } => {
                 (latest_create(ops, j, from), latest_create(ops, j, to))
             }
+            MicroOp::SetAttr {
+                target: Target::Directory(path),
+                ..
+            } => (latest_create(ops, j, path), None),
             _ => (None, None),
         };
         Makers { first, second }

@@ -16,7 +16,7 @@ use cs_trace::Trace;
 /// The tests of the rules are the rules as sentences, and the order of a trace says what they say. What
 /// a micro-operation needs lies before it.
 pub fn rules_are_sentences(micros: &Micros)
-    ensures sentences { (i j : ℕ) → (needs_of micros.now i j ≡ true) ↔ Needs micros.now.ops micros.now.syncs i j }
+    ensures sentences { (i j : ℕ) → (needs_of micros.now i j ≡ true) ↔ Needs micros.now.ops micros.now.syncs micros.now.profile i j }
     ensures order { (i j : ℕ) → j < length micros.now.ops → needs_in (order_of micros.now) i j ≡ needs_of micros.now i j }
     ensures before { (i j : ℕ) → needs_of micros.now i j ≡ true → i < j }
     ensures sets { (places : List ℕ) → IsAllowed (needs_in (order_of micros.now)) (length (order_of micros.now)) places ↔ IsAllowed (needs_of micros.now) (length micros.now.ops) places }

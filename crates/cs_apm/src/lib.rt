@@ -9,6 +9,7 @@ mod found;
 pub mod laws;
 pub mod making;
 pub mod order;
+pub mod owners;
 mod places;
 mod rights;
 mod row;

@@ -4,13 +4,14 @@ ghost use Rattle.std.specs.List.{All};
 ghost use Rattle.std.specs.Option.{option_map};
 ghost use Rattle.cs_tree_model.specs.Fresh.{IsNested, fresh, fresh_record, numbered};
 ghost use Rattle.cs_tree_model.specs.Maps.Values.{map_entries, map_values};
-ghost use Rattle.cs_apm.specs.Atlases.{files_left};
+ghost use Rattle.cs_apm.specs.Atlases.{files_left, owners_left};
 ghost use Rattle.cs_apm.specs.Files.{AreFiles};
 ghost use Rattle.cs_apm.specs.Contents.{IsSmall};
 ghost use Rattle.cs_apm.specs.Slots.{AreAscending, AreKnown, IsKnown, entry_of, mirrored, present};
-ghost use Rattle.cs_apm.specs.States.{owners_of, record_of, record_with};
+ghost use Rattle.cs_apm.specs.States.{record_of, record_with};
 
 use crate::files::bytes_left;
+use crate::owners::owner_left;
 use crate::slot::Slot;
 use crate::tables::Tables;
 use cs_micro::MicroOp;
@@ -57,7 +58,7 @@ fn record_at(
     requires known { IsKnown (length tables.now.rights.items) (length tables.now.owners.items) slot }
     requires small { All IsSmall ops.now }
     requires inside { All (λ place. place < length ops.now) places.now }
-    ensures { IfOk result (λ made. made ≡ option_map (λ e. fresh_record number (record_of (owners_of trace.now ops.now) (files_left trace.now ops.now places.now) e)) (entry_of tables.now.rights.items slot)) }
+    ensures { IfOk result (λ made. made ≡ option_map (λ e. fresh_record number (record_of (owners_left trace.now ops.now places.now) (files_left trace.now ops.now places.now) e)) (entry_of tables.now.rights.items slot)) }
 {
     match slot {
         Slot::Nothing => Ok(None),
@@ -76,7 +77,7 @@ fn record_at(
                 places,
                 n,
             )?;
-            let owner = &tables.owners[n as usize];
+            let owner = owner_left(&tables.owners, ops, places, n);
             let record = record_with(number, owner, 0, Content::file(bytes))?;
             Ok(Some(record))
         }
@@ -97,7 +98,7 @@ fn records(
     requires known { AreKnown (length tables.now.rights.items) (length tables.now.owners.items) slots.now }
     requires small { All IsSmall ops.now }
     requires inside { All (λ place. place < length ops.now) places.now }
-    ensures { IfOk result (λ records. records.items ≡ numbered 0 (map_entries (record_of (owners_of trace.now ops.now) (files_left trace.now ops.now places.now)) (present tables.now.rights.items tables.now.paths.items slots.now))) }
+    ensures { IfOk result (λ records. records.items ≡ numbered 0 (map_entries (record_of (owners_left trace.now ops.now places.now) (files_left trace.now ops.now places.now)) (present tables.now.rights.items tables.now.paths.items slots.now))) }
 {
     let mut records = Vec::new(alloc);
     for (i, slot) in slots.iter().enumerate() {
@@ -125,8 +126,8 @@ pub fn store_of(
     requires small { All IsSmall ops.now }
     requires inside { All (λ place. place < length ops.now) places.now }
     requires ascending { AreAscending tables.now.paths.items }
-    requires nested { IsNested (map_values (record_of (owners_of trace.now ops.now) (files_left trace.now ops.now places.now)) (mirrored tables.now.rights.items tables.now.paths.items slots.now)) }
-    ensures { IfOk result (λ tree. tree ≡ fresh (map_values (record_of (owners_of trace.now ops.now) (files_left trace.now ops.now places.now)) (mirrored tables.now.rights.items tables.now.paths.items slots.now))) }
+    requires nested { IsNested (map_values (record_of (owners_left trace.now ops.now places.now) (files_left trace.now ops.now places.now)) (mirrored tables.now.rights.items tables.now.paths.items slots.now)) }
+    ensures { IfOk result (λ tree. tree ≡ fresh (map_values (record_of (owners_left trace.now ops.now places.now) (files_left trace.now ops.now places.now)) (mirrored tables.now.rights.items tables.now.paths.items slots.now))) }
 {
     let records = records(alloc, trace, ops, tables, places, slots)?;
     PlainTree::from_records(alloc, records)

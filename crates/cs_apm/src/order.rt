@@ -33,12 +33,12 @@ impl Model for Order {
 }
 
 impl Order {
-    /// The order of a trace's micro-operations, by the six rules. What it looks for among all of them
-    /// is found here once.
+    /// The order of a trace's micro-operations, by the eight rules. What it looks for among all of
+    /// them is found here once.
     pub fn of(alloc: Global, micros: &Micros) -> Result<Order, AllocError>
         ensures { IfOk result (λ order. order ≡ order_of micros.now) }
     {
-        let rows = rows_of(alloc, micros.ops(), micros.syncs())?;
+        let rows = rows_of(alloc, micros.ops(), micros.syncs(), micros.profile())?;
         let reach = reach_of(alloc, &rows)?;
         Ok(Order { rows, reach })
     }

@@ -2,12 +2,13 @@
 ghost use Rattle.std.specs.Prelude.{◌≡◌, ◌<◌, ◌≤◌, ◌+◌, ◌*◌, ◌⊎◌, ℕ, length, slice_index_or, IfOk, OnOk};
 ghost use Rattle.std.specs.List.{Contains};
 ghost use Rattle.cs_tree_model.specs.Tree.{Path as Names};
-ghost use Rattle.cs_apm.specs.Atlases.{HasAllTouched, HasFirst, HasTouched, IsKnownPath, no_record};
-ghost use Rattle.cs_apm.specs.Rules.{touched};
+ghost use Rattle.cs_apm.specs.Atlases.{HasAllNamed, HasFirst, HasNamed, IsKnownPath, no_record};
+ghost use Rattle.cs_apm.specs.Rules.{named};
 ghost use Rattle.cs_apm.specs.Slots.{AreAscending, IsPlace};
 
 use cs_micro::MicroOp;
 use cs_names::Path;
+use cs_trace::Target;
 use cs_tree_model::Record;
 use std::alloc::{AllocError, Global};
 
@@ -45,13 +46,13 @@ fn add_starts(
     Ok(())
 }
 
-/// Puts the paths that a micro-operation touches among the others.
-fn add_touched(alloc: Global, paths: &mut Vec<Path>, op: &MicroOp) -> Result<(), AllocError>
+/// Puts the paths that a micro-operation names among the others.
+fn add_named(alloc: Global, paths: &mut Vec<Path>, op: &MicroOp) -> Result<(), AllocError>
     requires { AreAscending paths.old.items }
     ensures ascending { OnOk result (AreAscending paths.new.items) }
-    ensures there { OnOk result (HasTouched paths.new.items op.now) }
+    ensures there { OnOk result (HasNamed paths.new.items op.now) }
     ensures others { (p : Names) → Contains paths.old.items p → Contains paths.new.items p }
-    ensures only { OnOk result ((p : Names) → Contains paths.new.items p → Contains paths.old.items p ⊎ Contains (touched op.now) p) }
+    ensures only { OnOk result ((p : Names) → Contains paths.new.items p → Contains paths.old.items p ⊎ Contains (named op.now) p) }
     ensures few { OnOk result (length paths.new.items ≤ length paths.old.items + 2) }
 {
     match op {
@@ -61,13 +62,17 @@ fn add_touched(alloc: Global, paths: &mut Vec<Path>, op: &MicroOp) -> Result<(),
             add_path(alloc, paths, from)?;
             add_path(alloc, paths, to)?;
         }
+        MicroOp::SetAttr {
+            target: Target::Directory(path),
+            ..
+        } => add_path(alloc, paths, path)?,
         _ => {}
     }
     Ok(())
 }
 
 /// Every path that ever stands, in order: those of the records at the start, and those that the
-/// micro-operations touch.
+/// micro-operations name.
 pub fn paths_of(
     alloc: Global,
     records: &[(Path, Record)],
@@ -75,14 +80,14 @@ pub fn paths_of(
 ) -> Result<Vec<Path>, AllocError>
     ensures ascending { IfOk result (λ paths. AreAscending paths.items) }
     ensures starts { IfOk result (λ paths. HasFirst paths.items records.now (length records.now)) }
-    ensures touched { IfOk result (λ paths. HasAllTouched paths.items ops.now (length ops.now)) }
+    ensures named { IfOk result (λ paths. HasAllNamed paths.items ops.now (length ops.now)) }
     ensures only { IfOk result (λ paths. (p : Names) → Contains paths.items p → IsKnownPath records.now ops.now (length ops.now) p) }
     ensures few { IfOk result (λ paths. length paths.items ≤ length records.now + 2 * length ops.now) }
 {
     let mut paths = Vec::new(alloc);
     add_starts(alloc, &mut paths, records)?;
     for op in ops {
-        add_touched(alloc, &mut paths, op)?;
+        add_named(alloc, &mut paths, op)?;
     }
     Ok(paths)
 }

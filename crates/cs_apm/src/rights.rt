@@ -2,7 +2,7 @@
 ghost use Rattle.std.specs.Prelude.{◌≡◌, [], ◌∷◌, ◌+◌, ◌<◌, ◌≤◌, ◌++◌, ◌^◌, Some, length, map, IfOk, OnOk, slice_index_or};
 ghost use Rattle.std.specs.List.{All};
 ghost use Rattle.cs_apm.specs.Atlases.{no_record};
-ghost use Rattle.cs_apm.specs.Slots.{Grows, HasRights, entry_of};
+ghost use Rattle.cs_apm.specs.Slots.{Grows, HasRights, entry_of, rights_at};
 ghost use Rattle.cs_apm.specs.States.{entry_made, owners_made, rights_of, start_entry};
 
 use crate::slot::Slot;
@@ -11,17 +11,6 @@ use cs_names::Path;
 use cs_trace::{Node, Rights};
 use cs_tree_model::Record;
 use std::alloc::{AllocError, Global};
-
-/// The same again.
-fn copy_rights(rights: &Rights) -> Result<Rights, AllocError>
-    ensures { IfOk result (λ copy. copy ≡ rights.now) }
-{
-    Ok(Rights {
-        owner: rights.owner.try_clone()?,
-        group: rights.group.try_clone()?,
-        permissions: rights.permissions,
-    })
-}
 
 /// Those of a record at the start.
 fn rights_of(start: &Record) -> Result<Rights, AllocError>
@@ -34,17 +23,28 @@ fn rights_of(start: &Record) -> Result<Rights, AllocError>
     })
 }
 
-/// The slot of a directory, whose rights come behind the others.
-fn push_rights(table: &mut Vec<Rights>, rights: Rights) -> Result<Slot, AllocError>
+/// Puts them behind the others, and tells their place.
+fn push_rights(table: &mut Vec<Rights>, rights: Rights) -> Result<u32, AllocError>
     requires { length table.old.items < 2 ^ 32 }
-    ensures entry { IfOk result (λ slot. entry_of table.new.items slot ≡ Some (entry_made Node.Directory rights)) }
-    ensures there { IfOk result (HasRights (length table.new.items)) }
+    ensures value { IfOk result (λ place. rights_at table.new.items place ≡ rights) }
+    ensures there { IfOk result (λ place. place < length table.new.items) }
     ensures grows { OnOk result (Grows table.old.items table.new.items) }
     ensures few { OnOk result (length table.new.items ≤ length table.old.items + 1) }
 {
     let place = table.len() as u32;
     table.push(rights)?;
-    Ok(Slot::Directory(place))
+    Ok(place)
+}
+
+/// Puts a copy of them behind the others, and tells its place.
+pub fn push_copy(table: &mut Vec<Rights>, rights: &Rights) -> Result<u32, AllocError>
+    requires { length table.old.items < 2 ^ 32 }
+    ensures value { IfOk result (λ place. rights_at table.new.items place ≡ rights.now) }
+    ensures there { IfOk result (λ place. place < length table.new.items) }
+    ensures grows { OnOk result (Grows table.old.items table.new.items) }
+    ensures few { OnOk result (length table.new.items ≤ length table.old.items + 1) }
+{
+    push_rights(table, rights.try_clone()?)
 }
 
 /// The slot of a record at the start.
@@ -57,7 +57,7 @@ pub fn start_slot(table: &mut Vec<Rights>, node: Node, start: &Record) -> Result
 {
     match node {
         Node::File(file) => Ok(Slot::File(file)),
-        Node::Directory => push_rights(table, rights_of(start)?),
+        Node::Directory => Ok(Slot::Directory(push_rights(table, rights_of(start)?)?)),
     }
 }
 
@@ -71,7 +71,7 @@ pub fn made_slot(table: &mut Vec<Rights>, node: Node, rights: &Rights) -> Result
 {
     match node {
         Node::File(file) => Ok(Slot::File(file)),
-        Node::Directory => push_rights(table, copy_rights(rights)?),
+        Node::Directory => Ok(Slot::Directory(push_copy(table, rights)?)),
     }
 }
 
@@ -101,7 +101,7 @@ fn push_made(table: &mut Vec<Rights>, op: &MicroOp) -> Result<(), AllocError>
         ..
     } = op
     {
-        table.push(copy_rights(rights)?)?;
+        table.push(rights.try_clone()?)?;
     }
     Ok(())
 }

@@ -10,6 +10,7 @@ use crate::row::Row;
 use crate::rules::{op_at, pair_needs};
 use cs_micro::{MicroOp, SyncPoint};
 use cs_names::limits::MICRO_OPERATIONS;
+use cs_trace::Profile;
 use std::alloc::{AllocError, Global};
 
 /// Whether a sync between i and j covers i.
@@ -32,6 +33,7 @@ fn is_synced(
 fn needs(
     ops: &[MicroOp],
     syncs: &[SyncPoint],
+    profile: Profile,
     found: &[Option<usize>],
     makers: Makers,
     i: usize,
@@ -41,22 +43,30 @@ fn needs(
     requires inside { j < length ops.now }
     requires found { AreSynced ops.now syncs.now (length ops.now) found.now }
     requires makers { (i : ℕ) → i < j → is_maker makers i ≡ rules.makes_parent ops.now i j }
-    ensures { result ≡ rules.needs ops.now syncs.now i j }
+    ensures { result ≡ rules.needs ops.now syncs.now profile i j }
 {
-    pair_needs(op_at(ops, i), op_at(ops, j)) || makers.has(i) || is_synced(ops, syncs, found, i, j)
+    pair_needs(profile, op_at(ops, i), op_at(ops, j))
+        || makers.has(i)
+        || is_synced(ops, syncs, found, i, j)
 }
 
 /// What micro-operation j needs, where the first syncs that cover those before it are found.
-fn row_of(ops: &[MicroOp], syncs: &[SyncPoint], found: &[Option<usize>], j: usize) -> Row
+fn row_of(
+    ops: &[MicroOp],
+    syncs: &[SyncPoint],
+    profile: Profile,
+    found: &[Option<usize>],
+    j: usize,
+) -> Row
     requires inside { j < length ops.now }
     requires few { length ops.now ≤ MICRO_OPERATIONS }
     requires found { AreSynced ops.now syncs.now (length ops.now) found.now }
-    ensures { IsRow (rules.needs ops.now syncs.now) j result }
+    ensures { IsRow (rules.needs ops.now syncs.now profile) j result }
 {
     let makers = Makers::of(ops, j);
     let mut row = Row::empty();
     for i in 0..j {
-        if needs(ops, syncs, found, makers, i, j) {
+        if needs(ops, syncs, profile, found, makers, i, j) {
             row.set(i);
         }
     }
@@ -64,14 +74,19 @@ fn row_of(ops: &[MicroOp], syncs: &[SyncPoint], found: &[Option<usize>], j: usiz
 }
 
 /// A row for each micro-operation: what it needs.
-pub fn rows_of(alloc: Global, ops: &[MicroOp], syncs: &[SyncPoint]) -> Result<Vec<Row>, AllocError>
+pub fn rows_of(
+    alloc: Global,
+    ops: &[MicroOp],
+    syncs: &[SyncPoint],
+    profile: Profile,
+) -> Result<Vec<Row>, AllocError>
     requires { length ops.now ≤ MICRO_OPERATIONS }
-    ensures { IfOk result (λ rows. AreRows (rules.needs ops.now syncs.now) (length ops.now) rows.items) }
+    ensures { IfOk result (λ rows. AreRows (rules.needs ops.now syncs.now profile) (length ops.now) rows.items) }
 {
     let found = first_syncs(alloc, ops, syncs)?;
     let mut rows = Vec::new(alloc);
     for j in 0..ops.len() {
-        let row = row_of(ops, syncs, &found, j);
+        let row = row_of(ops, syncs, profile, &found, j);
         rows.push(row)?;
     }
     Ok(rows)

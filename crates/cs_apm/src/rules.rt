@@ -7,7 +7,7 @@ ghost use Rattle.cs_apm.specs.Rules as rules;
 
 use cs_micro::{EntryKind, MicroOp};
 use cs_names::Path;
-use cs_trace::Covers;
+use cs_trace::{Covers, Profile, Target};
 
 /// Whether the directory is the one that has the path.
 pub fn is_parent(directory: &Path, path: &Path) -> bool
@@ -25,6 +25,30 @@ fn touches(op: &MicroOp, path: &Path) -> bool
         MicroOp::DeleteDirEntry { path: gone, .. } => gone == path,
         MicroOp::MoveDirEntry { from, to } => from == path || to == path,
         _ => false,
+    }
+}
+
+/// Whether the operation sets owner, group and permissions of the directory.
+fn sets_directory(op: &MicroOp, directory: &Path) -> bool
+    ensures { result ≡ rules.sets_directory op.now directory.now }
+{
+    match op {
+        MicroOp::SetAttr {
+            target: Target::Directory(path),
+            ..
+        } => path == directory,
+        _ => false,
+    }
+}
+
+/// Whether the operation names the path: touches it, or sets owner, group and permissions of the
+/// directory there.
+fn names(op: &MicroOp, path: &Path) -> bool
+    ensures { result ≡ rules.names op.now path.now }
+{
+    match op {
+        MicroOp::SetAttr { .. } => sets_directory(op, path),
+        _ => touches(op, path),
     }
 }
 
@@ -63,14 +87,18 @@ fn same_place(a: &MicroOp, b: &MicroOp) -> bool
     }
 }
 
-/// Both touch one path.
+/// Both name one path.
 fn shares_path(a: &MicroOp, b: &MicroOp) -> bool
     ensures { result ≡ rules.shares_path a.now b.now }
 {
     match b {
-        MicroOp::CreateDirEntry { path, .. } => touches(a, path),
-        MicroOp::DeleteDirEntry { path, .. } => touches(a, path),
-        MicroOp::MoveDirEntry { from, to } => touches(a, from) || touches(a, to),
+        MicroOp::CreateDirEntry { path, .. } => names(a, path),
+        MicroOp::DeleteDirEntry { path, .. } => names(a, path),
+        MicroOp::MoveDirEntry { from, to } => names(a, from) || names(a, to),
+        MicroOp::SetAttr {
+            target: Target::Directory(path),
+            ..
+        } => names(a, path),
         _ => false,
     }
 }
@@ -101,11 +129,57 @@ fn both_say(a: &MicroOp, b: &MicroOp) -> bool
     }
 }
 
-/// Whether the second needs the first, which is before it, by a rule that looks at the two alone.
-pub fn pair_needs(a: &MicroOp, b: &MicroOp) -> bool
-    ensures { result ≡ rules.pair_needs a.now b.now }
+/// Both set owner, group and permissions of one file.
+fn sets_same_file(a: &MicroOp, b: &MicroOp) -> bool
+    ensures { result ≡ rules.sets_same_file a.now b.now }
 {
-    same_place(a, b) || shares_path(a, b) || empties(a, b) || both_say(a, b)
+    match a {
+        MicroOp::SetAttr {
+            target: Target::File(file),
+            ..
+        } => match b {
+            MicroOp::SetAttr {
+                target: Target::File(other),
+                ..
+            } => file == other,
+            _ => false,
+        },
+        _ => false,
+    }
+}
+
+/// Whether the operation makes, deletes or moves an entry.
+fn is_entry_operation(op: &MicroOp) -> bool
+    ensures { result ≡ rules.is_entry_operation op.now }
+{
+    match op {
+        MicroOp::CreateDirEntry { .. } => true,
+        MicroOp::DeleteDirEntry { .. } => true,
+        MicroOp::MoveDirEntry { .. } => true,
+        _ => false,
+    }
+}
+
+/// Both are entry operations, and the file system keeps these in order.
+fn keeps_order(profile: Profile, a: &MicroOp, b: &MicroOp) -> bool
+    ensures { result ≡ rules.keeps_order profile a.now b.now }
+{
+    match profile {
+        Profile::Blocks => false,
+        Profile::Ordered => is_entry_operation(a) && is_entry_operation(b),
+    }
+}
+
+/// Whether the second needs the first, which is before it, by a rule that looks at the two alone.
+pub fn pair_needs(profile: Profile, a: &MicroOp, b: &MicroOp) -> bool
+    ensures { result ≡ rules.pair_needs profile a.now b.now }
+{
+    same_place(a, b)
+        || shares_path(a, b)
+        || empties(a, b)
+        || both_say(a, b)
+        || sets_same_file(a, b)
+        || keeps_order(profile, a, b)
 }
 
 /// Whether a sync that covers this waits for the operation.
@@ -117,9 +191,15 @@ pub fn is_covered(covers: &Covers, op: &MicroOp) -> bool
         Covers::File(file) => match op {
             MicroOp::WriteBlock { file: other, .. } => file == other,
             MicroOp::ChangeFileSize { file: other, .. } => file == other,
+            MicroOp::SetAttr {
+                target: Target::File(owned),
+                ..
+            } => file == owned,
             _ => false,
         },
-        Covers::Directory(directory) => touches_entry_of(op, directory),
+        Covers::Directory(directory) => {
+            touches_entry_of(op, directory) || sets_directory(op, directory)
+        }
     }
 }
 

@@ -19,6 +19,9 @@ pub enum Step {
     Set(u32, Slot),
     /// What stands in the one slot comes to the other.
     Move(u32, u32),
+    /// A directory that stands in the slot has its owner, group and permissions at this place from now
+    /// on.
+    Own(u32, u32),
     /// Nothing.
     Other,
 }
@@ -37,6 +40,11 @@ fn take(slots: &mut [Slot], step: Step)
                 slots[to as usize] = slot;
             }
         },
+        Step::Own(place, rights) => {
+            if let Slot::Directory(_) = slots[place as usize] {
+                slots[place as usize] = Slot::Directory(rights);
+            }
+        }
         Step::Other => {}
     }
 }

@@ -1,22 +1,22 @@
 //! What each micro-operation does to the slots.
 ghost use Rattle.std.specs.Prelude.{◌≡◌, ◌+◌, ◌<◌, ◌≤◌, ◌^◌, length, IfOk, OnOk};
-ghost use Rattle.cs_apm.specs.Atlases.{HasAllTouched, HasTouched};
+ghost use Rattle.cs_apm.specs.Atlases.{HasAllNamed, HasNamed};
 ghost use Rattle.cs_apm.specs.Slots.{AreAscending, AreSteps, Grows, HaveStepRights, HasStepRights, IsStep};
 
 use crate::places::place_of;
-use crate::rights::made_slot;
+use crate::rights::{made_slot, push_copy};
 use crate::slot::{Slot, Step};
 use cs_micro::MicroOp;
 use cs_names::Path;
-use cs_trace::Rights;
+use cs_trace::{Rights, Target};
 use std::alloc::{AllocError, Global};
 
-/// What the micro-operation does. The rights of a directory that it makes come into the table.
+/// What the micro-operation does. The rights of a directory that it makes or sets come into the table.
 fn step_of(paths: &[Path], table: &mut Vec<Rights>, op: &MicroOp) -> Result<Step, AllocError>
     requires few { length table.old.items < 2 ^ 32 }
     requires short { length paths.now ≤ 2 ^ 32 }
     requires ascending { AreAscending paths.now }
-    requires there { HasTouched paths.now op.now }
+    requires there { HasNamed paths.now op.now }
     ensures step { IfOk result (IsStep table.new.items paths.now op.now) }
     ensures there { IfOk result (HasStepRights (length table.new.items)) }
     ensures grows { OnOk result (Grows table.old.items table.new.items) }
@@ -34,6 +34,13 @@ fn step_of(paths: &[Path], table: &mut Vec<Rights>, op: &MicroOp) -> Result<Step
             place_of(paths, from) as u32,
             place_of(paths, to) as u32,
         )),
+        MicroOp::SetAttr {
+            target: Target::Directory(path),
+            rights,
+        } => {
+            let rights = push_copy(table, rights)?;
+            Ok(Step::Own(place_of(paths, path) as u32, rights))
+        }
         _ => Ok(Step::Other),
     }
 }
@@ -48,7 +55,7 @@ pub fn steps_of(
     requires few { length table.old.items + length ops.now < 2 ^ 32 }
     requires short { length paths.now ≤ 2 ^ 32 }
     requires ascending { AreAscending paths.now }
-    requires there { HasAllTouched paths.now ops.now (length ops.now) }
+    requires there { HasAllNamed paths.now ops.now (length ops.now) }
     ensures steps { IfOk result (λ steps. AreSteps table.new.items paths.now ops.now steps.items) }
     ensures there { IfOk result (λ steps. HaveStepRights (length table.new.items) steps.items) }
     ensures grows { OnOk result (Grows table.old.items table.new.items) }

@@ -26,11 +26,11 @@ pub struct Tables {
     pub steps: Vec<Step>,
     /// Owner, group and permissions of directories.
     pub rights: Vec<Rights>,
-    /// The same of the files, by their numbers.
+    /// The same of the files as they are made, by their numbers.
     pub owners: Vec<Rights>,
     /// The place of the record of each of the start's files.
     pub starts: Vec<u32>,
-    /// Whether an operation changes the file, by its number.
+    /// Whether an operation changes the file's bytes, by its number.
     pub changed: Vec<bool>,
 }
 

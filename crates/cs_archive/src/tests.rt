@@ -28,10 +28,26 @@ const PARTS: [(usize, &[u8]); 11] = [
     (3_220, b"011063\0 5"),
 ];
 
-fn tar(alloc: Global, states: States) -> (Vec<u8>, Vec<u8>, u8) {
+/// A file that is made, and whose mode and then owner are set.
+const GIVEN_AWAY: &str =
+    r#"{"trace":2,"profile":"blocks","owner":"cat","group":"staff","mode":"775"}
+{"op":"creat","path":"/a","owner":"ann","group":"staff","mode":"644"}
+{"op":"chmod","path":"/a","mode":"600"}
+{"op":"chown","path":"/a","owner":"bob","group":"staff"}
+"#;
+
+/// Parts of the header of `a` in the last state, as GNU tar 1.34 writes the same entry.
+const GIVEN_AWAY_PARTS: [(usize, &[u8]); 4] = [
+    (612, b"0000600\0"),
+    (660, b"011035\0 0"),
+    (777, b"bob\0"),
+    (809, b"staff\0"),
+];
+
+fn tar(alloc: Global, trace: &str, states: States) -> (Vec<u8>, Vec<u8>, u8) {
     let inputs = Inputs {
         users: &[],
-        trace: TRACE.as_bytes(),
+        trace: trace.as_bytes(),
         picks: &[],
         holes: false,
         verbose: false,
@@ -44,21 +60,32 @@ fn tar(alloc: Global, states: States) -> (Vec<u8>, Vec<u8>, u8) {
 
 #[test]
 fn two_states_make_one_archive(rt: HostRuntime) -> Result<(), Fail> {
-    let (out, err, status) = tar(rt.alloc(), States::Range(0, 1));
+    let (out, err, status) = tar(rt.alloc(), TRACE, States::Range(0, 1));
     assert_eq!(rt; (status, err.len(), out.len()), (0, 0, 7_168));
     for (offset, bytes) in &PARTS {
         let (_, rest) = out.split_at_checked(*offset).ok_or("short")?;
         assert!(rt; rest.starts_with(bytes));
     }
-    let (one, _, _) = tar(rt.alloc(), States::One(1));
+    let (one, _, _) = tar(rt.alloc(), TRACE, States::One(1));
     assert_eq!(rt; one.len(), 4_096);
     assert!(rt; one.starts_with(b"./\0"));
     Ok(())
 }
 
 #[test]
+fn owners_and_modes_are_those_of_the_state(rt: HostRuntime) -> Result<(), Fail> {
+    let (out, _, status) = tar(rt.alloc(), GIVEN_AWAY, States::One(3));
+    assert_eq!(rt; (status, out.len()), (0, 2_048));
+    for (offset, bytes) in &GIVEN_AWAY_PARTS {
+        let (_, rest) = out.split_at_checked(*offset).ok_or("short")?;
+        assert!(rt; rest.starts_with(bytes));
+    }
+    Ok(())
+}
+
+#[test]
 fn a_state_past_the_plan_is_told(rt: HostRuntime) -> Result<(), Fail> {
-    let (out, err, status) = tar(rt.alloc(), States::Range(1, 2));
+    let (out, err, status) = tar(rt.alloc(), TRACE, States::Range(1, 2));
     assert_eq!(rt; (status, out.len()), (1, 0));
     assert_eq!(rt; err.as_slice(), b"crashfs: no such state\n".as_slice());
     Ok(())

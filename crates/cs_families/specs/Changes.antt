@@ -1,14 +1,16 @@
 -- The files that micro-operations change.
 use Rattle.std.specs.Prelude.{ℕ, ◌+◌, ◌==◌, max, fold, Bool, false, List, Option, None, Some}
 use Rattle.std.specs.List.{filter, list_any}
+use Rattle.cs_trace.specs.declared.operation.Target.TheVariants as targets
 use Rattle.cs_micro.specs.declared.micro_op.MicroOp.{MicroOp}
-use Rattle.cs_micro.specs.declared.micro_op.MicroOp.TheVariants.{ChangeFileSize, WriteBlock}
+use Rattle.cs_micro.specs.declared.micro_op.MicroOp.TheVariants.{ChangeFileSize, WriteBlock, SetAttr}
 use Rattle.cs_plan.specs.Plans.{first}
 
--- the file of which the micro-operation changes the size or a block
+-- the file of which the micro-operation changes the size, a block or the rights
 abbrev pub file_changed : MicroOp → Option ℕ
 file_changed (ChangeFileSize file to) = Some file
 file_changed (WriteBlock file block at bytes) = Some file
+file_changed (SetAttr (targets.File file) rights) = Some file
 file_changed _ = None
 
 abbrev pub is_file : ℕ → Option ℕ → Bool

@@ -3,14 +3,20 @@ ghost use Rattle.std.specs.Prelude.{◌≡◌, ◌≤◌, ◌^◌, IfOk};
 ghost use Rattle.cs_families.specs.Changes.{changed_files, file_changed, file_end, is_changed, is_file, number_after};
 
 use cs_micro::MicroOp;
+use cs_trace::Target;
 use std::alloc::{AllocError, Global};
 
-/// The file of which the operation changes the size or a block, if it does.
+/// The file of which the operation changes the size, a block or the rights, if it does.
 pub fn file_changed(op: &MicroOp) -> Option<u32>
     ensures { result ≡ file_changed op.now }
 {
     match op {
-        MicroOp::ChangeFileSize { file, .. } | MicroOp::WriteBlock { file, .. } => Some(*file),
+        MicroOp::ChangeFileSize { file, .. }
+        | MicroOp::WriteBlock { file, .. }
+        | MicroOp::SetAttr {
+            target: Target::File(file),
+            ..
+        } => Some(*file),
         _ => None,
     }
 }

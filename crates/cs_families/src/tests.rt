@@ -20,10 +20,23 @@ const LOST: &[u8] = b"[0]\n[0,1]\n[0,2]\n[0,3]\n[0,4]\n[0,1,2,5]\n";
 /// Until the second fsync has ended both files may lose their changes, and then `/t` alone.
 const FILES: &[u8] = b"[0]\n[0,1,2]\n[0,3]\n[0,3,4]\n[0,1,2,5]\n";
 
-fn picks(alloc: std::alloc::Global, family: Family) -> (Vec<u8>, u8) {
+/// A file's mode is set before the file is moved and waited for, and that of the root meanwhile.
+const MODES: &str = r#"{"trace":2,"profile":"blocks","owner":"kv","group":"kv","mode":"750"}
+{"op":"creat","path":"/a","owner":"kv","group":"kv","mode":"644"}
+{"op":"chmod","path":"/a","mode":"600"}
+{"op":"chmod","path":"/","mode":"700"}
+{"op":"rename","from":"/a","to":"/b"}
+{"op":"fsync","path":"/b"}
+{"op":"say","text":"b"}
+"#;
+
+/// Until the fsync has ended the file may lose its mode, also where it was moved; the root's stays.
+const MODES_LOST: &[u8] = b"[0]\n[0,2]\n[0,2,3]\n";
+
+fn picks(alloc: std::alloc::Global, trace: &str, family: Family) -> (Vec<u8>, u8) {
     let inputs = Inputs {
         users: &[],
-        trace: TRACE.as_bytes(),
+        trace: trace.as_bytes(),
         picks: &[],
         holes: false,
         verbose: false,
@@ -37,9 +50,17 @@ fn picks(alloc: std::alloc::Global, family: Family) -> (Vec<u8>, u8) {
 #[test]
 fn families_of_a_small_store(rt: HostRuntime) -> Result<(), Fail> {
     for (family, wanted) in [(Family::Lost, LOST), (Family::Files, FILES)] {
-        let (out, status) = picks(rt.alloc(), family);
+        let (out, status) = picks(rt.alloc(), TRACE, family);
         assert_eq!(rt; status, 0);
         assert_eq!(rt; out.as_slice(), wanted);
     }
+    Ok(())
+}
+
+#[test]
+fn a_file_may_lose_its_mode(rt: HostRuntime) -> Result<(), Fail> {
+    let (out, status) = picks(rt.alloc(), MODES, Family::Files);
+    assert_eq!(rt; status, 0);
+    assert_eq!(rt; out.as_slice(), MODES_LOST);
     Ok(())
 }

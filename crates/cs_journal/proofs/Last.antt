@@ -1,16 +1,16 @@
 -- The last receipt of a pass is that of the entry at its place.
 use Rattle.std.proofs.Common.{◌≡◌, ◌∙◌, ℕ, suc, ◌+◌, ◌-◌, Bool, true, false, List, [], ◌∷◌, length, Option, Some, None, refl, sym, ap, arith, inl, inr, zero-add, ◌⊎◌, ⊎_elim}
-use Rattle.std.specs.Prelude.{if◌then◌else◌, option_map, slice_get}
+use Rattle.std.specs.Prelude.{option_map, slice_get}
 use Rattle.cs_journal.specs.Fitting.{receipt_at}
 use Rattle.cs_journal.specs.Journals.{EntryOf, is_of_pass}
 use Rattle.cs_journal.specs.Runs.{ReceiptOf, last_of, receipt_of, receipts_from, receipts_in}
 
 -- an entry of a journal whose first entry has that place, with its receipt
-record Stands (place : ℕ) (es : List EntryOf) (r : ReceiptOf) : Type 0 where
-  index : ℕ
-  entry : EntryOf
-  there : slice_get es index ≡ Some entry
-  its : r ≡ receipt_of (place + index) entry
+pub record Stands (place : ℕ) (es : List EntryOf) (r : ReceiptOf) : Type 0 where
+  pub index : ℕ
+  pub entry : EntryOf
+  pub there : slice_get es index ≡ Some entry
+  pub its : r ≡ receipt_of (place + index) entry
 
 first : (place : ℕ) (x : EntryOf) (es : List EntryOf) (r : ReceiptOf) → receipt_of place x ≡ r → Stands place (x ∷ es) r
 first place x es r same = record { index = 0; entry = x; there = refl; its = sym same ∙ ap (λ n. receipt_of n x) (omega arith) }
@@ -36,7 +36,7 @@ of_pass pass place x es r false own rest there =
     let at : last_of (receipts_from pass (place + 1) es) ≡ Some r = rw own at there in
     later place x es r (rest at)
 
-last_stands : (pass place : ℕ) (es : List EntryOf) (r : ReceiptOf) → last_of (receipts_from pass place es) ≡ Some r → Stands place es r
+pub last_stands : (pass place : ℕ) (es : List EntryOf) (r : ReceiptOf) → last_of (receipts_from pass place es) ≡ Some r → Stands place es r
 last_stands pass place [] r there = cc
 last_stands pass place (x ∷ es) r there = of_pass pass place x es r (is_of_pass pass x) refl (last_stands pass (place + 1) es r) there
 

@@ -27,6 +27,10 @@ pub record RunState : Type 0 where
   pub users : List Row
   pub entries : ℕ
 
+-- these four
+abbrev pub run_state : Tree → List OpenFile → List Row → ℕ → RunState
+run_state t os us n = record { tree = t; opens = os; users = us; entries = n }
+
 -- the state of a run that no call was made on
 abbrev pub start : Tree → List Row → RunState
 start t us = record { tree = t; opens = []; users = us; entries = 0 }

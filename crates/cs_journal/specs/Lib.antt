@@ -13,3 +13,4 @@ pub mod Holding
 pub mod Small
 pub mod Ready
 pub mod Codes
+pub mod Audit

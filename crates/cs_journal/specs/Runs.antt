@@ -1,5 +1,6 @@
 -- What contracts see of a run and of a pass.
 use Rattle.std.specs.Prelude.{◌≡◌, ℕ, ◌+◌, ◌-◌, ◌<◌, ◌==◌, Bool, List, [], ◌∷◌, length, filter, slice_get, Option, if◌then◌else◌, refl}
+use Rattle.std.specs.List.{AllPairs}
 use Rattle.std.specs.Coded.{Coded, code_by, coded×, coded_ℕ, coded_list}
 use Rattle.cs_permit.specs.declared.call.OpenFile.{OpenFile}
 use Rattle.cs_run.specs.declared.answer.Outcome.{Outcome}
@@ -40,6 +41,10 @@ pub record ReceiptOf : Type 0 where
 -- the receipt of the entry at a place
 abbrev pub receipt_of : ℕ → EntryOf → ReceiptOf
 receipt_of place e = record { place = place; asked = asked e.call; outcome = e.outcome }
+
+-- each receipt has a place behind those before it
+abbrev pub IsAscending : List ReceiptOf → Type 0
+IsAscending receipts = AllPairs (λ one later. one.place < later.place) receipts
 
 -- A pass: its number, its receipts, and for how many closes it has a place.
 pub record PassOf : Type 0 where

@@ -1,4 +1,6 @@
 //! The entries of a journal.
+ghost use Rattle.std.specs.Prelude.{◌≡◌, ◌<◌};
+ghost use Rattle.cs_names.specs.declared.limits.TheConstants.{RUN_ATTACHES};
 
 use crate::kept::Kept;
 use cs_run::Outcome;
@@ -15,10 +17,24 @@ pub struct Entry {
 }
 
 impl Model for Entry {
+    ghost use Rattle.std.specs.Prelude.{◌<◌};
+    ghost use Rattle.cs_names.specs.declared.limits.TheConstants.{RUN_ATTACHES};
     ghost use Rattle.cs_journal.specs.Journals.{EntryOf};
     ghost use Rattle.cs_journal.specs.Kept.{call_of};
 
     ghost Value = { EntryOf };
 
     ghost view = { λ e. record { pass = e.pass; moment = e.moment; call = call_of e.kept; outcome = e.outcome } };
+
+    ghost invariant = { λ e. e.pass < RUN_ATTACHES };
+}
+
+impl Entry {
+    /// The number of its pass.
+    pub(crate) fn pass(&self) -> usize
+        ensures value { result ≡ self.now.pass }
+        ensures few { result < RUN_ATTACHES }
+    {
+        self.pass as usize
+    }
 }

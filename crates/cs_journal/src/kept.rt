@@ -1,14 +1,17 @@
 //! What an entry and a receipt keep of a call.
-ghost use Rattle.std.specs.Prelude.{◌≡◌, ◌+◌, ◌≤◌, true, vec_len};
-ghost use Rattle.cs_journal.specs.Kept.{call_of};
+ghost use Rattle.std.specs.Prelude.{◌≡◌, ◌+◌, ◌≤◌, IfOk, true, vec_len};
+ghost use Rattle.cs_journal.specs.Kept.{call_of, close_call, read_call, remove_call};
+ghost use Rattle.cs_journal.specs.Ready.{ready_call};
 ghost use Rattle.cs_journal.specs.Small.{is_small, is_start};
 ghost use Rattle.cs_permit.specs.declared.call.Call.TheVariants.{Remove};
 
 use crate::asked::{AskedRef, asked_by};
+use crate::ready::Ready;
 use crate::user_text::UserText;
 use cs_fids::Place;
 use cs_names::UserName;
-use cs_permit::{Call, RemoveCall};
+use cs_permit::{Call, CloseCall, ReadCall, RemoveCall, StatCall};
+use std::alloc::{AllocError, Global};
 use std::sync::Arc;
 
 /// A call as an entry or a receipt keeps it. One that takes memory is shared by both. A close and a remove
@@ -44,6 +47,7 @@ pub(crate) enum Kept {
 impl Kept {
     ghost use Rattle.cs_journal.specs.Asked.{asked};
     ghost use Rattle.cs_journal.specs.Kept.{call_of};
+    ghost use Rattle.cs_journal.specs.Ready.{ready_call};
     ghost use Rattle.cs_journal.specs.Texts.{asked_in};
 
     /// What an entry or a receipt keeps of a call with no memory of its own: a close's user, and a remove's,
@@ -72,6 +76,28 @@ impl Kept {
             | Call::Create(_)
             | Call::Write(_)
             | Call::Wstat(_) => unreachable!(),
+        }
+    }
+
+    /// The call, once more.
+    pub(crate) fn again(&self, alloc: Global) -> Result<Ready, AllocError>
+        ensures { IfOk result (λ ready. ready_call ready ≡ call_of self.now) }
+    {
+        match self {
+            Kept::Shared(call) => Ok(Ready::Shared(call.clone()?)),
+            Kept::Close { open_number, user } => close_again(alloc, *open_number, user),
+            Kept::Remove { number, user } => remove_again(alloc, *number, user, None),
+            Kept::RemoveOpen {
+                open_number,
+                number,
+                user,
+            } => remove_again(alloc, *number, user, Some(*open_number)),
+            Kept::Read {
+                count,
+                number,
+                offset,
+            } => Ok(Ready::Small(read_again(*number, *offset, *count))),
+            Kept::Stat(number) => Ok(Ready::Small(Call::Stat(StatCall { number: *number }))),
         }
     }
 
@@ -111,6 +137,41 @@ fn text_of(blanks: &mut Vec<Box<UserText>>, user: &UserName) -> Box<UserText>
         }
         None => unreachable!(),
     }
+}
+
+fn close_again(alloc: Global, open_number: u32, user: &UserText) -> Result<Ready, AllocError>
+    ensures { IfOk result (λ ready. ready_call ready ≡ close_call open_number user.now) }
+{
+    let user = user.name(alloc)?;
+    Ok(Ready::Small(Call::Close(CloseCall { open_number, user })))
+}
+
+fn remove_again(
+    alloc: Global,
+    number: u64,
+    user: &UserText,
+    open_number: Option<u32>,
+) -> Result<Ready, AllocError>
+    ensures { IfOk result (λ ready. ready_call ready ≡ remove_call number user.now open_number) }
+{
+    let user = user.name(alloc)?;
+    Ok(Ready::Small(Call::Remove(RemoveCall {
+        number,
+        user,
+        open_number,
+    })))
+}
+
+/// A read that goes on at the start.
+fn read_again(number: u64, offset: u64, count: u32) -> Call
+    ensures { result ≡ read_call number offset count }
+{
+    Call::Read(ReadCall {
+        number,
+        offset,
+        count,
+        place: Place::start(),
+    })
 }
 
 /// What is kept of a remove.

@@ -3,20 +3,24 @@
 #![tactic(auto)]
 
 mod asked;
+mod auditing;
 mod counts;
 mod entering;
 mod entry;
 mod growing;
 mod kept;
+pub mod laws;
 mod matching;
 mod pass;
 mod ready;
 mod receipt;
+mod replaying;
 mod room;
 mod run;
 mod stepping;
 mod user_text;
 
+pub use auditing::AuditFault;
 pub use entry::Entry;
 pub use growing::can_grow;
 pub use pass::Pass;

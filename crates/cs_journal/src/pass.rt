@@ -1,5 +1,6 @@
 //! The passes of a run.
 ghost use Rattle.std.specs.Prelude.{◌≡◌};
+ghost use Rattle.cs_journal.specs.Runs.{IsAscending};
 
 use crate::receipt::Receipt;
 use crate::user_text::UserText;
@@ -18,13 +19,13 @@ pub struct Pass {
 
 impl Model for Pass {
     ghost use Rattle.std.specs.Prelude.{◌+◌, ◌≤◌, vec_capacity, vec_len};
-    ghost use Rattle.cs_journal.specs.Runs.{PassOf};
+    ghost use Rattle.cs_journal.specs.Runs.{IsAscending, PassOf};
 
     ghost Value = { PassOf };
 
     ghost view = { λ p. record { number = p.number; receipts = p.receipts.items; reserved = p.reserved } };
 
-    ghost invariant = { λ p. (vec_len p.receipts + p.reserved ≤ vec_capacity p.receipts) × (p.reserved + p.reserved ≤ vec_len p.blanks) };
+    ghost invariant = { λ p. (vec_len p.receipts + p.reserved ≤ vec_capacity p.receipts) × (p.reserved + p.reserved ≤ vec_len p.blanks) × IsAscending p.receipts.items };
 }
 
 impl Pass {
@@ -37,7 +38,8 @@ impl Pass {
 
     /// The receipts of its entries, in order.
     pub fn receipts(&self) -> &[Receipt]
-        ensures { result.now ≡ self.now.receipts }
+        ensures value { result.now ≡ self.now.receipts }
+        ensures ascending { IsAscending self.now.receipts }
     {
         self.receipts.as_slice()
     }

@@ -1,10 +1,11 @@
 //! The receipts of a pass.
 ghost use Rattle.std.specs.Prelude.{◌≡◌, ◌↔◌, IsTrue};
 
-use crate::asked::ask_the_same;
+use crate::asked::{ask_the_same, asked_by};
 use crate::entry::Entry;
 use crate::kept::Kept;
 use cs_names::RuleId;
+use cs_permit::Call;
 use cs_run::Outcome;
 use std::marker::Model;
 
@@ -45,7 +46,29 @@ fn is_same_end(outcome: Outcome, other: Outcome) -> bool
 }
 
 impl Receipt {
+    ghost use Rattle.cs_journal.specs.Asked.{asked};
     ghost use Rattle.cs_journal.specs.Runs.{receipt_of};
+
+    /// The place of its entry in the journal.
+    pub fn place(&self) -> u32
+        ensures { result ≡ self.now.place }
+    {
+        self.place
+    }
+
+    /// How its call ended.
+    pub fn outcome(&self) -> Outcome
+        ensures { result ≡ self.now.outcome }
+    {
+        self.outcome
+    }
+
+    /// Whether its call asked what this one asks, but for the bytes that they write. It takes no memory.
+    pub fn asks(&self, call: &Call) -> bool
+        ensures { IsTrue result ↔ (self.now.asked ≡ asked call.now) }
+    {
+        ask_the_same(self.kept.asked(), asked_by(call))
+    }
 
     /// Whether it is the receipt of the entry at that place: of what its call asks, and how it ended.
     /// It takes no memory.

@@ -1,8 +1,9 @@
 //! A user's name that takes no memory of its own.
-ghost use Rattle.std.specs.Prelude.{◌≡◌};
+ghost use Rattle.std.specs.Prelude.{◌≡◌, IfOk};
 
 use cs_names::UserName;
 use cs_names::limits::USER_NAME_BYTES;
+use std::alloc::{AllocError, Global};
 use std::marker::Model;
 
 /// The bytes of a user's name, in place.
@@ -42,6 +43,16 @@ impl UserText {
         UserText {
             bytes,
             len: text.len(),
+        }
+    }
+
+    /// The name. It was one when it was put here, so it is refused for want of memory alone.
+    pub(crate) fn name(&self, alloc: Global) -> Result<UserName, AllocError>
+        ensures { IfOk result (λ name. name ≡ self.now) }
+    {
+        match UserName::read(alloc, self.as_bytes()) {
+            Ok(name) => Ok(name),
+            Err(_) => Err(AllocError),
         }
     }
 

@@ -1,7 +1,7 @@
 //! The path of each file while a trace goes on.
 use cs_micro::MicroOp;
 use cs_names::Path;
-use cs_trace::{Node, Trace};
+use cs_trace::{Node, Target, Trace};
 use std::alloc::{AllocError, Global};
 
 /// The path at which each file stands, by its number; None of one that is deleted.
@@ -23,12 +23,15 @@ impl<'a> FilePaths<'a> {
     /// The path of the file that the micro-operation changes, if it changes one.
     pub fn changed(&self, op: &MicroOp) -> Option<&'a Path> {
         match op {
-            MicroOp::ChangeFileSize { file, .. } | MicroOp::WriteBlock { file, .. } => {
-                match self.paths.get(*file as usize) {
-                    Some(path) => *path,
-                    None => None,
-                }
-            }
+            MicroOp::ChangeFileSize { file, .. }
+            | MicroOp::WriteBlock { file, .. }
+            | MicroOp::SetAttr {
+                target: Target::File(file),
+                ..
+            } => match self.paths.get(*file as usize) {
+                Some(path) => *path,
+                None => None,
+            },
             _ => None,
         }
     }

@@ -1,4 +1,4 @@
-//! What `list` prints of the worked trace.
+//! What `list` prints of the worked trace, and of one of version 2.
 use crate::{ListOptions, list_with};
 use cs_serve::{Inputs, list_of};
 use std::alloc::Global;
@@ -66,11 +66,36 @@ state 24 hole 3 11 says 0 same 11
 state 25 hole 9 11 says 1 same 25
 ";
 
-/// What is printed of it with holes, and no fault.
-fn listed(rt: &impl Abort, alloc: Global, options: Option<ListOptions>) -> Result<String, Fail> {
+/// A file is given away in two steps, with a chmod before them that changes nothing.
+const GIVEN_AWAY: &str = r#"{"trace":2,"profile":"blocks","owner":"kv","group":"kv","mode":"750"}
+{"op":"creat","path":"/a","owner":"kv","group":"kv","mode":"644"}
+{"op":"chmod","path":"/a","mode":"644"}
+{"op":"chmod","path":"/a","mode":"600"}
+{"op":"rename","from":"/a","to":"/b"}
+{"op":"chown","path":"/b","owner":"ann","group":"kv"}
+{"op":"chmod","path":"/","mode":"700"}
+"#;
+
+/// Of line 3 there is nothing, and a directory's path stands before the line.
+const GIVEN_AWAY_LISTED: &str = "\
+op 0 create_dir_entry /a file line 2
+op 1 set_attr file 0 600 kv kv line 4 /a
+op 2 move_dir_entry /a /b line 5
+op 3 set_attr file 0 600 ann kv line 6 /b
+op 4 set_attr dir / 700 kv kv line 7
+state 0 prefix 0 says 0
+";
+
+/// What is printed of a trace with holes, and no fault.
+fn listed(
+    rt: &impl Abort,
+    alloc: Global,
+    trace: &str,
+    options: Option<ListOptions>,
+) -> Result<String, Fail> {
     let inputs = Inputs {
         users: &[],
-        trace: STORE.as_bytes(),
+        trace: trace.as_bytes(),
         picks: &[],
         holes: true,
         verbose: false,
@@ -91,8 +116,19 @@ fn tells_lines_and_first_states(rt: HostRuntime) -> Result<(), Fail> {
         lines: true,
         same: true,
     };
-    let out = listed(&rt, rt.alloc(), Some(options))?;
+    let out = listed(&rt, rt.alloc(), STORE, Some(options))?;
     assert_eq!(rt; out.as_str(), LISTED);
+    Ok(())
+}
+
+#[test]
+fn tells_where_a_file_was_whose_rights_are_set(rt: HostRuntime) -> Result<(), Fail> {
+    let options = ListOptions {
+        lines: true,
+        same: false,
+    };
+    let out = listed(&rt, rt.alloc(), GIVEN_AWAY, Some(options))?;
+    assert!(rt; out.as_str().starts_with(GIVEN_AWAY_LISTED));
     Ok(())
 }
 
@@ -102,7 +138,7 @@ fn tells_no_more_than_is_asked_for(rt: HostRuntime) -> Result<(), Fail> {
         lines: false,
         same: false,
     };
-    let out = listed(&rt, rt.alloc(), Some(options))?;
-    assert_eq!(rt; out, listed(&rt, rt.alloc(), None)?);
+    let out = listed(&rt, rt.alloc(), STORE, Some(options))?;
+    assert_eq!(rt; out, listed(&rt, rt.alloc(), STORE, None)?);
     Ok(())
 }

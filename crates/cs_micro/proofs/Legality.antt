@@ -16,12 +16,14 @@ use Rattle.cs_trace.specs.Operations.{Paths}
 use Rattle.cs_trace.specs.declared.operation.Node.{Node}
 use Rattle.cs_trace.specs.declared.operation.Node.TheVariants.{File}
 use Rattle.cs_trace.specs.declared.operation.Operation.{Operation}
-use Rattle.cs_trace.specs.declared.operation.Operation.TheVariants.{Creat, Mkdir, Unlink, Rmdir, Rename, Write, Truncate, Sync, Say}
+use Rattle.cs_trace.specs.declared.operation.Operation.TheVariants.{Creat, Mkdir, Unlink, Rmdir, Rename, Write, Truncate, SetAttr, Sync, Say}
+use Rattle.cs_trace.specs.declared.operation.Target.TheVariants as targets
 use Rattle.cs_micro.specs.Blocks.{block_of, block_write, block_writes, bytes_in, start_of}
 use Rattle.cs_micro.specs.Legal.{AreLegal, IsLegal, made_after, paths_after}
-use Rattle.cs_micro.specs.MicroOperations.{grown, micro_operations_of, micros_of, moved, resized, written}
+use Rattle.cs_micro.specs.MicroOperations.{grown, micro_operations_of, micros_of, moved, resized, same_rights, written}
 use Rattle.cs_micro.specs.declared.micro_op.MicroOp.{MicroOp}
 use Rattle.cs_micro.specs.declared.micro_op.MicroOp.TheVariants.{ChangeFileSize}
+use Rattle.cs_micro.specs.declared.micro_op.MicroOp.TheVariants as micro
 
 -- some are legal, and they leave these paths, and so many files made
 record Leaves (m : Paths) (made : ℕ) (ops : List MicroOp) (after : Paths) (count : ℕ) : Type 0 where
@@ -98,6 +100,11 @@ resized_leaves : (m : Paths) (made file to : ℕ) (b : Bool) → trace.Stands m 
 resized_leaves m made file to true stands known limit = record { legal = tt; paths = refl; files = refl }
 resized_leaves m made file to false stands known limit = record { legal = ((known, limit, stands), tt); paths = refl; files = refl }
 
+-- one that is quiet, or none
+quiet_unless : (m : Paths) (made : ℕ) (o : MicroOp) (b : Bool) → IsQuiet m made o → Leaves m made (cond b [] (o ∷ [])) m made
+quiet_unless m made o true quiet = record { legal = tt; paths = refl; files = refl }
+quiet_unless m made o false quiet = record { legal = (quiet.legal, tt); paths = quiet.paths; files = quiet.files }
+
 written_leaves : (m : Paths) (made file size offset : ℕ) (bytes : List ℕ) → trace.Stands m file → file < made → (0 < length bytes → offset + length bytes ≤ FILE_BYTES) → Leaves m made (written file size offset bytes) m made
 written_leaves m made file size offset bytes stands known limit = by (length bytes == 0) refl
   where
@@ -147,6 +154,12 @@ operation_leaves m sizes (Write file size offset bytes) legal =
     (written_leaves m (length sizes) file size offset bytes legal.0 (slice_get_within sizes file size legal.1) legal.2)
 operation_leaves m sizes (Truncate file size to) legal =
     same_count m sizes file to (resized file size to) (resized_leaves m (length sizes) file to (size == to) legal.0 (slice_get_within sizes file size legal.1) legal.2)
+operation_leaves m sizes (SetAttr (targets.File file) before after) legal =
+    quiet_unless m (length sizes) (micro.SetAttr (targets.File file) after) (same_rights before after)
+    (record { legal = (legal.1, legal.0, legal.2); paths = refl; files = refl })
+operation_leaves m sizes (SetAttr (targets.Directory p) before after) legal =
+    quiet_unless m (length sizes) (micro.SetAttr (targets.Directory p) after) (same_rights before after)
+    (record { legal = legal; paths = refl; files = refl })
 operation_leaves m sizes (Sync covers) legal = record { legal = tt; paths = refl; files = refl }
 operation_leaves m sizes Say legal = record { legal = (tt, tt); paths = refl; files = refl }
 

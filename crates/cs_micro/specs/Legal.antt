@@ -4,11 +4,12 @@ use Rattle.std.specs.FinMap.{insert, remove}
 use Rattle.cs_names.specs.declared.limits.TheConstants.{FILE_BYTES}
 use Rattle.cs_trace.specs.Operations.{IsDirectoryAt, IsEmptyAt, IsFileAt, IsFree, IsOctal, MayTake, Paths, Stands, moved}
 use Rattle.cs_trace.specs.declared.operation.Node.TheVariants.{Directory, File}
+use Rattle.cs_trace.specs.declared.operation.Target.TheVariants as targets
 use Rattle.cs_micro.specs.Blocks.{start_of}
 use Rattle.cs_micro.specs.declared.blocks.TheConstants.{BLOCK_BYTES}
 use Rattle.cs_micro.specs.declared.micro_op.EntryKind.TheVariants as kinds
 use Rattle.cs_micro.specs.declared.micro_op.MicroOp.{MicroOp}
-use Rattle.cs_micro.specs.declared.micro_op.MicroOp.TheVariants.{CreateDirEntry, DeleteDirEntry, MoveDirEntry, ChangeFileSize, WriteBlock, Say}
+use Rattle.cs_micro.specs.declared.micro_op.MicroOp.TheVariants.{CreateDirEntry, DeleteDirEntry, MoveDirEntry, ChangeFileSize, WriteBlock, SetAttr, Say}
 
 -- what stands at each path after it
 abbrev pub paths_after : Paths → MicroOp → Paths
@@ -23,7 +24,8 @@ made_after made (CreateDirEntry p (File file) rights) = made + 1
 made_after made _ = made
 
 -- it is legal where these paths stand and so many files have been made: a new file has the next number, and a
--- file that is changed has been made and stands; bytes lie in their block, and no file is too large
+-- file that is changed has been made and stands; bytes lie in their block, and no file is too large; a directory
+-- whose rights are set stands, and permissions are three octal digits
 abbrev pub IsLegal : Paths → ℕ → MicroOp → Type 0
 IsLegal m made (CreateDirEntry p Directory rights) = IsFree m p × IsOctal rights
 IsLegal m made (CreateDirEntry p (File file) rights) = IsFree m p × (file ≡ made) × IsOctal rights
@@ -33,6 +35,8 @@ IsLegal m made (MoveDirEntry p q) = (p ≢ q) × IsFileAt m p × MayTake m q
 IsLegal m made (ChangeFileSize file to) = (file < made) × (to ≤ FILE_BYTES) × Stands m file
 IsLegal m made (WriteBlock file block at bytes) =
     (file < made) × (0 < length bytes) × (at + length bytes ≤ BLOCK_BYTES) × (start_of block + at + length bytes ≤ FILE_BYTES) × Stands m file
+IsLegal m made (SetAttr (targets.File file) rights) = (file < made) × Stands m file × IsOctal rights
+IsLegal m made (SetAttr (targets.Directory p) rights) = IsDirectoryAt m p × IsOctal rights
 IsLegal m made Say = Unit {0}
 
 -- each is legal in what those before it leave

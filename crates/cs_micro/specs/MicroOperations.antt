@@ -1,11 +1,14 @@
 -- The micro-operations that an operation of a trace is.
-use Rattle.std.specs.Prelude.{ℕ, ◌+◌, ◌<◌, ◌≤◌, ◌==◌, nat_lt, List, [], ◌∷◌, ◌++◌, length, if◌then◌else◌}
+use Rattle.std.specs.Prelude.{ℕ, ◌+◌, ◌<◌, ◌≤◌, ◌==◌, ◌&&◌, nat_lt, Bool, List, [], ◌∷◌, ◌++◌, length, if◌then◌else◌}
 use Rattle.std.specs.List.{flat_map}
 use Rattle.cs_names.specs.Paths.{path_eq}
+use Rattle.cs_names.specs.Texts.{same_bytes}
 use Rattle.cs_names.specs.declared.limits.TheConstants.{FILE_BYTES}
 use Rattle.cs_trace.specs.declared.operation.Node.TheVariants as nodes
 use Rattle.cs_trace.specs.declared.operation.Operation.{Operation}
-use Rattle.cs_trace.specs.declared.operation.Operation.TheVariants.{Creat, Mkdir, Unlink, Rmdir, Rename, Write, Truncate, Sync, Say}
+use Rattle.cs_trace.specs.declared.operation.Operation.TheVariants.{Creat, Mkdir, Unlink, Rmdir, Rename, Write, Truncate, SetAttr, Sync, Say}
+use Rattle.cs_trace.specs.declared.operation.Rights.{Rights}
+use Rattle.cs_trace.specs.declared.operation.Target.{Target}
 use Rattle.cs_micro.specs.declared.micro_op.EntryKind.TheVariants as kinds
 use Rattle.cs_micro.specs.declared.micro_op.MicroOp.{MicroOp}
 use Rattle.cs_micro.specs.declared.micro_op.MicroOp.TheVariants as micro
@@ -28,6 +31,14 @@ resized file size to = if size == to then [] else micro.ChangeFileSize file to �
 abbrev pub moved : List (List ℕ) → List (List ℕ) → List MicroOp
 moved p q = if path_eq p q then [] else micro.MoveDirEntry p q ∷ []
 
+-- the same owner, group and permissions
+abbrev pub same_rights : Rights → Rights → Bool
+same_rights a b = same_bytes a.owner b.owner && same_bytes a.group b.group && a.permissions == b.permissions
+
+-- a change to other rights
+abbrev pub attributed : Target → Rights → Rights → List MicroOp
+attributed target before after = if same_rights before after then [] else micro.SetAttr target after ∷ []
+
 -- the micro-operations of one operation
 abbrev pub micros_of : Operation → List MicroOp
 micros_of (Creat p file rights) = micro.CreateDirEntry p (nodes.File file) rights ∷ []
@@ -37,6 +48,7 @@ micros_of (Rmdir p) = micro.DeleteDirEntry p kinds.Directory ∷ []
 micros_of (Rename p q) = moved p q
 micros_of (Write file size offset bytes) = written file size offset bytes
 micros_of (Truncate file size to) = resized file size to
+micros_of (SetAttr target before after) = attributed target before after
 micros_of (Sync covers) = []
 micros_of Say = micro.Say ∷ []
 

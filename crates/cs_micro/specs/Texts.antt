@@ -1,16 +1,30 @@
 -- What is printed of a micro-operation, and of a trace that isn't broken up.
-use Rattle.std.specs.Prelude.{ℕ, List, ◌++◌, codes, decimal, length}
+use Rattle.std.specs.Prelude.{ℕ, ◌/◌, ◌%◌, List, ◌++◌, codes, decimal, length}
 use Rattle.cs_names.specs.Paths.{path_text}
 use Rattle.cs_trace.specs.declared.operation.Node.{Node}
 use Rattle.cs_trace.specs.declared.operation.Node.TheVariants.{Directory, File}
+use Rattle.cs_trace.specs.declared.operation.Rights.{Rights}
+use Rattle.cs_trace.specs.declared.operation.Target.{Target}
+use Rattle.cs_trace.specs.declared.operation.Target.TheVariants as targets
 use Rattle.cs_micro.specs.declared.fault.MicroFault.{MicroFault}
 use Rattle.cs_micro.specs.declared.fault.MicroFault.TheVariants.{TooMany, Memory}
 use Rattle.cs_micro.specs.declared.micro_op.MicroOp.{MicroOp}
-use Rattle.cs_micro.specs.declared.micro_op.MicroOp.TheVariants.{CreateDirEntry, DeleteDirEntry, MoveDirEntry, ChangeFileSize, WriteBlock, Say}
+use Rattle.cs_micro.specs.declared.micro_op.MicroOp.TheVariants.{CreateDirEntry, DeleteDirEntry, MoveDirEntry, ChangeFileSize, WriteBlock, SetAttr, Say}
 
 abbrev pub kind_text : Node → List ℕ
 kind_text Directory = codes "dir"
 kind_text (File file) = codes "file"
+
+abbrev pub target_text : Target → List ℕ
+target_text (targets.File file) = codes "file " ++ decimal file
+target_text (targets.Directory p) = codes "dir " ++ path_text p
+
+-- permissions as three octal digits
+abbrev pub mode_text : ℕ → List ℕ
+mode_text permissions = decimal (permissions / 64) ++ (decimal (permissions / 8 % 8) ++ decimal (permissions % 8))
+
+abbrev pub rights_text : Rights → List ℕ
+rights_text rights = mode_text rights.permissions ++ (codes " " ++ (rights.owner ++ (codes " " ++ rights.group)))
 
 -- the kind, and its fields
 abbrev pub op_text : MicroOp → List ℕ
@@ -20,6 +34,7 @@ op_text (MoveDirEntry p q) = codes "move_dir_entry " ++ (path_text p ++ (codes "
 op_text (ChangeFileSize file to) = codes "change_file_size " ++ (decimal file ++ (codes " " ++ decimal to))
 op_text (WriteBlock file block at bytes) =
     codes "write_block " ++ (decimal file ++ (codes " " ++ (decimal block ++ (codes " " ++ (decimal at ++ (codes " " ++ decimal (length bytes)))))))
+op_text (SetAttr target rights) = codes "set_attr " ++ (target_text target ++ (codes " " ++ rights_text rights))
 op_text Say = codes "say"
 
 abbrev pub fault_text : MicroFault → List ℕ

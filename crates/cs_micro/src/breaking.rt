@@ -1,16 +1,16 @@
 //! The micro-operations and the sync points of a list of operations.
 ghost use Rattle.std.specs.Prelude.{◌≡◌, ◌++◌, ◌∷◌, [], ◌+◌, ◌<◌, ◌≤◌, ◌↔◌, length, IfOk, IsErr, IsTrue, OnOk, ℕ};
 ghost use Rattle.std.specs.List.{All};
-ghost use Rattle.cs_micro.specs.MicroOperations.{IsWithinLimit, micro_operations_of, micros_of, moved, resized, written};
+ghost use Rattle.cs_micro.specs.MicroOperations.{IsWithinLimit, attributed, micro_operations_of, micros_of, moved, resized, same_rights, written};
 ghost use Rattle.cs_micro.specs.SyncPoints.{points_behind, sync_points_of};
 
 use crate::blocks::{BLOCK_BYTES, push_blocks};
-use crate::copies::{copy_covers, copy_rights};
+use crate::copies::{copy_covers, copy_target};
 use crate::micro_op::{EntryKind, MicroOp};
 use crate::sync_point::SyncPoint;
 use cs_names::Path;
 use cs_names::limits::{FILE_BYTES, MICRO_OPERATIONS};
-use cs_trace::{Node, Operation, Rights};
+use cs_trace::{Node, Operation, Rights, Target};
 use std::alloc::{AllocError, Global};
 
 /// How many micro-operations a write is. It takes no memory.
@@ -25,6 +25,13 @@ fn count_of_write(size: u64, offset: u64, bytes: &[u8]) -> usize
     let blocks = (end - 1) / BLOCK_BYTES + 1 - offset / BLOCK_BYTES;
     let changes = if size < end { 1 } else { 0 };
     blocks as usize + changes
+}
+
+/// Whether the owner, the group and the permissions are the same.
+fn are_same(rights: &Rights, others: &Rights) -> bool
+    ensures { result ≡ same_rights rights.now others.now }
+{
+    rights == others
 }
 
 /// How many micro-operations an operation is. It takes no memory.
@@ -46,6 +53,7 @@ pub fn micro_count(operation: &Operation) -> usize
             ..
         } => count_of_write(*size, *offset, bytes.as_slice()),
         Operation::Truncate { size, length, .. } => usize::from(size != length),
+        Operation::SetAttr { before, after, .. } => usize::from(!are_same(before, after)),
         Operation::Sync(_) => 0,
     }
 }
@@ -79,7 +87,7 @@ fn push_create(
     ops.push(MicroOp::CreateDirEntry {
         path: path.try_clone(alloc)?,
         node,
-        rights: copy_rights(rights)?,
+        rights: rights.try_clone()?,
     })?;
     Ok(())
 }
@@ -154,6 +162,27 @@ fn push_size(ops: &mut Vec<MicroOp>, file: u32, size: u64, to: u64) -> Result<()
     Ok(())
 }
 
+/// A change of rights, unless it is to the same.
+fn push_rights(
+    alloc: Global,
+    ops: &mut Vec<MicroOp>,
+    target: &Target,
+    before: &Rights,
+    after: &Rights,
+) -> Result<(), AllocError>
+    ensures value { OnOk result (ops.new.items ≡ ops.old.items ++ attributed target.now before.now after.now) }
+    ensures memory { IsErr result → 0 < length (attributed target.now before.now after.now) }
+{
+    if are_same(before, after) {
+        return Ok(());
+    }
+    ops.push(MicroOp::SetAttr {
+        target: copy_target(alloc, target)?,
+        rights: after.try_clone()?,
+    })?;
+    Ok(())
+}
+
 /// A text for the application's users.
 fn push_say(ops: &mut Vec<MicroOp>) -> Result<(), AllocError>
     ensures { OnOk result (ops.new.items ≡ ops.old.items ++ MicroOp.Say ∷ []) }
@@ -189,6 +218,11 @@ fn push_micros(
             bytes,
         } => push_write(alloc, ops, *file, *size, *offset, bytes.as_slice()),
         Operation::Truncate { file, size, length } => push_size(ops, *file, *size, *length),
+        Operation::SetAttr {
+            target,
+            before,
+            after,
+        } => push_rights(alloc, ops, target, before, after),
         Operation::Sync(_) => Ok(()),
         Operation::Say => push_say(ops),
     }

@@ -2,18 +2,17 @@
 ghost use Rattle.std.specs.Prelude.{◌≡◌, ◌<◌, length, IfOk, IsErr};
 
 use cs_names::Path;
-use cs_trace::{Covers, Rights};
+use cs_trace::{Covers, Target};
 use std::alloc::{AllocError, Global};
 
-/// The same rights again.
-pub fn copy_rights(rights: &Rights) -> Result<Rights, AllocError>
-    ensures { IfOk result (λ copy. copy ≡ rights.now) }
+/// The same target again.
+pub fn copy_target(alloc: Global, target: &Target) -> Result<Target, AllocError>
+    ensures { IfOk result (λ copy. copy ≡ target.now) }
 {
-    Ok(Rights {
-        owner: rights.owner.try_clone()?,
-        group: rights.group.try_clone()?,
-        permissions: rights.permissions,
-    })
+    match target {
+        Target::File(file) => Ok(Target::File(*file)),
+        Target::Directory(path) => Ok(Target::Directory(path.try_clone(alloc)?)),
+    }
 }
 
 /// The same again of what a sync covers.

@@ -1,6 +1,7 @@
 //! The operations of a trace, broken into the steps that reach the disk one by one.
 #![tactic(auto)]
 
+mod attributes;
 mod blocks;
 mod breaking;
 mod copies;

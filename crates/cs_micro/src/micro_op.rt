@@ -2,8 +2,9 @@
 ghost use Rattle.std.specs.Prelude.{◌≡◌, Some};
 ghost use Rattle.cs_micro.specs.Texts.{kind_text, op_text};
 
+use crate::attributes::{RightsText, TargetText};
 use cs_names::Path;
-use cs_trace::{Bytes, Node, Rights};
+use cs_trace::{Bytes, Node, Rights, Target};
 use std::fmt;
 
 /// What an entry that is deleted was the entry of.
@@ -47,6 +48,11 @@ pub enum MicroOp {
         /// At least one byte; all of them lie in the block.
         bytes: Bytes,
     },
+    /// A file or a directory has these rights from now on.
+    SetAttr {
+        target: Target,
+        rights: Rights,
+    },
     /// A text that the application tells its users.
     Say,
 }
@@ -63,7 +69,7 @@ fn node_word(node: Node) -> &'static str
 
 /// What the list of a trace's micro-operations says of it, but for its place: its kind, and then
 /// the path or paths, or the file's number with the length, or with the block, the place in it and
-/// the number of bytes.
+/// the number of bytes; or whose rights are set, and the rights.
 impl fmt::Display for MicroOp {
     ghost output = { λ op. Some (op_text op) };
 
@@ -85,6 +91,10 @@ impl fmt::Display for MicroOp {
             } => {
                 let count = bytes.as_slice().len();
                 write!(f, "write_block {file} {block} {at} {count}")
+            }
+            MicroOp::SetAttr { target, rights } => {
+                let (target, rights) = (TargetText(target), RightsText(rights));
+                write!(f, "set_attr {target} {rights}")
             }
             MicroOp::Say => f.write_str("say"),
         }

@@ -12,17 +12,18 @@ use crate::micro_op::MicroOp;
 use crate::sync_point::SyncPoint;
 use cs_names::Path;
 use cs_names::limits::MICRO_OPERATIONS;
-use cs_trace::Trace;
+use cs_trace::{Profile, Trace};
 use std::alloc::Global;
 use std::marker::Model;
 
-/// The micro-operations of a trace, MICRO_OPERATIONS at most, with its sync points and the paths of
-/// the files at its start. Contracts see the three lists.
+/// The micro-operations of a trace, MICRO_OPERATIONS at most, with its sync points, the paths of the
+/// files at its start, and its profile. Contracts see the three lists and the profile.
 #[derive(Debug, Drop)]
 pub struct Micros {
     ops: Vec<MicroOp>,
     syncs: Vec<SyncPoint>,
     starts: Vec<Path>,
+    profile: Profile,
 }
 
 impl Model for Micros {
@@ -32,7 +33,12 @@ impl Model for Micros {
 
     ghost Value = { Micros };
 
-    ghost view = { λ micros. record { ops = micros.ops.items; syncs = micros.syncs.items; starts = micros.starts.items } };
+    ghost view = { λ micros. record {
+      ops = micros.ops.items;
+      syncs = micros.syncs.items;
+      starts = micros.starts.items;
+      profile = micros.profile;
+    } };
 
     ghost invariant = { λ micros. length micros.ops.items ≤ MICRO_OPERATIONS };
 }
@@ -59,6 +65,13 @@ impl Micros {
     {
         self.starts.as_slice()
     }
+
+    /// Which directory operations the trace's file system keeps in order.
+    pub fn profile(&self) -> Profile
+        ensures { result ≡ self.now.profile }
+    {
+        self.profile
+    }
 }
 
 /// The trace's operations as micro-operations, with its sync points. TooMany is answered where
@@ -76,5 +89,10 @@ pub fn break_up(alloc: Global, trace: &Trace) -> Result<Micros, MicroFault>
     }
     let (ops, syncs) = broken_up(alloc, operations)?;
     let starts = copy_paths(alloc, trace.files())?;
-    Ok(Micros { ops, syncs, starts })
+    Ok(Micros {
+        ops,
+        syncs,
+        starts,
+        profile: trace.profile(),
+    })
 }

@@ -1,18 +1,21 @@
 -- Two values that are told apart by `==` differ, and no others do.
-use Rattle.std.proofs.Common.{◌≡◌, ℕ, Bool, true, false, ◌&&◌, List, rules, refl, ap, subst}
+use Rattle.std.proofs.Common.{◌≡◌, ℕ, true, false, ◌&&◌, List, rules, refl, ap, subst}
 use Rattle.std.specs.Bool.{Decides}
 use Rattle.std.proofs.lemmas.Slice.Eq.{bytes_eq-Decides, slice_eq-Decides}
 use Rattle.cs_names.specs.Paths.{path_eq}
 use Rattle.cs_trace.specs.declared.operation.Node.{Node}
 use Rattle.cs_trace.specs.declared.operation.Operation.{Operation}
-use Rattle.cs_trace.specs.declared.operation.Operation.TheVariants.{Creat, Mkdir, Unlink, Rmdir, Rename, Write, Truncate, Sync, Say}
+use Rattle.cs_trace.specs.declared.operation.Operation.TheVariants.{Creat, Mkdir, Unlink, Rmdir, Rename, Write, Truncate, SetAttr, Sync, Say}
 use Rattle.cs_trace.specs.declared.operation.Covers.{Covers}
 use Rattle.cs_trace.specs.declared.operation.Covers.TheVariants.{All, File, Directory}
 use Rattle.cs_trace.specs.declared.operation.Rights.{Rights}
+use Rattle.cs_trace.specs.declared.operation.Target.{Target}
+use Rattle.cs_trace.specs.declared.operation.Target.TheVariants as targets
 use Rattle.cs_trace.specs.contracts.operation.NodePartialEq as node
 use Rattle.cs_trace.specs.contracts.operation.RightsPartialEq as rights
 use Rattle.cs_trace.specs.contracts.operation.CoversPartialEq as covers
 use Rattle.cs_trace.specs.contracts.operation.OperationPartialEq as operation
+use Rattle.cs_trace.specs.contracts.operation.TargetPartialEq as target
 use Rattle.cs_tree_model.specs.declared.record.Record.{Record}
 use Rattle.cs_tree_model.specs.contracts.record.RecordPartialEq as record_eq
 use Rattle.cs_plan.specs.declared.recipe.Recipe.{Recipe}
@@ -35,6 +38,17 @@ covers_true All other = elim other as (λ (x : Covers). covers.TheImpl.eq-value.
 covers_true (File n) other = elim other as (λ (x : Covers). covers.TheImpl.eq-value.it (File n) x ≡ true → File n ≡ x) [ All ↦ differ | File m ↦ λ e. search rules | Directory p ↦ differ ]
 covers_true (Directory p) other = elim other as (λ (x : Covers). covers.TheImpl.eq-value.it (Directory p) x ≡ true → Directory p ≡ x) [ All ↦ differ | File n ↦ differ | Directory q ↦ λ e. ap Directory ((path_decides p q).0 e) ]
 
+target_true : (a b : Target) → target.TheImpl.eq-value.it a b ≡ true → a ≡ b
+target_true (targets.File n) other = elim other as (λ (x : Target). target.TheImpl.eq-value.it (targets.File n) x ≡ true → targets.File n ≡ x) [ targets.File m ↦ λ e. search rules | targets.Directory p ↦ differ ]
+target_true (targets.Directory p) other = elim other as (λ (x : Target). target.TheImpl.eq-value.it (targets.Directory p) x ≡ true → targets.Directory p ≡ x) [ targets.File n ↦ differ | targets.Directory q ↦ λ e. ap targets.Directory ((path_decides p q).0 e) ]
+
+target_own : (a : Target) → target.TheImpl.eq-value.it a a ≡ true
+target_own (targets.File n) = search rules
+target_own (targets.Directory p) = (path_decides p p).1 refl
+
+target_decides : (a b : Target) → Decides (target.TheImpl.eq-value.it a b) (a ≡ b)
+target_decides a b = (target_true a b, λ same. subst (λ x. target.TheImpl.eq-value.it a x ≡ true) same (target_own a))
+
 pub record_decides : (a b : Record) → Decides (record_eq.TheImpl.eq-value.it a b) (a ≡ b)
 record_decides a b = search (rules, bytes_eq-Decides)
 
@@ -47,15 +61,16 @@ covers_own (File n) = search rules
 covers_own (Directory p) = (path_decides p p).1 refl
 
 operation_true : (a b : Operation) → operation.TheImpl.eq-value.it a b ≡ true → a ≡ b
-operation_true (Creat p f r) other = elim other as (λ (x : Operation). operation.TheImpl.eq-value.it (Creat p f r) x ≡ true → Creat p f r ≡ x) [ Creat p' f' r' ↦ λ e. search (rules, path_decides, rights_decides) | Mkdir p' r' ↦ differ | Unlink p' ↦ differ | Rmdir p' ↦ differ | Rename p' q' ↦ differ | Write f' s' o' b' ↦ differ | Truncate f' s' l' ↦ differ | Sync c' ↦ differ | Say ↦ differ ]
-operation_true (Mkdir p r) other = elim other as (λ (x : Operation). operation.TheImpl.eq-value.it (Mkdir p r) x ≡ true → Mkdir p r ≡ x) [ Creat p' f' r' ↦ differ | Mkdir p' r' ↦ λ e. search (rules, path_decides, rights_decides) | Unlink p' ↦ differ | Rmdir p' ↦ differ | Rename p' q' ↦ differ | Write f' s' o' b' ↦ differ | Truncate f' s' l' ↦ differ | Sync c' ↦ differ | Say ↦ differ ]
-operation_true (Unlink p) other = elim other as (λ (x : Operation). operation.TheImpl.eq-value.it (Unlink p) x ≡ true → Unlink p ≡ x) [ Creat p' f' r' ↦ differ | Mkdir p' r' ↦ differ | Unlink p' ↦ λ e. ap Unlink ((path_decides p p').0 e) | Rmdir p' ↦ differ | Rename p' q' ↦ differ | Write f' s' o' b' ↦ differ | Truncate f' s' l' ↦ differ | Sync c' ↦ differ | Say ↦ differ ]
-operation_true (Rmdir p) other = elim other as (λ (x : Operation). operation.TheImpl.eq-value.it (Rmdir p) x ≡ true → Rmdir p ≡ x) [ Creat p' f' r' ↦ differ | Mkdir p' r' ↦ differ | Unlink p' ↦ differ | Rmdir p' ↦ λ e. ap Rmdir ((path_decides p p').0 e) | Rename p' q' ↦ differ | Write f' s' o' b' ↦ differ | Truncate f' s' l' ↦ differ | Sync c' ↦ differ | Say ↦ differ ]
-operation_true (Rename p q) other = elim other as (λ (x : Operation). operation.TheImpl.eq-value.it (Rename p q) x ≡ true → Rename p q ≡ x) [ Creat p' f' r' ↦ differ | Mkdir p' r' ↦ differ | Unlink p' ↦ differ | Rmdir p' ↦ differ | Rename p' q' ↦ λ e. search (rules, path_decides) | Write f' s' o' b' ↦ differ | Truncate f' s' l' ↦ differ | Sync c' ↦ differ | Say ↦ differ ]
-operation_true (Write f s o b) other = elim other as (λ (x : Operation). operation.TheImpl.eq-value.it (Write f s o b) x ≡ true → Write f s o b ≡ x) [ Creat p' f' r' ↦ differ | Mkdir p' r' ↦ differ | Unlink p' ↦ differ | Rmdir p' ↦ differ | Rename p' q' ↦ differ | Write f' s' o' b' ↦ λ e. search (rules, bytes_eq-Decides) | Truncate f' s' l' ↦ differ | Sync c' ↦ differ | Say ↦ differ ]
-operation_true (Truncate f s l) other = elim other as (λ (x : Operation). operation.TheImpl.eq-value.it (Truncate f s l) x ≡ true → Truncate f s l ≡ x) [ Creat p' f' r' ↦ differ | Mkdir p' r' ↦ differ | Unlink p' ↦ differ | Rmdir p' ↦ differ | Rename p' q' ↦ differ | Write f' s' o' b' ↦ differ | Truncate f' s' l' ↦ λ e. search rules | Sync c' ↦ differ | Say ↦ differ ]
-operation_true (Sync c) other = elim other as (λ (x : Operation). operation.TheImpl.eq-value.it (Sync c) x ≡ true → Sync c ≡ x) [ Creat p' f' r' ↦ differ | Mkdir p' r' ↦ differ | Unlink p' ↦ differ | Rmdir p' ↦ differ | Rename p' q' ↦ differ | Write f' s' o' b' ↦ differ | Truncate f' s' l' ↦ differ | Sync c' ↦ λ e. ap Sync (covers_true c c' e) | Say ↦ differ ]
-operation_true Say other = elim other as (λ (x : Operation). operation.TheImpl.eq-value.it Say x ≡ true → Say ≡ x) [ Creat p' f' r' ↦ differ | Mkdir p' r' ↦ differ | Unlink p' ↦ differ | Rmdir p' ↦ differ | Rename p' q' ↦ differ | Write f' s' o' b' ↦ differ | Truncate f' s' l' ↦ differ | Sync c' ↦ differ | Say ↦ λ e. refl ]
+operation_true (Creat p f r) other = elim other as (λ (x : Operation). operation.TheImpl.eq-value.it (Creat p f r) x ≡ true → Creat p f r ≡ x) [ Creat p' f' r' ↦ λ e. search (rules, path_decides, rights_decides) | _ ↦ differ ]
+operation_true (Mkdir p r) other = elim other as (λ (x : Operation). operation.TheImpl.eq-value.it (Mkdir p r) x ≡ true → Mkdir p r ≡ x) [ Mkdir p' r' ↦ λ e. search (rules, path_decides, rights_decides) | _ ↦ differ ]
+operation_true (Unlink p) other = elim other as (λ (x : Operation). operation.TheImpl.eq-value.it (Unlink p) x ≡ true → Unlink p ≡ x) [ Unlink p' ↦ λ e. ap Unlink ((path_decides p p').0 e) | _ ↦ differ ]
+operation_true (Rmdir p) other = elim other as (λ (x : Operation). operation.TheImpl.eq-value.it (Rmdir p) x ≡ true → Rmdir p ≡ x) [ Rmdir p' ↦ λ e. ap Rmdir ((path_decides p p').0 e) | _ ↦ differ ]
+operation_true (Rename p q) other = elim other as (λ (x : Operation). operation.TheImpl.eq-value.it (Rename p q) x ≡ true → Rename p q ≡ x) [ Rename p' q' ↦ λ e. search (rules, path_decides) | _ ↦ differ ]
+operation_true (Write f s o b) other = elim other as (λ (x : Operation). operation.TheImpl.eq-value.it (Write f s o b) x ≡ true → Write f s o b ≡ x) [ Write f' s' o' b' ↦ λ e. search (rules, bytes_eq-Decides) | _ ↦ differ ]
+operation_true (Truncate f s l) other = elim other as (λ (x : Operation). operation.TheImpl.eq-value.it (Truncate f s l) x ≡ true → Truncate f s l ≡ x) [ Truncate f' s' l' ↦ λ e. search rules | _ ↦ differ ]
+operation_true (SetAttr t b r) other = elim other as (λ (x : Operation). operation.TheImpl.eq-value.it (SetAttr t b r) x ≡ true → SetAttr t b r ≡ x) [ SetAttr t' b' r' ↦ λ e. search (rules, target_decides, rights_decides) | _ ↦ differ ]
+operation_true (Sync c) other = elim other as (λ (x : Operation). operation.TheImpl.eq-value.it (Sync c) x ≡ true → Sync c ≡ x) [ Sync c' ↦ λ e. ap Sync (covers_true c c' e) | _ ↦ differ ]
+operation_true Say other = elim other as (λ (x : Operation). operation.TheImpl.eq-value.it Say x ≡ true → Say ≡ x) [ Say ↦ λ e. refl | _ ↦ differ ]
 
 operation_own : (a : Operation) → operation.TheImpl.eq-value.it a a ≡ true
 operation_own (Creat p f r) = search (rules, path_decides, rights_decides)
@@ -65,6 +80,7 @@ operation_own (Rmdir p) = (path_decides p p).1 refl
 operation_own (Rename p q) = search (rules, path_decides)
 operation_own (Write f s o b) = search (rules, bytes_eq-Decides)
 operation_own (Truncate f s l) = search rules
+operation_own (SetAttr t b r) = search (rules, target_decides, rights_decides)
 operation_own (Sync c) = covers_own c
 operation_own Say = refl
 

@@ -20,17 +20,20 @@ use Rattle.cs_trace.specs.declared.operation.Node.{Node}
 use Rattle.cs_trace.specs.Operations.{made_by}
 use Rattle.cs_trace.specs.Traces.{Trace, records_made}
 use Rattle.cs_trace.specs.declared.operation.Operation.{Operation}
-use Rattle.cs_trace.specs.declared.operation.Operation.TheVariants.{Creat, Mkdir, Unlink, Rmdir, Rename, Write, Truncate, Sync}
+use Rattle.cs_trace.specs.declared.operation.Rights.{Rights}
+use Rattle.cs_trace.specs.declared.operation.Target.TheVariants as targets
+use Rattle.cs_trace.specs.declared.operation.Operation.TheVariants.{Creat, Mkdir, Unlink, Rmdir, Rename, Write, Truncate, SetAttr, Sync}
 use Rattle.cs_trace.specs.declared.operation.Operation.TheVariants as operations
 use Rattle.cs_micro.specs.Blocks.{block_write, block_writes, touched_blocks}
-use Rattle.cs_micro.specs.MicroOperations.{grown, micro_operations_of, micros_of}
+use Rattle.cs_micro.specs.MicroOperations.{grown, micro_operations_of, micros_of, same_rights}
 use Rattle.cs_micro.specs.Micros.{micros_in}
 use Rattle.cs_micro.specs.declared.micro_op.MicroOp.{MicroOp}
-use Rattle.cs_micro.specs.declared.micro_op.MicroOp.TheVariants.{CreateDirEntry, DeleteDirEntry, MoveDirEntry, ChangeFileSize, WriteBlock, Say}
+use Rattle.cs_micro.specs.declared.micro_op.MicroOp.TheVariants.{CreateDirEntry, DeleteDirEntry, MoveDirEntry, ChangeFileSize, Say}
+use Rattle.cs_micro.specs.declared.micro_op.MicroOp.TheVariants as micro
 use Rattle.cs_apm.specs.Rules.{op_at}
 use Rattle.cs_apm.specs.Laws.Members.{members_run, run}
 use Rattle.cs_apm.specs.Sets.{IsAllowed, is_member}
-use Rattle.cs_apm.specs.States.{Entries, Entry, State, after, crash_state_of, created, entries_after, entry_made, owners_of, record_of, start_entry, start_state, state_of}
+use Rattle.cs_apm.specs.States.{Entries, Entry, State, after, crash_state_of, entries_after, entry_made, owned, record_of, start_entry, start_state, state_of, with_created}
 use Rattle.cs_apm.specs.States as states
 use Rattle.cs_plan.specs.Scenes.{IsNew}
 use Rattle.cs_plan.proofs.Counting.{count_push, first_more}
@@ -76,13 +79,20 @@ moved_most m p q (Some x) e =
     let more = insert_most (remove m p) q x in
     subst (λ n. len n ≤ len m) (sym same) (omega (arith, less, more))
 
+-- where a directory stands there are as many with other rights
+owned_most : (m : Entries) (p : Path) (rights : Rights) (o : Option Entry) → get m p ≡ o → len (owned m p rights o) ≤ len m
+owned_most m p rights (Some (states.Directory old)) there =
+    let same : len (insert m p (states.Directory rights)) ≡ len m = len-insert path_total m p (states.Directory rights) ∙ ap (λ o. cond (is_some o) (len m) (len m + 1)) there in
+    omega (arith, same)
+owned_most m p rights (Some (states.File file)) there = omega arith
+owned_most m p rights None there = omega arith
+
 one_more : (m : Entries) (o : MicroOp) → len (entries_after m o) ≤ len m + cond (makes o) 1 0
 one_more m (CreateDirEntry p node rights) = insert_most m p (entry_made node rights)
 one_more m (DeleteDirEntry p kind) = (let h = remove_most m p in omega (arith, h))
 one_more m (MoveDirEntry p q) = (let h = moved_most m p q (get m p) refl in omega (arith, h))
-one_more m (ChangeFileSize file size) = omega arith
-one_more m (WriteBlock file block at bytes) = omega arith
-one_more m Say = omega arith
+one_more m (micro.SetAttr (targets.Directory p) rights) = (let h = owned_most m p rights (get m p) refl in omega (arith, h))
+one_more m _ = omega arith
 
 -- ---- those of a set
 
@@ -139,22 +149,19 @@ written_make false file size offset bytes =
     sum_by-append (λ o. cond (makes o) 1 0) (grown file size (offset + length bytes)) (block_writes file offset bytes)
     ∙ omega (arith, grown_make (nat_lt size (offset + length bytes)) file (offset + length bytes), blocks_make file offset bytes)
 
+unless_makes : (b : Bool) (o : MicroOp) → makes o ≡ false → count_by makes (cond b [] (o ∷ [])) ≡ 0
+unless_makes true o none = refl
+unless_makes false o none = sum_by-cons (λ o. cond (makes o) 1 0) o [] ∙ ap (λ b. cond b 1 0 + count_by makes []) none
+
 made_of : (o : Operation) → count_by makes (micros_of o) ≡ made_by o
 made_of (Creat p file rights) = refl
 made_of (Mkdir p rights) = refl
 made_of (Unlink p) = refl
 made_of (Rmdir p) = refl
-made_of (Rename p q) = move_makes (path_eq p q)
-  where
-    move_makes : (b : Bool) → count_by makes (cond b [] (MoveDirEntry p q ∷ [])) ≡ 0
-    move_makes true = refl
-    move_makes false = refl
+made_of (Rename p q) = unless_makes (path_eq p q) (MoveDirEntry p q) refl
 made_of (Write file size offset bytes) = written_make (nat_eq (length bytes) 0) file size offset bytes
-made_of (Truncate file size to) = cut_makes (nat_eq size to)
-  where
-    cut_makes : (b : Bool) → count_by makes (cond b [] (ChangeFileSize file to ∷ [])) ≡ 0
-    cut_makes true = refl
-    cut_makes false = refl
+made_of (Truncate file size to) = unless_makes (nat_eq size to) (ChangeFileSize file to) refl
+made_of (SetAttr target before after) = unless_makes (same_rights before after) (micro.SetAttr target after) refl
 made_of (Sync covers) = refl
 made_of operations.Say = refl
 
@@ -194,7 +201,7 @@ paths_most : (t : Trace) (needs : ℕ → ℕ → Bool) (places : List ℕ) → 
 unfolding state_of
 paths_most t needs places allowed =
     let ops = (micros_in t).ops in
-    let start = record (start_state t) { files = (start_state t).files ++ created ops } in
+    let start = with_created (start_state t) ops in
     let same : (fold after start (map (op_at ops) places)).paths ≡ (run after (is_member places) start ops (length ops)).paths
     = ap (λ s. s.paths) (members_run after start ops (length ops) places allowed.ascending allowed.in_range) in
     let most = run_most (is_member places) start ops (length ops) in
@@ -215,8 +222,9 @@ never_changed m p r (Some x) some there = ap (λ r. r.vers) (some_same (sym ther
 -- the tree of an allowed set has no more records than the trace ever makes, none of which was changed
 pub state_is_new : (t : Trace) (needs : ℕ → ℕ → Bool) (places : List ℕ) → records_made t ≤ TREE_RECORDS → IsAllowed needs (length (micros_in t).ops) places → IsNew (crash_state_of t (micros_in t) places)
 state_is_new t needs places few allowed =
-    let f = record_of (owners_of t (micros_in t).ops) (state_of (start_state t) (micros_in t).ops places).files in
-    let paths = (state_of (start_state t) (micros_in t).ops places).paths in
+    let left = state_of (start_state t) (micros_in t).ops places in
+    let f = record_of left.owners left.files in
+    let paths = left.paths in
     let most = paths_most t needs places allowed in
     let next_is = next-fresh (map_values f paths) in
     let same = len_map_values f paths in

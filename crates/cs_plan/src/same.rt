@@ -3,7 +3,7 @@ ghost use Rattle.std.specs.Prelude.{◌≡◌, ◌↔◌, IsTrue};
 
 use crate::recipe::Recipe;
 use cs_names::Path;
-use cs_trace::{Node, Operation, Trace};
+use cs_trace::{Node, Operation, Profile, Trace};
 use cs_tree_model::Record;
 
 pub fn are_same_recipes(recipes: &[Recipe], others: &[Recipe]) -> bool
@@ -36,10 +36,19 @@ fn are_same_paths(paths: &[Path], others: &[Path]) -> bool
     paths == others
 }
 
-/// Whether two traces have the same start and the same operations. It takes no memory.
+fn are_same_profiles(profile: Profile, other: Profile) -> bool
+    ensures { IsTrue result ↔ (profile ≡ other) }
+{
+    profile == other
+}
+
+/// Whether two traces have the same start, the same operations and the same profile. It takes no memory.
 pub fn is_same_trace(trace: &Trace, other: &Trace) -> bool
     ensures { IsTrue result ↔ (trace.now ≡ other.now) }
 {
+    if !are_same_profiles(trace.profile(), other.profile()) {
+        return false;
+    }
     if !are_same_operations(trace.operations(), other.operations()) {
         return false;
     }

@@ -2,6 +2,7 @@
 
 mod answers;
 mod asks;
+mod audits;
 mod directories;
 mod files;
 mod journals;

@@ -1,2 +1,4 @@
 pub mod Trees
 pub mod Firsts
+pub mod Tables
+pub mod Parts

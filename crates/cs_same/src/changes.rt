@@ -1,6 +1,7 @@
 //! Which micro-operations change each file of a trace, and in which blocks.
+use crate::mixing::{digest_of_record, digest_of_rights};
 use cs_micro::{BLOCK_BYTES, MicroOp};
-use cs_trace::{Node, Trace};
+use cs_trace::{Node, Target, Trace};
 use cs_tree_model::{Content, Kind};
 use std::alloc::{AllocError, Global};
 
@@ -11,11 +12,15 @@ pub enum Change {
     Size(u64),
     /// It is written into the block at this place among those that are read.
     Write(usize),
+    /// Owner, group and permissions, which have this digest, are set.
+    Rights(u64),
 }
 
 /// A file, with what the micro-operations do to it.
 #[derive(Debug, Drop)]
 pub struct File {
+    /// The digest of its owner, group and permissions at first.
+    pub rights: u64,
     /// How many bytes it has at first.
     pub length: u64,
     /// The place of each micro-operation that changes it, and what it does.
@@ -44,10 +49,11 @@ pub fn blocks_of(alloc: Global, ops: &[MicroOp]) -> Result<Vec<u64>, AllocError>
     Ok(blocks)
 }
 
-/// Adds a file with so many bytes.
-fn push_file(alloc: Global, files: &mut Vec<File>, length: u64) -> Result<(), AllocError> {
+/// Adds a file without a byte, whose rights have this digest.
+fn push_file(alloc: Global, files: &mut Vec<File>, rights: u64) -> Result<(), AllocError> {
     files.push(File {
-        length,
+        rights,
+        length: 0,
         changes: Vec::new(alloc),
     })?;
     Ok(())
@@ -64,9 +70,14 @@ fn push_change(
     let (file, change) = match op {
         MicroOp::CreateDirEntry {
             node: Node::File(_),
+            rights,
             ..
-        } => return push_file(alloc, files, 0),
+        } => return push_file(alloc, files, digest_of_rights(rights)),
         MicroOp::ChangeFileSize { file, length } => (*file, Change::Size(*length)),
+        MicroOp::SetAttr {
+            target: Target::File(file),
+            rights,
+        } => (*file, Change::Rights(digest_of_rights(rights))),
         MicroOp::WriteBlock { file, block, .. } => {
             let Some(at) = blocks.iter().position(|other| *other == *block) else {
                 return Ok(());
@@ -98,6 +109,7 @@ fn start_files(alloc: Global, trace: &Trace) -> Result<Vec<File>, AllocError> {
         if let Node::File(number) = node {
             if let Some(file) = files.get_mut(*number as usize) {
                 file.length = length_of(&record.content);
+                file.rights = digest_of_record(record);
             }
         }
     }

@@ -1,4 +1,4 @@
-//! Digests of what is in the files of a state. They read no more of a file than the blocks that some
+//! Digests of the files of a state: what is in them, and their rights. They read no more of a file than the blocks that some
 //! micro-operation writes into, or ends a file in.
 use crate::changes::{Change, File, blocks_of, files_of};
 use crate::mixing::{digest_of, mixed};
@@ -23,6 +23,8 @@ struct Version {
 /// A file as it is in a state.
 #[derive(Debug, Drop)]
 struct Left {
+    /// The digest of owner, group and permissions.
+    rights: u64,
     length: u64,
     size: Option<u32>,
     /// The last micro-operation that writes into each of the blocks that are read.
@@ -55,6 +57,7 @@ fn left_of(
     blocks: usize,
 ) -> Result<Left, AllocError> {
     let mut left = Left {
+        rights: file.rights,
         length: file.length,
         size: None,
         writes: vec![in alloc; None; blocks]?,
@@ -71,6 +74,7 @@ impl Left {
     /// Takes what a micro-operation does.
     fn take(&mut self, place: u32, change: Change) {
         match change {
+            Change::Rights(rights) => self.rights = rights,
             Change::Size(length) => {
                 self.length = length;
                 self.size = Some(place);
@@ -127,7 +131,7 @@ impl Contents {
         Ok(digest)
     }
 
-    /// The digest of what is in a file of the state that has these members.
+    /// The digest of what is in a file of the state that has these members, and of its rights.
     pub fn digest(
         &mut self,
         alloc: Global,
@@ -138,7 +142,7 @@ impl Contents {
             return Ok(0);
         };
         let left = left_of(alloc, file, members, self.blocks.len())?;
-        let mut digest = left.length;
+        let mut digest = mixed(left.rights, left.length);
         for (at, write) in left.writes.iter().enumerate() {
             let block = self.blocks.get(at).copied().unwrap_or(0);
             if block <= left.length / BLOCK_BYTES {

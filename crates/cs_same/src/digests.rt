@@ -37,14 +37,14 @@ impl Digests {
             let part = match *entry {
                 Entry::Nothing => 0,
                 Entry::Directory { rights } => mixed(1, rights),
-                Entry::File { file, rights } => {
+                Entry::File { file } => {
                     let standing = Standing {
                         scene,
                         number,
                         path,
                         file,
                     };
-                    mixed(rights, self.contents.digest(alloc, standing, members)?)
+                    mixed(2, self.contents.digest(alloc, standing, members)?)
                 }
             };
             digest = mixed(digest, part);

@@ -1,18 +1,18 @@
 //! What stands at the paths at which the states of a trace differ.
-use crate::mixing::digest_of_rights;
+use crate::mixing::{digest_of_record, digest_of_rights};
 use crate::places::Places;
 use cs_micro::MicroOp;
 use cs_names::Path;
 use cs_plan::Scene;
-use cs_trace::{Node, Trace};
+use cs_trace::{Node, Target, Trace};
 use std::alloc::{AllocError, Global};
 
-/// What stands at a path. Owner, group and permissions are told by their digest.
+/// What stands at a path. A directory's owner, group and permissions are told by their digest.
 #[derive(Clone, Copy, Debug)]
 pub enum Entry {
     Nothing,
     Directory { rights: u64 },
-    File { file: u32, rights: u64 },
+    File { file: u32 },
 }
 
 /// What stands at a path after a micro-operation that touches it. It is the same in each state that has
@@ -24,7 +24,7 @@ struct Effect {
     entry: Entry,
 }
 
-/// What stands at the paths that an operation touches, or whose files one changes.
+/// What stands at the paths that an operation touches, or whose files or directories one changes.
 #[derive(Debug, Drop)]
 pub struct Entries {
     paths: Vec<Path>,
@@ -33,11 +33,11 @@ pub struct Entries {
 }
 
 impl Entry {
-    /// What a node is, with the digest of its rights.
+    /// What a node is, with the digest of its rights if it is a directory.
     fn of(node: Node, rights: u64) -> Entry {
         match node {
             Node::Directory => Entry::Directory { rights },
-            Node::File(file) => Entry::File { file, rights },
+            Node::File(file) => Entry::File { file },
         }
     }
 }
@@ -88,7 +88,7 @@ fn start_of(alloc: Global, trace: &Trace, places: &Places) -> Result<Vec<Entry>,
     let mut start = vec![in alloc; Entry::Nothing; places.paths.len()]?;
     for ((path, record), node) in trace.records().iter().zip(trace.nodes()) {
         if let Some(place) = places.by_path.get(path) {
-            let rights = digest_of_rights(&record.owner, &record.group, record.mode);
+            let rights = digest_of_record(record);
             put(&mut start, *place, Entry::of(*node, rights));
         }
     }
@@ -133,9 +133,8 @@ fn push_effects(
 ) -> Result<(), AllocError> {
     match op {
         MicroOp::CreateDirEntry { path, node, rights } => {
-            let permissions = u32::from(rights.permissions);
-            let digest = digest_of_rights(&rights.owner, &rights.group, permissions);
-            push_effect(places, now, effects, place, path, Entry::of(*node, digest))
+            let entry = Entry::of(*node, digest_of_rights(rights));
+            push_effect(places, now, effects, place, path, entry)
         }
         MicroOp::DeleteDirEntry { path, .. } => {
             push_effect(places, now, effects, place, path, Entry::Nothing)
@@ -144,6 +143,14 @@ fn push_effects(
             let moved = standing(places, now, from);
             push_effect(places, now, effects, place, from, Entry::Nothing)?;
             push_effect(places, now, effects, place, to, moved)
+        }
+        MicroOp::SetAttr {
+            target: Target::Directory(path),
+            rights,
+        } => {
+            let rights = digest_of_rights(rights);
+            let entry = Entry::Directory { rights };
+            push_effect(places, now, effects, place, path, entry)
         }
         _ => Ok(()),
     }

@@ -5,10 +5,14 @@ mod changes;
 mod contents;
 mod digests;
 mod entries;
+mod leaving;
 mod members;
 pub mod metadata;
 mod mixing;
+mod parts;
 mod places;
+mod shown;
+mod sizes;
 pub mod states;
 #[cfg(test)]
 mod tests;

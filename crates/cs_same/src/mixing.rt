@@ -1,5 +1,7 @@
 //! Digests: numbers that are equal for equal things, and seldom for others.
 use cs_names::UserName;
+use cs_trace::Rights;
+use cs_tree_model::Record;
 
 /// The digest of what has this digest with one part more.
 pub fn mixed(digest: u64, part: u64) -> u64 {
@@ -17,8 +19,17 @@ pub fn digest_of(bytes: &[u8]) -> u64 {
     digest
 }
 
-/// The digest of an owner, a group and permissions.
-pub fn digest_of_rights(owner: &UserName, group: &UserName, mode: u32) -> u64 {
+fn digest_of_parts(owner: &UserName, group: &UserName, mode: u32) -> u64 {
     let users = mixed(digest_of(owner.as_bytes()), digest_of(group.as_bytes()));
     mixed(users, u64::from(mode % 512))
+}
+
+/// The digest of an owner, a group and permissions.
+pub fn digest_of_rights(rights: &Rights) -> u64 {
+    digest_of_parts(&rights.owner, &rights.group, u32::from(rights.permissions))
+}
+
+/// The digest of those of a record.
+pub fn digest_of_record(record: &Record) -> u64 {
+    digest_of_parts(&record.owner, &record.group, record.mode)
 }

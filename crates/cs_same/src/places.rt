@@ -1,10 +1,12 @@
 //! The paths at which the states of a trace may differ.
 use cs_micro::MicroOp;
 use cs_names::Path;
+use cs_trace::Target;
 use std::alloc::{AllocError, Global};
 use std::collections::BTreeMap;
 
-/// The paths that some micro-operation touches, and those of the start's files that one changes.
+/// The paths that some micro-operation touches, those of the directories whose rights one sets, and those
+/// of the start's files that one changes.
 #[derive(Debug, Drop)]
 pub struct Places {
     pub paths: Vec<Path>,
@@ -30,8 +32,8 @@ impl Places {
         Ok(())
     }
 
-    /// Adds the paths of a micro-operation: those that it touches, or that of a file which stands at the
-    /// start at one of these.
+    /// Adds the paths of a micro-operation: those that it touches, or that of the directory or of the start's
+    /// file that it changes.
     pub fn add_touched(
         &mut self,
         alloc: Global,
@@ -46,7 +48,16 @@ impl Places {
                 self.add(alloc, from)?;
                 self.add(alloc, to)
             }
-            MicroOp::ChangeFileSize { file, .. } | MicroOp::WriteBlock { file, .. } => {
+            MicroOp::SetAttr {
+                target: Target::Directory(path),
+                ..
+            } => self.add(alloc, path),
+            MicroOp::ChangeFileSize { file, .. }
+            | MicroOp::WriteBlock { file, .. }
+            | MicroOp::SetAttr {
+                target: Target::File(file),
+                ..
+            } => {
                 match files.get(*file as usize) {
                     Some(path) => self.add(alloc, path),
                     None => Ok(()),

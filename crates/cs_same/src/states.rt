@@ -3,9 +3,12 @@ ghost use Rattle.std.specs.Prelude.{◌≡◌, ◌<◌, ◌≤◌, ◌↔◌, �
 ghost use Rattle.std.specs.Arc.{arc_value};
 ghost use Rattle.cs_plan.specs.Scenes.{state_at};
 ghost use Rattle.cs_same.specs.Firsts.{AreFirsts, IsSame};
+ghost use Rattle.cs_same.specs.Parts.{AreParts};
 
 use crate::digests::Digests;
-use crate::members::members_of;
+use crate::leaving::are_seen_equal;
+use crate::members::{members_of, places_at};
+use crate::parts::Parts;
 use crate::trees::are_same_trees;
 use cs_plan::Scene;
 use std::alloc::{AllocError, Global};
@@ -32,18 +35,57 @@ pub fn are_same_states(
     are_same_trees(alloc, made.store(), others.store())
 }
 
+/// Whether the states of two numbers are seen to have equal trees. None is made for this.
+pub(crate) fn are_seen_same(
+    alloc: Global,
+    scene: &Arc<Scene>,
+    parts: &Parts,
+    number: u32,
+    other: u32,
+) -> Result<bool, AllocError>
+    requires parts { AreParts (arc_value scene.now).trace parts.now }
+    requires first { number < length (arc_value scene.now).plan }
+    requires second { other < length (arc_value scene.now).plan }
+    ensures { IfOk result (λ same. IsTrue same → state_at (arc_value scene.now) number ≡ state_at (arc_value scene.now) other) }
+{
+    let places = places_at(alloc, scene, number)?;
+    let others = places_at(alloc, scene, other)?;
+    are_seen_equal(alloc, scene, parts, &places, &others)
+}
+
+/// Whether the states of two numbers have equal trees. They are made only where it can't be seen without.
+fn are_equal(
+    alloc: Global,
+    scene: &Arc<Scene>,
+    parts: &Parts,
+    number: u32,
+    other: u32,
+) -> Result<bool, AllocError>
+    requires parts { AreParts (arc_value scene.now).trace parts.now }
+    requires first { number < length (arc_value scene.now).plan }
+    requires second { other < length (arc_value scene.now).plan }
+    ensures { IfOk result (λ same. IsTrue same ↔ (state_at (arc_value scene.now) number ≡ state_at (arc_value scene.now) other)) }
+{
+    if are_seen_same(alloc, scene, parts, number, other)? {
+        return Ok(true);
+    }
+    are_same_states(alloc, scene, number, other)
+}
+
 /// The first of these numbers whose state has the tree of this one's.
 fn first_among(
     alloc: Global,
     scene: &Arc<Scene>,
+    parts: &Parts,
     numbers: &[u32],
     number: u32,
 ) -> Result<Option<u32>, AllocError>
-    requires { number < length (arc_value scene.now).plan }
+    requires parts { AreParts (arc_value scene.now).trace parts.now }
+    requires there { number < length (arc_value scene.now).plan }
     ensures { IfOk result (λ first. IfSome first (IsSame (arc_value scene.now) number)) }
 {
     for other in numbers {
-        if *other < number && are_same_states(alloc, scene, *other, number)? {
+        if *other < number && are_equal(alloc, scene, parts, *other, number)? {
             return Ok(Some(*other));
         }
     }
@@ -55,22 +97,38 @@ fn first_among(
 fn first_of(
     alloc: Global,
     scene: &Arc<Scene>,
+    parts: &Parts,
     found: &mut BTreeMap<u64, Vec<u32>>,
     digest: u64,
     number: u32,
 ) -> Result<u32, AllocError>
-    requires { number < length (arc_value scene.now).plan }
+    requires parts { AreParts (arc_value scene.now).trace parts.now }
+    requires there { number < length (arc_value scene.now).plan }
     ensures { IfOk result (IsSame (arc_value scene.now) number) }
 {
     let Some(numbers) = found.get_mut(&digest) else {
         found.insert(digest, vec![in alloc; number]?)?;
         return Ok(number);
     };
-    if let Some(first) = first_among(alloc, scene, numbers, number)? {
+    if let Some(first) = first_among(alloc, scene, parts, numbers, number)? {
         return Ok(first);
     }
     numbers.push(number)?;
     Ok(number)
+}
+
+/// The digest of the state of that number.
+fn digest_at(
+    alloc: Global,
+    scene: &Arc<Scene>,
+    digests: &mut Digests,
+    number: u32,
+) -> Result<u64, AllocError>
+    requires { number < length (arc_value scene.now).plan }
+{
+    let places = places_at(alloc, scene, number)?;
+    let members = members_of(alloc, scene.order().len(), &places)?;
+    digests.digest(alloc, scene, number, &members)
 }
 
 /// For each state of the plan, by its number, the first one with an equal tree: its own number, if none
@@ -79,14 +137,14 @@ fn first_of(
 pub fn first_same(alloc: Global, scene: &Arc<Scene>) -> Result<Vec<u32>, AllocError>
     ensures { IfOk result (λ firsts. AreFirsts (arc_value scene.now) firsts.items) }
 {
+    let parts = Parts::of(alloc, scene)?;
     let mut digests = Digests::of(alloc, scene)?;
     let mut found = BTreeMap::new(alloc);
     let mut firsts = Vec::new(alloc);
-    for (place, recipe) in scene.plan().recipes().iter().enumerate() {
+    for place in 0..scene.plan().len() {
         let number = place as u32;
-        let members = members_of(alloc, scene.order(), recipe)?;
-        let digest = digests.digest(alloc, scene, number, &members)?;
-        firsts.push(first_of(alloc, scene, &mut found, digest, number)?)?;
+        let digest = digest_at(alloc, scene, &mut digests, number)?;
+        firsts.push(first_of(alloc, scene, &parts, &mut found, digest, number)?)?;
     }
     Ok(firsts)
 }

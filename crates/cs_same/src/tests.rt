@@ -2,6 +2,8 @@
 ghost use Rattle.std.specs.Prelude.{◌<◌, length};
 ghost use Rattle.std.specs.Arc.{arc_value};
 
+use crate::parts::Parts;
+use crate::states::are_seen_same;
 use crate::{are_same_states, first_same};
 use cs_plan::Scene;
 use cs_trace::read_trace;
@@ -47,6 +49,17 @@ fn first_by_trees(alloc: Global, scene: &Arc<Scene>, number: u32) -> Result<u32,
     Ok(number)
 }
 
+/// Whether the state is seen to have the tree of another, if that is there.
+fn is_seen(alloc: Global, scene: &Arc<Scene>, other: u32, number: u32) -> Result<bool, AllocError>
+    requires { number < length (arc_value scene.now).plan }
+{
+    if other as usize >= scene.plan().len() {
+        return Ok(false);
+    }
+    let parts = Parts::of(alloc, scene)?;
+    are_seen_same(alloc, scene, &parts, other, number)
+}
+
 /// Its states, with holes.
 fn store(rt: &impl Abort, alloc: Global) -> Arc<Scene> {
     let trace = read_trace(alloc, STORE).expect(rt, "a trace");
@@ -59,6 +72,16 @@ fn finds_the_first_states_with_equal_trees(rt: HostRuntime) -> Result<(), Fail> 
     let scene = store(&rt, rt.alloc());
     let firsts = first_same(rt.alloc(), &scene)?;
     assert_eq!(rt; firsts.as_slice(), FIRSTS.as_slice());
+    Ok(())
+}
+
+#[test]
+fn equal_states_are_seen_without_their_trees(rt: HostRuntime) -> Result<(), Fail> {
+    let scene = store(&rt, rt.alloc());
+    for number in 0..scene.plan().len() as u32 {
+        let first = FIRSTS.get(number as usize).copied().unwrap_or(0);
+        assert!(rt; is_seen(rt.alloc(), &scene, first, number)?);
+    }
     Ok(())
 }
 

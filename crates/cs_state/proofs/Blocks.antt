@@ -10,7 +10,7 @@ use Rattle.std.specs.Option.{option_map_or}
 use Rattle.std.specs.Prelude.{fold, slice_get, IsSome}
 use Rattle.cs_micro.specs.declared.blocks.TheConstants.{BLOCK_BYTES}
 use Rattle.cs_micro.specs.declared.micro_op.MicroOp.{MicroOp}
-use Rattle.cs_micro.specs.declared.micro_op.MicroOp.TheVariants.{CreateDirEntry, DeleteDirEntry, MoveDirEntry, ChangeFileSize, WriteBlock, Say}
+use Rattle.cs_micro.specs.declared.micro_op.MicroOp.TheVariants.{ChangeFileSize, WriteBlock}
 use Rattle.cs_apm.specs.Contents.{changes, content_after, content_left}
 use Rattle.cs_apm.specs.Rules.{op_at}
 use Rattle.cs_apm.specs.States.{Content, overwritten, resized}
@@ -103,10 +103,7 @@ module _ (n size : ℕ) (ops : List MicroOp) where
           by false b is there = refl
           by true false is there = refl
           by true true is there = absurd (false≢true (subst IsSome (ap rows (eqb-true other block is) ∙ none) (there refl)))
-      one_unwritten block s none (CreateDirEntry p node rights) there = refl
-      one_unwritten block s none (DeleteDirEntry p kind) there = refl
-      one_unwritten block s none (MoveDirEntry p q) there = refl
-      one_unwritten block s none Say there = refl
+      one_unwritten block s none _ there = refl
 
       unwritten : (block : ℕ) → rows block ≡ None → ids (touches n size ops None) (length ops) ≡ ids (touches n size ops (Some block)) (length ops)
       unwritten block none = ids_same (touches n size ops None) (touches n size ops (Some block)) (length ops)
@@ -176,20 +173,13 @@ module _ (n block i : ℕ) (from : block * BLOCK_BYTES ≤ i) (end : i < block *
     one_step : (o : MicroOp) → IsFitting o → (resizes n o ≡ true → f.size ≡ size) → byte_of (cond (changes n o && reaches (Some block) size o) (struck g o) g) i ≡ byte_of (content_after n f o) i
     one_step (ChangeFileSize file to) fits sized = cut_one file to (file == n) sized
     one_step (WriteBlock file other at piece) fits sized = write_one file other at piece (file == n) fits
-    one_step (CreateDirEntry p node rights) fits sized = same
-    one_step (DeleteDirEntry p kind) fits sized = same
-    one_step (MoveDirEntry p q) fits sized = same
-    one_step Say fits sized = same
+    one_step _ fits sized = same
 
 -- ---- one after the other
 
-unresized : (n s : ℕ) (o : MicroOp) → resizes n o ≡ false → size_after n s o ≡ s
+pub unresized : (n s : ℕ) (o : MicroOp) → resizes n o ≡ false → size_after n s o ≡ s
 unresized n s (ChangeFileSize file to) is = ap (λ b. cond b to s) is
-unresized n s (WriteBlock file block at bytes) is = refl
-unresized n s (CreateDirEntry p node rights) is = refl
-unresized n s (DeleteDirEntry p kind) is = refl
-unresized n s (MoveDirEntry p q) is = refl
-unresized n s Say is = refl
+unresized n s _ is = refl
 
 module _ (n : ℕ) (start : Content) (ops : List MicroOp) (members : List Bool) where
   abbrev left : ℕ → Content
@@ -242,44 +232,3 @@ module _ (n : ℕ) (start : Content) (ops : List MicroOp) (members : List Bool) 
     pub agree : AgreeIn block (struck_by ops members start (ids (touches n start.size ops (Some block)) count)) (content_left n start ops (ids (mark_at members) count))
     unfolding content_left
     agree i from end = agree_at i from end count (omega arith) ∙ sym (ap (λ f. byte_of f i) (fold_map (content_after n) (op_at ops) start (ids (mark_at members) count)))
-
--- ---- the size alone
-
-module _ (n size : ℕ) (ops : List MicroOp) (has : ℕ → Bool) where
-  abbrev sized : ℕ → ℕ
-  sized k = fold (λ s j. size_after n s (op_at ops j)) size (ids has k)
-
-  sized_more : (k : ℕ) → sized (suc k) ≡ cond (has k) (size_after n (sized k) (op_at ops k)) (sized k)
-  sized_more k = fold_ids (λ s j. size_after n s (op_at ops j)) size has k
-
-  -- what is no member, or changes no size, leaves it
-  sized_kept : (k : ℕ) → (resizes n (op_at ops k) ≡ true → has k ≡ false) → sized (suc k) ≡ sized k
-  sized_kept k none = sized_more k ∙ ⊎_elim
-      (λ (yes : resizes n (op_at ops k) ≡ true). ap (λ b. cond b (size_after n (sized k) (op_at ops k)) (sized k)) (none yes))
-      (λ (not : resizes n (op_at ops k) ≡ false). by (has k) (unresized n (sized k) (op_at ops k) not))
-      (cases_Bool (resizes n (op_at ops k)))
-    where
-      by : (b : Bool) → size_after n (sized k) (op_at ops k) ≡ sized k → cond b (size_after n (sized k) (op_at ops k)) (sized k) ≡ sized k
-      by true same = same
-      by false same = refl
-
-  pub none_sized : (k : ℕ) → ((j : ℕ) → j < k → resizes n (op_at ops j) ≡ true → has j ≡ false) → sized k ≡ size
-  none_sized zero none = refl
-  none_sized (suc k) none = sized_kept k (none k (omega arith)) ∙ none_sized k (λ j low. none j (omega (arith, low)))
-
-  pub last_sized : (k p : ℕ) → p < k → has p ≡ true → resizes n (op_at ops p) ≡ true → ((j : ℕ) → p < j → j < k → resizes n (op_at ops j) ≡ true → has j ≡ false) → sized k ≡ size_after n size (op_at ops p)
-  last_sized zero p low here is none = absurd (omega (arith, low))
-  last_sized (suc k) p low here is none = ⊎_elim
-      (λ (same : p ≡ k).
-      sized_more k ∙ subst (λ j. cond (has j) (size_after n (sized k) (op_at ops j)) (sized k) ≡ size_after n size (op_at ops p)) same
-      (ap (λ b. cond b (size_after n (sized k) (op_at ops p)) (sized k)) here ∙ any_size (op_at ops p) is))
-      (λ (other : p ≢ k). sized_kept k (none k (omega (arith, low, other)) (omega arith)) ∙ last_sized k p (omega (arith, low, other)) here is (λ j after less. none j after (omega (arith, less))))
-      (cases_eq p k)
-    where
-      any_size : (o : MicroOp) → resizes n o ≡ true → size_after n (sized k) o ≡ size_after n size o
-      any_size (ChangeFileSize file to) is = ap (λ b. cond b to (sized k)) is ∙ sym (ap (λ b. cond b to size) is)
-      any_size (WriteBlock file block at bytes) is = absurd (false≢true is)
-      any_size (CreateDirEntry p node rights) is = absurd (false≢true is)
-      any_size (DeleteDirEntry p kind) is = absurd (false≢true is)
-      any_size (MoveDirEntry p q) is = absurd (false≢true is)
-      any_size Say is = absurd (false≢true is)

@@ -11,9 +11,10 @@ use Rattle.cs_tree_model.specs.Effects.{entry_after}
 use Rattle.cs_tree_model.specs.Nexts.{next_name}
 use Rattle.cs_tree_model.specs.Record.{metadata_of}
 use Rattle.cs_tree_model.specs.Tree.{IsTree, NameBytes, Path, Tree, bytes_at, last_name, name_numbered, number_at, number_in, parent_numbered, parent_path, path_numbered, record_numbered}
-use Rattle.cs_apm.specs.Atlases.{IsAtlas, atlas_in, files_left}
+use Rattle.cs_trace.specs.declared.operation.Rights.{Rights}
+use Rattle.cs_apm.specs.Atlases.{IsAtlas, atlas_in, files_left, owners_left}
 use Rattle.cs_apm.specs.Slots.{IsKnown, entry_of, slot_at}
-use Rattle.cs_apm.specs.States.{Content, owners_of, record_of}
+use Rattle.cs_apm.specs.States.{Content, record_of}
 use Rattle.cs_apm.specs.declared.slot.Slot.{Slot}
 use Rattle.cs_apm.proofs.Building.{is_tree_left, known_left, tree_left}
 use Rattle.cs_state.specs.declared.parts.Parts.{Parts}
@@ -65,14 +66,20 @@ module _ (s : State) (is_made : IsMade s) where
   abbrev before : List Content
   before = files_left parts.trace parts.micros.ops []
 
+  abbrev owners : List Rights
+  owners = owners_left parts.trace parts.micros.ops places
+
+  abbrev owners_before : List Rights
+  owners_before = owners_left parts.trace parts.micros.ops []
+
   slots_long : length (slots_in s) ≡ length parts.tables.paths.items
   slots_long = long parts places s.own.items h
 
   abbrev made : Tree
-  made = state parts.tables.rights.items (owners_of parts.trace parts.micros.ops) files before parts.tables.paths.items atlas.ascending (slots_in s) slots_long
+  made = state parts.tables.rights.items owners owners_before files before parts.tables.paths.items atlas.ascending (slots_in s) slots_long
 
   abbrev named : Tree
-  named = names parts.tables.rights.items (owners_of parts.trace parts.micros.ops) files before parts.tables.paths.items atlas.ascending (slots_in s) slots_long
+  named = names parts.tables.rights.items owners owners_before files before parts.tables.paths.items atlas.ascending (slots_in s) slots_long
 
   view : made ≡ tree_in s
   view = tree_left parts.trace parts.micros (atlas_in parts.tables) atlas places h.allowed
@@ -84,7 +91,7 @@ module _ (s : State) (is_made : IsMade s) where
   made_tree = subst IsTree (sym view) is_tree
 
   named_tree : IsTree named
-  named_tree = fresh_is_tree _ (names_nested parts.trace parts.micros.ops (atlas_in parts.tables) atlas (owners_of parts.trace parts.micros.ops) before)
+  named_tree = fresh_is_tree _ (names_nested parts.trace parts.micros.ops (atlas_in parts.tables) atlas owners_before before)
 
   same_names : named ≡ all_names
   same_names = sym h.whole.shares.names
@@ -92,25 +99,25 @@ module _ (s : State) (is_made : IsMade s) where
   pub count_is : count_in parts places ≡ len (tree_in s).files
   count_is =
       ap (standing (slots_in s)) (sym (same_long parts places s.own.items h))
-      ∙ sym (count parts.tables.rights.items (owners_of parts.trace parts.micros.ops) files parts.tables.paths.items atlas.ascending (slots_in s) slots_long)
+      ∙ sym (count parts.tables.rights.items owners files parts.tables.paths.items atlas.ascending (slots_in s) slots_long)
       ∙ ap (λ t. len t.files) view
 
   pub next_is : (tree_in s).next ≡ count_in parts places
   next_is =
       ap (λ (t : Tree). t.next) (sym view)
-      ∙ next parts.tables.rights.items (owners_of parts.trace parts.micros.ops) files parts.tables.paths.items atlas.ascending (slots_in s) slots_long
+      ∙ next parts.tables.rights.items owners files parts.tables.paths.items atlas.ascending (slots_in s) slots_long
       ∙ ap (standing (slots_in s)) (same_long parts places s.own.items h)
 
   numbers_are : (p : Path) → number_at (tree_in s) p ≡ option_and_then (place_of (slots_in s)) (number_at all_names p)
   numbers_are p =
       ap (λ t. number_at t p) (sym view)
-      ∙ number_both parts.tables.rights.items (owners_of parts.trace parts.micros.ops) files before parts.tables.paths.items atlas.ascending (slots_in s) slots_long made_tree named_tree p
+      ∙ number_both parts.tables.rights.items owners owners_before files before parts.tables.paths.items atlas.ascending (slots_in s) slots_long made_tree named_tree p
       ∙ ap (λ t. option_and_then (place_of (slots_in s)) (number_at t p)) same_names
 
   -- an id that a name leads to is that of a slot
   id_low : (p : Path) (id : ℕ) → number_at all_names p ≡ Some id → id < length parts.tables.slots.items
   id_low p id is =
-      let w = id_of parts.tables.rights.items (owners_of parts.trace parts.micros.ops) files before parts.tables.paths.items atlas.ascending (slots_in s) slots_long made_tree named_tree p id (ap (λ t. number_at t p) same_names ∙ is) in
+      let w = id_of parts.tables.rights.items owners owners_before files before parts.tables.paths.items atlas.ascending (slots_in s) slots_long made_tree named_tree p id (ap (λ t. number_at t p) same_names ∙ is) in
       subst (λ n. id < n) (sym atlas.long) w.0
 
   pub found_low : (d : ℕ) (x : NameBytes) (id : ℕ) → Some id ≡ number_in all_names d x → id < length parts.tables.slots.items
@@ -143,7 +150,7 @@ module _ (s : State) (is_made : IsMade s) where
     path_is : path_numbered (tree_in s) n ≡ path_numbered all_names id
     path_is =
         ap (λ t. path_numbered t n) (sym view)
-        ∙ path_both parts.tables.rights.items (owners_of parts.trace parts.micros.ops) files before parts.tables.paths.items atlas.ascending (slots_in s) slots_long made_tree named_tree id n is low
+        ∙ path_both parts.tables.rights.items owners owners_before files before parts.tables.paths.items atlas.ascending (slots_in s) slots_long made_tree named_tree id n is low
         ∙ ap (λ t. path_numbered t id) same_names
 
     pub find_is : (x : NameBytes) → number_in (tree_in s) n x ≡ option_and_then (place_of (slots_in s)) (number_in all_names id x)
@@ -158,10 +165,10 @@ module _ (s : State) (is_made : IsMade s) where
     record_is : (slot : Slot) → slot ≡ slot_at (slots_in s) id → record_numbered (tree_in s) n ≡ option_map (fresh_record n) (record_in parts places slot)
     record_is slot same =
         let e = stands_entry parts.tables.rights.items (slot_at (slots_in s) id) here.0 in
-        let r = record_of (owners_of parts.trace parts.micros.ops) files e.0 in
+        let r = record_of owners files e.0 in
         ap (λ t. record_numbered t n) (sym view)
-        ∙ subst (λ m. record_numbered made m ≡ Some (fresh_record m r)) here.1 (record_found parts.tables.rights.items (owners_of parts.trace parts.micros.ops) files parts.tables.paths.items atlas.ascending (slots_in s) slots_long id low e.0 e.1)
-        ∙ sym (ap (option_map (fresh_record n)) (ap (option_map (record_of (owners_of parts.trace parts.micros.ops) files)) (ap (entry_of parts.tables.rights.items) same ∙ e.1)))
+        ∙ subst (λ m. record_numbered made m ≡ Some (fresh_record m r)) here.1 (record_found parts.tables.rights.items owners files parts.tables.paths.items atlas.ascending (slots_in s) slots_long id low e.0 e.1)
+        ∙ sym (ap (option_map (fresh_record n)) (ap (option_map (record_of owners files)) (ap (entry_of parts.tables.rights.items) same ∙ e.1)))
 
     pub metadata_is : (slot : Slot) → slot ≡ slot_at (slots_in s) id → option_map (λ r. metadata_of (fresh_record n r)) (record_in parts places slot) ≡ option_map metadata_of (record_numbered (tree_in s) n)
     metadata_is slot same = by (record_in parts places slot) ∙ sym (ap (option_map metadata_of) (record_is slot same))
@@ -187,10 +194,10 @@ module _ (s : State) (is_made : IsMade s) where
     past = subst (λ m. standing (slots_in s) m ≤ n) (sym (same_long parts places s.own.items h)) high
 
     no_path : path_numbered (tree_in s) n ≡ None
-    no_path = ap (λ t. path_numbered t n) (sym view) ∙ path_past parts.tables.rights.items (owners_of parts.trace parts.micros.ops) files parts.tables.paths.items atlas.ascending (slots_in s) slots_long n past
+    no_path = ap (λ t. path_numbered t n) (sym view) ∙ path_past parts.tables.rights.items owners files parts.tables.paths.items atlas.ascending (slots_in s) slots_long n past
 
     no_record : record_numbered (tree_in s) n ≡ None
-    no_record = ap (λ t. record_numbered t n) (sym view) ∙ record_past parts.tables.rights.items (owners_of parts.trace parts.micros.ops) files parts.tables.paths.items atlas.ascending (slots_in s) slots_long n past
+    no_record = ap (λ t. record_numbered t n) (sym view) ∙ record_past parts.tables.rights.items owners files parts.tables.paths.items atlas.ascending (slots_in s) slots_long n past
 
     pub none_found : (x : NameBytes) → number_in (tree_in s) n x ≡ None
     none_found x = ap (option_and_then (λ p. number_at (tree_in s) (p ++ x ∷ []))) no_path

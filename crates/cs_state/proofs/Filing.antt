@@ -2,16 +2,19 @@
 use Rattle.std.proofs.Common.{◌≡◌, ℕ, ◌<◌, ◌≤◌, Bool, false, List, [], ◌∷◌, ◌++◌, refl, sym, ap, ◌∙◌, subst, arith, ⊎_elim, length, take, replicate, get_or}
 use Rattle.std.proofs.lemmas.Bool.{cases_lt}
 use Rattle.std.proofs.lemmas.List.{get_or_read}
+use Rattle.cs_trace.specs.declared.operation.Rights.{Rights}
 use Rattle.cs_trace.specs.Traces.{Trace}
 use Rattle.cs_tree_model.specs.declared.record.Record.{Record}
 use Rattle.cs_tree_model.specs.Tree.{Path}
 use Rattle.cs_micro.specs.declared.micro_op.MicroOp.{MicroOp}
 use Rattle.cs_apm.specs.Atlases.{content_before, no_record, AreStarts}
 use Rattle.cs_apm.specs.Contents.{content_left}
-use Rattle.cs_apm.specs.States.{Content, bytes_of, visible}
+use Rattle.cs_apm.specs.Owners.{owner_left}
+use Rattle.cs_apm.specs.States.{Content, bytes_of, nobody, visible}
 use Rattle.cs_apm.proofs.Before.{left_file, made_before, start_before, unflagged}
+use Rattle.cs_apm.proofs.Owning.{left_owner}
 use Rattle.cs_state.specs.declared.parts.Parts.{Parts}
-use Rattle.cs_state.specs.Parts.{AreParts, bytes_before, file_in}
+use Rattle.cs_state.specs.Parts.{AreParts, bytes_before, file_in, owner_in}
 use Rattle.cs_state.specs.Windows.{whole}
 
 module _ (t : Trace) (ops : List MicroOp) (starts : List ℕ) (are : AreStarts t starts) (file : ℕ) where
@@ -43,6 +46,14 @@ module _ (parts : Parts) (h : AreParts parts) (file : ℕ) (places : List ℕ) (
   pub left_of : content_left file (whole (bytes_before parts file)) parts.micros.ops places ≡ file_in parts places file
   left_of = ap (λ f. content_left file f parts.micros.ops places) same_before
       ∙ left_file parts.trace parts.micros.ops places file (subst (λ os. file < length os) h.whole.atlas.owners known)
+
+  -- and of its owner, group and permissions, from those that it was made with
+  pub owner_of_left : (made : Rights) → made ≡ get_or parts.tables.owners.items file made → owner_left file made parts.micros.ops places ≡ owner_in parts places file
+  owner_of_left made read =
+      let low = subst (λ os. file < length os) h.whole.atlas.owners known in
+      ap (λ r. owner_left file r parts.micros.ops places)
+      (get_or_read parts.tables.owners.items file made known read nobody ∙ ap (λ os. get_or os file nobody) h.whole.atlas.owners)
+      ∙ left_owner parts.trace parts.micros.ops places file low
 
   pub has_flag : file < length parts.tables.changed.items
   has_flag = (let long = h.whole.atlas.changed.long in let same = ap length h.whole.atlas.owners in omega (arith, known, long, same))

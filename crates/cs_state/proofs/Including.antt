@@ -1,22 +1,25 @@
--- The members of a set by their marks, and what an allowed set has of the sizes of a file.
-use Rattle.std.proofs.Common.{◌≡◌, ◌≢◌, ℕ, zero, suc, ◌-◌, ◌<◌, ◌≤◌, Bool, true, false, cond, List, [], ◌∷◌, ◌++◌, refl, sym, ap, ◌∙◌, subst, arith, ⊎_elim, length, map, replicate}
-use Rattle.std.proofs.lemmas.Bool.{cases_eq, cases_lt, false≢true, eqb-true}
-use Rattle.std.proofs.lemmas.List.{get_or_default, get_or_past, get_or-set_other, get_or-set_same}
-use Rattle.std.specs.Prelude.{fold, slice_set}
+-- The members of a set by their marks, and what an allowed set has of the sizes and of the rights of a file.
+use Rattle.std.proofs.Common.{◌≡◌, ◌≢◌, ℕ, zero, suc, ◌<◌, ◌≤◌, Bool, true, false, cond, List, [], ◌∷◌, ◌++◌, refl, sym, ap, ◌∙◌, arith, ⊎_elim, length, replicate}
+use Rattle.std.proofs.lemmas.Bool.{cases_eq, false≢true, eqb-true}
+use Rattle.std.proofs.lemmas.List.{get_or-set_other, get_or-set_same}
+use Rattle.std.specs.Prelude.{slice_set}
+use Rattle.cs_trace.specs.declared.operation.Rights.{Rights}
+use Rattle.cs_trace.specs.declared.operation.Target.TheVariants as targets
 use Rattle.cs_micro.specs.declared.micro_op.MicroOp.{MicroOp}
-use Rattle.cs_micro.specs.declared.micro_op.MicroOp.TheVariants.{CreateDirEntry, DeleteDirEntry, MoveDirEntry, ChangeFileSize, WriteBlock, Say}
+use Rattle.cs_micro.specs.declared.micro_op.MicroOp.TheVariants.{ChangeFileSize, SetAttr}
 use Rattle.cs_micro.specs.Micros.{Micros}
 use Rattle.cs_apm.specs.Laws.Reasons.{needs_exactly}
 use Rattle.cs_apm.specs.Orders.{needs_of}
-use Rattle.cs_apm.specs.Reasons.{ChangesSize, resizes_one_file}
+use Rattle.cs_apm.specs.Owners.{owner_after}
+use Rattle.cs_apm.specs.Reasons.{ChangesSize, SetsFile, resizes_one_file, sets_one_file}
 use Rattle.cs_apm.specs.Rules.{op_at}
-use Rattle.cs_apm.specs.Sets.{IsAllowed}
-use Rattle.cs_state.specs.Numbers.{kept_at, IsKept}
+use Rattle.cs_state.specs.Owners.{sets_rights}
 use Rattle.cs_state.specs.Shares.{ids, mark_at}
-use Rattle.cs_state.specs.Steps.{members_in, resizes}
+use Rattle.cs_state.specs.Steps.{resizes}
 use Rattle.cs_state.specs.Windows.{size_after}
-use Rattle.cs_state.proofs.Blocks.{fold_map, last_sized, none_sized}
-use Rattle.cs_state.proofs.Listing.{ids_are, ids_have, ids_up, no_more}
+use Rattle.cs_state.proofs.Blocks.{unresized}
+use Rattle.cs_state.proofs.Lasting.{IsSaidBy}
+use Rattle.cs_state.proofs.Listing.{no_more}
 
 -- ---- marks that are set one after the other
 
@@ -53,74 +56,42 @@ marked_more marks n p long low none = ids_more (mark_at marks) (mark_at (slice_s
 pub mark_kept : (marks : List Bool) (p k : ℕ) → p < k → mark_at (slice_set marks p true) k ≡ mark_at marks k
 mark_kept marks p k after = get_or-set_other marks p k true false (omega (arith, after))
 
--- ---- of the sizes of a file an allowed set has the first few
+-- ---- of what changes a file's size, and of what sets its rights, an allowed set has the first few
 
 is_change : (o : MicroOp) (file : ℕ) → resizes file o ≡ true → ChangesSize o file
 is_change (ChangeFileSize other to) file is = (to, ap (λ n. ChangeFileSize n to) (eqb-true other file is))
-is_change (WriteBlock other block at bytes) file is = absurd (false≢true is)
-is_change (CreateDirEntry p node rights) file is = absurd (false≢true is)
-is_change (DeleteDirEntry p kind) file is = absurd (false≢true is)
-is_change (MoveDirEntry p q) file is = absurd (false≢true is)
-is_change Say file is = absurd (false≢true is)
+is_change _ file is = absurd (false≢true is)
 
-mark_low : (marks : List Bool) (k : ℕ) → mark_at marks k ≡ true → k < length marks
-mark_low marks k is = ⊎_elim
-    (λ (low : k < length marks). low)
-    (λ (high : length marks ≤ k). absurd (false≢true (sym (get_or_past marks k false high) ∙ is)))
-    (cases_lt k (length marks))
+pub size_needed : (micros : Micros) (file j k : ℕ) → j < k → resizes file (op_at micros.ops j) ≡ true → resizes file (op_at micros.ops k) ≡ true → needs_of micros j k ≡ true
+size_needed micros file j k before first second =
+    (needs_exactly micros.ops micros.syncs micros.profile j k).1
+    (record { before = before; reason = resizes_one_file file (is_change (op_at micros.ops j) file first) (is_change (op_at micros.ops k) file second) })
 
-module _ (micros : Micros) (n : ℕ) (members : List Bool) (allowed : IsAllowed (needs_of micros) n (members_in members)) (file : ℕ) where
-  pub closed_sizes : (j k : ℕ) → j < k → mark_at members k ≡ true → resizes file (op_at micros.ops j) ≡ true → resizes file (op_at micros.ops k) ≡ true → mark_at members j ≡ true
-  closed_sizes j k before here first second =
-      let w = ids_have (mark_at members) (length members) k (mark_low members k here) here in
-      let need : needs_of micros j k ≡ true = (needs_exactly micros.ops micros.syncs j k).1 (record { before = before; reason = resizes_one_file file (is_change (op_at micros.ops j) file first) (is_change (op_at micros.ops k) file second) }) in
-      let there = allowed.closed w.0 j w.1 (ap (needs_of micros j) w.2 ∙ need) in
-      let is : kept_at (members_in members) there.0 ≡ j = get_or_default (members_in members) there.0 0 j there.1 ∙ there.2 in
-      ap (mark_at members) (sym is) ∙ (ids_are (mark_at members) (length members) there.0 there.1).1
+is_setter : (o : MicroOp) (file : ℕ) → sets_rights file o ≡ true → SetsFile o file
+is_setter (SetAttr (targets.File other) rights) file is = (rights, ap (λ n. SetAttr (targets.File n) rights) (eqb-true other file is))
+is_setter _ file is = absurd (false≢true is)
 
-  pub first_sizes : (sizes : List ℕ) → sizes ≡ ids (λ k. resizes file (op_at micros.ops k)) (length micros.ops)
-      → (i j : ℕ) → i < j → j < length sizes → mark_at members (kept_at sizes j) ≡ true → mark_at members (kept_at sizes i) ≡ true
-  first_sizes sizes are = subst (λ ks. (i j : ℕ) → i < j → j < length ks → mark_at members (kept_at ks j) ≡ true → mark_at members (kept_at ks i) ≡ true) (sym are) (λ i j less low here.
-      let test : ℕ → Bool = λ k. resizes file (op_at micros.ops k) in
-      closed_sizes (kept_at (ids test (length micros.ops)) i) (kept_at (ids test (length micros.ops)) j) (ids_up test (length micros.ops) i j less low) here
-      (ids_are test (length micros.ops) i (omega (arith, less, low))).1 (ids_are test (length micros.ops) j low).1)
+pub owner_needed : (micros : Micros) (file j k : ℕ) → j < k → sets_rights file (op_at micros.ops j) ≡ true → sets_rights file (op_at micros.ops k) ≡ true → needs_of micros j k ≡ true
+owner_needed micros file j k before first second =
+    (needs_exactly micros.ops micros.syncs micros.profile j k).1
+    (record { before = before; reason = sets_one_file file (is_setter (op_at micros.ops j) file first) (is_setter (op_at micros.ops k) file second) })
 
--- ---- the last of them says the size
+-- ---- the last of them says all
 
-module _ (n size : ℕ) (ops : List MicroOp) (members : List Bool) (sizes : List ℕ) (r : ℕ) (are : sizes ≡ ids (λ k. resizes n (op_at ops k)) (length ops)) (long : length members ≡ length ops)
-    (bound : r ≤ length sizes) (low : (k : ℕ) → k < r → mark_at members (kept_at sizes k) ≡ true) (high : (k : ℕ) → r ≤ k → k < length sizes → mark_at members (kept_at sizes k) ≡ false) where
-  abbrev test : ℕ → Bool
-  test k = resizes n (op_at ops k)
+any_size : (n size other : ℕ) (o : MicroOp) → resizes n o ≡ true → size_after n size o ≡ size_after n other o
+any_size n size other (ChangeFileSize file to) is = ap (λ b. cond b to size) is ∙ sym (ap (λ b. cond b to other) is)
+any_size n size other _ is = absurd (false≢true is)
 
-  found : (j : ℕ) → j < length members → test j ≡ true → IsKept sizes j
-  found j inside is = subst (λ ks. IsKept ks j) (sym are) (ids_have test (length ops) j (omega (arith, inside, long)) is)
+pub size_says : (n : ℕ) → IsSaidBy ℕ (size_after n) (resizes n)
+size_says n = record { kept = unresized n; said = any_size n }
 
-  is_size : (k : ℕ) → k < length sizes → (kept_at sizes k < length ops) × (test (kept_at sizes k) ≡ true)
-  is_size = subst (λ ks. (k : ℕ) → k < length ks → (kept_at ks k < length ops) × (test (kept_at ks k) ≡ true)) (sym are) (ids_are test (length ops))
+unset : (n : ℕ) (owner : Rights) (o : MicroOp) → sets_rights n o ≡ false → owner_after n owner o ≡ owner
+unset n owner (SetAttr (targets.File file) rights) is = ap (λ b. cond b rights owner) is
+unset n owner _ is = refl
 
-  ascend : (i j : ℕ) → i < j → j < length sizes → kept_at sizes i < kept_at sizes j
-  ascend = subst (λ ks. (i j : ℕ) → i < j → j < length ks → kept_at ks i < kept_at ks j) (sym are) (ids_up test (length ops))
+any_owner : (n : ℕ) (owner other : Rights) (o : MicroOp) → sets_rights n o ≡ true → owner_after n owner o ≡ owner_after n other o
+any_owner n owner other (SetAttr (targets.File file) rights) is = ap (λ b. cond b rights owner) is ∙ sym (ap (λ b. cond b rights other) is)
+any_owner n owner other _ is = absurd (false≢true is)
 
-  pub no_last : r ≡ 0 → size ≡ fold (size_after n) size (map (op_at ops) (members_in members))
-  no_last none = sym (fold_map (size_after n) (op_at ops) size (members_in members)
-      ∙ none_sized n size ops (mark_at members) (length members) (λ j inside is. let w = found j inside is in subst (λ k. mark_at members k ≡ false) w.2 (high w.0 (omega (arith, none)) w.1)))
-
-  pub last_inside : 0 < r → kept_at sizes (r - 1) < length ops
-  last_inside some = (is_size (r - 1) (omega (arith, some, bound))).0
-
-  pub last_says : 0 < r → size_after n size (op_at ops (kept_at sizes (r - 1))) ≡ fold (size_after n) size (map (op_at ops) (members_in members))
-  last_says some =
-      let p = kept_at sizes (r - 1) in
-      let w = is_size (r - 1) (omega (arith, some, bound)) in
-      let inside = w.0 in
-      sym (fold_map (size_after n) (op_at ops) size (members_in members)
-      ∙ last_sized n size ops (mark_at members) (length members) p (omega (arith, inside, long)) (low (r - 1) (omega (arith, some))) w.1 (λ j after less is.
-      let v = found j less is in
-      let at = v.2 in
-      ⊎_elim
-      (λ (lt : v.0 < r). ⊎_elim
-      (λ (same : v.0 ≡ r - 1). absurd (let e : kept_at sizes v.0 ≡ p = ap (kept_at sizes) same in omega (arith, e, at, after)))
-      (λ (other : v.0 ≢ r - 1). absurd (let up = ascend v.0 (r - 1) (omega (arith, lt, other)) (omega (arith, some, bound)) in omega (arith, up, at, after)))
-      (cases_eq v.0 (r - 1)))
-      (λ (ge : r ≤ v.0). subst (λ k. mark_at members k ≡ false) at (high v.0 ge v.1))
-      (cases_lt v.0 r)))
+pub owner_says : (n : ℕ) → IsSaidBy Rights (owner_after n) (sets_rights n)
+owner_says n = record { kept = unset n; said = any_owner n }

@@ -12,6 +12,8 @@ pub mod Listing
 pub mod Owning
 pub mod Gathering
 pub mod Blocks
+pub mod Lasting
 pub mod Including
+pub mod Setting
 pub mod Striking
 pub mod Rows

@@ -110,21 +110,21 @@ absent rights (q ∷ qs) (s ∷ ss) p none = ⊎_elim
 
 -- ---- a state's numbers by those of all paths
 
-module _ (rights owners : List Rights) (files before : List Content) (paths : List Path) (up : AreAscending paths) (slots : List Slot) (long : length slots ≡ length paths) where
+module _ (rights owners owners_before : List Rights) (files before : List Content) (paths : List Path) (up : AreAscending paths) (slots : List Slot) (long : length slots ≡ length paths) where
   abbrev pub state : Tree
   state = fresh (records rights owners files paths up slots long)
 
   abbrev pub names : Tree
-  names = fresh (records rights owners before paths up (all paths) (all_long paths))
+  names = fresh (records rights owners_before before paths up (all paths) (all_long paths))
 
   module _ (state_tree : IsTree state) (names_tree : IsTree names) where
     path_of_id : (id : ℕ) → id < length paths → path_numbered names id ≡ Some (path_at paths id)
     path_of_id id low =
         let e = stands_entry rights (slot_at (all paths) id) (ap stands (all_at paths id low)) in
-        ap (path_numbered names) (sym (all_standing paths id (omega (arith, low)))) ∙ path_found rights owners before paths up (all paths) (all_long paths) id low e.0 e.1
+        ap (path_numbered names) (sym (all_standing paths id (omega (arith, low)))) ∙ path_found rights owners_before before paths up (all paths) (all_long paths) id low e.0 e.1
 
     no_path_of_id : (id : ℕ) → length paths ≤ id → path_numbered names id ≡ None
-    no_path_of_id id high = path_past rights owners before paths up (all paths) (all_long paths) id
+    no_path_of_id id high = path_past rights owners_before before paths up (all paths) (all_long paths) id
         (let s = all_standing paths (length paths) (omega arith) in let l = ap (standing (all paths)) (all_long paths) in omega (arith, s, l, high))
 
     -- an id that a name leads to is that of its path
@@ -161,8 +161,8 @@ module _ (rights owners : List Rights) (files before : List Content) (paths : Li
             by_entry : (o : Option Entry) → slot_entry rights paths (all paths) p ≡ o → slot_entry rights paths (all paths) p ≡ None
             by_entry None e = e
             by_entry (Some e) some = absurd (false≢true (ap is_some (sym none ∙ ap (option_map (λ (r : Record). r.number))
-                (record_at-fresh (records rights owners before paths up (all paths) (all_long paths)) p
-                ∙ ap (option_map (fresh_record (place_in p (entries (records rights owners before paths up (all paths) (all_long paths)))))) (get-map_values path_cmp (record_of owners before) (mirrored rights paths (all paths)) p ∙ ap (option_map (record_of owners before)) (mirror_of rights paths (all paths) up p ∙ some))))))
+                (record_at-fresh (records rights owners_before before paths up (all paths) (all_long paths)) p
+                ∙ ap (option_map (fresh_record (place_in p (entries (records rights owners_before before paths up (all paths) (all_long paths)))))) (get-map_values path_cmp (record_of owners_before before) (mirrored rights paths (all paths)) p ∙ ap (option_map (record_of owners_before before)) (mirror_of rights paths (all paths) up p ∙ some))))))
 
         by : (o : Option ℕ) → number_at names p ≡ o → number_at state p ≡ option_and_then (place_of slots) (number_at names p)
         by None none = nothing_elsewhere rights owners files paths up slots long p (absent rights paths slots p (no_record none)) ∙ sym (ap (option_and_then (place_of slots)) none)

@@ -1,11 +1,9 @@
--- A map of blocks' rows with one row more.
+-- A map of rows with one row more.
 use Rattle.std.proofs.Common.{◌≡◌, ◌≢◌, ℕ, ◌<◌, ◌≤◌, ◌==◌, nat_lt, true, false, cond, List, Option, Some, refl, sym, ap, ◌∙◌, arith, ⊎_elim}
 use Rattle.std.proofs.lemmas.Bool.{cases_eq, cases_lt, eq-eqb, le-ltb, lt-ltb, ne_eqb}
 use Rattle.std.specs.Global.{Vec}
 use Rattle.std.specs.Ordering.{is_eq, nat_cmp}
 use Rattle.std.specs.Prelude.{IsSome}
-use Rattle.cs_micro.specs.declared.micro_op.MicroOp.{MicroOp}
-use Rattle.cs_state.specs.Steps.{reaching, AreRows}
 
 module _ (rows new : ℕ → Option (Vec ℕ)) (block : ℕ) (row : Vec ℕ) (goes : (q : ℕ) → new q ≡ cond (is_eq (nat_cmp block q)) (Some row) (rows q)) where
   pub row_there : (q : ℕ) → q ≡ block → new q ≡ Some row
@@ -23,11 +21,12 @@ module _ (rows new : ℕ → Option (Vec ℕ)) (block : ℕ) (row : Vec ℕ) (go
       (λ (ne : q ≢ block). cc (row_other q ne))
       (cases_eq q block)
 
-  pub rows_right : (sizes : List ℕ) (ops : List MicroOp) (places : List ℕ) → row.items ≡ reaching sizes ops places (Some block) → AreRows sizes ops places rows → AreRows sizes ops places new
-  rows_right sizes ops places is are q r there = ⊎_elim
+  -- each row has what is to be in it
+  pub rows_right : (wanted : ℕ → List ℕ) → row.items ≡ wanted block → ((q : ℕ) (r : Vec ℕ) → rows q ≡ Some r → r.items ≡ wanted q) → (q : ℕ) (r : Vec ℕ) → new q ≡ Some r → r.items ≡ wanted q
+  rows_right wanted is are q r there = ⊎_elim
       (λ (e : q ≡ block).
       let same : Some row ≡ Some r = sym (row_there q e) ∙ there in
       let one : row ≡ r = cc in
-      ap (λ (v : Vec ℕ). v.items) (sym one) ∙ is ∙ ap (λ b. reaching sizes ops places (Some b)) (sym e))
+      ap (λ (v : Vec ℕ). v.items) (sym one) ∙ is ∙ ap wanted (sym e))
       (λ (ne : q ≢ block). are q r (sym (row_other q ne) ∙ there))
       (cases_eq q block)

@@ -4,11 +4,11 @@ use Rattle.std.proofs.lemmas.Bool.{cases_lt, cases_Bool}
 use Rattle.std.proofs.lemmas.List.{get_or_past, get_or-set_other}
 use Rattle.std.specs.Prelude.{fold, slice_set}
 use Rattle.cs_apm.specs.Atlases.{atlas_in}
-use Rattle.cs_apm.specs.Slots.{moved_slot, slot_at, slots_after, step_at}
+use Rattle.cs_apm.specs.Slots.{moved_slot, owned_slot, slot_at, slots_after, step_at}
 use Rattle.cs_apm.specs.declared.slot.Slot.{Slot}
 use Rattle.cs_apm.specs.declared.slot.Slot.TheVariants.{Nothing, Directory, File}
 use Rattle.cs_apm.specs.declared.slot.Step.{Step}
-use Rattle.cs_apm.specs.declared.slot.Step.TheVariants.{Set, Move, Other}
+use Rattle.cs_apm.specs.declared.slot.Step.TheVariants as step
 use Rattle.cs_apm.proofs.Building.{long_left}
 use Rattle.cs_state.specs.declared.numbers.Found.{Found}
 use Rattle.cs_state.specs.declared.numbers.Own.{Own}
@@ -23,7 +23,7 @@ use Rattle.cs_state.proofs.Standing.{counted, has_none, has_place, stands_inside
 leaves_at : (steps : List Step) (id : ℕ) → IsLeft steps id → (k : ℕ) → Leaves id (step_at steps k)
 leaves_at steps id left k = ⊎_elim
     (λ (low : k < length steps). left k low)
-    (λ (high : length steps ≤ k). subst (Leaves id) (sym (get_or_past steps k Other high)) tt)
+    (λ (high : length steps ≤ k). subst (Leaves id) (sym (get_or_past steps k step.Other high)) tt)
     (cases_lt k (length steps))
 
 moved_left : (slots : List Slot) (i j id : ℕ) → i ≢ id → j ≢ id → (s : Slot) → slot_at (moved_slot i j slots s) id ≡ slot_at slots id
@@ -31,10 +31,16 @@ moved_left slots i j id from to Nothing = refl
 moved_left slots i j id from to (Directory k) = get_or-set_other (slice_set slots i Nothing) j id (Directory k) Nothing (λ e. to (sym e)) ∙ get_or-set_other slots i id Nothing Nothing (λ e. from (sym e))
 moved_left slots i j id from to (File k) = get_or-set_other (slice_set slots i Nothing) j id (File k) Nothing (λ e. to (sym e)) ∙ get_or-set_other slots i id Nothing Nothing (λ e. from (sym e))
 
+owned_left : (slots : List Slot) (i k id : ℕ) → i ≢ id → (s : Slot) → slot_at (owned_slot i k slots s) id ≡ slot_at slots id
+owned_left slots i k id at (Directory old) = get_or-set_other slots i id (Directory k) Nothing (λ e. at (sym e))
+owned_left slots i k id at Nothing = refl
+owned_left slots i k id at (File n) = refl
+
 after_left : (slots : List Slot) (s : Step) (id : ℕ) → Leaves id s → slot_at (slots_after slots s) id ≡ slot_at slots id
-after_left slots (Set i s) id left = get_or-set_other slots i id s Nothing (λ e. left (sym e))
-after_left slots (Move i j) id left = moved_left slots i j id left.0 left.1 (slot_at slots i)
-after_left slots Other id left = refl
+after_left slots (step.Set i s) id left = get_or-set_other slots i id s Nothing (λ e. left (sym e))
+after_left slots (step.Move i j) id left = moved_left slots i j id left.0 left.1 (slot_at slots i)
+after_left slots (step.Own i k) id left = owned_left slots i k id left (slot_at slots i)
+after_left slots step.Other id left = refl
 
 pub fold_same : (steps : List Step) (id : ℕ) → IsLeft steps id → (places : List ℕ) (slots : List Slot) → slot_at (fold slots_after slots (map (step_at steps) places)) id ≡ slot_at slots id
 fold_same steps id left [] slots = refl

@@ -5,7 +5,7 @@ use Rattle.std.proofs.lemmas.Bool.{cases_lt}
 use Rattle.std.proofs.lemmas.List.{ext_get_or, get_or-drop, get_or-take, get_or_append_left, get_or_past, length-replicate, length-take, length-take-le}
 use Rattle.std.specs.Prelude.{fold, slice_range}
 use Rattle.cs_micro.specs.declared.micro_op.MicroOp.{MicroOp}
-use Rattle.cs_micro.specs.declared.micro_op.MicroOp.TheVariants.{CreateDirEntry, DeleteDirEntry, MoveDirEntry, ChangeFileSize, WriteBlock, Say}
+use Rattle.cs_micro.specs.declared.micro_op.MicroOp.TheVariants.{ChangeFileSize, WriteBlock}
 use Rattle.cs_apm.specs.Contents.{content_after, content_left}
 use Rattle.cs_apm.specs.Rules.{op_at}
 use Rattle.cs_apm.specs.States.{Content, overwritten, padded, put, visible}
@@ -134,10 +134,7 @@ one_size n f (WriteBlock file block at bytes) = cond_size (file == n) _ f ∙ sa
     same_size : (b : Bool) (m : ℕ) → cond b m m ≡ m
     same_size true m = refl
     same_size false m = refl
-one_size n f (CreateDirEntry p node rights) = refl
-one_size n f (DeleteDirEntry p kind) = refl
-one_size n f (MoveDirEntry p q) = refl
-one_size n f Say = refl
+one_size n f _ = refl
 
 fold_size : (n : ℕ) (f : Content) (os : List MicroOp) → (fold (content_after n) f os).size ≡ fold (size_after n) f.size os
 fold_size n f [] = refl

@@ -7,7 +7,7 @@ use Rattle.std.specs.List.{All}
 use Rattle.std.specs.Prelude.{fold, slice_get}
 use Rattle.cs_trace.specs.Operations.{Paths}
 use Rattle.cs_micro.specs.declared.micro_op.MicroOp.{MicroOp}
-use Rattle.cs_micro.specs.declared.micro_op.MicroOp.TheVariants.{CreateDirEntry, DeleteDirEntry, MoveDirEntry, ChangeFileSize, WriteBlock, Say}
+use Rattle.cs_micro.specs.declared.micro_op.MicroOp.TheVariants.{ChangeFileSize, WriteBlock, Say}
 use Rattle.cs_micro.specs.Legal.{AreLegal, IsLegal, made_after, paths_after}
 use Rattle.cs_apm.specs.Contents.{content_left}
 use Rattle.cs_apm.specs.Rules.{op_at}
@@ -16,21 +16,19 @@ use Rattle.cs_state.specs.declared.file_steps.FileSteps.{FileSteps}
 use Rattle.cs_state.specs.declared.parts.Parts.{Parts}
 use Rattle.cs_state.specs.Parts.{bytes_before, file_in, AreMembers, AreParts}
 use Rattle.cs_state.specs.Shares.{ids, mark_at}
-use Rattle.cs_state.specs.Steps.{members_in, row_at, struck_by, touches, AgreeIn, AreFileSteps, IsFitting}
+use Rattle.cs_state.specs.Steps.{members_in, resizes, row_at, struck_by, touches, AgreeIn, AreFileSteps, IsFitting}
 use Rattle.cs_state.specs.Windows.{size_after, whole}
 use Rattle.cs_state.proofs.Blocks.{agree}
 use Rattle.cs_state.proofs.Filing.{has_flag, left_of}
-use Rattle.cs_state.proofs.Including.{closed_sizes}
+use Rattle.cs_state.proofs.Including.{size_needed}
+use Rattle.cs_state.proofs.Lasting.{closed_under}
 use Rattle.cs_state.proofs.Listing.{ids_are}
 use Rattle.cs_state.proofs.Showing.{left_size}
 
 fitting : (m : Paths) (made : ℕ) (o : MicroOp) → IsLegal m made o → IsFitting o
-fitting m made (CreateDirEntry p node rights) h = tt
-fitting m made (DeleteDirEntry p kind) h = tt
-fitting m made (MoveDirEntry p q) h = tt
 fitting m made (ChangeFileSize file size) h = h.1
 fitting m made (WriteBlock file block at bytes) h = h.2
-fitting m made Say h = tt
+fitting m made _ h = tt
 
 all_fitting : (m : Paths) (made : ℕ) (ops : List MicroOp) → AreLegal m made ops → All IsFitting ops
 all_fitting m made [] h = All-nil IsFitting
@@ -66,4 +64,4 @@ module _ (parts : Parts) (h : AreParts parts) (file : ℕ) (known : file < lengt
         (ap (λ k. content_left file (whole start) ops (ids (mark_at members) k)) (sym set.long) ∙ left_of parts h file (members_in members) known)
         (agree file (whole start) ops members (length ops) block
         (λ k low. all_fitting _ _ ops h.whole.atlas.legal k Say low)
-        (closed_sizes parts.micros (length ops) members set.allowed file)))
+        (closed_under parts.micros (length ops) members set.allowed (resizes file) (size_needed parts.micros file))))

@@ -7,14 +7,15 @@ use Rattle.cs_tree_model.specs.declared.record.Record.{Record}
 use Rattle.cs_tree_model.specs.Tree.{Tree}
 use Rattle.cs_trace.specs.declared.operation.Rights.{Rights}
 use Rattle.cs_apm.specs.declared.slot.Slot.{Slot}
-use Rattle.cs_apm.specs.Atlases.{content_before, files_left}
+use Rattle.cs_apm.specs.Atlases.{content_before, files_left, owners_left}
 use Rattle.cs_apm.specs.Orders.{needs_of}
 use Rattle.cs_apm.specs.Sets.{IsAllowed}
 use Rattle.cs_apm.specs.Slots.{entry_of}
-use Rattle.cs_apm.specs.States.{Content, crash_state_of, no_content, owners_of, permission_bits, record_of}
+use Rattle.cs_apm.specs.States.{Content, crash_state_of, no_content, nobody, permission_bits, record_of}
 use Rattle.cs_apm.specs.Wholes.{IsWhole}
 use Rattle.cs_state.specs.declared.numbers.Own.{Own}
 use Rattle.cs_state.specs.declared.parts.Parts.{Parts}
+use Rattle.cs_state.specs.Owners.{AreOwnerSteps}
 use Rattle.cs_state.specs.Shares.{slots_left, standing, IsShared, IsShares}
 use Rattle.cs_state.specs.Steps.{members_in, AreAllSteps}
 
@@ -23,6 +24,7 @@ pub record AreParts (parts : Parts) : Type 0 where
   pub whole : IsWhole parts.trace parts.micros parts.tables
   pub shares : IsShares parts.trace parts.micros.ops parts.tables parts.shares
   pub steps : AreAllSteps parts.trace parts.micros.ops parts.tables.changed.items parts.steps.items
+  pub owner_steps : AreOwnerSteps parts.micros.ops parts.owner_steps
 
 -- the marks are those of an allowed set
 pub record AreMembers (parts : Parts) (members : List Bool) : Type 0 where
@@ -47,10 +49,14 @@ bytes_before parts file = (content_before parts.trace parts.micros.ops file).byt
 abbrev pub file_in : Parts → List ℕ → ℕ → Content
 file_in parts places file = slice_index_or (files_left parts.trace parts.micros.ops places) file no_content
 
+-- and of its owner, group and permissions
+abbrev pub owner_in : Parts → List ℕ → ℕ → Rights
+owner_in parts places file = slice_index_or (owners_left parts.trace parts.micros.ops places) file nobody
+
 -- the record of what stands in a slot, but for its number
 abbrev pub record_in : Parts → List ℕ → Slot → Option Record
 record_in parts places slot =
-    option_map (record_of (owners_of parts.trace parts.micros.ops) (files_left parts.trace parts.micros.ops places)) (entry_of parts.tables.rights.items slot)
+    option_map (record_of (owners_left parts.trace parts.micros.ops places) (files_left parts.trace parts.micros.ops places)) (entry_of parts.tables.rights.items slot)
 
 -- at most so many bytes of it, from an offset on
 abbrev pub read_in : Parts → List ℕ → Slot → ℕ → ℕ → Option (List ℕ)

@@ -6,7 +6,7 @@ use Rattle.cs_apm.specs.Slots.{slot_at, slots_after, step_at}
 use Rattle.cs_apm.specs.declared.slot.Slot.{Slot}
 use Rattle.cs_apm.specs.declared.slot.Slot.TheVariants.{Nothing, Directory, File}
 use Rattle.cs_apm.specs.declared.slot.Step.{Step}
-use Rattle.cs_apm.specs.declared.slot.Step.TheVariants.{Set, Move, Other}
+use Rattle.cs_apm.specs.declared.slot.Step.TheVariants as step
 use Rattle.cs_apm.specs.declared.tables.Tables.{Tables}
 use Rattle.cs_state.specs.declared.numbers.Own.{Own}
 use Rattle.cs_state.specs.declared.shares.Shares.{Shares}
@@ -30,9 +30,10 @@ place_of slots id = cond (stands (slot_at slots id)) (Some (standing slots id)) 
 
 -- the step leaves the slot of the id as it is
 abbrev pub Leaves : ℕ → Step → Type 0
-Leaves id (Set i s) = i ≢ id
-Leaves id (Move i j) = (i ≢ id) × (j ≢ id)
-Leaves id Other = Unit {0}
+Leaves id (step.Set i s) = i ≢ id
+Leaves id (step.Move i j) = (i ≢ id) × (j ≢ id)
+Leaves id (step.Own i k) = i ≢ id
+Leaves id step.Other = Unit {0}
 
 -- no step changes the slot of the id
 abbrev pub IsLeft : List Step → ℕ → Type 0
@@ -40,9 +41,10 @@ IsLeft steps id = (k : ℕ) → k < length steps → Leaves id (step_at steps k)
 
 -- the step changes what stands at the id
 abbrev pub Touches : ℕ → Step → Type 0
-Touches id (Set i s) = i ≡ id
-Touches id (Move i j) = (i ≡ id) ⊎ (j ≡ id)
-Touches id Other = ⊥
+Touches id (step.Set i s) = i ≡ id
+Touches id (step.Move i j) = (i ≡ id) ⊎ (j ≡ id)
+Touches id (step.Own i k) = i ≡ id
+Touches id step.Other = ⊥
 
 -- one of the steps does
 abbrev pub IsTouched : List Step → ℕ → Type 0

@@ -11,6 +11,7 @@ ghost use Rattle.cs_apm.specs.States.{crash_state_of};
 use crate::building::own_of;
 use crate::file_steps::all_steps;
 use crate::members::members_of;
+use crate::owner_steps::OwnerSteps;
 use crate::parts::Parts;
 use crate::shares::Shares;
 use crate::state::State;
@@ -55,6 +56,7 @@ impl Atlas {
         let tables = Tables::of(alloc, &trace, &micros)?;
         let shares = Shares::of(alloc, &trace, micros.ops(), &tables)?;
         let steps = all_steps(alloc, &trace, micros.ops(), &tables)?;
+        let owner_steps = OwnerSteps::of(alloc, micros.ops())?;
         let parts = Arc::new(
             alloc,
             Parts {
@@ -63,6 +65,7 @@ impl Atlas {
                 tables,
                 shares,
                 steps,
+                owner_steps,
             },
         )?;
         Ok(Atlas { parts })

@@ -9,6 +9,7 @@ mod file_steps;
 mod marks;
 mod members;
 mod numbers;
+mod owner_steps;
 mod parts;
 mod reading;
 mod shares;

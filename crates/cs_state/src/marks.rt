@@ -16,7 +16,7 @@ fn mark(marks: &mut [bool], step: Step)
     ensures touched { (id : ℕ) → mark_at marks.new id ≡ true → (mark_at marks.old id ≡ true) ⊎ Touches id step }
 {
     match step {
-        Step::Set(place, _) => marks[place as usize] = true,
+        Step::Set(place, _) | Step::Own(place, _) => marks[place as usize] = true,
         Step::Move(from, to) => {
             marks[from as usize] = true;
             marks[to as usize] = true;

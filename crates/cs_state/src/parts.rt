@@ -1,6 +1,7 @@
 //! A trace with all that its states share.
 
 use crate::file_steps::FileSteps;
+use crate::owner_steps::OwnerSteps;
 use crate::shares::Shares;
 use cs_apm::tables::Tables;
 use cs_micro::Micros;
@@ -15,4 +16,6 @@ pub struct Parts {
     pub shares: Shares,
     /// What changes each file, by its number.
     pub steps: Vec<FileSteps>,
+    /// What sets the owner, group and permissions of files.
+    pub owner_steps: OwnerSteps,
 }

@@ -6,12 +6,13 @@ ghost use Rattle.cs_tree_model.specs.Fresh.{fresh_record};
 ghost use Rattle.cs_tree_model.specs.Record.{lent, metadata_of};
 ghost use Rattle.cs_apm.specs.Slots.{IsKnown};
 ghost use Rattle.cs_apm.specs.States.{visible};
-ghost use Rattle.cs_state.specs.Parts.{AreMembers, AreParts, bytes_before, file_in, record_in, read_in, unchanged_metadata};
+ghost use Rattle.cs_state.specs.Parts.{AreMembers, AreParts, bytes_before, file_in, owner_in, record_in, read_in, unchanged_metadata};
 ghost use Rattle.cs_state.specs.Steps.{members_in};
 ghost use Rattle.cs_state.specs.Windows.{IsPart};
 
 use crate::bytes::{copied_piece, part_left, size_left};
 use crate::file_steps::start_bytes;
+use crate::owner_steps::owner_left;
 use crate::parts::Parts;
 use cs_apm::slot::Slot;
 use cs_trace::Rights;
@@ -140,6 +141,18 @@ fn bytes_of(
     }
 }
 
+/// The owner, group and permissions that the members leave of the file.
+fn owner_of<'a>(parts: &'a Parts, members: &[bool], file: u32) -> &'a Rights
+    requires parts { AreParts parts.now }
+    requires known { file < length parts.now.tables.owners.items }
+    requires set { AreMembers parts.now members.now }
+    ensures { result.now ≡ owner_in parts.now (members_in members.now) file }
+{
+    let made = &parts.tables.owners[file as usize];
+    let steps = parts.owner_steps.row(file);
+    owner_left(file, made, parts.micros.ops(), steps, members)
+}
+
 /// What a record says beside its bytes, where it was never changed.
 fn unchanged(number: u64, rights: &Rights, bit: u32, kind: Kind) -> Metadata<'_>
     requires { bit ≤ DMDIR }
@@ -178,7 +191,7 @@ pub fn metadata_of<'a>(
         }
         Slot::File(file) => {
             let length = size_of(parts, members, file);
-            let owner = &parts.tables.owners[file as usize];
+            let owner = owner_of(parts, members, file);
             Some(unchanged(number, owner, 0, Kind::File { length }))
         }
     }

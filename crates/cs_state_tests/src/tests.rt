@@ -3,6 +3,7 @@
 mod lists;
 mod made;
 mod picks;
+mod rights;
 mod scenes;
 mod sets;
 mod states;

@@ -1,4 +1,5 @@
 pub mod Beneath
+pub mod FirstFaults
 pub mod LineByLine
 pub mod Members
 pub mod Octal

@@ -45,6 +45,7 @@ has_others-put k d (member l e ms) = others_by _ k l d e ms refl (has_others-put
 pub fields_of-put : (k : List ℕ) (d : Data) (ms : Members) → fields_of (put k d ms) ≡ with_field k (field_of d) (fields_of ms)
 fields_of-put k d ms = λ i. record {
   trace = field_at-put (codes "trace") k d ms i;
+  profile = field_at-put (codes "profile") k d ms i;
   start = field_at-put (codes "start") k d ms i;
   op = field_at-put (codes "op") k d ms i;
   path = field_at-put (codes "path") k d ms i;

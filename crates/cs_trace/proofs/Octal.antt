@@ -5,18 +5,24 @@ use Rattle.std.specs.Option.{option_and_then, option_map, option_map_or}
 use Rattle.std.specs.Prelude.{if◌then◌else◌, ◌&&◌}
 use Rattle.serde_json.specs.Read.{read}
 use Rattle.cs_trace.specs.Fields.{Field, Fields, fields_in, has_keys, text_of}
-use Rattle.cs_trace.specs.Lines.{Claims, Header, Line, Operation, OperationLine, Creat, Mkdir, Sync, Start, StartLine, UnknownOperation, UnknownStart, bytes_in, claims_in, header_in, is_octal, is_one, key_count, line_by, line_in, line_of, operation_in, operation_of, operation_with, permissions_in, start_line_in, start_with, text_in, verb_named, whole_in}
+use Rattle.cs_trace.specs.Lines.{Change, Claims, Header, Line, Mode, Operation, OperationLine, Owner, Creat, Mkdir, SetAttr, Sync, Start, StartLine, UnknownOperation, UnknownStart, bytes_in, claims_in, header_in, is_octal, key_count, line_by, line_in, line_of, operation_in, operation_of, operation_with, permissions_in, start_line_in, start_with, text_in, verb_in, version_in, whole_in, whole_of}
 use Rattle.cs_trace.specs.declared.verb.Verb.{Verb}
 use Rattle.cs_trace.specs.declared.verb.Verb.TheVariants as verb
+use Rattle.cs_trace.specs.declared.version.Version.{Version}
 
 abbrev pub HasOctal : Claims → Type 0
 HasOctal claims = claims.permissions ≤ 511
 
+abbrev pub HasOctalChange : Change → Type 0
+HasOctalChange (Mode permissions) = permissions ≤ 511
+HasOctalChange (Owner owner group) = Unit {0}
+
 abbrev pub IsOctal : Line → Type 0
-IsOctal (Header claims) = HasOctal claims
+IsOctal (Header version claims) = HasOctal claims
 IsOctal (Start line) = HasOctal line.claims
 IsOctal (Operation (Creat path claims)) = HasOctal claims
 IsOctal (Operation (Mkdir path claims)) = HasOctal claims
+IsOctal (Operation (SetAttr path change)) = HasOctalChange change
 IsOctal _ = Unit {0}
 
 and_then_by : {A B : Type 0} (o : Option A) (f : A → Option B) (P : B → Type 0) → ((x : A) → (y : B) → f x ≡ Some y → P y) → (y : B) → option_and_then f o ≡ Some y → P y
@@ -51,8 +57,9 @@ claims_octal f =
     and_then_by (text_in f.mode) _ HasOctal (λ mode.
     map_by (permissions_in mode) _ HasOctal (λ n is. permissions_octal mode n is))))
 
-header_octal : (version : Field) (f : Fields) (line : Line) → header_in version f ≡ Some line → IsOctal line
-header_octal version f = if_by (is_one version && has_keys 4 f) (option_map Header (claims_in f)) IsOctal (map_by (claims_in f) Header IsOctal (λ claims is. claims_octal f claims is))
+header_octal : (number : Field) (f : Fields) (line : Line) → header_in number f ≡ Some line → IsOctal line
+header_octal number f =
+    and_then_by (whole_of number) _ IsOctal (λ n. and_then_by (version_in n f) _ IsOctal (λ version. map_by (claims_in f) (Header version) IsOctal (λ claims is. claims_octal f claims is)))
 
 abbrev HasOctalClaims : StartLine → Type 0
 HasOctalClaims line = line.claims.permissions ≤ 511
@@ -83,6 +90,10 @@ operation_octal verb.Rename f = and_then_by (text_in f.from) _ HasOctalOperation
 operation_octal verb.Write f =
     and_then_by (text_in f.path) _ HasOctalOperation (λ path. and_then_by (whole_in f.offset) _ HasOctalOperation (λ offset. map_by (bytes_in f.bytes) _ HasOctalOperation (λ _ _. tt)))
 operation_octal verb.Truncate f = and_then_by (text_in f.path) _ HasOctalOperation (λ path. map_by (whole_in f.length) _ HasOctalOperation (λ _ _. tt))
+operation_octal verb.Chmod f =
+    and_then_by (text_in f.path) _ HasOctalOperation (λ path. and_then_by (text_in f.mode) _ HasOctalOperation (λ mode. map_by (permissions_in mode) _ HasOctalOperation (λ n is. permissions_octal mode n is)))
+operation_octal verb.Chown f =
+    and_then_by (text_in f.path) _ HasOctalOperation (λ path. and_then_by (text_in f.owner) _ HasOctalOperation (λ owner. map_by (text_in f.group) _ HasOctalOperation (λ _ _. tt)))
 operation_octal verb.Fsync f = map_by (text_in f.path) _ HasOctalOperation (λ _ _. tt)
 operation_octal verb.Sync f = sync_octal
 operation_octal verb.Say f = map_by (text_in f.text) _ HasOctalOperation (λ _ _. tt)
@@ -91,15 +102,15 @@ named_octal : (v : Option Verb) (f : Fields) (line : Line) → option_map_or (λ
 named_octal None f line is = let same : UnknownOperation ≡ line = cc in subst IsOctal same tt
 named_octal (Some v) f line is = if_by (has_keys (key_count v) f) _ IsOctal (map_by (operation_of v f) Operation IsOctal (operation_octal v f)) line is
 
-line_octal_by : (trace start op : Option Field) (f : Fields) (line : Line) → line_by trace start op f ≡ Some line → IsOctal line
-line_octal_by (Some version) None None f line is = header_octal version f line is
-line_octal_by None (Some start) None f line is = and_then_by (text_of start) (λ kind. start_line_in kind f) IsOctal (λ kind. kind_by _ _ f) line is
-line_octal_by None None (Some operation) f line is = and_then_by (text_of operation) (λ name. operation_in name f) IsOctal (λ name. named_octal (verb_named name) f) line is
-line_octal_by (Some version) (Some start) op f line is = absurd (cc)
-line_octal_by (Some version) None (Some operation) f line is = absurd (cc)
-line_octal_by None (Some start) (Some operation) f line is = absurd (cc)
-line_octal_by None None None f line is = absurd (cc)
+line_octal_by : (version : Version) (trace start op : Option Field) (f : Fields) (line : Line) → line_by version trace start op f ≡ Some line → IsOctal line
+line_octal_by version (Some number) None None f line is = header_octal number f line is
+line_octal_by version None (Some start) None f line is = and_then_by (text_of start) (λ kind. start_line_in kind f) IsOctal (λ kind. kind_by _ _ f) line is
+line_octal_by version None None (Some operation) f line is = and_then_by (text_of operation) (λ name. operation_in version name f) IsOctal (λ name. named_octal (verb_in version name) f) line is
+line_octal_by version (Some number) (Some start) op f line is = absurd (cc)
+line_octal_by version (Some number) None (Some operation) f line is = absurd (cc)
+line_octal_by version None (Some start) (Some operation) f line is = absurd (cc)
+line_octal_by version None None None f line is = absurd (cc)
 
-pub line_octal : (text : List ℕ) (line : Line) → line_in text ≡ Some line → IsOctal line
+pub line_octal : (version : Version) (text : List ℕ) (line : Line) → line_in version text ≡ Some line → IsOctal line
 unfolding line_in
-line_octal text = and_then_by (option_and_then fields_in (read text)) line_of IsOctal (λ f. line_octal_by f.trace f.start f.op f)
+line_octal version text = and_then_by (option_and_then fields_in (read text)) (line_of version) IsOctal (λ f. line_octal_by version f.trace f.start f.op f)

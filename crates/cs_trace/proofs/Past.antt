@@ -3,9 +3,10 @@ use Rattle.std.proofs.Common.{◌≡◌, ℕ, ◌+◌, ◌-◌, ◌<◌, Bool, t
 use Rattle.std.specs.FinMap.{get}
 use Rattle.cs_names.specs.declared.limits.TheConstants.{TRACE_PATH_NAMES}
 use Rattle.cs_tree_model.specs.Tree.{Path, parent_path}
+use Rattle.cs_trace.specs.Attributes.{Attributes}
 use Rattle.cs_trace.specs.Below.{has_below}
-use Rattle.cs_trace.specs.Judging.{AreShort, IsPastNames, and_then, covered_by, creat, emptied_by, ends_above, file_by, free_by, fsync, has_too_many_names, is_too_much, mkdir, rename, rmdir, say, target_by, truncate, unless_too_large, unlink, write}
-use Rattle.cs_trace.specs.Lines.{Claims}
+use Rattle.cs_trace.specs.Judging.{AreShort, IsPastNames, and_then, covered_by, creat, emptied_by, ends_above, file_by, found, free_by, fsync, has_too_many_names, held, is_too_much, mkdir, rename, rmdir, say, set_attr, target_by, truncate, unless_too_large, unlink, write}
+use Rattle.cs_trace.specs.Lines.{Change, Claims}
 use Rattle.cs_trace.specs.Operations.{Paths}
 use Rattle.cs_trace.specs.States.{State, start_at}
 use Rattle.cs_trace.specs.declared.fault.TraceFaultKind.{TraceFaultKind}
@@ -22,6 +23,10 @@ past_file : {A : Type 0} (node : Option Node) (f : ℕ → Result A TraceFaultKi
 past_file None f past = tt
 past_file (Some Directory) f past = tt
 past_file (Some (File file)) f past = past file
+
+past_found : {A B : Type 0} (o : Option A) (f : A → Result B TraceFaultKind) → ((x : A) → IsPastNames (f x)) → IsPastNames (and_then (found o) f)
+past_found None f past = tt
+past_found (Some x) f past = past x
 
 pub past_free : {A : Type 0} (above here : Option Node) (r : Result A TraceFaultKind) → IsPastNames r → IsPastNames (and_then (free_by above here) (λ _. r))
 past_free None here r past = tt
@@ -74,6 +79,9 @@ module _ (m : Paths) where
 
   pub past_truncate : (sizes : List ℕ) (p : Path) (size : ℕ) → IsPastNames (truncate m sizes p size)
   past_truncate sizes p size = past_file (get m p) _ (λ file. past_limit _ _)
+
+  pub past_set_attr : (a : Attributes) (p : Path) (change : Change) → IsPastNames (set_attr m a p change)
+  past_set_attr a p change = past_found (held m a p) _ (λ _. tt)
 
   pub past_fsync : (p : Path) → IsPastNames (fsync m p)
   past_fsync p = past_covered (get m p) p

@@ -1,31 +1,37 @@
 -- An operation that is taken is legal.
-use Rattle.std.proofs.Common.{◌≡◌, ◌≢◌, ◌⊎◌, ℕ, ◌+◌, ◌-◌, ◌<◌, ◌≤◌, ◌||◌, ◌&&◌, Bool, true, false, List, [], ◌∷◌, ◌++◌, length, drop, cond, inl, inr, ⊎_elim, Option, None, Some, Ok, refl, sym, ap, ◌∙◌, arith, length-take}
+use Rattle.std.proofs.Common.{◌≡◌, ◌≢◌, ◌⊎◌, ℕ, ◌+◌, ◌-◌, ◌<◌, ◌≤◌, ◌||◌, ◌&&◌, Bool, true, false, List, [], ◌∷◌, ◌++◌, length, drop, cond, inl, inr, ⊎_elim, Option, None, Some, Ok, refl, sym, ap, ◌∙◌, subst, arith, length-take}
 use Rattle.std.proofs.lemmas.Bool.{false≢true}
 use Rattle.std.proofs.lemmas.Bool.Decides.{nat_tests}
 use Rattle.std.proofs.lemmas.List.{take-append-drop}
 use Rattle.std.proofs.lemmas.Option.{slice_get-get_or}
 use Rattle.std.proofs.lemmas.Slice.Eq.{bytes_eq-Decides, starts_is}
 use Rattle.std.specs.FinMap.{entries, find, get, get-entries}
-use Rattle.std.specs.List.{list_any, starts_with}
-use Rattle.std.specs.Option.{option_and_then}
+use Rattle.std.specs.List.{list_any, slice_get, starts_with}
+use Rattle.std.specs.Option.{option_and_then, option_map}
 use Rattle.std.specs.Ordering.{eq_by_cmp}
 use Rattle.std.specs.Prelude.{nat_lt}
 use Rattle.cs_names.specs.Texts.{same_bytes}
 use Rattle.cs_names.specs.declared.limits.TheConstants.{FILE_BYTES, SAY_BYTES, TRACE_PATH_NAMES, TREE_RECORDS}
 use Rattle.cs_tree_model.specs.Laws.Paths.{path_cases}
 use Rattle.cs_tree_model.specs.Tree.{Path, path_cmp, parent_path}
+use Rattle.cs_trace.specs.Attributes.{Attributes, kept_in}
 use Rattle.cs_trace.specs.Below.{has_below, is_below}
-use Rattle.cs_trace.specs.Judging.{covered_by, emptied_at, emptied_by, ends_above, file_at, file_by, free_at, free_by, has_too_many_names, is_too_much, legal, resolve, size_in, target_at, target_by}
+use Rattle.cs_trace.specs.Judging.{changed, covered_by, emptied_at, emptied_by, ends_above, file_at, file_by, found, free_at, free_by, has_too_many_names, held, held_by, is_too_much, legal, resolve, size_in, target_at, target_by}
 use Rattle.cs_trace.specs.Lines as line
-use Rattle.cs_trace.specs.Lines.{Claims, OperationLine}
-use Rattle.cs_trace.specs.Names.{below_root, entry_path_of, new_path_of, path_of, rights_of}
-use Rattle.cs_trace.specs.Operations.{HasSize, IsEmptyAt, IsFree, IsLegal, Paths, made_by}
+use Rattle.cs_trace.specs.Lines.{Change, Claims, Mode, OperationLine, Owner}
+use Rattle.cs_trace.specs.Names.{below_root, entry_path_of, new_path_of, path_of, rights_of, set_path_of}
+use Rattle.cs_trace.specs.Operations.{HasSize, IsEmptyAt, IsFree, IsLegal, IsOctal as HasOctalRights, Paths, made_by}
 use Rattle.cs_trace.specs.declared.operation.Node.{Node}
 use Rattle.cs_trace.specs.declared.operation.Node.TheVariants.{Directory, File}
 use Rattle.cs_trace.specs.declared.operation.Operation.{Operation}
-use Rattle.cs_trace.specs.declared.operation.Operation.TheVariants.{Creat, Mkdir, Unlink, Rmdir, Rename, Write, Truncate, Sync, Say}
+use Rattle.cs_trace.specs.declared.operation.Operation.TheVariants.{Creat, Mkdir, Unlink, Rmdir, Rename, Write, Truncate, SetAttr, Sync, Say}
+use Rattle.cs_trace.specs.declared.operation.Rights.{Rights}
 use Rattle.cs_trace.specs.declared.operation.Covers.TheVariants as covers
-use Rattle.cs_trace.proofs.Octal.{IsOctal}
+use Rattle.cs_trace.specs.declared.operation.Target.{Target}
+use Rattle.cs_trace.specs.declared.operation.Target.TheVariants as targets
+use Rattle.cs_trace.specs.declared.version.Version.{Version}
+use Rattle.cs_trace.specs.declared.version.Version.TheVariants.{First, Second}
+use Rattle.cs_trace.proofs.Octal.{HasOctalChange, IsOctal}
 use Rattle.cs_trace.proofs.Within.{ends_within, limit_by, then_by, value_by}
 
 -- ---- what stands
@@ -132,10 +138,31 @@ limits_by made p is =
 abbrev pub AreKnown : Paths → List ℕ → Type 0
 AreKnown m sizes = (p : Path) (file : ℕ) → get m p ≡ Some (File file) → file < length sizes
 
+-- the permissions of all files and directories are three octal digits
+pub record AreOctal (a : Attributes) : Type 0 where
+  pub files : (n : ℕ) (r : Rights) → slice_get a.files n ≡ Some r → HasOctalRights r
+  pub directories : (p : Path) (r : Rights) → get a.directories p ≡ Some r → HasOctalRights r
+
+changed_octal : (change : Change) (r : Rights) → HasOctalChange change → HasOctalRights r → HasOctalRights (changed change r)
+changed_octal (Mode permissions) r octal was = octal
+changed_octal (Owner owner group) r octal was = was
+
+pub kept_octal : (version : Version) (before after : Attributes) → AreOctal before → AreOctal after → AreOctal (kept_in version before after)
+kept_octal First before after old new = old
+kept_octal (Second profile) before after old new = new
+
+paired : (target : Target) (o : Option Rights) (h : Target × Rights) → option_map (λ rights. (target, rights)) o ≡ Some h → (target ≡ h.0) × (o ≡ Some h.1)
+paired target None h is = absurd (cc)
+paired target (Some r) h is = let same : (target, r) ≡ h = cc in (ap (λ (q : Target × Rights). q.0) same, ap (λ (q : Target × Rights). Some q.1) same)
+
+found_is : {X : Type 0} (o : Option X) (x : X) → found o ≡ Ok x → o ≡ Some x
+found_is None x is = absurd (cc)
+found_is (Some y) x is = let same : y ≡ x = cc in ap Some same
+
 within : (size : ℕ) → nat_lt FILE_BYTES size ≡ false → size ≤ FILE_BYTES
 within size is = grind (arith, nat_tests)
 
-module _ (m : Paths) (sizes : List ℕ) (made : ℕ) (known : AreKnown m sizes) (few : made ≤ TREE_RECORDS) where
+module _ (m : Paths) (sizes : List ℕ) (made : ℕ) (a : Attributes) (known : AreKnown m sizes) (rights : AreOctal a) (few : made ≤ TREE_RECORDS) where
   abbrev Taken : Operation → Type 0
   Taken o = IsTaken m sizes made o
 
@@ -150,10 +177,22 @@ module _ (m : Paths) (sizes : List ℕ) (made : ℕ) (known : AreKnown m sizes) 
   covered (Some Directory) p there o is = value_by (Sync (covers.Directory p)) Taken (record { legal = there; short = tt; few = same_made }) o is
   covered (Some (File file)) p there o is = value_by (Sync (covers.File file)) Taken (record { legal = ((p, there), known p file there); short = tt; few = same_made }) o is
 
+  set_at : (p : Path) (change : Change) → HasOctalChange change → (h : Target × Rights) (node : Option Node) → get m p ≡ node → option_and_then (held_by a p) node ≡ Some h
+      → Taken (SetAttr h.0 h.1 (changed change h.1))
+  set_at p change octal h None there is = absurd (cc)
+  set_at p change octal h (Some Directory) there is =
+      let both = paired (targets.Directory p) (get a.directories p) h is in
+      subst (λ target. Taken (SetAttr target h.1 (changed change h.1))) both.0
+      (record { legal = (there, changed_octal change h.1 octal (rights.directories p h.1 both.1)); short = tt; few = same_made })
+  set_at p change octal h (Some (File file)) there is =
+      let both = paired (targets.File file) (slice_get a.files file) h is in
+      subst (λ target. Taken (SetAttr target h.1 (changed change h.1))) both.0
+      (record { legal = ((p, there), known p file there, changed_octal change h.1 octal (rights.files file h.1 both.1)); short = tt; few = same_made })
+
   free_at_is : (p : Path) (u : Unit {0}) → free_by (get m (parent_path p)) (get m p) ≡ Ok u → IsFree m p
   free_at_is p u is = free_is _ _ u is
 
-  pub resolve_taken : (l : OperationLine) → IsOctal (line.Operation l) → (o : Operation) → resolve m sizes made l ≡ Ok o → Taken o
+  pub resolve_taken : (l : OperationLine) → IsOctal (line.Operation l) → (o : Operation) → resolve m sizes made a l ≡ Ok o → Taken o
   resolve_taken (line.Creat text claims) octal =
       then_by (legal (new_path_of text claims)) _ Taken (λ p _. then_by (free_at m p) _ Taken (λ u free. limit_by (is_too_much made p) (Creat p (length sizes) (rights_of claims)) Taken (λ large.
       let limits = limits_by made p large in
@@ -181,6 +220,9 @@ module _ (m : Paths) (sizes : List ℕ) (made : ℕ) (known : AreKnown m sizes) 
       then_by (legal (entry_path_of text)) _ Taken (λ p _. then_by (file_at m p) _ Taken (λ file there.
       limit_by (nat_lt FILE_BYTES size) (Truncate file (size_in sizes file) size) Taken (λ large.
       record { legal = ((p, file_is _ file there), size_of_file p file there, within size large); short = tt; few = same_made })))
+  resolve_taken (line.SetAttr text change) octal =
+      then_by (legal (set_path_of text change)) _ Taken (λ p _. then_by (found (held m a p)) _ Taken (λ h is.
+      value_by (SetAttr h.0 h.1 (changed change h.1)) Taken (set_at p change octal h (get m p) refl (found_is (held m a p) h is))))
   resolve_taken (line.Fsync text) octal = then_by (legal (path_of text)) _ Taken (λ p _. covered (get m p) p refl)
   resolve_taken line.Sync octal = value_by (Sync covers.All) Taken (record { legal = tt; short = tt; few = same_made })
   resolve_taken (line.Say text) octal = limit_by (nat_lt SAY_BYTES (length text)) Say Taken (λ _. record { legal = tt; short = tt; few = same_made })

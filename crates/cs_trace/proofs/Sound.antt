@@ -11,14 +11,16 @@ use Rattle.cs_tree_model.specs.Laws.Paths.{path_cases, path_exact, path_total}
 use Rattle.cs_tree_model.specs.Maps.Changes.{get-insert_same, get-insert_other}
 use Rattle.cs_tree_model.specs.Maps.Values.{get-map_values, map_values}
 use Rattle.cs_tree_model.specs.Tree.{Path, path_cmp, parent_path}
+use Rattle.cs_trace.specs.Attributes.{with_directory, with_file}
 use Rattle.cs_trace.specs.Entries.{Entries, node_by, node_of, size_of}
 use Rattle.cs_trace.specs.Judging.{AreShort}
 use Rattle.cs_trace.specs.Operations.{AreLegal, IsDirectoryAt, Paths, made_by, paths_after_all, sizes_after_all}
 use Rattle.cs_trace.specs.States.{State, nothing, with_entry}
 use Rattle.cs_trace.specs.declared.entry.Entry.{Entry}
 use Rattle.cs_trace.specs.declared.operation.Node.{Node}
+use Rattle.cs_trace.specs.declared.operation.Rights.{Rights}
 use Rattle.cs_trace.specs.declared.operation.Node.TheVariants.{Directory, File}
-use Rattle.cs_trace.proofs.Resolved.{AreKnown}
+use Rattle.cs_trace.proofs.Resolved.{AreKnown, AreOctal, kept_octal}
 
 -- what stands at the start
 abbrev pub start_of : State → Paths
@@ -52,6 +54,7 @@ pub record IsSound (s : State) : Type 0 where
   pub counted : length s.sizes ≤ s.made
   pub tallied : s.made ≡ len s.start + sum_by made_by s.operations
   pub small : AreSmall s.start
+  pub rights : AreOctal s.attributes
 
 -- ---- lists that grow
 
@@ -72,6 +75,11 @@ slice_get-push [] x zero y is = inr (refl, sym (some_same x y is))
 slice_get-push [] x (suc n) y is = absurd (cc)
 slice_get-push (z ∷ xs) x zero y is = inl is
 slice_get-push (z ∷ xs) x (suc n) y is = ⊎_elim (λ old. inl old) (λ new. inr (ap suc new.0, new.1)) (slice_get-push xs x n y is)
+
+-- one file's rights more
+pub pushed_octal : (rs : List Rights) (r : Rights) → ((n : ℕ) (q : Rights) → slice_get rs n ≡ Some q → q.permissions ≤ 511) → r.permissions ≤ 511
+    → (n : ℕ) (q : Rights) → slice_get (rs ++ r ∷ []) n ≡ Some q → q.permissions ≤ 511
+pushed_octal rs r old octal n q at = ⊎_elim (old n q) (λ (new : (n ≡ length rs) × (q ≡ r)). subst (λ (w : Rights). w.permissions ≤ 511) (sym new.1) octal) (slice_get-push rs r n q at)
 
 -- two functions that agree on what is in a list
 map_same : {X Y : Type 0} (f g : X → Y) (xs : List X) → ((n : ℕ) (x : X) → slice_get xs n ≡ Some x → f x ≡ g x) → map f xs ≡ map g xs
@@ -212,6 +220,10 @@ module _ (s : State) (sound : IsSound s) (p : Path) (e : Entry)
       counted = let old = sound.counted in omega arith;
       tallied = tallied_now;
       small = all_small;
+      rights = kept_octal s.version s.attributes (with_directory s.attributes p e.rights) sound.rights (record {
+        files = sound.rights.files;
+        directories = each_of s.attributes.directories p e.rights (λ q r. r.permissions ≤ 511) octal (λ q r apart there. sound.rights.directories q r there);
+      });
     }
       where
         here : node_of e ≡ Directory
@@ -250,6 +262,8 @@ module _ (s : State) (sound : IsSound s) (p : Path) (e : Entry)
       counted = let old = sound.counted in omega (arith, length-append s.sizes (length bytes ∷ []));
       tallied = tallied_now;
       small = all_small;
+      rights = kept_octal s.version s.attributes (with_file s.attributes e.rights) sound.rights
+          (record { files = pushed_octal s.attributes.files e.rights sound.rights.files octal; directories = sound.rights.directories });
     }
       where
         here : node_of e ≡ File e.number

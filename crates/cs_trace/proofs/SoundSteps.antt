@@ -1,26 +1,28 @@
 -- Each line that is taken leaves a sound state.
-use Rattle.std.proofs.Common.{◌≡◌, ◌≢◌, ℕ, ◌+◌, ◌<◌, ◌≤◌, ◌==◌, ◌||◌, Bool, true, false, List, [], ◌∷◌, ◌++◌, length, ⊎_elim, Option, option_map, None, Some, refl, sym, ap, ◌∙◌, subst, arith, length-append, Result, Ok, Err}
+use Rattle.std.proofs.Common.{◌≡◌, ◌≢◌, ℕ, zero, suc, ◌+◌, ◌<◌, ◌≤◌, ◌==◌, ◌||◌, Bool, true, false, List, [], ◌∷◌, ◌++◌, length, ⊎_elim, Option, option_map, None, Some, refl, sym, ap, ◌∙◌, subst, arith, length-append, Result, Ok, Err}
 use Rattle.std.proofs.lemmas.Bool.{false≢true, eqb-true, eq-eqb}
 use Rattle.std.proofs.lemmas.Bool.Decides.{nat_tests}
 use Rattle.std.proofs.lemmas.List.{length-set}
 use Rattle.std.proofs.lemmas.List.Sums.{fold_push}
 use Rattle.std.specs.FinMap.{get, insert, remove, empty, get-empty, len-empty, same_map}
+use Rattle.std.specs.List.{slice_get}
 use Rattle.std.specs.Option.{option_and_then, option_map_or}
 use Rattle.std.specs.Ordering.{eq_by_cmp}
-use Rattle.std.specs.Prelude.{if◌then◌else◌, nat_lt}
+use Rattle.std.specs.Prelude.{if◌then◌else◌, nat_lt, slice_set}
 use Rattle.cs_names.specs.declared.limits.TheConstants.{FILE_BYTES, TRACE_PATH_NAMES, TREE_RECORDS}
 use Rattle.cs_tree_model.specs.Laws.Fresh.{not_both}
 use Rattle.cs_tree_model.specs.Laws.Paths.{path_cases, path_exact, path_total}
 use Rattle.cs_tree_model.specs.Maps.Changes.{get-insert_same, get-remove_same, get-remove_other}
 use Rattle.cs_tree_model.specs.Maps.Values.{get-map_values}
 use Rattle.cs_tree_model.specs.Tree.{Path, path_cmp, parent_path}
+use Rattle.cs_trace.specs.Attributes.{Attributes, attributes_after, kept_in, no_attributes, with_directory}
 use Rattle.cs_trace.specs.Entries.{node_of, size_of}
 use Rattle.cs_trace.specs.Judging.{AreShort, and_then, free_at, is_too_much, legal, resolve}
 use Rattle.cs_trace.specs.Kept.{IsBounded}
 use Rattle.cs_trace.specs.Lines.{Claims, Header, Line, Operation, Start, StartLine, UnknownOperation, UnknownStart, is_blank, line_in}
-use Rattle.cs_trace.specs.Names.{are_user_names, below_root, new_path_of, path_of}
+use Rattle.cs_trace.specs.Names.{are_user_names, below_root, new_path_of, path_of, rights_of}
 use Rattle.cs_trace.specs.Operations.{AreLegal, IsDirectoryAt, IsLegal, Paths, made_by, moved, paths_after, paths_after_all, sizes_after, sizes_after_all, written_size}
-use Rattle.cs_trace.specs.States.{State, at_line, entry_for, first_step, later_step, line_step, nothing, start_step, state_from, state_in, step, taken, with_start}
+use Rattle.cs_trace.specs.States.{State, at_line, begun, entry_for, first_step, later_step, line_step, nothing, start_step, state_from, state_in, step, taken, with_start}
 use Rattle.cs_trace.specs.declared.entry.Entry.{Entry}
 use Rattle.cs_trace.specs.declared.fault.TraceFaultKind.{TraceFaultKind}
 use Rattle.cs_trace.specs.declared.fault.TraceFaultKind.TheVariants.{Syntax, UnknownOp, BadName}
@@ -28,9 +30,12 @@ use Rattle.cs_trace.specs.declared.operation.Node.{Node}
 use Rattle.cs_trace.specs.declared.operation.Node.TheVariants.{Directory, File}
 use Rattle.cs_trace.specs.declared.operation.Operation.{Operation as Resolved}
 use Rattle.cs_trace.specs.declared.operation.Operation.TheVariants as op
+use Rattle.cs_trace.specs.declared.operation.Rights.{Rights}
+use Rattle.cs_trace.specs.declared.operation.Target.TheVariants as targets
+use Rattle.cs_trace.specs.declared.version.Version.{Version}
 use Rattle.cs_trace.proofs.Octal.{HasOctal, IsOctal, line_octal}
-use Rattle.cs_trace.proofs.Resolved.{AreKnown, IsTaken, MakesShort, free_is, limits_by, not_either, resolve_taken}
-use Rattle.cs_trace.proofs.Sound.{IsSound, each_of, file_number, sound-directory, sound-file, start_of, sizes_of, stays}
+use Rattle.cs_trace.proofs.Resolved.{AreKnown, AreOctal, IsTaken, MakesShort, free_is, kept_octal, limits_by, not_either, resolve_taken}
+use Rattle.cs_trace.proofs.Sound.{IsSound, each_of, file_number, pushed_octal, some_same, sound-directory, sound-file, start_of, sizes_of, stays}
 use Rattle.cs_trace.proofs.Within.{good, limit_by, then_by, value_by}
 
 -- ---- one operation more
@@ -59,6 +64,7 @@ short_after m (op.Rmdir p) short new = λ q node there. short q node (stood m p 
 short_after m (op.Rename p q) short new = moved_each m p q (λ r _. length r ≤ TRACE_PATH_NAMES) short (λ _ _. new) (get m p) refl
 short_after m (op.Write file size offset bytes) short new = short
 short_after m (op.Truncate file size to) short new = short
+short_after m (op.SetAttr target before after) short new = short
 short_after m (op.Sync covered) short new = short
 short_after m op.Say short new = short
 
@@ -89,6 +95,7 @@ known_after m sizes (op.Rmdir p) known fits = λ q file there. known q file (sto
 known_after m sizes (op.Rename p q) known fits = known_of (moved p q m) sizes (moved_each m p q (IsBelow (length sizes)) (all_below m sizes known) (λ node low. low) (get m p) refl)
 known_after m sizes (op.Write file size offset bytes) known fits = more_known m sizes _ (omega (arith, length-set sizes file (written_size size offset bytes))) known
 known_after m sizes (op.Truncate file size to) known fits = more_known m sizes _ (omega (arith, length-set sizes file to)) known
+known_after m sizes (op.SetAttr target before after) known fits = known
 known_after m sizes (op.Sync covered) known fits = known
 known_after m sizes op.Say known fits = known
 
@@ -100,8 +107,54 @@ counted_after sizes made (op.Rmdir p) few = omega arith
 counted_after sizes made (op.Rename p q) few = omega arith
 counted_after sizes made (op.Write file size offset bytes) few = omega (arith, length-set sizes file (written_size size offset bytes))
 counted_after sizes made (op.Truncate file size to) few = omega (arith, length-set sizes file to)
+counted_after sizes made (op.SetAttr target before after) few = omega arith
 counted_after sizes made (op.Sync covered) few = omega arith
 counted_after sizes made op.Say few = omega arith
+
+-- these rights in place of those at the number
+set_octal : (rs : List Rights) (k : ℕ) (r : Rights) → ((n : ℕ) (q : Rights) → slice_get rs n ≡ Some q → q.permissions ≤ 511) → r.permissions ≤ 511
+    → (n : ℕ) (q : Rights) → slice_get (slice_set rs k r) n ≡ Some q → q.permissions ≤ 511
+set_octal [] k r old octal n q at = old n q at
+set_octal (x ∷ rs) zero r old octal zero q at = subst (λ (w : Rights). w.permissions ≤ 511) (some_same r q at) octal
+set_octal (x ∷ rs) zero r old octal (suc n) q at = old (suc n) q at
+set_octal (x ∷ rs) (suc k) r old octal zero q at = old zero q at
+set_octal (x ∷ rs) (suc k) r old octal (suc n) q at = set_octal rs k r (λ m w there. old (suc m) w there) octal n q at
+
+rights_after : (m : Paths) (sizes : List ℕ) (a : Attributes) (o : Resolved) → AreOctal a → IsLegal m sizes o → AreOctal (attributes_after a o)
+rights_after m sizes a (op.Creat p file rights) old fits = record { files = pushed_octal a.files rights old.files fits.2; directories = old.directories }
+rights_after m sizes a (op.Mkdir p rights) old fits =
+    record { files = old.files; directories = each_of a.directories p rights (λ q r. r.permissions ≤ 511) fits.1 (λ q r apart there. old.directories q r there) }
+rights_after m sizes a (op.Unlink p) old fits = old
+rights_after m sizes a (op.Rmdir p) old fits = old
+rights_after m sizes a (op.Rename p q) old fits = old
+rights_after m sizes a (op.Write file size offset bytes) old fits = old
+rights_after m sizes a (op.Truncate file size to) old fits = old
+rights_after m sizes a (op.SetAttr (targets.File file) before after) old fits = record { files = set_octal a.files file after old.files fits.2; directories = old.directories }
+rights_after m sizes a (op.SetAttr (targets.Directory p) before after) old fits =
+    record { files = old.files; directories = each_of a.directories p after (λ q r. r.permissions ≤ 511) fits.1 (λ q r apart there. old.directories q r there) }
+rights_after m sizes a (op.Sync covered) old fits = old
+rights_after m sizes a op.Say old fits = old
+
+-- another version, and what it keeps of attributes
+versioned : (s : State) (version : Version) (a : Attributes) → AreOctal a → s.made ≢ 0 → IsSound s → IsSound (record s { version = version; attributes = a })
+versioned s version a octal made sound = record {
+  fresh = λ none. absurd (made none);
+  rooted = sound.rooted;
+  nested = sound.nested;
+  octal = sound.octal;
+  numbered = sound.numbered;
+  found = sound.found;
+  paths = sound.paths;
+  sizes = sound.sizes;
+  legal = sound.legal;
+  short = sound.short;
+  known = sound.known;
+  few = sound.few;
+  counted = sound.counted;
+  tallied = sound.tallied;
+  small = sound.small;
+  rights = octal;
+}
 
 module _ (s : State) (sound : IsSound s) (made : s.made ≢ 0) where
   still_made : (n : ℕ) → s.made + n ≢ 0
@@ -124,6 +177,7 @@ module _ (s : State) (sound : IsSound s) (made : s.made ≢ 0) where
     counted = counted_after s.sizes s.made o sound.counted;
     tallied = let old = sound.tallied in let more = fold_push (λ (a : ℕ) (x : Resolved). a + made_by x) 0 s.operations o in omega (arith, old, more);
     small = sound.small;
+    rights = kept_octal s.version s.attributes (attributes_after s.attributes o) sound.rights (rights_after s.paths s.sizes s.attributes o sound.rights is.legal);
   }
 
   -- ---- one start line more
@@ -173,14 +227,17 @@ module _ (s : State) (sound : IsSound s) (made : s.made ≢ 0) where
   unknown_by false n does = absurd (cc)
 
   sound-later : (l : Line) → IsOctal l → (n : State) → later_step s l ≡ Ok n → IsSound n
-  sound-later (Header claims) octal n does = absurd (cc)
+  sound-later (Header version claims) octal n does = absurd (cc)
   sound-later (Start l) octal n does = begun_by _ l octal refl n does
   sound-later UnknownStart octal n does = unknown_by (length s.operations == 0) n does
   sound-later (Operation l) octal n does =
-      then_by (resolve s.paths s.sizes s.made l) _ IsSound (λ o is. value_by (taken s o) IsSound (sound-taken o (resolve_taken s.paths s.sizes s.made sound.known sound.few l octal o is))) n does
+      then_by (resolve s.paths s.sizes s.made s.attributes l) _ IsSound (λ o is. value_by (taken s o) IsSound (sound-taken o (resolve_taken s.paths s.sizes s.made s.attributes sound.known sound.rights sound.few l octal o is))) n does
   sound-later UnknownOperation octal n does = absurd (cc)
 
 -- ---- the first line
+
+none_octal : AreOctal no_attributes
+none_octal = record { files = λ n r at. absurd (not_both None r refl at); directories = λ p r there. absurd (not_both _ r (get-empty path_cmp p) there) }
 
 sound-nothing : IsSound nothing
 sound-nothing = record {
@@ -199,6 +256,7 @@ sound-nothing = record {
   counted = omega arith;
   tallied = sym (ap (λ n. n + 0) (len-empty path_cmp Entry));
   small = λ p e there. absurd (not_both _ e (get-empty path_cmp p) there);
+  rights = none_octal;
 }
   where
     none_at : (p : Path) → get (start_of nothing) p ≡ None
@@ -219,12 +277,23 @@ module _ (claims : Claims) (octal : HasOctal claims) where
       sound-directory nothing sound-nothing [] (entry_for nothing claims None) refl free_root (λ named. absurd (named refl)) octal (omega arith) (omega arith) (omega arith)
       (get-insert_same path_total path_exact (start_of nothing) [] Directory) refl
 
-header_by : (t : Bool) (claims : Claims) → HasOctal claims → (n : State) → (if t then Ok (with_start nothing [] claims None) else Err BadName) ≡ Ok n → IsSound n
-header_by true claims octal n does = value_by (with_start nothing [] claims None) IsSound (sound-root claims octal) n does
-header_by false claims octal n does = absurd (cc)
+some_made : (n : ℕ) → n + 1 ≢ 0
+some_made n none = omega arith
+
+header_by : (t : Bool) (version : Version) (claims : Claims) → HasOctal claims → (n : State) → (if t then Ok (begun nothing version claims) else Err BadName) ≡ Ok n → IsSound n
+header_by true version claims octal n does =
+    let rights = rights_of claims in
+    let root = with_directory no_attributes [] rights in
+    let all : AreOctal root = record {
+      files = none_octal.files;
+      directories = each_of empty [] rights (λ q r. r.permissions ≤ 511) octal (λ q r apart there. none_octal.directories q r there);
+    } in
+    value_by (begun nothing version claims) IsSound
+    (versioned (with_start nothing [] claims None) version (kept_in version no_attributes root) (kept_octal version no_attributes root none_octal all) (some_made 0) (sound-root claims octal)) n does
+header_by false version claims octal n does = absurd (cc)
 
 sound-first : (l : Line) → IsOctal l → (n : State) → first_step nothing l ≡ Ok n → IsSound n
-sound-first (Header claims) octal n does = header_by (are_user_names claims) claims octal n does
+sound-first (Header version claims) octal n does = header_by (are_user_names claims) version claims octal n does
 sound-first (Start l) octal n does = absurd (cc)
 sound-first UnknownStart octal n does = absurd (cc)
 sound-first (Operation l) octal n does = absurd (cc)
@@ -239,10 +308,10 @@ module _ (s : State) (sound : IsSound s) where
       sound-first l octal n (ap (λ w. first_step w l) (sym first) ∙ does)
   line_by l false is octal n does = sound-later s sound (λ zero_made. false≢true (sym is ∙ eq-eqb _ _ zero_made)) l octal n does
 
-  text_by : (text : List ℕ) (blank : Bool) (l : Option Line) → line_in text ≡ l → (n : State) → (if blank then Ok s else option_map_or (line_step s) l (Err Syntax)) ≡ Ok n → IsSound n
+  text_by : (text : List ℕ) (blank : Bool) (l : Option Line) → line_in s.version text ≡ l → (n : State) → (if blank then Ok s else option_map_or (line_step s) l (Err Syntax)) ≡ Ok n → IsSound n
   text_by text true l is n does = value_by s IsSound sound n does
   text_by text false None is n does = absurd (cc)
-  text_by text false (Some l) is n does = line_by l _ refl (line_octal text l is) n does
+  text_by text false (Some l) is n does = line_by l _ refl (line_octal s.version text l is) n does
 
 lines_by : (n : State) (number : ℕ) (lines : List (List ℕ)) (r : Result State TraceFaultKind)
     → ((next : State) → r ≡ Ok next → state_from next (number + 1) lines ≡ Ok n → IsSound n)
@@ -253,7 +322,7 @@ lines_by n number lines (Err kind) rest does = absurd (cc)
 sound-from : (s n : State) (number : ℕ) (lines : List (List ℕ)) → IsSound s → state_from s number lines ≡ Ok n → IsSound n
 sound-from s n number [] sound does = let same : s ≡ n = cc in subst IsSound same sound
 sound-from s n number (text ∷ lines) sound does =
-    lines_by n number lines (step s text) (λ next is rest. sound-from next n (number + 1) lines (text_by s sound text (is_blank text) (line_in text) refl next is) rest) does
+    lines_by n number lines (step s text) (λ next is rest. sound-from next n (number + 1) lines (text_by s sound text (is_blank text) (line_in s.version text) refl next is) rest) does
 
 pub sound-state_in : (lines : List (List ℕ)) (s : State) → state_in lines ≡ Ok s → IsSound s
 sound-state_in lines s does = sound-from nothing s 1 lines sound-nothing does

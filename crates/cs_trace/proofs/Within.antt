@@ -5,11 +5,12 @@ use Rattle.std.specs.FinMap.{get}
 use Rattle.cs_names.specs.declared.limits.TheConstants.{FILE_BYTES, SAY_BYTES}
 use Rattle.std.specs.Prelude.{nat_lt}
 use Rattle.cs_tree_model.specs.Tree.{Path}
-use Rattle.cs_trace.specs.Judging.{and_then, covered_by, emptied_at, ends_above, file_at, free_at, has_too_many_names, is_too_much, legal, resolve, target_at, unless_too_large}
+use Rattle.cs_trace.specs.Attributes.{Attributes}
+use Rattle.cs_trace.specs.Judging.{and_then, covered_by, emptied_at, ends_above, file_at, found, free_at, has_too_many_names, held, is_too_much, legal, resolve, target_at, unless_too_large}
 use Rattle.cs_trace.specs.Kept.{IsWithin}
 use Rattle.cs_trace.specs.Lines as line
 use Rattle.cs_trace.specs.Lines.{OperationLine}
-use Rattle.cs_trace.specs.Names.{entry_path_of, new_path_of, path_of}
+use Rattle.cs_trace.specs.Names.{entry_path_of, new_path_of, path_of, set_path_of}
 use Rattle.cs_trace.specs.Operations.{Paths}
 use Rattle.cs_trace.specs.declared.fault.TraceFaultKind.{TraceFaultKind}
 use Rattle.cs_trace.specs.declared.operation.Node.{Node}
@@ -39,8 +40,8 @@ covered_within (Some (File file)) p o is = value_by _ IsWithin tt o is
 pub ends_within : (offset : ℕ) (bytes : List ℕ) → ends_above offset bytes ≡ false → 0 < length bytes → offset + length bytes ≤ FILE_BYTES
 ends_within offset bytes is some = grind (arith, nat_tests)
 
-module _ (m : Paths) (sizes : List ℕ) (made : ℕ) where
-  pub resolve_within : (l : OperationLine) (o : Operation) → resolve m sizes made l ≡ Ok o → IsWithin o
+module _ (m : Paths) (sizes : List ℕ) (made : ℕ) (a : Attributes) where
+  pub resolve_within : (l : OperationLine) (o : Operation) → resolve m sizes made a l ≡ Ok o → IsWithin o
   resolve_within (line.Creat text claims) =
       then_by (legal (new_path_of text claims)) _ IsWithin (λ p _. then_by (free_at m p) _ IsWithin (λ _ _. limit_by (is_too_much made p) _ IsWithin (λ _. tt)))
   resolve_within (line.Mkdir text claims) =
@@ -54,6 +55,8 @@ module _ (m : Paths) (sizes : List ℕ) (made : ℕ) where
       then_by (legal (entry_path_of text)) _ IsWithin (λ p _. then_by (file_at m p) _ IsWithin (λ file _. limit_by (ends_above offset bytes) _ IsWithin (ends_within offset bytes)))
   resolve_within (line.Truncate text size) =
       then_by (legal (entry_path_of text)) _ IsWithin (λ p _. then_by (file_at m p) _ IsWithin (λ file _. limit_by (nat_lt FILE_BYTES size) _ IsWithin (λ _. tt)))
+  resolve_within (line.SetAttr text change) =
+      then_by (legal (set_path_of text change)) _ IsWithin (λ p _. then_by (found (held m a p)) _ IsWithin (λ _ _. value_by _ IsWithin tt))
   resolve_within (line.Fsync text) = then_by (legal (path_of text)) _ IsWithin (λ p _. covered_within (get m p) p)
   resolve_within line.Sync = value_by _ IsWithin tt
   resolve_within (line.Say text) = limit_by (nat_lt SAY_BYTES (length text)) _ IsWithin (λ _. tt)

@@ -15,6 +15,7 @@ pub data Field : Type 0 where
 -- the field of each key that the format has, and whether there are other keys
 pub record Fields : Type 0 where
   pub trace : Option Field
+  pub profile : Option Field
   pub start : Option Field
   pub op : Option Field
   pub path : Option Field
@@ -50,7 +51,7 @@ is_key key name = pointwise nat_eq key name
 abbrev pub is_known : List ℕ → Bool
 is_known key =
     list_any (is_key key)
-    (codes "trace" ∷ codes "start" ∷ codes "op" ∷ codes "path" ∷ codes "from" ∷ codes "to" ∷ codes "owner" ∷ codes "group" ∷ codes "mode" ∷ codes "bytes" ∷ codes "offset" ∷ codes "length" ∷ codes "text" ∷ [])
+    (codes "trace" ∷ codes "profile" ∷ codes "start" ∷ codes "op" ∷ codes "path" ∷ codes "from" ∷ codes "to" ∷ codes "owner" ∷ codes "group" ∷ codes "mode" ∷ codes "bytes" ∷ codes "offset" ∷ codes "length" ∷ codes "text" ∷ [])
 
 -- one of the keys is none that the format has
 abbrev pub has_others : Members → Bool
@@ -61,6 +62,7 @@ has_others (member key d ms) = not (is_known key) || has_others ms
 abbrev pub fields_of : Members → Fields
 fields_of ms = record {
   trace = field_at (codes "trace") ms;
+  profile = field_at (codes "profile") ms;
   start = field_at (codes "start") ms;
   op = field_at (codes "op") ms;
   path = field_at (codes "path") ms;
@@ -83,7 +85,7 @@ fields_in d = option_map fields_of (as_object d)
 -- exactly so many keys, and each of them one that the format has
 abbrev pub has_keys : ℕ → Fields → Bool
 has_keys count f =
-    not f.others && (length (filter is_some (f.trace ∷ f.start ∷ f.op ∷ f.path ∷ f.from ∷ f.to ∷ f.owner ∷ f.group ∷ f.mode ∷ f.bytes ∷ f.offset ∷ f.length ∷ f.text ∷ [])) == count)
+    not f.others && (length (filter is_some (f.trace ∷ f.profile ∷ f.start ∷ f.op ∷ f.path ∷ f.from ∷ f.to ∷ f.owner ∷ f.group ∷ f.mode ∷ f.bytes ∷ f.offset ∷ f.length ∷ f.text ∷ [])) == count)
 
 -- the text of a field
 abbrev pub text_of : Field → Option (List ℕ)

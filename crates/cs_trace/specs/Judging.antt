@@ -1,13 +1,14 @@
 -- What a line needs of what stands, and its first fault.
 use Rattle.std.specs.Prelude.{◌≡◌, ◌≤◌, ℕ, ◌+◌, ◌||◌, ◌&&◌, Bool, true, false, List, length, nat_le, nat_lt, Option, Some, None, slice_index_or, if◌then◌else◌, Result, Ok, Err}
 use Rattle.std.specs.FinMap.{get}
-use Rattle.std.specs.Option.{option_map_or}
+use Rattle.std.specs.Option.{option_and_then, option_map, option_map_or}
 use Rattle.cs_names.specs.declared.limits.TheConstants.{FILE_BYTES, SAY_BYTES, TRACE_PATH_NAMES, TREE_RECORDS}
 use Rattle.cs_tree_model.specs.Tree.{Path, parent_path}
+use Rattle.cs_trace.specs.Attributes.{Attributes, rights_at, target_of}
 use Rattle.cs_trace.specs.Below.{has_below}
 use Rattle.cs_trace.specs.Lines as line
-use Rattle.cs_trace.specs.Lines.{Claims, OperationLine}
-use Rattle.cs_trace.specs.Names.{entry_path_of, new_path_of, path_of, rights_of}
+use Rattle.cs_trace.specs.Lines.{Change, Claims, Mode, Owner, OperationLine}
+use Rattle.cs_trace.specs.Names.{entry_path_of, new_path_of, path_of, rights_of, set_path_of}
 use Rattle.cs_trace.specs.Operations.{Paths}
 use Rattle.cs_trace.specs.declared.fault.TraceFaultKind.{TraceFaultKind}
 use Rattle.cs_trace.specs.declared.fault.TraceFaultKind.TheVariants.{Syntax, UnknownOp, BadName, NoParent, NotDir, Exists, Missing, NotFile, NotEmpty, TooLarge, Memory}
@@ -15,7 +16,9 @@ use Rattle.cs_trace.specs.declared.operation.Covers.TheVariants as covers
 use Rattle.cs_trace.specs.declared.operation.Node.{Node}
 use Rattle.cs_trace.specs.declared.operation.Node.TheVariants.{Directory, File}
 use Rattle.cs_trace.specs.declared.operation.Operation.{Operation}
-use Rattle.cs_trace.specs.declared.operation.Operation.TheVariants.{Creat, Mkdir, Unlink, Rmdir, Rename, Write, Truncate, Sync, Say}
+use Rattle.cs_trace.specs.declared.operation.Operation.TheVariants.{Creat, Mkdir, Unlink, Rmdir, Rename, Write, Truncate, SetAttr, Sync, Say}
+use Rattle.cs_trace.specs.declared.operation.Rights.{Rights}
+use Rattle.cs_trace.specs.declared.operation.Target.{Target}
 
 abbrev pub and_then : {A B E : Type 0} → Result A E → (A → Result B E) → Result B E
 and_then (Ok x) f = f x
@@ -69,6 +72,17 @@ target_at m p = target_by (get m (parent_path p)) (get m p)
 abbrev pub emptied_at : Paths → Path → Result (Unit {0}) TraceFaultKind
 emptied_at m p = emptied_by (get m p) (has_below m p)
 
+-- the file or directory that stands at a path, with its rights
+abbrev pub held_by : Attributes → Path → Node → Option (Target × Rights)
+held_by a p node = option_map (λ rights. (target_of node p, rights)) (rights_at a node p)
+
+abbrev pub held : Paths → Attributes → Path → Option (Target × Rights)
+held m a p = option_and_then (held_by a p) (get m p)
+
+-- what there is; Missing where there is nothing
+abbrev pub found : {A : Type 0} → Option A → Result A TraceFaultKind
+found here = option_map_or Ok here (Err Missing)
+
 -- ---- limits
 
 abbrev pub has_too_many_names : Path → Bool
@@ -112,6 +126,14 @@ write m sizes p offset bytes = and_then (file_at m p) (λ file. unless_too_large
 abbrev pub truncate : Paths → List ℕ → Path → ℕ → Result Operation TraceFaultKind
 truncate m sizes p size = and_then (file_at m p) (λ file. unless_too_large (nat_lt FILE_BYTES size) (Truncate file (size_in sizes file) size))
 
+-- a chmod leaves owner and group as they stand, and a chown the permissions
+abbrev pub changed : Change → Rights → Rights
+changed (Mode permissions) rights = record rights { permissions = permissions }
+changed (Owner owner group) rights = record rights { owner = owner; group = group }
+
+abbrev pub set_attr : Paths → Attributes → Path → Change → Result Operation TraceFaultKind
+set_attr m a p change = and_then (found (held m a p)) (λ h. Ok (SetAttr h.0 h.1 (changed change h.1)))
+
 abbrev pub fsync : Paths → Path → Result Operation TraceFaultKind
 fsync m p = covered_by (get m p) p
 
@@ -127,19 +149,20 @@ legal path = option_map_or Ok path (Err BadName)
 abbrev pub with_path : {A : Type 0} → Option Path → (Path → Result A TraceFaultKind) → Result A TraceFaultKind
 with_path path f = and_then (legal path) f
 
--- the operation of a line, where these paths stand, the files have these sizes, and so many records were
--- made; or its first fault
-abbrev pub resolve : Paths → List ℕ → ℕ → OperationLine → Result Operation TraceFaultKind
-resolve m sizes made (line.Creat text claims) = with_path (new_path_of text claims) (λ p. creat m made (length sizes) p claims)
-resolve m sizes made (line.Mkdir text claims) = with_path (new_path_of text claims) (λ p. mkdir m made p claims)
-resolve m sizes made (line.Unlink text) = with_path (entry_path_of text) (unlink m)
-resolve m sizes made (line.Rmdir text) = with_path (entry_path_of text) (rmdir m)
-resolve m sizes made (line.Rename from to) = with_path (entry_path_of from) (λ p. with_path (entry_path_of to) (λ q. rename m p q))
-resolve m sizes made (line.Write text offset bytes) = with_path (entry_path_of text) (λ p. write m sizes p offset bytes)
-resolve m sizes made (line.Truncate text size) = with_path (entry_path_of text) (λ p. truncate m sizes p size)
-resolve m sizes made (line.Fsync text) = with_path (path_of text) (fsync m)
-resolve m sizes made line.Sync = Ok (Sync covers.All)
-resolve m sizes made (line.Say text) = say text
+-- the operation of a line, where these paths stand, the files have these sizes, so many records were made,
+-- and files and directories have these attributes; or its first fault
+abbrev pub resolve : Paths → List ℕ → ℕ → Attributes → OperationLine → Result Operation TraceFaultKind
+resolve m sizes made a (line.Creat text claims) = with_path (new_path_of text claims) (λ p. creat m made (length sizes) p claims)
+resolve m sizes made a (line.Mkdir text claims) = with_path (new_path_of text claims) (λ p. mkdir m made p claims)
+resolve m sizes made a (line.Unlink text) = with_path (entry_path_of text) (unlink m)
+resolve m sizes made a (line.Rmdir text) = with_path (entry_path_of text) (rmdir m)
+resolve m sizes made a (line.Rename from to) = with_path (entry_path_of from) (λ p. with_path (entry_path_of to) (λ q. rename m p q))
+resolve m sizes made a (line.Write text offset bytes) = with_path (entry_path_of text) (λ p. write m sizes p offset bytes)
+resolve m sizes made a (line.Truncate text size) = with_path (entry_path_of text) (λ p. truncate m sizes p size)
+resolve m sizes made a (line.SetAttr text change) = with_path (set_path_of text change) (λ p. set_attr m a p change)
+resolve m sizes made a (line.Fsync text) = with_path (path_of text) (fsync m)
+resolve m sizes made a line.Sync = Ok (Sync covers.All)
+resolve m sizes made a (line.Say text) = say text
 
 -- ---- where memory may be wanted
 

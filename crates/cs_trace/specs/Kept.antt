@@ -1,14 +1,28 @@
 -- What a reader keeps of the lines so far; for private clauses.
 use Rattle.std.specs.Prelude.{◌<◌, ◌≤◌, ◌+◌, length}
 use Rattle.cs_names.specs.declared.limits.TheConstants.{FILE_BYTES, TREE_RECORDS}
+use Rattle.cs_tree_model.specs.Tree.{Path}
+use Rattle.cs_trace.specs.Attributes.{Attributes, with_directory, with_file}
 use Rattle.cs_trace.specs.Judging.{AreShort}
 use Rattle.cs_trace.specs.States.{State}
+use Rattle.cs_trace.specs.declared.attributes.Attributes.{Attributes as KeptAttributes}
+use Rattle.cs_trace.specs.declared.operation.Node.{Node}
+use Rattle.cs_trace.specs.declared.operation.Node.TheVariants.{Directory, File}
 use Rattle.cs_trace.specs.declared.operation.Operation.{Operation}
 use Rattle.cs_trace.specs.declared.operation.Operation.TheVariants.{Write}
+use Rattle.cs_trace.specs.declared.operation.Rights.{Rights}
 use Rattle.cs_trace.specs.declared.state.State.{State as KeptState}
 
+abbrev pub attributes_of : KeptAttributes → Attributes
+attributes_of a = record { files = a.files.items; directories = a.directories }
+
+-- one entry more: a file, or a directory at the path
+abbrev pub with_node : Attributes → Node → Path → Rights → Attributes
+with_node a Directory p rights = with_directory a p rights
+with_node a (File file) p rights = with_file a rights
+
 abbrev pub state_of : KeptState → State
-state_of s = record { start = s.tree.start; files = s.files.items; paths = s.tree.nodes; sizes = s.sizes.items; made = s.made; operations = s.operations.items }
+state_of s = record { version = s.version; start = s.tree.start; files = s.files.items; paths = s.tree.nodes; sizes = s.sizes.items; made = s.made; attributes = attributes_of s.attributes; operations = s.operations.items }
 
 -- a write of at least one byte ends within the greatest file
 abbrev pub IsWithin : Operation → Type 0

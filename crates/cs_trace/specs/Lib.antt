@@ -1,4 +1,6 @@
+pub mod Attributes
 pub mod Below
+pub mod Checks
 pub mod Entries
 pub mod Faults
 pub mod Fields

@@ -1,5 +1,5 @@
 -- What a line of a trace says by itself, through what `serde_json` reads as a value.
-use Rattle.std.specs.Prelude.{ℕ, ◌+◌, ◌-◌, ◌*◌, ◌==◌, ◌||◌, ◌&&◌, Bool, false, List, [], ◌∷◌, nat_eq, nat_le, codes, Option, Some, None, option_and_then, unwrap_or, if◌then◌else◌}
+use Rattle.std.specs.Prelude.{ℕ, ◌+◌, ◌-◌, ◌*◌, ◌==◌, ◌||◌, ◌&&◌, Bool, false, true, List, [], ◌∷◌, nat_eq, nat_le, codes, Option, Some, None, option_and_then, unwrap_or, if◌then◌else◌}
 use Rattle.std.specs.Cmp.Lexicographic.{pointwise}
 use Rattle.std.specs.Option.{option_map, option_map_or}
 use Rattle.std.specs.List.{list_all}
@@ -7,8 +7,12 @@ use Rattle.std.specs.Result.{result_ok}
 use Rattle.serde_json.specs.Read.{read}
 use Rattle.serde_json.specs.Find.{as_u64}
 use Rattle.hex.specs.Hex.{decode_of}
+use Rattle.cs_trace.specs.declared.profile.Profile.{Profile}
+use Rattle.cs_trace.specs.declared.profile.Profile.TheVariants.{Blocks, Ordered}
 use Rattle.cs_trace.specs.declared.verb.Verb.{Verb}
 use Rattle.cs_trace.specs.declared.verb.Verb.TheVariants as verb
+use Rattle.cs_trace.specs.declared.version.Version.{Version}
+use Rattle.cs_trace.specs.declared.version.Version.TheVariants.{First, Second}
 use Rattle.cs_trace.specs.Fields.{Field, Number, Other, Text, Fields, fields_in, has_keys, text_of}
 
 -- owner, group and permissions as a line has them
@@ -23,6 +27,11 @@ pub record StartLine : Type 0 where
   pub claims : Claims
   pub content : Option (List ℕ)
 
+-- what a chmod or a chown sets: the permissions, or the owner and the group
+pub data Change : Type 0 where
+  Mode : ℕ → Change
+  Owner : List ℕ → List ℕ → Change
+
 -- an operation, with its paths as texts
 pub data OperationLine : Type 0 where
   Creat : List ℕ → Claims → OperationLine
@@ -34,14 +43,15 @@ pub data OperationLine : Type 0 where
   Write : List ℕ → ℕ → List ℕ → OperationLine
   -- its length
   Truncate : List ℕ → ℕ → OperationLine
+  SetAttr : List ℕ → Change → OperationLine
   Fsync : List ℕ → OperationLine
   Sync : OperationLine
   Say : List ℕ → OperationLine
 
--- the header, which says who has the root; a start line; an operation; a start line or an operation of
+-- the header, which tells the version and who has the root; a start line; an operation; a start line or an operation of
 -- no known name
 pub data Line : Type 0 where
-  Header : Claims → Line
+  Header : Version → Claims → Line
   Start : StartLine → Line
   Operation : OperationLine → Line
   UnknownStart : Line
@@ -56,12 +66,6 @@ is_blank line = list_all (λ c. c == 32 || c == 9 || c == 13) line
 -- the text of a field that stands in the line
 abbrev pub text_in : Option Field → Option (List ℕ)
 text_in field = option_and_then text_of field
-
--- the whole number 1, written without sign, point and exponent
-abbrev pub is_one : Field → Bool
-is_one (Text s) = false
-is_one (Number n) = option_map_or (λ k. k == 1) (as_u64 n) false
-is_one Other = false
 
 -- a whole number below 2^64, written without sign, point and exponent
 abbrev pub whole_of : Field → Option ℕ
@@ -103,9 +107,29 @@ claims_in f =
 
 -- ---- the line; None where it is Syntax
 
--- a header of this version
+-- what the file system keeps in order, by its name
+abbrev pub profile_named : List ℕ → Option Profile
+profile_named name =
+    if pointwise nat_eq name (codes "blocks") then Some Blocks
+    else (if pointwise nat_eq name (codes "ordered") then Some Ordered
+    else None)
+
+-- the version of a header's number, with exactly its keys: the second has a profile among them
+abbrev pub version_in : ℕ → Fields → Option Version
+version_in number f =
+    if number == 1 && has_keys 4 f then Some First
+    else (if number == 2 && has_keys 5 f then option_map Second (option_and_then profile_named (text_in f.profile))
+    else None)
+
+-- the first version has the profile of blocks
+abbrev pub profile_of : Version → Profile
+profile_of First = Blocks
+profile_of (Second profile) = profile
+
+-- a header
 abbrev pub header_in : Field → Fields → Option Line
-header_in version f = if is_one version && has_keys 4 f then option_map Header (claims_in f) else None
+header_in number f =
+    option_and_then (λ n. option_and_then (λ version. option_map (Header version) (claims_in f)) (version_in n f)) (whole_of number)
 
 -- a start line with exactly so many keys
 abbrev pub start_with : ℕ → Fields → Option (List ℕ) → Option StartLine
@@ -133,10 +157,22 @@ verb_named name =
     else (if pointwise nat_eq name (codes "rename") then Some verb.Rename
     else (if pointwise nat_eq name (codes "write") then Some verb.Write
     else (if pointwise nat_eq name (codes "truncate") then Some verb.Truncate
+    else (if pointwise nat_eq name (codes "chmod") then Some verb.Chmod
+    else (if pointwise nat_eq name (codes "chown") then Some verb.Chown
     else (if pointwise nat_eq name (codes "fsync") then Some verb.Fsync
     else (if pointwise nat_eq name (codes "sync") then Some verb.Sync
     else (if pointwise nat_eq name (codes "say") then Some verb.Say
-    else None)))))))))
+    else None)))))))))))
+
+-- the first version has no chmod and no chown
+abbrev pub belongs_to : Version → Verb → Bool
+belongs_to First verb.Chmod = false
+belongs_to First verb.Chown = false
+belongs_to _ v = true
+
+-- the operation of this name in a trace of this version
+abbrev pub verb_in : Version → List ℕ → Option Verb
+verb_in version name = option_and_then (λ v. if belongs_to version v then Some v else None) (verb_named name)
 
 -- how many keys its line has, `op` among them
 abbrev pub key_count : Verb → ℕ
@@ -147,6 +183,8 @@ key_count verb.Rmdir = 2
 key_count verb.Rename = 3
 key_count verb.Write = 4
 key_count verb.Truncate = 3
+key_count verb.Chmod = 3
+key_count verb.Chown = 4
 key_count verb.Fsync = 2
 key_count verb.Sync = 1
 key_count verb.Say = 2
@@ -161,6 +199,10 @@ operation_of verb.Rename f = option_and_then (λ from. option_map (λ to. Rename
 operation_of verb.Write f =
     option_and_then (λ path. option_and_then (λ offset. option_map (λ bytes. Write path offset bytes) (bytes_in f.bytes)) (whole_in f.offset)) (text_in f.path)
 operation_of verb.Truncate f = option_and_then (λ path. option_map (λ size. Truncate path size) (whole_in f.length)) (text_in f.path)
+operation_of verb.Chmod f =
+    option_and_then (λ path. option_and_then (λ mode. option_map (λ permissions. SetAttr path (Mode permissions)) (permissions_in mode)) (text_in f.mode)) (text_in f.path)
+operation_of verb.Chown f =
+    option_and_then (λ path. option_and_then (λ owner. option_map (λ group. SetAttr path (Owner owner group)) (text_in f.group)) (text_in f.owner)) (text_in f.path)
 operation_of verb.Fsync f = option_map (λ path. Fsync path) (text_in f.path)
 operation_of verb.Sync f = Some Sync
 operation_of verb.Say f = option_map (λ text. Say text) (text_in f.text)
@@ -169,20 +211,20 @@ operation_of verb.Say f = option_map (λ text. Say text) (text_in f.text)
 abbrev pub operation_with : Verb → Fields → Option Line
 operation_with v f = if has_keys (key_count v) f then option_map Operation (operation_of v f) else None
 
--- an operation of this name
-abbrev pub operation_in : List ℕ → Fields → Option Line
-operation_in name f = option_map_or (λ v. operation_with v f) (verb_named name) (Some UnknownOperation)
+-- an operation of this name in a trace of this version
+abbrev pub operation_in : Version → List ℕ → Fields → Option Line
+operation_in version name f = option_map_or (λ v. operation_with v f) (verb_in version name) (Some UnknownOperation)
 
 -- exactly one of the keys `trace`, `start` and `op` stands in a line
-abbrev pub line_by : Option Field → Option Field → Option Field → Fields → Option Line
-line_by (Some version) None None f = header_in version f
-line_by None (Some start) None f = option_and_then (λ kind. start_line_in kind f) (text_of start)
-line_by None None (Some operation) f = option_and_then (λ name. operation_in name f) (text_of operation)
-line_by _ _ _ f = None
+abbrev pub line_by : Version → Option Field → Option Field → Option Field → Fields → Option Line
+line_by version (Some number) None None f = header_in number f
+line_by version None (Some start) None f = option_and_then (λ kind. start_line_in kind f) (text_of start)
+line_by version None None (Some operation) f = option_and_then (λ name. operation_in version name f) (text_of operation)
+line_by version _ _ _ f = None
 
-abbrev pub line_of : Fields → Option Line
-line_of f = line_by f.trace f.start f.op f
+abbrev pub line_of : Version → Fields → Option Line
+line_of version f = line_by version f.trace f.start f.op f
 
--- what the text of a line says
-unfoldable pub line_in : List ℕ → Option Line
-line_in text = option_and_then line_of (option_and_then fields_in (read text))
+-- what the text of a line says in a trace of this version
+unfoldable pub line_in : Version → List ℕ → Option Line
+line_in version text = option_and_then (line_of version) (option_and_then fields_in (read text))

@@ -1,11 +1,11 @@
 -- The names in a line: paths, users and groups.
-use Rattle.std.specs.Prelude.{◌≡◌, ◌<◌, ◌≤◌, ℕ, ◌+◌, Bool, ◌&&◌, List, [], ◌∷◌, length, Option, Some, None, option_and_then, unwrap_or, is_ok, if◌then◌else◌}
+use Rattle.std.specs.Prelude.{◌≡◌, ◌<◌, ◌≤◌, ℕ, ◌+◌, Bool, true, ◌&&◌, List, [], ◌∷◌, length, Option, Some, None, option_and_then, unwrap_or, is_ok, if◌then◌else◌}
 use Rattle.std.specs.Result.{result_ok}
 use Rattle.cs_names.specs.Legal.{user_name_in}
 use Rattle.cs_names.specs.Paths.{path_in}
 use Rattle.cs_names.specs.declared.limits.TheConstants.{TRACE_PATH_NAMES}
 use Rattle.cs_tree_model.specs.Tree.{Path}
-use Rattle.cs_trace.specs.Lines.{Claims}
+use Rattle.cs_trace.specs.Lines.{Change, Claims, Mode, Owner}
 use Rattle.cs_trace.specs.declared.operation.Rights.{Rights}
 
 abbrev pub is_user_name : List ℕ → Bool
@@ -38,6 +38,15 @@ entry_path_of text = option_and_then below_root (path_of text)
 -- the path of a new entry, with its owner and its group; None where one of them is not legal
 abbrev pub new_path_of : List ℕ → Claims → Option Path
 new_path_of text claims = option_and_then (λ p. if are_user_names claims then Some p else None) (entry_path_of text)
+
+-- what is set has legal names
+abbrev pub are_set_names : Change → Bool
+are_set_names (Mode permissions) = true
+are_set_names (Owner owner group) = is_user_name owner && is_user_name group
+
+-- the path of what is set; None where a name is not legal
+abbrev pub set_path_of : List ℕ → Change → Option Path
+set_path_of text change = option_and_then (λ p. if are_set_names change then Some p else None) (path_of text)
 
 -- a text that spells a path of so many names, which aren't too many for a directory; none is known to
 -- where there are 0 of them

@@ -9,7 +9,8 @@ use Rattle.cs_trace.specs.declared.operation.Node.{Node}
 use Rattle.cs_trace.specs.declared.operation.Node.TheVariants.{Directory, File}
 use Rattle.cs_trace.specs.declared.operation.Operation.{Operation}
 use Rattle.cs_trace.specs.declared.operation.Rights.{Rights}
-use Rattle.cs_trace.specs.declared.operation.Operation.TheVariants.{Creat, Mkdir, Unlink, Rmdir, Rename, Write, Truncate, Sync, Say}
+use Rattle.cs_trace.specs.declared.operation.Operation.TheVariants.{Creat, Mkdir, Unlink, Rmdir, Rename, Write, Truncate, SetAttr, Sync, Say}
+use Rattle.cs_trace.specs.declared.operation.Target.TheVariants as targets
 
 -- what stands at each path
 abbrev pub Paths : Type 0
@@ -79,7 +80,8 @@ abbrev pub IsOctal : Rights → Type 0
 IsOctal rights = rights.permissions ≤ 511
 
 -- the operation is legal where these paths stand and the files have these sizes: a new file has the next
--- number, a file that is changed or waited for stands, and no operation leaves a file that is too large
+-- number, a file that is changed or waited for stands, as does a directory, permissions are three octal
+-- digits, and no operation leaves a file that is too large
 abbrev pub IsLegal : Paths → List ℕ → Operation → Type 0
 IsLegal m sizes (Creat p file rights) = IsFree m p × (file ≡ length sizes) × IsOctal rights
 IsLegal m sizes (Mkdir p rights) = IsFree m p × IsOctal rights
@@ -88,6 +90,8 @@ IsLegal m sizes (Rmdir p) = (p ≢ []) × IsDirectoryAt m p × IsEmptyAt m p
 IsLegal m sizes (Rename p q) = IsFileAt m p × MayTake m q
 IsLegal m sizes (Write file size offset bytes) = Stands m file × HasSize sizes file size × (0 < length bytes → offset + length bytes ≤ FILE_BYTES)
 IsLegal m sizes (Truncate file size to) = Stands m file × HasSize sizes file size × (to ≤ FILE_BYTES)
+IsLegal m sizes (SetAttr (targets.File file) before after) = Stands m file × (file < length sizes) × IsOctal after
+IsLegal m sizes (SetAttr (targets.Directory p) before after) = IsDirectoryAt m p × IsOctal after
 IsLegal m sizes (Sync covers.All) = Unit {0}
 IsLegal m sizes (Sync (covers.File file)) = Stands m file × (file < length sizes)
 IsLegal m sizes (Sync (covers.Directory p)) = IsDirectoryAt m p

@@ -20,6 +20,7 @@ field_said lent.Other = Other
 abbrev pub fields_said : LentFields → Fields
 fields_said f = record {
   trace = option_map field_said f.trace;
+  profile = option_map field_said f.profile;
   start = option_map field_said f.start;
   op = option_map field_said f.op;
   path = option_map field_said f.path;
@@ -42,6 +43,7 @@ replaced_if is field old = if is then Some field else old
 abbrev pub with_field : List ℕ → Field → Fields → Fields
 with_field key field f = record {
   trace = replaced_if (is_key key (codes "trace")) field f.trace;
+  profile = replaced_if (is_key key (codes "profile")) field f.profile;
   start = replaced_if (is_key key (codes "start")) field f.start;
   op = replaced_if (is_key key (codes "op")) field f.op;
   path = replaced_if (is_key key (codes "path")) field f.path;

@@ -5,6 +5,7 @@ use Rattle.std.specs.List.{slice_split}
 use Rattle.std.specs.Option.{option_map_or}
 use Rattle.cs_names.specs.declared.limits.TheConstants.{FILE_BYTES}
 use Rattle.cs_tree_model.specs.Tree.{Path}
+use Rattle.cs_trace.specs.Attributes.{Attributes, attributes_after, kept_in, no_attributes, with_directory, with_file}
 use Rattle.cs_trace.specs.Entries.{Entries, node_of, size_of}
 use Rattle.cs_trace.specs.Judging.{and_then, free_at, is_too_much, resolve, unless_too_large, with_path}
 use Rattle.cs_trace.specs.Lines.{Claims, Header, Line, Operation, Start, StartLine, UnknownOperation, UnknownStart, is_blank, line_in}
@@ -15,27 +16,32 @@ use Rattle.cs_trace.specs.declared.fault.TraceFault.{TraceFault}
 use Rattle.cs_trace.specs.declared.fault.TraceFaultKind.{TraceFaultKind}
 use Rattle.cs_trace.specs.declared.fault.TraceFaultKind.TheVariants.{Syntax, UnknownOp, BadName}
 use Rattle.cs_trace.specs.declared.operation.Operation.{Operation as Resolved}
+use Rattle.cs_trace.specs.declared.version.Version.{Version}
+use Rattle.cs_trace.specs.declared.version.Version.TheVariants.{First}
 
--- what the lines so far leave: the entries at the start and the paths of its files by their numbers; what
--- stands now, each file's size by its number, and how many records were ever made; the operations
+-- what the lines so far leave: the version; the entries at the start and the paths of its files by their
+-- numbers; what stands now, each file's size by its number, how many records were ever made, and owner, group
+-- and permissions of files and directories, where the version asks for them; the operations
 pub record State : Type 0 where
+  pub version : Version
   pub start : Entries
   pub files : List Path
   pub paths : Paths
   pub sizes : List ℕ
   pub made : ℕ
+  pub attributes : Attributes
   pub operations : List Resolved
 
 abbrev pub nothing : State
-nothing = record { start = empty; files = []; paths = empty; sizes = []; made = 0; operations = [] }
+nothing = record { version = First; start = empty; files = []; paths = empty; sizes = []; made = 0; attributes = no_attributes; operations = [] }
 
 -- ---- one line more
 
 -- a directory, or a file with its bytes, at the start
 abbrev pub with_entry : State → Path → Entry → Option (List ℕ) → State
-with_entry s p e None = record s { start = insert s.start p e; paths = insert s.paths p (node_of e); made = s.made + 1 }
+with_entry s p e None = record s { start = insert s.start p e; paths = insert s.paths p (node_of e); made = s.made + 1; attributes = kept_in s.version s.attributes (with_directory s.attributes p e.rights) }
 with_entry s p e (Some bytes) =
-    record s { start = insert s.start p e; files = s.files ++ p ∷ []; paths = insert s.paths p (node_of e); sizes = s.sizes ++ length bytes ∷ []; made = s.made + 1 }
+    record s { start = insert s.start p e; files = s.files ++ p ∷ []; paths = insert s.paths p (node_of e); sizes = s.sizes ++ length bytes ∷ []; made = s.made + 1; attributes = kept_in s.version s.attributes (with_file s.attributes e.rights) }
 
 -- a file takes the next number; a directory has none
 abbrev pub number_for : State → Option (List ℕ) → ℕ
@@ -48,9 +54,13 @@ entry_for s claims content = record { number = number_for s content; rights = ri
 abbrev pub with_start : State → Path → Claims → Option (List ℕ) → State
 with_start s p claims content = with_entry s p (entry_for s claims content) content
 
--- the first line is the header, which gives the root
+-- the root stands in a trace of this version
+abbrev pub begun : State → Version → Claims → State
+begun s version claims = with_start (record s { version = version }) [] claims None
+
+-- the first line is the header, which tells the version and gives the root
 abbrev pub first_step : State → Line → Result State TraceFaultKind
-first_step s (Header claims) = if are_user_names claims then Ok (with_start s [] claims None) else Err BadName
+first_step s (Header version claims) = if are_user_names claims then Ok (begun s version claims) else Err BadName
 first_step s _ = Err Syntax
 
 -- a file or a directory at the start, where its names are legal
@@ -62,22 +72,22 @@ abbrev pub start_step : State → StartLine → Result State TraceFaultKind
 start_step s line = with_path (new_path_of line.path line.claims) (λ p. start_at s p line.claims line.content)
 
 abbrev pub taken : State → Resolved → State
-taken s o = record s { paths = paths_after s.paths o; sizes = sizes_after s.sizes o; made = s.made + made_by o; operations = s.operations ++ o ∷ [] }
+taken s o = record s { paths = paths_after s.paths o; sizes = sizes_after s.sizes o; made = s.made + made_by o; attributes = kept_in s.version s.attributes (attributes_after s.attributes o); operations = s.operations ++ o ∷ [] }
 
 -- the others are start lines, and then operations
 abbrev pub later_step : State → Line → Result State TraceFaultKind
-later_step s (Header claims) = Err Syntax
+later_step s (Header version claims) = Err Syntax
 later_step s (Start line) = if length s.operations == 0 then start_step s line else Err Syntax
 later_step s UnknownStart = if length s.operations == 0 then Err UnknownOp else Err Syntax
-later_step s (Operation line) = and_then (resolve s.paths s.sizes s.made line) (λ o. Ok (taken s o))
+later_step s (Operation line) = and_then (resolve s.paths s.sizes s.made s.attributes line) (λ o. Ok (taken s o))
 later_step s UnknownOperation = Err UnknownOp
 
 abbrev pub line_step : State → Line → Result State TraceFaultKind
 line_step s line = if s.made == 0 then first_step s line else later_step s line
 
--- what a line leaves, which may be blank
+-- what a line leaves, which may be blank; before the header no version is known, and any is as good
 abbrev pub step : State → List ℕ → Result State TraceFaultKind
-step s text = if is_blank text then Ok s else option_map_or (line_step s) (line_in text) (Err Syntax)
+step s text = if is_blank text then Ok s else option_map_or (line_step s) (line_in s.version text) (Err Syntax)
 
 -- ---- all lines
 

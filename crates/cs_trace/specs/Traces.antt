@@ -11,7 +11,7 @@ use Rattle.cs_tree_model.specs.Tree.{Path, path_cmp}
 use Rattle.cs_tree_model.specs.declared.record.Record.{Record}
 use Rattle.cs_trace.specs.Entries.{file_mode, nodes_in, records_in, size_of}
 use Rattle.cs_trace.specs.Judging.{and_then}
-use Rattle.cs_trace.specs.Lines.{is_blank}
+use Rattle.cs_trace.specs.Lines.{is_blank, profile_of}
 use Rattle.cs_trace.specs.Operations.{AreLegal, AreNested, Paths, made_by}
 use Rattle.cs_trace.specs.States.{State, lines_in, state_in}
 use Rattle.cs_trace.specs.declared.fault.TraceFault.{TraceFault}
@@ -19,14 +19,17 @@ use Rattle.cs_trace.specs.declared.fault.TraceFaultKind.TheVariants.{Syntax}
 use Rattle.cs_trace.specs.declared.operation.Node.{Node}
 use Rattle.cs_trace.specs.declared.operation.Node.TheVariants.{Directory, File}
 use Rattle.cs_trace.specs.declared.operation.Operation.{Operation}
+use Rattle.cs_trace.specs.declared.profile.Profile.{Profile}
 
 -- the records of the start tree in the order of their paths, with fresh numbers; what each of them is, in
--- the same order; the paths of the start's files in the order of their numbers; the operations
+-- the same order; the paths of the start's files in the order of their numbers; the operations; what the
+-- file system keeps in order
 pub record Trace : Type 0 where
   pub records : List (Path × Record)
   pub nodes : List Node
   pub files : List Path
   pub operations : List Operation
+  pub profile : Profile
 
 -- ---- the start
 
@@ -103,7 +106,7 @@ pub record IsTrace (t : Trace) : Type 0 where
 
 -- what the lines leave, as a trace
 abbrev pub whole : State → Trace
-whole s = record { records = records_in s.start; nodes = nodes_in s.start; files = s.files; operations = s.operations }
+whole s = record { records = records_in s.start; nodes = nodes_in s.start; files = s.files; operations = s.operations; profile = profile_of s.version }
 
 -- with no line that says something there is no header
 abbrev pub trace_of : State → Result Trace TraceFault

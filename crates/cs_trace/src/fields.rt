@@ -18,6 +18,7 @@ pub(crate) enum Field<'a> {
 #[derive(Drop)]
 pub(crate) struct Fields<'a> {
     pub(crate) trace: Option<Field<'a>>,
+    pub(crate) profile: Option<Field<'a>>,
     pub(crate) start: Option<Field<'a>>,
     pub(crate) op: Option<Field<'a>>,
     pub(crate) path: Option<Field<'a>>,
@@ -55,6 +56,7 @@ impl<'a> Fields<'a> {
     {
         Fields {
             trace: None,
+            profile: None,
             start: None,
             op: None,
             path: None,
@@ -78,6 +80,7 @@ impl<'a> Fields<'a> {
     {
         match key {
             "trace" => self.trace = Some(field),
+            "profile" => self.profile = Some(field),
             "start" => self.start = Some(field),
             "op" => self.op = Some(field),
             "path" => self.path = Some(field),
@@ -100,6 +103,7 @@ impl<'a> Fields<'a> {
     {
         let fields = [
             self.trace,
+            self.profile,
             self.start,
             self.op,
             self.path,

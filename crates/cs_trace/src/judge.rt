@@ -2,14 +2,16 @@
 ghost use Rattle.std.specs.Prelude.{◌≡◌, ◌≢◌, ◌||◌, IfErr, IfOk, IsOk, Ok, Err, length, nat_le, nat_lt};
 ghost use Rattle.cs_names.specs.declared.limits.TheConstants.{TRACE_PATH_NAMES, TREE_RECORDS};
 ghost use Rattle.cs_tree_model.specs.Tree.{parent_path};
-ghost use Rattle.cs_trace.specs.Judging.{and_then, creat, emptied_at, ends_above, file_at, free_at, fsync, mkdir, rename, rmdir, say, size_in, target_at, truncate, unlink, write};
-ghost use Rattle.cs_trace.specs.Said.{claims_of};
+ghost use Rattle.cs_trace.specs.Judging.{and_then, creat, emptied_at, ends_above, file_at, free_at, fsync, mkdir, rename, rmdir, say, set_attr, size_in, target_at, truncate, unlink, write};
+ghost use Rattle.cs_trace.specs.Kept.{attributes_of};
+ghost use Rattle.cs_trace.specs.Said.{change_said, claims_of};
 ghost use Rattle.cs_trace.specs.declared.fault.TraceFaultKind.TheVariants.{Memory};
 
+use crate::attributes::Attributes;
 use crate::digits::Digits;
 use crate::fault::TraceFaultKind;
-use crate::line::Claims;
-use crate::operation::{Bytes, Covers, Node, Operation, Rights};
+use crate::line::{Change, Claims};
+use crate::operation::{Bytes, Covers, Node, Operation, Rights, Target};
 use crate::tree::Tree;
 use cs_names::Path;
 use cs_names::limits::{FILE_BYTES, SAY_BYTES, TRACE_PATH_NAMES, TREE_RECORDS};
@@ -216,6 +218,37 @@ pub(crate) fn truncate(
     }
     let size = size_in(sizes, file);
     Ok(Operation::Truncate { file, size, length })
+}
+
+/// Owner and group, or the permissions, of what stands at the path become others.
+pub(crate) fn set_attr(
+    alloc: Global,
+    tree: &Tree,
+    attributes: &Attributes,
+    path: Path,
+    change: &Change<'_>,
+) -> Result<Operation, TraceFaultKind>
+    ensures done { IfOk result (λ operation.
+        set_attr tree.now.nodes (attributes_of attributes.now)
+        path (change_said change.now) ≡ Ok operation) }
+    ensures fault { IfErr result (λ kind. kind ≢ Memory
+        → set_attr tree.now.nodes (attributes_of attributes.now)
+        path (change_said change.now) ≡ Err kind) }
+    ensures memory { IfErr result (λ kind. kind ≡ Memory → IsOk (set_attr tree.now.nodes (attributes_of attributes.now) path (change_said change.now))) }
+{
+    let Some(node) = tree.get(&path) else {
+        return Err(TraceFaultKind::Missing);
+    };
+    let Some(rights) = attributes.rights(node, &path) else {
+        return Err(TraceFaultKind::Missing);
+    };
+    let before = rights.try_clone()?;
+    let after = rights.changed(alloc, change)?;
+    Ok(Operation::SetAttr {
+        target: Target::of(node, path),
+        before,
+        after,
+    })
 }
 
 pub(crate) fn fsync(tree: &Tree, path: Path) -> Result<Operation, TraceFaultKind>

@@ -1,6 +1,7 @@
 //! The trace of a storage application: the files that stand at its start, and its operations.
 #![tactic(auto)]
 
+mod attributes;
 mod digits;
 mod entries;
 mod entry;
@@ -14,6 +15,7 @@ mod near;
 mod numbers;
 pub mod operation;
 mod path_text;
+pub mod profile;
 mod reading;
 mod resolve;
 mod standing;
@@ -22,7 +24,9 @@ mod state;
 pub mod trace;
 mod tree;
 mod verb;
+mod version;
 
 pub use fault::{TraceFault, TraceFaultKind};
-pub use operation::{Bytes, Covers, Node, Operation, Rights};
+pub use operation::{Bytes, Covers, Node, Operation, Rights, Target};
+pub use profile::Profile;
 pub use trace::{Trace, read_trace};

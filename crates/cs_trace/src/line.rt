@@ -1,18 +1,20 @@
 //! What a line of a trace says by itself.
 ghost use Rattle.std.specs.Prelude.{◌≡◌, option_map};
-ghost use Rattle.cs_trace.specs.Lines.{bytes_in, claims_in, header_in, is_blank, is_octal, is_one, line_of, operation_in, operation_of, permissions_in, start_line_in, start_with, text_in, whole_in};
+ghost use Rattle.cs_trace.specs.Lines.{bytes_in, claims_in, header_in, is_blank, is_octal, line_of, operation_in, operation_of, permissions_in, profile_named, start_line_in, start_with, text_in, version_in, whole_in, whole_of};
 ghost use Rattle.cs_trace.specs.Reading.{field_said, fields_said};
 ghost use Rattle.cs_trace.specs.Said.{claims_of, line_said, operation_said, start_of};
 
 use crate::digits::Digits;
 use crate::fields::{Field, Fields};
+use crate::profile::Profile;
 use crate::verb::Verb;
+use crate::version::Version;
 
 /// What a line says. The texts in it are not yet judged as names and paths.
 #[derive(Drop)]
 pub(crate) enum Line<'a> {
-    /// The header: who has the root.
-    Header(Claims<'a>),
+    /// The header: the version, and who has the root.
+    Header(Version, Claims<'a>),
     /// A file or a directory at the start.
     Start(StartLine<'a>),
     Operation(OperationLine<'a>),
@@ -37,6 +39,14 @@ pub(crate) struct StartLine<'a> {
     pub(crate) claims: Claims<'a>,
     /// The bytes of a file; a directory has none.
     pub(crate) content: Option<Digits<'a>>,
+}
+
+/// What a chmod or a chown sets.
+#[derive(Drop)]
+pub(crate) enum Change<'a> {
+    /// The permissions.
+    Mode(u16),
+    Owner { owner: &'a str, group: &'a str },
 }
 
 /// An operation.
@@ -68,6 +78,10 @@ pub(crate) enum OperationLine<'a> {
     Truncate {
         path: &'a str,
         size: u64,
+    },
+    SetAttr {
+        path: &'a str,
+        change: Change<'a>,
     },
     Fsync {
         path: &'a str,
@@ -116,21 +130,21 @@ fn text_in<'a>(field: &Option<Field<'a>>) -> Option<&'a str>
 }
 
 /// The whole number of a field.
+fn whole_of(field: &Field<'_>) -> Option<u64>
+    ensures { result ≡ whole_of (field_said field.now) }
+{
+    match field {
+        Field::Number(number) => number.as_u64(),
+        Field::Text(_) | Field::Other => None,
+    }
+}
+
 fn whole_in(field: &Option<Field<'_>>) -> Option<u64>
     ensures { result ≡ whole_in (option_map field_said field.now) }
 {
     match field {
-        Some(Field::Number(number)) => number.as_u64(),
-        _ => None,
-    }
-}
-
-fn is_one(version: &Field<'_>) -> bool
-    ensures { result ≡ is_one (field_said version.now) }
-{
-    match version {
-        Field::Number(number) => number.as_u64() == Some(1),
-        Field::Text(_) | Field::Other => false,
+        Some(field) => whole_of(field),
+        None => None,
     }
 }
 
@@ -214,6 +228,17 @@ fn operation_of<'a>(verb: Verb, fields: &Fields<'a>) -> Option<OperationLine<'a>
             path: text_in(&fields.path)?,
             size: whole_in(&fields.length)?,
         },
+        Verb::Chmod => OperationLine::SetAttr {
+            path: text_in(&fields.path)?,
+            change: Change::Mode(permissions_in(text_in(&fields.mode)?)?),
+        },
+        Verb::Chown => OperationLine::SetAttr {
+            path: text_in(&fields.path)?,
+            change: Change::Owner {
+                owner: text_in(&fields.owner)?,
+                group: text_in(&fields.group)?,
+            },
+        },
         Verb::Fsync => OperationLine::Fsync {
             path: text_in(&fields.path)?,
         },
@@ -224,10 +249,11 @@ fn operation_of<'a>(verb: Verb, fields: &Fields<'a>) -> Option<OperationLine<'a>
     })
 }
 
-fn operation_in<'a>(name: &str, fields: &Fields<'a>) -> Option<Line<'a>>
-    ensures { option_map line_said result ≡ operation_in name.now (fields_said fields.now) }
+fn operation_in<'a>(version: Version, name: &str, fields: &Fields<'a>) -> Option<Line<'a>>
+    ensures { option_map line_said result
+        ≡ operation_in version name.now (fields_said fields.now) }
 {
-    let Some(verb) = Verb::named(name) else {
+    let Some(verb) = Verb::of(version, name) else {
         return Some(Line::UnknownOperation);
     };
     if !fields.has_keys(verb.key_count()) {
@@ -236,24 +262,45 @@ fn operation_in<'a>(name: &str, fields: &Fields<'a>) -> Option<Line<'a>>
     Some(Line::Operation(operation_of(verb, fields)?))
 }
 
-fn header_in<'a>(version: &Field<'_>, fields: &Fields<'a>) -> Option<Line<'a>>
-    ensures { option_map line_said result
-        ≡ header_in (field_said version.now) (fields_said fields.now) }
+fn profile_named(name: &str) -> Option<Profile>
+    ensures { result ≡ profile_named name.now }
 {
-    if !(is_one(version) && fields.has_keys(4)) {
-        return None;
+    match name {
+        "blocks" => Some(Profile::Blocks),
+        "ordered" => Some(Profile::Ordered),
+        _ => None,
     }
-    Some(Line::Header(claims_in(fields)?))
 }
 
-/// What the line with these fields says, or None where it is no line of a trace.
-pub(crate) fn line_of<'a>(fields: &Fields<'a>) -> Option<Line<'a>>
-    ensures { option_map line_said result ≡ line_of (fields_said fields.now) }
+/// The version of a header's number. The second has a profile among its keys.
+fn version_in(number: u64, fields: &Fields<'_>) -> Option<Version>
+    ensures { result ≡ version_in number (fields_said fields.now) }
+{
+    if number == 1 && fields.has_keys(4) {
+        return Some(Version::First);
+    }
+    if number == 2 && fields.has_keys(5) {
+        return Some(Version::Second(profile_named(text_in(&fields.profile)?)?));
+    }
+    None
+}
+
+fn header_in<'a>(number: &Field<'_>, fields: &Fields<'a>) -> Option<Line<'a>>
+    ensures { option_map line_said result
+        ≡ header_in (field_said number.now) (fields_said fields.now) }
+{
+    let version = version_in(whole_of(number)?, fields)?;
+    Some(Line::Header(version, claims_in(fields)?))
+}
+
+/// What the line with these fields says, or None where it is no line of a trace of this version.
+pub(crate) fn line_of<'a>(version: Version, fields: &Fields<'a>) -> Option<Line<'a>>
+    ensures { option_map line_said result ≡ line_of version (fields_said fields.now) }
 {
     match (&fields.trace, &fields.start, &fields.op) {
-        (Some(version), None, None) => header_in(version, fields),
+        (Some(number), None, None) => header_in(number, fields),
         (None, Some(start), None) => start_line_in(start.text()?, fields),
-        (None, None, Some(operation)) => operation_in(operation.text()?, fields),
+        (None, None, Some(operation)) => operation_in(version, operation.text()?, fields),
         _ => None,
     }
 }

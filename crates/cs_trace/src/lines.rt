@@ -44,11 +44,11 @@ fn take_line(alloc: Global, state: &mut State, line: &Line<'_>) -> Result<(), Tr
     let is_first = state.made == 0;
     let is_start = state.operations.is_empty();
     match line {
-        Line::Header(claims) if is_first => take_header(alloc, state, claims),
+        Line::Header(version, claims) if is_first => take_header(alloc, state, *version, claims),
         _ if is_first => Err(TraceFaultKind::Syntax),
         Line::Start(line) if is_start => take_start(alloc, state, line),
         Line::UnknownStart if is_start => Err(TraceFaultKind::UnknownOp),
-        Line::Header(_) | Line::Start(_) | Line::UnknownStart => Err(TraceFaultKind::Syntax),
+        Line::Header(..) | Line::Start(_) | Line::UnknownStart => Err(TraceFaultKind::Syntax),
         Line::Operation(line) => take_operation(alloc, state, line),
         Line::UnknownOperation => Err(TraceFaultKind::UnknownOp),
     }
@@ -73,7 +73,7 @@ fn take(
     let Some(fields) = fields_in(text, scratch)? else {
         return Err(TraceFaultKind::Syntax);
     };
-    let Some(line) = line_of(&fields) else {
+    let Some(line) = line_of(state.version, &fields) else {
         return Err(TraceFaultKind::Syntax);
     };
     take_line(alloc, state, &line)

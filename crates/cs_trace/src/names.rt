@@ -1,9 +1,9 @@
 //! The names of users and groups in a line: judged without memory, and kept.
 ghost use Rattle.std.specs.Prelude.{◌≡◌, IfOk};
-ghost use Rattle.cs_trace.specs.Names.{are_user_names, is_user_name};
-ghost use Rattle.cs_trace.specs.Said.{claims_of};
+ghost use Rattle.cs_trace.specs.Names.{are_set_names, are_user_names, is_user_name};
+ghost use Rattle.cs_trace.specs.Said.{change_said, claims_of};
 
-use crate::line::Claims;
+use crate::line::{Change, Claims};
 use cs_names::UserName;
 use std::alloc::{AllocError, Global};
 
@@ -17,6 +17,16 @@ pub(crate) fn are_user_names(claims: &Claims<'_>) -> bool
     ensures { result ≡ are_user_names (claims_of claims.now) }
 {
     is_user_name(claims.owner) && is_user_name(claims.group)
+}
+
+/// Whether what is set has legal names.
+pub(crate) fn are_set_names(change: &Change<'_>) -> bool
+    ensures { result ≡ are_set_names (change_said change.now) }
+{
+    match change {
+        Change::Mode(_) => true,
+        Change::Owner { owner, group } => is_user_name(owner) && is_user_name(group),
+    }
 }
 
 /// The name of a user or a group that is known to be legal.

@@ -3,10 +3,12 @@ ghost use Rattle.std.specs.Prelude.{◌≡◌, IfOk};
 ghost use Rattle.std.specs.Cmp.{partial_equiv_from_equiv};
 ghost use Rattle.std.specs.Cmp.Lexicographic.{nat_list_eq_equiv};
 ghost use Rattle.cs_names.specs.Texts.{same_bytes};
+ghost use Rattle.cs_trace.specs.Attributes.{target_of};
+ghost use Rattle.cs_trace.specs.Judging.{changed};
 ghost use Rattle.cs_trace.specs.Names.{rights_of};
-ghost use Rattle.cs_trace.specs.Said.{claims_of};
+ghost use Rattle.cs_trace.specs.Said.{change_said, claims_of};
 
-use crate::line::Claims;
+use crate::line::{Change, Claims};
 use crate::names::keep_user_name;
 use cs_names::{Path, UserName};
 use std::alloc::{AllocError, Global};
@@ -44,6 +46,15 @@ pub enum Covers {
     /// The file of that number.
     File(u32),
     /// The entries of the directory at that path.
+    Directory(Path),
+}
+
+/// Whose owner, group and permissions are set.
+#[derive(Debug, Drop, PartialEq)]
+pub enum Target {
+    /// The file of that number.
+    File(u32),
+    /// The directory at that path.
     Directory(Path),
 }
 
@@ -89,6 +100,14 @@ pub enum Operation {
         size: u64,
         /// Its size after it.
         length: u64,
+    },
+    /// Owner, group and permissions are set.
+    SetAttr {
+        target: Target,
+        /// As they stand before it.
+        before: Rights,
+        /// As they stand after it.
+        after: Rights,
     },
     /// An fsync, or a sync of everything.
     Sync(Covers),
@@ -140,5 +159,43 @@ impl Rights {
             group: keep_user_name(alloc, claims.group)?,
             permissions: claims.permissions,
         })
+    }
+
+    /// The same rights again.
+    pub fn try_clone(&self) -> Result<Rights, AllocError>
+        ensures { IfOk result (λ copy. copy ≡ self.now) }
+    {
+        Ok(Rights {
+            owner: self.owner.try_clone()?,
+            group: self.group.try_clone()?,
+            permissions: self.permissions,
+        })
+    }
+
+    /// The rights with other permissions, or with an owner and a group whose names are legal.
+    pub(crate) fn changed(&self, alloc: Global, change: &Change<'_>) -> Result<Rights, AllocError>
+        ensures { IfOk result (λ rights. rights ≡ changed (change_said change.now) self.now) }
+    {
+        let mut rights = self.try_clone()?;
+        match change {
+            Change::Mode(permissions) => rights.permissions = *permissions,
+            Change::Owner { owner, group } => {
+                rights.owner = keep_user_name(alloc, owner)?;
+                rights.group = keep_user_name(alloc, group)?;
+            }
+        }
+        Ok(rights)
+    }
+}
+
+impl Target {
+    /// What stands at the path.
+    pub(crate) fn of(node: Node, path: Path) -> Target
+        ensures { result ≡ target_of node path }
+    {
+        match node {
+            Node::Directory => Target::Directory(path),
+            Node::File(file) => Target::File(file),
+        }
     }
 }

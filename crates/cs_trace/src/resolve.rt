@@ -1,16 +1,16 @@
 //! An operation's line in what stands: its paths are judged, then kept, and then what it needs is asked.
 ghost use Rattle.std.specs.Prelude.{◌≡◌, ◌≢◌, ◌<◌, ◌^◌, IfErr, IfOk, Ok, Err, length};
-ghost use Rattle.cs_trace.specs.Judging.{AreShort, IsPastNames, creat, fsync, legal, mkdir, rename, resolve, rmdir, truncate, unlink, write};
-ghost use Rattle.cs_trace.specs.Kept.{IsWithin};
-ghost use Rattle.cs_trace.specs.Names.{entry_path_of, new_path_of, path_of};
-ghost use Rattle.cs_trace.specs.Said.{claims_of, operation_said};
+ghost use Rattle.cs_trace.specs.Judging.{AreShort, IsPastNames, creat, fsync, legal, mkdir, rename, resolve, rmdir, set_attr, truncate, unlink, write};
+ghost use Rattle.cs_trace.specs.Kept.{IsWithin, attributes_of};
+ghost use Rattle.cs_trace.specs.Names.{entry_path_of, new_path_of, path_of, set_path_of};
+ghost use Rattle.cs_trace.specs.Said.{change_said, claims_of, operation_said};
 ghost use Rattle.cs_trace.specs.declared.fault.TraceFaultKind.TheVariants.{Memory};
 
 use crate::digits::Digits;
 use crate::fault::TraceFaultKind;
 use crate::judge;
-use crate::line::{Claims, OperationLine};
-use crate::names::are_user_names;
+use crate::line::{Change, Claims, OperationLine};
+use crate::names::{are_set_names, are_user_names};
 use crate::operation::{Covers, Operation};
 use crate::path_text::PathText;
 use crate::state::State;
@@ -41,6 +41,17 @@ pub(crate) fn new_path<'a>(
 {
     let path = entry_path(text)?;
     if !are_user_names(claims) {
+        return Err(TraceFaultKind::BadName);
+    }
+    Ok(path)
+}
+
+/// The path of what is set, whose names are judged with it.
+fn set_path<'a>(text: &'a str, change: &Change<'_>) -> Result<PathText<'a>, TraceFaultKind>
+    ensures { result ≡ legal (set_path_of text.now (change_said change.now)) }
+{
+    let path = any_path(text)?;
+    if !are_set_names(change) {
         return Err(TraceFaultKind::BadName);
     }
     Ok(path)
@@ -150,6 +161,28 @@ fn truncate(
     judge::truncate(&state.tree, &state.sizes, &path, length)
 }
 
+#[tactic(auto, using(crate::proofs::Past::nothing_at, crate::proofs::Past::past_set_attr))]
+fn set_attr(
+    alloc: Global,
+    state: &State,
+    path: &PathText<'_>,
+    change: &Change<'_>,
+) -> Result<Operation, TraceFaultKind>
+    requires { AreShort state.now.tree.nodes }
+    ensures done { IfOk result (λ operation.
+        set_attr state.now.tree.nodes (attributes_of state.now.attributes)
+        path.now (change_said change.now) ≡ Ok operation) }
+    ensures fault { IfErr result (λ kind. kind ≢ Memory
+        → set_attr state.now.tree.nodes (attributes_of state.now.attributes)
+        path.now (change_said change.now) ≡ Err kind) }
+    ensures memory { IfErr result (λ kind. kind ≡ Memory → IsPastNames (set_attr state.now.tree.nodes (attributes_of state.now.attributes) path.now (change_said change.now))) }
+{
+    let Some(path) = path.keep_short(alloc)? else {
+        return Err(TraceFaultKind::Missing);
+    };
+    judge::set_attr(alloc, &state.tree, &state.attributes, path, change)
+}
+
 #[tactic(auto, using(crate::proofs::Past::nothing_at, crate::proofs::Past::past_fsync))]
 fn fsync(alloc: Global, tree: &Tree, path: &PathText<'_>) -> Result<Operation, TraceFaultKind>
     requires { AreShort tree.now.nodes }
@@ -194,9 +227,9 @@ pub(crate) fn resolve(
 ) -> Result<Operation, TraceFaultKind>
     requires short { AreShort state.now.tree.nodes }
     requires few { length state.now.sizes.items < 2 ^ 32 }
-    ensures done { IfOk result (λ operation. resolve state.now.tree.nodes state.now.sizes.items state.now.made (operation_said line.now) ≡ Ok operation) }
-    ensures fault { IfErr result (λ kind. kind ≢ Memory → resolve state.now.tree.nodes state.now.sizes.items state.now.made (operation_said line.now) ≡ Err kind) }
-    ensures memory { IfErr result (λ kind. kind ≡ Memory → IsPastNames (resolve state.now.tree.nodes state.now.sizes.items state.now.made (operation_said line.now))) }
+    ensures done { IfOk result (λ operation. resolve state.now.tree.nodes state.now.sizes.items state.now.made (attributes_of state.now.attributes) (operation_said line.now) ≡ Ok operation) }
+    ensures fault { IfErr result (λ kind. kind ≢ Memory → resolve state.now.tree.nodes state.now.sizes.items state.now.made (attributes_of state.now.attributes) (operation_said line.now) ≡ Err kind) }
+    ensures memory { IfErr result (λ kind. kind ≡ Memory → IsPastNames (resolve state.now.tree.nodes state.now.sizes.items state.now.made (attributes_of state.now.attributes) (operation_said line.now))) }
 {
     let tree = &state.tree;
     match line {
@@ -218,6 +251,9 @@ pub(crate) fn resolve(
         } => write(alloc, state, &entry_path(path)?, *offset, bytes),
         OperationLine::Truncate { path, size } => {
             truncate(alloc, state, &entry_path(path)?, *size)
+        }
+        OperationLine::SetAttr { path, change } => {
+            set_attr(alloc, state, &set_path(path, change)?, change)
         }
         OperationLine::Fsync { path } => fsync(alloc, tree, &any_path(path)?),
         OperationLine::Sync => Ok(Operation::Sync(Covers::All)),

@@ -25,6 +25,7 @@ use crate::path_text::PathText;
 use crate::resolve::new_path;
 use crate::state::State;
 use crate::tree::Tree;
+use crate::version::Version;
 use cs_names::Path;
 use cs_names::limits::FILE_BYTES;
 use cs_tree_model::{Content, Kind};
@@ -74,6 +75,11 @@ fn place(alloc: Global, state: &mut State, path: Path, entry: Entry) -> Result<b
     if let Kind::File { length } = entry.content.kind() {
         state.files.push(path.try_clone(alloc)?)?;
         state.sizes.push(length)?;
+    }
+    if let Version::Second(_) = state.version {
+        state
+            .attributes
+            .add(alloc, entry.node(), &path, &entry.rights)?;
     }
     let stood = state.tree.insert_start(alloc, path, entry)?;
     state.made += 1;
@@ -168,20 +174,22 @@ pub(crate) fn take_start(
     start_in(alloc, state, path, text.len(), above, line)
 }
 
-/// The first line that isn't blank: the header gives the root.
+/// The first line that isn't blank: the header tells the version and gives the root.
 pub(crate) fn take_header(
     alloc: Global,
     state: &mut State,
+    version: Version,
     claims: &Claims<'_>,
 ) -> Result<(), TraceFaultKind>
     requires { IsBounded (state_of state.old) }
-    ensures done { OnOk result (first_step (state_of state.old) (Header (claims_of claims.now)) ≡ Ok (state_of state.new)) }
-    ensures fault { IfErr result (λ kind. kind ≢ Memory → first_step (state_of state.old) (Header (claims_of claims.now)) ≡ Err kind) }
-    ensures memory { IfErr result (λ kind. kind ≡ Memory → IsOk (first_step (state_of state.old) (Header (claims_of claims.now)))) }
+    ensures done { OnOk result (first_step (state_of state.old) (Header version (claims_of claims.now)) ≡ Ok (state_of state.new)) }
+    ensures fault { IfErr result (λ kind. kind ≢ Memory → first_step (state_of state.old) (Header version (claims_of claims.now)) ≡ Err kind) }
+    ensures memory { IfErr result (λ kind. kind ≡ Memory → IsOk (first_step (state_of state.old) (Header version (claims_of claims.now)))) }
 {
     if !are_user_names(claims) {
         return Err(TraceFaultKind::BadName);
     }
+    state.version = version;
     let root = keep_entry(alloc, state, claims, &None)?;
     place(alloc, state, Path::root(alloc), root)?;
     Ok(())

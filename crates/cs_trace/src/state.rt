@@ -5,14 +5,18 @@ ghost use Rattle.cs_trace.specs.Kept.{IsWithin, state_of};
 ghost use Rattle.cs_trace.specs.Operations.{made_by, paths_after, sizes_after, written_size};
 ghost use Rattle.cs_trace.specs.States.{nothing, taken};
 
+use crate::attributes::Attributes;
 use crate::operation::{Bytes, Node, Operation};
 use crate::tree::Tree;
+use crate::version::Version;
 use cs_names::Path;
 use std::alloc::{AllocError, Global};
 
 /// What the lines so far leave.
 #[derive(Drop)]
 pub(crate) struct State {
+    /// The first, until the header tells another.
+    pub(crate) version: Version,
     /// What stood at the start, and what stands now.
     pub(crate) tree: Tree,
     /// The paths of the files at the start, by their numbers.
@@ -21,6 +25,8 @@ pub(crate) struct State {
     pub(crate) sizes: Vec<u64>,
     /// How many records were ever made.
     pub(crate) made: usize,
+    /// Owner, group and permissions of each file and directory, where the version asks for them.
+    pub(crate) attributes: Attributes,
     pub(crate) operations: Vec<Operation>,
 }
 
@@ -52,6 +58,7 @@ fn move_paths(alloc: Global, tree: &mut Tree, operation: &Operation) -> Result<(
         Operation::Rename { from, to } => rename(alloc, tree, from, to),
         Operation::Write { .. }
         | Operation::Truncate { .. }
+        | Operation::SetAttr { .. }
         | Operation::Sync(_)
         | Operation::Say => Ok(()),
     }
@@ -95,6 +102,7 @@ fn change_sizes(sizes: &mut Vec<u64>, operation: &Operation) -> Result<(), Alloc
         | Operation::Unlink { .. }
         | Operation::Rmdir { .. }
         | Operation::Rename { .. }
+        | Operation::SetAttr { .. }
         | Operation::Sync(_)
         | Operation::Say => {}
     }
@@ -113,6 +121,7 @@ fn made_by(operation: &Operation) -> usize
         | Operation::Rename { .. }
         | Operation::Write { .. }
         | Operation::Truncate { .. }
+        | Operation::SetAttr { .. }
         | Operation::Sync(_)
         | Operation::Say => 0,
     }
@@ -124,10 +133,12 @@ impl State {
         ensures { state_of result ≡ nothing }
     {
         State {
+            version: Version::First,
             tree: Tree::new(alloc),
             files: Vec::new(alloc),
             sizes: Vec::new(alloc),
             made: 0,
+            attributes: Attributes::new(alloc),
             operations: Vec::new(alloc),
         }
     }
@@ -141,6 +152,9 @@ impl State {
         move_paths(alloc, &mut self.tree, &operation)?;
         change_sizes(&mut self.sizes, &operation)?;
         self.made += made_by(&operation);
+        if let Version::Second(_) = self.version {
+            self.attributes.change(alloc, &operation)?;
+        }
         self.operations.push(operation)?;
         Ok(())
     }

@@ -6,6 +6,7 @@ ghost use Rattle.std.specs.List.Sorted.{IsStrictlySortedBy};
 ghost use Rattle.cs_names.specs.declared.limits.TheConstants.{FILE_BYTES, TREE_RECORDS};
 ghost use Rattle.cs_tree_model.specs.Listing.{IsListing};
 ghost use Rattle.cs_tree_model.specs.Tree.{path_cmp};
+ghost use Rattle.cs_trace.specs.Checks.{IsFaultOf};
 ghost use Rattle.cs_trace.specs.Kept.{state_of};
 ghost use Rattle.cs_trace.specs.Operations.{AreLegal, AreNested};
 ghost use Rattle.cs_trace.specs.States.{lines_in};
@@ -15,6 +16,7 @@ ghost use Rattle.cs_trace.specs.declared.fault.TraceFaultKind.TheVariants.{Memor
 use crate::fault::{TraceFault, TraceFaultKind};
 use crate::lines::{line_count, take_lines};
 use crate::operation::{Node, Operation};
+use crate::profile::Profile;
 use crate::state::State;
 use cs_names::Path;
 use cs_tree_model::Record;
@@ -29,6 +31,7 @@ pub struct Trace {
     nodes: Vec<Node>,
     files: Vec<Path>,
     operations: Vec<Operation>,
+    profile: Profile,
 }
 
 impl Model for Trace {
@@ -41,6 +44,7 @@ impl Model for Trace {
       nodes = trace.nodes.items;
       files = trace.files.items;
       operations = trace.operations.items;
+      profile = trace.profile;
     } };
 
     ghost invariant = { λ trace. model.IsTrace (record {
@@ -48,6 +52,7 @@ impl Model for Trace {
       nodes = trace.nodes.items;
       files = trace.files.items;
       operations = trace.operations.items;
+      profile = trace.profile;
     }) };
 }
 
@@ -94,6 +99,13 @@ impl Trace {
         &self.operations
     }
 
+    /// What the file system of the trace keeps in order.
+    pub fn profile(&self) -> Profile
+        ensures value { result ≡ self.now.profile }
+    {
+        self.profile
+    }
+
     /// The start tree alone, for a store.
     pub fn into_records(self) -> Vec<(Path, Record)>
         ensures value { result.items ≡ self.records }
@@ -114,6 +126,7 @@ fn finish(alloc: Global, state: State) -> Result<Trace, AllocError>
         nodes,
         files: state.files,
         operations: state.operations,
+        profile: state.version.profile(),
     })
 }
 
@@ -139,16 +152,28 @@ fn finish(alloc: Global, state: State) -> Result<Trace, AllocError>
 /// {"op":"say","text":T}
 /// ```
 ///
-/// The keys may stand in any order, with no others. P has a name after each `/`, and is `/` for an
-/// fsync alone; O and G are the names of a user and a group; M is three octal digits, H is hexadecimal,
-/// N a whole number below 2^64, and T any text. A text without a header is Syntax at line 1. Each line is
-/// judged in what the lines before it leave.
+/// Version 2 has another header, where F is `blocks` or `ordered`, and two operations more; the
+/// first leaves owner and group as they stand, and the second the mode:
 ///
+/// ```text
+/// {"trace":2,"profile":F,"owner":O,"group":G,"mode":M}
+/// {"op":"chmod","path":P,"mode":M}
+/// {"op":"chown","path":P,"owner":O,"group":G}
+/// ```
+///
+/// The keys may stand in any order, with no others. P has a name after each `/`, and is `/` for an
+/// fsync, a chmod and a chown alone; O and G are the names of a user and a group; M is three octal
+/// digits, H is hexadecimal, N a whole number below 2^64, and T any text. A text without a header is
+/// Syntax at line 1. Each line is judged in what the lines before it leave.
+///
+/// A fault is that of the first check that its line fails, and the lines before it have none.
 /// Want of memory is a fault of kind Memory, at a line before which there is no fault. It is the line
 /// that was read, or the last one where only the records were left to keep.
 pub fn read_trace(alloc: Global, text: &str) -> Result<Trace, TraceFault>
     ensures done { IfOk result (λ trace. trace_in text.now ≡ Ok trace) }
     ensures fault { IfErr result (λ fault. fault.kind ≢ Memory → trace_in text.now ≡ Err fault) }
+    ensures first { IfErr result (λ fault. fault.kind ≢ Memory
+        → IsFaultOf (lines_in text.now) fault) }
     ensures memory { IfErr result (λ fault. fault.kind ≡ Memory → MayWant (lines_in text.now) fault.line) }
 {
     let state = take_lines(alloc, text)?;

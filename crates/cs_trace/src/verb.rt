@@ -1,6 +1,8 @@
 //! The names of the operations.
 ghost use Rattle.std.specs.Prelude.{◌≡◌};
-ghost use Rattle.cs_trace.specs.Lines.{key_count, verb_named};
+ghost use Rattle.cs_trace.specs.Lines.{belongs_to, key_count, verb_in, verb_named};
+
+use crate::version::Version;
 
 /// What a line with `op` does.
 #[derive(Clone, Copy, Debug, PartialEq, Eq)]
@@ -12,14 +14,16 @@ pub(crate) enum Verb {
     Rename,
     Write,
     Truncate,
+    Chmod,
+    Chown,
     Fsync,
     Sync,
     Say,
 }
 
 impl Verb {
-    /// The operation of this name.
-    pub(crate) fn named(name: &str) -> Option<Verb>
+    /// The operation of this name, in any version.
+    fn named(name: &str) -> Option<Verb>
         ensures { result ≡ verb_named name.now }
     {
         Some(match name {
@@ -30,11 +34,35 @@ impl Verb {
             "rename" => Verb::Rename,
             "write" => Verb::Write,
             "truncate" => Verb::Truncate,
+            "chmod" => Verb::Chmod,
+            "chown" => Verb::Chown,
             "fsync" => Verb::Fsync,
             "sync" => Verb::Sync,
             "say" => Verb::Say,
             _ => return None,
         })
+    }
+
+    /// Whether a trace of this version may have it.
+    fn belongs_to(self, version: Version) -> bool
+        ensures { result ≡ belongs_to version self }
+    {
+        match (version, self) {
+            (Version::First, Verb::Chmod | Verb::Chown) => false,
+            (Version::First | Version::Second(_), _) => true,
+        }
+    }
+
+    /// The operation of this name in a trace of this version.
+    pub(crate) fn of(version: Version, name: &str) -> Option<Verb>
+        ensures { result ≡ verb_in version name.now }
+    {
+        let verb = Verb::named(name)?;
+        if verb.belongs_to(version) {
+            Some(verb)
+        } else {
+            None
+        }
     }
 
     /// How many keys its line has, `op` among them.
@@ -44,8 +72,8 @@ impl Verb {
         match self {
             Verb::Sync => 1,
             Verb::Unlink | Verb::Rmdir | Verb::Fsync | Verb::Say => 2,
-            Verb::Rename | Verb::Truncate => 3,
-            Verb::Write => 4,
+            Verb::Rename | Verb::Truncate | Verb::Chmod => 3,
+            Verb::Write | Verb::Chown => 4,
             Verb::Creat | Verb::Mkdir => 5,
         }
     }

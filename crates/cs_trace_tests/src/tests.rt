@@ -4,4 +4,6 @@ mod faults;
 mod lines;
 mod micro_operations;
 mod operations;
+mod second;
+mod shown;
 mod start_lines;

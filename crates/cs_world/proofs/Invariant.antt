@@ -1,5 +1,5 @@
 -- Runs, passes and fids of reached worlds are there, and every step keeps that.
-use Rattle.std.proofs.Common.{◌≡◌, ◌∙◌, ℕ, zero, suc, ◌<◌, Bool, true, false, cond, List, [], ◌∷◌, Option, None, Some, refl, sym, ap, subst, arith, rules}
+use Rattle.std.proofs.Common.{◌≡◌, ◌∙◌, ℕ, zero, suc, ◌<◌, Bool, true, false, cond, List, [], ◌∷◌, length, length-set, Option, None, Some, refl, sym, ap, subst, arith, rules}
 use Rattle.std.specs.Prelude.{is_some, nat_lt, option_map, string_bytes, slice_index_or, slice_set}
 use Rattle.std.specs.FinMap.{empty, get, gets}
 use Rattle.std.proofs.lemmas.Bool.Decides.{nat_tests}
@@ -142,6 +142,7 @@ module _ (w : World) (ok : AreThere w) where
   more_published : (number : ℕ) → AreThere (record w { registry = with_published w.registry number })
   more_published number = record {
     all = ok.all;
+    states = length-set w.registry.published number true ∙ ok.states;
     runs = λ place key run there. (let was = ok.runs place key run there in record {
       attaches = was.attaches;
       few = was.few;
@@ -184,6 +185,7 @@ new_is scene users =
     let none : (conn : ℕ) → connection (new_world scene users) conn ≡ blank None = λ conn. index_replicate CONNECTIONS conn (blank None) in
     record {
       all = length-replicate CONNECTIONS (blank None);
+      states = length-replicate (length scene.plan) false;
       runs = λ place key run there. absurd (cc);
       awaited = λ conn p is. absurd (let here : (connection (new_world scene users) conn).pending ≡ None = ap (λ (s : Sess). s.pending) (none conn) in cc);
       fids = λ conn fid e is. absurd (let here : entry_at (connection (new_world scene users) conn) fid ≡ None = ap (λ s. entry_at s fid) (none conn) ∙ nothing_there fid in cc);

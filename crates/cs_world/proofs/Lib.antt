@@ -20,6 +20,7 @@ pub mod Making
 pub mod Moved
 pub mod MovedSteps
 pub mod Moving
+pub mod NoWant
 pub mod Noted
 pub mod OpenFids
 pub mod Opens
@@ -36,4 +37,5 @@ pub mod SayingWorlds
 pub mod Standing
 pub mod Stepping
 pub mod Tables
+pub mod Users
 pub mod Within

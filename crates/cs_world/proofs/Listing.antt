@@ -97,6 +97,11 @@ steps_keep w ok (x ∷ xs) = steps_keep (step_of w x.0 x.1).1 (reaches w ok x.0 
 
 -- ---- lists of steps
 
+-- one after the other they are one
+pub lists_follow : (w : World) (xs ys : List (t.Step × Mark)) → steps_of w (xs ++ ys) ≡ ((steps_of w xs).0 ++ (steps_of (steps_of w xs).1 ys).0, (steps_of (steps_of w xs).1 ys).1)
+lists_follow w [] ys = refl
+lists_follow w (x ∷ xs) ys = ap (before (step_of w x.0 x.1).0) (lists_follow (step_of w x.0 x.1).1 xs ys)
+
 -- no step
 pub no_steps : (w : World) → IsRun w [] [] w
 no_steps w = record { marked = []; steps_are = refl; leads = refl }

@@ -13,9 +13,9 @@ use Rattle.cs_world.specs.declared.reply.Reply.{Reply}
 use Rattle.cs_world.specs.declared.reply.Reply.TheVariants.{Connection}
 use Rattle.cs_world.specs.declared.watched.WatchedRuns.{WatchedRuns}
 use Rattle.cs_world.specs.Marks.{Mark, Below, RunMark, below}
-use Rattle.cs_world.specs.Projections.{of_turn, put_to}
+use Rattle.cs_world.specs.Projections.{heard_view, of_turn, put_to}
 use Rattle.cs_world.specs.Steps.{on_connection, replied, told}
-use Rattle.cs_world.specs.Watching.{IsWatched, calls_said, heard_view}
+use Rattle.cs_world.specs.Watching.{IsWatched, calls_said}
 use Rattle.cs_world.specs.Worlds.{World, connection, with_both}
 use Rattle.cs_world.proofs.Stepping.{mark_of, same_table, still}
 

@@ -21,9 +21,9 @@ use Rattle.cs_world.specs.declared.step.Step.{Step}
 use Rattle.cs_world.specs.declared.step.Step.TheVariants as t
 use Rattle.cs_world.specs.Ample.{all_ample, ample, is_short}
 use Rattle.cs_world.specs.Marks.{Mark, RunMark, InRun, below, refuses_table}
-use Rattle.cs_world.specs.Projections.{HeardSaid, of_front, of_step, projection_of, put_to, stands_at}
+use Rattle.cs_world.specs.Projections.{HeardSaid, heard_view, of_front, of_step, projection_of, put_to, stands_at}
 use Rattle.cs_world.specs.Steps.{goes_from, step_of}
-use Rattle.cs_world.specs.Watching.{calls_said, heard_view}
+use Rattle.cs_world.specs.Watching.{calls_said}
 use Rattle.cs_world.specs.Noting.{IsStart, Notes, world_in}
 use Rattle.cs_world.specs.Worlds.{World, connection, new_world}
 use Rattle.cs_world.specs.Saying.{SameStep}

@@ -42,11 +42,11 @@ use Rattle.cs_world.specs.declared.step.Step.TheVariants as t
 use Rattle.cs_world.specs.Ample.{all_ample, ample}
 use Rattle.cs_world.specs.Asking.{answered, call_told, enter_told, find_told, found_by, given_run, put_run}
 use Rattle.cs_world.specs.Marks.{Mark, RunMark, below, in_run, refuses_pass, refuses_run, refuses_shelf, refuses_state, refuses_table}
-use Rattle.cs_world.specs.Projections.{HeardSaid, IsAlike, of_front, of_step, projection_of, put_to, stands_at}
+use Rattle.cs_world.specs.Projections.{HeardSaid, IsAlike, heard_view, of_front, of_step, projection_of, put_to, stands_at}
 use Rattle.cs_world.specs.Runs.{attached, called}
 use Rattle.cs_world.specs.Saying.{AllSame, SameFront, AlikeDone, AlikeAsks, SamePending, Nobody, Waits, SameQuestion, AlikeFind, AlikeEnter, AlikeAsk, SameSess, SameTurn, Stays, Finds, Calls, Versions, SameStep, Self, FindAlike, CallAlike, VersionAlike}
 use Rattle.cs_world.specs.Steps.{by_registry, goes_from, on_connection, step_of}
-use Rattle.cs_world.specs.Watching.{calls_said, heard_view}
+use Rattle.cs_world.specs.Watching.{calls_said}
 use Rattle.cs_world.specs.Worlds.{World, connection, with_both}
 use Rattle.cs_world.proofs.Placing.{index_set_other, index_set_same}
 use Rattle.cs_world.proofs.SameRuns.{attach_by, called_by}

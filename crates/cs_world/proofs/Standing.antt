@@ -9,7 +9,7 @@ use Rattle.cs_fids.specs.Entries.{pass_of, run_of}
 use Rattle.cs_journal.specs.Journals.{HasRoom}
 use Rattle.cs_journal.specs.Runs.{RunOf, state_of}
 use Rattle.cs_names.specs.declared.limits.TheConstants.{CONNECTIONS, RUN_ATTACHES}
-use Rattle.cs_plan.specs.Scenes.{state_at}
+use Rattle.cs_plan.specs.Scenes.{Scene, state_at}
 use Rattle.cs_registry.specs.declared.found.Found.{Found}
 use Rattle.cs_registry.specs.Keys.{Key}
 use Rattle.cs_registry.specs.Registries.{Registry}
@@ -170,6 +170,7 @@ module _ (w : World) (ok : AreThere w) (conn : ℕ) (inside : conn < CONNECTIONS
   pub moved : AreThere next
   moved = record {
     all = length-set w.connections conn s' ∙ ok.all;
+    states = ap length m.published ∙ ok.states ∙ ap (λ (s : Scene). length s.plan) (sym m.scene);
     runs = λ place key run' there. run_by place key run' (m.runs place key run' there);
     awaited = λ c p waits. awaited_by c (c == conn) refl p waits;
     fids = λ c fid e there. fids_by c (c == conn) refl fid e there;

@@ -3,11 +3,12 @@ use Rattle.std.specs.Prelude.{◌≡◌, false, List, [], map, ◌++◌}
 use Rattle.cs_plan.specs.Scenes.{Scene}
 use Rattle.cs_registry.specs.Keys.{Key}
 use Rattle.cs_users.specs.Rows.{Row}
+use Rattle.cs_world.specs.Projections.{heard_view}
 use Rattle.cs_world.specs.declared.heard.Heard.{Heard}
 use Rattle.cs_world.specs.declared.projecting.WatchedWorld.{WatchedWorld}
 use Rattle.cs_world.specs.declared.reply.Reply.{Reply}
 use Rattle.cs_world.specs.Marks.{RunMark}
-use Rattle.cs_world.specs.Watching.{calls_said, heard_view}
+use Rattle.cs_world.specs.Watching.{calls_said}
 use Rattle.cs_world.specs.Worlds.{World, new_world}
 
 -- the world that it is

@@ -1,5 +1,5 @@
 -- What of a list of steps reaches one run, and that run alone.
-use Rattle.std.specs.Prelude.{◌≡◌, ℕ, ◌==◌, nat_lt, Bool, false, List, [], ◌∷◌, ◌++◌, Option, option_and_then, if◌then◌else◌}
+use Rattle.std.specs.Prelude.{◌≡◌, ℕ, ◌==◌, nat_lt, Bool, true, false, List, [], ◌∷◌, ◌++◌, map, Option, option_and_then, Ok, Err, if◌then◌else◌}
 use Rattle.std.specs.Option.{option_map_or}
 use Rattle.cs_journal.specs.Marks.{Ample}
 use Rattle.cs_journal.specs.Asked.{Asked, asked}
@@ -11,12 +11,16 @@ use Rattle.cs_permit.specs.declared.call.Call.TheVariants.{Attach}
 use Rattle.cs_registry.specs.Keys.{Key}
 use Rattle.cs_registry.specs.Registries.{Registry}
 use Rattle.cs_registry.specs.Runs.{held_at, place_of}
-use Rattle.cs_session.specs.Questions.{Question, Find, Enter, Ask, Told, Entered, Got}
+use Rattle.cs_run.specs.declared.answer.Answer.{Answer}
+use Rattle.cs_run.specs.declared.answer.Answer.TheVariants.{Short}
+use Rattle.cs_session.specs.declared.port.FindFault.TheVariants as not_found
+use Rattle.cs_session.specs.declared.port.PassFault.TheVariants as no_pass
+use Rattle.cs_session.specs.Questions.{Question, Find, Enter, Ask, Told, Found, Entered, Got}
 use Rattle.cs_session.specs.Steps.{Front, Done, Asks, front_by}
 use Rattle.cs_world.specs.declared.heard.Heard.{Heard}
 use Rattle.cs_world.specs.declared.step.Step.{Step}
 use Rattle.cs_world.specs.Asking.{answered}
-use Rattle.cs_world.specs.Marks.{Mark, RunMark, NoRun, NoPass, InRun, below, in_run, refuses_table}
+use Rattle.cs_world.specs.Marks.{Mark, RunMark, InRun, below, in_run, refuses_table}
 use Rattle.cs_world.specs.Runs.{attached, called}
 use Rattle.cs_world.specs.Steps.{step_of}
 use Rattle.cs_world.specs.Turning.{TurnOf, turn_of}
@@ -36,22 +40,40 @@ stands_at registry key place = option_map_or (λ p. p == place) (place_of key re
 abbrev pub next_pass : Registry RunOf → ℕ → ℕ
 next_pass registry place = option_map_or (λ run. run.passes) (held_at registry.runs place) 0
 
--- what of a refused growth counts for an attach, and what for another call
-abbrev pub for_attach : RunMark → RunMark
-for_attach NoRun = InRun Ample
-for_attach NoPass = NoPass
-for_attach (InRun m) = InRun m
+-- an answer tells want of memory
+abbrev pub is_short_answer : Answer → Bool
+is_short_answer Short = true
+is_short_answer answer = false
 
-abbrev pub for_call : RunMark → RunMark
-for_call mark = InRun (in_run mark)
+abbrev pub tells_want : Told → Bool
+tells_want (Found (Err not_found.Memory)) = true
+tells_want (Entered (Err no_pass.Memory)) = true
+tells_want (Entered (Ok pass)) = is_short_answer pass.1
+tells_want (Got answer) = is_short_answer answer
+tells_want told = false
 
--- what a question puts to the run of a key: an attach, or another call
+-- the growth that memory refused: a mark beside an answer that tells no want counts for nothing
+abbrev pub wanted : Told → RunMark → RunMark
+wanted told mark = if tells_want told then mark else InRun Ample
+
+-- what a question puts to the run of a key: an attach, or another call, with the growth that it wanted and
+-- memory refused, if any
 abbrev pub put_to : Registry RunOf → Key → Question → RunMark → List (Heard × RunMark)
 put_to registry key (Find state name) mark = []
 put_to registry key (Enter now place call) mark =
-    if stands_at registry key place then (record { pass = next_pass registry place; now = now; call = Attach call }, for_attach mark) ∷ [] else []
+    if stands_at registry key place
+    then (
+      record { pass = next_pass registry place; now = now; call = Attach call },
+      wanted (answered registry (Enter now place call) mark).0 mark,
+    ) ∷ []
+    else []
 put_to registry key (Ask now place pass call) mark =
-    if stands_at registry key place then (record { pass = pass; now = now; call = call }, for_call mark) ∷ [] else []
+    if stands_at registry key place
+    then (
+      record { pass = pass; now = now; call = call },
+      wanted (answered registry (Ask now place pass call) mark).0 mark,
+    ) ∷ []
+    else []
 
 -- and what it is answered there
 abbrev pub told_there : Registry RunOf → Key → Question → RunMark → List Told
@@ -70,7 +92,7 @@ of_turn w of mark t = if nat_lt t.conn CONNECTIONS then of_front of (front_by t.
 abbrev pub of_step : {A : Type 0} → World → (Question → List A) → Step → Mark → List A
 of_step w of x mark = option_map_or (of_turn w of mark) (turn_of x) []
 
--- the calls of a list of steps that reach the run of a key, each with the growth of it that memory refuses
+-- the calls of a list of steps that reach the run of a key, each with the growth that it wanted and memory refused, if any
 abbrev pub projection_of : World → List (Step × Mark) → Key → List (Heard × RunMark)
 projection_of w [] key = []
 projection_of w (x ∷ xs) key = of_step w (λ question. put_to w.registry key question (below x.1)) x.0 x.1 ++ projection_of (step_of w x.0 x.1).1 xs key
@@ -89,8 +111,16 @@ pub record HeardSaid : Type 0 where
   pub asked : Asked
   pub written : List ℕ
 
+abbrev pub heard_view : Heard → HeardSaid
+heard_view h = record { pass = h.pass; now = h.now; asked = asked h.call; written = written h.call }
+
+-- beside the growth that memory refused
 abbrev pub heard_said : Heard × RunMark → HeardSaid × RunMark
-heard_said x = (record { pass = x.0.pass; now = x.0.now; asked = asked x.0.call; written = written x.0.call }, x.1)
+heard_said x = (heard_view x.0, x.1)
+
+-- what a list of steps puts to the run of a key, as it is said
+abbrev pub projection_said : World → List (Step × Mark) → Key → List (HeardSaid × RunMark)
+projection_said w marked key = map heard_said (projection_of w marked key)
 
 -- two runs have the same tree, opens and passes, and journals that say the same
 pub record IsAlike (r s : RunOf) : Type 0 where

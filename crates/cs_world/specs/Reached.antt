@@ -43,9 +43,11 @@ pub record RunIsReached (w : World) (place : ℕ) (key : Key) (run : Found RunOf
   pub fresh : state_at w.registry.scene key.number ≡ Some run.held.fresh
   pub users : run.held.users ≡ w.registry.users
 
--- each run is so; a run that awaits an attach is there; and each fid has a run that is there, and a pass that it gave
+-- of each number of the plan it is kept whether its state is published; each run is so; a run that awaits an attach is there; and each fid has a run
+-- that is there, and a pass that it gave
 pub record AreThere (w : World) : Type 0 where
   pub all : length w.connections ≡ CONNECTIONS
+  pub states : length w.registry.published ≡ length w.registry.scene.plan
   pub runs : (place : ℕ) (key : Key) (run : Found RunOf) → slice_get w.registry.runs place ≡ Some (key, run) → RunIsReached w place key run
   pub awaited : (conn : ℕ) (p : Awaited) → (connection w conn).pending ≡ Some p → IsSome (held_at w.registry.runs p.run)
   pub fids : (conn fid : ℕ) (e : Entry) → entry_at (connection w conn) fid ≡ Some e → Gave w.registry (run_of e) (pass_of e)

@@ -11,11 +11,7 @@ use Rattle.cs_world.specs.declared.heard.Heard.{Heard}
 use Rattle.cs_world.specs.declared.watched.WatchedRuns.{WatchedRuns}
 use Rattle.cs_world.specs.Asking.{answered}
 use Rattle.cs_world.specs.Marks.{RunMark}
-use Rattle.cs_world.specs.Projections.{HeardSaid, put_to}
-
--- what a call that reached a run says
-abbrev pub heard_view : Heard → HeardSaid
-heard_view h = record { pass = h.pass; now = h.now; asked = asked h.call; written = written h.call }
+use Rattle.cs_world.specs.Projections.{HeardSaid, heard_view, put_to}
 
 -- what such calls say, whatever of them memory refuses
 abbrev pub calls_said : List (Heard × RunMark) → List HeardSaid

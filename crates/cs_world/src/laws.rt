@@ -1,6 +1,6 @@
 //! What the definitions of steps say, as laws. A call of a function here does nothing: its contract is
 //! the law.
-ghost use Rattle.std.specs.Prelude.{◌≡◌, ◌≢◌, ◌<◌, ℕ, Bool, false, length, List, slice_get, Some};
+ghost use Rattle.std.specs.Prelude.{◌≡◌, ◌≢◌, ◌<◌, ◌++◌, ℕ, Bool, false, length, List, slice_get, Some};
 ghost use Rattle.cs_journal.specs.Marks.{StepMark};
 ghost use Rattle.cs_journal.specs.Runs.{RunOf};
 ghost use Rattle.cs_names.specs.declared.limits.TheConstants.{CONNECTIONS};
@@ -24,6 +24,7 @@ ghost use Rattle.cs_wire.specs.Messages.{Message as Spelled, replies};
 ghost use Rattle.cs_world.specs.Ample.{all_ample, ample, is_short};
 ghost use Rattle.cs_world.specs.Asking.{IsGiven};
 ghost use Rattle.cs_world.specs.Comes.{Comes};
+ghost use Rattle.cs_world.specs.Isolation.{NoneReachesAnother, run_after};
 ghost use Rattle.cs_world.specs.Judged.{IsJudged};
 ghost use Rattle.cs_world.specs.Lists.{IsTold, IsTurns, steps_of};
 ghost use Rattle.cs_world.specs.Marks.{Mark, refuses_table};
@@ -77,16 +78,36 @@ pub fn steps_are_judged()
 {}
 
 /// What a message is told, and a hang-up, is the reply of the last of some steps of the world, all of that
-/// connection at that moment, taken one after the other; or no step was taken.
+/// connection at that moment, taken one after the other; or no step was taken. Lists of steps, one after
+/// the other, are one list.
 pub fn messages_are_steps()
     ensures message { (w : World) (conn now : ℕ) → conn < CONNECTIONS → conn < length w.connections → (bytes : List ℕ) (told : Spelled replies) (s : Sess) (registry : Registry RunOf) → IsReplied IsGiven now bytes (connection w conn) w.registry told s registry → IsTold w conn now (tag_in bytes) told (with_both w conn s registry) }
     ensures answered { (w : World) (conn now : ℕ) → conn < CONNECTIONS → conn < length w.connections → (message : Message) (reply : Said) (s : Sess) (registry : Registry RunOf) → IsAnswered IsGiven now message (connection w conn) w.registry reply s registry → IsTurns w conn now reply (with_both w conn s registry) }
+    ensures follow { (w : World) (xs ys : List (Step × Mark)) → steps_of w (xs ++ ys)
+        ≡ (
+          (steps_of w xs).0 ++ (steps_of (steps_of w xs).1 ys).0,
+          (steps_of (steps_of w xs).1 ys).1,
+        ) }
 {}
 
-/// A step whose reply doesn't tell want of memory is the one in which memory refuses nothing.
+/// A step whose reply doesn't tell want of memory is the one in which memory refuses nothing; and in a
+/// reached world the reply of that one doesn't tell it.
 pub fn only_want_of_memory_differs()
-    ensures { (w : World) (step : Step) (mark : Mark) →
+    ensures differs { (w : World) (step : Step) (mark : Mark) →
         is_short (step_of w step mark).0 ≡ false → step_of w step mark ≡ step_of w step ample }
+    ensures suffices { (w : World) → IsReached w → (step : Step) →
+        is_short (step_of w step ample).0 ≡ false }
+{}
+
+/// No run reaches another: three laws of every list of steps from a new world, whatever growths memory
+/// refuses in them; so also of what `step`, `message` and `hang_up` come to, one after the other. Each run
+/// that was found has the users of that world.
+pub fn no_run_reaches_another()
+    ensures laws { (scene : Scene) (users : List Row) (marked : List (Step × Mark)) →
+        NoneReachesAnother (new_world scene users) marked }
+    ensures users { (scene : Scene) (users : List Row) (marked : List (Step × Mark)) (key : Key)
+        (run : RunOf) → run_after (new_world scene users) marked key ≡ Some run →
+        run.users ≡ users }
 {}
 
 /// A connection asks and leaves the same with steps that say the same, but for where texts lie in memory.

@@ -5,10 +5,10 @@ ghost use Rattle.cs_names.specs.declared.limits.TheConstants.{CONNECTIONS};
 ghost use Rattle.cs_world.specs.Ample.{all_ample};
 ghost use Rattle.cs_world.specs.Marks.{Mark, below};
 ghost use Rattle.cs_world.specs.Noting.{IsStart, Notes, world_in};
-ghost use Rattle.cs_world.specs.Projections.{of_step, of_turn, projection_of, put_to};
+ghost use Rattle.cs_world.specs.Projections.{heard_view, of_step, of_turn, projection_of, put_to};
 ghost use Rattle.cs_world.specs.Steps.{on_connection, step_of};
 ghost use Rattle.cs_world.specs.Turns.{step_in};
-ghost use Rattle.cs_world.specs.Watching.{calls_said, heard_view};
+ghost use Rattle.cs_world.specs.Watching.{calls_said};
 ghost use Rattle.cs_world.specs.Worlds.{new_world};
 
 use crate::copying::copy_step;
@@ -106,8 +106,8 @@ impl World {
 
     /// What of a list of steps reaches one run, of that name and of the state of that number: the calls
     /// that reach it where the steps are those of a new world, of this one's scene and users, in which
-    /// memory refuses nothing. Each has its pass and its moment, and says what the step's message says.
-    /// Want of memory while this is found out is the error. This world stays as it is.
+    /// memory refuses nothing. Each has its pass and its moment, and says what that call says. Want of
+    /// memory while this is found out is the error. This world stays as it is.
     pub fn project(
         &self,
         alloc: Global,

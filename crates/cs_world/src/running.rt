@@ -21,8 +21,9 @@ impl World {
         steps: Vec<Step>,
     ) -> Result<Vec<Reply>, (Vec<Step>, AllocError)>
         ensures runs { IfOk result (λ replies. IsRun self.old steps.items replies.items self.new) }
-        ensures isolated { IfOk result (λ replies. (scene : Scene) (users : List Row) → self.old ≡ new_world scene users →
-            IsIsolated scene users steps.items replies.items self.new) }
+        ensures isolated { IfOk result (λ replies. (scene : Scene) (users : List Row) →
+            self.old ≡ new_world scene users →
+            IsIsolated self.old steps.items replies.items self.new) }
         ensures reached { IsReached self.old → IsReached self.new }
         ensures refused { IfErr result (λ back. (back.0 ≡ steps) × (self.new ≡ self.old)) }
     {

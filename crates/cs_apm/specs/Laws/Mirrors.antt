@@ -12,17 +12,18 @@ use Rattle.cs_tree_model.specs.Tree.{Path, path_cmp}
 use Rattle.cs_tree_model.specs.Laws.Paths.{path_total, path_exact}
 use Rattle.cs_trace.specs.declared.operation.Node.TheVariants as nodes
 use Rattle.cs_trace.specs.declared.operation.Rights.{Rights}
+use Rattle.cs_trace.specs.declared.operation.Target.TheVariants as targets
 use Rattle.cs_micro.specs.declared.micro_op.MicroOp.{MicroOp}
-use Rattle.cs_micro.specs.declared.micro_op.MicroOp.TheVariants.{CreateDirEntry, DeleteDirEntry, MoveDirEntry, ChangeFileSize, WriteBlock, Say}
+use Rattle.cs_micro.specs.declared.micro_op.MicroOp.TheVariants.{CreateDirEntry, DeleteDirEntry, MoveDirEntry, ChangeFileSize, WriteBlock, SetAttr, Say}
 use Rattle.cs_apm.specs.Rules.{op_at}
-use Rattle.cs_apm.specs.States.{Entries, Entry, entries_after, moved}
+use Rattle.cs_apm.specs.States.{Entries, Entry, entries_after, moved, owned}
 use Rattle.cs_apm.specs.States as states
 use Rattle.cs_apm.specs.Laws.Paths.{same_cases, same_path}
 use Rattle.cs_apm.specs.declared.slot.Slot.{Slot}
 use Rattle.cs_apm.specs.declared.slot.Slot.TheVariants.{Nothing, Directory, File}
 use Rattle.cs_apm.specs.declared.slot.Step.{Step}
-use Rattle.cs_apm.specs.declared.slot.Step.TheVariants.{Set, Move, Other}
-use Rattle.cs_apm.specs.Slots.{slot_at, step_at, moved_slot, slots_after, AreAbove, AreAscending, path_at, rights_at, entry_of, slot_entry, Mirror, present, mirrored, IsPlace, IsStep, AreSteps}
+use Rattle.cs_apm.specs.declared.slot.Step.TheVariants.{Set, Move, Own, Other}
+use Rattle.cs_apm.specs.Slots.{slot_at, step_at, moved_slot, owned_slot, slots_after, AreAbove, AreAscending, path_at, rights_at, entry_of, slot_entry, Mirror, present, mirrored, IsPlace, IsStep, AreSteps}
 
 -- ---- one slot
 
@@ -109,6 +110,19 @@ module _ (rights : List Rights) where
         ∙ ap (cond (path_eq q r) (Some (states.File k))) (get_removed m p r ∙ ap (cond (path_eq p r) None) (mirror r) ∙ sym (with_slot paths slots up long i p from Nothing r))
         ∙ sym (with_slot paths (slice_set slots i Nothing) up (length-set slots i Nothing ∙ long) j q to (File k) r))
 
+    own_mirror : (i k : ℕ) (p : Path) (r : Rights) → IsPlace paths i p → rights_at rights k ≡ r → (s : Slot) → slot_at slots i ≡ s → Mirror rights paths (owned_slot i k slots s) (owned m p r (get m p))
+    own_mirror i k p r place same Nothing is q =
+        let none : get m p ≡ None = mirror p ∙ at_place paths slots up long i p place ∙ ap (entry_of rights) is in
+        ap (λ e. get (owned m p r e) q) none ∙ mirror q
+    own_mirror i k p r place same (File n) is q =
+        let file : get m p ≡ Some (states.File n) = mirror p ∙ at_place paths slots up long i p place ∙ ap (entry_of rights) is in
+        ap (λ e. get (owned m p r e) q) file ∙ mirror q
+    own_mirror i k p r place same (Directory old) is q =
+        let there : get m p ≡ Some (states.Directory (rights_at rights old)) = mirror p ∙ at_place paths slots up long i p place ∙ ap (entry_of rights) is in
+        ap (λ e. get (owned m p r e) q) there
+        ∙ set_mirror i p place (Directory k) (insert m p (states.Directory r))
+        (λ w. get_inserted m p w (states.Directory r) ∙ ap (λ o. cond (path_eq p w) (Some (states.Directory o)) (get m w)) (sym same)) q
+
     step_mirror : (o : MicroOp) (s : Step) → IsStep rights paths o s → Mirror rights paths (slots_after slots s) (entries_after m o)
     step_mirror (CreateDirEntry p nodes.Directory r) (Set i (Directory k)) h = set_mirror i p h.0 (Directory k) (insert m p (states.Directory r)) (λ q. get_inserted m p q (states.Directory r) ∙ ap (λ w. cond (path_eq p q) (Some (states.Directory w)) (get m q)) (sym h.1))
     step_mirror (CreateDirEntry p (nodes.File n) r) (Set i (File k)) h = set_mirror i p h.0 (File k) (insert m p (states.File n)) (λ q. get_inserted m p q (states.File n) ∙ ap (λ w. cond (path_eq p q) (Some (states.File w)) (get m q)) (sym h.1))
@@ -116,6 +130,8 @@ module _ (rights : List Rights) where
     step_mirror (MoveDirEntry p q) (Move i j) h = move_mirror i j p q h.0 h.1 (slot_at slots i) refl
     step_mirror (ChangeFileSize n size) Other h = mirror
     step_mirror (WriteBlock n block at bytes) Other h = mirror
+    step_mirror (SetAttr (targets.Directory p) r) (Own i k) h = own_mirror i k p r h.0 h.1 (slot_at slots i) refl
+    step_mirror (SetAttr (targets.File n) r) Other h = mirror
     step_mirror Say Other h = mirror
     step_mirror o s h = absurd h
 
@@ -127,6 +143,12 @@ module _ (rights : List Rights) where
       of_move Nothing = refl
       of_move (Directory k) = length-set (slice_set slots i Nothing) j (Directory k) ∙ length-set slots i Nothing
       of_move (File k) = length-set (slice_set slots i Nothing) j (File k) ∙ length-set slots i Nothing
+  length_after slots (Own i k) = of_own (slot_at slots i)
+    where
+      of_own : (s : Slot) → length (owned_slot i k slots s) ≡ length slots
+      of_own Nothing = refl
+      of_own (Directory old) = length-set slots i (Directory k)
+      of_own (File n) = refl
   length_after slots Other = refl
 
   -- ---- the steps of a set

@@ -13,7 +13,7 @@ use Rattle.cs_trace.specs.declared.operation.Rights.{Rights}
 use Rattle.cs_trace.specs.Operations.{AreNested, IsDirectoryAt, IsEmptyAt, IsFileAt, IsFree, Paths, moved}
 use Rattle.cs_micro.specs.declared.micro_op.EntryKind.TheVariants as kinds
 use Rattle.cs_micro.specs.declared.micro_op.MicroOp.{MicroOp}
-use Rattle.cs_micro.specs.declared.micro_op.MicroOp.TheVariants.{CreateDirEntry, DeleteDirEntry, MoveDirEntry, ChangeFileSize, WriteBlock, Say}
+use Rattle.cs_micro.specs.declared.micro_op.MicroOp.TheVariants.{CreateDirEntry, DeleteDirEntry, MoveDirEntry, ChangeFileSize, WriteBlock, SetAttr, Say}
 use Rattle.cs_micro.specs.Legal.{IsLegal, paths_after}
 use Rattle.cs_apm.specs.Legal.{IsLegalThere}
 use Rattle.cs_apm.specs.Rules.{creates, touches}
@@ -93,6 +93,7 @@ untouched m (MoveDirEntry a b) q h =
     get-moved m a b q ∙ (λ i. move_look (to i) (from i) (get m a) (get m q)) ∙ move_apart (get m a) (get m q)
 untouched m (ChangeFileSize file size) q h = refl
 untouched m (WriteBlock file block at bytes) q h = refl
+untouched m (SetAttr target rights) q h = refl
 untouched m Say q h = refl
 
 -- where two maps agree on what an operation touches, they agree there after it
@@ -105,6 +106,7 @@ agree m n (MoveDirEntry a b) same q h =
     ∙ sym (get-moved n a b q)
 agree m n (ChangeFileSize file size) same q h = same q h
 agree m n (WriteBlock file block at bytes) same q h = same q h
+agree m n (SetAttr target rights) same q h = same q h
 agree m n Say same q h = same q h
 
 pub created_touched : (o : MicroOp) (q : Path) → touches o q ≡ false → creates o q ≡ false
@@ -113,6 +115,7 @@ created_touched (DeleteDirEntry p kind) q h = refl
 created_touched (MoveDirEntry a b) q h = refl
 created_touched (ChangeFileSize file size) q h = refl
 created_touched (WriteBlock file block at bytes) q h = refl
+created_touched (SetAttr target rights) q h = refl
 created_touched Say q h = refl
 
 -- ---- a legal operation
@@ -156,6 +159,7 @@ apart m (MoveDirEntry a b) d h directory =
     inl ((λ i. first_apart (path_eq a d) false from i || (path_eq b d || false)) ∙ to)
 apart m (ChangeFileSize file size) d h directory = inl refl
 apart m (WriteBlock file block at bytes) d h directory = inl refl
+apart m (SetAttr target rights) d h directory = inl refl
 apart m Say d h directory = inl refl
 
 -- and where it leaves one, it made it
@@ -175,6 +179,7 @@ made m (MoveDirEntry a b) d h t directory = absurd (false≢true (sym (moves_no_
         (two_touched a b d t)
 made m (ChangeFileSize file size) d h t directory = absurd (false≢true t)
 made m (WriteBlock file block at bytes) d h t directory = absurd (false≢true t)
+made m (SetAttr target rights) d h t directory = absurd (false≢true t)
 made m Say d h t directory = absurd (false≢true t)
 
 -- what stands somewhere after it has had a directory above it
@@ -200,6 +205,7 @@ above m o h nested q e is named = ⊎_elim
         (same_cases b q)
     at_touched (ChangeFileSize file size) h t is = absurd (false≢true t)
     at_touched (WriteBlock file block at bytes) h t is = absurd (false≢true t)
+    at_touched (SetAttr target rights) h t is = absurd (false≢true t)
     at_touched Say h t is = absurd (false≢true t)
 
 -- a legal operation leaves paths nested

@@ -1,5 +1,5 @@
 -- The rules as tests say what they say as sentences.
-use Rattle.std.proofs.Common.{◌≡◌, ◌<◌, ◌≤◌, ◌⊎◌, inl, inr, ℕ, ◌+◌, ◌-◌, ◌&&◌, ◌||◌, ◌==◌, not, true, false, List, refl, sym, ap, ◌∙◌, subst, arith, ⊎_elim}
+use Rattle.std.proofs.Common.{◌≡◌, ◌<◌, ◌≤◌, ◌⊎◌, inl, inr, ℕ, zero, suc, ◌+◌, ◌-◌, ◌&&◌, ◌||◌, ◌==◌, not, Bool, true, false, List, [], ◌∷◌, get_or, refl, sym, ap, ◌∙◌, subst, arith, ⊎_elim}
 use Rattle.std.proofs.lemmas.Bool.{cases_Bool, false≢true, and_parts, and_from, or_cases, or_left, or_right, eqb-true, eq-eqb, lt-ltb, not-true}
 use Rattle.std.specs.Prelude.{nat_lt, nat_le, ◌↔◌}
 use Rattle.std.specs.List.{Contains, list_any}
@@ -7,12 +7,15 @@ use Rattle.cs_names.specs.Paths.{path_eq}
 use Rattle.cs_tree_model.specs.Tree.{Path, parent_path}
 use Rattle.cs_trace.specs.declared.operation.Covers.{Covers}
 use Rattle.cs_trace.specs.declared.operation.Covers.TheVariants as covers
+use Rattle.cs_trace.specs.declared.operation.Target.TheVariants as targets
+use Rattle.cs_trace.specs.declared.profile.Profile.{Profile}
+use Rattle.cs_trace.specs.declared.profile.Profile.TheVariants as profiles
 use Rattle.cs_micro.specs.declared.micro_op.EntryKind.TheVariants as kinds
 use Rattle.cs_micro.specs.declared.micro_op.MicroOp.{MicroOp}
-use Rattle.cs_micro.specs.declared.micro_op.MicroOp.TheVariants.{CreateDirEntry, DeleteDirEntry, MoveDirEntry, ChangeFileSize, WriteBlock, Say}
+use Rattle.cs_micro.specs.declared.micro_op.MicroOp.TheVariants.{CreateDirEntry, DeleteDirEntry, MoveDirEntry, ChangeFileSize, WriteBlock, SetAttr, Say}
 use Rattle.cs_micro.specs.declared.sync_point.SyncPoint.{SyncPoint}
-use Rattle.cs_apm.specs.Rules.{between, both_say, creates, empties, is_covered, is_latest, is_synced, makes_parent, needs, op_at, pair_needs, same_place, shares_path, touched, touches, touches_entry_of}
-use Rattle.cs_apm.specs.Reasons.{ChangesSize, Creates, IsCovered, IsLatestCreate, IsSyncedBetween, Needs, Reason, Touches, TouchesEntryOf, WritesBlock, writes_one_block, resizes_one_file, touches_one_path, makes_directory, empties_directory, is_waited_for, tells_after}
+use Rattle.cs_apm.specs.Rules.{between, both_say, creates, empties, is_covered, is_entry_operation, is_latest, is_synced, keeps_order, makes_parent, named, names, needs, op_at, pair_needs, sets_same_file, same_place, sets_directory, shares_path, touched, touches, touches_entry_of}
+use Rattle.cs_apm.specs.Reasons.{ChangesSize, Creates, IsCovered, IsEntryOperation, IsLatestCreate, IsSyncedBetween, Names, Needs, Reason, SetsDirectory, SetsFile, Touches, TouchesEntryOf, WritesBlock, writes_one_block, resizes_one_file, names_one_path, makes_directory, empties_directory, is_waited_for, tells_after, sets_one_file, is_kept_in_order}
 use Rattle.cs_apm.specs.Laws.Paths.{any_between, any_found, any_from, none_between, path_from_eq, same_path}
 
 -- ---- one operation
@@ -22,6 +25,42 @@ touches_says o p h = (let w = any_found (λ q. path_eq q p) (touched o) h in sub
 
 pub says_touches : (o : MicroOp) (p : Path) → Touches o p → touches o p ≡ true
 says_touches o p there = any_from (λ q. path_eq q p) (touched o) p there (same_path p)
+
+-- the paths that it names are listed
+pub listed : (o : MicroOp) (p : Path) → Names o p → Contains (named o) p
+listed o p n = ⊎_elim (touched_listed o) (λ (s : SetsDirectory o p). subst (λ w. Contains (named w) p) (sym s.1) (0, omega arith, refl)) n
+  where
+    touched_listed : (o : MicroOp) → Touches o p → Contains (named o) p
+    touched_listed (CreateDirEntry q node rights) h = h
+    touched_listed (DeleteDirEntry q kind) h = h
+    touched_listed (MoveDirEntry q r) h = h
+    touched_listed (ChangeFileSize file size) h = h
+    touched_listed (WriteBlock file block at bytes) h = h
+    touched_listed (SetAttr (targets.File file) rights) h = h
+    touched_listed (SetAttr (targets.Directory q) rights) h = absurd (let low = h.1 in omega (arith, low))
+    touched_listed Say h = h
+
+-- what stands in a list of one
+pub only_one : (q p : Path) (k : ℕ) → k < 1 → get_or (q ∷ []) k p ≡ p → q ≡ p
+only_one q p zero low is = is
+only_one q p (suc k) low is = absurd (omega (arith, low))
+
+-- and no others
+listed_names : (o : MicroOp) (p : Path) → Contains (named o) p → Names o p
+listed_names (CreateDirEntry q node rights) p h = inl h
+listed_names (DeleteDirEntry q kind) p h = inl h
+listed_names (MoveDirEntry q r) p h = inl h
+listed_names (ChangeFileSize file size) p h = inl h
+listed_names (WriteBlock file block at bytes) p h = inl h
+listed_names (SetAttr (targets.File file) rights) p h = inl h
+listed_names (SetAttr (targets.Directory q) rights) p h = inr (rights, ap (λ w. SetAttr (targets.Directory w) rights) (only_one q p h.0 h.1 h.2))
+listed_names Say p h = inl h
+
+names_says : (o : MicroOp) (p : Path) → names o p ≡ true → Names o p
+names_says o p h = (let w = any_found (λ q. path_eq q p) (named o) h in listed_names o p (subst (Contains (named o)) (path_from_eq w.0 p w.2) w.1))
+
+says_names : (o : MicroOp) (p : Path) → Names o p → names o p ≡ true
+says_names o p n = any_from (λ q. path_eq q p) (named o) p (listed o p n) (same_path p)
 
 entry_says : (o : MicroOp) (d : Path) → touches_entry_of o d ≡ true → TouchesEntryOf o d
 entry_says o d h = (let w = any_found (λ p. path_eq d (parent_path p)) (touched o) h in record { path = w.0; touching = w.1; parent = sym (path_from_eq d (parent_path w.0) w.2) })
@@ -35,6 +74,7 @@ creates_says (DeleteDirEntry q kind) p h = absurd (false≢true h)
 creates_says (MoveDirEntry q r) p h = absurd (false≢true h)
 creates_says (ChangeFileSize file size) p h = absurd (false≢true h)
 creates_says (WriteBlock file block at bytes) p h = absurd (false≢true h)
+creates_says (SetAttr target rights) p h = absurd (false≢true h)
 creates_says Say p h = absurd (false≢true h)
 
 pub says_creates : (o : MicroOp) (p : Path) → Creates o p → creates o p ≡ true
@@ -72,25 +112,83 @@ say_says : (a b : MicroOp) → both_say a b ≡ true → (a ≡ Say) × (b ≡ S
 say_says Say Say h = (refl, refl)
 say_says a b h = absurd (false≢true h)
 
+abbrev OneOwner : MicroOp → MicroOp → Type 0
+OneOwner a b = (file : ℕ) × SetsFile a file × SetsFile b file
+
+file_says : (a b : MicroOp) → sets_same_file a b ≡ true → OneOwner a b
+file_says (SetAttr (targets.File file) rights) (SetAttr (targets.File other) more) h =
+    (file, (rights, refl), (more, ap (λ w. SetAttr (targets.File w) more) (sym (eqb-true file other h))))
+file_says a b h = absurd (false≢true h)
+
+says_file : (a b : MicroOp) (file : ℕ) → SetsFile a file → SetsFile b file → sets_same_file a b ≡ true
+says_file a b file x y = (λ w. sets_same_file (x.1 w) (y.1 w)) ∙ eq-eqb file file refl
+
+entry_operation_says : (o : MicroOp) → is_entry_operation o ≡ true → IsEntryOperation o
+entry_operation_says (CreateDirEntry p node rights) h = tt
+entry_operation_says (DeleteDirEntry p kind) h = tt
+entry_operation_says (MoveDirEntry p q) h = tt
+entry_operation_says (ChangeFileSize file size) h = absurd (false≢true h)
+entry_operation_says (WriteBlock file block at bytes) h = absurd (false≢true h)
+entry_operation_says (SetAttr target rights) h = absurd (false≢true h)
+entry_operation_says Say h = absurd (false≢true h)
+
+says_entry_operation : (o : MicroOp) → IsEntryOperation o → is_entry_operation o ≡ true
+says_entry_operation (CreateDirEntry p node rights) h = refl
+says_entry_operation (DeleteDirEntry p kind) h = refl
+says_entry_operation (MoveDirEntry p q) h = refl
+says_entry_operation (ChangeFileSize file size) h = absurd h
+says_entry_operation (WriteBlock file block at bytes) h = absurd h
+says_entry_operation (SetAttr target rights) h = absurd h
+says_entry_operation Say h = absurd h
+
+order_says : (profile : Profile) (a b : MicroOp) → keeps_order profile a b ≡ true → (profile ≡ profiles.Ordered) × IsEntryOperation a × IsEntryOperation b
+order_says profiles.Blocks a b h = absurd (false≢true h)
+order_says profiles.Ordered a b h =
+    let parts = and_parts (is_entry_operation a) (is_entry_operation b) h in
+    (refl, entry_operation_says a parts.0, entry_operation_says b parts.1)
+
+says_order : (profile : Profile) (a b : MicroOp) → profile ≡ profiles.Ordered → IsEntryOperation a → IsEntryOperation b → keeps_order profile a b ≡ true
+says_order profile a b is x y =
+    ap (λ w. keeps_order w a b) is
+    ∙ and_from (is_entry_operation a) (is_entry_operation b) (says_entry_operation a x) (says_entry_operation b y)
+
 -- ---- a sync
+
+directory_says : (o : MicroOp) (d : Path) → sets_directory o d ≡ true → SetsDirectory o d
+directory_says (SetAttr (targets.Directory p) rights) d h = (rights, ap (λ w. SetAttr (targets.Directory w) rights) (path_from_eq p d h))
+directory_says o d h = absurd (false≢true h)
+
+says_directory : (o : MicroOp) (d : Path) → SetsDirectory o d → sets_directory o d ≡ true
+says_directory o d s = ap (λ w. sets_directory w d) s.1 ∙ same_path d
 
 covered_says : (c : Covers) (o : MicroOp) → is_covered c o ≡ true → IsCovered c o
 covered_says covers.All o h = tt
-covered_says (covers.File file) (WriteBlock other block at bytes) h = inl (block, (at, bytes, ap (λ w. WriteBlock w block at bytes) (sym (eqb-true file other h))))
-covered_says (covers.File file) (ChangeFileSize other size) h = inr (size, ap (λ w. ChangeFileSize w size) (sym (eqb-true file other h)))
+covered_says (covers.File file) (WriteBlock other block at bytes) h = inl (inl (block, (at, bytes, ap (λ w. WriteBlock w block at bytes) (sym (eqb-true file other h)))))
+covered_says (covers.File file) (ChangeFileSize other size) h = inl (inr (size, ap (λ w. ChangeFileSize w size) (sym (eqb-true file other h))))
+covered_says (covers.File file) (SetAttr (targets.File other) rights) h = inr (rights, ap (λ w. SetAttr (targets.File w) rights) (sym (eqb-true file other h)))
+covered_says (covers.File file) (SetAttr (targets.Directory q) rights) h = absurd (false≢true h)
 covered_says (covers.File file) (CreateDirEntry q node rights) h = absurd (false≢true h)
 covered_says (covers.File file) (DeleteDirEntry q kind) h = absurd (false≢true h)
 covered_says (covers.File file) (MoveDirEntry q r) h = absurd (false≢true h)
 covered_says (covers.File file) Say h = absurd (false≢true h)
-covered_says (covers.Directory d) o h = entry_says o d h
+covered_says (covers.Directory d) o h = ⊎_elim
+    (λ (entry : touches_entry_of o d ≡ true). inl (entry_says o d entry))
+    (λ (own : sets_directory o d ≡ true). inr (directory_says o d own))
+    (or_cases (touches_entry_of o d) (sets_directory o d) h)
 
 says_covered : (c : Covers) (o : MicroOp) → IsCovered c o → is_covered c o ≡ true
 says_covered covers.All o h = refl
 says_covered (covers.File file) o h = ⊎_elim
+    (λ (b : ((block : ℕ) × WritesBlock o file block) ⊎ ChangesSize o file). ⊎_elim
     (λ (w : (block : ℕ) × WritesBlock o file block). ap (is_covered (covers.File file)) w.1.2 ∙ eq-eqb file file refl)
     (λ (s : ChangesSize o file). ap (is_covered (covers.File file)) s.1 ∙ eq-eqb file file refl)
+    b)
+    (λ (r : SetsFile o file). ap (is_covered (covers.File file)) r.1 ∙ eq-eqb file file refl)
     h
-says_covered (covers.Directory d) o h = says_entry o d h
+says_covered (covers.Directory d) o h = ⊎_elim
+    (λ (w : TouchesEntryOf o d). or_left (touches_entry_of o d) (sets_directory o d) (says_entry o d w))
+    (λ (s : SetsDirectory o d). or_right (touches_entry_of o d) (sets_directory o d) (says_directory o d s))
+    h
 
 le_says : (m n : ℕ) → nat_le m n ≡ true → m ≤ n
 le_says m n h = grind (arith, h)
@@ -137,66 +235,88 @@ module _ (ops : List MicroOp) (syncs : List SyncPoint) (i j : ℕ) where
       (λ (none : t k ≡ false). none)
       (cases_Bool (t k)))))
 
-  -- ---- all of them
+-- ---- all of them
 
+module _ (ops : List MicroOp) (syncs : List SyncPoint) (profile : Profile) (i j : ℕ) where
   abbrev a : MicroOp
   a = op_at ops i
 
   abbrev b : MicroOp
   b = op_at ops j
 
-  pair_says : pair_needs a b ≡ true → Reason ops syncs i j
-  pair_says h = ⊎_elim
-      (λ (first : (same_place a b || shares_path a b || empties a b) ≡ true). ⊎_elim
-      (λ (second : (same_place a b || shares_path a b) ≡ true). ⊎_elim
+  -- by the rules that look at paths, places and texts
+  abbrev first : Bool
+  first = same_place a b || shares_path a b || empties a b || both_say a b
+
+  first_says : first ≡ true → Reason ops syncs profile i j
+  first_says h = ⊎_elim
+      (λ (rest : (same_place a b || shares_path a b || empties a b) ≡ true). ⊎_elim
+      (λ (two : (same_place a b || shares_path a b) ≡ true). ⊎_elim
       (λ (place : same_place a b ≡ true). ⊎_elim
       (λ (w : OneBlock a b). writes_one_block w.0 w.1 w.2 w.3)
       (λ (w : OneFile a b). resizes_one_file w.0 w.1 w.2)
       (place_says a b place))
-      (λ (path : shares_path a b ≡ true). (let w = any_found (touches a) (touched b) path in touches_one_path w.0 (touches_says a w.0 w.2) w.1))
-      (or_cases (same_place a b) (shares_path a b) second))
+      (λ (path : shares_path a b ≡ true). (let w = any_found (names a) (named b) path in names_one_path w.0 (names_says a w.0 w.2) (listed_names b w.0 w.1)))
+      (or_cases (same_place a b) (shares_path a b) two))
       (λ (gone : empties a b ≡ true). (let w = empties_says a b gone in empties_directory w.0 w.1 w.2))
-      (or_cases (same_place a b || shares_path a b) (empties a b) first))
+      (or_cases (same_place a b || shares_path a b) (empties a b) rest))
       (λ (say : both_say a b ≡ true). (let w = say_says a b say in tells_after w.0 w.1))
       (or_cases (same_place a b || shares_path a b || empties a b) (both_say a b) h)
 
-  pub needs_says : needs ops syncs i j ≡ true → Needs ops syncs i j
+  pair_says : pair_needs profile a b ≡ true → Reason ops syncs profile i j
+  pair_says h = ⊎_elim
+      (λ (rest : (first || sets_same_file a b) ≡ true). ⊎_elim
+      first_says
+      (λ (file : sets_same_file a b ≡ true). (let w = file_says a b file in sets_one_file w.0 w.1 w.2))
+      (or_cases first (sets_same_file a b) rest))
+      (λ (order : keeps_order profile a b ≡ true). (let w = order_says profile a b order in is_kept_in_order w.0 w.1 w.2))
+      (or_cases (first || sets_same_file a b) (keeps_order profile a b) h)
+
+  pub needs_says : needs ops syncs profile i j ≡ true → Needs ops syncs profile i j
   unfolding needs
   needs_says h =
-      let parts = and_parts (nat_lt i j) (pair_needs a b || makes_parent ops i j || is_synced syncs i j a) h in
+      let parts = and_parts (nat_lt i j) (pair_needs profile a b || makes_parent ops i j || is_synced syncs i j a) h in
       record {
         before = lt_says i j parts.0;
         reason = ⊎_elim
-            (λ (first : (pair_needs a b || makes_parent ops i j) ≡ true). ⊎_elim
+            (λ (two : (pair_needs profile a b || makes_parent ops i j) ≡ true). ⊎_elim
             pair_says
-            (λ (made : makes_parent ops i j ≡ true). (let w = any_found (λ p. is_latest ops i j (parent_path p)) (touched b) made in makes_directory w.0 w.1 (latest_says (parent_path w.0) w.2)))
-            (or_cases (pair_needs a b) (makes_parent ops i j) first))
-            (λ (synced : is_synced syncs i j a ≡ true). is_waited_for (synced_says synced))
-            (or_cases (pair_needs a b || makes_parent ops i j) (is_synced syncs i j a) parts.1);
+            (λ (made : makes_parent ops i j ≡ true). (let w = any_found (λ p. is_latest ops i j (parent_path p)) (named b) made in makes_directory w.0 (listed_names b w.0 w.1) (latest_says ops syncs i j (parent_path w.0) w.2)))
+            (or_cases (pair_needs profile a b) (makes_parent ops i j) two))
+            (λ (synced : is_synced syncs i j a ≡ true). is_waited_for (synced_says ops syncs i j synced))
+            (or_cases (pair_needs profile a b || makes_parent ops i j) (is_synced syncs i j a) parts.1);
       }
 
-  by_pair : pair_needs a b ≡ true → (pair_needs a b || makes_parent ops i j || is_synced syncs i j a) ≡ true
-  by_pair h = or_left (pair_needs a b || makes_parent ops i j) (is_synced syncs i j a) (or_left (pair_needs a b) (makes_parent ops i j) h)
+  abbrev any : Bool
+  any = pair_needs profile a b || makes_parent ops i j || is_synced syncs i j a
 
-  by_place : same_place a b ≡ true → (pair_needs a b || makes_parent ops i j || is_synced syncs i j a) ≡ true
-  by_place h = by_pair (or_left (same_place a b || shares_path a b || empties a b) (both_say a b) (or_left (same_place a b || shares_path a b) (empties a b) (or_left (same_place a b) (shares_path a b) h)))
+  by_pair : pair_needs profile a b ≡ true → any ≡ true
+  by_pair h = or_left (pair_needs profile a b || makes_parent ops i j) (is_synced syncs i j a) (or_left (pair_needs profile a b) (makes_parent ops i j) h)
 
-  says_reason : Reason ops syncs i j → (pair_needs a b || makes_parent ops i j || is_synced syncs i j a) ≡ true
+  by_first : first ≡ true → any ≡ true
+  by_first h = by_pair (or_left (first || sets_same_file a b) (keeps_order profile a b) (or_left first (sets_same_file a b) h))
+
+  by_place : same_place a b ≡ true → any ≡ true
+  by_place h = by_first (or_left (same_place a b || shares_path a b || empties a b) (both_say a b) (or_left (same_place a b || shares_path a b) (empties a b) (or_left (same_place a b) (shares_path a b) h)))
+
+  says_reason : Reason ops syncs profile i j → any ≡ true
   says_reason (writes_one_block file block x y) = by_place (block_place a b file block x y)
   says_reason (resizes_one_file file x y) = by_place (size_place a b file x y)
-  says_reason (touches_one_path p x y) = by_pair (or_left (same_place a b || shares_path a b || empties a b) (both_say a b) (or_left (same_place a b || shares_path a b) (empties a b) (or_right (same_place a b) (shares_path a b)
-      (any_from (touches a) (touched b) p y (says_touches a p x)))))
-  says_reason (makes_directory p touching latest) = or_left (pair_needs a b || makes_parent ops i j) (is_synced syncs i j a) (or_right (pair_needs a b) (makes_parent ops i j)
-      (any_from (λ q. is_latest ops i j (parent_path q)) (touched b) p touching (says_latest (parent_path p) latest)))
-  says_reason (empties_directory d gone w) = by_pair (or_left (same_place a b || shares_path a b || empties a b) (both_say a b) (or_right (same_place a b || shares_path a b) (empties a b)
+  says_reason (names_one_path p x y) = by_first (or_left (same_place a b || shares_path a b || empties a b) (both_say a b) (or_left (same_place a b || shares_path a b) (empties a b) (or_right (same_place a b) (shares_path a b)
+      (any_from (names a) (named b) p (listed b p y) (says_names a p x)))))
+  says_reason (makes_directory p naming latest) = or_left (pair_needs profile a b || makes_parent ops i j) (is_synced syncs i j a) (or_right (pair_needs profile a b) (makes_parent ops i j)
+      (any_from (λ q. is_latest ops i j (parent_path q)) (named b) p (listed b p naming) (says_latest ops syncs i j (parent_path p) latest)))
+  says_reason (empties_directory d gone w) = by_first (or_left (same_place a b || shares_path a b || empties a b) (both_say a b) (or_right (same_place a b || shares_path a b) (empties a b)
       (ap (empties a) gone ∙ says_entry a d w)))
-  says_reason (is_waited_for w) = or_right (pair_needs a b || makes_parent ops i j) (is_synced syncs i j a) (says_synced w)
-  says_reason (tells_after x y) = by_pair (or_right (same_place a b || shares_path a b || empties a b) (both_say a b) (λ w. both_say (x w) (y w)))
+  says_reason (is_waited_for w) = or_right (pair_needs profile a b || makes_parent ops i j) (is_synced syncs i j a) (says_synced ops syncs i j w)
+  says_reason (tells_after x y) = by_first (or_right (same_place a b || shares_path a b || empties a b) (both_say a b) (λ w. both_say (x w) (y w)))
+  says_reason (sets_one_file file x y) = by_pair (or_left (first || sets_same_file a b) (keeps_order profile a b) (or_right first (sets_same_file a b) (says_file a b file x y)))
+  says_reason (is_kept_in_order ordered x y) = by_pair (or_right (first || sets_same_file a b) (keeps_order profile a b) (says_order profile a b ordered x y))
 
-  pub says_needs : Needs ops syncs i j → needs ops syncs i j ≡ true
+  pub says_needs : Needs ops syncs profile i j → needs ops syncs profile i j ≡ true
   unfolding needs
-  says_needs w = and_from (nat_lt i j) (pair_needs a b || makes_parent ops i j || is_synced syncs i j a) (lt-ltb i j w.before) (says_reason w.reason)
+  says_needs w = and_from (nat_lt i j) any (lt-ltb i j w.before) (says_reason w.reason)
 
 -- the tests are the sentences
-pub needs_exactly : (ops : List MicroOp) (syncs : List SyncPoint) (i j : ℕ) → (needs ops syncs i j ≡ true) ↔ Needs ops syncs i j
-needs_exactly ops syncs i j = (needs_says ops syncs i j, says_needs ops syncs i j)
+pub needs_exactly : (ops : List MicroOp) (syncs : List SyncPoint) (profile : Profile) (i j : ℕ) → (needs ops syncs profile i j ≡ true) ↔ Needs ops syncs profile i j
+needs_exactly ops syncs profile i j = (needs_says ops syncs profile i j, says_needs ops syncs profile i j)

@@ -4,7 +4,7 @@ use Rattle.std.proofs.lemmas.List.Elements.{All-cons, All-nil}
 use Rattle.std.specs.List.{All}
 use Rattle.cs_trace.specs.Operations.{Paths}
 use Rattle.cs_micro.specs.declared.micro_op.MicroOp.{MicroOp}
-use Rattle.cs_micro.specs.declared.micro_op.MicroOp.TheVariants.{CreateDirEntry, DeleteDirEntry, MoveDirEntry, ChangeFileSize, WriteBlock, Say}
+use Rattle.cs_micro.specs.declared.micro_op.MicroOp.TheVariants.{CreateDirEntry, DeleteDirEntry, MoveDirEntry, ChangeFileSize, WriteBlock, SetAttr, Say}
 use Rattle.cs_micro.specs.Legal.{AreLegal, IsLegal, made_after, paths_after}
 use Rattle.cs_apm.specs.Contents.{IsSmall}
 
@@ -14,6 +14,7 @@ one_small m made (DeleteDirEntry p kind) h = tt
 one_small m made (MoveDirEntry p q) h = tt
 one_small m made (ChangeFileSize file size) h = tt
 one_small m made (WriteBlock file block at bytes) h = (let limit = h.3 in omega (arith, limit))
+one_small m made (SetAttr target rights) h = tt
 one_small m made Say h = tt
 
 pub small_steps : (m : Paths) (made : ℕ) (ops : List MicroOp) → AreLegal m made ops → All IsSmall ops

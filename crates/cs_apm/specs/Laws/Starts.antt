@@ -14,7 +14,7 @@ use Rattle.cs_micro.specs.Micros.{Micros}
 use Rattle.cs_micro.specs.Legal.{AreLegal}
 use Rattle.cs_apm.specs.Orders.{needs_of}
 use Rattle.cs_apm.specs.Sets.{IsAllowed}
-use Rattle.cs_apm.specs.States.{crash_state_of, owners_of, rights_of, start_entries, start_entry, start_state}
+use Rattle.cs_apm.specs.States.{crash_state_of, rights_of, start_entries, start_entry, start_state}
 use Rattle.cs_apm.specs.Laws.Trees.{chosen, get_nodes, node_made, node_of, nodes_in, state_is_tree}
 
 find_start : (q : Path) (records : List (Path × Record)) (nodes : List Node)
@@ -40,4 +40,4 @@ module _ (t : Trace) (m : Micros) (nested : AreNested (start_paths t)) (made : �
   legal_start = subst (λ n. AreLegal n made m.ops) (sym (start_nodes t.records t.nodes)) legal
 
   pub crash_states_are_trees : (places : List ℕ) → IsAllowed (needs_of m) (length m.ops) places → IsTree (crash_state_of t m places)
-  crash_states_are_trees places allowed = state_is_tree (owners_of t m.ops) (start_state t) m.ops m.syncs places nested_start made legal_start allowed
+  crash_states_are_trees places allowed = state_is_tree (start_state t) m.ops m.syncs m.profile places nested_start made legal_start allowed

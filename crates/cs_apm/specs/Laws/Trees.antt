@@ -1,31 +1,33 @@
 -- The state of an allowed set of legal micro-operations is a tree.
-use Rattle.std.proofs.Common.{◌≡◌, ℕ, zero, suc, ◌+◌, ◌*◌, ◌^◌, ◌<◌, ◌==◌, not, Bool, true, false, cond, List, [], ◌∷◌, Option, None, Some, refl, sym, ap, ◌∙◌, subst, ⊎_elim, length, map, arith, lit≤}
+use Rattle.std.proofs.Common.{◌≡◌, ◌≢◌, ℕ, zero, suc, ◌+◌, ◌*◌, ◌^◌, ◌<◌, ◌==◌, not, Bool, true, false, cond, List, [], ◌∷◌, Option, None, Some, refl, sym, ap, ◌∙◌, subst, ⊎_elim, length, map, arith, lit≤}
 use Rattle.std.proofs.lemmas.Bool.{false≢true}
 use Rattle.std.proofs.lemmas.Nat.Bits.{and_pow, bit_at_above, bit_at_cat_high}
 use Rattle.std.specs.FinMap.{get, insert, remove, get-insert, get-remove, same_map}
 use Rattle.std.specs.Option.{is_some, option_map}
-use Rattle.std.specs.Ordering.{is_eq}
+use Rattle.std.specs.Ordering.{eq_by_cmp, is_eq}
 use Rattle.std.specs.Prelude.{bit_and, fold, slice_index_or}
 use Rattle.cs_tree_model.specs.declared.mode.TheConstants.{DMDIR}
 use Rattle.cs_tree_model.specs.declared.record.Record.{Record}
 use Rattle.cs_tree_model.specs.Fresh.{IsNested}
 use Rattle.cs_tree_model.specs.Laws.Fresh.{fresh_is_tree}
-use Rattle.cs_tree_model.specs.Laws.Paths.{option_cases, path_exact, path_total}
+use Rattle.cs_tree_model.specs.Laws.Paths.{option_cases, path_cases, path_exact, path_total}
 use Rattle.cs_tree_model.specs.Maps.Values.{get-map_values, map_values}
 use Rattle.cs_tree_model.specs.Record.{IsDirectory, IsMarked}
 use Rattle.cs_tree_model.specs.Tree.{IsTree, Path, parent_path, path_cmp}
 use Rattle.cs_trace.specs.declared.operation.Node.{Node}
 use Rattle.cs_trace.specs.declared.operation.Node.TheVariants as nodes
 use Rattle.cs_trace.specs.declared.operation.Rights.{Rights}
+use Rattle.cs_trace.specs.declared.operation.Target.TheVariants as targets
+use Rattle.cs_trace.specs.declared.profile.Profile.{Profile}
 use Rattle.cs_trace.specs.Operations.{AreNested, IsDirectoryAt, Paths}
 use Rattle.cs_micro.specs.declared.micro_op.MicroOp.{MicroOp}
-use Rattle.cs_micro.specs.declared.micro_op.MicroOp.TheVariants.{CreateDirEntry, DeleteDirEntry, MoveDirEntry, ChangeFileSize, WriteBlock, Say}
+use Rattle.cs_micro.specs.declared.micro_op.MicroOp.TheVariants.{CreateDirEntry, DeleteDirEntry, MoveDirEntry, ChangeFileSize, WriteBlock, SetAttr, Say}
 use Rattle.cs_micro.specs.declared.sync_point.SyncPoint.{SyncPoint}
 use Rattle.cs_micro.specs.Legal.{AreLegal, made_after, paths_after}
 use Rattle.cs_apm.specs.Legal.{IsLegalThere, nodes_of}
 use Rattle.cs_apm.specs.Rules.{needs, op_at}
 use Rattle.cs_apm.specs.Sets.{IsAllowed, is_member}
-use Rattle.cs_apm.specs.States.{Content, Directory, Entries, Entry, File, State, after, entries_after, entry_made, nobody, permission_bits, record_of, records_of, state_of, tree_of_state}
+use Rattle.cs_apm.specs.States.{Content, Directory, Entries, Entry, File, State, after, entries_after, entry_made, nobody, owned, permission_bits, record_of, records_of, state_of, tree_of_state}
 use Rattle.cs_apm.specs.Laws.Allowed.{allowed_has}
 use Rattle.cs_apm.specs.Laws.Members.{members_run, run}
 use Rattle.cs_apm.specs.Laws.Nested.{set_nested}
@@ -52,11 +54,11 @@ legal_at start made (o ∷ ops) h zero lt = (made, h.0)
 legal_at start made (o ∷ ops) h (suc k) lt = subst (λ w. IsLegalThere w (op_at ops k)) (sym (same_first start o ops k)) (legal_at (paths_after start o) (made_after made o) ops h.1 k (omega (arith, lt)))
 
 -- the nodes that an allowed set leaves are nested
-pub fold_nested : (start : Paths) (made : ℕ) (ops : List MicroOp) (syncs : List SyncPoint) (places : List ℕ) → AreNested start → AreLegal start made ops
-    → IsAllowed (needs ops syncs) (length ops) places → AreNested (fold paths_after start (map (op_at ops) places))
-fold_nested start made ops syncs places nested legal allowed =
+pub fold_nested : (start : Paths) (made : ℕ) (ops : List MicroOp) (syncs : List SyncPoint) (profile : Profile) (places : List ℕ) → AreNested start → AreLegal start made ops
+    → IsAllowed (needs ops syncs profile) (length ops) places → AreNested (fold paths_after start (map (op_at ops) places))
+fold_nested start made ops syncs profile places nested legal allowed =
     subst AreNested (sym (members_run paths_after start ops (length ops) places allowed.ascending allowed.in_range ∙ same_run (is_member places) start ops (length ops)))
-    (set_nested ops start (is_member places) nested (legal_at start made ops legal) (allowed_has ops syncs (length ops) places allowed))
+    (set_nested ops start (is_member places) nested (legal_at start made ops legal) (allowed_has ops syncs profile (length ops) places allowed))
 
 -- ---- the nodes of a state's entries
 
@@ -89,6 +91,23 @@ nodes_removed m p = same_map path_total path_exact (nodes_in (remove m p)) (remo
     get_nodes (remove m p) q ∙ ap (option_map node_of) (get-remove path_total m p q) ∙ chosen (is_eq (path_cmp q p)) None (get m q)
     ∙ sym (get-remove path_total (nodes_in m) p q ∙ ap (cond (is_eq (path_cmp q p)) None) (get_nodes m q)))
 
+-- what stands somewhere already is put there again
+again : (m : Paths) (p : Path) (n : Node) → get m p ≡ Some n → insert m p n ≡ m
+again m p n there = same_map path_total path_exact (insert m p n) m (λ q. get-insert path_total m p n q ∙ at q)
+  where
+    at : (q : Path) → cond (is_eq (path_cmp q p)) (Some n) (get m q) ≡ get m q
+    at q = ⊎_elim
+        (λ (one : (eq_by_cmp path_cmp q p ≡ true) × (q ≡ p)). ap (λ b. cond b (Some n) (get m q)) one.0 ∙ sym (ap (get m) one.1 ∙ there))
+        (λ (two : (eq_by_cmp path_cmp q p ≡ false) × (q ≢ p)). ap (λ b. cond b (Some n) (get m q)) two.0)
+        (path_cases q p)
+
+-- other rights leave each node
+nodes_owned : (m : Entries) (p : Path) (rights : Rights) (e : Option Entry) → get m p ≡ e → nodes_in (owned m p rights e) ≡ nodes_in m
+nodes_owned m p rights None is = refl
+nodes_owned m p rights (Some (File file)) is = refl
+nodes_owned m p rights (Some (Directory old)) is =
+    nodes_inserted m p (Directory rights) ∙ again (nodes_in m) p nodes.Directory (get_nodes m p ∙ ap (option_map node_of) is)
+
 nodes_step : (m : Entries) (o : MicroOp) → nodes_in (entries_after m o) ≡ paths_after (nodes_in m) o
 nodes_step m (CreateDirEntry p node rights) = nodes_inserted m p (entry_made node rights) ∙ ap (insert (nodes_in m) p) (node_made node rights)
 nodes_step m (DeleteDirEntry p kind) = nodes_removed m p
@@ -99,6 +118,8 @@ nodes_step m (MoveDirEntry p q) = ⊎_elim
     (option_cases (get m p))
 nodes_step m (ChangeFileSize file size) = refl
 nodes_step m (WriteBlock file block at bytes) = refl
+nodes_step m (SetAttr (targets.File file) rights) = refl
+nodes_step m (SetAttr (targets.Directory p) rights) = nodes_owned m p rights (get m p) refl
 nodes_step m Say = refl
 
 pub nodes_fold : (m : Entries) (ops : List MicroOp) → nodes_in (fold entries_after m ops) ≡ fold paths_after (nodes_in m) ops
@@ -159,16 +180,16 @@ module _ (owners : List Rights) (files : List Content) (m : Entries) (h : AreNes
 
 -- ---- the tree
 
-module _ (owners : List Rights) (start : State) (ops : List MicroOp) (syncs : List SyncPoint) (places : List ℕ)
+module _ (start : State) (ops : List MicroOp) (syncs : List SyncPoint) (profile : Profile) (places : List ℕ)
     (nested : AreNested (nodes_in start.paths)) (made : ℕ) (legal : AreLegal (nodes_in start.paths) made ops)
-    (allowed : IsAllowed (needs ops syncs) (length ops) places) where
+    (allowed : IsAllowed (needs ops syncs profile) (length ops) places) where
   pub paths_left : (state_of start ops places).paths ≡ fold entries_after start.paths (map (op_at ops) places)
   unfolding state_of
   paths_left = paths_fold _ (map (op_at ops) places)
 
-  pub state_nested : IsNested (records_of owners (state_of start ops places))
-  state_nested = nested_records owners (state_of start ops places).files (state_of start ops places).paths
-      (subst AreNested (sym (ap nodes_in paths_left ∙ nodes_fold start.paths (map (op_at ops) places))) (fold_nested (nodes_in start.paths) made ops syncs places nested legal allowed))
+  pub state_nested : IsNested (records_of (state_of start ops places))
+  state_nested = nested_records (state_of start ops places).owners (state_of start ops places).files (state_of start ops places).paths
+      (subst AreNested (sym (ap nodes_in paths_left ∙ nodes_fold start.paths (map (op_at ops) places))) (fold_nested (nodes_in start.paths) made ops syncs profile places nested legal allowed))
 
-  pub state_is_tree : IsTree (tree_of_state owners (state_of start ops places))
-  state_is_tree = fresh_is_tree (records_of owners (state_of start ops places)) state_nested
+  pub state_is_tree : IsTree (tree_of_state (state_of start ops places))
+  state_is_tree = fresh_is_tree (records_of (state_of start ops places)) state_nested

@@ -62,7 +62,7 @@ fn tree(alloc: Global) -> Option<PlainTree> {
 
 /// A run over the root and the file `f`, which ann owns.
 pub fn run(alloc: Global) -> Option<Run<PlainTree>> {
-    let users = Arc::new(alloc, Users::read(alloc, b"1:ann::\n").ok()?).ok()?;
+    let users = Arc::new(alloc, Users::read(alloc, b"1:ann::\n2:bob::\n").ok()?).ok()?;
     let lower = Arc::new(alloc, tree(alloc)?).ok()?;
     if !can_grow(&*lower) {
         return None;
@@ -115,8 +115,8 @@ impl Side {
     }
 }
 
-fn attach(alloc: Global) -> Option<Call> {
-    let user = String::from_str(alloc, "ann").ok()?;
+pub fn attach(alloc: Global, user: &str) -> Option<Call> {
+    let user = String::from_str(alloc, user).ok()?;
     Some(Call::Attach(AttachCall { user }))
 }
 
@@ -178,7 +178,7 @@ pub fn stat() -> Call {
 pub fn call_of(alloc: Global, words: &str) -> Option<Call> {
     let (word, words) = cut(words);
     match word {
-        "attach" => attach(alloc),
+        "attach" => attach(alloc, "ann"),
         "walk" => walk(alloc),
         "open" => open(alloc, words),
         "write" => write(alloc, words),

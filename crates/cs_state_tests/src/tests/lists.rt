@@ -6,7 +6,7 @@ use std::alloc::{AllocError, Global};
 use std::process::Abort;
 
 /// Looks at what is printed of a scene.
-fn is_listed(rt: &impl Abort, alloc: Global, scene: &Scene, wanted: &str) {
+pub fn is_listed(rt: &impl Abort, alloc: Global, scene: &Scene, wanted: &str) {
     let list = scene.listing().to_string(alloc).expect(rt, "memory");
     assert_eq!(rt; list.as_str(), wanted);
 }

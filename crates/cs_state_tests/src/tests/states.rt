@@ -105,7 +105,7 @@ fn show_line<T: TreeRead>(text: &mut String, alloc: Global, tree: &T, number: u6
 }
 
 /// The lines of all numbers.
-fn lines<T: TreeRead>(rt: &impl Abort, alloc: Global, tree: &T) -> String {
+pub fn lines<T: TreeRead>(rt: &impl Abort, alloc: Global, tree: &T) -> String {
     let mut text = String::new(alloc);
     for number in 0..=tree.last_number() {
         show_line(&mut text, alloc, tree, number).expect(rt, "a file");
@@ -156,7 +156,7 @@ fn trace_of(rt: &impl Abort, alloc: Global, start: &str, operations: &[&str]) ->
 }
 
 /// The state of a set, which is to be allowed. A plain store of it is the same.
-fn state_of(
+pub fn state_of(
     rt: &impl Abort,
     alloc: Global,
     start: &str,

@@ -1,7 +1,7 @@
 //! Values from outside: traces, and what they break into.
 use super::lines::{HEADER, START};
 use cs_micro::{MicroFault, MicroOp, Micros, SyncPoint, break_up};
-use cs_trace::{Covers, Rights, read_trace};
+use cs_trace::{Covers, Profile, Rights, read_trace};
 use std::alloc::{AllocError, Global};
 use std::process::Abort;
 
@@ -155,6 +155,33 @@ fn a_write_of_5000_bytes_is_two_blocks_before_its_fsync(rt: HostRuntime) {
     are_beside(&rt, rt.alloc(), micros.ops(), BESIDE_WRITTEN);
     are_syncs(&rt, rt.alloc(), micros.syncs(), "4 file 0\n");
     are_starts(&rt, rt.alloc(), &micros, "");
+}
+
+const SECOND: &str =
+    r#"{"trace":2,"profile":"ordered","owner":"cat","group":"staff","mode":"775"}"#;
+
+/// A file that is set, set to what it has, and renamed; and the root.
+const SET: &str = r#"{"op":"creat","path":"/a","owner":"ann","group":"staff","mode":"644"}
+{"op":"chmod","path":"/a","mode":"600"}
+{"op":"chown","path":"/a","owner":"bob","group":"staff"}
+{"op":"chmod","path":"/a","mode":"600"}
+{"op":"rename","from":"/a","to":"/b"}
+{"op":"chmod","path":"/","mode":"007"}
+"#;
+
+const SET_MADE: &str = "\
+create_dir_entry /a file
+set_attr file 0 600 ann staff
+set_attr file 0 600 bob staff
+move_dir_entry /a /b
+set_attr dir / 007 cat staff
+";
+
+#[test]
+fn what_changes_rights_is_one_micro_operation(rt: HostRuntime) {
+    let micros = broken(&rt, rt.alloc(), SECOND, SET);
+    are_shown(&rt, rt.alloc(), micros.ops(), SET_MADE);
+    assert_eq!(rt; micros.profile(), Profile::Ordered);
 }
 
 const ENTRIES: &str = r#"{"op":"sync"}

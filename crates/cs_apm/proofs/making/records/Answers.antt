@@ -1,7 +1,6 @@
 use Rattle.std.proofs.Common.{◌<◌, [], length, sym, ap, ◌∙◌, refl, subst}
 use Rattle.std.proofs.lemmas.List.{get_or_read}
-use Rattle.cs_apm.specs.Atlases.{files_left}
-use Rattle.cs_apm.specs.States.{owners_of}
+use Rattle.cs_apm.specs.Atlases.{files_left, owners_left}
 use Rattle.cs_apm.proofs.Listing.{goes_on, stays}
 use Rattle.cs_apm.proofs.making.records.Goals as goal
 use Rattle.cs_apm.proofs.making.records.Goals.{in-None, in-Some+in_ok-try_clone-in-Some+in_ok-push-in-Some}
@@ -9,7 +8,7 @@ use Rattle.cs_apm.proofs.making.records.Goals.{in-None, in-Some+in_ok-try_clone-
 pub loop-i-preserved : goal.loop-i-preserved
 loop-i-preserved c =
     let low : c.loop-i.i < length c.args.tables.now.paths.items = subst (λ n. c.loop-i.i < n) c.requires.long c.loop-i-test.true in
-    let owners = owners_of c.args.trace.now c.args.ops.now in
+    let owners = owners_left c.args.trace.now c.args.ops.now c.args.places.now in
     let files = files_left c.args.trace.now c.args.ops.now c.args.places.now in
     elim c.match-branch-2.branch [
       | in-None w ↦ stays owners files c.args.tables.now.rights.items c.args.tables.now.paths.items c.args.slots.now c.loop-i.i low c.requires.long c.len-number.result

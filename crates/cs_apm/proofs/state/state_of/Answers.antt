@@ -3,9 +3,9 @@ use Rattle.std.specs.List.{All}
 use Rattle.cs_tree_model.specs.Fresh.{IsNested, fresh}
 use Rattle.cs_tree_model.specs.Maps.Values.{map_values}
 use Rattle.cs_tree_model.specs.Tree.{IsTree, Tree}
-use Rattle.cs_apm.specs.Atlases.{atlas_in, files_left}
+use Rattle.cs_apm.specs.Atlases.{atlas_in, files_left, owners_left}
 use Rattle.cs_apm.specs.Slots.{AreKnown, mirrored}
-use Rattle.cs_apm.specs.States.{owners_of, record_of}
+use Rattle.cs_apm.specs.States.{record_of}
 use Rattle.cs_apm.proofs.Building.{inside, inside_steps, is_tree_left, known_left, long_left, nested_records_left, tree_left}
 use Rattle.cs_apm.proofs.Folding.{if_ok}
 use Rattle.cs_apm.proofs.state.state_of.Goals as goal
@@ -31,7 +31,7 @@ store_of-requires-clause-nested c =
     let t = c.args.trace.now in
     let same = c.deref.ensures.value ∙ c.in_ok-slots.ensures in
     let ops = c.ops.ensures.value in
-    subst IsNested (sym (λ w. map_values (record_of (owners_of t (ops w)) (files_left t (ops w) c.args.places.now)) (mirrored c.args.tables.now.rights.items c.args.tables.now.paths.items (same w))))
+    subst IsNested (sym (λ w. map_values (record_of (owners_left t (ops w) c.args.places.now) (files_left t (ops w) c.args.places.now)) (mirrored c.args.tables.now.rights.items c.args.tables.now.paths.items (same w))))
     (nested_records_left t c.args.micros.now (atlas_in c.args.tables.now) c.requires.atlas c.args.places.now c.requires.allowed)
 
 pub returns-clause-state : goal.returns-clause-state
@@ -40,7 +40,7 @@ returns-clause-state c =
     let same = c.deref.ensures.value ∙ c.in_ok-slots.ensures in
     let ops = c.ops.ensures.value in
     subst (λ (v : Tree). IfOk c.store_of.result (λ tree. tree ≡ v))
-    ((λ w. fresh (map_values (record_of (owners_of t (ops w)) (files_left t (ops w) c.args.places.now)) (mirrored c.args.tables.now.rights.items c.args.tables.now.paths.items (same w))))
+    ((λ w. fresh (map_values (record_of (owners_left t (ops w) c.args.places.now) (files_left t (ops w) c.args.places.now)) (mirrored c.args.tables.now.rights.items c.args.tables.now.paths.items (same w))))
     ∙ tree_left t c.args.micros.now (atlas_in c.args.tables.now) c.requires.atlas c.args.places.now c.requires.allowed)
     c.store_of.ensures
 
@@ -51,6 +51,6 @@ returns-clause-tree c =
     let ops = c.ops.ensures.value in
     let is_tree = is_tree_left t c.args.micros.now (atlas_in c.args.tables.now) c.requires.atlas c.args.places.now c.requires.allowed in
     if_ok c.store_of.result
-    (λ tree e. subst IsTree (sym (e ∙ (λ w. fresh (map_values (record_of (owners_of t (ops w)) (files_left t (ops w) c.args.places.now)) (mirrored c.args.tables.now.rights.items c.args.tables.now.paths.items (same w))))
+    (λ tree e. subst IsTree (sym (e ∙ (λ w. fresh (map_values (record_of (owners_left t (ops w) c.args.places.now) (files_left t (ops w) c.args.places.now)) (mirrored c.args.tables.now.rights.items c.args.tables.now.paths.items (same w))))
     ∙ tree_left t c.args.micros.now (atlas_in c.args.tables.now) c.requires.atlas c.args.places.now c.requires.allowed)) is_tree)
     c.store_of.ensures

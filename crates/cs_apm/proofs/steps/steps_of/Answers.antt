@@ -1,14 +1,14 @@
 use Rattle.std.proofs.Common.{◌∷◌, [], ◌++◌, ◌∙◌, arith, ap, subst, sym, length, take}
 use Rattle.std.proofs.lemmas.List.{get_or_read, take_more}
 use Rattle.cs_micro.specs.declared.micro_op.MicroOp.TheVariants.{Say}
-use Rattle.cs_apm.specs.Atlases.{HasTouched}
+use Rattle.cs_apm.specs.Atlases.{HasNamed}
 use Rattle.cs_apm.specs.Slots.{AreSteps, HaveStepRights}
 use Rattle.cs_apm.proofs.Growing.{grows_on, have_more, steps_kept, steps_more}
 use Rattle.cs_apm.proofs.steps.steps_of.Goals as goal
 
 pub step_of-requires-clause-there : goal.step_of-requires-clause-there
 step_of-requires-clause-there c =
-    subst (HasTouched c.args.paths.now) (sym (get_or_read c.args.ops.now c.loop-op.op-index c.op-item.result c.loop-op-test.true c.op-item.is Say)) (c.requires.there c.loop-op.op-index c.loop-op-test.true)
+    subst (HasNamed c.args.paths.now) (sym (get_or_read c.args.ops.now c.loop-op.op-index c.op-item.result c.loop-op-test.true c.op-item.is Say)) (c.requires.there c.loop-op.op-index c.loop-op-test.true)
 
 pub loop-op-preserved : goal.loop-op-preserved
 loop-op-preserved c =

@@ -4,7 +4,8 @@ use Rattle.cs_state.specs.Shares.{ids}
 use Rattle.cs_state.specs.Steps.{members_in, resizes, AreFileSteps}
 use Rattle.cs_state.specs.Parts.{bytes_before}
 use Rattle.cs_state.specs.Windows.{size_after}
-use Rattle.cs_state.proofs.Including.{first_sizes}
+use Rattle.cs_state.proofs.Including.{size_needed}
+use Rattle.cs_state.proofs.Lasting.{first_under}
 use Rattle.cs_state.proofs.Striking.{are, size_is}
 use Rattle.cs_state.proofs.reading.changed_size.Goals as goal
 
@@ -18,7 +19,8 @@ pub size_left-requires-clause-first : goal.size_left-requires-clause-first
 size_left-requires-clause-first c =
     let steps : AreFileSteps c.args.file (length (bytes_before c.args.parts.now c.args.file)) c.args.parts.now.micros.ops c.index.result.now =
     are c.args.parts.now c.requires.parts c.args.file c.requires.known c.args.members.now c.requires.set c.index.result.now c.index.ensures c.requires.changed in
-    first_sizes c.args.parts.now.micros (length c.args.parts.now.micros.ops) c.args.members.now c.requires.set.allowed c.args.file c.deref.result.now (c.deref.ensures.value ∙ steps.sizes)
+    first_under c.args.parts.now.micros (length c.args.parts.now.micros.ops) c.args.members.now c.requires.set.allowed
+    (resizes c.args.file) (size_needed c.args.parts.now.micros c.args.file) c.deref.result.now (c.deref.ensures.value ∙ steps.sizes)
 
 pub returns : goal.returns
 returns c =

@@ -6,6 +6,7 @@ use Rattle.cs_trace.specs.Judging.{and_then}
 use Rattle.cs_trace.specs.States.{State, lines_in, state_in}
 use Rattle.cs_trace.specs.Traces.{MayWant, trace_by, trace_in, trace_of, whole}
 use Rattle.cs_trace.specs.declared.fault.TraceFaultKind.TheVariants.{Syntax}
+use Rattle.cs_trace.proofs.FirstFaults.{first_of, no_header_of}
 use Rattle.cs_trace.proofs.LineByLine.{MayWant-last}
 use Rattle.cs_trace.proofs.SoundSteps.{sound-state_in}
 use Rattle.cs_trace.proofs.Whole.{whole_is}
@@ -29,6 +30,14 @@ unfolding trace_in
 returns-in_err-state-clause-fault c =
     let gone = err_from_is_err_and c.from_residual.result c.from_residual.ensures.1 in
     rw (gone.1, gone.2) (λ other. ap (λ r. and_then r trace_of) (c.in_err-state.ensures.fault other))
+
+pub returns-in_err-state-clause-first : goal.returns-in_err-state-clause-first
+returns-in_err-state-clause-first c =
+    let gone = err_from_is_err_and c.from_residual.result c.from_residual.ensures.1 in
+    rw (gone.1, gone.2) (λ other. first_of (lines_in c.args.text.now) _ (c.in_err-state.ensures.fault other))
+
+pub returns-then-state-eq0-clause-first : goal.returns-then-state-eq0-clause-first
+returns-then-state-eq0-clause-first c = λ _. no_header_of (lines_in c.args.text.now) _ c.in_ok-state.ensures.done c.if-state-eq0.true
 
 pub returns-then-state-eq0-clause-fault : goal.returns-then-state-eq0-clause-fault
 unfolding trace_in

@@ -5,7 +5,7 @@ use Rattle.std.specs.Prelude.{slice_index_or}
 use Rattle.cs_tree_model.specs.Tree.{Path}
 use Rattle.cs_trace.specs.Traces.{start_paths}
 use Rattle.cs_micro.specs.Legal.{AreLegal}
-use Rattle.cs_apm.specs.Atlases.{AreChanged, FindsFiles, HasAllTouched, HasFirst, IsKnownPath, no_record}
+use Rattle.cs_apm.specs.Atlases.{AreChanged, FindsFiles, HasAllNamed, HasFirst, IsKnownPath, no_record}
 use Rattle.cs_apm.specs.Slots.{AreKnownSteps, AreSteps, HaveRights, Mirror, slot_at}
 use Rattle.cs_apm.specs.States.{owner_at, owners_made, owners_of, rights_of, start_entries}
 use Rattle.cs_apm.specs.Laws.Small.{small_steps}
@@ -19,7 +19,7 @@ pub start_slots-requires-clause-there : goal.start_slots-requires-clause-there
 start_slots-requires-clause-there c = subst (λ ps. HasFirst ps c.records-records.result.now (length c.records-records.result.now)) (sym c.deref.ensures.value) c.in_ok-paths.ensures.starts
 
 pub steps_of-requires-clause-there : goal.steps_of-requires-clause-there
-steps_of-requires-clause-there c = subst (λ ps. HasAllTouched ps c.ops-ops.result.now (length c.ops-ops.result.now)) (sym c.deref-2.ensures.value) c.in_ok-paths.ensures.touched
+steps_of-requires-clause-there c = subst (λ ps. HasAllNamed ps c.ops-ops.result.now (length c.ops-ops.result.now)) (sym c.deref-2.ensures.value) c.in_ok-paths.ensures.named
 
 pub owners_of-requires : goal.owners_of-requires
 owners_of-requires c = λ k d low.
@@ -67,14 +67,14 @@ returns c =
     let count : length t.files + length (owners_made m.ops) ≡ length owners =
     sym (ap length owners_are ∙ length-append (map (owner_at t.records) t.files) (owners_made m.ops) ∙ ap (λ n. n + length (owners_made m.ops)) (length-map t.files (owner_at t.records))) in
     let nested = c.operations-operations.ensures.nested in
-    let touched : HasAllTouched paths m.ops (length m.ops) = subst (λ os. HasAllTouched paths os (length os)) ops c.in_ok-paths.ensures.touched in
+    let named : HasAllNamed paths m.ops (length m.ops) = subst (λ os. HasAllNamed paths os (length os)) ops c.in_ok-paths.ensures.named in
     let known : (p : Path) → Contains paths p → IsKnownPath t.records m.ops (length m.ops) p =
     λ p there. subst (λ os. IsKnownPath t.records os (length os) p) ops (subst (λ es. IsKnownPath es c.ops-ops.result.now (length c.ops-ops.result.now) p) records (c.in_ok-paths.ensures.only p there)) in
     record {
       ascending = up;
       few = subst (λ os. length paths ≤ length t.records + 2 * length os) ops (subst (λ es. length paths ≤ length es + 2 * length c.ops-ops.result.now) records c.in_ok-paths.ensures.few);
-      rooted = root_there t m.ops rights paths slots (length t.files) start nested legal touched;
-      closed = λ p there. parent_there t m.ops rights paths slots (length t.files) start nested legal touched sorted c.nodes-nodes.ensures.each p (known p there);
+      rooted = root_there t m.ops rights paths slots (length t.files) start nested legal named;
+      closed = λ p there. parent_there t m.ops rights paths slots (length t.files) start nested legal named sorted c.nodes-nodes.ensures.each p (known p there);
       long = slots_long;
       start = start;
       steps = steps_are;

@@ -1,4 +1,3 @@
-use Rattle.std.proofs.Common.{refl}
 use Rattle.cs_journal.proofs.Fitting.{is_receipt_of}
 use Rattle.cs_journal.proofs.receipt.Receipt.is_of.Goals as goal
 

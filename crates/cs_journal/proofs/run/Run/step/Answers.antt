@@ -6,7 +6,7 @@ use Rattle.cs_journal.specs.declared.counts.Counts.{Counts}
 use Rattle.cs_journal.specs.Holding.{IsHeld}
 use Rattle.cs_journal.specs.Steps.{entered, step}
 use Rattle.cs_journal.specs.Journals.{EntryOf, IsLegal, RunState, start}
-use Rattle.cs_journal.specs.Runs.{PassOf, RunOf, receipt_of, state_of}
+use Rattle.cs_journal.specs.Runs.{IsAscending, PassOf, RunOf, receipt_of, state_of}
 use Rattle.cs_names.specs.declared.limits.TheConstants.{JOURNAL_ENTRIES}
 use Rattle.cs_run.specs.Effects.{Left, left}
 use Rattle.std.proofs.lemmas.Bool.Decides.{nat_tests}
@@ -16,6 +16,7 @@ use Rattle.cs_run.specs.declared.answer.Answer.TheVariants.{Short}
 use Rattle.cs_permit.specs.Calls.{state}
 use Rattle.std.specs.Arc.{arc_value}
 use Rattle.cs_journal.proofs.Steps.{along, effect_at, ends_none_if, fits_after, not_full, plainly, state_here, held_after, legal_after, moved, others_fit, outcome_at, stepped_after}
+use Rattle.cs_journal.proofs.Audits.{ascending_push}
 use Rattle.cs_journal.proofs.Moves.{under_few}
 use Rattle.cs_journal.proofs.run.Run.step.Given.{Over}
 use Rattle.cs_journal.proofs.run.Run.step.Goals as goal
@@ -148,6 +149,7 @@ invariant_of-pass-2 g c =
     let here = reserved_here _ i.tree _ i.opens.items i.journal.items i.passes.items c.self.invariant.0 p f in (
       omega (arith, c.enter.ensures.receipts_len, c.enter.ensures.receipts_capacity, c.in-Some.ensures.receipts_room.1 refl, m.own_room, m.own, here, c.charge_of-charge.ensures.value, c.len-before.ensures, c.len-3.ensures),
       omega (arith, c.in-Some.ensures.blanks_left refl, m.own_room, m.own, here, c.charge_of-charge.ensures.value, c.len-before.ensures, c.len-3.ensures),
+      subst IsAscending (sym (receipts_are g c)) (ascending_push _ p (entry_is g c) f c.pass.invariant.2),
     )
 
 -- the run and the pass that are left

@@ -14,7 +14,7 @@ present (Some f ∷ fields) = ap suc (present fields)
 pub returns-then-not-self : goal.returns-then-not-self
 returns-then-not-self c =
     let s = c.args.self.now in
-    let fields : List (Option Field) = s.trace ∷ s.start ∷ s.op ∷ s.path ∷ s.from ∷ s.to ∷ s.owner ∷ s.group ∷ s.mode ∷ s.bytes ∷ s.offset ∷ s.length ∷ s.text ∷ [] in
+    let fields : List (Option Field) = s.trace ∷ s.profile ∷ s.start ∷ s.op ∷ s.path ∷ s.from ∷ s.to ∷ s.owner ∷ s.group ∷ s.mode ∷ s.bytes ∷ s.offset ∷ s.length ∷ s.text ∷ [] in
     let counted : c.count.result ≡ length (filter is_some fields) = count_from_yields_List _ _ c.count.ensures.ran (YieldsList-from_filter _ is_some (YieldsList-from_slice fields cc) c.filter.ensures.closure (λ x r q k. search (rules, tests))) in
     let known : s.has_others ≡ false = search rules in
     ap (λ n. n == c.args.count) (counted ∙ present fields) ∙ ap (λ b. not b && (length (filter is_some (map (option_map field_said) fields)) == c.args.count)) (sym known)

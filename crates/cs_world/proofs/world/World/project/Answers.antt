@@ -3,8 +3,8 @@ use Rattle.std.proofs.lemmas.List.{append-nil, nil_from_length}
 use Rattle.cs_world.specs.declared.step.Step.{Step}
 use Rattle.cs_world.specs.Ample.{all_ample, is_short}
 use Rattle.cs_world.specs.Noting.{world_in}
-use Rattle.cs_world.specs.Projections.{projection_of}
-use Rattle.cs_world.specs.Watching.{calls_said, heard_view}
+use Rattle.cs_world.specs.Projections.{heard_view, projection_of}
+use Rattle.cs_world.specs.Watching.{calls_said}
 use Rattle.cs_world.proofs.Projected.{more_noted, start_all, start_noted}
 use Rattle.cs_world.proofs.world.World.project.Goals as goal
 

@@ -1,0 +1,40 @@
+//! Owner, group and permissions of the files of a crash state.
+ghost use Rattle.std.specs.Prelude.{◌≡◌, ◌<◌, length, slice_index_or};
+ghost use Rattle.std.specs.List.{All};
+ghost use Rattle.cs_apm.specs.Owners.{owner_after, owner_left};
+ghost use Rattle.cs_apm.specs.States.{nobody};
+
+use cs_micro::MicroOp;
+use cs_trace::{Rights, Target};
+
+/// Owner, group and permissions of the file of the number after the operation.
+pub fn owner_after<'a>(file: u32, owner: &'a Rights, op: &'a MicroOp) -> &'a Rights
+    ensures { result.now ≡ owner_after file owner.now op.now }
+{
+    match op {
+        MicroOp::SetAttr {
+            target: Target::File(other),
+            rights,
+        } => { if *other == file { rights } else { owner } }
+        _ => owner,
+    }
+}
+
+/// What a set leaves of owner, group and permissions of the file of the number, which has these of the
+/// owners as it is made.
+pub fn owner_left<'a>(
+    owners: &'a [Rights],
+    ops: &'a [MicroOp],
+    places: &[u32],
+    file: u32,
+) -> &'a Rights
+    requires known { file < length owners.now }
+    requires inside { All (λ place. place < length ops.now) places.now }
+    ensures { result.now ≡ owner_left file (slice_index_or owners.now file nobody) ops.now places.now }
+{
+    let mut owner = &owners[file as usize];
+    for place in places {
+        owner = owner_after(file, owner, &ops[*place as usize]);
+    }
+    owner
+}

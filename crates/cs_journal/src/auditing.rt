@@ -1,0 +1,152 @@
+//! Whether the receipts of some passes are the entries of a run's journal.
+ghost use Rattle.std.specs.Prelude.{◌≡◌, ◌↔◌, ◌≤◌, IfSome, IsTrue, length, option_map, slice_get};
+ghost use Rattle.std.specs.List.{find};
+ghost use Rattle.cs_names.specs.declared.limits.TheConstants.{JOURNAL_ENTRIES, RUN_ATTACHES};
+ghost use Rattle.cs_journal.specs.Audit.{AreRests, Audits, FindSame, Tells, TellsOf};
+ghost use Rattle.cs_journal.specs.Audit.{is_at, receipts_count, receipts_of_pass};
+ghost use Rattle.cs_journal.specs.Runs.{IsAscending};
+
+use crate::entry::Entry;
+use crate::pass::Pass;
+use crate::receipt::Receipt;
+use crate::run::Run;
+use cs_names::limits::RUN_ATTACHES;
+use cs_tree_model::TreeRead;
+
+/// How many passes a run gives.
+const PASSES: usize = RUN_ATTACHES as usize;
+
+/// Why the receipts of some passes are not the entries of a run.
+#[derive(Clone, Copy, Debug, PartialEq, Eq)]
+pub enum AuditFault {
+    /// There are not as many receipts as entries.
+    Count,
+    /// The first entry without its own receipt, at that place, has none.
+    Missing(u32),
+    /// The first entry without its own receipt, at that place, has another.
+    Changed(u32),
+}
+
+/// Whether the passes have so many receipts together.
+fn has_count(passes: &[Pass], entries: usize) -> bool
+    ensures { IsTrue result ↔ (receipts_count passes.now ≡ entries) }
+{
+    let mut total = 0usize;
+    for pass in passes {
+        let more = pass.receipts().len();
+        if more > entries - total {
+            return false;
+        }
+        total += more;
+    }
+    total == entries
+}
+
+/// The receipts of the first pass of the number; none where no pass has it.
+fn receipts_of(passes: &[Pass], number: u32) -> &[Receipt]
+    ensures value { result.now ≡ receipts_of_pass passes.now number }
+    ensures ascending { IsAscending result.now }
+{
+    for pass in passes {
+        if pass.number() == number {
+            return pass.receipts();
+        }
+    }
+    &[]
+}
+
+/// The same for each number that a run gives.
+fn receipts_by_number(passes: &[Pass]) -> [&[Receipt]; PASSES]
+    ensures rests { AreRests (λ rest. rest.now) passes.now result 0 }
+    ensures many { length result ≡ RUN_ATTACHES }
+{
+    let mut all: [&[Receipt]; PASSES] = [&[]; PASSES];
+    for number in 0..PASSES {
+        all[number] = receipts_of(passes, number as u32);
+    }
+    all
+}
+
+/// The receipts from the first one whose place isn't before this one.
+fn from_place(receipts: &[Receipt], place: u32) -> &[Receipt]
+    requires { IsAscending receipts.now }
+    ensures same { FindSame place result.now receipts.now }
+    ensures ascending { IsAscending result.now }
+    ensures from { IfSome (slice_get result.now 0) (λ r. place ≤ r.place) }
+{
+    for (skipped, receipt) in receipts.iter().enumerate() {
+        if receipt.place() >= place {
+            return &receipts[skipped..];
+        }
+    }
+    &[]
+}
+
+/// The first of the receipts, if it has the place.
+fn first_at(receipts: &[Receipt], place: u32) -> Option<&Receipt>
+    requires ascending { IsAscending receipts.now }
+    requires from { IfSome (slice_get receipts.now 0) (λ r. place ≤ r.place) }
+    ensures { option_map (λ r. r.now) result ≡ find (is_at place) receipts.now }
+{
+    let receipt = receipts.first()?;
+    if receipt.place() == place {
+        Some(receipt)
+    } else {
+        None
+    }
+}
+
+/// Whether the receipt that was found for an entry's place, if one was, is the entry's own.
+fn audit_entry(receipt: Option<&Receipt>, place: u32, entry: &Entry) -> Result<(), AuditFault>
+    ensures { TellsOf (option_map (λ r. r.now) receipt.entry) place entry.now result }
+{
+    let Some(receipt) = receipt else {
+        return Err(AuditFault::Missing(place));
+    };
+    if receipt.is_of(place, entry) {
+        Ok(())
+    } else {
+        Err(AuditFault::Changed(place))
+    }
+}
+
+/// The first entry without its own receipt, if there is one. Each receipt is passed over once.
+fn audit_entries(journal: &[Entry], passes: &[Pass]) -> Result<(), AuditFault>
+    requires { length journal.now ≤ JOURNAL_ENTRIES }
+    ensures { Tells passes.now journal.now result }
+{
+    let mut rests = receipts_by_number(passes);
+    for (place, entry) in journal.iter().enumerate() {
+        let number = entry.pass();
+        let rest = from_place(rests[number], place as u32);
+        rests[number] = rest;
+        match audit_entry(first_at(rest, place as u32), place as u32, entry) {
+            Ok(()) => {}
+            Err(fault) => return Err(fault),
+        }
+    }
+    Ok(())
+}
+
+/// The same, where there are as many receipts as entries.
+fn audit_journal(journal: &[Entry], passes: &[Pass]) -> Result<(), AuditFault>
+    requires { length journal.now ≤ JOURNAL_ENTRIES }
+    ensures { Audits passes.now journal.now result }
+{
+    if !has_count(passes, journal.len()) {
+        return Err(AuditFault::Count);
+    }
+    audit_entries(journal, passes)
+}
+
+impl<L: TreeRead + Drop> Run<L> {
+    /// Whether the receipts of the passes, its own or any others, are the entries of its journal:
+    /// Count where there are not as many; then Missing or Changed at the first entry that has no
+    /// receipt, or another, in the first pass of its number. It takes no memory, and as long as there
+    /// are entries.
+    pub fn audit(&self, passes: &[Pass]) -> Result<(), AuditFault>
+        ensures { Audits passes.now self.now.journal result }
+    {
+        audit_journal(&self.journal, passes)
+    }
+}

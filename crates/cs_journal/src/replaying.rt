@@ -1,0 +1,140 @@
+//! What the call of an entry was answered, by doing the calls of a journal once more.
+ghost use Rattle.std.specs.Prelude.{◌≡◌, ◌<◌, ◌≤◌, ◌^◌, ℕ, IfOk, length};
+ghost use Rattle.std.specs.Arc.{arc_value};
+ghost use Rattle.cs_names.specs.declared.limits.TheConstants.{JOURNAL_ENTRIES};
+ghost use Rattle.cs_journal.specs.Audit.{answer_at, answer_in};
+ghost use Rattle.cs_journal.specs.Bounds.{CanGrow};
+ghost use Rattle.cs_journal.specs.Journals.{left_by, run_state, start};
+ghost use Rattle.cs_permit.specs.Calls.{state};
+ghost use Rattle.cs_run.specs.Effects.{left};
+ghost use Rattle.cs_run.specs.Opens.{AreBelow, released_if};
+ghost use Rattle.cs_run.specs.Outcomes.{applied, closes};
+ghost use Rattle.cs_run.specs.declared.answer.Outcome.TheVariants.{Granted};
+ghost use Rattle.cs_tree_model.specs.Stores.{CanStamp};
+
+use crate::entry::Entry;
+use crate::run::Run;
+use cs_overlay::Overlay;
+use cs_permit::Call;
+use cs_run::opens::Opens;
+use cs_run::{Answer, Outcome, Turn, act, closes};
+use cs_tree_model::{TreeRead, TreeStore};
+use cs_users::Users;
+use std::alloc::{AllocError, Global};
+use std::sync::Arc;
+
+/// Takes out the open that the call ends, if that stands.
+fn release(call: &Call, opens: &mut Opens, pass: u32)
+    ensures { opens.new.items ≡ released_if (closes call.now) pass opens.old.items }
+{
+    if let Some(number) = closes(call) {
+        let _open = opens.release(number, pass);
+    }
+}
+
+/// Grants a call that was granted: no rule denies it, so it is refused for want of memory alone.
+fn grant_again<T: TreeStore>(
+    alloc: Global,
+    call: &Call,
+    tree: &mut T,
+    opens: &mut Opens,
+    users: &Users,
+    turn: Turn,
+) -> Result<Answer, AllocError>
+    requires vers { (n : ℕ) → CanStamp (T.tree tree.old) n }
+    requires next { (T.tree tree.old).next < 2 ^ 64 }
+    requires above { AreBelow turn.place opens.old.items }
+    ensures { IfOk result (λ answer. left (T.tree tree.new) opens.new.items answer ≡ applied (state (T.tree tree.old) opens.old.items users.now) turn call.now Granted) }
+{
+    match act(alloc, call, tree, opens, users, turn) {
+        (Outcome::Granted, answer) => Ok(answer),
+        _ => Err(AllocError),
+    }
+}
+
+/// Does a call once more, so that it ends as it did.
+fn redo<T: TreeStore>(
+    alloc: Global,
+    call: &Call,
+    outcome: Outcome,
+    tree: &mut T,
+    opens: &mut Opens,
+    users: &Users,
+    turn: Turn,
+) -> Result<Answer, AllocError>
+    requires vers { (n : ℕ) → CanStamp (T.tree tree.old) n }
+    requires next { (T.tree tree.old).next < 2 ^ 64 }
+    requires above { AreBelow turn.place opens.old.items }
+    ensures { IfOk result (λ answer. left (T.tree tree.new) opens.new.items answer ≡ applied (state (T.tree tree.old) opens.old.items users.now) turn call.now outcome) }
+{
+    match outcome {
+        Outcome::Granted => grant_again(alloc, call, tree, opens, users, turn),
+        Outcome::Denied(rule) => {
+            release(call, opens, turn.pass);
+            Ok(Answer::Denied(rule))
+        }
+        Outcome::Short => {
+            release(call, opens, turn.pass);
+            Ok(Answer::Short)
+        }
+    }
+}
+
+/// Does the call of the entry at the place once more: its answer.
+fn redo_entry<T: TreeStore>(
+    alloc: Global,
+    entry: &Entry,
+    place: u32,
+    tree: &mut T,
+    opens: &mut Opens,
+    users: &Users,
+) -> Result<Answer, AllocError>
+    requires vers { (n : ℕ) → CanStamp (T.tree tree.old) n }
+    requires next { (T.tree tree.old).next < 2 ^ 64 }
+    requires above { AreBelow place opens.old.items }
+    ensures { IfOk result (λ answer. left (T.tree tree.new) opens.new.items answer ≡ left_by (run_state (T.tree tree.old) opens.old.items users.now place) entry.now) }
+{
+    let turn = Turn {
+        moment: entry.moment,
+        place,
+        pass: u32::from(entry.pass),
+    };
+    let ready = entry.kept.again(alloc)?;
+    redo(alloc, ready.call(), entry.outcome, tree, opens, users, turn)
+}
+
+/// What the call of the entry at the place was answered, if there is one.
+fn answer_of<L: TreeRead + Drop>(
+    alloc: Global,
+    lower: &Arc<L>,
+    users: &Users,
+    journal: &[Entry],
+    place: usize,
+) -> Result<Option<Answer>, AllocError>
+    requires grows { CanGrow (L.TreeRead.tree (arc_value lower.now)) }
+    requires few { length journal.now ≤ JOURNAL_ENTRIES }
+    ensures { IfOk result (λ answer. answer ≡ answer_at (start (L.TreeRead.tree (arc_value lower.now)) users.now) journal.now place) }
+{
+    if place >= journal.len() {
+        return Ok(None);
+    }
+    let mut tree = Overlay::over(alloc, lower.clone()?);
+    let mut opens = Opens::new(alloc);
+    for k in 0..place {
+        redo_entry(alloc, &journal[k], k as u32, &mut tree, &mut opens, users)?;
+    }
+    let entry = &journal[place];
+    let answer = redo_entry(alloc, entry, place as u32, &mut tree, &mut opens, users)?;
+    Ok(Some(answer))
+}
+
+impl<L: TreeRead + Drop> Run<L> {
+    /// What the call of the entry at that place of its journal was answered; None past the end. The calls
+    /// up to that place are done once more, over the tree that the run began with, of which nothing is
+    /// copied.
+    pub fn answer_at(&self, alloc: Global, place: usize) -> Result<Option<Answer>, AllocError>
+        ensures { IfOk result (λ answer. answer ≡ answer_in self.now place) }
+    {
+        answer_of(alloc, &self.lower, &self.users, &self.journal, place)
+    }
+}

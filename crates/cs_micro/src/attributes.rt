@@ -1,0 +1,39 @@
+//! Whose rights a micro-operation sets, and to which, as a list of micro-operations shows them.
+ghost use Rattle.std.specs.Prelude.{Some};
+ghost use Rattle.cs_micro.specs.Texts.{rights_text, target_text};
+
+use cs_trace::{Rights, Target};
+use std::fmt;
+
+/// A file by its number, or a directory by its path.
+#[derive(Clone, Copy)]
+pub struct TargetText<'a>(pub &'a Target);
+
+impl fmt::Display for TargetText<'_> {
+    ghost output = { λ text. Some (target_text text.0.now) };
+
+    fn fmt<W: fmt::Write>(&self, f: &mut fmt::Formatter<W>) -> fmt::Result {
+        match self.0 {
+            Target::File(file) => write!(f, "file {file}"),
+            Target::Directory(path) => write!(f, "dir {path}"),
+        }
+    }
+}
+
+/// Three octal digits, the owner and the group.
+#[derive(Clone, Copy)]
+pub struct RightsText<'a>(pub &'a Rights);
+
+impl fmt::Display for RightsText<'_> {
+    ghost output = { λ text. Some (rights_text text.0.now) };
+
+    fn fmt<W: fmt::Write>(&self, f: &mut fmt::Formatter<W>) -> fmt::Result {
+        let Rights {
+            owner,
+            group,
+            permissions,
+        } = self.0;
+        let (first, second, third) = (permissions / 64, permissions / 8 % 8, permissions % 8);
+        write!(f, "{first}{second}{third} {owner} {group}")
+    }
+}

@@ -1,0 +1,155 @@
+//! Whether the journal of a run is the one that its users were answered from.
+
+use super::asks::cut;
+use super::side::{attach, call_of, run, stat};
+use cs_journal::{AuditFault, Pass, Receipt, Run};
+use cs_run::{Answer, Outcome};
+use cs_tree::PlainTree;
+use std::alloc::Global;
+use std::process::Abort;
+
+/// A run, its passes, and what was answered under them, a line each.
+#[derive(Drop)]
+struct Users {
+    run: Run<PlainTree>,
+    passes: Vec<Pass>,
+    told: String,
+}
+
+/// Adds a line with what was answered.
+fn push_answer(told: &mut String, answer: &Answer) -> Option<()> {
+    write!(told, "{answer:?}\n").ok()
+}
+
+impl Users {
+    /// Makes a call under the pass at a place.
+    fn call(&mut self, alloc: Global, place: usize, call: &str) -> Option<()> {
+        let pass = self.passes.get_mut(place)?;
+        if !self.run.fits(pass) {
+            return None;
+        }
+        let answer = self.run.step(alloc, pass, 1000, call_of(alloc, call)?);
+        push_answer(&mut self.told, &answer)
+    }
+
+    /// Attaches a user under a new pass.
+    fn attach(&mut self, alloc: Global, user: &str) -> Option<()> {
+        let mut pass = self.run.new_pass(alloc).ok()?;
+        if !self.run.fits(&pass) {
+            return None;
+        }
+        let answer = self.run.step(alloc, &mut pass, 1000, attach(alloc, user)?);
+        push_answer(&mut self.told, &answer)?;
+        self.passes.push(pass).ok()
+    }
+
+    /// A run to which ann was attached, and then bob.
+    fn attached(alloc: Global) -> Option<Users> {
+        let mut users = Users {
+            run: run(alloc)?,
+            passes: Vec::new(alloc),
+            told: String::new(alloc),
+        };
+        users.attach(alloc, "ann")?;
+        users.attach(alloc, "bob")?;
+        Some(users)
+    }
+
+    /// Makes calls, a line each: by whom, and what.
+    fn make(&mut self, alloc: Global, calls: &str) -> Option<()> {
+        for line in calls.lines() {
+            let (user, call) = cut(line);
+            self.call(alloc, if user == "ann" { 0 } else { 1 }, call)?;
+        }
+        Some(())
+    }
+}
+
+/// A run to which ann was attached, and then bob, and on which these calls were made.
+fn after(rt: &(impl Abort + AllocGlobal), calls: &str) -> Users {
+    let mut users = Users::attached(rt.alloc()).expect(rt, "a run");
+    users.make(rt.alloc(), calls).expect(rt, "calls");
+    users
+}
+
+const X: &str = "ann stat\nbob stat";
+
+const Y: &str = "ann stat\nbob walk";
+
+const Z: &str = "bob stat\nann stat";
+
+#[test]
+fn an_audit_tells_the_first_entry_without_its_own_receipt(rt: HostRuntime) {
+    let mut x = after(&rt, X);
+    assert!(rt; x.run.audit(x.passes.as_slice()) == Ok(()));
+    let y = after(&rt, Y);
+    assert!(rt; x.run.audit(y.passes.as_slice()) == Err(AuditFault::Changed(3)));
+    let z = after(&rt, Z);
+    assert!(rt; x.run.audit(z.passes.as_slice()) == Err(AuditFault::Missing(2)));
+    let _bob = x.passes.pop();
+    assert!(rt; x.run.audit(x.passes.as_slice()) == Err(AuditFault::Count));
+}
+
+/// Adds passes behind others.
+fn push_passes(passes: &mut Vec<Pass>, more: Vec<Pass>) -> Option<()> {
+    for pass in more {
+        passes.push(pass).ok()?;
+    }
+    Some(())
+}
+
+/// A run with as many entries as the passes of two others have receipts.
+const SEVEN: &str = "ann stat\nann stat\nann stat\nann stat\nann stat";
+
+#[test]
+fn an_audit_takes_the_first_pass_of_a_number(rt: HostRuntime) {
+    let mut passes = after(&rt, "ann walk").passes;
+    push_passes(&mut passes, after(&rt, X).passes).expect(&rt, "memory");
+    let seven = after(&rt, SEVEN);
+    assert!(rt; seven.run.audit(passes.as_slice()) == Err(AuditFault::Changed(2)));
+}
+
+/// What the journal says that was answered, a line each, up to its end.
+fn told_again(alloc: Global, run: &Run<PlainTree>) -> Option<String> {
+    let mut told = String::new(alloc);
+    for place in 0..run.entries() {
+        push_answer(&mut told, &run.answer_at(alloc, place).ok()??)?;
+    }
+    Some(told)
+}
+
+/// Calls of every kind that is kept in a way of its own, some of them denied.
+const CALLS: &str = "\
+ann stat
+bob walk
+ann open 66
+ann write 0 hi
+bob write 0 ho
+ann close 7
+ann open 1
+ann remove 8
+bob stat
+ann close 4";
+
+#[test]
+fn a_journal_tells_each_answer_again(rt: HostRuntime) {
+    let users = after(&rt, CALLS);
+    let told = told_again(rt.alloc(), &users.run).expect(&rt, "memory");
+    assert_eq!(rt; told.as_str(), users.told.as_str());
+    let past = users.run.answer_at(rt.alloc(), users.run.entries());
+    assert!(rt; matches!(past, Ok(None)));
+}
+
+/// The last receipt of the pass at a place.
+fn last_receipt(passes: &[Pass], place: usize) -> Option<&Receipt> {
+    passes.get(place)?.receipts().last()
+}
+
+#[test]
+fn a_receipt_tells_its_entry(rt: HostRuntime) {
+    let users = after(&rt, X);
+    let receipt = last_receipt(users.passes.as_slice(), 1).expect(&rt, "a receipt");
+    assert_eq!(rt; receipt.place(), 3);
+    assert!(rt; matches!(receipt.outcome(), Outcome::Granted));
+    assert!(rt; receipt.asks(&stat()));
+}

@@ -1,0 +1,120 @@
+//! Which micro-operations of a trace set the owner, group and permissions of a file.
+ghost use Rattle.std.specs.Prelude.{◌≡◌, ◌<◌, ◌^◌, ℕ, length, true, IfOk, IsSome, OnOk};
+ghost use Rattle.std.specs.BTreeMap.{get};
+ghost use Rattle.std.specs.Ordering.{nat_cmp};
+ghost use Rattle.cs_apm.specs.Owners.{owner_left};
+ghost use Rattle.cs_state.specs.Numbers.{kept_at};
+ghost use Rattle.cs_state.specs.Owners.{rights_places, rights_row, sets_rights, AreOwnerSteps, AreRightsRows, HasRightsRow};
+ghost use Rattle.cs_state.specs.Shares.{mark_at};
+ghost use Rattle.cs_state.specs.Steps.{members_in};
+
+use crate::marks::push_if;
+use crate::members::first_members;
+use cs_apm::owners::owner_after;
+use cs_micro::MicroOp;
+use cs_trace::{Rights, Target};
+use std::alloc::{AllocError, Global};
+use std::collections::BTreeMap;
+
+/// The places of the micro-operations that set the owner, group and permissions of files.
+#[derive(Debug, Drop)]
+pub struct OwnerSteps {
+    /// Those of each file for which there are any, by its number.
+    pub rows: BTreeMap<u32, Vec<u32>>,
+}
+
+/// Whether the micro-operation sets those of the file.
+fn sets_rights(file: u32, op: &MicroOp) -> bool
+    ensures { result ≡ sets_rights file op.now }
+{
+    match op {
+        MicroOp::SetAttr {
+            target: Target::File(other),
+            ..
+        } => *other == file,
+        _ => false,
+    }
+}
+
+/// The places of those that set the file's.
+fn rights_places(alloc: Global, file: u32, ops: &[MicroOp]) -> Result<Vec<u32>, AllocError>
+    requires { length ops.now < 2 ^ 20 }
+    ensures { IfOk result (λ places. places.items ≡ rights_places ops.now file) }
+{
+    let mut places = Vec::new(alloc);
+    for place in 0..ops.len() {
+        push_if(&mut places, place, sets_rights(file, &ops[place]))?;
+    }
+    Ok(places)
+}
+
+/// Gives the file a row, if it has none.
+fn add_row(
+    alloc: Global,
+    rows: &mut BTreeMap<u32, Vec<u32>>,
+    file: u32,
+    ops: &[MicroOp],
+) -> Result<(), AllocError>
+    requires { length ops.now < 2 ^ 20 }
+    ensures each { OnOk result (AreRightsRows ops.now (get nat_cmp rows.old) → AreRightsRows ops.now (get nat_cmp rows.new)) }
+    ensures keeps { OnOk result ((other : ℕ) → IsSome (get nat_cmp rows.old other) → IsSome (get nat_cmp rows.new other)) }
+    ensures there { OnOk result (IsSome (get nat_cmp rows.new file)) }
+{
+    if rows.contains_key(&file) {
+        return Ok(());
+    }
+    let row = rights_places(alloc, file, ops)?;
+    rows.insert(file, row)?;
+    Ok(())
+}
+
+impl OwnerSteps {
+    /// Those of a trace.
+    pub fn of(alloc: Global, ops: &[MicroOp]) -> Result<OwnerSteps, AllocError>
+        requires { length ops.now < 2 ^ 20 }
+        ensures { IfOk result (AreOwnerSteps ops.now) }
+    {
+        let mut rows = BTreeMap::new(alloc);
+        for op in ops {
+            if let MicroOp::SetAttr {
+                target: Target::File(file),
+                ..
+            } = op
+            {
+                add_row(alloc, &mut rows, *file, ops)?;
+            }
+        }
+        Ok(OwnerSteps { rows })
+    }
+
+    /// Those of the file.
+    pub fn row(&self, file: u32) -> &[u32]
+        ensures { result.now ≡ rights_row self.now file }
+    {
+        match self.rows.get(&file) {
+            Some(row) => row,
+            None => &[],
+        }
+    }
+}
+
+/// The owner, group and permissions that the members leave of the file, which had these: the last of
+/// those that set them says so.
+pub fn owner_left<'a>(
+    file: u32,
+    owner: &'a Rights,
+    ops: &'a [MicroOp],
+    places: &[u32],
+    members: &[bool],
+) -> &'a Rights
+    requires places { places.now ≡ rights_places ops.now file }
+    requires first { (i j : ℕ) → i < j → j < length places.now → mark_at members.now (kept_at places.now j) ≡ true → mark_at members.now (kept_at places.now i) ≡ true }
+    requires long { length members.now ≡ length ops.now }
+    ensures { result.now ≡ owner_left file owner.now ops.now (members_in members.now) }
+{
+    let count = first_members(members, places);
+    if count == 0 {
+        return owner;
+    }
+    owner_after(file, owner, &ops[places[count - 1] as usize])
+}

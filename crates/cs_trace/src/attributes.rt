@@ -1,0 +1,155 @@
+//! Owner, group and permissions of what stands while a trace is read.
+ghost use Rattle.std.specs.Prelude.{◌≡◌, ◌∷◌, ◌++◌, [], IfOk, OnOk, option_map, slice_set};
+ghost use Rattle.std.specs.FinMap as map;
+ghost use Rattle.cs_trace.specs.Attributes.{attributes_after, no_attributes, rights_at, with_directory, with_file};
+ghost use Rattle.cs_trace.specs.Kept.{attributes_of, with_node};
+
+use crate::operation::{Node, Operation, Rights, Target};
+use cs_names::Path;
+use std::alloc::{AllocError, Global};
+use std::collections::BTreeMap;
+use std::marker::Model;
+
+/// Those of the last directory at each path. Contracts see a finite map, in the order of paths.
+#[derive(Drop)]
+pub(crate) struct Directories {
+    by_path: BTreeMap<Path, Rights>,
+}
+
+/// Those of each file and of each directory.
+#[derive(Drop)]
+pub(crate) struct Attributes {
+    /// Each file's, by its number.
+    pub(crate) files: Vec<Rights>,
+    pub(crate) directories: Directories,
+}
+
+impl Model for Directories {
+    ghost use Rattle.std.specs.FinMap as map;
+    ghost use Rattle.cs_trace.specs.Attributes as model;
+
+    ghost Value = { model.Directories };
+
+    ghost coded = { model.directories_code };
+
+    ghost view = { λ directories. map.from_entries directories.by_path.entries };
+}
+
+impl Directories {
+    fn new(alloc: Global) -> Directories
+        ensures { result ≡ map.empty }
+    {
+        Directories {
+            by_path: BTreeMap::new(alloc),
+        }
+    }
+
+    fn get(&self, path: &Path) -> Option<&Rights>
+        ensures { option_map (λ rights. rights.now) result ≡ map.get self.now path.now }
+    {
+        self.by_path.get(path)
+    }
+
+    fn insert(&mut self, path: Path, rights: Rights) -> Result<(), AllocError>
+        ensures { OnOk result (self.new ≡ map.insert self.old path rights) }
+    {
+        self.by_path.insert(path, rights)?;
+        Ok(())
+    }
+}
+
+/// These rights in place of those of the file of that number.
+fn set_file(files: &mut [Rights], file: u32, rights: Rights)
+    ensures { files.new ≡ slice_set files.old file rights }
+{
+    let place = file as usize;
+    if place < files.len() {
+        files[place] = rights;
+    }
+}
+
+impl Attributes {
+    /// Where nothing stands.
+    pub(crate) fn new(alloc: Global) -> Attributes
+        ensures { attributes_of result ≡ no_attributes }
+    {
+        Attributes {
+            files: Vec::new(alloc),
+            directories: Directories::new(alloc),
+        }
+    }
+
+    /// A new file has the next number.
+    fn add_file(&mut self, rights: Rights) -> Result<(), AllocError>
+        ensures { OnOk result (attributes_of self.new ≡ with_file (attributes_of self.old) rights) }
+    {
+        self.files.push(rights)?;
+        Ok(())
+    }
+
+    /// A directory stands at the path.
+    fn set_directory(&mut self, path: Path, rights: Rights) -> Result<(), AllocError>
+        ensures { OnOk result
+            (attributes_of self.new ≡ with_directory (attributes_of self.old) path rights) }
+    {
+        self.directories.insert(path, rights)
+    }
+
+    /// One entry more: a file, or a directory at the path.
+    pub(crate) fn add(
+        &mut self,
+        alloc: Global,
+        node: Node,
+        path: &Path,
+        rights: &Rights,
+    ) -> Result<(), AllocError>
+        ensures { OnOk result (attributes_of self.new
+            ≡ with_node (attributes_of self.old) node path.now rights.now) }
+    {
+        let rights = rights.try_clone()?;
+        match node {
+            Node::Directory => self.set_directory(path.try_clone(alloc)?, rights),
+            Node::File(_) => self.add_file(rights),
+        }
+    }
+
+    /// Those of what stands at the path. It takes no memory.
+    pub(crate) fn rights(&self, node: Node, path: &Path) -> Option<&Rights>
+        ensures { option_map (λ rights. rights.now) result
+            ≡ rights_at (attributes_of self.now) node path.now }
+    {
+        match node {
+            Node::Directory => self.directories.get(path),
+            Node::File(file) => self.files.get(file as usize),
+        }
+    }
+
+    /// Those after the operation.
+    pub(crate) fn change(&mut self, alloc: Global, operation: &Operation) -> Result<(), AllocError>
+        ensures { OnOk result (attributes_of self.new
+            ≡ attributes_after (attributes_of self.old) operation.now) }
+    {
+        match operation {
+            Operation::Creat { rights, .. } => self.add_file(rights.try_clone()?),
+            Operation::Mkdir { path, rights } => {
+                self.set_directory(path.try_clone(alloc)?, rights.try_clone()?)
+            }
+            Operation::SetAttr { target, after, .. } => match target {
+                Target::File(file) => {
+                    set_file(&mut self.files, *file, after.try_clone()?);
+                    Ok(())
+                }
+                Target::Directory(path) => {
+                    self.set_directory(path.try_clone(alloc)?, after.try_clone()?)
+                }
+            },
+            Operation::Unlink { .. }
+            | Operation::Rmdir { .. }
+            | Operation::Rename { .. }
+            | Operation::Write { .. }
+            | Operation::Truncate { .. }
+            | Operation::Sync(_)
+            | Operation::Say => Ok(()),
+        }
+    }
+}

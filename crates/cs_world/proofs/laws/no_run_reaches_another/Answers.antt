@@ -1,0 +1,8 @@
+use Rattle.cs_world.proofs.Isolating.{has_users, none_reaches}
+use Rattle.cs_world.proofs.laws.no_run_reaches_another.Goals as goal
+
+pub returns : goal.returns
+returns c = record {
+  laws = none_reaches;
+  users = λ scene users marked key run. has_users scene users key marked run;
+}
