@@ -1,13 +1,13 @@
 //! The command line, read.
 use crate::ask::{Ask, Job, Wanted};
-use crate::commands::{command, tar_command};
+use crate::commands::command;
 use clap::error::ErrorKind;
 use clap::{ArgMatches, Error};
 use cs_archive::States;
 use cs_families::Family;
 use cs_lists::ListOptions;
 use cs_tcp::{Client, Serving};
-use std::alloc::{AllocError, Global};
+use std::alloc::Global;
 
 fn wanted_of<'a>(matches: &ArgMatches<'a>) -> Wanted<'a> {
     Wanted {
@@ -77,13 +77,6 @@ fn job_of<'a>(name: &str, matches: &ArgMatches<'a>) -> Option<Job<'a>> {
     })
 }
 
-/// What is wrong with the words behind `--states`, with the usage of `tar`.
-fn range_error(alloc: Global) -> Result<Error, AllocError> {
-    let text = "invalid value for '--states <A-B>': two numbers, the first not above the second";
-    let mut tar = tar_command(alloc)?.bin_name("crashfs tar")?;
-    tar.error(ErrorKind::ValueValidation, text)
-}
-
 /// What the words ask for, the program's name first. The error is a text for the user: the help, the
 /// version, or what is wrong with the words.
 pub fn ask_of<'a>(alloc: Global, words: &'a [&'a str]) -> Result<Ask<'a>, Error> {
@@ -91,7 +84,9 @@ pub fn ask_of<'a>(alloc: Global, words: &'a [&'a str]) -> Result<Ask<'a>, Error>
     // a command line without a command was refused
     let (name, inner) = matches.subcommand().unwrap_or(("list", &matches));
     let Some(job) = job_of(name, inner) else {
-        return Err(range_error(alloc)?);
+        let text =
+            "invalid value for '--states <A-B>': two numbers, the first not above the second";
+        return Err(command(alloc)?.error(ErrorKind::ValueValidation, text)?);
     };
     Ok(Ask {
         wanted: wanted_of(inner),

@@ -69,8 +69,7 @@ fn list_command<'a>(alloc: Global) -> Result<Command<'a>, AllocError> {
     with_states(alloc, list)
 }
 
-/// The command `tar`.
-pub fn tar_command<'a>(alloc: Global) -> Result<Command<'a>, AllocError> {
+fn tar_command<'a>(alloc: Global) -> Result<Command<'a>, AllocError> {
     let state = value_argument(alloc, "state", "N", "The state of that number").value_parser(
         value_parser!(u32),
     );

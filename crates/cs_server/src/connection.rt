@@ -57,6 +57,13 @@ impl<S: Served> Connection<S> {
     {
         &self.kept
     }
+
+    /// The same, by value.
+    pub fn into_kept(self) -> Kept<S>
+        ensures { result ≡ self.kept }
+    {
+        self.kept
+    }
 }
 
 /// Serves a connection to its end, over the runs of the server: its messages are answered in order, each

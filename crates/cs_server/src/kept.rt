@@ -22,7 +22,7 @@ const GRANTS: usize = RUNS * RUN_ATTACHES as usize;
 
 /// A run that was found, with its key, whose number it carries. Contracts see the key.
 #[derive(Drop)]
-struct FoundRun<S: Served> {
+pub(crate) struct FoundRun<S: Served> {
     key: RunKey,
     run: SharedRun<S>,
 }
@@ -84,6 +84,13 @@ fn pass_fault(fault: AttachFault) -> PassFault
 }
 
 impl<S: Served> FoundRun<S> {
+    /// Its key.
+    pub(crate) fn key(&self) -> RunKey
+        ensures { result ≡ self.now }
+    {
+        self.key.again()
+    }
+
     fn run(&self) -> &SharedRun<S>
         ensures { result.now ≡ self.now.number }
     {
@@ -107,6 +114,14 @@ impl<S: Served> Kept<S> {
         ensures { result.now ≡ self.now.passes }
     {
         self.passes.as_slice()
+    }
+
+    /// The runs, and the passes.
+    pub(crate) fn into_parts(self) -> (Vec<FoundRun<S>>, Vec<GivenPass>)
+        ensures runs { result.0.items ≡ self.runs }
+        ensures passes { result.1.items ≡ self.passes }
+    {
+        (self.runs, self.passes)
     }
 
     /// The key of the run that gave the pass at a place.

@@ -2,12 +2,14 @@
 #![tactic(auto)]
 
 mod connection;
+mod given;
 mod kept;
 mod port;
 mod server;
 mod streams;
 
 pub use connection::{Connection, serve_connection};
+pub use given::GivenPasses;
 pub use kept::{GivenPass, Kept};
 pub use port::SharedPort;
 pub use server::Server;

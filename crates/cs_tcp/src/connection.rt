@@ -5,8 +5,8 @@ use crate::for_linux::ForLinux;
 use crate::heard::Heard;
 use crate::log::Log;
 use crate::wall_clock::WallClock;
-use cs_server::{Server, serve_connection};
-use cs_session::{Counted, ServeFault};
+use cs_server::{Connection, Server, serve_connection};
+use cs_session::Counted;
 use cs_shared::AnyScene;
 use std::alloc::Global;
 use std::io::{self, Read, Write};
@@ -31,10 +31,10 @@ fn serve_stream<R: Wait + Clock, RW: Read + Write + Drop>(
     alloc: Global,
     server: &Server<AnyScene>,
     stream: RW,
-) -> Result<(), ServeFault> {
+) -> Connection<AnyScene> {
     let mut stream = Counted::new(stream);
     let mut clock = WallClock::new(rt);
-    serve_connection(rt, alloc, server, &mut stream, &mut clock).result()
+    serve_connection(rt, alloc, server, &mut stream, &mut clock)
 }
 
 /// Serves the stream to its end; its messages are told, if the log tells these.
@@ -45,7 +45,7 @@ fn serve_heard<R: Wait + Clock, E: Write, RW: Read + Write + Drop>(
     stream: RW,
     conn: u32,
     log: Log<E>,
-) -> Result<(), ServeFault> {
+) -> Connection<AnyScene> {
     if log.verbose {
         let heard = Heard::new(rt, alloc, stream, conn, log);
         serve_stream(rt, alloc, server, heard)
@@ -55,7 +55,7 @@ fn serve_heard<R: Wait + Clock, E: Write, RW: Read + Write + Drop>(
 }
 
 /// Serves the connection of that number to its end, and tells how it ended; its messages too, if the log
-/// tells these.
+/// tells these. None where its socket can't be set up: then nothing was read.
 pub(crate) fn serve<R: Wait + Clock, E: Write>(
     rt: &R,
     alloc: Global,
@@ -64,10 +64,10 @@ pub(crate) fn serve<R: Wait + Clock, E: Write>(
     conn: u32,
     client: Client,
     log: Log<E>,
-) {
+) -> Option<Connection<AnyScene>> {
     if set_up(&stream).is_err() {
         log.not_set_up(rt, conn);
-        return;
+        return None;
     }
     let ended = match client {
         Client::Plan9 => serve_heard(rt, alloc, server, stream, conn, log),
@@ -76,5 +76,6 @@ pub(crate) fn serve<R: Wait + Clock, E: Write>(
             serve_heard(rt, alloc, server, stream, conn, log)
         }
     };
-    log.ended(rt, conn, ended);
+    log.ended(rt, conn, ended.result());
+    Some(ended)
 }

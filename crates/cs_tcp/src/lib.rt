@@ -14,6 +14,7 @@ mod log;
 mod progress;
 mod publishing;
 mod serving;
+mod site;
 mod slots;
 mod summary;
 mod wall_clock;

@@ -6,6 +6,7 @@ use crate::client::Client;
 use crate::entrance::Entrance;
 use crate::log::Log;
 use crate::publishing::publish;
+use crate::site::Site;
 use crate::slots::{start_slots, start_watch};
 use crate::summary::print_runs;
 use cs_serve::{Inputs, ProgramFault, scene_of, users_of};
@@ -78,8 +79,7 @@ fn listen<R: Net<Listener = TcpListener, Stream = TcpStream>, W: Write>(
 fn serve_each<'s, R: Threads + Wait + Clock + Sync, I: Read + Drop + Send, E: Write + Send>(
     rt: &'s R,
     alloc: Global,
-    server: &'s Server<AnyScene>,
-    entrance: &'s Entrance,
+    site: &'s Site,
     serving: Serving,
     input: I,
     log: Log<'s, E>,
@@ -93,19 +93,19 @@ fn serve_each<'s, R: Threads + Wait + Clock + Sync, I: Read + Drop + Send, E: Wr
         ..
     } = serving;
     thread::scope(thread::scope_env(), rt, move |scope| {
-        if !start_watch(scope, rt, again, input, entrance, log) {
+        if !start_watch(scope, rt, again, input, &site.entrance, log) {
             return false;
         }
         if ready {
-            return start_slots(scope, rt, alloc, server, entrance, connections, client, log);
+            return start_slots(scope, rt, alloc, site, connections, client, log);
         }
-        let publisher = scope.spawn(move || publish(rt, alloc, server, workers, log));
+        let publisher = scope.spawn(move || publish(rt, alloc, &site.server, workers, log));
         let Ok(publisher) = publisher else {
             log.fault(rt, &ProgramFault::Memory);
-            entrance.close(rt);
+            site.entrance.close(rt);
             return false;
         };
-        let started = start_slots(scope, rt, alloc, server, entrance, connections, client, log);
+        let started = start_slots(scope, rt, alloc, site, connections, client, log);
         publisher.join(rt) && started
     })
 }
@@ -134,14 +134,17 @@ where
     } else {
         Some(serving.connections)
     };
-    let entrance = Entrance::new(listener, left);
-    let served = serve_each(rt, alloc, &server, &entrance, serving, input, log);
-    print_runs(rt, alloc, &server, out)?;
-    Ok(served && !entrance.failed(rt))
+    let site = Site::new(alloc, server, Entrance::new(listener, left));
+    let served = serve_each(rt, alloc, &site, serving, input, log);
+    let failed = site.entrance.failed(rt);
+    let (server, passes) = site.into_parts();
+    print_runs(rt, alloc, &server, &passes, out)?;
+    Ok(served && !failed)
 }
 
 /// The command `serve`: publishes all states, before it listens or meanwhile, prints the address that it
-/// listens on, serves connections, each in a thread, and at the end prints a line for each run.
+/// listens on, serves connections, each in a thread, and at the end prints a line for each run, with its
+/// audit by the passes of all connections.
 ///
 /// It ends when so many connections have ended. With `again` no more than so many are served at once; when
 /// one has ended another is accepted, until `input` ends or can't be read, which is standard input, and

@@ -4,30 +4,31 @@ use crate::client::Client;
 use crate::connection;
 use crate::entrance::{Admitted, Entrance};
 use crate::log::Log;
+use crate::site::Site;
 use cs_serve::ProgramFault;
-use cs_server::Server;
-use cs_shared::AnyScene;
 use std::alloc::Global;
 use std::io::{self, Read, Write};
 use std::rt::Clock;
 use std::sync::Wait;
 use std::thread::Scope;
 
-/// Serves connections until no more come in.
+/// Serves connections until no more come in, and keeps the passes of each.
 fn serve_slot<R: Wait + Clock, E: Write>(
     rt: &R,
     alloc: Global,
-    server: &Server<AnyScene>,
-    entrance: &Entrance,
+    site: &Site,
     client: Client,
     log: Log<E>,
 ) {
     for _ in rt.forever() {
-        let admitted = entrance.admit(rt);
+        let admitted = site.entrance.admit(rt);
         match admitted {
             Admitted::Connection(conn, stream, from) => {
                 log.accepted(rt, conn, from);
-                connection::serve(rt, alloc, server, stream, conn, client, log);
+                let ended = connection::serve(rt, alloc, &site.server, stream, conn, client, log);
+                if let Some(ended) = ended {
+                    site.keep(rt, alloc, ended);
+                }
             }
             Admitted::Closed => return,
             Admitted::Failed => {
@@ -44,17 +45,16 @@ pub(crate) fn start_slots<'s, Env, R: Wait + Clock + Sync, E: Write + Send>(
     scope: &'s Scope<'s, Env>,
     rt: &'s R,
     alloc: Global,
-    server: &'s Server<AnyScene>,
-    entrance: &'s Entrance,
+    site: &'s Site,
     slots: u32,
     client: Client,
     log: Log<'s, E>,
 ) -> bool {
     for _ in 0..slots {
-        let slot = scope.spawn(move || serve_slot(rt, alloc, server, entrance, client, log));
+        let slot = scope.spawn(move || serve_slot(rt, alloc, site, client, log));
         if slot.is_err() {
             log.fault(rt, &ProgramFault::Memory);
-            entrance.close(rt);
+            site.entrance.close(rt);
             return false;
         }
     }

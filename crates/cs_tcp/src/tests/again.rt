@@ -54,7 +54,9 @@ fn three_clients_are_served_one_after_another_until_the_input_ends(
     );
     assert_eq!(rt; replies, ((true, true), true));
     assert_eq!(rt; told.status, 0);
-    assert!(rt; std::str::from_utf8(told.out.as_slice())?.ends_with("\nrun 0/x entries 6\n"));
+    assert!(rt;
+        std::str::from_utf8(told.out.as_slice())?.ends_with("\nrun 0/x entries 6 audit ok\n")
+    );
     let err = std::str::from_utf8(told.err.as_slice())?;
     let first_ended = err.find("\n0 ended\n1 accepted from 127.0.0.1:");
     let second_ended = err.find("\n1 ended\n2 accepted from 127.0.0.1:");

@@ -37,7 +37,7 @@ fn two_clients_are_served_at_once_and_share_a_run(rt: HostRuntime) -> Result<(),
     assert_eq!(rt; told.status, 0);
     let out = std::str::from_utf8(told.out.as_slice())?;
     assert!(rt; out.starts_with("listening 127.0.0.1:"));
-    assert!(rt; out.ends_with("\nrun 0/x entries 10\n"));
+    assert!(rt; out.ends_with("\nrun 0/x entries 10 audit ok\n"));
     Ok(())
 }
 
@@ -60,7 +60,7 @@ fn a_client_that_hangs_up_inside_a_message(rt: HostRuntime) -> Result<(), Fail> 
     assert!(rt; early.is_some() && attached.is_some());
     assert_eq!(rt; told.status, 0);
     let out = std::str::from_utf8(told.out.as_slice())?;
-    assert!(rt; out.ends_with("\nrun 0/x entries 1\n"));
+    assert!(rt; out.ends_with("\nrun 0/x entries 1 audit ok\n"));
     let err = std::str::from_utf8(told.err.as_slice())?;
     for line in [
         "published 2 states\n",
