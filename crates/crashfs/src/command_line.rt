@@ -1,13 +1,13 @@
 //! The command line, read.
 use crate::ask::{Ask, Job, Wanted};
-use crate::commands::command;
+use crate::commands::{command, tar_command};
 use clap::error::ErrorKind;
 use clap::{ArgMatches, Error};
 use cs_archive::States;
 use cs_families::Family;
 use cs_lists::ListOptions;
 use cs_tcp::{Client, Serving};
-use std::alloc::Global;
+use std::alloc::{AllocError, Global};
 
 fn wanted_of<'a>(matches: &ArgMatches<'a>) -> Wanted<'a> {
     Wanted {
@@ -59,6 +59,11 @@ fn serving_of<'a>(matches: &ArgMatches<'a>) -> Serving<'a> {
         connections: matches.get_one("connections").unwrap_or(1),
         again: matches.get_flag("again"),
         ready: matches.get_flag("ready"),
+        reload: if matches.get_flag("reload") {
+            matches.get_str("users")
+        } else {
+            None
+        },
         client: match matches.get_str("client") {
             Some("linux") => Client::Linux,
             _ => Client::Plan9,
@@ -77,6 +82,15 @@ fn job_of<'a>(name: &str, matches: &ArgMatches<'a>) -> Option<Job<'a>> {
     })
 }
 
+/// What is told where the text behind `--states` is no range.
+fn no_range(alloc: Global, text: &str) -> Result<Error, AllocError> {
+    let text = format!(in alloc;
+        "invalid value '{text}' for '--states <A-B>': two numbers, the first not above the second"
+    )?;
+    let mut tar = tar_command(alloc)?.bin_name("crashfs tar")?;
+    tar.error(ErrorKind::ValueValidation, text.as_str())
+}
+
 /// What the words ask for, the program's name first. The error is a text for the user: the help, the
 /// version, or what is wrong with the words.
 pub fn ask_of<'a>(alloc: Global, words: &'a [&'a str]) -> Result<Ask<'a>, Error> {
@@ -84,9 +98,7 @@ pub fn ask_of<'a>(alloc: Global, words: &'a [&'a str]) -> Result<Ask<'a>, Error>
     // a command line without a command was refused
     let (name, inner) = matches.subcommand().unwrap_or(("list", &matches));
     let Some(job) = job_of(name, inner) else {
-        let text =
-            "invalid value for '--states <A-B>': two numbers, the first not above the second";
-        return Err(command(alloc)?.error(ErrorKind::ValueValidation, text)?);
+        return Err(no_range(alloc, inner.get_str("states").unwrap_or(""))?);
     };
     Ok(Ask {
         wanted: wanted_of(inner),

@@ -69,7 +69,8 @@ fn list_command<'a>(alloc: Global) -> Result<Command<'a>, AllocError> {
     with_states(alloc, list)
 }
 
-fn tar_command<'a>(alloc: Global) -> Result<Command<'a>, AllocError> {
+/// The command `tar`.
+pub fn tar_command<'a>(alloc: Global) -> Result<Command<'a>, AllocError> {
     let state = value_argument(alloc, "state", "N", "The state of that number").value_parser(
         value_parser!(u32),
     );
@@ -121,6 +122,7 @@ fn with_counts<'a>(alloc: Global, command: Command<'a>) -> Result<Command<'a>, A
 fn serve_command<'a>(alloc: Global) -> Result<Command<'a>, AllocError> {
     let again = "Accepts another connection when one ends, until standard input ends";
     let ready = "Makes all states before it listens";
+    let reload = "Reads the users file again for each connection: later runs have its users";
     let verbose = "Prints connections, messages with their replies, and attaches on standard error";
     let client = "Whose clients connect: Linux's own needs other texts of errors";
     let client = value_argument(alloc, "client", "CLIENT", client)
@@ -129,10 +131,11 @@ fn serve_command<'a>(alloc: Global) -> Result<Command<'a>, AllocError> {
     let serve = Command::new(alloc, "serve")
         .about("Serves the states over TCP, each connection in a thread of its own")
         .after_help(
-            "Example: crashfs serve --users users --trace store.trace --listen localhost:5640 --workers 2 --connections 4",
+            "Examples:\n  crashfs serve --users users --trace store.trace --listen localhost:5640 --workers 2 --connections 4\n  sleep infinity | crashfs serve --users users --trace store.trace --listen localhost:5640 --workers 2 --connections 4 --again --reload",
         )
         .arg(flag(alloc, "again", again))?
         .arg(flag(alloc, "ready", ready))?
+        .arg(flag(alloc, "reload", reload))?
         .arg(client)?
         .arg(flag(alloc, "verbose", verbose))?;
     let serve = with_counts(alloc, with_users(alloc, serve)?)?;

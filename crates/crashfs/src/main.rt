@@ -35,7 +35,7 @@ fn run_serve<R, W: Write, E: Write + Send>(
     err: &mut E,
 ) -> u8
 where
-    R: Input + Eprint + AllocGlobal + Clock + Threads + Wait + Sync,
+    R: Files + Input + Eprint + AllocGlobal + Clock + Threads + Wait + Sync,
     R: Net<Listener = TcpListener, Stream = TcpStream>,
     R::Reader: Send,
 {

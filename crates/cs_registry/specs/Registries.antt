@@ -21,6 +21,10 @@ module _ {H : Type 0} where
   abbrev pub is_published : Registry H → ℕ → Bool
   is_published registry number = slice_index_or registry.published number false
 
+  -- with another list of users, for the runs that are made from then on
+  abbrev pub with_users : Registry H → List Row → Registry H
+  with_users registry users = record registry { users = users }
+
   -- how many states of the plan aren't published
   abbrev pub missing_of : Registry H → ℕ
   missing_of registry = count_by not registry.published

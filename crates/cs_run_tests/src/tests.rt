@@ -7,6 +7,7 @@ mod directories;
 mod files;
 mod journals;
 mod registries;
+mod reloads;
 mod removes;
 mod side;
 mod world;

@@ -8,6 +8,7 @@ mod listing;
 mod printing;
 mod program;
 mod publishing;
+mod reloading;
 mod script;
 mod telling;
 

@@ -5,7 +5,8 @@ use crate::fault::ProgramFault;
 use crate::inputs::{Inputs, scene_of, users_of};
 use crate::printing::Printer;
 use crate::publishing::world_of;
-use crate::script::{Action, ScriptLine, read_script};
+use crate::reloading::reload;
+use crate::script::{Action, ScriptLine, ScriptTurn, read_script};
 use crate::telling::tell;
 use cs_wire::decode;
 use cs_world::World;
@@ -21,7 +22,33 @@ fn read_all<R: Read>(alloc: Global, input: &mut R) -> Result<Vec<u8>, ProgramFau
     }
 }
 
-/// Does what a line asks, and prints what it came to; with `told` also what was asked, as text.
+/// Does what a connection does, and prints what it came to; with `told` also a message and its reply as
+/// text.
+fn take_turn<W: Write, E: Write>(
+    alloc: Global,
+    world: &mut World,
+    printer: &mut Printer,
+    turn: &ScriptTurn,
+    out: &mut W,
+    told: Option<&mut E>,
+) -> Result<(), ProgramFault> {
+    let conn = turn.conn;
+    match &turn.action {
+        Action::Send(message) => {
+            let reply = world.message(alloc, conn, turn.now, &message.bytes);
+            if let Some(err) = told {
+                tell(conn, &decode(alloc, &message.bytes), &Ok(&reply), err);
+            }
+            printer.reply(conn, &reply, out)
+        }
+        Action::HangUp => {
+            let _closed = world.hang_up(alloc, conn, turn.now);
+            writeln!(out, "{conn} closed").map_err(|_| ProgramFault::Output)
+        }
+    }
+}
+
+/// Does what a line asks, and prints what it came to; with `told` also a message and its reply as text.
 fn run_line<W: Write, E: Write>(
     alloc: Global,
     world: &mut World,
@@ -30,19 +57,9 @@ fn run_line<W: Write, E: Write>(
     out: &mut W,
     told: Option<&mut E>,
 ) -> Result<(), ProgramFault> {
-    let conn = line.conn;
-    match &line.action {
-        Action::Send(message) => {
-            let reply = world.message(alloc, conn, line.now, &message.bytes);
-            if let Some(err) = told {
-                tell(conn, &decode(alloc, &message.bytes), &Ok(&reply), err);
-            }
-            printer.reply(conn, &reply, out)
-        }
-        Action::HangUp => {
-            let _closed = world.hang_up(alloc, conn, line.now);
-            writeln!(out, "{conn} closed").map_err(|_| ProgramFault::Output)
-        }
+    match line {
+        ScriptLine::Turn(turn) => take_turn(alloc, world, printer, turn, out, told),
+        ScriptLine::Reload(users) => reload(alloc, world, &users.bytes, out),
     }
 }
 

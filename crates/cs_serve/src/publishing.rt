@@ -11,7 +11,8 @@ fn publish_each(alloc: Global, world: &mut World, count: u32) -> Result<(), Prog
     for number in 0..count {
         match world.step(alloc, Step::Publish(number)) {
             Reply::Published => {}
-            Reply::Unpublished(_) | Reply::Connection(_) => return Err(ProgramFault::Memory),
+            Reply::Unpublished(_) | Reply::Reloaded | Reply::NotReloaded | Reply::Connection(_) =>
+                return Err(ProgramFault::Memory),
         }
     }
     Ok(())

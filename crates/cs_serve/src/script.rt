@@ -1,4 +1,4 @@
-//! A script: what connections send, line by line.
+//! A script: what connections send, and the users files that are taken, line by line.
 ghost use Rattle.std.specs.Prelude.{◌<◌, ◌≤◌, IfSome, length};
 ghost use Rattle.cs_names.specs.declared.limits.TheConstants.{CONNECTIONS};
 
@@ -14,20 +14,36 @@ pub struct ScriptMessage {
     ghost whole: { 7 ≤ length bytes.items },
 }
 
-/// What a line of a script does on its connection.
+/// What is done on a connection.
 #[derive(Debug, Drop)]
 pub enum Action {
     Send(ScriptMessage),
     HangUp,
 }
 
-/// A line of a script: on that connection, at that moment, in seconds since 1970, that is done.
+/// That action on that connection, at that moment, in seconds since 1970.
 #[derive(Debug, Drop)]
-pub struct ScriptLine {
+pub struct ScriptTurn {
     pub conn: u32,
     pub now: u32,
     pub action: Action,
     ghost connection: { conn < CONNECTIONS },
+}
+
+/// The bytes of a users file, one at least.
+#[derive(Debug, Drop)]
+pub struct ScriptUsers {
+    pub bytes: Vec<u8>,
+    ghost some: { 1 ≤ length bytes.items },
+}
+
+/// A line of a script.
+#[derive(Debug, Drop)]
+pub enum ScriptLine {
+    /// A connection does something.
+    Turn(ScriptTurn),
+    /// The runs that are made from here on have the users of that file.
+    Reload(ScriptUsers),
 }
 
 /// The fewest bytes of a message.
@@ -41,20 +57,31 @@ fn number(text: &[u8]) -> Option<u32> {
     std::str::from_utf8(text).ok()?.parse::<u32>().ok()
 }
 
+/// The bytes that the hexadecimal digits spell, or None where they spell none.
+fn spelled(alloc: Global, digits: &[u8]) -> Result<Option<Vec<u8>>, ProgramFault> {
+    match hex::decode(alloc, digits) {
+        Ok(bytes) => Ok(Some(bytes)),
+        Err(hex::FromHexError::OutOfMemory) => Err(ProgramFault::Memory),
+        Err(_) => Ok(None),
+    }
+}
+
 /// The message that the hexadecimal digits spell, or None where they spell none.
 fn message(alloc: Global, digits: &[u8]) -> Result<Option<ScriptMessage>, ProgramFault> {
     if digits.len() > 2 * MESSAGE_BYTES as usize {
         return Ok(None);
     }
-    match hex::decode(alloc, digits) {
-        Ok(bytes) => {
-            if bytes.len() < LEAST_MESSAGE {
-                return Ok(None);
-            }
-            Ok(Some(ScriptMessage { bytes }))
-        }
-        Err(hex::FromHexError::OutOfMemory) => Err(ProgramFault::Memory),
-        Err(_) => Ok(None),
+    match spelled(alloc, digits)? {
+        Some(bytes) if bytes.len() >= LEAST_MESSAGE => Ok(Some(ScriptMessage { bytes })),
+        _ => Ok(None),
+    }
+}
+
+/// The users file that the hexadecimal digits spell, or None where they spell none.
+fn users(alloc: Global, digits: &[u8]) -> Result<Option<ScriptUsers>, ProgramFault> {
+    match spelled(alloc, digits)? {
+        Some(bytes) if !bytes.is_empty() => Ok(Some(ScriptUsers { bytes })),
+        _ => Ok(None),
     }
 }
 
@@ -73,25 +100,37 @@ fn read_action(alloc: Global, word: &[u8]) -> Result<Option<Action>, ProgramFaul
     Ok(message(alloc, word)?.map(Action::Send))
 }
 
-/// The line that the text spells: a connection's number, a moment, and `hangup` or a message in
-/// hexadecimal, with one space between; None where it spells none.
-fn read_line(alloc: Global, text: &[u8]) -> Result<Option<ScriptLine>, ProgramFault> {
-    let mut words = Pieces::of(text, b' ');
-    let (Some(conn), Some(moment), Some(asked), None) = (
-        words.next(),
-        words.next(),
-        words.next(),
-        words.next(),
-    ) else {
-        return Ok(None);
-    };
+/// The turn of a connection that these words ask for: its number, a moment, and `hangup` or a message
+/// in hexadecimal; None where they ask for none.
+fn read_turn(
+    alloc: Global,
+    conn: &[u8],
+    moment: &[u8],
+    asked: &[u8],
+) -> Result<Option<ScriptLine>, ProgramFault> {
     let (Some(conn), Some(now)) = (connection(conn), number(moment)) else {
         return Ok(None);
     };
     let Some(action) = read_action(alloc, asked)? else {
         return Ok(None);
     };
-    Ok(Some(ScriptLine { conn, now, action }))
+    Ok(Some(ScriptLine::Turn(ScriptTurn { conn, now, action })))
+}
+
+/// The line that the text spells, with one space between its words: the turn of a connection, or
+/// `reload` and a users file in hexadecimal; None where it spells none.
+fn read_line(alloc: Global, text: &[u8]) -> Result<Option<ScriptLine>, ProgramFault> {
+    let mut words = Pieces::of(text, b' ');
+    let (Some(first), Some(second)) = (words.next(), words.next()) else {
+        return Ok(None);
+    };
+    match (words.next(), words.next()) {
+        (None, None) if first == b"reload".as_slice() => {
+            Ok(users(alloc, second)?.map(ScriptLine::Reload))
+        }
+        (Some(third), None) => read_turn(alloc, first, second, third),
+        _ => Ok(None),
+    }
 }
 
 /// The bytes without the line feed at their end, if they end so.

@@ -8,6 +8,7 @@ mod groups;
 mod limits;
 mod lists;
 mod program;
+mod reloading;
 mod server;
 mod sessions;
 mod states;

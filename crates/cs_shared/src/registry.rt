@@ -5,7 +5,7 @@ ghost use Rattle.std.specs.List.{All};
 ghost use Rattle.std.specs.List.Sorted.{IsPermutation, IsSorted};
 ghost use Rattle.std.specs.Map.{keys_of};
 ghost use Rattle.cs_registry.specs.Publishing.{Publishes};
-ghost use Rattle.cs_registry.specs.Registries.{empty, missing_of};
+ghost use Rattle.cs_registry.specs.Registries.{empty, missing_of, with_users};
 ghost use Rattle.cs_shared.specs.Finding.{AreNumbered, FindsShared};
 ghost use Rattle.cs_shared.specs.Naming.{key_cmp};
 ghost use Rattle.cs_shared.specs.Publishing.{IsThere, PublishesEach, PublishesFront};
@@ -102,6 +102,13 @@ impl<S: Served> Registry<S> {
             Ok(shared) => Ok(shared),
             Err(_) => Err(FindFault::Memory),
         }
+    }
+
+    /// A run that is made from now on has these users.
+    pub(crate) fn reload(&mut self, users: Arc<Users>)
+        ensures { self.new ≡ with_users self.old (arc_value users) }
+    {
+        self.states.reload_shared(users);
     }
 
     /// All runs, in the order of their keys.

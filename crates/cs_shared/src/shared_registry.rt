@@ -36,7 +36,8 @@ impl<S: Served> Model for SharedRegistry<S> {
 }
 
 impl<S: Served> SharedRegistry<S> {
-    /// A registry of a scene's states, of which none is published, whose runs have these users.
+    /// A registry of a scene's states, of which none is published, whose runs have these users until
+    /// others are loaded.
     pub fn new(
         alloc: Global,
         scene: Arc<Scene>,
@@ -118,6 +119,15 @@ impl<S: Served> SharedRegistry<S> {
         ensures { IfOk result (λ shared. shared ≡ key.number) }
     {
         self.inside.lock(rt).find_key(alloc, key)
+    }
+
+    /// Loads another list of users: a run that is made from then on has them. A run that exists keeps
+    /// the list with which it was made. Memory is asked for before the lock is taken; where it is
+    /// refused, the list stays.
+    pub fn reload(&self, rt: &impl Wait, alloc: Global, users: Users) -> Result<(), AllocError> {
+        let users = Arc::new(alloc, users)?;
+        self.inside.lock(rt).reload(users);
+        Ok(())
     }
 
     /// All runs, by the numbers of their states and then by name.

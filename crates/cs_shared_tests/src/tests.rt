@@ -1,3 +1,7 @@
 //! Worked examples of shared runs and of publishing.
+mod audits;
+mod full_journals;
 mod publishing;
+mod reloads;
 mod shared_runs;
+mod side;

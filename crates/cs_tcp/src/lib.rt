@@ -13,6 +13,7 @@ mod heard;
 mod log;
 mod progress;
 mod publishing;
+mod reloading;
 mod serving;
 mod site;
 mod slots;
@@ -20,6 +21,7 @@ mod summary;
 mod wall_clock;
 
 pub use client::Client;
+pub use reloading::ReadsFiles;
 pub use serving::{Serving, serve_of};
 
 #[cfg(test)]

@@ -1,6 +1,6 @@
 //! What is told on standard error.
 
-use cs_serve::{ProgramFault, tell};
+use cs_serve::tell;
 use cs_session::ServeFault;
 use cs_wire::{RBody, RMessage, TBody, TMessage, WireFault, decode, decode_r};
 use std::alloc::{AllocError, Global};
@@ -59,8 +59,8 @@ impl<E: Write> Log<'_, E> {
         let _unheard = writer.flush();
     }
 
-    /// Tells why the program is to end with status 1.
-    pub(crate) fn fault(&self, rt: &impl Wait, fault: &ProgramFault) {
+    /// Tells what is wrong.
+    pub(crate) fn fault(&self, rt: &impl Wait, fault: &impl fmt::Display) {
         self.line(rt, &format_args!("crashfs: {fault}"));
     }
 
@@ -74,7 +74,8 @@ impl<E: Write> Log<'_, E> {
     /// Tells that all states are published.
     pub(crate) fn published(&self, rt: &impl Wait, states: u32) {
         if self.verbose || self.progress {
-            self.line(rt, &format_args!("published {states} states"));
+            let word = if states == 1 { "state" } else { "states" };
+            self.line(rt, &format_args!("published {states} {word}"));
         }
     }
 

@@ -6,6 +6,7 @@ use crate::client::Client;
 use crate::entrance::Entrance;
 use crate::log::Log;
 use crate::publishing::publish;
+use crate::reloading::{ReadsFiles, Reloading};
 use crate::site::Site;
 use crate::slots::{start_slots, start_watch};
 use crate::summary::print_runs;
@@ -34,6 +35,8 @@ pub struct Serving<'a> {
     pub again: bool,
     /// Whether all states are published before the first connection is accepted.
     pub ready: bool,
+    /// The path of the users file, if it is read again after each accept.
+    pub reload: Option<&'a str>,
     /// Whose clients connect.
     pub client: Client,
     /// Whether it is told how far publishing is.
@@ -49,6 +52,21 @@ pub(crate) fn server_of(alloc: Global, inputs: &Inputs) -> Result<Server<AnyScen
     };
     match SharedRegistry::new(alloc, scene, users) {
         Ok(registry) => Ok(Server::new(registry)),
+        Err(_) => Err(ProgramFault::Memory),
+    }
+}
+
+/// The users file, if it is to be read again.
+fn reloading_of(
+    alloc: Global,
+    inputs: &Inputs,
+    serving: Serving,
+) -> Result<Option<Reloading>, ProgramFault> {
+    let Some(path) = serving.reload else {
+        return Ok(None);
+    };
+    match Reloading::new(alloc, path, inputs.users) {
+        Ok(reloading) => Ok(Some(reloading)),
         Err(_) => Err(ProgramFault::Memory),
     }
 }
@@ -76,14 +94,17 @@ fn listen<R: Net<Listener = TcpListener, Stream = TcpStream>, W: Write>(
 
 /// Accepts connections and serves each in a thread until all have ended, and publishes meanwhile if that
 /// is still to be done: whether no fault was told.
-fn serve_each<'s, R: Threads + Wait + Clock + Sync, I: Read + Drop + Send, E: Write + Send>(
+fn serve_each<'s, R, I: Read + Drop + Send, E: Write + Send>(
     rt: &'s R,
     alloc: Global,
     site: &'s Site,
     serving: Serving,
     input: I,
     log: Log<'s, E>,
-) -> bool {
+) -> bool
+where
+    R: Threads + Wait + Clock + ReadsFiles + Sync,
+{
     let Serving {
         workers,
         connections,
@@ -122,9 +143,10 @@ fn serve<R, I: Read + Drop + Send, W: Write, E: Write + Send>(
     log: Log<E>,
 ) -> Result<bool, ProgramFault>
 where
-    R: Net<Listener = TcpListener, Stream = TcpStream> + Threads + Wait + Clock + Sync,
+    R: Net<Listener = TcpListener, Stream = TcpStream> + Threads + Wait + Clock + ReadsFiles + Sync,
 {
     let server = server_of(alloc, inputs)?;
+    let reloading = reloading_of(alloc, inputs, serving)?;
     if serving.ready && !publish(rt, alloc, &server, serving.workers, log) {
         return Ok(false);
     }
@@ -134,7 +156,7 @@ where
     } else {
         Some(serving.connections)
     };
-    let site = Site::new(alloc, server, Entrance::new(listener, left));
+    let site = Site::new(alloc, server, Entrance::new(listener, left), reloading);
     let served = serve_each(rt, alloc, &site, serving, input, log);
     let failed = site.entrance.failed(rt);
     let (server, passes) = site.into_parts();
@@ -151,8 +173,12 @@ where
 /// whose bytes count for nothing. Then it listens no more, serves those that it has to their end, and ends.
 /// Without `again` nothing is read of `input`.
 ///
-/// Its status: 0, or 1 where a fault was told, each by a line on `err`. A fault of a connection is none of
-/// the command. Where accepting or publishing fails while there are connections, these are served to their
+/// With `reload` it reads the users file again after each accept: runs that are made from then on have its
+/// users. Where it can't be read, is no users file, or memory is wanting, that is told by a line on `err`, and
+/// the list stays.
+///
+/// Its status: 0, or 1 where a fault was told, each by a line on `err`. A fault of a connection, or of a users
+/// file that is read again, is none of the command. Where accepting or publishing fails while there are connections, these are served to their
 /// end, and the runs are printed; with `again` not before `input` ends. Where the inputs ask for it, `err`
 /// also gets a line for each connection that comes and for each that ends, each message with its reply, and
 /// each attach that was granted. It may wait for clients for ever.
@@ -166,7 +192,7 @@ pub fn serve_of<R, I: Read + Drop + Send, W: Write, E: Write + Send>(
     err: &Mutex<E>,
 ) -> u8
 where
-    R: Net<Listener = TcpListener, Stream = TcpStream> + Threads + Wait + Clock + Sync,
+    R: Net<Listener = TcpListener, Stream = TcpStream> + Threads + Wait + Clock + ReadsFiles + Sync,
     ensures { result ≤ 1 }
 {
     let log = Log {

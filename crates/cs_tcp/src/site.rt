@@ -1,25 +1,34 @@
 //! What the threads of connections share.
 
 use crate::entrance::Entrance;
+use crate::reloading::Reloading;
 use cs_server::{Connection, GivenPasses, Server};
 use cs_shared::AnyScene;
 use std::alloc::Global;
 use std::sync::{Mutex, Wait};
 
-/// A server, where its connections come in, and the passes of those that ended.
+/// A server, where its connections come in, its users file if that is read again, and the passes of the
+/// connections that ended.
 #[derive(Drop)]
 pub(crate) struct Site {
     pub(crate) server: Server<AnyScene>,
     pub(crate) entrance: Entrance,
+    pub(crate) reloading: Option<Reloading>,
     passes: Mutex<GivenPasses>,
 }
 
 impl Site {
     /// That of a server of which no connection ended.
-    pub(crate) fn new(alloc: Global, server: Server<AnyScene>, entrance: Entrance) -> Site {
+    pub(crate) fn new(
+        alloc: Global,
+        server: Server<AnyScene>,
+        entrance: Entrance,
+        reloading: Option<Reloading>,
+    ) -> Site {
         Site {
             server,
             entrance,
+            reloading,
             passes: Mutex::new(GivenPasses::new(alloc)),
         }
     }

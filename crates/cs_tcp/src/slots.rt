@@ -4,6 +4,7 @@ use crate::client::Client;
 use crate::connection;
 use crate::entrance::{Admitted, Entrance};
 use crate::log::Log;
+use crate::reloading::ReadsFiles;
 use crate::site::Site;
 use cs_serve::ProgramFault;
 use std::alloc::Global;
@@ -12,8 +13,9 @@ use std::rt::Clock;
 use std::sync::Wait;
 use std::thread::Scope;
 
-/// Serves connections until no more come in, and keeps the passes of each.
-fn serve_slot<R: Wait + Clock, E: Write>(
+/// Serves connections until no more come in, and keeps the passes of each. Before one is served the users
+/// file is read again, if it is to be.
+fn serve_slot<R: Wait + Clock + ReadsFiles, E: Write>(
     rt: &R,
     alloc: Global,
     site: &Site,
@@ -25,6 +27,9 @@ fn serve_slot<R: Wait + Clock, E: Write>(
         match admitted {
             Admitted::Connection(conn, stream, from) => {
                 log.accepted(rt, conn, from);
+                if let Some(reloading) = &site.reloading {
+                    reloading.again(rt, alloc, site.server.registry(), log);
+                }
                 let ended = connection::serve(rt, alloc, &site.server, stream, conn, client, log);
                 if let Some(ended) = ended {
                     site.keep(rt, alloc, ended);
@@ -41,7 +46,7 @@ fn serve_slot<R: Wait + Clock, E: Write>(
 
 /// Starts so many threads that serve connections: whether it did. Else it told why, and closed the
 /// entrance.
-pub(crate) fn start_slots<'s, Env, R: Wait + Clock + Sync, E: Write + Send>(
+pub(crate) fn start_slots<'s, Env, R: Wait + Clock + ReadsFiles + Sync, E: Write + Send>(
     scope: &'s Scope<'s, Env>,
     rt: &'s R,
     alloc: Global,

@@ -5,6 +5,7 @@ mod fixture;
 mod linux;
 mod loopback;
 mod refusals;
+mod reloads;
 mod renames;
 mod telling;
 mod workers;

@@ -1,6 +1,6 @@
 -- What is kept of one line more.
 use Rattle.std.proofs.Common.{◌≡◌, ℕ, ◌+◌, ◌<◌, ◌==◌, ◌&&◌, ◌||◌, Bool, true, false, List, [], ◌∷◌, ◌++◌, length, get_or, sym, subst, ap, ◌∙◌, refl, ⊎_elim, arith}
-use Rattle.std.specs.Prelude.{Option, None, Some, option_to_list}
+use Rattle.std.specs.Prelude.{IfSome, Option, None, Some, option_to_list}
 use Rattle.std.specs.List.{filter_map}
 use Rattle.std.specs.List.Sorted.{IsStrictlyIncreasing}
 use Rattle.std.specs.Option.{option_map_or}
@@ -10,6 +10,8 @@ use Rattle.std.proofs.lemmas.List.Elements.{filter_map-append}
 use Rattle.std.proofs.lemmas.Option.{slice_get-get_or}
 use Rattle.cs_users.specs.declared.groups.Group.{Group}
 use Rattle.cs_users.specs.Groups.{leader_of, members_of, name_at, somebody_at}
+use Rattle.cs_users.specs.declared.marks.Marks.{Marks}
+use Rattle.cs_users.specs.Marks.{AreMarks, is_marked}
 use Rattle.cs_users.specs.Kept.{AreGroups, AreKept, IsGroup}
 use Rattle.cs_users.specs.Members.{is_leader, is_member}
 use Rattle.cs_users.specs.Rows.{Row, AreNamed}
@@ -52,6 +54,13 @@ so_member leads led empty member is untold told = sym (is ∙ rw untold (rw told
 so_none : (leads led empty member : Bool) → leads ≡ (led || (empty && member)) → led ≡ false → empty ≡ false → false ≡ leads
 so_none leads led empty member is untold none = sym (is ∙ rw untold (rw none refl))
 
+-- ---- a mark says whether a row is a member
+
+so_marked : (marks : Option Marks) (count user : ℕ) (places members : List ℕ) → members ≡ places → user < count → IfSome marks (λ m. AreMarks count places m.words.items)
+    → IfSome marks (λ m. is_marked m.words.items user ≡ has members user)
+so_marked None count user places members same within are = are
+so_marked (Some m) count user places members same within are = are user within ∙ ap (λ (xs : List ℕ). has xs user) (sym same)
+
 -- ---- what a users file keeps, of the rows that are seen of it
 
 module _ (rows : List Row) (groups : List Group) (kept : AreKept rows groups) (now : List Row) (view : rows ≡ now) where
@@ -76,6 +85,11 @@ module _ (rows : List Row) (groups : List Group) (kept : AreKept rows groups) (n
 
     pub member_kept : (user : ℕ) → user < length now → has group.members.items user ≡ is_member now (name_at now user) (name_at now at)
     member_kept user within = ap (λ (xs : List ℕ). has xs user) members_kept ∙ has-members_of now at user within
+
+    pub marked_kept : (user : ℕ) → user < length now → IfSome group.marks (λ m. is_marked m.words.items user ≡ has group.members.items user)
+    marked_kept user within =
+        so_marked group.marks (length now) user (members_of now at) group.members.items members_kept within
+        (subst (λ (g : Group). IfSome g.marks (λ m. AreMarks (length now) (members_of now at) m.words.items)) (sym is) (kept_now.each at group low).marks)
 
     leader_kept : (user : ℕ) (row : Row) → user < length now → row ≡ get_or rows at row
         → is_leader now (name_at now user) (name_at now at) ≡ (is_at group.leader user || ((length row.leader == 0) && is_member now (name_at now user) (name_at now at)))

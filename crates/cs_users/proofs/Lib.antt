@@ -4,6 +4,7 @@ pub mod Grouping
 pub mod Keys
 pub mod Lines
 pub mod Membership
+pub mod Marking
 pub mod Naming
 pub mod Places
 pub mod Texts

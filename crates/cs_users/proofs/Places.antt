@@ -1,5 +1,5 @@
 -- The places of the rows, and what is found there.
-use Rattle.std.proofs.Common.{◌≡◌, ℕ, suc, ◌+◌, ◌<◌, ◌≤◌, Bool, true, false, cond, not, ◌||◌, List, Vec, [], ◌∷◌, ◌++◌, length, refl, sym, ap, ◌∙◌, ⊎_elim, arith}
+use Rattle.std.proofs.Common.{◌≡◌, ℕ, suc, ◌+◌, ◌<◌, ◌≤◌, Bool, true, false, cond, not, ◌||◌, List, Vec, [], ◌∷◌, ◌++◌, length, get_or, refl, sym, ap, ◌∙◌, ⊎_elim, arith, take}
 use Rattle.std.specs.Prelude.{Option, Some, None, nat_eq, nat_lt, ◌==◌, slice_index_or}
 use Rattle.std.specs.Global.{Global}
 use Rattle.std.specs.HashMap.{HashMap, UpdatesBy}
@@ -8,10 +8,10 @@ use Rattle.std.specs.declared.hash.BuildHasherDefault.{BuildHasherDefault}
 use Rattle.std.specs.declared.hash.FoldHasher.{FoldHasher}
 use Rattle.std.specs.List.{find, list_any, position, position_or_len, slice_get}
 use Rattle.std.specs.Option.{is_some, option_map_or}
-use Rattle.std.proofs.lemmas.Bool.{cases_lt}
+use Rattle.std.proofs.lemmas.Bool.{cases_Bool, cases_lt}
 use Rattle.std.proofs.lemmas.Bool.Decides.{nat_tests}
-use Rattle.std.proofs.lemmas.List.{length_push}
-use Rattle.std.proofs.lemmas.List.Folds.{find_at, list_any_at, position_or_len_push}
+use Rattle.std.proofs.lemmas.List.{get_or-take, length-take, length_push}
+use Rattle.std.proofs.lemmas.List.Folds.{find_at, list_any_at, list_any_none, position_or_len_push}
 use Rattle.std.proofs.lemmas.List.Quantifiers.{position-Some}
 use Rattle.std.proofs.lemmas.List.Sums.{prefix_len-le-length}
 use Rattle.std.proofs.lemmas.Option.{slice_get_past, slice_get_read, slice_get-get_or}
@@ -147,3 +147,14 @@ pub name_at-place_of : (rows : List Row) (name : List ℕ) (place : ℕ) (d : Ro
 name_at-place_of rows name place d e =
     let at = row_at_place rows name place d e in
     name_at-row rows place d at.0 ∙ at.1
+
+-- no row before a row has its name
+pub unknown_before : (rows : List Row) (i : ℕ) (row : Row) → AreNamed rows → i < length rows → ((d : Row) → row ≡ get_or rows i d) → is_known (take i rows) row.name ≡ false
+unknown_before rows i row named low is =
+    list_any_none (λ r. same_name r.name row.name) (take i rows) (λ k d within. ⊎_elim
+    (λ (same : same_name (get_or (take i rows) k d).name row.name ≡ true).
+    let before : k < i = let long = length-take i rows in omega arith in
+    let equal = (bytes_decides (get_or (take i rows) k d).name row.name).0 same in
+    absurd (named.distinct k i d before low (ap (λ (r : Row). r.name) (sym (get_or-take i rows k d before)) ∙ equal ∙ ap (λ (r : Row). r.name) (is d))))
+    (λ differs. differs)
+    (cases_Bool (same_name (get_or (take i rows) k d).name row.name)))

@@ -4,6 +4,7 @@ pub mod Fields
 pub mod Members
 pub mod Groups
 pub mod Kept
+pub mod Marks
 pub mod Places
 pub mod Reading
 pub mod Rights

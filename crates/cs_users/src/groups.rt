@@ -1,12 +1,14 @@
 //! What the lines of a users file say of other lines, as places of rows.
-ghost use Rattle.std.specs.Prelude.{◌≡◌, ◌==◌, ◌<◌, ◌++◌, ◌∷◌, [], false, length, IfOk};
+ghost use Rattle.std.specs.Prelude.{◌≡◌, ◌==◌, ◌<◌, ◌++◌, ◌∷◌, [], false, length, IfOk, IfSome};
 ghost use Rattle.std.specs.List.{filter_map, list_any};
 ghost use Rattle.std.specs.List.Sorted.{IsStrictlyIncreasing};
 ghost use Rattle.std.specs.Option.{option_map_or};
 ghost use Rattle.cs_users.specs.Groups.{somebody_at};
 ghost use Rattle.cs_users.specs.Kept.{AreGroups, IsGroup};
+ghost use Rattle.cs_users.specs.Marks.{AreMarks, is_marked};
 ghost use Rattle.cs_users.specs.Rows.{AreNamed};
 
+use crate::marks::Marks;
 use crate::row::Row;
 use crate::rows::Rows;
 use std::alloc::{AllocError, Global};
@@ -17,7 +19,13 @@ pub(crate) struct Group {
     leader: Option<usize>,
     // they ascend
     members: Vec<usize>,
+    // the same as bits, where they are many
+    marks: Option<Marks>,
 }
+
+/// Up to one member among so many rows is found by a search: then marks would take more than four
+/// times the room of the members.
+const FEW_AMONG: usize = 256;
 
 /// The places of those that the line lists, as they come.
 fn listed(alloc: Global, rows: &Rows, row: &Row) -> Result<Vec<usize>, AllocError>
@@ -39,6 +47,20 @@ fn belonging(alloc: Global, rows: &Rows, row: &Row) -> Result<Vec<usize>, AllocE
     Ok(places)
 }
 
+/// A mark at each of these places, among so many rows, where they are many.
+fn marks_if_many(
+    alloc: Global,
+    count: usize,
+    members: &[usize],
+) -> Result<Option<Marks>, AllocError>
+    ensures { IfOk result (λ kept. IfSome kept (λ marks. AreMarks count members.now marks.words.items)) }
+{
+    if members.len() <= count / FEW_AMONG {
+        return Ok(None);
+    }
+    Ok(Some(Marks::of(alloc, count, members)?))
+}
+
 impl Group {
     /// What the line at that place says.
     fn of(alloc: Global, rows: &Rows, place: usize) -> Result<Group, AllocError>
@@ -49,9 +71,11 @@ impl Group {
         let mut members = belonging(alloc, rows, row)?;
         members.sort_unstable();
         members.dedup();
+        let marks = marks_if_many(alloc, rows.len(), members.as_slice())?;
         Ok(Group {
             leader: rows.somebody_at(row.leader()),
             members,
+            marks,
         })
     }
 
@@ -63,10 +87,14 @@ impl Group {
 
     /// Whether the user at that place is a member.
     pub(crate) fn has(&self, user: usize) -> bool
-        requires { IsStrictlyIncreasing self.now.members.items }
+        requires ascending { IsStrictlyIncreasing self.now.members.items }
+        requires marked { IfSome self.now.marks (λ marks. is_marked marks.words.items user ≡ list_any (λ place. place == user) self.now.members.items) }
         ensures { result ≡ list_any (λ place. place == user) self.now.members.items }
     {
-        self.members.binary_search(&user).is_ok()
+        match &self.marks {
+            Some(marks) => marks.has(user),
+            None => self.members.binary_search(&user).is_ok(),
+        }
     }
 
     /// Whether the line names the user at that place as the leader.

@@ -5,6 +5,7 @@
 pub mod fault;
 mod groups;
 mod keeping;
+mod marks;
 mod reading;
 pub mod rights;
 mod row;

@@ -97,6 +97,18 @@ impl Row {
         })
     }
 
+    /// The same row again.
+    pub(crate) fn try_clone(&self) -> Result<Row, AllocError>
+        ensures { IfOk result (λ row. row ≡ self.now) }
+    {
+        Ok(Row {
+            id: self.id.clone()?,
+            name: self.name.try_clone()?,
+            leader: self.leader.clone()?,
+            members: self.members.clone()?,
+        })
+    }
+
     pub(crate) fn name(&self) -> &[u8]
         ensures value { result.now ≡ self.now.name }
         ensures legal { IsUserName self.now.name }

@@ -62,6 +62,17 @@ impl Rows {
         Ok(Rows { rows, places })
     }
 
+    /// The same rows again.
+    pub(crate) fn try_clone(&self, alloc: Global) -> Result<Rows, AllocError>
+        ensures { IfOk result (λ copy. copy ≡ self.now) }
+    {
+        let mut copy = Rows::new(alloc);
+        for row in &self.rows {
+            copy = copy.with(alloc, row.try_clone()?)?;
+        }
+        Ok(copy)
+    }
+
     pub(crate) fn len(&self) -> usize
         ensures value { result ≡ length self.now }
         ensures named { AreNamed self.now }

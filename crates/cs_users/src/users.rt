@@ -15,7 +15,7 @@ use crate::keeping::keep_lines;
 use crate::reading::check_lines;
 use crate::rows::Rows;
 use cs_names::is_text;
-use std::alloc::Global;
+use std::alloc::{AllocError, Global};
 use std::marker::Model;
 
 /// The users and groups of a users file, users(6), each with a legal name of its own. Contracts see
@@ -70,6 +70,15 @@ impl Users {
         ensures fault { IfErr result (λ fault. (fault ≡ UsersFault.Memory) ⊎ (rows_or_fault (pieces 10 text.now) ≡ Err fault)) }
     {
         let rows = keep_lines(alloc, text)?;
+        let groups = groups_of(alloc, &rows)?;
+        Ok(Users { rows, groups })
+    }
+
+    /// The same users again.
+    pub fn try_clone(&self, alloc: Global) -> Result<Users, AllocError>
+        ensures { IfOk result (λ copy. copy ≡ self.now) }
+    {
+        let rows = self.rows.try_clone(alloc)?;
         let groups = groups_of(alloc, &rows)?;
         Ok(Users { rows, groups })
     }

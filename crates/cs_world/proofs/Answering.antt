@@ -28,9 +28,8 @@ module _ (w : World) (ok : AreThere w) (conn : ℕ) (s' : Sess) (same : s'.pendi
   pub stays : ((fid : ℕ) (e : Entry) → entry_at s' fid ≡ Some e → entry_at (connection w conn) fid ≡ Some e) → Moves w conn s' w.registry
   stays kept = record {
     scene = refl;
-    users = refl;
     published = refl;
-    runs = λ place key run there. Stood run there refl refl (λ h. h) (let c = same_count place in omega (arith, c)) (λ f. f);
+    runs = λ place key run there. Stood run there refl (λ h. h) (let c = same_count place in omega (arith, c)) (λ f. f);
     gave = λ place pass h. h;
     there = λ place h. h;
     awaited = λ p waits. ok.awaited conn p (sym same ∙ waits);
@@ -52,7 +51,6 @@ module _ (w : World) (ok : AreThere w) (conn n : ℕ) (key : Key) (run : Found R
   -- what the change has to keep
   pub record Changes : Type 0 where
     pub fresh : (new run).held.fresh ≡ run.held.fresh
-    pub users : (new run).held.users ≡ run.held.users
     pub room : HasRoom (state_of run.held) → HasRoom (state_of (new run).held)
     pub more : run.held.passes ≤ (new run).held.passes
     pub own : (new run).held.passes + one_if (awaits n s') + run.finds ≤ run.held.passes + one_if (awaits n (connection w conn)) + (new run).finds
@@ -73,11 +71,11 @@ module _ (w : World) (ok : AreThere w) (conn n : ℕ) (key : Key) (run : Found R
         let finds : run'.finds ≡ (new run).finds = ap (λ (x : Found RunOf). x.finds) (sym its_run) in
         let count : one_if (awaits place s') ≡ one_if (awaits n s') = ap (λ q. one_if (awaits q s')) same in
         let count_then : one_if (awaits place (connection w conn)) ≡ one_if (awaits n (connection w conn)) = ap (λ q. one_if (awaits q (connection w conn))) same in
-        Stood run (ap (slice_get w.registry.runs) same ∙ is ∙ ap (λ k. Some (k, run)) its_key) (ap (λ (x : Found RunOf). x.held.fresh) (sym its_run) ∙ c.fresh) (ap (λ (x : Found RunOf). x.held.users) (sym its_run) ∙ c.users)
+        Stood run (ap (slice_get w.registry.runs) same ∙ is ∙ ap (λ k. Some (k, run)) its_key) (ap (λ (x : Found RunOf). x.held.fresh) (sym its_run) ∙ c.fresh)
         (λ h. subst (λ (x : Found RunOf). HasRoom (state_of x.held)) its_run (c.room h)) (omega (arith, c.own, passes, finds, count, count_then)) (λ f. let small = c.few f in omega (arith, small, finds))
     came_by place false e key' run' there =
         let ne : place ≢ n = eqb-false place n e in
-        Stood run' (sym (elsewhere place ne) ∙ there) refl refl (λ h. h) (let few = c.others place ne in omega (arith, few)) (λ f. f)
+        Stood run' (sym (elsewhere place ne) ∙ there) refl (λ h. h) (let few = c.others place ne in omega (arith, few)) (λ f. f)
 
     gave_by : (place pass : ℕ) (b : Bool) → (place == n) ≡ b → Gave w.registry place pass → Gave after place pass
     gave_by place pass true e h =
@@ -108,7 +106,6 @@ module _ (w : World) (ok : AreThere w) (conn n : ℕ) (key : Key) (run : Found R
     pub changes : Moves w conn s' after
     changes = record {
       scene = refl;
-      users = refl;
       published = refl;
       runs = λ place key' run' there. came_by place (place == n) refl key' run' there;
       gave = λ place pass h. gave_by place pass (place == n) refl h;

@@ -15,7 +15,7 @@ use Rattle.cs_plan.specs.Scenes.{Scene}
 use Rattle.cs_registry.specs.Keys.{Key}
 use Rattle.cs_registry.specs.Naming.{key_in}
 use Rattle.cs_registry.specs.Publishing.{with_published}
-use Rattle.cs_registry.specs.Registries.{Registry, is_published}
+use Rattle.cs_registry.specs.Registries.{Registry, is_published, with_users}
 use Rattle.cs_registry.specs.Runs.{place_of}
 use Rattle.cs_fids.specs.Entries.{pass_of, run_of}
 use Rattle.cs_fids.specs.Tables.{FidMap}
@@ -31,14 +31,14 @@ use Rattle.cs_session.specs.Steps.{Front, Done, Asks, after, front_by}
 use Rattle.cs_session.specs.Steps as c
 use Rattle.cs_users.specs.Rows.{Row}
 use Rattle.cs_world.specs.declared.reply.Reply.{Reply}
-use Rattle.cs_world.specs.declared.reply.Reply.TheVariants.{Connection, Published, Unpublished as Refused}
+use Rattle.cs_world.specs.declared.reply.Reply.TheVariants.{Connection, NotReloaded, Published, Reloaded, Unpublished as Refused}
 use Rattle.cs_world.specs.declared.reply.StateFault.TheVariants as state
 use Rattle.cs_world.specs.declared.step.Step.{Step}
 use Rattle.cs_world.specs.declared.step.Step.TheVariants as t
 use Rattle.cs_world.specs.Asking.{answered, found_by}
 use Rattle.cs_world.specs.Groups.{NoneMeetsLimit, first_replies, first_steps, is_first, key_found, key_of, meets_limit, needs_room}
 use Rattle.cs_world.specs.Lists.{steps_of}
-use Rattle.cs_world.specs.Marks.{Mark, RunMark, below, in_run, refuses_shelf, refuses_state, refuses_table}
+use Rattle.cs_world.specs.Marks.{Mark, RunMark, below, in_run, refuses_shelf, refuses_state, refuses_table, refuses_users}
 use Rattle.cs_world.specs.Projections.{of_front}
 use Rattle.cs_world.specs.Runs.{attached, called}
 use Rattle.cs_world.specs.Steps.{by_registry, goes_from, step_of}
@@ -280,6 +280,32 @@ module _ (mine : ℕ → Bool) (ours : Key → Bool) where
         (λ i. (nat_lt number (length (sym a.runs.scene i).plan), slice_index_or (sym a.runs.published i) number false))
         (shelved_both number (not (nat_lt number (length v.registry.scene.plan))) (refuses_state mark) (is_published v.registry number) (refuses_shelf mark))
 
+    reload_both : (users : List Row) (refused : Bool)
+        → Alike (by_registry w (cond {A = Reply × Registry RunOf} refused (NotReloaded, w.registry) (Reloaded, with_users w.registry users)))
+        (by_registry v (cond {A = Reply × Registry RunOf} refused (NotReloaded, v.registry) (Reloaded, with_users v.registry users)))
+    reload_both users true = stays_alike NotReloaded
+    reload_both users false = record {
+      to = f;
+      said = refl;
+      agree = record {
+        runs = record {
+          scene = a.runs.scene;
+          users = refl;
+          published = a.runs.published;
+          runs = a.runs.runs;
+          known = a.runs.known;
+          apart = a.runs.apart;
+          owned = a.runs.owned;
+          fewer = a.runs.fewer;
+        };
+        all = a.all;
+        rest = a.rest;
+        own = a.own;
+        inside = a.inside;
+        theirs = a.theirs;
+      };
+    }
+
     turn_both : (conn now : ℕ) (x : c.Step) (mark : Mark) → mine conn ≡ true → ((k : Key) → key_found x ≡ Some k → ours k ≡ mine conn)
         → (b : Bool) → nat_lt conn CONNECTIONS ≡ b
         → list_any (needs_room w.registry) (cond b (of_front (λ question. question ∷ []) (front_by now (connection w conn) x (refuses_table mark))) []) ≡ false
@@ -298,6 +324,7 @@ module _ (mine : ℕ → Bool) (ours : Key → Bool) where
 
     step_both : (x : Step) (mark : Mark) → is_first mine x ≡ true → Owned x → meets_limit w x mark ≡ false → Alike (step_of w x mark) (step_of v x mark)
     step_both (t.Publish number) mark is own few = publish_both number mark
+    step_both (t.Reload users) mark is own few = reload_both users (refuses_users mark)
     step_both (t.Find conn message) mark is own few = turn_both conn 0 (c.FindStep message) mark is own (nat_lt conn CONNECTIONS) refl few
     step_both (t.Attach conn now) mark is own few = turn_both conn now c.AttachStep mark is own (nat_lt conn CONNECTIONS) refl few
     step_both (t.Call conn now message) mark is own few = turn_both conn now (c.CallStep message) mark is own (nat_lt conn CONNECTIONS) refl few
@@ -306,6 +333,7 @@ module _ (mine : ℕ → Bool) (ours : Key → Bool) where
 
     step_other : (x : Step) (mark : Mark) → is_first mine x ≡ false → Owned x → Agree f (step_of w x mark).1 v
     step_other (t.Publish number) mark is own = absurd (cc)
+    step_other (t.Reload users) mark is own = absurd (cc)
     step_other (t.Find conn message) mark is own = turn_other conn 0 (c.FindStep message) mark is own (nat_lt conn CONNECTIONS) refl
     step_other (t.Attach conn now) mark is own = turn_other conn now c.AttachStep mark is own (nat_lt conn CONNECTIONS) refl
     step_other (t.Call conn now message) mark is own = turn_other conn now (c.CallStep message) mark is own (nat_lt conn CONNECTIONS) refl

@@ -25,17 +25,17 @@ use Rattle.cs_session.specs.Steps.{Front, Done, Asks, Step, FindStep, AttachStep
 use Rattle.cs_users.specs.Rows.{Row}
 use Rattle.cs_world.specs.declared.reply.Reply.{Reply}
 use Rattle.cs_world.specs.declared.reply.Reply.TheVariants.{Connection}
-use Rattle.cs_world.specs.declared.reply.Reply.TheVariants.{Published, Unpublished}
+use Rattle.cs_world.specs.declared.reply.Reply.TheVariants.{NotReloaded, Published, Reloaded, Unpublished}
 use Rattle.cs_world.specs.declared.reply.StateFault.TheVariants as f
 use Rattle.cs_world.specs.declared.step.Step as t
 use Rattle.cs_world.specs.declared.step.Step.TheVariants as s
 use Rattle.cs_journal.specs.Runs.{RunOf}
 use Rattle.cs_registry.specs.Publishing.{with_published}
-use Rattle.cs_registry.specs.Registries.{Registry}
+use Rattle.cs_registry.specs.Registries.{Registry, with_users}
 use Rattle.cs_fids.specs.Tables.{FidMap}
 use Rattle.cs_registry.specs.Naming.{key_in}
 use Rattle.cs_world.specs.Asking.{answered}
-use Rattle.cs_world.specs.Marks.{Mark, RunMark, below, refuses_table}
+use Rattle.cs_world.specs.Marks.{Mark, RunMark, below, refuses_table, refuses_users}
 use Rattle.cs_world.specs.Reached.{Gave, AreThere}
 use Rattle.cs_world.specs.Steps.{by_registry, goes_from, on_connection, step_of}
 use Rattle.cs_world.specs.Worlds.{World, connection, new_world}
@@ -149,7 +149,6 @@ module _ (w : World) (ok : AreThere w) where
       room = was.room;
       published = index_set_true w.registry.published number key.number was.published;
       fresh = was.fresh;
-      users = was.users;
     });
     awaited = ok.awaited;
     fids = ok.fids;
@@ -162,9 +161,29 @@ module _ (w : World) (ok : AreThere w) where
   publish_by number false false false true = ok
   publish_by number false false false false = more_published number
 
+  other_users : (users : List Row) → AreThere (record w { registry = with_users w.registry users })
+  other_users users = record {
+    all = ok.all;
+    states = ok.states;
+    runs = λ place key run there. (let was = ok.runs place key run there in record {
+      attaches = was.attaches;
+      few = was.few;
+      room = was.room;
+      published = was.published;
+      fresh = was.fresh;
+    });
+    awaited = ok.awaited;
+    fids = ok.fids;
+  }
+
+  reload_by : (users : List Row) (refused : Bool) → AreThere (by_registry w (cond {A = Reply × Registry RunOf} refused (NotReloaded, w.registry) (Reloaded, with_users w.registry users))).1
+  reload_by users true = ok
+  reload_by users false = other_users users
+
   -- each step keeps it
   pub step_keeps : (x : t.Step) (mark : Mark) → AreThere (step_of w x mark).1
   step_keeps (s.Publish number) mark = publish_by number _ _ _ _
+  step_keeps (s.Reload users) mark = reload_by users (refuses_users mark)
   step_keeps (s.Find conn message) mark = connection_keeps w ok conn 0 (FindStep message) mark
   step_keeps (s.Attach conn now) mark = connection_keeps w ok conn now AttachStep mark
   step_keeps (s.Call conn now message) mark = connection_keeps w ok conn now (CallStep message) mark

@@ -41,7 +41,7 @@ use Rattle.cs_world.specs.Reaching.{IsMade}
 use Rattle.cs_world.specs.Runs.{attached, called, run_step, with_pass}
 use Rattle.cs_world.specs.Worlds.{World, connection}
 use Rattle.cs_world.proofs.Answering.{changes, stays}
-use Rattle.cs_world.proofs.Judging.{judged, keeps_fresh, keeps_passes, keeps_room, keeps_users}
+use Rattle.cs_world.proofs.Judging.{judged, keeps_fresh, keeps_passes, keeps_room}
 use Rattle.cs_world.proofs.Placing.{get_end, get_kept, get_pushed, get_within}
 use Rattle.cs_world.proofs.Reached.{given_is}
 use Rattle.cs_world.proofs.Standing.{Made, Moves, Stood, gave, given, held_there, is_there, one_if, stands}
@@ -66,7 +66,6 @@ module _ (w : World) (ok : AreThere w) (conn : ℕ) (x : AttachMessage) (idle : 
       let ends : nat_le RUN_ATTACHES run.finds ≡ false = rw there at room in
       changes w ok conn n key run there (λ f. record f { finds = f.finds + 1 }) (waits_at n) (record {
         fresh = refl;
-        users = refl;
         room = λ h. h;
         more = omega arith;
         own = (let most = at_most_one (awaits n (waits_at n)) in omega (arith, most));
@@ -90,11 +89,10 @@ module _ (w : World) (ok : AreThere w) (conn : ℕ) (x : AttachMessage) (idle : 
       let stood : (place : ℕ) (key' : Key) (run' : Found RunOf) → slice_get w.registry.runs place ≡ Some (key', run') → slice_get more.runs place ≡ Some (key', run') = λ place key' run' is. get_kept w.registry.runs ((key, one) ∷ []) place (key', run') is in
       record {
         scene = refl;
-        users = refl;
         published = refl;
         runs = λ place key' run' there. elim (get_pushed w.registry.runs place (key, one) (key', run') there) [
           | inl here ↦ Made here.0 (subst (λ (y : Key × Found RunOf). IsMade w.registry y.0 y.1) (sym here.1) new)
-          | inr old ↦ Stood run' old.1 refl refl (λ h. h) (let none = waits_there (length w.registry.runs) place old.0 in omega (arith, none)) (λ f. f)
+          | inr old ↦ Stood run' old.1 refl (λ h. h) (let none = waits_there (length w.registry.runs) place old.0 in omega (arith, none)) (λ f. f)
         ];
         gave = λ place pass h. (let g = given w.registry place pass h in gave more place pass g.key g.run (stood place g.key g.run g.there) g.gave);
         there = λ place h. (let g = stands w.registry place h in is_there more place g.key g.run (stood place g.key g.run g.there));
@@ -140,13 +138,12 @@ module _ (w : World) (ok : AreThere w) (conn : ℕ) (p : Awaited) (waits : (conn
   own_count = rw waits (ap one_if (eq-eqb p.run p.run refl))
 
   -- the run changes, and awaits the attach no more
-  enters : (held : RunOf) → held.fresh ≡ run.held.fresh → held.users ≡ run.held.users → (HasRoom (state_of run.held) → HasRoom (state_of held)) → run.held.passes ≤ held.passes → held.passes ≤ run.held.passes + 1 → (s' : Sess) → s'.pending ≡ None
+  enters : (held : RunOf) → held.fresh ≡ run.held.fresh → (HasRoom (state_of run.held) → HasRoom (state_of held)) → run.held.passes ≤ held.passes → held.passes ≤ run.held.passes + 1 → (s' : Sess) → s'.pending ≡ None
       → ((fid : ℕ) (e : Entry) → entry_at s' fid ≡ Some e → (entry_at (connection w conn) fid ≡ Some e) ⊎ ((run_of e ≡ p.run) × (pass_of e < held.passes))) → Moves w conn s' (put_run w.registry p.run held)
-  enters held fresh users room more most s' idle fids =
+  enters held fresh room more most s' idle fids =
       let none : (place : ℕ) → one_if (awaits place s') ≡ 0 = λ place. rw idle refl in
       changes w ok conn p.run key run there (λ f. record f { held = held }) s' (record {
         fresh = fresh;
-        users = users;
         room = room;
         more = more;
         own = (let zero_now = none p.run in omega (arith, zero_now, own_count, most));
@@ -158,15 +155,15 @@ module _ (w : World) (ok : AreThere w) (conn : ℕ) (p : Awaited) (waits : (conn
 
   attaches_by : (now : ℕ) (mark : RunMark) (full refused : Bool) → nat_le RUN_ATTACHES run.held.passes ≡ full → refuses_pass mark ≡ refused
       → Moves w conn (attach_after (connection w conn) (Some p) (Entered (attached run.held now p.call mark).0)).1 (put_run w.registry p.run (attached run.held now p.call mark).1)
-  attaches_by now mark true refused f is = rw f (enters run.held refl refl (λ h. h) (omega arith) (omega arith) (with_pending None (connection w conn)) refl (λ fid e there. inl there))
-  attaches_by now mark false true f is = rw (f, is) (enters run.held refl refl (λ h. h) (omega arith) (omega arith) (with_pending None (connection w conn)) refl (λ fid e there. inl there))
+  attaches_by now mark true refused f is = rw f (enters run.held refl (λ h. h) (omega arith) (omega arith) (with_pending None (connection w conn)) refl (λ fid e there. inl there))
+  attaches_by now mark false true f is = rw (f, is) (enters run.held refl (λ h. h) (omega arith) (omega arith) (with_pending None (connection w conn)) refl (λ fid e there. inl there))
   attaches_by now mark false false f is =
       let more : RunOf = with_pass run.held in
       let it : Call = call.Attach p.call in
       let ended = run_step more now run.held.passes it (in_run mark) in
       let its = judged more now run.held.passes it (in_run mark) in
       let passes : ended.1.passes ≡ run.held.passes + 1 = keeps_passes more now run.held.passes it ended.0 ended.1 its in
-      rw (f, is) (enters ended.1 (keeps_fresh more now run.held.passes it ended.0 ended.1 its) (keeps_users more now run.held.passes it ended.0 ended.1 its) (keeps_room more now run.held.passes it ended.0 ended.1 its) (omega (arith, passes)) (omega (arith, passes))
+      rw (f, is) (enters ended.1 (keeps_fresh more now run.held.passes it ended.0 ended.1 its) (keeps_room more now run.held.passes it ended.0 ended.1 its) (omega (arith, passes)) (omega (arith, passes))
       (with_fids (entered (connection w conn).fids p.fid p.run (user_in (string_bytes p.call.user)) run.held.passes ended.0).1 (with_pending None (connection w conn))) refl (λ fid e there.
       elim (entered_source (connection w conn).fids p.fid p.run (user_in (string_bytes p.call.user)) run.held.passes ended.0 fid e there) [
         | inl was ↦ inl was
@@ -192,7 +189,6 @@ module _ (w : World) (ok : AreThere w) (conn now place pass : ℕ) (call : Call)
       let count : (at : ℕ) → one_if (awaits at (after ended.0)) ≡ one_if (awaits at (connection w conn)) = λ at. ap (λ (o : Option Awaited). one_if (option_map_or (λ (p : Awaited). p.run == at) o false)) (idle ended.0) in
       rw known (changes w ok conn place key run there (λ f. record f { held = ended.1 }) (after ended.0) (record {
         fresh = keeps_fresh run.held now pass call ended.0 ended.1 its;
-        users = keeps_users run.held now pass call ended.0 ended.1 its;
         room = keeps_room run.held now pass call ended.0 ended.1 its;
         more = omega (arith, passes);
         own = (let same = count place in omega (arith, same, passes));

@@ -5,6 +5,7 @@ pub mod AmpleSteps
 pub mod Answering
 pub mod Apart
 pub mod Asked
+pub mod Began
 pub mod Coming
 pub mod Finding
 pub mod Grouping

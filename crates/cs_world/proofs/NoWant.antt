@@ -262,6 +262,7 @@ module _ (w : World) (ok : IsReached w) where
 
   pub no_want : (x : Step) → is_short (step_of w x ample).0 ≡ false
   no_want (s.Publish number) = publish_by w number _ _
+  no_want (s.Reload users) = refl
   no_want (s.Find conn message) = on_by w conn all_given 0 (FindStep message) (nat_lt conn CONNECTIONS)
   no_want (s.Attach conn now) = on_by w conn all_given now AttachStep (nat_lt conn CONNECTIONS)
   no_want (s.Call conn now message) = on_by w conn all_given now (CallStep message) (nat_lt conn CONNECTIONS)

@@ -58,6 +58,7 @@ module _ (w : World) (key : Key) where
 
   step_said : (x : Step) (mark : Mark) → is_short (step_of w x mark).0 ≡ false → calls_said (of_step w (puts (below mark)) x mark) ≡ calls_said (of_step w (puts (below ample)) x ample)
   step_said (t.Publish number) mark told = refl
+  step_said (t.Reload users) mark told = refl
   step_said (t.Find conn message) mark told = turn_said conn 0 (c.FindStep message) mark (nat_lt conn CONNECTIONS) told
   step_said (t.Attach conn now) mark told = turn_said conn now c.AttachStep mark (nat_lt conn CONNECTIONS) told
   step_said (t.Call conn now message) mark told = turn_said conn now (c.CallStep message) mark (nat_lt conn CONNECTIONS) told

@@ -12,7 +12,7 @@ use Rattle.cs_names.specs.declared.limits.TheConstants.{CONNECTIONS}
 use Rattle.cs_names.specs.declared.rule_id.RuleId.TheVariants.{S5}
 use Rattle.cs_permit.specs.TreeNames.{tree_name_in}
 use Rattle.cs_plan.specs.Scenes.{Scene}
-use Rattle.cs_registry.specs.Registries.{Registry}
+use Rattle.cs_registry.specs.Registries.{Registry, with_users}
 use Rattle.cs_registry.specs.Registries as registries
 use Rattle.cs_registry.specs.Publishing.{with_published}
 use Rattle.cs_session.specs.declared.reply.Reply.{Reply as Said}
@@ -23,11 +23,11 @@ use Rattle.cs_session.specs.Steps.{Front, Done, Asks, Step, FindStep, AttachStep
 use Rattle.cs_session.specs.TableSteps.{table_stepped}
 use Rattle.cs_users.specs.Rows.{Row}
 use Rattle.cs_world.specs.declared.reply.Reply.{Reply}
-use Rattle.cs_world.specs.declared.reply.Reply.TheVariants.{Connection, Published, Unpublished}
+use Rattle.cs_world.specs.declared.reply.Reply.TheVariants.{Connection, NotReloaded, Published, Reloaded, Unpublished}
 use Rattle.cs_world.specs.declared.reply.StateFault.TheVariants as f
 use Rattle.cs_world.specs.declared.step.Step as t
 use Rattle.cs_world.specs.declared.step.Step.TheVariants as s
-use Rattle.cs_world.specs.Marks.{Mark, RunMark, below, refuses_table}
+use Rattle.cs_world.specs.Marks.{Mark, RunMark, below, refuses_table, refuses_users}
 use Rattle.cs_world.specs.Reached.{IsReached, OpensStand}
 use Rattle.cs_world.specs.Steps.{by_registry, goes_from, on_connection, step_of}
 use Rattle.cs_world.specs.Worlds.{World, connection, new_world}
@@ -97,8 +97,13 @@ module _ (w : World) (ok : IsReached w) where
   publish_by number false false false true = ok.opens
   publish_by number false false false false = record { stand = ok.opens.stand; own = ok.opens.own }
 
+  reload_by : (users : List Row) (refused : Bool) → OpensStand (by_registry w (cond {A = Reply × Registry RunOf} refused (NotReloaded, w.registry) (Reloaded, with_users w.registry users))).1
+  reload_by users true = ok.opens
+  reload_by users false = record { stand = ok.opens.stand; own = ok.opens.own }
+
   opens_by : (x : t.Step) (mark : Mark) → OpensStand (step_of w x mark).1
   opens_by (s.Publish number) mark = publish_by number _ _ _ _
+  opens_by (s.Reload users) mark = reload_by users (refuses_users mark)
   opens_by (s.Find conn message) mark = connection_opens conn 0 (FindStep message) mark
   opens_by (s.Attach conn now) mark = connection_opens conn now AttachStep mark
   opens_by (s.Call conn now message) mark = connection_opens conn now (CallStep message) mark

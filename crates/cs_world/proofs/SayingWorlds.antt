@@ -22,7 +22,7 @@ use Rattle.cs_registry.specs.Finds.{found, made}
 use Rattle.cs_registry.specs.Keys.{Key, same_key}
 use Rattle.cs_registry.specs.Naming.{key_in}
 use Rattle.cs_registry.specs.Publishing.{with_published}
-use Rattle.cs_registry.specs.Registries.{Registry, is_published}
+use Rattle.cs_registry.specs.Registries.{Registry, is_published, with_users}
 use Rattle.cs_registry.specs.Runs.{Runs, change, place_of, room_ends}
 use Rattle.cs_registry.proofs.Finding.{when_full, when_found, when_new, when_unpublished}
 use Rattle.cs_run.specs.declared.answer.Answer.TheVariants.{Denied}
@@ -34,14 +34,15 @@ use Rattle.cs_session.specs.Sessions.{Awaited, Sess, blank}
 use Rattle.cs_session.specs.Steps.{Front, Done, Asks, after, front_by}
 use Rattle.cs_session.specs.Steps as c
 use Rattle.cs_world.specs.declared.heard.Heard.{Heard}
+use Rattle.cs_users.specs.Rows.{Row}
 use Rattle.cs_world.specs.declared.reply.Reply.{Reply}
-use Rattle.cs_world.specs.declared.reply.Reply.TheVariants.{Connection, Published, Unpublished as Refused}
+use Rattle.cs_world.specs.declared.reply.Reply.TheVariants.{Connection, NotReloaded, Published, Reloaded, Unpublished as Refused}
 use Rattle.cs_world.specs.declared.reply.StateFault.TheVariants as state
 use Rattle.cs_world.specs.declared.step.Step.{Step}
 use Rattle.cs_world.specs.declared.step.Step.TheVariants as t
 use Rattle.cs_world.specs.Ample.{all_ample, ample}
 use Rattle.cs_world.specs.Asking.{answered, call_told, enter_told, find_told, found_by, given_run, put_run}
-use Rattle.cs_world.specs.Marks.{Mark, RunMark, below, in_run, refuses_pass, refuses_run, refuses_shelf, refuses_state, refuses_table}
+use Rattle.cs_world.specs.Marks.{Mark, RunMark, below, in_run, refuses_pass, refuses_run, refuses_shelf, refuses_state, refuses_table, refuses_users}
 use Rattle.cs_world.specs.Projections.{HeardSaid, IsAlike, heard_view, of_front, of_step, projection_of, put_to, stands_at}
 use Rattle.cs_world.specs.Runs.{attached, called}
 use Rattle.cs_world.specs.Saying.{AllSame, SameFront, AlikeDone, AlikeAsks, SamePending, Nobody, Waits, SameQuestion, AlikeFind, AlikeEnter, AlikeAsk, SameSess, SameTurn, Stays, Finds, Calls, Versions, SameStep, Self, FindAlike, CallAlike, VersionAlike}
@@ -324,6 +325,20 @@ shelved_same w v same number false false false false = (
   },
 )
 
+reload_same : (w v : World) → SameWorld w v → (users : List Row) (refused : Bool)
+    → SameEnd (by_registry w (cond {A = Reply × Registry RunOf} refused (NotReloaded, w.registry) (Reloaded, with_users w.registry users)))
+    (by_registry v (cond {A = Reply × Registry RunOf} refused (NotReloaded, v.registry) (Reloaded, with_users v.registry users)))
+reload_same w v same users true = (refl, same)
+reload_same w v same users false = (
+  refl,
+  record {
+    registry = record { scene = same.registry.scene; users = refl; published = same.registry.published; runs = same.registry.runs };
+    sessions = same.sessions;
+    all = same.all;
+    rest = same.rest;
+  },
+)
+
 module _ (key : Key) where
   publish_same : (w v : World) → SameWorld w v → (number : ℕ) (mark : Mark) → StepSame w v key (t.Publish number) (t.Publish number) mark
   publish_same w v same number mark = (
@@ -335,6 +350,7 @@ module _ (key : Key) where
 
   any_step : (w v : World) → SameWorld w v → (x : Step) (mark : Mark) → StepSame w v key x x mark
   any_step w v same (t.Publish number) mark = publish_same w v same number mark
+  any_step w v same (t.Reload users) mark = (reload_same w v same users (refuses_users mark), refl)
   any_step w v same (t.Find conn message) mark = turn_same w v same key conn 0 (c.FindStep message) (c.FindStep message) (Stays (c.FindStep message)) mark
   any_step w v same (t.Attach conn now) mark = turn_same w v same key conn now c.AttachStep c.AttachStep (Stays c.AttachStep) mark
   any_step w v same (t.Call conn now message) mark = turn_same w v same key conn now (c.CallStep message) (c.CallStep message) (Stays (c.CallStep message)) mark

@@ -87,13 +87,12 @@ one_if b = cond b 1 0
 module _ (w : World) (conn : ℕ) (s' : Sess) (r' : Registry RunOf) where
   -- a run of the new registry stood before, or was made
   pub data Came (place : ℕ) (key : Key) (run' : Found RunOf) : Type 0 where
-    Stood : (run : Found RunOf) → slice_get w.registry.runs place ≡ Some (key, run) → run'.held.fresh ≡ run.held.fresh → run'.held.users ≡ run.held.users → (HasRoom (state_of run.held) → HasRoom (state_of run'.held))
+    Stood : (run : Found RunOf) → slice_get w.registry.runs place ≡ Some (key, run) → run'.held.fresh ≡ run.held.fresh → (HasRoom (state_of run.held) → HasRoom (state_of run'.held))
         → run'.held.passes + one_if (awaits place s') + run.finds ≤ run.held.passes + one_if (awaits place (connection w conn)) + run'.finds → (run.finds ≤ RUN_ATTACHES → run'.finds ≤ RUN_ATTACHES) → Came place key run'
     Made : place ≡ length w.registry.runs → IsMade w.registry key run' → Came place key run'
 
   pub record Moves : Type 0 where
     pub scene : r'.scene ≡ w.registry.scene
-    pub users : r'.users ≡ w.registry.users
     pub published : r'.published ≡ w.registry.published
     pub runs : (place : ℕ) (key : Key) (run' : Found RunOf) → slice_get r'.runs place ≡ Some (key, run') → Came place key run'
     pub gave : (place pass : ℕ) → Gave w.registry place pass → Gave r' place pass
@@ -136,7 +135,7 @@ module _ (w : World) (ok : AreThere w) (conn : ℕ) (inside : conn < CONNECTIONS
   at_most_one false = omega arith
 
   run_by : (place : ℕ) (key : Key) (run' : Found RunOf) → Came w conn s' r' place key run' → RunIsReached next place key run'
-  run_by place key run' (Stood run there fresh users room more few) =
+  run_by place key run' (Stood run there fresh room more few) =
       let was = ok.runs place key run there in
       record {
         attaches = omega (arith, counts place, was.attaches, more);
@@ -144,7 +143,6 @@ module _ (w : World) (ok : AreThere w) (conn : ℕ) (inside : conn < CONNECTIONS
         room = room was.room;
         published = ap (λ p. slice_index_or p key.number false) m.published ∙ was.published;
         fresh = ap (λ s. state_at s key.number) m.scene ∙ was.fresh ∙ ap Some (sym fresh);
-        users = users ∙ was.users ∙ sym m.users;
       }
   run_by place key run' (Made last made) =
       let none : waiting place w.connections ≡ 0 = past place (ap (slice_get w.registry.runs) last ∙ slice_get_past w.registry.runs (length w.registry.runs) (omega arith)) in
@@ -156,7 +154,6 @@ module _ (w : World) (ok : AreThere w) (conn : ℕ) (inside : conn < CONNECTIONS
         room = subst (λ r. HasRoom (state_of r)) (sym made.fresh) (omega arith);
         published = ap (λ p. slice_index_or p key.number false) m.published ∙ made.published;
         fresh = ap (λ s. state_at s key.number) m.scene ∙ made.state ∙ ap Some (sym (ap (λ (r : RunOf). r.fresh) made.fresh));
-        users = ap (λ (r : RunOf). r.users) made.fresh ∙ sym m.users;
       }
 
   awaited_by : (c : ℕ) (b : Bool) → (c == conn) ≡ b → (p : Awaited) → (connection next c).pending ≡ Some p → IsSome (held_at r'.runs p.run)

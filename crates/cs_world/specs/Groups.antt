@@ -22,7 +22,7 @@ use Rattle.cs_world.specs.Worlds.{World}
 
 -- ---- the steps of a group
 
--- a step of a connection of the first group, or a publish
+-- a step of a connection of the first group, a publish, or a reload
 abbrev pub is_first : (ℕ → Bool) → Step → Bool
 is_first first x = option_map_or (λ t. first t.conn) (turn_of x) true
 

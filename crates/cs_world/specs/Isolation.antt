@@ -1,8 +1,10 @@
 -- Runs don't reach one another.
-use Rattle.std.specs.Prelude.{◌≡◌, ℕ, Bool, false, List, [], ◌∷◌, Option, Some, option_map}
+use Rattle.std.specs.Prelude.{◌≡◌, ℕ, Bool, false, List, [], ◌∷◌, Option, None, Some, is_some, option_map, if◌then◌else◌}
 use Rattle.cs_journal.specs.Runs.{RunOf, fresh_run}
 use Rattle.cs_plan.specs.Scenes.{state_at}
 use Rattle.cs_registry.specs.Keys.{Key}
+use Rattle.cs_registry.specs.Runs.{place_of}
+use Rattle.cs_users.specs.Rows.{Row}
 use Rattle.cs_world.specs.declared.reply.Reply.{Reply}
 use Rattle.cs_world.specs.declared.step.Step.{Step}
 use Rattle.cs_world.specs.Ample.{ample, is_short}
@@ -17,11 +19,20 @@ use Rattle.cs_world.specs.Worlds.{World}
 abbrev pub run_after : World → List (Step × Mark) → Key → Option RunOf
 run_after w marked key = run_of (steps_of w marked).1.registry key
 
+-- the list of users that stood at the first granted find of a key, which made its run; none where no find
+-- of it was granted. Of steps from a world in which it has no run
+abbrev pub users_made_with : World → List (Step × Mark) → Key → Option (List Row)
+users_made_with w [] key = None
+users_made_with w (x ∷ xs) key =
+    if is_some (place_of key (step_of w x.0 x.1).1.registry.runs) then Some w.registry.users
+    else users_made_with (step_of w x.0 x.1).1 xs key
+
 -- ---- a run is what reached it
 
--- the run is the fresh run of its state, with its own users, after the calls alone that reached it; and
--- these are told what they are told there
+-- the run has the users that stood at its first granted find; and it is the fresh run of its state, with
+-- these, after the calls alone that reached it, which are told what they are told there
 pub record IsAlone (w : World) (marked : List (Step × Mark)) (key : Key) (run : RunOf) : Type 0 where
+  pub users : users_made_with w marked key ≡ Some run.users
   pub fresh : RunOf
   pub begins : option_map (λ tree. fresh_run tree run.users) (state_at w.registry.scene key.number) ≡ Some fresh
   pub answers : answers_of w marked key ≡ (alone fresh (projection_of w marked key)).0

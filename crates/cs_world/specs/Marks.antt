@@ -8,26 +8,37 @@ pub data RunMark : Type 0 where
   NoPass : RunMark
   InRun : StepMark → RunMark
 
--- Of a step: the state that is made; what keeps it, once it is published; a connection's table of fids; or what a run needs.
+-- Of a step: the list of users that is loaded; the state that is made; what keeps it, once it is published; a connection's table of fids; or what a run needs.
 pub data Mark : Type 0 where
+  NoUsers : Mark
   NoState : Mark
   NoShelf : Mark
   NoTable : Mark
   Below : RunMark → Mark
 
+abbrev pub refuses_users : Mark → Bool
+refuses_users NoUsers = true
+refuses_users NoState = false
+refuses_users NoShelf = false
+refuses_users NoTable = false
+refuses_users (Below m) = false
+
 abbrev pub refuses_state : Mark → Bool
+refuses_state NoUsers = false
 refuses_state NoState = true
 refuses_state NoShelf = false
 refuses_state NoTable = false
 refuses_state (Below m) = false
 
 abbrev pub refuses_shelf : Mark → Bool
+refuses_shelf NoUsers = false
 refuses_shelf NoState = false
 refuses_shelf NoShelf = true
 refuses_shelf NoTable = false
 refuses_shelf (Below m) = false
 
 abbrev pub refuses_table : Mark → Bool
+refuses_table NoUsers = false
 refuses_table NoState = false
 refuses_table NoShelf = false
 refuses_table NoTable = true
@@ -35,6 +46,7 @@ refuses_table (Below m) = false
 
 -- what is left of it for the runs
 abbrev pub below : Mark → RunMark
+below NoUsers = InRun Ample
 below NoState = InRun Ample
 below NoShelf = InRun Ample
 below NoTable = InRun Ample

@@ -34,14 +34,13 @@ abbrev pub Gave : Registry RunOf → ℕ → ℕ → Type 0
 Gave registry place pass = IsSomeAnd (held_at registry.runs place) (λ run. pass < run.passes)
 
 -- a run with its key: no more passes than finds, counting those that are still to come, and no more finds than a run has in its life; room in its
--- journal; and it began as the state of its number, which is published, with the world's users
+-- journal; and it began as the state of its number, which is published
 pub record RunIsReached (w : World) (place : ℕ) (key : Key) (run : Found RunOf) : Type 0 where
   pub attaches : run.held.passes + waiting place w.connections ≤ run.finds
   pub few : run.finds ≤ RUN_ATTACHES
   pub room : HasRoom (state_of run.held)
   pub published : is_published w.registry key.number ≡ true
   pub fresh : state_at w.registry.scene key.number ≡ Some run.held.fresh
-  pub users : run.held.users ≡ w.registry.users
 
 -- of each number of the plan it is kept whether its state is published; each run is so; a run that awaits an attach is there; and each fid has a run
 -- that is there, and a pass that it gave

@@ -12,10 +12,11 @@ use Rattle.cs_session.specs.Steps as c
 use Rattle.cs_world.specs.declared.reply.Reply.{Reply}
 use Rattle.cs_world.specs.declared.reply.Reply.TheVariants.{Connection}
 use Rattle.cs_world.specs.declared.step.Step.{Step}
-use Rattle.cs_world.specs.declared.step.Step.TheVariants.{Publish, Find, Attach, Call, Close, Table}
+use Rattle.cs_world.specs.declared.step.Step.TheVariants.{Publish, Reload, Find, Attach, Call, Close, Table}
 use Rattle.cs_world.specs.Asking.{answered}
 use Rattle.cs_world.specs.Marks.{Mark, RunMark, below, refuses_table}
 use Rattle.cs_world.specs.Publishing.{published}
+use Rattle.cs_world.specs.Reloading.{reloaded}
 use Rattle.cs_journal.specs.Runs.{RunOf}
 use Rattle.cs_world.specs.Worlds.{World, connection, with_both}
 
@@ -47,6 +48,7 @@ by_registry w x = (x.0, record w { registry = x.1 })
 -- a find and a change of the table have no moment
 abbrev pub step_of : World → Step → Mark → Reply × World
 step_of w (Publish number) mark = by_registry w (published w.registry number mark)
+step_of w (Reload users) mark = by_registry w (reloaded w.registry users mark)
 step_of w (Find conn message) mark = on_connection w conn 0 (c.FindStep message) mark
 step_of w (Attach conn now) mark = on_connection w conn now c.AttachStep mark
 step_of w (Call conn now message) mark = on_connection w conn now (c.CallStep message) mark

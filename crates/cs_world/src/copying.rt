@@ -223,6 +223,7 @@ pub(crate) fn copy_step(alloc: Global, step: &Step) -> Result<Step, AllocError>
 {
     Ok(match step {
         Step::Publish(number) => Step::Publish(*number),
+        Step::Reload(users) => Step::Reload(users.try_clone(alloc)?),
         Step::Find { conn, message } => copy_find(*conn, message)?,
         Step::Attach { conn, now } => Step::Attach {
             conn: *conn,

@@ -19,12 +19,12 @@ ghost use Rattle.cs_session.specs.Sessions.{Sess};
 ghost use Rattle.cs_session.specs.Steps as c;
 ghost use Rattle.cs_users.specs.Rows.{Row};
 ghost use Rattle.cs_world.specs.declared.step.Step.{Step};
-ghost use Rattle.cs_world.specs.declared.step.Step.TheVariants.{Publish};
+ghost use Rattle.cs_world.specs.declared.step.Step.TheVariants.{Publish, Reload};
 ghost use Rattle.cs_wire.specs.Messages.{Message as Spelled, replies};
 ghost use Rattle.cs_world.specs.Ample.{all_ample, ample, is_short};
 ghost use Rattle.cs_world.specs.Asking.{IsGiven};
 ghost use Rattle.cs_world.specs.Comes.{Comes};
-ghost use Rattle.cs_world.specs.Isolation.{NoneReachesAnother, run_after};
+ghost use Rattle.cs_world.specs.Isolation.{NoneReachesAnother, run_after, users_made_with};
 ghost use Rattle.cs_world.specs.Judged.{IsJudged};
 ghost use Rattle.cs_world.specs.Lists.{IsTold, IsTurns, steps_of};
 ghost use Rattle.cs_world.specs.Marks.{Mark, refuses_table};
@@ -46,11 +46,14 @@ pub fn calls_are_judged()
 {}
 
 /// A step of a connection changes no run but the one that it reaches, and no other connection; a
-/// publish changes neither.
+/// publish and a reload change neither.
 pub fn only_what_is_reached_changes()
     ensures runs { (w : World) (conn now : ℕ) (x : c.Step) (mark : Mark) (place : ℕ) → run_reached (c.front_by now (connection w conn) x (refuses_table mark)) ≢ Some place → place < length w.registry.runs → held_at (on_connection w conn now x mark).1.registry.runs place ≡ held_at w.registry.runs place }
     ensures connections { (w : World) (conn now : ℕ) (x : c.Step) (mark : Mark) (other : ℕ) → other ≢ conn → connection (on_connection w conn now x mark).1 other ≡ connection w other }
     ensures publish { (w : World) (number : ℕ) (mark : Mark) → ((step_of w (Publish number) mark).1.registry.runs ≡ w.registry.runs) × ((step_of w (Publish number) mark).1.connections ≡ w.connections) }
+    ensures reload { (w : World) (users : List Row) (mark : Mark) →
+        ((step_of w (Reload users) mark).1.registry.runs ≡ w.registry.runs)
+        × ((step_of w (Reload users) mark).1.connections ≡ w.connections) }
 {}
 
 /// A run that a step made is new, over the tree that is the state of its number, and that state is
@@ -101,13 +104,13 @@ pub fn only_want_of_memory_differs()
 
 /// No run reaches another: three laws of every list of steps from a new world, whatever growths memory
 /// refuses in them; so also of what `step`, `message` and `hang_up` come to, one after the other. Each run
-/// that was found has the users of that world.
+/// that was found has the users that stood at its first granted find, whatever was loaded later.
 pub fn no_run_reaches_another()
     ensures laws { (scene : Scene) (users : List Row) (marked : List (Step × Mark)) →
         NoneReachesAnother (new_world scene users) marked }
-    ensures users { (scene : Scene) (users : List Row) (marked : List (Step × Mark)) (key : Key)
-        (run : RunOf) → run_after (new_world scene users) marked key ≡ Some run →
-        run.users ≡ users }
+    ensures users_made_with { (scene : Scene) (users : List Row) (marked : List (Step × Mark))
+        (key : Key) (run : RunOf) → run_after (new_world scene users) marked key ≡ Some run →
+        users_made_with (new_world scene users) marked key ≡ Some run.users }
 {}
 
 /// A connection asks and leaves the same with steps that say the same, but for where texts lie in memory.

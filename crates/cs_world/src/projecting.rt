@@ -67,6 +67,7 @@ impl WatchedWorld {
     {
         let (conn, now, turn) = match step {
             Step::Publish(number) => return self.watched.runs.publish(alloc, number),
+            Step::Reload(users) => return self.watched.runs.reload(alloc, users),
             Step::Find { conn, message } => (conn, 0, Turn::Find(message)),
             Step::Attach { conn, now } => (conn, now, Turn::Attach),
             Step::Call { conn, now, message } => (conn, now, Turn::Call(message)),
@@ -106,8 +107,9 @@ impl World {
 
     /// What of a list of steps reaches one run, of that name and of the state of that number: the calls
     /// that reach it where the steps are those of a new world, of this one's scene and users, in which
-    /// memory refuses nothing. Each has its pass and its moment, and says what that call says. Want of
-    /// memory while this is found out is the error. This world stays as it is.
+    /// memory refuses nothing; a reload among the steps is taken. Each has its pass and its moment, and
+    /// says what that call says. Want of memory while this is found out is the error. This world stays as
+    /// it is.
     pub fn project(
         &self,
         alloc: Global,

@@ -11,6 +11,7 @@ use cs_plan::{MakeFault, Scene};
 use cs_registry::{PublishFault, RunKey, States};
 use cs_run::Answer;
 use cs_session::{FindFault, PassFault, Port};
+use cs_users::Users;
 use std::alloc::Global;
 use std::marker::Model;
 
@@ -56,6 +57,7 @@ impl Runs {
     ghost use Rattle.std.specs.Prelude.{◌≡◌};
     ghost use Rattle.cs_world.specs.Marks.{Mark};
     ghost use Rattle.cs_world.specs.Publishing.{published};
+    ghost use Rattle.cs_world.specs.Reloading.{reloaded};
 
     /// Makes the state of that number and publishes it.
     pub(crate) fn publish(&mut self, alloc: Global, number: u32) -> Reply
@@ -72,6 +74,16 @@ impl Runs {
             Err(PublishFault::Memory) => Reply::Unpublished(StateFault::Memory),
             // the state was made in the registry's own scene
             Err(PublishFault::Stranger) => unreachable!(),
+        }
+    }
+
+    /// Loads another list of users: a run that is there keeps the one with which it was made.
+    pub(crate) fn reload(&mut self, alloc: Global, users: Users) -> Reply
+        ensures { (mark : Mark) × ((result, self.new) ≡ reloaded self.old users mark) }
+    {
+        match self.states.reload(alloc, users) {
+            Ok(()) => Reply::Reloaded,
+            Err(_) => Reply::NotReloaded,
         }
     }
 }

@@ -1,12 +1,16 @@
 //! The steps of a world.
 
 use cs_session::{AttachMessage, CallMessage, TableStep};
+use cs_users::Users;
 
-/// A step: of what publishes states, or of a connection, by its number. Moments are seconds since 1970.
+/// A step: of what publishes states or loads users, or of a connection, by its number. Moments are seconds
+/// since 1970.
 #[derive(Debug, Drop)]
 pub enum Step {
     /// The state of that number is made and published.
     Publish(u32),
+    /// Another list of users is loaded: the runs that are made from then on have it.
+    Reload(Users),
     /// The run of an attach is found, which then awaits it (attach(5)).
     Find {
         conn: u32,

@@ -11,7 +11,8 @@ use cs_bench::{Row, Work, compare};
 use std::rt::Clock;
 use std::{env, io};
 
-/// A short users file, a long one, and a long one in which all are members of the group.
+/// A short users file, a long one, one whose group is the largest that is searched by halves, and one in which all are
+/// members of the group.
 const FEW: Size = Size {
     lines: 5,
     members: 4,
@@ -20,6 +21,11 @@ const FEW: Size = Size {
 const MANY: Size = Size {
     lines: 20_000,
     members: 100,
+};
+
+const SEARCHED: Size = Size {
+    lines: 20_000,
+    members: 77,
 };
 
 const ALL: Size = Size {
@@ -77,5 +83,6 @@ fn rows(
 fn main(rt: HostRuntime) -> io::Result<()> {
     let timed = env::args(&rt)?.count() > 1;
     rows(&rt, (MANY, "20,000 lines and 100 members"), timed)?;
+    rows(&rt, (SEARCHED, "20,000 lines and 77 members"), timed)?;
     rows(&rt, (ALL, "20,000 lines, all of them members"), timed)
 }

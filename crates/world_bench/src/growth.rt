@@ -1,16 +1,13 @@
-//! Messages to a world of one state, to one of many states, and to one with many runs too.
+//! Messages to a world of many states, and to one with many runs too, beside a world of one of each.
 
-use crate::files::{scene, users};
-use crate::messages::{attach, opening, send, send_on, spelled, version};
-use crate::times::Total;
-use crate::works::{Kind, Work};
+use crate::kind::Kind;
+use crate::messages::{attach, send_on, spelled, version};
+use crate::sides::ToWorld;
+use cs_bench::{Row, compare};
 use cs_names::limits::CONNECTIONS;
-use cs_serve::world_of;
-use cs_world::World;
 use std::alloc::Global;
 use std::io;
 use std::rt::Clock;
-use std::time::Instant;
 
 /// How many files the operations make of which there are many states: 16,291.
 const CREATS: u32 = 180;
@@ -18,162 +15,90 @@ const CREATS: u32 = 180;
 /// How many runs stand beside the one that the messages are about.
 const RUNS: u32 = 4_095;
 
-/// How often each work is done in a round, and how many rounds are timed.
-const REPEATS: u64 = 500;
+/// How often each work is done in a round, and how many rounds are timed: a run's journal has room for all.
+const REPEATS: u64 = 250;
 
 const ROUNDS: u64 = 20;
 
-/// A world in which the connection 0 has begun a session.
-pub fn opened(alloc: Global, creats: u32, out: &mut Vec<u8>) -> Option<World> {
-    let mut world = world_of(alloc, scene(alloc, creats)?, users(alloc)?).ok()?;
-    for bytes in opening(alloc)? {
-        send(alloc, &mut world, &bytes, out)?;
-    }
-    Some(world)
-}
-
 /// Begins a session on each of the other connections.
-fn begin_others(alloc: Global, world: &mut World, out: &mut Vec<u8>) -> Option<()> {
+fn begin_others(alloc: Global, side: &mut ToWorld) -> Option<()> {
     let version = spelled(alloc, version(alloc)?)?;
     for conn in 1..CONNECTIONS {
-        send_on(alloc, world, conn, &version, out)?;
+        send_on(alloc, &mut side.world, conn, &version, &mut side.out)?;
     }
     Some(())
 }
 
+fn find_run(alloc: Global, side: &mut ToWorld, state: u32, run: u32, conn: u32) -> Option<()> {
+    let name = format!(in alloc; "{state}/r{run}").ok()?;
+    let bytes = spelled(alloc, attach(alloc, run, name.as_str())?)?;
+    send_on(alloc, &mut side.world, conn, &bytes, &mut side.out)
+}
+
 /// Attaches to so many runs more, of one state after the other. How many it came to.
-fn find_runs(alloc: Global, world: &mut World, states: u32, runs: u32, out: &mut Vec<u8>) -> u32 {
+fn find_runs(alloc: Global, side: &mut ToWorld, states: u32, runs: u32) -> u32 {
     let mut found = 0u32;
     for run in 0..runs {
-        let state = run % states.max(1);
         let conn = run % (CONNECTIONS - 1) + 1;
-        if find_run(alloc, world, state, run, conn, out).is_some() {
+        if find_run(alloc, side, run % states.max(1), run, conn).is_some() {
             found = found.wrapping_add(1);
         }
     }
     found
 }
 
-fn find_run(
-    alloc: Global,
-    world: &mut World,
-    state: u32,
-    run: u32,
-    conn: u32,
-    out: &mut Vec<u8>,
-) -> Option<()> {
-    let name = format!(in alloc; "{state}/r{run}").ok()?;
-    let bytes = spelled(alloc, attach(alloc, run, name.as_str())?)?;
-    send_on(alloc, world, conn, &bytes, out)
-}
-
 /// A world of one state; one of all states of a trace; one of these with many runs.
 #[derive(Drop)]
 struct Worlds {
-    small: World,
-    states: World,
-    runs: World,
-    out: Vec<u8>,
+    small: ToWorld,
+    states: ToWorld,
+    runs: ToWorld,
 }
 
 fn make_worlds(rt: &(impl Print + AllocGlobal), timed: bool) -> Option<Worlds> {
     let alloc = rt.alloc();
-    let mut out = Vec::new(alloc);
-    let creats = if timed { CREATS } else { 18 };
-    let small = opened(alloc, 0, &mut out)?;
-    let states = opened(alloc, creats, &mut out)?;
-    let mut runs = opened(alloc, creats, &mut out)?;
-    begin_others(alloc, &mut runs, &mut out)?;
-    let count = if timed { RUNS } else { 63 };
-    let found = find_runs(alloc, &mut runs, creats, count, &mut out);
+    let (creats, count, repeats) = if timed {
+        (CREATS, RUNS, REPEATS)
+    } else {
+        (18, 63, 1)
+    };
+    let small = ToWorld::of(alloc, 0, repeats)?;
+    let states = ToWorld::of(alloc, creats, repeats)?;
+    let mut runs = ToWorld::of(alloc, creats, repeats)?;
+    begin_others(alloc, &mut runs)?;
+    let found = find_runs(alloc, &mut runs, creats, count);
     let _told = println!(rt; "runs beside: {found}");
     Some(Worlds {
         small,
         states,
         runs,
-        out,
     })
 }
 
-/// How long a work took in each world.
-#[derive(Drop)]
-struct Totals {
-    small: Total,
-    states: Total,
-    runs: Total,
-}
-
-/// Does a work so often in a world.
-fn time(
-    rt: &(impl Clock + AllocGlobal),
-    world: &mut World,
-    out: &mut Vec<u8>,
-    work: &Work,
-    repeats: u64,
-    total: &mut Total,
-) -> io::Result<()> {
-    let alloc = rt.alloc();
-    let mut done = 0u64;
-    let start = Instant::now(rt)?;
-    for _ in 0..repeats {
-        if work.by_world(alloc, world, out).is_some() {
-            done = done.wrapping_add(1);
-        }
-    }
-    total.add(rt, start, done)
-}
-
-impl Totals {
-    /// Does a work so often once more in each world.
-    fn round(
-        &mut self,
-        rt: &(impl Clock + AllocGlobal),
-        worlds: &mut Worlds,
-        work: &Work,
-        repeats: u64,
-    ) -> io::Result<()> {
-        let out = &mut worlds.out;
-        time(rt, &mut worlds.small, out, work, repeats, &mut self.small)?;
-        time(rt, &mut worlds.states, out, work, repeats, &mut self.states)?;
-        time(rt, &mut worlds.runs, out, work, repeats, &mut self.runs)
-    }
-
-    fn print(&self, rt: &impl Print, what: &str, timed: bool) -> io::Result<()> {
-        if !timed {
-            let (small, states, runs) = (self.small.done(), self.states.done(), self.runs.done());
-            return println!(rt;
-                "{what}: {small}, among many states {states}, among many runs {runs}"
-            );
-        }
-        let small = self.small.millis();
-        let states = self.states.times(&self.small);
-        let runs = self.runs.times(&self.small);
-        println!(rt;
-            "{what}: {small} ms; among many states {states:.2} times, and many runs {runs:.2} times"
-        )
-    }
-}
-
-/// Does a work in each world.
-fn grow(
+/// Does a work among many states or runs, beside the same among one of each.
+fn row(
     rt: &(impl Clock + Print + AllocGlobal),
-    worlds: &mut Worlds,
     kind: Kind,
+    among: &str,
+    many: &mut ToWorld,
+    small: &mut ToWorld,
     timed: bool,
 ) -> io::Result<()> {
-    let Some(work) = kind.work(rt.alloc(), &mut worlds.small) else {
+    let alloc = rt.alloc();
+    let (Some(first), Some(second)) = (kind.messages(alloc), kind.messages(alloc)) else {
         return println!(rt; "out of memory");
     };
-    let mut totals = Totals {
-        small: Total::new(),
-        states: Total::new(),
-        runs: Total::new(),
+    many.messages = first;
+    small.messages = second;
+    let name = kind.name();
+    let what = format!(in alloc; "{name}, among many {among}")?;
+    let row = Row {
+        what: what.as_str(),
+        beside: "in a world of one",
+        most: 2.0,
+        rounds: ROUNDS,
     };
-    let (rounds, repeats) = if timed { (ROUNDS, REPEATS) } else { (1, 1) };
-    for _ in 0..rounds {
-        totals.round(rt, worlds, &work, repeats)?;
-    }
-    totals.print(rt, kind.name(), timed)
+    compare(rt, &row, many, small, timed)
 }
 
 /// Does each work in each world.
@@ -182,7 +107,15 @@ pub fn growth(rt: &(impl Clock + Print + AllocGlobal), timed: bool) -> io::Resul
         return println!(rt; "out of memory");
     };
     for kind in Kind::ALL {
-        grow(rt, &mut worlds, kind, timed)?;
+        row(
+            rt,
+            kind,
+            "states",
+            &mut worlds.states,
+            &mut worlds.small,
+            timed,
+        )?;
+        row(rt, kind, "runs", &mut worlds.runs, &mut worlds.small, timed)?;
     }
     Ok(())
 }

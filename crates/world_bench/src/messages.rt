@@ -47,15 +47,6 @@ pub fn ask(alloc: Global, world: &mut World, body: TBody, out: &mut Vec<u8>) -> 
     send(alloc, world, &bytes, out)
 }
 
-/// Encodes a reply that is there in a buffer that is kept.
-pub fn encoded(reply: &RMessage, out: &mut Vec<u8>) -> Option<()> {
-    if !reply.fits() {
-        return None;
-    }
-    out.clear();
-    encode(reply, out).ok()
-}
-
 pub fn walk(alloc: Global, fid: u32, newfid: u32, name: Option<&str>) -> Option<TBody> {
     let mut wname = Vec::new(alloc);
     if let Some(name) = name {

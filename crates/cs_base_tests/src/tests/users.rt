@@ -60,6 +60,15 @@ fn members_and_leaders_of_a_group(rt: HostRuntime) -> Result<(), Fail> {
     Ok(())
 }
 
+#[test]
+fn a_copy_answers_alike(rt: HostRuntime) -> Result<(), Fail> {
+    let users = Users::read(rt.alloc(), USERS)?.try_clone(rt.alloc())?;
+    assert_known(&rt, &users);
+    assert_members(&rt, &users);
+    assert_leaders(&rt, &users);
+    Ok(())
+}
+
 fn fault_of(alloc: Global, bytes: &[u8]) -> Option<UsersFault> {
     Users::read(alloc, bytes).err()
 }

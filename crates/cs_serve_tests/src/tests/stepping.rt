@@ -2,6 +2,7 @@
 use cs_session::{
     AttachMessage, CallMessage, OpenMessage, ReadMessage, TableStep, WalkMessage, WriteMessage,
 };
+use cs_users::Users;
 use cs_world::Step;
 use std::alloc::Global;
 
@@ -99,12 +100,14 @@ fn call(alloc: Global, word: &str, conn: &str) -> Option<Step> {
     })
 }
 
-/// The step that words ask for: `publish` and a state; `version`, `walk`, `open`, `write`, `read`
-/// or `stat` and a connection; `find`, `attach` or `close` and what these take.
+/// The step that words ask for: `publish` and a state; `reload` and a line of a users file; `version`,
+/// `walk`, `open`, `write`, `read` or `stat` and a connection; `find`, `attach` or `close` and what these
+/// take.
 pub fn step_of(alloc: Global, line: &str) -> Option<Step> {
     let (word, words) = line.split_once(' ')?;
     match word {
         "publish" => Some(Step::Publish(number(words)?)),
+        "reload" => Some(Step::Reload(Users::read(alloc, words.as_bytes()).ok()?)),
         "version" => begin(alloc, words),
         "find" => find(alloc, words),
         "attach" => attach(words),

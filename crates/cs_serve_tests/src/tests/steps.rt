@@ -141,9 +141,9 @@ fn two_users_attach_to_one_run(rt: HostRuntime) {
     assert_eq!(rt; world.run_count(), 1);
 }
 
-/// What of the steps of two users reaches a run of state 0, a line each.
-fn projected(alloc: Global, world: &World, run: &[u8]) -> Option<String> {
-    let steps = steps_of(alloc, TWO_USERS)?;
+/// What of these steps reaches a run of state 0, a line each.
+fn projected(alloc: Global, world: &World, lines: &str, run: &[u8]) -> Option<String> {
+    let steps = steps_of(alloc, lines)?;
     let name = RunName::read(alloc, run).ok()?;
     let heard = world.project(alloc, &steps, 0, &name).ok()?;
     let mut text = String::new(alloc);
@@ -156,16 +156,58 @@ fn projected(alloc: Global, world: &World, run: &[u8]) -> Option<String> {
 #[test]
 fn projection_on_a_run_has_what_reached_it(rt: HostRuntime) {
     let world = new_world(&rt);
-    let heard = projected(rt.alloc(), &world, b"x").expect(&rt, "calls");
+    let heard = projected(rt.alloc(), &world, TWO_USERS, b"x").expect(&rt, "calls");
     assert_eq!(rt;
         heard.as_str(),
         r#"Heard { pass: 0, now: 7, call: Attach(AttachCall { user: "ann" }) }
 Heard { pass: 1, now: 8, call: Attach(AttachCall { user: "bob" }) }
 "#
     );
-    let other = projected(rt.alloc(), &world, b"y").expect(&rt, "calls");
+    let other = projected(rt.alloc(), &world, TWO_USERS, b"y").expect(&rt, "calls");
     assert_eq!(rt; other.as_str(), "");
     assert_eq!(rt; world.run_count(), 0);
+}
+
+/// A list of one user is loaded, who is attached to a new run and walks there.
+const OTHER_USERS: &str = "\
+publish 0
+version 0
+reload 1:dan::
+find 0 0 dan 0/x
+attach 0 7
+walk 0
+";
+
+#[test]
+fn projection_takes_the_list_that_stands_at_the_find(rt: HostRuntime) {
+    let world = new_world(&rt);
+    let heard = projected(rt.alloc(), &world, OTHER_USERS, b"x").expect(&rt, "calls");
+    // with the list of the start the attach is A6, and no walk reaches the run
+    assert_eq!(rt; heard.lines().count(), 2);
+}
+
+#[test]
+fn a_run_keeps_the_users_it_was_made_with(rt: HostRuntime) {
+    expect(
+        &rt,
+        "
+publish 0 => Published
+version 0 => Connection(Version { msize: 8192, is_spoken: true })
+find 0 0 bob 0/x => Connection(Found)
+attach 0 7 => Connection(Attach(Qid { kind: 128, vers: 0, path: 0 }))
+find 0 1 dan 0/x => Connection(Found)
+attach 0 7 => Connection(Error(A6))
+reload 1:dan:: => Reloaded
+find 0 1 dan 0/x => Connection(Found)
+attach 0 7 => Connection(Error(A6))
+find 0 1 bob 0/x => Connection(Found)
+attach 0 7 => Connection(Attach(Qid { kind: 128, vers: 0, path: 0 }))
+find 0 2 dan 0/y => Connection(Found)
+attach 0 7 => Connection(Attach(Qid { kind: 128, vers: 0, path: 0 }))
+find 0 3 bob 0/y => Connection(Found)
+attach 0 7 => Connection(Error(A6))
+",
+    );
 }
 
 #[test]

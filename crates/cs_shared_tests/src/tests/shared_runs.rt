@@ -1,78 +1,17 @@
 //! Runs that users share, of a state that is published.
 
-use cs_fids::Place;
+use super::side::{F, attach, comes, find, open, published, read, registry_of, write};
 use cs_journal::Pass;
-use cs_names::{RuleId, RunName, UserName};
-use cs_permit::{Call, OpenCall, ReadCall, StatCall, WriteCall};
-use cs_plan::{Published, Scene};
+use cs_names::{RuleId, RunName};
+use cs_permit::{Call, StatCall};
 use cs_registry::FindFault;
 use cs_run::Answer;
-use cs_shared::{AnyScene, SharedRegistry, SharedRun};
-use cs_trace::read_trace;
-use cs_users::Users;
+use cs_shared::{AnyScene, SharedRun};
 use std::alloc::Global;
+use std::sync::Wait;
 use std::sync::atomic::{AtomicBool, Ordering};
-use std::sync::{Arc, Wait};
 use std::test::Fail;
 use std::thread;
-
-const TRACE: &str =
-    "{\"trace\":1,\"owner\":\"cat\",\"group\":\"staff\",\"mode\":\"775\"}\n{\"start\":\"file\",\"path\":\"/f\",\"owner\":\"ann\",\"group\":\"staff\",\"mode\":\"664\",\"bytes\":\"68656c6c6f\"}\n";
-
-const USERS: &[u8] = b"1:ann::\n2:bob::\n3:cat::\n4:staff:ann:ann,bob\n";
-
-/// The number of the file.
-const F: u64 = 1;
-
-/// How often a thread looks for what another is to do.
-const TURNS: u32 = 10_000_000;
-
-fn registry_of(alloc: Global) -> Option<(SharedRegistry<AnyScene>, Published)> {
-    let trace = read_trace(alloc, TRACE).ok()?;
-    let scene = Scene::of(alloc, trace, false, Vec::new(alloc)).ok()?;
-    let scene = Arc::new(alloc, scene).ok()?;
-    let state = Scene::make(alloc, &scene, 0).ok()?;
-    let users = Arc::new(alloc, Users::read(alloc, USERS).ok()?).ok()?;
-    let registry = SharedRegistry::<AnyScene>::new(alloc, scene, users).ok()?;
-    Some((registry, state))
-}
-
-fn find<R: Wait>(
-    rt: &R,
-    alloc: Global,
-    registry: &SharedRegistry<AnyScene>,
-    name: &str,
-) -> Option<SharedRun<AnyScene>> {
-    let name = RunName::read(alloc, name.as_bytes()).ok()?;
-    registry.find(rt, alloc, 0, &name).ok()
-}
-
-fn attach<R: Wait>(rt: &R, alloc: Global, run: &SharedRun<AnyScene>, user: &str) -> Option<Pass> {
-    match run.attach(rt, alloc, 1, user.to_string(alloc).ok()?) {
-        Ok((pass, Answer::Attached(_))) => Some(pass),
-        _ => None,
-    }
-}
-
-fn open(alloc: Global, user: &str, mode: u8) -> Option<Call> {
-    let user = UserName::read(alloc, user.as_bytes()).ok()?;
-    Some(Call::Open(OpenCall {
-        number: F,
-        user,
-        mode,
-    }))
-}
-
-fn write(alloc: Global, user: &str, text: &str) -> Option<Call> {
-    let user = UserName::read(alloc, user.as_bytes()).ok()?;
-    let bytes = text.to_string(alloc).ok()?.into_bytes();
-    Some(Call::Write(WriteCall {
-        number: F,
-        user,
-        offset: 0,
-        bytes,
-    }))
-}
 
 /// Whether the user opens the file and reads this.
 fn reads<R: Wait>(
@@ -84,23 +23,10 @@ fn reads<R: Wait>(
 ) -> Option<bool> {
     let mut pass = attach(rt, alloc, run, user)?;
     let opened = run.call(rt, alloc, &mut pass, 2, open(alloc, user, 0)?);
-    let read = Call::Read(ReadCall {
-        number: F,
-        offset: 0,
-        count: 64,
-        place: Place::start(),
-    });
-    match (opened, run.call(rt, alloc, &mut pass, 2, read)) {
+    match (opened, run.call(rt, alloc, &mut pass, 2, read())) {
         (Answer::Opened { .. }, Answer::Data(data)) => Some(data.bytes() == text.as_bytes()),
         _ => None,
     }
-}
-
-/// A registry whose one state is published.
-fn published<R: Wait>(rt: &R, alloc: Global) -> Option<SharedRegistry<AnyScene>> {
-    let (registry, state) = registry_of(alloc)?;
-    registry.publish(rt, alloc, state).ok()?;
-    Some(registry)
 }
 
 /// Attaches a user, who opens the file and writes this at its beginning.
@@ -173,16 +99,6 @@ fn runs_are_told_by_their_names(rt: HostRuntime) -> Result<(), Fail> {
     assert_eq!(rt; (runs[0].run().number(), runs[0].name()), (0, "a"));
     assert_eq!(rt; (runs[1].run().number(), runs[1].name()), (0, "b"));
     Ok(())
-}
-
-fn comes(flag: &AtomicBool) -> bool {
-    for _ in 0..TURNS {
-        if flag.load(Ordering::SeqCst) {
-            return true;
-        }
-        thread::yield_now();
-    }
-    false
 }
 
 /// Looks at a run until the flag comes.

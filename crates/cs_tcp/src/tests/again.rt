@@ -11,8 +11,8 @@ use std::thread;
 
 /// Standard input, which ends once it is to.
 #[derive(Drop)]
-struct Input<'a> {
-    ends: &'a AtomicBool,
+pub struct Input<'a> {
+    pub ends: &'a AtomicBool,
 }
 
 impl Read for Input<'_> {

@@ -13,19 +13,19 @@ const VERSION: &[u8] = b"\x13\0\0\0d\xff\xff\0 \0\0\x06\09P2000";
 /// Attaches of ann and of bob to `0/x`.
 const ATTACH_ANN: &[u8] = b"\x19\0\0\0h\x01\0\0\0\0\0\xff\xff\xff\xff\x03\0ann\x03\00/x";
 
-const ATTACH_BOB: &[u8] = b"\x19\0\0\0h\x01\0\0\0\0\0\xff\xff\xff\xff\x03\0bob\x03\00/x";
+pub const ATTACH_BOB: &[u8] = b"\x19\0\0\0h\x01\0\0\0\0\0\xff\xff\xff\xff\x03\0bob\x03\00/x";
 
 /// A walk to `f`.
-const WALK: &[u8] = b"\x14\0\0\0n\x01\0\0\0\0\0\x01\0\0\0\x01\0\x01\0f";
+pub const WALK: &[u8] = b"\x14\0\0\0n\x01\0\0\0\0\0\x01\0\0\0\x01\0\x01\0f";
 
 /// A walk to `g`, which isn't there before it is made.
 const WALK_TO_G: &[u8] = b"\x14\0\0\0n\x01\0\0\0\0\0\x01\0\0\0\x01\0\x01\0g";
 
-const OPEN_TO_READ: &[u8] = b"\x0c\0\0\0p\x01\0\x01\0\0\0\0";
+pub const OPEN_TO_READ: &[u8] = b"\x0c\0\0\0p\x01\0\x01\0\0\0\0";
 
-const OPEN_TO_WRITE: &[u8] = b"\x0c\0\0\0p\x01\0\x01\0\0\0\x01";
+pub const OPEN_TO_WRITE: &[u8] = b"\x0c\0\0\0p\x01\0\x01\0\0\0\x01";
 
-const READ: &[u8] = b"\x17\0\0\0t\x01\0\x01\0\0\0\0\0\0\0\0\0\0\0\x40\0\0\0";
+pub const READ: &[u8] = b"\x17\0\0\0t\x01\0\x01\0\0\0\0\0\0\0\0\0\0\0\x40\0\0\0";
 
 /// A write of `HI` at the front.
 const WRITE: &[u8] = b"\x19\0\0\0v\x01\0\x01\0\0\0\0\0\0\0\0\0\0\0\x02\0\0\0HI";
@@ -72,6 +72,31 @@ fn granted(alloc: Global, stream: &mut TcpStream, message: &[u8]) -> Option<Vec<
     } else {
         None
     }
+}
+
+/// A connection on which a session began.
+pub fn session<R: Net<Stream = TcpStream>>(
+    rt: &R,
+    alloc: Global,
+    port: &AtomicU64,
+) -> Option<TcpStream> {
+    let mut stream = connect(rt, port)?;
+    granted(alloc, &mut stream, VERSION)?;
+    Some(stream)
+}
+
+/// Asks these, and adds the type of each reply.
+pub fn add_types(
+    alloc: Global,
+    stream: &mut TcpStream,
+    messages: &[&[u8]],
+    types: &mut Vec<u8>,
+) -> Option<()> {
+    for message in messages {
+        let reply = ask(alloc, stream, message).ok()?;
+        types.push(*reply.first()?).ok()?;
+    }
+    Some(())
 }
 
 /// Begins a session, attaches, and opens `f`.

@@ -1,6 +1,6 @@
 //! The command over a small tree, and what it told.
 
-use crate::{Serving, serve_of};
+use crate::{ReadsFiles, Serving, serve_of};
 use cs_serve::Inputs;
 use std::alloc::Global;
 use std::io::{self, Read, Write};
@@ -11,7 +11,7 @@ use std::sync::{Mutex, Wait};
 use std::thread;
 use std::thread::Threads;
 
-const USERS: &[u8] = b"1:ann::\n2:bob::\n3:cat::\n4:staff:ann:ann,bob\n";
+pub const USERS: &[u8] = b"1:ann::\n2:bob::\n3:cat::\n4:staff:ann:ann,bob\n";
 
 pub const TRACE: &[u8] =
     b"{\"trace\":1,\"owner\":\"cat\",\"group\":\"staff\",\"mode\":\"775\"}\n{\"start\":\"file\",\"path\":\"/f\",\"owner\":\"ann\",\"group\":\"staff\",\"mode\":\"664\",\"bytes\":\"68656c6c6f\"}\n{\"op\":\"creat\",\"path\":\"/g\",\"owner\":\"ann\",\"group\":\"staff\",\"mode\":\"644\"}\n";
@@ -80,7 +80,7 @@ pub fn inputs_of(trace: &[u8], verbose: bool) -> Inputs<'_> {
 /// The command on this trace, with `--verbose`; its port is told once it listens.
 pub fn served<R>(rt: &R, alloc: Global, trace: &[u8], serving: Serving, port: &AtomicU64) -> Told
 where
-    R: Net<Listener = TcpListener, Stream = TcpStream> + Threads + Wait + Clock + Sync,
+    R: Net<Listener = TcpListener, Stream = TcpStream> + Threads + Wait + Clock + ReadsFiles + Sync,
 {
     told_of(
         rt,
@@ -102,7 +102,7 @@ pub fn told_of<R, I: Read + Drop + Send>(
     port: &AtomicU64,
 ) -> Told
 where
-    R: Net<Listener = TcpListener, Stream = TcpStream> + Threads + Wait + Clock + Sync,
+    R: Net<Listener = TcpListener, Stream = TcpStream> + Threads + Wait + Clock + ReadsFiles + Sync,
 {
     let mut out = Output {
         text: Vec::new(alloc),

@@ -13,6 +13,7 @@ pub const LOOPBACK: Serving = Serving {
     connections: 2,
     again: false,
     ready: true,
+    reload: None,
     client: Client::Plan9,
     progress: false,
 };

@@ -2,7 +2,7 @@
 
 use super::fixture::{TRACE, served};
 use crate::accepting::{Accepted, accept};
-use crate::{Client, Serving};
+use crate::{Client, ReadsFiles, Serving};
 use std::alloc::Global;
 use std::io::{self, Error, ErrorKind};
 use std::net::{Ipv4Addr, Net, OpenListener, SocketAddr, TcpListener, TcpStream};
@@ -15,7 +15,7 @@ use std::thread::Threads;
 /// Whether the command ends with status 1 and this on standard error, and prints nothing.
 fn is_refused<R>(rt: &R, alloc: Global, trace: &[u8], serving: Serving, text: &[u8]) -> bool
 where
-    R: Net<Listener = TcpListener, Stream = TcpStream> + Threads + Wait + Clock + Sync,
+    R: Net<Listener = TcpListener, Stream = TcpStream> + Threads + Wait + Clock + ReadsFiles + Sync,
 {
     let told = served(rt, alloc, trace, serving, &AtomicU64::new(0));
     told.status == 1 && told.out.is_empty() && told.err.as_slice() == text
@@ -27,6 +27,7 @@ const NOWHERE: Serving = Serving {
     connections: 1,
     again: false,
     ready: false,
+    reload: None,
     client: Client::Plan9,
     progress: false,
 };

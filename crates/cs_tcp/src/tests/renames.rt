@@ -3,7 +3,7 @@
 use super::client::asks;
 use super::fixture::served;
 use super::loopback::LOOPBACK;
-use crate::{Client, Serving};
+use crate::{Client, ReadsFiles, Serving};
 use std::alloc::Global;
 use std::net::{Net, TcpListener, TcpStream};
 use std::rt::Clock;
@@ -52,7 +52,7 @@ fn answered<R>(
     messages: &[&[u8]],
 ) -> Result<(Vec<u8>, Vec<u8>, Vec<u8>), Fail>
 where
-    R: Net<Listener = TcpListener, Stream = TcpStream> + Threads + Wait + Clock + Sync,
+    R: Net<Listener = TcpListener, Stream = TcpStream> + Threads + Wait + Clock + ReadsFiles + Sync,
 {
     let port = AtomicU64::new(0);
     let linux = Serving {

@@ -163,30 +163,42 @@ const NOWHERE: Serving = Serving {
     connections: 1,
     again: false,
     ready: true,
+    reload: None,
     client: Client::Plan9,
     progress: false,
 };
 
+/// A trace with no operation: one state.
+const UNCHANGED: &[u8] = b"{\"trace\":1,\"owner\":\"cat\",\"group\":\"staff\",\"mode\":\"775\"}\n";
+
 #[test]
 fn publishing_is_told_when_it_is_asked_for(rt: HostRuntime) -> Result<(), Fail> {
-    for (verbose, progress, text) in [
-        (false, false, b"crashfs: cannot listen\n".as_slice()),
+    for (trace, verbose, progress, text) in [
+        (TRACE, false, false, b"crashfs: cannot listen\n".as_slice()),
         (
+            TRACE,
             true,
             false,
             b"published 2 states\ncrashfs: cannot listen\n".as_slice(),
         ),
         (
+            TRACE,
             false,
             true,
             b"published 2 states\ncrashfs: cannot listen\n".as_slice(),
+        ),
+        (
+            UNCHANGED,
+            true,
+            false,
+            b"published 1 state\ncrashfs: cannot listen\n".as_slice(),
         ),
     ] {
         let serving = Serving {
             progress,
             ..NOWHERE
         };
-        let inputs = inputs_of(TRACE, verbose);
+        let inputs = inputs_of(trace, verbose);
         let told = told_of(
             &rt,
             rt.alloc(),

@@ -1,5 +1,5 @@
 use Rattle.std.proofs.Common.{refl}
-use Rattle.cs_world.proofs.Reached.{connections_stay, publish_keeps, runs_stay}
+use Rattle.cs_world.proofs.Reached.{connections_stay, publish_keeps, reload_keeps, runs_stay}
 use Rattle.cs_world.proofs.laws.only_what_is_reached_changes.Goals as goal
 
 pub returns : goal.returns
@@ -7,4 +7,5 @@ returns c = record {
   runs = runs_stay;
   connections = connections_stay;
   publish = λ w number mark. (publish_keeps w.registry number mark, refl);
+  reload = λ w users mark. (reload_keeps w.registry users mark, refl);
 }

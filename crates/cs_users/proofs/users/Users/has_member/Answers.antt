@@ -1,5 +1,5 @@
 use Rattle.std.proofs.Common.{arith, ◌∙◌}
-use Rattle.cs_users.proofs.Grouping.{increasing_kept, kept_long, member_kept}
+use Rattle.cs_users.proofs.Grouping.{increasing_kept, kept_long, marked_kept, member_kept}
 use Rattle.cs_users.proofs.users.Users.has_member.Goals as goal
 
 pub index-requires : goal.index-requires
@@ -7,8 +7,11 @@ index-requires c =
     let long = kept_long c.self.inside.rows c.self.inside.groups.items c.self.invariant c.args.self.now c.self.view_is in
     omega (arith, long, c.requires.group, c.self.inside.groups.ok)
 
-pub has-requires : goal.has-requires
-has-requires c = increasing_kept c.self.inside.rows c.self.inside.groups.items c.self.invariant c.args.self.now c.self.view_is c.args.group c.index.result.now c.requires.group c.index.ensures
+pub has-requires-clause-ascending : goal.has-requires-clause-ascending
+has-requires-clause-ascending c = increasing_kept c.self.inside.rows c.self.inside.groups.items c.self.invariant c.args.self.now c.self.view_is c.args.group c.index.result.now c.requires.group c.index.ensures
+
+pub has-requires-clause-marked : goal.has-requires-clause-marked
+has-requires-clause-marked c = marked_kept c.self.inside.rows c.self.inside.groups.items c.self.invariant c.args.self.now c.self.view_is c.args.group c.index.result.now c.requires.group c.index.ensures c.args.user c.requires.user
 
 pub returns : goal.returns
 returns c = c.has.ensures ∙ member_kept c.self.inside.rows c.self.inside.groups.items c.self.invariant c.args.self.now c.self.view_is c.args.group c.index.result.now c.requires.group c.index.ensures c.args.user c.requires.user

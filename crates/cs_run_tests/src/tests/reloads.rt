@@ -1,0 +1,176 @@
+//! Another list of users while runs stand: each keeps the list with which it was made.
+ghost use Rattle.std.specs.Prelude.{◌≡◌};
+
+use super::answers::push_answer;
+use super::asks::{call_of, cut};
+use cs_fids::Place;
+use cs_journal::{Pass, Run, can_grow};
+use cs_names::RunName;
+use cs_plan::{Built, Scene};
+use cs_registry::{Held, States};
+use cs_run::Answer;
+use cs_trace::read_trace;
+use cs_users::Users;
+use std::alloc::{AllocError, Global};
+use std::process::Abort;
+use std::sync::Arc;
+
+const TRACE: &str = r#"{"trace":1,"owner":"cat","group":"staff","mode":"775"}
+{"start":"file","path":"/f","owner":"ann","group":"staff","mode":"664","bytes":"68656c6c6f"}
+"#;
+
+const USERS: &[u8] = b"1:ann::\n2:bob::\n3:cat::\n4:staff:ann:ann,bob,zed\n5:none::\n";
+
+const ANN_AND_DAN: &[u8] = b"1:ann::\n2:dan::\n";
+
+/// What is kept of a run in these tests: the run.
+#[derive(Drop)]
+struct Own {
+    run: Run<Built>,
+}
+
+impl Held for Own {
+    ghost admits = { λ number tree. Unit {0} };
+
+    ghost is_fresh = { λ number tree users own. Unit {0} };
+
+    fn fresh(
+        alloc: Global,
+        _number: u32,
+        lower: Arc<Built>,
+        users: Arc<Users>,
+    ) -> Result<Own, AllocError> {
+        if !can_grow(&*lower) {
+            return Err(AllocError);
+        }
+        let run = Run::fresh(alloc, lower, users)?;
+        Ok(Own { run })
+    }
+}
+
+fn scene(alloc: Global) -> Option<Arc<Scene>> {
+    let trace = read_trace(alloc, TRACE).ok()?;
+    let scene = Scene::of(alloc, trace, false, Vec::new(alloc)).ok()?;
+    Arc::new(alloc, scene).ok()
+}
+
+/// A registry whose one state is published.
+fn registry(alloc: Global) -> Option<States<Own>> {
+    let users = Arc::new(alloc, Users::read(alloc, USERS).ok()?).ok()?;
+    let mut states = States::new(alloc, scene(alloc)?, users).ok()?;
+    let state = Scene::make(alloc, states.scene(), 0).ok()?;
+    states.publish(alloc, state).ok()?;
+    Some(states)
+}
+
+/// Makes a call at second 1000.
+fn step(
+    alloc: Global,
+    run: &mut Run<Built>,
+    pass: &mut Pass,
+    user: &str,
+    words: &str,
+) -> Option<Answer> {
+    let call = call_of(alloc, user, words, &Place::start())?;
+    if !run.fits(pass) {
+        return None;
+    }
+    Some(run.step(alloc, pass, 1000, call))
+}
+
+/// Attaches a user, who makes a call if there is one: the last answer.
+fn visit(alloc: Global, run: &mut Run<Built>, user: &str, words: &str) -> Option<Answer> {
+    let mut pass = run.new_pass(alloc).ok()?;
+    let attached = step(alloc, run, &mut pass, user, "attach")?;
+    if words.is_empty() {
+        return Some(attached);
+    }
+    step(alloc, run, &mut pass, user, words)
+}
+
+/// Finds the run of that name, for a visit.
+fn find_and_visit(
+    alloc: Global,
+    states: &mut States<Own>,
+    name: &str,
+    visitor: &str,
+) -> Option<Answer> {
+    let (user, words) = cut(visitor);
+    let name = RunName::read(alloc, name.as_bytes()).ok()?;
+    let place = states.find(alloc, 0, &name).ok()?;
+    if place >= states.run_count() {
+        return None;
+    }
+    visit(alloc, &mut states.at_mut(place).run, user, words)
+}
+
+/// Adds a line with what was answered.
+fn push_line(alloc: Global, states: &mut States<Own>, text: &mut String, line: &str) -> Option<()> {
+    let (asked, _) = line.split_once(" => ")?;
+    let (name, visitor) = cut(asked);
+    let answer = find_and_visit(alloc, states, name, visitor)?;
+    write!(text, "{asked} => ").ok()?;
+    push_answer(text, answer, &mut Place::start())?;
+    text.push_str("\n").ok()
+}
+
+fn push_lines(
+    alloc: Global,
+    states: &mut States<Own>,
+    text: &mut String,
+    lines: &str,
+) -> Option<()> {
+    for line in lines.lines() {
+        push_line(alloc, states, text, line)?;
+    }
+    Some(())
+}
+
+/// Makes visits, a line each: of which run, by whom, a call if there is one, and what was answered.
+fn expect(rt: &(impl Abort + AllocGlobal), states: &mut States<Own>, lines: &str) {
+    let mut text = String::new(rt.alloc());
+    push_lines(rt.alloc(), states, &mut text, lines).expect(rt, "answers");
+    assert_eq!(rt; text.as_str(), lines);
+}
+
+#[test]
+fn a_run_keeps_the_users_with_which_it_was_made(rt: HostRuntime) {
+    let mut states = registry(rt.alloc()).expect(&rt, "a registry");
+    expect(
+        &rt,
+        &mut states,
+        "\
+x bob => root 80 0.0
+x dan => A6 unknown user
+",
+    );
+    let users = Users::read(rt.alloc(), ANN_AND_DAN).expect(&rt, "users");
+    assert!(rt; states.reload(rt.alloc(), users).is_ok());
+    expect(
+        &rt,
+        &mut states,
+        "\
+x dan => A6 unknown user
+x bob => root 80 0.0
+y dan => root 80 0.0
+y bob => A6 unknown user
+y dan open 1 1 => O7 no write right
+y ann open 1 1 => open 5 of 1: 1.0
+",
+    );
+}
+
+#[test]
+fn a_list_that_is_shared_already_is_loaded(rt: HostRuntime) {
+    let mut states = registry(rt.alloc()).expect(&rt, "a registry");
+    let users = Users::read(rt.alloc(), ANN_AND_DAN).expect(&rt, "users");
+    states.reload_shared(Arc::new(rt.alloc(), users).expect(&rt, "memory"));
+    expect(
+        &rt,
+        &mut states,
+        "\
+y dan => root 80 0.0
+y bob => A6 unknown user
+",
+    );
+}

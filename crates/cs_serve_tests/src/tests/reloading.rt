@@ -1,0 +1,152 @@
+//! Users files that a script takes: runs that stand keep their users, and later ones have the new.
+use crate::tests::asking::message_of;
+use crate::tests::commands::{Faulty, expect_fault, expect_printed, inputs_of, outcome, scripted};
+use crate::tests::fixture::{HEADER, TRACE, USERS};
+use cs_serve::{Inputs, script_of};
+use cs_wire::decode_r;
+use std::alloc::Global;
+use std::process::Abort;
+
+/// Adds a line of a script: what is asked by a connection's number and a message in words, or a line
+/// that is no connection's.
+fn push_line(alloc: Global, script: &mut String, asked: &str) -> Option<()> {
+    let (conn, words) = asked.split_once(' ')?;
+    if conn == "reload" {
+        return write!(script, "{asked}\n").ok();
+    }
+    let message = hex::encode(alloc, message_of(alloc, words)?).ok()?;
+    write!(script, "{conn} 7 {message}\n").ok()
+}
+
+/// The script of a dialogue, whose lines have what is asked, an arrow, and what is printed.
+fn script_in(alloc: Global, dialogue: &str) -> Option<String> {
+    let mut script = String::new(alloc);
+    for line in dialogue.lines() {
+        let (asked, _) = line.split_once(" => ")?;
+        push_line(alloc, &mut script, asked)?;
+    }
+    Some(script)
+}
+
+/// Adds what was printed, with a reply's bytes as text.
+fn push_printed(alloc: Global, text: &mut String, printed: &str) -> Option<()> {
+    let (conn, digits) = printed.split_once(' ').unwrap_or((printed, ""));
+    if conn.parse::<u32>().is_err() {
+        return text.push_str(printed).ok();
+    }
+    let reply = decode_r(alloc, hex::decode(alloc, digits).ok()?.as_slice()).ok()?;
+    write!(text, "{conn} {reply}").ok()
+}
+
+/// The dialogue with what was printed in the place of what is looked for.
+fn dialogue_with(alloc: Global, dialogue: &str, printed: &str) -> Option<String> {
+    let mut text = String::new(alloc);
+    let mut printed = printed.lines();
+    for line in dialogue.lines() {
+        let (asked, _) = line.split_once(" => ")?;
+        write!(text, "{asked} => ").ok()?;
+        push_printed(alloc, &mut text, printed.next()?)?;
+        text.push_str("\n").ok()?;
+    }
+    Some(text)
+}
+
+/// What a script over the start tree prints.
+fn printed_by(alloc: Global, script: &str) -> Option<String> {
+    let mut out: Vec<u8> = Vec::new(alloc);
+    let mut err: Vec<u8> = Vec::new(alloc);
+    let inputs = inputs_of(USERS, TRACE.as_bytes());
+    let status = script_of(alloc, &inputs, &mut script.as_bytes(), &mut out, &mut err);
+    if status != 0 {
+        return outcome(alloc, status, &out, &err);
+    }
+    String::from_utf8(out).ok()
+}
+
+/// Runs the script of a dialogue, and looks for what it prints.
+fn expect(rt: &(impl Abort + AllocGlobal), dialogue: &str) {
+    let script = script_in(rt.alloc(), dialogue).expect(rt, "a script");
+    let printed = printed_by(rt.alloc(), script.as_str()).expect(rt, "text");
+    let told = dialogue_with(rt.alloc(), dialogue, printed.as_str()).expect(rt, "lines");
+    assert_eq!(rt; told.as_str(), dialogue);
+    assert_eq!(rt; printed.as_str().lines().count(), dialogue.lines().count());
+}
+
+/// The users file that is taken has ann and dan, and that which is refused a line of three fields.
+const RELOADED: &str = r#"0 version 8192 9P2000 => 0 Rversion tag 1 msize 8192 version "9P2000"
+0 attach 0 bob 0/x => 0 Rattach tag 1 qid (80 0 0)
+0 attach 1 dan 0/x => 0 Rerror tag 1 ename "A6 unknown user"
+reload 313a616e6e3a3a0a323a64616e3a3a0a => reloaded
+0 attach 1 dan 0/x => 0 Rerror tag 1 ename "A6 unknown user"
+0 attach 1 bob 0/x => 0 Rattach tag 1 qid (80 0 0)
+0 attach 2 dan 0/y => 0 Rattach tag 1 qid (80 0 0)
+0 attach 3 bob 0/y => 0 Rerror tag 1 ename "A6 unknown user"
+0 walk 2 4 f => 0 Rwalk tag 1 wqid [(00 0 4)]
+0 open 4 1 => 0 Rerror tag 1 ename "O7 no write right"
+0 attach 3 ann 0/y => 0 Rattach tag 1 qid (80 0 0)
+0 walk 3 5 f => 0 Rwalk tag 1 wqid [(00 0 4)]
+0 open 5 1 => 0 Ropen tag 1 qid (00 0 4) iounit 0
+reload 313a616e6e3a => reload refused: users line 1: FieldCount
+0 attach 6 bob 0/z => 0 Rerror tag 1 ename "A6 unknown user"
+0 attach 6 dan 0/z => 0 Rattach tag 1 qid (80 0 0)
+"#;
+
+#[test]
+fn runs_keep_their_users_and_later_ones_have_the_new(rt: HostRuntime) {
+    expect(&rt, RELOADED);
+}
+
+/// The first list stands after each that is refused, and `reload` takes digits of either case.
+const REFUSED: &str = r#"reload FF => reload refused: users: NotText
+reload 00 => reload refused: users: NotText
+reload 0A0a313A3a3a => reload refused: users line 3: EmptyName
+reload 313a616e6e3a3a0a313a616e6e3a3a => reload refused: users line 2: Twice
+0 version 8192 9P2000 => 0 Rversion tag 1 msize 8192 version "9P2000"
+0 attach 0 bob 0/x => 0 Rattach tag 1 qid (80 0 0)
+reload 0a => reloaded
+0 attach 1 bob 0/x => 0 Rattach tag 1 qid (80 0 0)
+0 attach 2 bob 0/y => 0 Rerror tag 1 ename "A6 unknown user"
+"#;
+
+#[test]
+fn a_list_that_is_refused_leaves_the_one_before(rt: HostRuntime) {
+    expect(&rt, REFUSED);
+}
+
+const SCRIPT_FAULTS: [Faulty; 7] = [
+    Faulty("reload", "script line 1: Syntax"),
+    Faulty("reload 0a\nreload ", "script line 2: Syntax"),
+    Faulty("reload 0", "script line 1: Syntax"),
+    Faulty("reload  0a", "script line 1: Syntax"),
+    Faulty("reload 0a 0a", "script line 1: Syntax"),
+    Faulty("0 0 reload", "script line 1: Syntax"),
+    Faulty("Reload 0a", "script line 1: Syntax"),
+];
+
+fn expect_script_fault(rt: &(impl Abort + AllocGlobal), faulty: &Faulty) {
+    let inputs = inputs_of(USERS, HEADER.as_bytes());
+    let printed = scripted(rt.alloc(), &inputs, &mut faulty.0.as_bytes());
+    expect_fault(rt, printed, faulty.1);
+}
+
+#[test]
+fn tells_each_fault_of_a_reload(rt: HostRuntime) {
+    for faulty in &SCRIPT_FAULTS {
+        expect_script_fault(&rt, faulty);
+    }
+}
+
+#[test]
+fn a_reload_is_told_on_standard_output_alone(rt: HostRuntime) {
+    let inputs = Inputs {
+        verbose: true,
+        ..inputs_of(USERS, HEADER.as_bytes())
+    };
+    let printed = scripted(
+        rt.alloc(),
+        &inputs,
+        &mut "reload 0a\nreload 61\n".as_bytes(),
+    );
+    let wanted = "reloaded\nreload refused: users line 1: FieldCount\n";
+    expect_printed(&rt, printed, wanted, "");
+}

@@ -1,0 +1,138 @@
+//! Whether the journal of a shared run is the one that its users were answered from.
+
+use super::side::{attach, find, open, published, read, stat, walk, write};
+use cs_journal::{AuditFault, Pass};
+use cs_permit::Call;
+use cs_run::Answer;
+use cs_shared::{AnyScene, SharedRegistry, SharedRun};
+use std::alloc::Global;
+use std::process::Abort;
+use std::sync::Wait;
+
+/// A run, the passes of ann and of bob, and what was answered under them, a line each.
+#[derive(Drop)]
+struct Pair {
+    run: SharedRun<AnyScene>,
+    passes: Vec<Pass>,
+    told: String,
+}
+
+/// The call that a word asks for.
+fn call_of(alloc: Global, user: &str, word: &str) -> Option<Call> {
+    match word {
+        "walk" => walk(alloc, user),
+        "open" => open(alloc, user, 2),
+        "write" => write(alloc, user, "HI"),
+        "read" => Some(read()),
+        _ => Some(stat()),
+    }
+}
+
+impl Pair {
+    /// The run of that name, to which ann is attached, and then bob.
+    fn of<R: Wait>(
+        rt: &R,
+        alloc: Global,
+        registry: &SharedRegistry<AnyScene>,
+        name: &str,
+    ) -> Option<Pair> {
+        let run = find(rt, alloc, registry, name)?;
+        let mut passes = Vec::new(alloc);
+        passes.push(attach(rt, alloc, &run, "ann")?).ok()?;
+        passes.push(attach(rt, alloc, &run, "bob")?).ok()?;
+        let told = String::new(alloc);
+        Some(Pair { run, passes, told })
+    }
+
+    fn call<R: Wait>(&mut self, rt: &R, alloc: Global, user: &str, word: &str) -> Option<Answer> {
+        let pass = self.passes.get_mut(if user == "ann" { 0 } else { 1 })?;
+        let call = call_of(alloc, user, word)?;
+        Some(self.run.call(rt, alloc, pass, 2, call))
+    }
+
+    /// Makes calls, a line each: by whom, and which.
+    fn make<R: Wait>(&mut self, rt: &R, alloc: Global, calls: &str) -> Option<()> {
+        for line in calls.lines() {
+            let (user, word) = line.split_once(' ')?;
+            let answer = self.call(rt, alloc, user, word)?;
+            write!(self.told, "{answer:?}\n").ok()?;
+        }
+        Some(())
+    }
+
+    fn audit<R: Wait>(&self, rt: &R, passes: &[Pass]) -> Result<(), AuditFault> {
+        self.run.inspect(rt, |run| run.audit(passes))
+    }
+
+    /// What the journal tells of the call at a place; None past its end.
+    fn answer_at<R: Wait>(&self, rt: &R, alloc: Global, place: usize) -> Option<Answer> {
+        self.run
+            .inspect(rt, |run| run.answer_at(alloc, place))
+            .ok()?
+    }
+
+    /// What the journal tells of the calls behind the attaches, a line each.
+    fn told_again<R: Wait>(&self, rt: &R, alloc: Global) -> Option<String> {
+        let mut told = String::new(alloc);
+        for place in 2..4 {
+            let answer = self.answer_at(rt, alloc, place)?;
+            write!(told, "{answer:?}\n").ok()?;
+        }
+        Some(told)
+    }
+}
+
+/// A run of that name on which these calls were made.
+fn after<R: Wait + Abort>(
+    rt: &R,
+    alloc: Global,
+    registry: &SharedRegistry<AnyScene>,
+    name: &str,
+    calls: &str,
+) -> Pair {
+    let mut pair = Pair::of(rt, alloc, registry, name).expect(rt, "a run");
+    pair.make(rt, alloc, calls).expect(rt, "calls");
+    pair
+}
+
+#[test]
+fn an_audit_of_a_shared_run_tells_the_first_entry_without_its_own_receipt(rt: HostRuntime) {
+    let alloc = rt.alloc();
+    let registry = published(&rt, alloc).expect(&rt, "a registry");
+    let mut x = after(&rt, alloc, &registry, "x", "ann stat\nbob stat");
+    assert!(rt; x.audit(&rt, x.passes.as_slice()) == Ok(()));
+    let y = after(&rt, alloc, &registry, "y", "ann stat\nbob walk");
+    assert!(rt; x.audit(&rt, y.passes.as_slice()) == Err(AuditFault::Changed(3)));
+    let z = after(&rt, alloc, &registry, "z", "bob stat\nann stat");
+    assert!(rt; x.audit(&rt, z.passes.as_slice()) == Err(AuditFault::Missing(2)));
+    let _bob = x.passes.pop();
+    assert!(rt; x.audit(&rt, x.passes.as_slice()) == Err(AuditFault::Count));
+}
+
+#[test]
+fn no_answer_is_invented_under_the_lock(rt: HostRuntime) {
+    let alloc = rt.alloc();
+    let registry = published(&rt, alloc).expect(&rt, "a registry");
+    let x = after(&rt, alloc, &registry, "x", "ann stat\nbob stat");
+    let told = x.told_again(&rt, alloc).expect(&rt, "two answers");
+    assert_eq!(rt; told.as_str(), x.told.as_str());
+    assert!(rt; x.answer_at(&rt, alloc, 4).is_none());
+}
+
+/// Whether bob reads this.
+fn bob_reads<R: Wait>(rt: &R, alloc: Global, pair: &mut Pair, text: &str) -> Option<bool> {
+    match pair.call(rt, alloc, "bob", "read")? {
+        Answer::Data(data) => Some(data.bytes() == text.as_bytes()),
+        _ => None,
+    }
+}
+
+#[test]
+fn a_run_does_not_restart_under_the_lock(rt: HostRuntime) {
+    let alloc = rt.alloc();
+    let registry = published(&rt, alloc).expect(&rt, "a registry");
+    let calls = "ann open\nann write\nbob open";
+    let mut x = after(&rt, alloc, &registry, "x", calls);
+    assert_eq!(rt; bob_reads(&rt, alloc, &mut x, "HIllo"), Some(true));
+    assert!(rt; x.audit(&rt, x.passes.as_slice()) == Ok(()));
+}

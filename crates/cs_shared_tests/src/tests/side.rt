@@ -1,0 +1,124 @@
+//! A registry whose one state has a file, and calls on its runs.
+
+use cs_fids::Place;
+use cs_journal::Pass;
+use cs_names::{RunName, UserName};
+use cs_permit::{Call, OpenCall, ReadCall, StatCall, WalkCall, WriteCall};
+use cs_plan::{Published, Scene};
+use cs_run::Answer;
+use cs_shared::{AnyScene, SharedRegistry, SharedRun};
+use cs_trace::read_trace;
+use cs_users::Users;
+use std::alloc::Global;
+use std::sync::atomic::{AtomicBool, Ordering};
+use std::sync::{Arc, Wait};
+use std::thread;
+
+const TRACE: &str =
+    "{\"trace\":1,\"owner\":\"cat\",\"group\":\"staff\",\"mode\":\"775\"}\n{\"start\":\"file\",\"path\":\"/f\",\"owner\":\"ann\",\"group\":\"staff\",\"mode\":\"664\",\"bytes\":\"68656c6c6f\"}\n";
+
+const USERS: &[u8] = b"1:ann::\n2:bob::\n3:cat::\n4:staff:ann:ann,bob\n";
+
+/// The number of the file.
+pub const F: u64 = 1;
+
+/// How often a thread looks for what another is to do.
+const TURNS: u32 = 10_000_000;
+
+/// A registry of a scene, and its one state.
+pub fn registry_of(alloc: Global) -> Option<(SharedRegistry<AnyScene>, Published)> {
+    let trace = read_trace(alloc, TRACE).ok()?;
+    let scene = Scene::of(alloc, trace, false, Vec::new(alloc)).ok()?;
+    let scene = Arc::new(alloc, scene).ok()?;
+    let state = Scene::make(alloc, &scene, 0).ok()?;
+    let users = Arc::new(alloc, Users::read(alloc, USERS).ok()?).ok()?;
+    let registry = SharedRegistry::<AnyScene>::new(alloc, scene, users).ok()?;
+    Some((registry, state))
+}
+
+/// The run of that name.
+pub fn find<R: Wait>(
+    rt: &R,
+    alloc: Global,
+    registry: &SharedRegistry<AnyScene>,
+    name: &str,
+) -> Option<SharedRun<AnyScene>> {
+    let name = RunName::read(alloc, name.as_bytes()).ok()?;
+    registry.find(rt, alloc, 0, &name).ok()
+}
+
+/// The pass of a user who is attached.
+pub fn attach<R: Wait>(
+    rt: &R,
+    alloc: Global,
+    run: &SharedRun<AnyScene>,
+    user: &str,
+) -> Option<Pass> {
+    match run.attach(rt, alloc, 1, user.to_string(alloc).ok()?) {
+        Ok((pass, Answer::Attached(_))) => Some(pass),
+        _ => None,
+    }
+}
+
+/// A registry whose one state is published.
+pub fn published<R: Wait>(rt: &R, alloc: Global) -> Option<SharedRegistry<AnyScene>> {
+    let (registry, state) = registry_of(alloc)?;
+    registry.publish(rt, alloc, state).ok()?;
+    Some(registry)
+}
+
+pub fn open(alloc: Global, user: &str, mode: u8) -> Option<Call> {
+    let user = UserName::read(alloc, user.as_bytes()).ok()?;
+    Some(Call::Open(OpenCall {
+        number: F,
+        user,
+        mode,
+    }))
+}
+
+pub fn write(alloc: Global, user: &str, text: &str) -> Option<Call> {
+    let user = UserName::read(alloc, user.as_bytes()).ok()?;
+    let bytes = text.to_string(alloc).ok()?.into_bytes();
+    Some(Call::Write(WriteCall {
+        number: F,
+        user,
+        offset: 0,
+        bytes,
+    }))
+}
+
+/// Of the root.
+pub fn stat() -> Call {
+    Call::Stat(StatCall { number: 0 })
+}
+
+/// Of no names, from the root.
+pub fn walk(alloc: Global, user: &str) -> Option<Call> {
+    let user = UserName::read(alloc, user.as_bytes()).ok()?;
+    Some(Call::Walk(WalkCall {
+        number: 0,
+        user,
+        names: Vec::new(alloc),
+    }))
+}
+
+/// Of the first bytes of the file.
+pub fn read() -> Call {
+    Call::Read(ReadCall {
+        number: F,
+        offset: 0,
+        count: 64,
+        place: Place::start(),
+    })
+}
+
+/// Whether the flag comes within so many looks.
+pub fn comes(flag: &AtomicBool) -> bool {
+    for _ in 0..TURNS {
+        if flag.load(Ordering::SeqCst) {
+            return true;
+        }
+        thread::yield_now();
+    }
+    false
+}

@@ -1,0 +1,119 @@
+//! The users file is read again while connections are served.
+ghost use Rattle.std.specs.Prelude.{◌≡◌, ◌≢◌, Err, Ok};
+ghost use Rattle.cs_users.specs.Reading.{users_in};
+ghost use Rattle.cs_tcp.specs.Reloads.{Loads};
+
+use crate::log::Log;
+use cs_shared::{AnyScene, SharedRegistry};
+use cs_users::{Users, UsersFault};
+use std::alloc::{AllocError, Global};
+use std::fs;
+use std::io::{self, ErrorKind, Read, Write};
+use std::rt::Files;
+use std::sync::{Mutex, Wait};
+
+/// Why the list of users stays.
+#[derive(Clone, Copy, Debug)]
+enum ReloadFault {
+    /// The file can't be read.
+    Unread,
+    /// It is no users file, or memory is wanting.
+    Users(UsersFault),
+}
+
+/// What reads files, in whichever thread.
+pub trait ReadsFiles {
+    /// The bytes of the file at the path.
+    fn read_file(&self, alloc: Global, path: &str) -> io::Result<Vec<u8>>;
+}
+
+impl<R: Files> ReadsFiles for R {
+    fn read_file(&self, alloc: Global, path: &str) -> io::Result<Vec<u8>> {
+        let mut file = fs::open(self, path)?;
+        let mut bytes = Vec::new(alloc);
+        file.read_to_end(&mut bytes)?;
+        Ok(bytes)
+    }
+}
+
+/// Loads the users that the bytes of a users file spell, if these aren't the last ones; now they are. Where
+/// memory is wanting the last ones stay, so that these are tried again.
+fn load(
+    rt: &impl Wait,
+    alloc: Global,
+    registry: &SharedRegistry<AnyScene>,
+    last: &mut Vec<u8>,
+    bytes: Vec<u8>,
+) -> Result<(), UsersFault>
+    ensures same { bytes.items ≡ last.old.items → result ≡ Ok tt }
+    ensures changed { bytes.items ≢ last.old.items → Loads (users_in bytes.items) result }
+    ensures last { result ≢ Err UsersFault.Memory → last.new.items ≡ bytes.items }
+    ensures memory { result ≡ Err UsersFault.Memory → last.new.items ≡ last.old.items }
+{
+    if last.as_slice() == bytes.as_slice() {
+        return Ok(());
+    }
+    let loaded = match Users::read(alloc, &bytes) {
+        Ok(users) => registry
+            .reload(rt, alloc, users)
+            .map_err(|_| UsersFault::Memory),
+        Err(fault) => Err(fault),
+    };
+    if loaded != Err(UsersFault::Memory) {
+        *last = bytes;
+    }
+    loaded
+}
+
+/// The users file of a server that reads it again.
+#[derive(Drop)]
+pub(crate) struct Reloading {
+    path: String,
+    /// The bytes of which it was last told what they come to.
+    last: Mutex<Vec<u8>>,
+}
+
+impl Reloading {
+    /// That of the path, which had these bytes when the server was made.
+    pub(crate) fn new(alloc: Global, path: &str, bytes: &[u8]) -> Result<Reloading, AllocError> {
+        Ok(Reloading {
+            path: path.to_string(alloc)?,
+            last: Mutex::new(Vec::from_slice(alloc, bytes)?),
+        })
+    }
+
+    /// Reads the file, and loads its users if it changed. One thread at a time, so that what the file was
+    /// earlier is never loaded later.
+    fn read<R: ReadsFiles + Wait>(
+        &self,
+        rt: &R,
+        alloc: Global,
+        registry: &SharedRegistry<AnyScene>,
+    ) -> Result<(), ReloadFault> {
+        let mut last = self.last.lock(rt);
+        match rt.read_file(alloc, self.path.as_str()) {
+            Ok(bytes) => load(rt, alloc, registry, &mut last, bytes).map_err(ReloadFault::Users),
+            Err(error) if error.kind() == ErrorKind::OutOfMemory => {
+                Err(ReloadFault::Users(UsersFault::Memory))
+            }
+            Err(_) => Err(ReloadFault::Unread),
+        }
+    }
+
+    /// Reads the file again: runs that are made from now on have its users. Else it is told why the list
+    /// stays.
+    pub(crate) fn again<R: ReadsFiles + Wait, E: Write>(
+        &self,
+        rt: &R,
+        alloc: Global,
+        registry: &SharedRegistry<AnyScene>,
+        log: Log<E>,
+    ) {
+        let path = self.path.as_str();
+        match self.read(rt, alloc, registry) {
+            Ok(()) => {}
+            Err(ReloadFault::Unread) => log.fault(rt, &format_args!("{path}: cannot read")),
+            Err(ReloadFault::Users(fault)) => log.fault(rt, &fault),
+        }
+    }
+}

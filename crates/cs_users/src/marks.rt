@@ -1,0 +1,45 @@
+//! A bit for each row: where many are members, a look at one bit is faster than a search.
+ghost use Rattle.std.specs.Prelude.{◌≡◌, ℕ, ◌<◌, ◌/◌, ◌==◌, ◌||◌, length, IfOk};
+ghost use Rattle.cs_users.specs.Marks.{AreMarks, is_marked};
+
+use std::alloc::{AllocError, Global};
+
+/// The bits, 64 to a word. One more word than the rows fill does no harm.
+#[derive(Debug, Drop)]
+pub(crate) struct Marks {
+    words: Vec<u64>,
+}
+
+/// Sets the bit of the row at that place.
+fn mark(words: &mut Vec<u64>, place: usize)
+    requires { place / 64 < length words.old.items }
+    ensures long { length words.new.items ≡ length words.old.items }
+    ensures marked { (other : ℕ) → is_marked words.new.items other ≡ (place == other || is_marked words.old.items other) }
+{
+    words[place / 64] |= 1 << (place % 64);
+}
+
+impl Marks {
+    /// The bits of so many rows, set at these places.
+    pub(crate) fn of(alloc: Global, count: usize, places: &[usize]) -> Result<Marks, AllocError>
+        ensures { IfOk result (λ marks. AreMarks count places.now marks.words.items) }
+    {
+        let mut words = vec![in alloc; 0; count / 64 + 1]?;
+        for place in places {
+            if *place < count {
+                mark(&mut words, *place);
+            }
+        }
+        Ok(Marks { words })
+    }
+
+    /// Whether the bit of the row at that place is set.
+    pub(crate) fn has(&self, place: usize) -> bool
+        ensures { result ≡ is_marked self.now.words.items place }
+    {
+        match self.words.get(place / 64) {
+            Some(word) => word >> (place % 64) & 1 == 1,
+            None => false,
+        }
+    }
+}

@@ -1,0 +1,14 @@
+-- What it is to load another list of users.
+use Rattle.std.specs.Prelude.{List, if◌then◌else◌}
+use Rattle.cs_journal.specs.Runs.{RunOf}
+use Rattle.cs_registry.specs.Registries.{Registry, with_users}
+use Rattle.cs_users.specs.Rows.{Row}
+use Rattle.cs_world.specs.declared.reply.Reply.{Reply}
+use Rattle.cs_world.specs.declared.reply.Reply.TheVariants.{NotReloaded, Reloaded}
+use Rattle.cs_world.specs.Marks.{Mark, refuses_users}
+
+-- the runs that are made from then on have the list, if memory holds it
+abbrev pub reloaded : Registry RunOf → List Row → Mark → Reply × Registry RunOf
+reloaded registry users mark =
+    if refuses_users mark then (NotReloaded, registry) else
+    (Reloaded, with_users registry users)

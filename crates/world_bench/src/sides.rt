@@ -1,0 +1,92 @@
+//! Messages to a world, and to a session over one run alone.
+
+use crate::alone::Alone;
+use crate::files::{scene, users};
+use crate::messages::{opening, send};
+use cs_bench::Work;
+use cs_serve::world_of;
+use cs_world::World;
+use std::alloc::Global;
+
+/// Messages that are sent to a world one after the other, so often in a round.
+#[derive(Drop)]
+pub struct ToWorld {
+    pub world: World,
+    pub messages: Vec<Vec<u8>>,
+    pub out: Vec<u8>,
+    pub repeats: u64,
+}
+
+/// The same to a session over one run alone.
+#[derive(Drop)]
+pub struct ToSession {
+    alone: Alone,
+    messages: Vec<Vec<u8>>,
+    out: Vec<u8>,
+    repeats: u64,
+}
+
+impl ToWorld {
+    /// A world of a state for each of so many creats and holes, in which the connection 0 has begun a
+    /// session.
+    pub fn of(alloc: Global, creats: u32, repeats: u64) -> Option<ToWorld> {
+        let mut side = ToWorld {
+            world: world_of(alloc, scene(alloc, creats)?, users(alloc)?).ok()?,
+            messages: opening(alloc)?,
+            out: Vec::new(alloc),
+            repeats,
+        };
+        side.send(alloc)?;
+        Some(side)
+    }
+
+    /// Sends each message once. None where one is denied.
+    fn send(&mut self, alloc: Global) -> Option<()> {
+        for bytes in &self.messages {
+            send(alloc, &mut self.world, bytes, &mut self.out)?;
+        }
+        Some(())
+    }
+}
+
+impl Work for ToWorld {
+    fn run(&mut self, alloc: Global) -> u64 {
+        let mut done = 0u64;
+        for _ in 0..self.repeats {
+            done = done.wrapping_add(u64::from(self.send(alloc).is_some()));
+        }
+        done
+    }
+}
+
+impl ToSession {
+    /// A session that has begun over a fresh run, and what is to be sent.
+    pub fn of(alloc: Global, messages: Vec<Vec<u8>>, repeats: u64) -> Option<ToSession> {
+        let mut side = ToSession {
+            alone: Alone::new(alloc, scene(alloc, 0)?, users(alloc)?)?,
+            messages: opening(alloc)?,
+            out: Vec::new(alloc),
+            repeats,
+        };
+        side.send(alloc)?;
+        side.messages = messages;
+        Some(side)
+    }
+
+    fn send(&mut self, alloc: Global) -> Option<()> {
+        for bytes in &self.messages {
+            self.alone.send(alloc, bytes, &mut self.out)?;
+        }
+        Some(())
+    }
+}
+
+impl Work for ToSession {
+    fn run(&mut self, alloc: Global) -> u64 {
+        let mut done = 0u64;
+        for _ in 0..self.repeats {
+            done = done.wrapping_add(u64::from(self.send(alloc).is_some()));
+        }
+        done
+    }
+}

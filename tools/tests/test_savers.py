@@ -1,0 +1,87 @@
+"""A saver of a configuration in four ways, recorded and checked: how many of its states fail."""
+
+import inspect
+import os
+import sys
+import unittest
+
+from .support import FAKE, InFolder, needs_strace
+
+
+def text_of(version):
+    """A version of 5,011 bytes, so of two blocks."""
+    return ('version=%d\n' % version + 1252 * ('%03d\n' % version))[:5011]
+
+
+TEXT_OF = inspect.getsource(text_of)
+# Stores three versions, and tells each. The first word says how.
+SAVER = TEXT_OF + """
+import os, sys
+def sync(path):
+    file = os.open(path, os.O_RDONLY)
+    os.fsync(file)
+    os.close(file)
+way = sys.argv[1]
+for version in (1, 2, 3):
+    name = 'config' if way == 'in place' else 'config.new'
+    with open(name, 'w') as file:
+        file.write(text_of(version))
+    if way != 'by a rename':
+        sync(name)
+    if way != 'in place':
+        os.rename(name, 'config')
+    if way == 'with both syncs':
+        sync('.')
+    os.write(1, b'version %d is saved\\n' % version)
+"""
+# The file has a version, whole, which isn't older than what was told.
+CHECK = TEXT_OF + """
+import os, sys
+with open('config') as file:
+    text = file.read()
+whole = [version for version in range(4) if text == text_of(version)]
+if not whole:
+    sys.exit('corrupt: no version is whole')
+if whole[0] < int(os.environ['CRASHFS_SAYS']):
+    sys.exit('lost: an older version')
+"""
+
+# The way, its micro-operations, states, different trees, and states that fail.
+WAYS = [
+    ('in place', 15, 43, 28, 30),
+    ('by a rename', 18, 154, 89, 72),
+    ('synced before it', 18, 82, 49, 30),
+    ('with both syncs', 18, 52, 37, 0),
+]
+
+
+@needs_strace
+class Savers(InFolder):
+
+    def first_line(self, way: str) -> str:
+        """What crashfs-check tells of the saver that saves in that way."""
+        os.mkdir(self.path(way))
+        self.write(f'{way}/config', text_of(0))
+        ran = self.run_tool('crashfs-record', way, 'out.trace', '--',
+                            sys.executable, '-S', self.path('saver.py'), way)
+        self.assertEqual(ran.returncode, 0, ran.stderr)
+        self.assertIn('its last state is that of the directory', ran.stderr)
+        ran = self.run_tool('crashfs-check', '--crashfs', FAKE, 'out.trace', '--',
+                            sys.executable, '-S', self.path('check.py'))
+        self.assertEqual(ran.stderr, '')
+        return ran.stdout.splitlines()[0]
+
+    def test_so_many_states_fail(self):
+        os.umask(0o022)
+        self.write('saver.py', SAVER)
+        self.write('check.py', CHECK)
+        for way, operations, states, different, failing in WAYS:
+            with self.subTest(way):
+                self.assertRegex(
+                    self.first_line(way),
+                    f'^out.trace: {operations} micro-operations, {states} states, '
+                    f'{different} different: {failing or "none"} fails?')
+
+
+if __name__ == '__main__':
+    unittest.main()
