@@ -14,7 +14,7 @@ use cs_archive::tar_of;
 use cs_families::picks_of;
 use cs_lists::list_with;
 use cs_serve::{Inputs, script_of};
-use cs_tcp::{Serving, serve_of};
+use cs_tcp::{ReadsFiles, Serving, serve_of};
 use files::{Given, out_of_memory};
 use std::io::{self, BufWriter, IsTerminal, Write};
 use std::net::{Net, TcpListener, TcpStream};
@@ -35,7 +35,7 @@ fn run_serve<R, W: Write, E: Write + Send>(
     err: &mut E,
 ) -> u8
 where
-    R: Files + Input + Eprint + AllocGlobal + Clock + Threads + Wait + Sync,
+    R: ReadsFiles + Input + Eprint + AllocGlobal + Clock + Threads + Wait + Sync,
     R: Net<Listener = TcpListener, Stream = TcpStream>,
     R::Reader: Send,
 {
@@ -49,7 +49,7 @@ where
 /// Does what is asked for, once its files are read. Err where one of them can't be.
 fn run_job<R, E: Write + Send>(rt: &R, err: &mut E, on_terminal: bool, ask: &Ask) -> Result<u8, u8>
 where
-    R: Files + Input + Print + Eprint + AllocGlobal + Clock + Threads + Wait + Sync,
+    R: Files + ReadsFiles + Input + Print + Eprint + AllocGlobal + Clock + Threads + Wait + Sync,
     R: Net<Listener = TcpListener, Stream = TcpStream>,
     R::Reader: Send,
 {
@@ -85,7 +85,7 @@ fn unasked<R: Print + Eprint>(rt: &R, error: &Error) -> u8 {
 
 fn run<R, E: Write + Send>(rt: &R, err: &mut E, on_terminal: bool, words: &[&str]) -> u8
 where
-    R: Files + Input + Print + Eprint + AllocGlobal + Clock + Threads + Wait + Sync,
+    R: Files + ReadsFiles + Input + Print + Eprint + AllocGlobal + Clock + Threads + Wait + Sync,
     R: Net<Listener = TcpListener, Stream = TcpStream>,
     R::Reader: Send,
 {

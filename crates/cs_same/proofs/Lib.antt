@@ -1,5 +1,9 @@
 pub mod Nodes
 pub mod Firsts
-pub mod Hiding
-pub mod Equal
 pub mod Flags
+pub mod Picking
+pub mod Keeping
+pub mod Bytes
+pub mod Listing
+pub mod Settling
+pub mod Equal

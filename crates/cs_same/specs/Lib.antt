@@ -1,4 +1,10 @@
 pub mod Trees
 pub mod Firsts
-pub mod Tables
+pub mod Differences
+pub mod Windows
+pub mod Reaching
+pub mod Pairs
+pub mod Places
+pub mod Standing
+pub mod Fixed
 pub mod Parts

@@ -11,13 +11,22 @@ use std::collections::BTreeMap;
 use std::sync::Arc;
 
 /// What tells the bytes that a block of a file has in a state: the last micro-operations that write into it
-/// and that change the file's size. Those before them are in the state too, as they need them.
+/// and that end the file before its end, and where the file ends in it. Those before them are in the state
+/// too, as they need them.
 #[derive(Clone, Copy, Debug, PartialEq, Eq, PartialOrd, Ord)]
 struct Version {
     file: u32,
     block: u64,
     write: Option<u32>,
-    size: Option<u32>,
+    cut: Option<u32>,
+    end: u64,
+}
+
+/// A micro-operation that gives a file this length.
+#[derive(Clone, Copy, Debug)]
+struct Cut {
+    place: u32,
+    length: u64,
 }
 
 /// A file as it is in a state.
@@ -26,7 +35,8 @@ struct Left {
     /// The digest of owner, group and permissions.
     rights: u64,
     length: u64,
-    size: Option<u32>,
+    /// Those that change its size, but for each before one that leaves no more; so their lengths ascend.
+    cuts: Vec<Cut>,
     /// The last micro-operation that writes into each of the blocks that are read.
     writes: Vec<Option<u32>>,
 }
@@ -59,25 +69,31 @@ fn left_of(
     let mut left = Left {
         rights: file.rights,
         length: file.length,
-        size: None,
+        cuts: Vec::new(alloc),
         writes: vec![in alloc; None; blocks]?,
     };
     for (place, change) in &file.changes {
         if members.get(*place as usize).copied().unwrap_or(false) {
-            left.take(*place, *change);
+            left.take(*place, *change)?;
         }
     }
     Ok(left)
 }
 
+fn is_below(cut: &Cut, end: u64) -> bool {
+    cut.length < end
+}
+
 impl Left {
     /// Takes what a micro-operation does.
-    fn take(&mut self, place: u32, change: Change) {
+    fn take(&mut self, place: u32, change: Change) -> Result<(), AllocError> {
         match change {
             Change::Rights(rights) => self.rights = rights,
             Change::Size(length) => {
                 self.length = length;
-                self.size = Some(place);
+                let kept = self.cuts.partition_point(|cut| is_below(cut, length));
+                self.cuts.truncate(kept);
+                self.cuts.push(Cut { place, length })?;
             }
             Change::Write(at) => {
                 if let Some(write) = self.writes.get_mut(at) {
@@ -85,6 +101,15 @@ impl Left {
                 }
             }
         }
+        Ok(())
+    }
+
+    /// The last micro-operation that leaves the file less than this length.
+    fn cut_below(&self, end: u64) -> Option<u32> {
+        let count = self.cuts.partition_point(|cut| is_below(cut, end));
+        let last = count.checked_sub(1)?;
+        let cut = self.cuts.get(last)?;
+        Some(cut.place)
     }
 }
 
@@ -146,11 +171,13 @@ impl Contents {
         for (at, write) in left.writes.iter().enumerate() {
             let block = self.blocks.get(at).copied().unwrap_or(0);
             if block <= left.length / BLOCK_BYTES {
+                let end = block.saturating_add(1).saturating_mul(BLOCK_BYTES);
                 let version = Version {
                     file: standing.file,
                     block,
                     write: *write,
-                    size: left.size,
+                    cut: left.cut_below(end),
+                    end: left.length.min(end),
                 };
                 digest = mixed(digest, self.block_digest(alloc, standing, version)?);
             }

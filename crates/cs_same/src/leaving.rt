@@ -1,21 +1,124 @@
 //! Whether two sets are seen to leave equal trees, with none of the trees made.
-ghost use Rattle.std.specs.Prelude.{◌≡◌, length, IfOk, IsTrue};
+ghost use Rattle.std.specs.Prelude.{◌≡◌, ◌<◌, ℕ, length, slice_index_or, IfOk, IsTrue};
+ghost use Rattle.cs_micro.specs.Micros.{micros_in};
+ghost use Rattle.cs_apm.specs.Contents.{IsSmall};
 ghost use Rattle.cs_apm.specs.Orders.{needs_of};
+ghost use Rattle.cs_apm.specs.Rules.{op_at};
 ghost use Rattle.cs_apm.specs.Sets.{IsAllowed};
 ghost use Rattle.cs_apm.specs.States.{crash_state_of};
 ghost use Rattle.cs_plan.specs.Scenes.{micros_of};
-ghost use Rattle.cs_same.specs.Parts.{AreParts};
+ghost use Rattle.cs_same.specs.Fixed.{AreFixed};
+ghost use Rattle.cs_same.specs.Pairs.{AreAllowed, IsPair};
+ghost use Rattle.cs_same.specs.Parts.{AreParts, IsAlikeBy};
+ghost use Rattle.cs_same.specs.Places.{AreListed};
 
+use crate::differing::differing;
+use crate::pairs::{Pair, is_settled};
 use crate::parts::Parts;
-use crate::shown::{are_same_slots, shown_of, standing};
-use crate::sizes::sizes_left;
-use cs_apm::state::filled;
+use crate::reaching::changed_file;
+use crate::standing::{are_all_alike, flag_at, stands_in_both};
+use crate::touched::Touched;
+use cs_apm::slot::Slot;
+use cs_micro::MicroOp;
 use cs_plan::Scene;
 use std::alloc::{AllocError, Global};
 
-/// Whether two sets are seen to leave equal trees: the same stands at every path, and the same
-/// micro-operations show in the files that stand. Where they aren't the trees may still be equal, as where
-/// a file is written with the bytes that it has.
+/// What two sets leave in the slots that some step changes, and for each file whether it stands in another.
+#[derive(Clone, Copy)]
+struct Slots<'a> {
+    first: &'a [Slot],
+    second: &'a [Slot],
+    fixed: &'a [bool],
+}
+
+/// Whether the micro-operation's file is left alike where it does something, or stands nowhere.
+fn is_alike_by(
+    alloc: Global,
+    pair: &Pair<'_>,
+    slots: &Slots<'_>,
+    op: &MicroOp,
+) -> Result<bool, AllocError>
+    requires pair { IsPair pair.now }
+    requires long { length slots.now.first.now ≡ length slots.now.second.now }
+    requires small { IsSmall op.now }
+    ensures { IfOk result (λ same. IsTrue same → IsAlikeBy pair.now slots.now.fixed.now slots.now.first.now slots.now.second.now op.now) }
+{
+    let Some(file) = changed_file(op) else {
+        return Ok(true);
+    };
+    if flag_at(slots.fixed, file) || stands_in_both(slots.first, slots.second, file) {
+        is_settled(alloc, pair, file, op)
+    } else {
+        Ok(true)
+    }
+}
+
+/// The same of the micro-operation at a place.
+fn is_alike_at(
+    alloc: Global,
+    pair: &Pair<'_>,
+    slots: &Slots<'_>,
+    place: u32,
+) -> Result<bool, AllocError>
+    requires pair { IsPair pair.now }
+    requires long { length slots.now.first.now ≡ length slots.now.second.now }
+    ensures { IfOk result (λ same. IsTrue same → IsAlikeBy pair.now slots.now.fixed.now slots.now.first.now slots.now.second.now (op_at pair.now.ops.now place)) }
+{
+    let Some(op) = pair.ops.get(place as usize) else {
+        return Ok(true);
+    };
+    is_alike_by(alloc, pair, slots, op)
+}
+
+/// Whether each file that stands is left alike where one of the micro-operations at these places does
+/// something.
+fn are_alike_by(
+    alloc: Global,
+    pair: &Pair<'_>,
+    slots: &Slots<'_>,
+    places: &[u32],
+) -> Result<bool, AllocError>
+    requires pair { IsPair pair.now }
+    requires long { length slots.now.first.now ≡ length slots.now.second.now }
+    ensures { IfOk result (λ same. IsTrue same → (k : ℕ) → k < length places.now → IsAlikeBy pair.now slots.now.fixed.now slots.now.first.now slots.now.second.now (op_at pair.now.ops.now (slice_index_or places.now k 0))) }
+{
+    for place in places {
+        if !is_alike_at(alloc, pair, slots, *place)? {
+            return Ok(false);
+        }
+    }
+    Ok(true)
+}
+
+/// Whether both leave equal trees: what stands in the slots is alike, and what is in one of them alone leaves
+/// the files that stand as they are in the other.
+fn are_alike(
+    alloc: Global,
+    pair: &Pair<'_>,
+    touched: &Touched,
+    fixed: &[bool],
+) -> Result<bool, AllocError>
+    requires allowed { AreAllowed pair.now }
+    requires touched { AreListed pair.now.tables.now.slots.items pair.now.tables.now.steps.items touched.now }
+    requires fixed { AreFixed pair.now.tables.now touched.now.ids.items fixed.now }
+    ensures { IfOk result (λ same. IsTrue same → crash_state_of pair.now.trace.now (micros_in pair.now.trace.now) pair.now.places.now ≡ crash_state_of pair.now.trace.now (micros_in pair.now.trace.now) pair.now.others.now) }
+{
+    let first = touched.left(alloc, pair.places)?;
+    let second = touched.left(alloc, pair.others)?;
+    if !are_all_alike(alloc, pair, &first, &second)? {
+        return Ok(false);
+    }
+    let slots = Slots {
+        first: &first,
+        second: &second,
+        fixed,
+    };
+    let found = differing(alloc, pair.places, pair.others)?;
+    are_alike_by(alloc, pair, &slots, &found)
+}
+
+/// Whether two sets are seen to leave equal trees. Of files that are the same in both only the bytes are read
+/// that one of the two changes alone, and whole ones where two files stand in each other's place.
 pub fn are_seen_equal(
     alloc: Global,
     scene: &Scene,
@@ -28,15 +131,12 @@ pub fn are_seen_equal(
     requires second { IsAllowed (needs_of (micros_of scene.now)) (length (micros_of scene.now).ops) others.now }
     ensures { IfOk result (λ same. IsTrue same → crash_state_of scene.now.trace (micros_of scene.now) places.now ≡ crash_state_of scene.now.trace (micros_of scene.now) others.now) }
 {
-    let ops = scene.micros().ops();
-    let slots = filled(alloc, &parts.tables, places)?;
-    let other_slots = filled(alloc, &parts.tables, others)?;
-    if !are_same_slots(&slots, &other_slots) {
-        return Ok(false);
-    }
-    let stands = standing(alloc, &slots, parts.tables.owners.len())?;
-    let sizes = sizes_left(alloc, &parts.sizes, ops, places)?;
-    let shown = shown_of(alloc, ops, &stands, &sizes, places)?;
-    let others_shown = shown_of(alloc, ops, &stands, &sizes, others)?;
-    Ok(shown == others_shown)
+    let pair = Pair {
+        trace: scene.trace(),
+        ops: scene.micros().ops(),
+        tables: &parts.tables,
+        places,
+        others,
+    };
+    are_alike(alloc, &pair, &parts.touched, &parts.fixed)
 }

@@ -3,20 +3,24 @@
 
 mod changes;
 mod contents;
+mod differing;
 mod digests;
 mod entries;
 mod leaving;
 mod members;
 pub mod metadata;
 mod mixing;
+mod pairs;
 mod parts;
 mod places;
-mod shown;
-mod sizes;
+mod reaching;
+mod standing;
 pub mod states;
 #[cfg(test)]
 mod tests;
+mod touched;
 pub mod trees;
+mod windows;
 
 pub use states::{are_same_states, first_same};
 pub use trees::are_same_trees;

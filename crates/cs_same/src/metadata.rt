@@ -5,7 +5,7 @@ ghost use Rattle.cs_tree_model.specs.Record.{lent};
 use cs_names::UserName;
 use cs_tree_model::{Kind, Metadata};
 
-fn are_same_names(name: &UserName, other: &UserName) -> bool
+pub(crate) fn are_same_names(name: &UserName, other: &UserName) -> bool
     ensures { IsTrue result ↔ (name.now ≡ other.now) }
 {
     name == other

@@ -1,17 +1,31 @@
 //! What is found once of a trace, to tell that two states are equal without their trees.
 
-use crate::sizes::sizes_before;
+ghost use Rattle.std.specs.Prelude.{IfOk};
+ghost use Rattle.cs_same.specs.Fixed.{AreFixed};
+
+use crate::standing::standing;
+use crate::touched::{Touched, clear};
 use cs_apm::tables::Tables;
 use cs_micro::break_up;
 use cs_plan::Scene;
 use std::alloc::{AllocError, Global};
 
-/// The tables of a trace, and the sizes of its files.
+/// The tables of a trace, the slots that some step changes, and for each file whether it stands in another
+/// slot.
 #[derive(Drop)]
 pub struct Parts {
     pub tables: Tables,
-    /// How many bytes each file has before any operation, by its number.
-    pub sizes: Vec<u64>,
+    pub touched: Touched,
+    pub fixed: Vec<bool>,
+}
+
+/// For each file whether it stands in a slot that is none of these.
+fn fixed_of(alloc: Global, tables: &Tables, ids: &[u32]) -> Result<Vec<bool>, AllocError>
+    ensures { IfOk result (λ fixed. AreFixed tables.now ids.now fixed.items) }
+{
+    let mut slots = Vec::from_slice(alloc, &tables.slots)?;
+    clear(&mut slots, ids);
+    standing(alloc, &slots, tables.owners.len())
 }
 
 impl Parts {
@@ -27,7 +41,14 @@ impl Parts {
             return Err(AllocError);
         };
         let tables = Tables::of(alloc, scene.trace(), &micros)?;
-        let sizes = sizes_before(alloc, scene.trace(), micros.ops(), &tables)?;
-        Ok(Parts { tables, sizes })
+        // they are few enough that their slots can be counted
+        let _few = micros.ops();
+        let touched = Touched::of(alloc, &tables.slots, &tables.steps)?;
+        let fixed = fixed_of(alloc, &tables, &touched.ids)?;
+        Ok(Parts {
+            tables,
+            touched,
+            fixed,
+        })
     }
 }

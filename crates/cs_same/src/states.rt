@@ -1,5 +1,5 @@
 //! For each state of a plan the first one with an equal tree.
-ghost use Rattle.std.specs.Prelude.{◌≡◌, ◌<◌, ◌≤◌, ◌↔◌, ℕ, length, IfOk, IfSome, IsTrue};
+ghost use Rattle.std.specs.Prelude.{◌≡◌, ◌<◌, ◌≤◌, ◌^◌, ◌↔◌, ℕ, length, slice_index, IfOk, IfSome, IsTrue};
 ghost use Rattle.std.specs.Arc.{arc_value};
 ghost use Rattle.cs_plan.specs.Scenes.{state_at};
 ghost use Rattle.cs_same.specs.Firsts.{AreFirsts, IsSame};
@@ -72,49 +72,56 @@ fn are_equal(
     are_same_states(alloc, scene, number, other)
 }
 
-/// The first of these numbers whose state has the tree of this one's.
-fn first_among(
+/// The place among these numbers of the first that is less than this one and whose state has its tree.
+fn place_among(
     alloc: Global,
     scene: &Arc<Scene>,
     parts: &Parts,
     numbers: &[u32],
     number: u32,
-) -> Result<Option<u32>, AllocError>
+) -> Result<Option<usize>, AllocError>
     requires parts { AreParts (arc_value scene.now).trace parts.now }
     requires there { number < length (arc_value scene.now).plan }
-    ensures { IfOk result (λ first. IfSome first (IsSame (arc_value scene.now) number)) }
+    ensures there { IfOk result (λ place. IfSome place (λ k. (k < length numbers.now) × (slice_index numbers.now k < number))) }
+    ensures equal { IfOk result (λ place. IfSome place (λ k. state_at (arc_value scene.now) (slice_index numbers.now k) ≡ state_at (arc_value scene.now) number)) }
 {
-    for other in numbers {
+    for (place, other) in numbers.iter().enumerate() {
         if *other < number && are_equal(alloc, scene, parts, *other, number)? {
-            return Ok(Some(*other));
+            return Ok(Some(place));
         }
     }
     Ok(None)
 }
 
-/// The first state with the tree of this one, whose digest is given: one of those with that digest, or this
-/// state itself, which is then kept among them.
+/// The first state with the tree of this one, whose digest is given: that of the last state with that
+/// digest and tree, if there is one. This state is then kept in its place, since those that come close
+/// after one another differ by little.
 fn first_of(
     alloc: Global,
     scene: &Arc<Scene>,
     parts: &Parts,
     found: &mut BTreeMap<u64, Vec<u32>>,
+    firsts: &[u32],
     digest: u64,
-    number: u32,
 ) -> Result<u32, AllocError>
     requires parts { AreParts (arc_value scene.now).trace parts.now }
-    requires there { number < length (arc_value scene.now).plan }
-    ensures { IfOk result (IsSame (arc_value scene.now) number) }
+    requires there { length firsts.now < length (arc_value scene.now).plan }
+    requires few { length firsts.now < 2 ^ 32 }
+    requires firsts { (k : ℕ) → k < length firsts.now → IsSame (arc_value scene.now) k (slice_index firsts.now k) }
+    ensures { IfOk result (IsSame (arc_value scene.now) (length firsts.now)) }
 {
+    let number = firsts.len() as u32;
     let Some(numbers) = found.get_mut(&digest) else {
         found.insert(digest, vec![in alloc; number]?)?;
         return Ok(number);
     };
-    if let Some(first) = first_among(alloc, scene, parts, numbers, number)? {
-        return Ok(first);
-    }
-    numbers.push(number)?;
-    Ok(number)
+    let Some(place) = place_among(alloc, scene, parts, numbers, number)? else {
+        numbers.push(number)?;
+        return Ok(number);
+    };
+    let last = numbers[place];
+    numbers[place] = number;
+    Ok(firsts[last as usize])
 }
 
 /// The digest of the state of that number.
@@ -144,7 +151,8 @@ pub fn first_same(alloc: Global, scene: &Arc<Scene>) -> Result<Vec<u32>, AllocEr
     for place in 0..scene.plan().len() {
         let number = place as u32;
         let digest = digest_at(alloc, scene, &mut digests, number)?;
-        firsts.push(first_of(alloc, scene, &parts, &mut found, digest, number)?)?;
+        let first = first_of(alloc, scene, &parts, &mut found, &firsts, digest)?;
+        firsts.push(first)?;
     }
     Ok(firsts)
 }

@@ -1,5 +1,6 @@
 //! Worked examples of connections over the start tree, of a world's steps, and of many connections at once.
 mod asking;
+mod audits;
 mod commands;
 mod exchange;
 mod files;

@@ -1,8 +1,11 @@
 //! Audits of journals: of a full one, and of one with an eighth of the entries.
+ghost use Rattle.std.specs.Prelude.{IfSome};
+ghost use Rattle.std.specs.Arc.{arc_value};
+ghost use Rattle.cs_journal.specs.Bounds.{CanGrow};
 
 use crate::files::{tree, users};
 use cs_bench::{Bound, Row, Total, Work, compare, print_figure};
-use cs_journal::{Pass, Run};
+use cs_journal::{Pass, Run, can_grow};
 use cs_permit::{AttachCall, Call, StatCall};
 use cs_tree::PlainTree;
 use std::alloc::Global;
@@ -32,10 +35,21 @@ struct Audit {
     entries: u32,
 }
 
+/// The tree, if runs can begin with it.
+fn lower(alloc: Global) -> Option<Arc<PlainTree>>
+    ensures { IfSome result (λ lower. CanGrow (arc_value lower)) }
+{
+    let tree = tree(alloc)?;
+    if !can_grow(&tree) {
+        return None;
+    }
+    Arc::new(alloc, tree).ok()
+}
+
 impl Audit {
     /// A new run, with a pass for each of its users, none of whom has called yet.
     fn begun(alloc: Global) -> Option<Audit> {
-        let lower = Arc::new(alloc, tree(alloc)?).ok()?;
+        let lower = lower(alloc)?;
         let known = Arc::new(alloc, users(alloc)?).ok()?;
         let mut run = Run::fresh(alloc, lower, known).ok()?;
         let mut passes = Vec::new(alloc);

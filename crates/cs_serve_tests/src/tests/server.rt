@@ -131,7 +131,7 @@ fn registry(alloc: Global) -> Option<SharedRegistry<AnyScene>> {
 }
 
 /// A server whose one state is published.
-fn server_of<R: Wait + Abort>(rt: &R, alloc: Global) -> Server<AnyScene> {
+pub fn server_of<R: Wait + Abort>(rt: &R, alloc: Global) -> Server<AnyScene> {
     let registry = registry(alloc).expect(rt, "a registry");
     let state = Scene::make(alloc, registry.scene(), 0).expect(rt, "a state");
     assert!(rt; registry.publish(rt, alloc, state).is_ok());
@@ -183,7 +183,7 @@ const BOB: [&[u8]; 3] = [VERSION, BOB_TO_X, STAT];
 const NOBODY: [&[u8]; 2] = [VERSION, b"\x05\0\0\0"];
 
 /// What serving three streams comes to, of which two wait for one another.
-fn served_at_once<R: thread::Threads + Wait + Sync>(
+pub fn served_at_once<R: thread::Threads + Wait + Sync>(
     rt: &R,
     alloc: Global,
     server: &Server<AnyScene>,

@@ -1,0 +1,12 @@
+use Rattle.std.proofs.Common.{◌≡◌, ◌==◌, true, cond, sym, ap, ◌∙◌, subst}
+use Rattle.cs_apm.specs.Contents.{changes, content_after}
+use Rattle.cs_apm.specs.States.{resized}
+use Rattle.cs_same.specs.Windows.{IsWindow}
+use Rattle.cs_same.proofs.windows.change.Goals as goal
+
+pub returns-in-ChangeFileSize-clause-window : goal.returns-in-ChangeFileSize-clause-window
+returns-in-ChangeFileSize-clause-window c = λ f is.
+    let to = c.in-ChangeFileSize.length in
+    let its : true ≡ (c.in-ChangeFileSize.file == c.args.file) = c.if-not-changes.ensures ∙ ap (changes c.args.file) c.in-ChangeFileSize.is in
+    subst (λ o. IsWindow c.args.offset (content_after c.args.file f o) to c.resize.new.part) (sym c.in-ChangeFileSize.is)
+    (subst (λ b. IsWindow c.args.offset (cond b (resized to f) f) to c.resize.new.part) its (c.resize.ensures.window f is))

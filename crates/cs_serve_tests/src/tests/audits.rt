@@ -1,0 +1,64 @@
+//! Audits of a run by the passes that the connections of a server gave back.
+use crate::tests::server::{served_at_once, server_of};
+use cs_journal::AuditFault;
+use cs_names::RunName;
+use cs_registry::RunKey;
+use cs_server::{Connection, GivenPasses, Server};
+use cs_shared::AnyScene;
+use std::alloc::Global;
+use std::process::Abort;
+use std::sync::Wait;
+use std::thread;
+
+/// The passes of the first connections, so many.
+fn passes_of(
+    alloc: Global,
+    connections: Vec<Connection<AnyScene>>,
+    count: u32,
+) -> Option<GivenPasses> {
+    let mut passes = GivenPasses::new(alloc);
+    let mut left = count;
+    for connection in connections {
+        if left == 0 {
+            break;
+        }
+        left -= 1;
+        passes.keep(alloc, connection).ok()?;
+    }
+    Some(passes)
+}
+
+/// What the audit of the run `0/x` by these passes comes to.
+fn audit_of<R: Wait>(
+    rt: &R,
+    alloc: Global,
+    server: &Server<AnyScene>,
+    passes: &GivenPasses,
+) -> Option<Result<(), AuditFault>> {
+    let name = RunName::read(alloc, b"x").ok()?;
+    let key = RunKey::new(0, &name);
+    let run = server.registry().find(rt, alloc, 0, &name).ok()?;
+    Some(run.inspect(rt, |run| run.audit(passes.of(&key))))
+}
+
+/// Serves three streams, of which the first and the last attach to `0/x`, and looks for the audit by the
+/// passes of the first connections, so many.
+fn expect_audit<R: thread::Threads + Wait + Sync + Abort>(
+    rt: &R,
+    alloc: Global,
+    count: u32,
+    wanted: Result<(), AuditFault>,
+) {
+    let server = server_of(rt, alloc);
+    let connections = served_at_once(rt, alloc, &server).expect(rt, "connections");
+    let passes = passes_of(alloc, connections, count).expect(rt, "memory");
+    let audit = audit_of(rt, alloc, &server, &passes).expect(rt, "an audit");
+    assert!(rt; audit == wanted);
+}
+
+#[test]
+fn a_run_is_audited_by_what_its_connections_gave_back(rt: HostRuntime) {
+    expect_audit(&rt, rt.alloc(), 3, Ok(()));
+    expect_audit(&rt, rt.alloc(), 2, Err(AuditFault::Count));
+    expect_audit(&rt, rt.alloc(), 0, Err(AuditFault::Count));
+}
