@@ -60,10 +60,11 @@ where
         return Err(out_of_memory(rt));
     };
     Ok(match ask.job {
-        Job::List(options) => list_with(alloc, &inputs, options, &mut out, err),
+        Job::List(options) => list_with(alloc, &inputs, options, &mut io::writer(rt), err),
         Job::Tar(states) => tar_of(alloc, &inputs, states, &mut out, err),
         Job::Picks(family) => picks_of(alloc, &inputs, family, &mut out, err),
-        Job::Script => script_of(alloc, &inputs, &mut rt.reader(), &mut out, err),
+        // these have no buffer: their writes are counted
+        Job::Script => script_of(alloc, &inputs, &mut rt.reader(), &mut io::writer(rt), err),
         Job::Serve(serving) => {
             let serving = Serving {
                 progress: on_terminal,

@@ -4,8 +4,6 @@
 mod command;
 mod fault;
 mod states;
-#[cfg(test)]
-mod tests;
 
 pub use command::tar_of;
 pub use fault::ArchiveFault;

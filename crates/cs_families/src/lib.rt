@@ -10,8 +10,6 @@ mod left;
 mod losses;
 mod lost;
 mod printing;
-#[cfg(test)]
-mod tests;
 
 pub use command::picks_of;
 pub use family::{Family, write_family};

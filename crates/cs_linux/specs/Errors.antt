@@ -1,7 +1,7 @@
 -- The error of Linux that stands for each rule, and the text by which its client knows an error.
 use Rattle.std.specs.Prelude.{ℕ, List, codes}
 use Rattle.cs_names.specs.declared.rule_id.RuleId.{RuleId}
-use Rattle.cs_names.specs.declared.rule_id.RuleId.TheVariants.{L1, A3, A4, A5, A6, K6, K7, K8, O3, O5, O6, O7, O8, O9, O10, C3, C4, C5, C7, C8, C9, C10, G4, G5, E4, M3, M4, M5, Q3, Q4, Q5, Q6, Q7, Q8, Q9, Q10, Q11, Q12, Q13, Q14}
+use Rattle.cs_names.specs.declared.rule_id.RuleId.TheVariants.{S1, S2, S3, S4, S5, L1, A1, A2, A3, A4, A5, A6, K1, K2, K3, K4, K5, K6, K7, K8, O1, O2, O3, O4, O5, O6, O7, O8, O9, O10, C1, C2, C3, C4, C5, C6, C7, C8, C9, C10, G1, G2, G3, G4, G5, E1, E2, E3, E4, M1, M2, M3, M4, M5, N1, H1, H2, Q1, Q2, Q3, Q4, Q5, Q6, Q7, Q8, Q9, Q10, Q11, Q12, Q13, Q14}
 use Rattle.cs_linux.specs.declared.errno.Errno.{Errno}
 use Rattle.cs_linux.specs.declared.errno.Errno.TheVariants.{NotPermitted, NoEntry, InputOutput, NoMemory, NoAccess, Exists, NotADirectory, IsADirectory, Invalid, Busy, TooLarge, NoSpace, NotEmpty}
 
@@ -47,7 +47,37 @@ errno_of G5 = Invalid
 errno_of Q5 = Invalid
 errno_of Q8 = Invalid
 errno_of Q11 = Invalid
-errno_of rule = InputOutput
+errno_of S1 = InputOutput
+errno_of S2 = InputOutput
+errno_of S3 = InputOutput
+errno_of S4 = InputOutput
+errno_of S5 = InputOutput
+errno_of A1 = InputOutput
+errno_of A2 = InputOutput
+errno_of K1 = InputOutput
+errno_of O1 = InputOutput
+errno_of C1 = InputOutput
+errno_of G1 = InputOutput
+errno_of E1 = InputOutput
+errno_of M1 = InputOutput
+errno_of N1 = InputOutput
+errno_of H1 = InputOutput
+errno_of Q1 = InputOutput
+errno_of K2 = InputOutput
+errno_of K3 = InputOutput
+errno_of K4 = InputOutput
+errno_of O2 = InputOutput
+errno_of C2 = InputOutput
+errno_of G2 = InputOutput
+errno_of E2 = InputOutput
+errno_of K5 = InputOutput
+errno_of O4 = InputOutput
+errno_of C6 = InputOutput
+errno_of G3 = InputOutput
+errno_of E3 = InputOutput
+errno_of M2 = InputOutput
+errno_of H2 = InputOutput
+errno_of Q2 = InputOutput
 
 -- the text by which Linux's client knows an error
 abbrev pub text_of : Errno → List ℕ

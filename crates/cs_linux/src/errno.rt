@@ -75,7 +75,41 @@ impl Errno {
             | RuleId::Q5
             | RuleId::Q8
             | RuleId::Q11 => Errno::Invalid,
-            _ => Errno::InputOutput,
+            // A session or an attach that isn't in order.
+            RuleId::S1
+            | RuleId::S2
+            | RuleId::S3
+            | RuleId::S4
+            | RuleId::S5
+            | RuleId::A1
+            | RuleId::A2 => Errno::InputOutput,
+            // A fid that isn't there.
+            RuleId::K1
+            | RuleId::O1
+            | RuleId::C1
+            | RuleId::G1
+            | RuleId::E1
+            | RuleId::M1
+            | RuleId::N1
+            | RuleId::H1
+            | RuleId::Q1 => Errno::InputOutput,
+            // A fid that is open or isn't, and a new one that isn't free or has no room.
+            RuleId::K2
+            | RuleId::K3
+            | RuleId::K4
+            | RuleId::O2
+            | RuleId::C2
+            | RuleId::G2
+            | RuleId::E2 => Errno::InputOutput,
+            // A file that is gone.
+            RuleId::K5
+            | RuleId::O4
+            | RuleId::C6
+            | RuleId::G3
+            | RuleId::E3
+            | RuleId::M2
+            | RuleId::H2
+            | RuleId::Q2 => Errno::InputOutput,
         }
     }
 

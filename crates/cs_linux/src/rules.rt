@@ -1,101 +1,57 @@
 //! A rule by its text.
-ghost use Rattle.std.specs.Prelude.{◌≡◌, ◌≢◌, IfSome, Some};
-ghost use Rattle.std.specs.List.{All, Contains};
-ghost use Rattle.std.specs.Option.{MatchOption};
+ghost use Rattle.std.specs.Prelude.{◌≡◌, IfSome, Some};
 ghost use Rattle.cs_names.specs.Rules.{text_of};
 ghost use Rattle.cs_names.specs.declared.rule_id.RuleId.{RuleId};
+ghost use Rattle.cs_linux.specs.Numbers.{place_of, rule_numbered, rules_of};
 
 use cs_names::RuleId;
 
-/// Every rule.
-fn rules() -> [RuleId; 71]
-    ensures { (rule : RuleId) → Contains result rule }
+/// The rules of a letter, by their numbers.
+#[tactic(auto, unfolding(crate::specs::Numbers::rules_of))]
+fn rules_of(letter: u8) -> &'static [RuleId]
+    ensures { result.now ≡ rules_of letter }
 {
-    [
-        RuleId::S1,
-        RuleId::S2,
-        RuleId::S3,
-        RuleId::S4,
-        RuleId::S5,
-        RuleId::L1,
-        RuleId::A1,
-        RuleId::A2,
-        RuleId::A3,
-        RuleId::A4,
-        RuleId::A5,
-        RuleId::A6,
-        RuleId::K1,
-        RuleId::K2,
-        RuleId::K3,
-        RuleId::K4,
-        RuleId::K5,
-        RuleId::K6,
-        RuleId::K7,
-        RuleId::K8,
-        RuleId::O1,
-        RuleId::O2,
-        RuleId::O3,
-        RuleId::O4,
-        RuleId::O5,
-        RuleId::O6,
-        RuleId::O7,
-        RuleId::O8,
-        RuleId::O9,
-        RuleId::O10,
-        RuleId::C1,
-        RuleId::C2,
-        RuleId::C3,
-        RuleId::C4,
-        RuleId::C5,
-        RuleId::C6,
-        RuleId::C7,
-        RuleId::C8,
-        RuleId::C9,
-        RuleId::C10,
-        RuleId::G1,
-        RuleId::G2,
-        RuleId::G3,
-        RuleId::G4,
-        RuleId::G5,
-        RuleId::E1,
-        RuleId::E2,
-        RuleId::E3,
-        RuleId::E4,
-        RuleId::M1,
-        RuleId::M2,
-        RuleId::M3,
-        RuleId::M4,
-        RuleId::M5,
-        RuleId::N1,
-        RuleId::H1,
-        RuleId::H2,
-        RuleId::Q1,
-        RuleId::Q2,
-        RuleId::Q3,
-        RuleId::Q4,
-        RuleId::Q5,
-        RuleId::Q6,
-        RuleId::Q7,
-        RuleId::Q8,
-        RuleId::Q9,
-        RuleId::Q10,
-        RuleId::Q11,
-        RuleId::Q12,
-        RuleId::Q13,
-        RuleId::Q14,
-    ]
+    use RuleId::*;
+    match letter {
+        b'S' => &[S1, S2, S3, S4, S5],
+        b'L' => &[L1],
+        b'A' => &[A1, A2, A3, A4, A5, A6],
+        b'K' => &[K1, K2, K3, K4, K5, K6, K7, K8],
+        b'O' => &[O1, O2, O3, O4, O5, O6, O7, O8, O9, O10],
+        b'C' => &[C1, C2, C3, C4, C5, C6, C7, C8, C9, C10],
+        b'G' => &[G1, G2, G3, G4, G5],
+        b'E' => &[E1, E2, E3, E4],
+        b'M' => &[M1, M2, M3, M4, M5],
+        b'N' => &[N1],
+        b'H' => &[H1, H2],
+        b'Q' => &[Q1, Q2, Q3, Q4, Q5, Q6, Q7, Q8, Q9, Q10, Q11, Q12, Q13, Q14],
+        _ => &[],
+    }
 }
 
-/// The first of the rules that has the text.
-fn first_with(rules: &[RuleId], text: &str) -> Option<RuleId>
-    ensures { MatchOption result (All (λ rule. text_of rule ≢ text.now) rules.now) (λ rule. text_of rule ≡ text.now) }
+/// The place of a rule among those of its letter, by the two bytes behind the letter: a digit and a
+/// space, or two digits. Of other bytes it is any place.
+#[tactic(auto, unfolding(crate::specs::Numbers::place_of))]
+fn place_of(first: u8, second: u8) -> usize
+    ensures { result ≡ place_of first second }
 {
-    for rule in rules {
-        if rule.text() == text {
-            return Some(*rule);
-        }
+    let (first, second) = (first as usize, second as usize);
+    // a space is 32, and the digit 1 is 49; two digits count from "01", which is 48 * 10 + 49
+    if second == 32 {
+        first.saturating_sub(49)
+    } else {
+        (first * 10 + second).saturating_sub(529)
     }
-    None
+}
+
+/// The one rule whose text it may be.
+fn rule_numbered(text: &[u8]) -> Option<RuleId>
+    ensures { result ≡ rule_numbered text.now }
+{
+    let [letter, first, second, ..] = text else {
+        return None;
+    };
+    rules_of(*letter).get(place_of(*first, *second)).copied()
 }
 
 /// The rule whose text it is, if it is one.
@@ -103,5 +59,10 @@ pub fn rule_of(text: &str) -> Option<RuleId>
     ensures found { IfSome result (λ rule. text_of rule ≡ text.now) }
     ensures each { (rule : RuleId) → text.now ≡ text_of rule → result ≡ Some rule }
 {
-    first_with(&rules(), text)
+    let rule = rule_numbered(text.as_bytes())?;
+    if rule.text() == text {
+        Some(rule)
+    } else {
+        None
+    }
 }

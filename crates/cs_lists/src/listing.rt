@@ -6,7 +6,7 @@ use crate::paths::FilePaths;
 use crate::printed::{OpLine, Origin, StateLine};
 use cs_plan::Scene;
 use cs_same::first_same;
-use cs_serve::{Inputs, ProgramFault, list_of, scene_of};
+use cs_serve::{Inputs, ProgramFault, list_of, print_to, scene_of};
 use std::alloc::{AllocError, Global};
 use std::io::Write;
 use std::sync::Arc;
@@ -49,12 +49,12 @@ fn asked_firsts(
     Ok(Some(first_same(alloc, scene)?))
 }
 
-/// Prints a line for each micro-operation.
-fn print_ops<W: Write>(
+/// Adds a line for each micro-operation.
+fn push_ops(
     alloc: Global,
     scene: &Scene,
     lines: &Option<Vec<usize>>,
-    out: &mut W,
+    text: &mut Vec<u8>,
 ) -> Result<(), ProgramFault> {
     let Ok(mut paths) = FilePaths::of(alloc, scene.trace()) else {
         return Err(ProgramFault::Memory);
@@ -63,7 +63,7 @@ fn print_ops<W: Write>(
         let line = told_at(lines, place);
         let path = paths.changed(op);
         let origin = Origin { line, path };
-        write!(out, "{}", OpLine { place, op, origin }).map_err(|_| ProgramFault::Output)?;
+        write!(text, "{}", OpLine { place, op, origin }).map_err(|_| ProgramFault::Memory)?;
         if paths.take(op).is_err() {
             return Err(ProgramFault::Memory);
         }
@@ -79,11 +79,11 @@ fn told_at<T: Copy>(told: &Option<Vec<T>>, place: usize) -> Option<T> {
     }
 }
 
-/// Prints a line for each state.
-fn print_states<W: Write>(
+/// Adds a line for each state.
+fn push_states(
     scene: &Scene,
     firsts: &Option<Vec<u32>>,
-    out: &mut W,
+    text: &mut Vec<u8>,
 ) -> Result<(), ProgramFault> {
     for (number, recipe) in scene.plan().recipes().iter().enumerate() {
         let line = StateLine {
@@ -92,7 +92,7 @@ fn print_states<W: Write>(
             says: scene.says(number as u32).unwrap_or(0),
             first: told_at(firsts, number),
         };
-        write!(out, "{line}").map_err(|_| ProgramFault::Output)?;
+        write!(text, "{line}").map_err(|_| ProgramFault::Memory)?;
     }
     Ok(())
 }
@@ -112,8 +112,10 @@ fn list<W: Write>(
     let Ok(firsts) = asked_firsts(alloc, &scene, options) else {
         return Err(ProgramFault::Memory);
     };
-    print_ops(alloc, &scene, &lines, out)?;
-    print_states(&scene, &firsts, out)?;
+    let mut text = Vec::new(alloc);
+    push_ops(alloc, &scene, &lines, &mut text)?;
+    push_states(&scene, &firsts, &mut text)?;
+    print_to(out, text.as_slice())?;
     out.flush().map_err(|_| ProgramFault::Output)
 }
 

@@ -1,0 +1,9 @@
+pub mod Blaming
+pub mod Filled
+pub mod Lines
+pub mod Loading
+pub mod Numbers
+pub mod RunLines
+pub mod Scened
+pub mod Serving
+pub mod Told

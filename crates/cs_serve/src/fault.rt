@@ -1,4 +1,6 @@
 //! Why the program ends with a fault.
+ghost use Rattle.cs_serve.specs.Written.{IsOfNoStream};
+
 use cs_picks::PicksFault;
 use cs_plan::SceneFault;
 use cs_trace::TraceFault;
@@ -41,6 +43,8 @@ pub enum ProgramFault {
 }
 
 impl From<PicksFault> for ProgramFault {
+    ghost from_gives = { λ _ fault. IsOfNoStream fault };
+
     fn from(fault: PicksFault) -> ProgramFault {
         match fault {
             PicksFault::Memory => ProgramFault::Memory,
@@ -50,6 +54,8 @@ impl From<PicksFault> for ProgramFault {
 }
 
 impl From<SceneFault> for ProgramFault {
+    ghost from_gives = { λ _ fault. IsOfNoStream fault };
+
     fn from(fault: SceneFault) -> ProgramFault {
         match fault {
             SceneFault::Memory => ProgramFault::Memory,

@@ -1,4 +1,10 @@
 //! What the command line gave: the bytes of the files that it named.
+ghost use Rattle.std.specs.Prelude.{◌≡◌, IfErr, IfOk, Ok};
+ghost use Rattle.cs_trace.specs.Traces.{trace_in};
+ghost use Rattle.cs_users.specs.Reading.{users_in};
+ghost use Rattle.cs_serve.specs.Commands.{IsScene};
+ghost use Rattle.cs_serve.specs.Written.{IsOfNoStream};
+
 use crate::fault::ProgramFault;
 use cs_picks::read_picks;
 use cs_plan::Scene;
@@ -18,7 +24,10 @@ pub struct Inputs<'a> {
     pub verbose: bool,
 }
 
-fn trace_of(alloc: Global, trace: &[u8]) -> Result<Trace, ProgramFault> {
+fn trace_of(alloc: Global, trace: &[u8]) -> Result<Trace, ProgramFault>
+    ensures read { IfOk result (λ read. trace_in trace.now ≡ Ok read) }
+    ensures fault { IfErr result IsOfNoStream }
+{
     let Ok(text) = std::str::from_utf8(trace) else {
         return Err(ProgramFault::TraceNotText);
     };
@@ -30,14 +39,20 @@ fn trace_of(alloc: Global, trace: &[u8]) -> Result<Trace, ProgramFault> {
 }
 
 /// The scene of the inputs: the trace is judged first, then the picks' lines, then what is made of them.
-pub fn scene_of(alloc: Global, inputs: &Inputs) -> Result<Scene, ProgramFault> {
+pub fn scene_of(alloc: Global, inputs: &Inputs) -> Result<Scene, ProgramFault>
+    ensures scene { IfOk result (IsScene inputs.now) }
+    ensures fault { IfErr result IsOfNoStream }
+{
     let trace = trace_of(alloc, inputs.trace)?;
     let picks = read_picks(alloc, inputs.picks)?;
     Ok(Scene::of(alloc, trace, inputs.holes, picks)?)
 }
 
 /// The users of a users file, or its first fault.
-pub fn users_of(alloc: Global, users: &[u8]) -> Result<Users, ProgramFault> {
+pub fn users_of(alloc: Global, users: &[u8]) -> Result<Users, ProgramFault>
+    ensures read { IfOk result (λ read. users_in users.now ≡ Ok read) }
+    ensures fault { IfErr result IsOfNoStream }
+{
     match Users::read(alloc, users) {
         Ok(users) => Ok(users),
         Err(UsersFault::Memory) => Err(ProgramFault::Memory),

@@ -2,19 +2,22 @@
 //! and served to the connections of a script.
 #![tactic(auto)]
 
+mod ending;
 mod fault;
 mod inputs;
 mod listing;
 mod printing;
 mod program;
 mod publishing;
-mod reloading;
+mod reading;
+mod running;
 mod script;
 mod telling;
 
 pub use fault::ProgramFault;
 pub use inputs::{Inputs, scene_of, users_of};
-pub use listing::list_of;
-pub use program::script_of;
+pub use listing::{list_of, list_to};
+pub use printing::print_to;
+pub use program::{script_of, script_over};
 pub use publishing::world_of;
 pub use telling::tell;

@@ -1,29 +1,43 @@
 //! The command `list`: what a trace is made of, and which states a crash may leave.
-ghost use Rattle.std.specs.Prelude.{◌≤◌};
+ghost use Rattle.std.specs.Prelude.{◌≤◌, IfErr};
+ghost use Rattle.cs_serve.specs.Commands.{Lists};
+ghost use Rattle.cs_serve.specs.Written.{BlamesOutput};
+ghost use Rattle.cs_session.specs.Streams.{KeepsReads};
 
+use crate::ending::ended;
 use crate::fault::ProgramFault;
 use crate::inputs::{Inputs, scene_of};
+use crate::printing::print;
+use cs_session::{Stream, TwoEnded};
 use std::alloc::Global;
 use std::io::Write;
 
-fn list<W: Write>(alloc: Global, inputs: &Inputs, out: &mut W) -> Result<(), ProgramFault> {
+/// The command `list` to a stream: writes the micro-operations of the trace, and then the states of its
+/// plan, a line each. Memory for the whole text is taken before any of it is written. After a fault
+/// nothing was written, or some of the text, from the front.
+pub fn list_to<S: Stream>(
+    alloc: Global,
+    inputs: &Inputs,
+    stream: &mut S,
+) -> Result<(), ProgramFault>
+    ensures printed { Lists inputs.now result (S.contents stream.old) (S.contents stream.new) }
+    ensures fault { IfErr result (BlamesOutput (S.counts stream.old) (S.counts stream.new)) }
+    ensures reads { KeepsReads (S.counts stream.old) (S.counts stream.new) }
+{
     let scene = scene_of(alloc, inputs)?;
-    write!(out, "{}", scene.listing()).map_err(|_| ProgramFault::Output)?;
-    out.flush().map_err(|_| ProgramFault::Output)
+    let listing = scene.listing();
+    let Ok(text) = format!(in alloc; "{listing}") else {
+        return Err(ProgramFault::Memory);
+    };
+    print(stream, text.as_bytes())
 }
 
-/// The command `list`: prints the micro-operations of the trace, and then the states of its plan, a line
-/// each. Its status: 0, or 1 where a fault ended it, which is told by one line on `err`; what was
-/// printed before stands.
+/// The command `list`: what `list_to` does, to a writer. Its status: 0, or 1 where a fault ended it, which
+/// is told by one line on `err`; what was printed before stands.
 pub fn list_of<W: Write, E: Write>(alloc: Global, inputs: &Inputs, out: &mut W, err: &mut E) -> u8
     ensures { result ≤ 1 }
 {
-    match list(alloc, inputs, out) {
-        Ok(()) => 0,
-        Err(fault) => {
-            let _printed = out.flush();
-            let _unheard = writeln!(err, "crashfs: {fault}");
-            1
-        }
-    }
+    let mut stream = TwoEnded::new(b"".as_slice(), &mut *out);
+    let done = list_to(alloc, inputs, &mut stream);
+    ended(done, out, err)
 }

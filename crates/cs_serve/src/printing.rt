@@ -1,50 +1,66 @@
-//! Replies as lines of a script's output.
-ghost use Rattle.std.specs.Prelude.{◌≡◌};
+//! Lines of a script's output, and how a text is written.
+ghost use Rattle.std.specs.Prelude.{◌≡◌, IfErr, IfOk, string_bytes};
 ghost use Rattle.cs_wire.specs.Messages.{Fits, r_view};
+ghost use Rattle.cs_session.specs.Streams.{KeepsFaults, KeepsReads};
+ghost use Rattle.cs_serve.specs.Printed.{closed_text, refused_text, reloaded_text, reply_text};
+ghost use Rattle.cs_serve.specs.Written.{BlamesOutput, Writes};
 
 use crate::fault::ProgramFault;
+use cs_session::{Stream, TwoEnded, write_all};
+use cs_users::UsersFault;
 use cs_wire::{RMessage, encode};
-use std::alloc::Global;
+use std::alloc::{AllocError, Global};
 use std::io::Write;
 
-/// Prints replies; its buffers are kept from one to the next.
-#[derive(Drop)]
-pub(crate) struct Printer {
-    bytes: Vec<u8>,
-    digits: Vec<u8>,
+/// The line of a reply: the connection, a space, and the reply's bytes in lower case hexadecimal.
+pub(crate) fn reply_text(alloc: Global, conn: u32, reply: &RMessage) -> Result<String, AllocError>
+    requires { Fits (r_view reply.now) }
+    ensures { IfOk result (λ text. string_bytes text ≡ reply_text conn (r_view reply.now)) }
+{
+    let mut bytes = Vec::new(alloc);
+    encode(reply, &mut bytes)?;
+    let digits = hex::encode(alloc, bytes.as_slice())?;
+    format!(in alloc; "{conn} {digits}\n")
 }
 
-impl Printer {
-    ghost use Rattle.cs_wire.specs.Messages.{Fits, r_view};
+/// The line of a hang-up.
+pub(crate) fn closed_text(alloc: Global, conn: u32) -> Result<String, AllocError>
+    ensures { IfOk result (λ text. string_bytes text ≡ closed_text conn) }
+{
+    format!(in alloc; "{conn} closed\n")
+}
 
-    /// With empty buffers.
-    pub(crate) fn new(alloc: Global) -> Printer {
-        Printer {
-            bytes: Vec::new(alloc),
-            digits: Vec::new(alloc),
-        }
-    }
+/// The line of a users file that is taken.
+pub(crate) fn reloaded_text(alloc: Global) -> Result<String, AllocError>
+    ensures { IfOk result (λ text. string_bytes text ≡ reloaded_text) }
+{
+    String::from_str(alloc, "reloaded\n")
+}
 
-    /// Prints the connection, a space, and the reply's bytes in lower case hexadecimal.
-    pub(crate) fn reply<W: Write>(
-        &mut self,
-        conn: u32,
-        reply: &RMessage,
-        out: &mut W,
-    ) -> Result<(), ProgramFault>
-        requires { Fits (r_view reply.now) }
-    {
-        self.bytes.clear();
-        if encode(reply, &mut self.bytes).is_err() {
-            return Err(ProgramFault::Memory);
-        }
-        if self.digits.resize(2 * self.bytes.len(), 0).is_err() {
-            return Err(ProgramFault::Memory);
-        }
-        let _fits = hex::encode_to_slice(self.bytes.as_slice(), self.digits.as_mut_slice());
-        write!(out, "{conn} ").map_err(|_| ProgramFault::Output)?;
-        out.write_all(&self.digits)
-            .map_err(|_| ProgramFault::Output)?;
-        out.write_all(b"\n").map_err(|_| ProgramFault::Output)
+/// The line of a users file that is refused.
+pub(crate) fn refused_text(alloc: Global, fault: UsersFault) -> Result<String, AllocError>
+    ensures { IfOk result (λ text. string_bytes text ≡ refused_text fault) }
+{
+    format!(in alloc; "reload refused: {fault}\n")
+}
+
+/// Writes a text as the bytes of a stream are written: with no more than 999 interruptions in a row, and
+/// a write that takes no byte is a fault. After a fault some of it, from the front, was written.
+pub(crate) fn print<S: Stream>(stream: &mut S, text: &[u8]) -> Result<(), ProgramFault>
+    ensures written { Writes result (S.contents stream.old) (S.contents stream.new) text.now }
+    ensures fault { IfErr result (BlamesOutput (S.counts stream.old) (S.counts stream.new)) }
+    ensures faults { KeepsFaults (S.counts stream.old) (S.counts stream.new) }
+    ensures reads { KeepsReads (S.counts stream.old) (S.counts stream.new) }
+    ensures remaining { S.remaining stream.new ≡ S.remaining stream.old }
+{
+    match write_all(stream, text) {
+        Ok(()) => Ok(()),
+        Err(_) => Err(ProgramFault::Output),
     }
+}
+
+/// Writes a text as `print` does, to a writer.
+pub fn print_to<W: Write>(out: &mut W, text: &[u8]) -> Result<(), ProgramFault> {
+    let mut stream = TwoEnded::new(b"".as_slice(), out);
+    print(&mut stream, text)
 }

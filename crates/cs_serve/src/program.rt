@@ -1,95 +1,77 @@
 //! The command `script`, after its files were read.
-ghost use Rattle.std.specs.Prelude.{◌≤◌};
+ghost use Rattle.std.specs.Prelude.{◌≡◌, ◌≤◌, IfErr, IfOk};
+ghost use Rattle.cs_names.specs.declared.limits.TheConstants.{CONNECTION_READS};
+ghost use Rattle.cs_session.specs.Streams.{KeepsFaults, up};
+ghost use Rattle.cs_serve.specs.Commands.{Begins, Scripts};
+ghost use Rattle.cs_serve.specs.Written.{Blames};
 
+use crate::ending::ended;
 use crate::fault::ProgramFault;
 use crate::inputs::{Inputs, scene_of, users_of};
-use crate::printing::Printer;
 use crate::publishing::world_of;
-use crate::reloading::reload;
-use crate::script::{Action, ScriptLine, ScriptTurn, read_script};
-use crate::telling::tell;
-use cs_wire::decode;
+use crate::reading::read_all;
+use crate::running::run_lines;
+use crate::script::{ScriptLine, read_script};
+use cs_session::{Stream, TwoEnded};
 use cs_world::World;
 use std::alloc::Global;
-use std::io::{ErrorKind, Read, Write};
+use std::io::{Read, Write};
 
-fn read_all<R: Read>(alloc: Global, input: &mut R) -> Result<Vec<u8>, ProgramFault> {
-    let mut bytes = Vec::new(alloc);
-    match input.read_to_end(&mut bytes) {
-        Ok(_) => Ok(bytes),
-        Err(error) if error.kind() == ErrorKind::OutOfMemory => Err(ProgramFault::Memory),
-        Err(_) => Err(ProgramFault::Input),
-    }
+/// The world that the lines of a script are run in, and these lines.
+#[derive(Drop)]
+struct Prepared {
+    world: World,
+    lines: Vec<ScriptLine>,
 }
 
-/// Does what a connection does, and prints what it came to; with `told` also a message and its reply as
-/// text.
-fn take_turn<W: Write, E: Write>(
-    alloc: Global,
-    world: &mut World,
-    printer: &mut Printer,
-    turn: &ScriptTurn,
-    out: &mut W,
-    told: Option<&mut E>,
-) -> Result<(), ProgramFault> {
-    let conn = turn.conn;
-    match &turn.action {
-        Action::Send(message) => {
-            let reply = world.message(alloc, conn, turn.now, &message.bytes);
-            if let Some(err) = told {
-                tell(conn, &decode(alloc, &message.bytes), &Ok(&reply), err);
-            }
-            printer.reply(conn, &reply, out)
-        }
-        Action::HangUp => {
-            let _closed = world.hang_up(alloc, conn, turn.now);
-            writeln!(out, "{conn} closed").map_err(|_| ProgramFault::Output)
-        }
-    }
-}
-
-/// Does what a line asks, and prints what it came to; with `told` also a message and its reply as text.
-fn run_line<W: Write, E: Write>(
-    alloc: Global,
-    world: &mut World,
-    printer: &mut Printer,
-    line: &ScriptLine,
-    out: &mut W,
-    told: Option<&mut E>,
-) -> Result<(), ProgramFault> {
-    match line {
-        ScriptLine::Turn(turn) => take_turn(alloc, world, printer, turn, out, told),
-        ScriptLine::Reload(users) => reload(alloc, world, &users.bytes, out),
-    }
-}
-
-fn run_script<R: Read, W: Write, E: Write>(
+/// Publishes all states, reads all of the input, and checks every line.
+fn prepare<S: Stream>(
     alloc: Global,
     inputs: &Inputs,
-    input: &mut R,
-    out: &mut W,
-    err: &mut E,
-) -> Result<(), ProgramFault> {
+    stream: &mut S,
+) -> Result<Prepared, ProgramFault>
+    ensures begins { IfOk result (λ prepared. Begins inputs.now (S.remaining stream.old) (S.remaining stream.new) prepared.world prepared.lines.items) }
+    ensures contents { S.contents stream.new ≡ S.contents stream.old }
+    ensures fault { IfErr result (Blames (S.counts stream.old) (S.counts stream.new)) }
+    ensures faults { KeepsFaults (S.counts stream.old) (S.counts stream.new) }
+    ensures bounded { (S.counts stream.new).reads ≤ up CONNECTION_READS (S.counts stream.old).reads }
+{
     let scene = scene_of(alloc, inputs)?;
     let users = users_of(alloc, inputs.users)?;
-    let mut world = world_of(alloc, scene, users)?;
-    let script = read_all(alloc, input)?;
-    let lines = read_script(alloc, &script)?;
-    let mut printer = Printer::new(alloc);
-    for line in &lines {
-        let told = if inputs.verbose {
-            Some(&mut *err)
-        } else {
-            None
-        };
-        run_line(alloc, &mut world, &mut printer, line, out, told)?;
-    }
-    out.flush().map_err(|_| ProgramFault::Output)
+    let world = world_of(alloc, scene, users)?;
+    let script = read_all(alloc, stream)?;
+    let lines = read_script(alloc, script.as_slice())?;
+    Ok(Prepared { world, lines })
 }
 
-/// The command `script`: publishes all states, reads all of the input, checks every line, and then
-/// runs the lines one after the other, with a line of output for each. Its status: 0, or 1 where a
-/// fault ended it, which is told by one line on `err`; what was printed before stands. Where the inputs
+/// The command `script` over a stream, which gives the script and takes what it prints: publishes all
+/// states, reads all of the input, checks every line, and then runs the lines one after the other, with
+/// a line of output for each. After a fault nothing was written, or some of what the first lines print,
+/// from the front. Where the inputs ask for it, `err` also gets each message and its reply as text.
+pub fn script_over<S: Stream, E: Write>(
+    alloc: Global,
+    inputs: &Inputs,
+    stream: &mut S,
+    err: &mut E,
+) -> Result<(), ProgramFault>
+    ensures printed { Scripts inputs.now result (S.remaining stream.old) (S.remaining stream.new) (S.contents stream.old) (S.contents stream.new) }
+    ensures fault { IfErr result (Blames (S.counts stream.old) (S.counts stream.new)) }
+    ensures bounded { (S.counts stream.new).reads ≤ up CONNECTION_READS (S.counts stream.old).reads }
+{
+    let mut prepared = prepare(alloc, inputs, stream)?;
+    let lines = prepared.lines.as_slice();
+    run_lines(
+        alloc,
+        &mut prepared.world,
+        lines,
+        stream,
+        inputs.verbose,
+        err,
+    )
+}
+
+/// The command `script`: what `script_over` does, over a reader and a writer. Its status: 0, or 1 where
+/// a fault ended it, which is told by one line on `err`; what was printed before stands. Where the inputs
 /// ask for it, `err` also gets each message and its reply as text, the connection's number and `<-` or
 /// `->` before them.
 pub fn script_of<R: Read, W: Write, E: Write>(
@@ -101,12 +83,7 @@ pub fn script_of<R: Read, W: Write, E: Write>(
 ) -> u8
     ensures { result ≤ 1 }
 {
-    match run_script(alloc, inputs, input, out, err) {
-        Ok(()) => 0,
-        Err(fault) => {
-            let _printed = out.flush();
-            let _unheard = writeln!(err, "crashfs: {fault}");
-            1
-        }
-    }
+    let mut stream = TwoEnded::new(input, &mut *out);
+    let done = script_over(alloc, inputs, &mut stream, err);
+    ended(done, out, err)
 }

@@ -1,4 +1,8 @@
 //! The world of a scene, with all of its states published.
+ghost use Rattle.std.specs.Prelude.{◌≡◌, IfErr, IfOk, OnOk};
+ghost use Rattle.cs_serve.specs.Commands.{served_world, with_first};
+ghost use Rattle.cs_serve.specs.Written.{IsOfNoStream};
+
 use crate::fault::ProgramFault;
 use cs_plan::Scene;
 use cs_users::Users;
@@ -7,7 +11,10 @@ use std::alloc::Global;
 use std::sync::Arc;
 
 /// Publishes the states of the numbers below this one.
-fn publish_each(alloc: Global, world: &mut World, count: u32) -> Result<(), ProgramFault> {
+fn publish_each(alloc: Global, world: &mut World, count: u32) -> Result<(), ProgramFault>
+    ensures published { OnOk result (world.new ≡ with_first world.old count) }
+    ensures fault { IfErr result IsOfNoStream }
+{
     for number in 0..count {
         match world.step(alloc, Step::Publish(number)) {
             Reply::Published => {}
@@ -20,7 +27,10 @@ fn publish_each(alloc: Global, world: &mut World, count: u32) -> Result<(), Prog
 
 /// A world of the scene's states, of which every one is published, for these users. It has no run yet,
 /// and no connection has a session.
-pub fn world_of(alloc: Global, scene: Scene, users: Users) -> Result<World, ProgramFault> {
+pub fn world_of(alloc: Global, scene: Scene, users: Users) -> Result<World, ProgramFault>
+    ensures world { IfOk result (λ world. world ≡ served_world scene users) }
+    ensures fault { IfErr result IsOfNoStream }
+{
     let count = scene.plan().len() as u32;
     let (Ok(scene), Ok(users)) = (Arc::new(alloc, scene), Arc::new(alloc, users)) else {
         return Err(ProgramFault::Memory);

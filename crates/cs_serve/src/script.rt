@@ -1,17 +1,93 @@
 //! A script: what connections send, and the users files that are taken, line by line.
-ghost use Rattle.std.specs.Prelude.{◌<◌, ◌≤◌, IfSome, length};
+ghost use Rattle.std.specs.Prelude.{◌≡◌, ◌≢◌, ◌<◌, ◌≤◌, [], ◌∷◌, ◌++◌, Err, IfErr, IfOk, None, Ok, OnOk, Some, length, option_map, vec_items};
+ghost use Rattle.std.specs.Char.{is_ascii_digit};
+ghost use Rattle.std.specs.Io.BufRead.{strip_last};
+ghost use Rattle.std.specs.List.{list_all};
 ghost use Rattle.cs_names.specs.declared.limits.TheConstants.{CONNECTIONS};
+ghost use Rattle.cs_serve.specs.declared.fault.ProgramFault.TheVariants.{Memory, Script};
+ghost use Rattle.cs_serve.specs.Scripts.{action_in, bytes_in, conn_in, is_decimal, line_at, line_in, line_of, number_in, script_in, sent_in, turn_from};
+ghost use Rattle.cs_serve.specs.Written.{IsOfNoStream};
 
 use crate::fault::ProgramFault;
 use cs_names::Pieces;
 use cs_names::limits::{CONNECTIONS, MESSAGE_BYTES, SCRIPT_LINES};
-use std::alloc::Global;
+use std::alloc::{AllocError, Global};
+use std::marker::Model;
 
-/// A message of a script, of 7 to 65,536 bytes.
+/// The number of a connection, from 0 to 63.
+#[derive(Debug, Drop)]
+pub struct ScriptConn {
+    number: u32,
+}
+
+impl Model for ScriptConn {
+    ghost use Rattle.std.specs.Prelude.{◌<◌, ℕ};
+    ghost use Rattle.cs_names.specs.declared.limits.TheConstants.{CONNECTIONS};
+
+    ghost Value = { ℕ };
+
+    ghost view = { λ conn. conn.number };
+
+    ghost invariant = { λ conn. conn.number < CONNECTIONS };
+}
+
+impl ScriptConn {
+    /// The number.
+    pub fn number(&self) -> u32
+        ensures value { result ≡ self.now }
+        ensures few { result < CONNECTIONS }
+    {
+        self.number
+    }
+}
+
+/// A message, of 7 bytes at least. Contracts see its bytes.
 #[derive(Debug, Drop)]
 pub struct ScriptMessage {
-    pub bytes: Vec<u8>,
-    ghost whole: { 7 ≤ length bytes.items },
+    bytes: Vec<u8>,
+}
+
+impl Model for ScriptMessage {
+    ghost use Rattle.std.specs.Prelude.{◌≤◌, length, List, ℕ};
+
+    ghost Value = { List ℕ };
+
+    ghost view = { λ message. message.bytes.items };
+
+    ghost invariant = { λ message. 7 ≤ length message.bytes.items };
+}
+
+impl ScriptMessage {
+    /// Its bytes.
+    pub fn bytes(&self) -> &[u8]
+        ensures value { result.now ≡ self.now }
+        ensures whole { 7 ≤ length result.now }
+    {
+        self.bytes.as_slice()
+    }
+}
+
+/// A users file, of one byte at least. Contracts see its bytes.
+#[derive(Debug, Drop)]
+pub struct ScriptUsers {
+    bytes: Vec<u8>,
+}
+
+impl Model for ScriptUsers {
+    ghost use Rattle.std.specs.Prelude.{List, ℕ};
+
+    ghost Value = { List ℕ };
+
+    ghost view = { λ users. users.bytes.items };
+}
+
+impl ScriptUsers {
+    /// Its bytes.
+    pub fn bytes(&self) -> &[u8]
+        ensures { result.now ≡ self.now }
+    {
+        self.bytes.as_slice()
+    }
 }
 
 /// What is done on a connection.
@@ -24,17 +100,9 @@ pub enum Action {
 /// That action on that connection, at that moment, in seconds since 1970.
 #[derive(Debug, Drop)]
 pub struct ScriptTurn {
-    pub conn: u32,
-    pub now: u32,
+    pub conn: ScriptConn,
+    pub moment: u32,
     pub action: Action,
-    ghost connection: { conn < CONNECTIONS },
-}
-
-/// The bytes of a users file, one at least.
-#[derive(Debug, Drop)]
-pub struct ScriptUsers {
-    pub bytes: Vec<u8>,
-    ghost some: { 1 ≤ length bytes.items },
 }
 
 /// A line of a script.
@@ -49,115 +117,208 @@ pub enum ScriptLine {
 /// The fewest bytes of a message.
 const LEAST_MESSAGE: usize = 7;
 
-/// A decimal number of digits alone.
-fn number(text: &[u8]) -> Option<u32> {
-    if text.is_empty() || !text.iter().all(|c| c.is_ascii_digit()) {
-        return None;
-    }
-    std::str::from_utf8(text).ok()?.parse::<u32>().ok()
+fn has_digits_alone(text: &[u8]) -> bool
+    ensures { result ≡ list_all is_ascii_digit text.now }
+{
+    text.iter().all(|c| c.is_ascii_digit())
 }
 
-/// The bytes that the hexadecimal digits spell, or None where they spell none.
-fn spelled(alloc: Global, digits: &[u8]) -> Result<Option<Vec<u8>>, ProgramFault> {
+/// Whether there is one digit or more, and nothing else.
+fn is_decimal(text: &[u8]) -> bool
+    ensures { result ≡ is_decimal text.now }
+{
+    !text.is_empty() && has_digits_alone(text)
+}
+
+/// A number of 32 bits, of digits alone.
+fn number(text: &[u8]) -> Option<u32>
+    ensures { result ≡ number_in text.now }
+{
+    if !is_decimal(text) {
+        return None;
+    }
+    match std::str::from_utf8(text) {
+        Ok(text) => text.parse::<u32>().ok(),
+        Err(_) => None,
+    }
+}
+
+/// The number of a connection.
+fn conn(text: &[u8]) -> Option<ScriptConn>
+    ensures { result ≡ conn_in text.now }
+{
+    let number = number(text)?;
+    if number >= CONNECTIONS {
+        return None;
+    }
+    Some(ScriptConn { number })
+}
+
+/// The bytes that the hexadecimal digits spell, at least so many; None where they don't.
+fn bytes_of(alloc: Global, least: usize, digits: &[u8]) -> Result<Option<Vec<u8>>, AllocError>
+    ensures { IfOk result (λ bytes. option_map vec_items bytes ≡ bytes_in least digits.now) }
+{
     match hex::decode(alloc, digits) {
-        Ok(bytes) => Ok(Some(bytes)),
-        Err(hex::FromHexError::OutOfMemory) => Err(ProgramFault::Memory),
+        Ok(bytes) => {
+            if bytes.len() < least {
+                return Ok(None);
+            }
+            Ok(Some(bytes))
+        }
+        Err(hex::FromHexError::OutOfMemory) => Err(AllocError),
         Err(_) => Ok(None),
     }
 }
 
 /// The message that the hexadecimal digits spell, or None where they spell none.
-fn message(alloc: Global, digits: &[u8]) -> Result<Option<ScriptMessage>, ProgramFault> {
+fn message(alloc: Global, digits: &[u8]) -> Result<Option<ScriptMessage>, AllocError>
+    ensures { IfOk result (λ message. message ≡ sent_in digits.now) }
+{
     if digits.len() > 2 * MESSAGE_BYTES as usize {
         return Ok(None);
     }
-    match spelled(alloc, digits)? {
-        Some(bytes) if bytes.len() >= LEAST_MESSAGE => Ok(Some(ScriptMessage { bytes })),
-        _ => Ok(None),
+    match bytes_of(alloc, LEAST_MESSAGE, digits)? {
+        Some(bytes) => Ok(Some(ScriptMessage { bytes })),
+        None => Ok(None),
     }
 }
 
 /// The users file that the hexadecimal digits spell, or None where they spell none.
-fn users(alloc: Global, digits: &[u8]) -> Result<Option<ScriptUsers>, ProgramFault> {
-    match spelled(alloc, digits)? {
-        Some(bytes) if !bytes.is_empty() => Ok(Some(ScriptUsers { bytes })),
-        _ => Ok(None),
-    }
-}
-
-/// The number of a connection.
-fn connection(text: &[u8]) -> Option<u32>
-    ensures { IfSome result (λ conn. conn < CONNECTIONS) }
+fn users(alloc: Global, digits: &[u8]) -> Result<Option<ScriptUsers>, AllocError>
+    ensures { IfOk result (λ users. users ≡ bytes_in 1 digits.now) }
 {
-    number(text).filter(|conn| *conn < CONNECTIONS)
+    match bytes_of(alloc, 1, digits)? {
+        Some(bytes) => Ok(Some(ScriptUsers { bytes })),
+        None => Ok(None),
+    }
 }
 
 /// What a word asks: `hangup`, or a message in hexadecimal; None where it asks nothing.
-fn read_action(alloc: Global, word: &[u8]) -> Result<Option<Action>, ProgramFault> {
+fn read_action(alloc: Global, word: &[u8]) -> Result<Option<Action>, AllocError>
+    ensures { IfOk result (λ action. action ≡ action_in word.now) }
+{
     if word == b"hangup".as_slice() {
         return Ok(Some(Action::HangUp));
     }
-    Ok(message(alloc, word)?.map(Action::Send))
+    match message(alloc, word)? {
+        Some(message) => Ok(Some(Action::Send(message))),
+        None => Ok(None),
+    }
 }
 
 /// The turn of a connection that these words ask for: its number, a moment, and `hangup` or a message
 /// in hexadecimal; None where they ask for none.
 fn read_turn(
     alloc: Global,
-    conn: &[u8],
-    moment: &[u8],
-    asked: &[u8],
-) -> Result<Option<ScriptLine>, ProgramFault> {
-    let (Some(conn), Some(now)) = (connection(conn), number(moment)) else {
+    first: &[u8],
+    second: &[u8],
+    third: &[u8],
+) -> Result<Option<ScriptLine>, AllocError>
+    ensures { IfOk result (λ line. line ≡ turn_from (conn_in first.now) (number_in second.now) (action_in third.now)) }
+{
+    let (Some(conn), Some(moment)) = (conn(first), number(second)) else {
         return Ok(None);
     };
-    let Some(action) = read_action(alloc, asked)? else {
+    match read_action(alloc, third)? {
+        Some(action) => Ok(Some(ScriptLine::Turn(ScriptTurn {
+            conn,
+            moment,
+            action,
+        }))),
+        None => Ok(None),
+    }
+}
+
+/// The list of users that the words ask for: `reload` and a users file in hexadecimal; None where they
+/// ask for none.
+fn read_reload(alloc: Global, first: &[u8], second: &[u8]) -> Result<Option<ScriptLine>, AllocError>
+    ensures { IfOk result (λ line. line ≡ line_of (first.now ∷ second.now ∷ [])) }
+{
+    if first != b"reload".as_slice() {
         return Ok(None);
-    };
-    Ok(Some(ScriptLine::Turn(ScriptTurn { conn, now, action })))
+    }
+    match users(alloc, second)? {
+        Some(users) => Ok(Some(ScriptLine::Reload(users))),
+        None => Ok(None),
+    }
 }
 
 /// The line that the text spells, with one space between its words: the turn of a connection, or
-/// `reload` and a users file in hexadecimal; None where it spells none.
-fn read_line(alloc: Global, text: &[u8]) -> Result<Option<ScriptLine>, ProgramFault> {
+/// `reload` and a users file; None where it spells none.
+fn read_line(alloc: Global, text: &[u8]) -> Result<Option<ScriptLine>, AllocError>
+    ensures { IfOk result (λ line. line ≡ line_in text.now) }
+{
     let mut words = Pieces::of(text, b' ');
-    let (Some(first), Some(second)) = (words.next(), words.next()) else {
+    let Some(first) = words.next() else {
         return Ok(None);
     };
-    match (words.next(), words.next()) {
-        (None, None) if first == b"reload".as_slice() => {
-            Ok(users(alloc, second)?.map(ScriptLine::Reload))
-        }
-        (Some(third), None) => read_turn(alloc, first, second, third),
-        _ => Ok(None),
+    let Some(second) = words.next() else {
+        return Ok(None);
+    };
+    let Some(third) = words.next() else {
+        return read_reload(alloc, first, second);
+    };
+    match words.next() {
+        Some(_) => Ok(None),
+        None => read_turn(alloc, first, second, third),
     }
 }
 
 /// The bytes without the line feed at their end, if they end so.
-fn without_last_feed(bytes: &[u8]) -> &[u8] {
+fn without_last_feed(bytes: &[u8]) -> &[u8]
+    ensures value { result.now ≡ strip_last 10 bytes.now }
+    ensures shorter { length result.now ≤ length bytes.now }
+{
     match bytes.split_last() {
         Some((b'\n', lines)) => lines,
         _ => bytes,
     }
 }
 
-/// The lines of a script. The first line that is none is told; a line past the limit is none, and so
-/// is an empty one. The line feed at the end of the script makes no line.
-pub fn read_script(alloc: Global, bytes: &[u8]) -> Result<Vec<ScriptLine>, ProgramFault> {
+/// Keeps the line of this number.
+fn keep_line(
+    alloc: Global,
+    lines: &mut Vec<ScriptLine>,
+    number: usize,
+    text: &[u8],
+) -> Result<(), ProgramFault>
+    ensures kept { OnOk result (option_map (λ line. lines.old.items ++ line ∷ []) (line_at number text.now) ≡ Some lines.new.items) }
+    ensures fault { IfErr result (λ fault. fault ≢ Memory → (fault ≡ Script number) × (line_at number text.now ≡ None)) }
+    ensures no_stream { IfErr result IsOfNoStream }
+{
+    if number > SCRIPT_LINES {
+        return Err(ProgramFault::Script(number));
+    }
+    let Ok(read) = read_line(alloc, text) else {
+        return Err(ProgramFault::Memory);
+    };
+    let Some(line) = read else {
+        return Err(ProgramFault::Script(number));
+    };
+    if lines.push(line).is_err() {
+        return Err(ProgramFault::Memory);
+    }
+    Ok(())
+}
+
+/// The lines of a script, or the first line that is none: one past the limit is none, and so is an
+/// empty one. The line feed at the end of the script makes no line. Memory is answered where a growth
+/// was refused before such a line.
+pub fn read_script(alloc: Global, bytes: &[u8]) -> Result<Vec<ScriptLine>, ProgramFault>
+    ensures read { IfOk result (λ lines. script_in bytes.now ≡ Ok lines.items) }
+    ensures fault { IfErr result (λ fault. fault ≢ Memory → script_in bytes.now ≡ Err fault) }
+    ensures no_stream { IfErr result IsOfNoStream }
+{
     let mut lines = Vec::new(alloc);
     if bytes.is_empty() {
         return Ok(lines);
     }
+    let mut before = 0;
     for text in Pieces::of(without_last_feed(bytes), b'\n') {
-        if lines.len() >= SCRIPT_LINES {
-            return Err(ProgramFault::Script(SCRIPT_LINES + 1));
+        if let Err(fault) = keep_line(alloc, &mut lines, before + 1, text) {
+            return Err(fault);
         }
-        let Some(line) = read_line(alloc, text)? else {
-            return Err(ProgramFault::Script(lines.len() + 1));
-        };
-        if lines.push(line).is_err() {
-            return Err(ProgramFault::Memory);
-        }
+        before += 1;
     }
     Ok(lines)
 }

@@ -1,6 +1,7 @@
 //! Worked examples of connections over the start tree, of a world's steps, and of many connections at once.
-mod asking;
+
 mod audits;
+mod bounds;
 mod commands;
 mod exchange;
 mod files;

@@ -23,9 +23,9 @@ pub(crate) struct Group {
     marks: Option<Marks>,
 }
 
-/// Up to one member among so many rows is found by a search: then marks would take more than four
-/// times the room of the members.
-const FEW_AMONG: usize = 256;
+/// Up to one member among so many rows is found by a search: then marks would take more than
+/// sixteen times the room of the members.
+const FEW_AMONG: usize = 1024;
 
 /// The places of those that the line lists, as they come.
 fn listed(alloc: Global, rows: &Rows, row: &Row) -> Result<Vec<usize>, AllocError>

@@ -5,8 +5,7 @@ use Rattle.std.specs.Option.{option_map_or}
 use Rattle.std.proofs.lemmas.Bool.{eqb-true, eqb-false}
 use Rattle.cs_fids.specs.declared.entry.Entry.{Entry}
 use Rattle.cs_fids.specs.Entries.{pass_of, run_of}
-use Rattle.cs_journal.specs.Journals.{HasRoom}
-use Rattle.cs_journal.specs.Runs.{RunOf, state_of}
+use Rattle.cs_journal.specs.Runs.{RunOf}
 use Rattle.cs_names.specs.declared.limits.TheConstants.{RUN_ATTACHES}
 use Rattle.cs_registry.specs.declared.found.Found.{Found}
 use Rattle.cs_registry.specs.Keys.{Key}
@@ -15,6 +14,7 @@ use Rattle.cs_registry.specs.Runs.{change, held_at}
 use Rattle.cs_session.specs.Sessions.{Awaited, Sess, entry_at}
 use Rattle.cs_world.specs.Reached.{Gave, AreThere, awaits}
 use Rattle.cs_world.specs.Worlds.{World, connection}
+use Rattle.cs_world.proofs.Judging.{IsSound}
 use Rattle.cs_world.proofs.Placing.{get_set_same}
 use Rattle.cs_world.proofs.Reached.{change_other}
 use Rattle.cs_world.proofs.Standing.{Came, Moves, Stood, gave, given, is_there, one_if, stands}
@@ -51,7 +51,7 @@ module _ (w : World) (ok : AreThere w) (conn n : ℕ) (key : Key) (run : Found R
   -- what the change has to keep
   pub record Changes : Type 0 where
     pub fresh : (new run).held.fresh ≡ run.held.fresh
-    pub room : HasRoom (state_of run.held) → HasRoom (state_of (new run).held)
+    pub room : IsSound run.held → IsSound (new run).held
     pub more : run.held.passes ≤ (new run).held.passes
     pub own : (new run).held.passes + one_if (awaits n s') + run.finds ≤ run.held.passes + one_if (awaits n (connection w conn)) + (new run).finds
     pub others : (place : ℕ) → place ≢ n → one_if (awaits place s') ≤ one_if (awaits place (connection w conn))
@@ -72,7 +72,7 @@ module _ (w : World) (ok : AreThere w) (conn n : ℕ) (key : Key) (run : Found R
         let count : one_if (awaits place s') ≡ one_if (awaits n s') = ap (λ q. one_if (awaits q s')) same in
         let count_then : one_if (awaits place (connection w conn)) ≡ one_if (awaits n (connection w conn)) = ap (λ q. one_if (awaits q (connection w conn))) same in
         Stood run (ap (slice_get w.registry.runs) same ∙ is ∙ ap (λ k. Some (k, run)) its_key) (ap (λ (x : Found RunOf). x.held.fresh) (sym its_run) ∙ c.fresh)
-        (λ h. subst (λ (x : Found RunOf). HasRoom (state_of x.held)) its_run (c.room h)) (omega (arith, c.own, passes, finds, count, count_then)) (λ f. let small = c.few f in omega (arith, small, finds))
+        (λ h. subst (λ (x : Found RunOf). IsSound x.held) its_run (c.room h)) (omega (arith, c.own, passes, finds, count, count_then)) (λ f. let small = c.few f in omega (arith, small, finds))
     came_by place false e key' run' there =
         let ne : place ≢ n = eqb-false place n e in
         Stood run' (sym (elsewhere place ne) ∙ there) refl (λ h. h) (let few = c.others place ne in omega (arith, few)) (λ f. f)

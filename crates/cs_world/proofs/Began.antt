@@ -20,7 +20,6 @@ use Rattle.cs_session.specs.Questions.{Question, Find, Enter, Ask, Told, Entered
 use Rattle.cs_session.specs.Steps.{Front, Done, Asks, front_by}
 use Rattle.cs_session.specs.Steps as c
 use Rattle.cs_users.specs.Rows.{Row}
-use Rattle.cs_world.specs.declared.heard.Heard.{Heard}
 use Rattle.cs_world.specs.declared.reply.Reply.{Reply}
 use Rattle.cs_world.specs.declared.reply.Reply.TheVariants.{Connection}
 use Rattle.cs_world.specs.declared.step.Step.{Step}
@@ -29,7 +28,7 @@ use Rattle.cs_world.specs.Asking.{answered, found_by, given_run, put_run}
 use Rattle.cs_world.specs.Isolation.{users_made_with}
 use Rattle.cs_world.specs.Lists.{steps_of}
 use Rattle.cs_world.specs.Marks.{Mark, RunMark, below, in_run, refuses_table}
-use Rattle.cs_world.specs.Projections.{answers_of, of_front, of_step, of_turn, projection_of, put_to, run_of, told_there}
+use Rattle.cs_world.specs.Projections.{answers_of, of_front, of_turn, projection_of, put_to, run_of, told_there}
 use Rattle.cs_world.specs.Runs.{attached, called}
 use Rattle.cs_world.specs.Steps.{goes_from, on_connection, step_of}
 use Rattle.cs_world.specs.Turning.{TurnOf, turn_of}

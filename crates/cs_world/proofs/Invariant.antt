@@ -147,6 +147,7 @@ module _ (w : World) (ok : AreThere w) where
       attaches = was.attaches;
       few = was.few;
       room = was.room;
+      legal = was.legal;
       published = index_set_true w.registry.published number key.number was.published;
       fresh = was.fresh;
     });
@@ -169,6 +170,7 @@ module _ (w : World) (ok : AreThere w) where
       attaches = was.attaches;
       few = was.few;
       room = was.room;
+      legal = was.legal;
       published = was.published;
       fresh = was.fresh;
     });

@@ -1,5 +1,5 @@
 -- How a call ends, by its rules and by what memory gives.
-use Rattle.std.proofs.Common.{◌≡◌, ◌∙◌, ℕ, ◌+◌, ◌≤◌, Bool, true, false, not, ◌&&◌, length, Option, None, Some, refl, sym, ap, subst, arith}
+use Rattle.std.proofs.Common.{◌≡◌, ◌∙◌, ℕ, ◌+◌, ◌≤◌, Bool, true, false, not, ◌&&◌, List, [], ◌∷◌, ◌++◌, length, Option, None, Some, refl, sym, ap, subst, arith}
 use Rattle.std.specs.Prelude.{is_some}
 use Rattle.std.proofs.lemmas.Bool.Decides.{nat_tests}
 use Rattle.cs_names.specs.declared.limits.TheConstants.{JOURNAL_ENTRIES}
@@ -8,19 +8,22 @@ use Rattle.cs_permit.specs.Calls.{first}
 use Rattle.cs_permit.specs.declared.call.Call.{Call}
 use Rattle.cs_permit.specs.declared.call.OpenFile.{OpenFile}
 use Rattle.cs_run.specs.declared.answer.Answer.{Answer}
+use Rattle.cs_run.specs.declared.answer.Answer.TheVariants as a
 use Rattle.cs_run.specs.declared.answer.Outcome.{Outcome}
 use Rattle.cs_run.specs.declared.answer.Outcome.TheVariants as o
-use Rattle.cs_run.specs.Effects.{Left}
-use Rattle.cs_run.specs.Marks.{is_refused}
+use Rattle.cs_run.specs.Effects.{Left, effect_of}
+use Rattle.cs_run.specs.Marks.{Ample, NoRoom, is_refused}
 use Rattle.cs_run.specs.Outcomes.{applied, outcome, outcome_by, takes_memory}
+use Rattle.cs_tree_model.specs.Tree.{Tree}
+use Rattle.cs_users.specs.Rows.{Row}
 use Rattle.cs_journal.specs.Calls.{charge, ended, is_full}
-use Rattle.cs_journal.specs.Journals.{EntryOf, HasRoom, RunState, answer_to, replay, seen, start, turn_in}
+use Rattle.cs_journal.specs.Journals.{EntryOf, HasRoom, IsLegal, IsOutcome, RunState, answer_to, apply, replay, seen, start, turn_in}
 use Rattle.cs_journal.specs.Marks.{StepMark, call_mark, refuses_entry}
 use Rattle.cs_journal.specs.Runs.{RunOf, first_state, state_of}
 use Rattle.cs_journal.specs.Steps.{entered, step}
-use Rattle.cs_journal.proofs.Journals.{replay-push}
+use Rattle.cs_journal.proofs.Journals.{IsLegal-push, replay-push}
 use Rattle.cs_journal.proofs.Moves.{call_moves}
-use Rattle.cs_world.specs.Judged.{IsEntered, IsJudged, Full, NoEntry, Denied, Short, Granted}
+use Rattle.cs_world.specs.Judged.{IsEntered, IsJudged, refused, Full, NoEntry, Denied, Short, Granted}
 use Rattle.cs_world.specs.Runs.{run_step}
 
 ends_none : (x : Option OpenFile) (b : Bool) → (b && not (is_some x)) ≡ true → x ≡ None
@@ -69,6 +72,10 @@ module _ (run : RunOf) (now pass : ℕ) (call : Call) where
 
 -- ---- what stays of the run
 
+-- there is room, and the journal is legal
+abbrev pub IsSound : RunOf → Type 0
+IsSound run = HasRoom (state_of run) × IsLegal (first_state run) run.journal
+
 module _ (run : RunOf) (now pass : ℕ) (call : Call) (answer : Answer) (run' : RunOf) where
   entered_state : (outcome : Outcome) (leaves : Left) → IsEntered run now pass call outcome leaves answer run' → (state_of run').entries ≡ (state_of run).entries + 1
   entered_state outcome leaves m = (λ i. (replay (start (m.fresh i) (m.users i)) (m.entry i)).entries) ∙ ap (λ (s : RunState). s.entries) (replay-push (first_state run) run.journal _)
@@ -88,6 +95,39 @@ module _ (run : RunOf) (now pass : ℕ) (call : Call) (answer : Answer) (run' : 
   keeps_room (Denied rule f fails m) h = entered_room (o.Denied rule) f m
   keeps_room (Short f fails takes m) h = entered_room o.Short f m
   keeps_room (Granted f fails m) h = entered_room o.Granted f m
+
+  -- and the journal is legal still
+  abbrev its_entry : Outcome → EntryOf
+  its_entry outcome = record { pass = pass; moment = now; call = call; outcome = outcome }
+
+  entered_sound : (outcome : Outcome) → is_full (state_of run) pass call ≡ false → IsOutcome (state_of run) (its_entry outcome)
+      → IsEntered run now pass call outcome (applied (seen (state_of run)) (turn_in (state_of run) pass now) call outcome) answer run' → IsSound run → IsSound run'
+  entered_sound outcome room its m h =
+      let e : EntryOf = its_entry outcome in
+      let there = entered_room outcome room m in
+      let same : state_of run' ≡ apply (state_of run) e = (λ i. replay (start (m.fresh i) (m.users i)) (m.entry i)) ∙ replay-push (first_state run) run.journal e in
+      let more : IsLegal (first_state run) (run.journal ++ e ∷ []) = IsLegal-push (first_state run) run.journal e h.1 its (subst HasRoom same there) in
+      (there, subst (λ (x : Tree × (List Row × List EntryOf)). IsLegal (start x.0 x.1.0) x.1.1) (sym (λ i. (m.fresh i, (m.users i, m.entry i)))) more)
+
+  module _ (f : is_full (state_of run) pass call ≡ false) (h : IsSound run) where
+    denied_sound : (rule : RuleId) → first (seen (state_of run)) call ≡ Some rule → IsEntered run now pass call (o.Denied rule) (refused run pass call (a.Denied rule)) answer run' → IsSound run'
+    unfolding outcome
+    denied_sound rule fails m = entered_sound (o.Denied rule) f (Ample, rw fails refl) m h
+
+    short_sound : first (seen (state_of run)) call ≡ None → takes_memory (seen (state_of run)) (turn_in (state_of run) pass now) call ≡ true → IsEntered run now pass call o.Short (refused run pass call a.Short) answer run' → IsSound run'
+    unfolding outcome
+    short_sound fails takes_some m = entered_sound o.Short f (NoRoom, rw (fails, takes_some) refl) m h
+
+    granted_sound : first (seen (state_of run)) call ≡ None → IsEntered run now pass call o.Granted (effect_of (seen (state_of run)) (turn_in (state_of run) pass now) call) answer run' → IsSound run'
+    unfolding outcome
+    granted_sound fails m = entered_sound o.Granted f (Ample, rw fails refl) m h
+
+  pub keeps_sound : IsJudged run now pass call answer run' → IsSound run → IsSound run'
+  keeps_sound (Full f is same) h = subst IsSound (sym same) h
+  keeps_sound (NoEntry f none is same) h = subst IsSound (sym same) h
+  keeps_sound (Denied rule f fails m) h = denied_sound f h rule fails m
+  keeps_sound (Short f fails takes_some m) h = short_sound f h fails takes_some m
+  keeps_sound (Granted f fails m) h = granted_sound f h fails m
 
   -- nor its beginning and its passes
   pub keeps_fresh : IsJudged run now pass call answer run' → run'.fresh ≡ run.fresh

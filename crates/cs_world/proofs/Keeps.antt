@@ -13,8 +13,7 @@ use Rattle.cs_fids.specs.declared.entry.Entry.TheVariants as entry
 use Rattle.cs_fids.specs.Entries.{pass_of, run_of}
 use Rattle.cs_fids.specs.Fids.{walked_fid}
 use Rattle.cs_fids.specs.Tables.{FidMap}
-use Rattle.cs_journal.specs.Journals.{HasRoom}
-use Rattle.cs_journal.specs.Runs.{RunOf, state_of}
+use Rattle.cs_journal.specs.Runs.{RunOf}
 use Rattle.cs_names.specs.declared.limits.TheConstants.{RUN_ATTACHES}
 use Rattle.cs_permit.specs.declared.call.Call.{Call}
 use Rattle.cs_permit.specs.declared.call.Call.TheVariants as call
@@ -41,7 +40,7 @@ use Rattle.cs_world.specs.Reaching.{IsMade}
 use Rattle.cs_world.specs.Runs.{attached, called, run_step, with_pass}
 use Rattle.cs_world.specs.Worlds.{World, connection}
 use Rattle.cs_world.proofs.Answering.{changes, stays}
-use Rattle.cs_world.proofs.Judging.{judged, keeps_fresh, keeps_passes, keeps_room}
+use Rattle.cs_world.proofs.Judging.{IsSound, judged, keeps_fresh, keeps_passes, keeps_sound}
 use Rattle.cs_world.proofs.Placing.{get_end, get_kept, get_pushed, get_within}
 use Rattle.cs_world.proofs.Reached.{given_is}
 use Rattle.cs_world.proofs.Standing.{Made, Moves, Stood, gave, given, held_there, is_there, one_if, stands}
@@ -138,7 +137,7 @@ module _ (w : World) (ok : AreThere w) (conn : ℕ) (p : Awaited) (waits : (conn
   own_count = rw waits (ap one_if (eq-eqb p.run p.run refl))
 
   -- the run changes, and awaits the attach no more
-  enters : (held : RunOf) → held.fresh ≡ run.held.fresh → (HasRoom (state_of run.held) → HasRoom (state_of held)) → run.held.passes ≤ held.passes → held.passes ≤ run.held.passes + 1 → (s' : Sess) → s'.pending ≡ None
+  enters : (held : RunOf) → held.fresh ≡ run.held.fresh → (IsSound run.held → IsSound held) → run.held.passes ≤ held.passes → held.passes ≤ run.held.passes + 1 → (s' : Sess) → s'.pending ≡ None
       → ((fid : ℕ) (e : Entry) → entry_at s' fid ≡ Some e → (entry_at (connection w conn) fid ≡ Some e) ⊎ ((run_of e ≡ p.run) × (pass_of e < held.passes))) → Moves w conn s' (put_run w.registry p.run held)
   enters held fresh room more most s' idle fids =
       let none : (place : ℕ) → one_if (awaits place s') ≡ 0 = λ place. rw idle refl in
@@ -163,7 +162,7 @@ module _ (w : World) (ok : AreThere w) (conn : ℕ) (p : Awaited) (waits : (conn
       let ended = run_step more now run.held.passes it (in_run mark) in
       let its = judged more now run.held.passes it (in_run mark) in
       let passes : ended.1.passes ≡ run.held.passes + 1 = keeps_passes more now run.held.passes it ended.0 ended.1 its in
-      rw (f, is) (enters ended.1 (keeps_fresh more now run.held.passes it ended.0 ended.1 its) (keeps_room more now run.held.passes it ended.0 ended.1 its) (omega (arith, passes)) (omega (arith, passes))
+      rw (f, is) (enters ended.1 (keeps_fresh more now run.held.passes it ended.0 ended.1 its) (keeps_sound more now run.held.passes it ended.0 ended.1 its) (omega (arith, passes)) (omega (arith, passes))
       (with_fids (entered (connection w conn).fids p.fid p.run (user_in (string_bytes p.call.user)) run.held.passes ended.0).1 (with_pending None (connection w conn))) refl (λ fid e there.
       elim (entered_source (connection w conn).fids p.fid p.run (user_in (string_bytes p.call.user)) run.held.passes ended.0 fid e there) [
         | inl was ↦ inl was
@@ -189,7 +188,7 @@ module _ (w : World) (ok : AreThere w) (conn now place pass : ℕ) (call : Call)
       let count : (at : ℕ) → one_if (awaits at (after ended.0)) ≡ one_if (awaits at (connection w conn)) = λ at. ap (λ (o : Option Awaited). one_if (option_map_or (λ (p : Awaited). p.run == at) o false)) (idle ended.0) in
       rw known (changes w ok conn place key run there (λ f. record f { held = ended.1 }) (after ended.0) (record {
         fresh = keeps_fresh run.held now pass call ended.0 ended.1 its;
-        room = keeps_room run.held now pass call ended.0 ended.1 its;
+        room = keeps_sound run.held now pass call ended.0 ended.1 its;
         more = omega (arith, passes);
         own = (let same = count place in omega (arith, same, passes));
         others = λ at other. (let same = count at in omega (arith, same));

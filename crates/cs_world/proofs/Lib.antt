@@ -38,5 +38,7 @@ pub mod SayingWorlds
 pub mod Standing
 pub mod Stepping
 pub mod Tables
+pub mod Theorem
+pub mod Touching
 pub mod Users
 pub mod Within

@@ -14,12 +14,12 @@ abbrev told_of : World → Step → Mark → Bool
 told_of w x mark = is_short (step_of w x mark).0
 
 -- a mark that the reply tells of, and else none
-abbrev reached : World → Step × Mark → Mark
-reached w x = cond (told_of w x.0 x.1) x.1 ample
+abbrev pub told_mark : World → Step × Mark → Mark
+told_mark w x = cond (told_of w x.0 x.1) x.1 ample
 
 abbrev remarked : World → List (Step × Mark) → List (Step × Mark)
 remarked w [] = []
-remarked w (x ∷ xs) = (x.0, reached w x) ∷ remarked (step_of w x.0 x.1).1 xs
+remarked w (x ∷ xs) = (x.0, told_mark w x) ∷ remarked (step_of w x.0 x.1).1 xs
 
 module _ (w : World) (x : Step) (mark : Mark) where
   same_by : (b : Bool) → told_of w x mark ≡ b → step_of w x (cond b mark ample) ≡ step_of w x mark
@@ -30,10 +30,10 @@ module _ (w : World) (x : Step) (mark : Mark) where
   told_by true is told = absurd (let e : told_of w x mark ≡ false = told in cc)
   told_by false is told = refl
 
-  same_step : step_of w x (reached w (x, mark)) ≡ step_of w x mark
+  pub same_step : step_of w x (told_mark w (x, mark)) ≡ step_of w x mark
   same_step = same_by (told_of w x mark) refl
 
-  only_told : told_of w x (reached w (x, mark)) ≡ false → reached w (x, mark) ≡ ample
+  pub only_told : told_of w x (told_mark w (x, mark)) ≡ false → told_mark w (x, mark) ≡ ample
   only_told told = told_by (told_of w x mark) refl told
 
 steps_are : (w : World) (xs : List (Step × Mark)) → map (λ (x : Step × Mark). x.0) (remarked w xs) ≡ map (λ (x : Step × Mark). x.0) xs

@@ -6,8 +6,8 @@ use Rattle.std.proofs.lemmas.Option.{slice_get_past}
 use Rattle.std.proofs.lemmas.Bool.{eqb-true, eqb-false}
 use Rattle.cs_fids.specs.declared.entry.Entry.{Entry}
 use Rattle.cs_fids.specs.Entries.{pass_of, run_of}
-use Rattle.cs_journal.specs.Journals.{HasRoom}
-use Rattle.cs_journal.specs.Runs.{RunOf, state_of}
+use Rattle.cs_journal.specs.Journals.{HasRoom, IsLegal}
+use Rattle.cs_journal.specs.Runs.{RunOf, first_state, state_of}
 use Rattle.cs_names.specs.declared.limits.TheConstants.{CONNECTIONS, RUN_ATTACHES}
 use Rattle.cs_plan.specs.Scenes.{Scene, state_at}
 use Rattle.cs_registry.specs.declared.found.Found.{Found}
@@ -18,6 +18,7 @@ use Rattle.cs_session.specs.Sessions.{Awaited, Sess, blank, entry_at}
 use Rattle.cs_world.specs.Reached.{Gave, AreThere, RunIsReached, awaits, waiting}
 use Rattle.cs_world.specs.Reaching.{IsMade}
 use Rattle.cs_world.specs.Worlds.{World, connection, with_both}
+use Rattle.cs_world.proofs.Judging.{IsSound}
 use Rattle.cs_world.proofs.Placing.{index_set_other, index_set_same}
 
 -- ---- counting
@@ -87,7 +88,7 @@ one_if b = cond b 1 0
 module _ (w : World) (conn : ℕ) (s' : Sess) (r' : Registry RunOf) where
   -- a run of the new registry stood before, or was made
   pub data Came (place : ℕ) (key : Key) (run' : Found RunOf) : Type 0 where
-    Stood : (run : Found RunOf) → slice_get w.registry.runs place ≡ Some (key, run) → run'.held.fresh ≡ run.held.fresh → (HasRoom (state_of run.held) → HasRoom (state_of run'.held))
+    Stood : (run : Found RunOf) → slice_get w.registry.runs place ≡ Some (key, run) → run'.held.fresh ≡ run.held.fresh → (IsSound run.held → IsSound run'.held)
         → run'.held.passes + one_if (awaits place s') + run.finds ≤ run.held.passes + one_if (awaits place (connection w conn)) + run'.finds → (run.finds ≤ RUN_ATTACHES → run'.finds ≤ RUN_ATTACHES) → Came place key run'
     Made : place ≡ length w.registry.runs → IsMade w.registry key run' → Came place key run'
 
@@ -140,7 +141,8 @@ module _ (w : World) (ok : AreThere w) (conn : ℕ) (inside : conn < CONNECTIONS
       record {
         attaches = omega (arith, counts place, was.attaches, more);
         few = few was.few;
-        room = room was.room;
+        room = (room (was.room, was.legal)).0;
+        legal = (room (was.room, was.legal)).1;
         published = ap (λ p. slice_index_or p key.number false) m.published ∙ was.published;
         fresh = ap (λ s. state_at s key.number) m.scene ∙ was.fresh ∙ ap Some (sym fresh);
       }
@@ -152,6 +154,7 @@ module _ (w : World) (ok : AreThere w) (conn : ℕ) (inside : conn < CONNECTIONS
         attaches = omega (arith, counts place, none, few, passes, made.once);
         few = omega (arith, made.once);
         room = subst (λ r. HasRoom (state_of r)) (sym made.fresh) (omega arith);
+        legal = subst (λ (r : RunOf). IsLegal (first_state r) r.journal) (sym made.fresh) tt;
         published = ap (λ p. slice_index_or p key.number false) m.published ∙ made.published;
         fresh = ap (λ s. state_at s key.number) m.scene ∙ made.state ∙ ap Some (sym (ap (λ (r : RunOf). r.fresh) made.fresh));
       }

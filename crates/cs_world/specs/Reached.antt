@@ -9,8 +9,8 @@ use Rattle.cs_fids.specs.Entries.{pass_of, run_of}
 use Rattle.cs_run.specs.Opens.{open_numbered}
 use Rattle.cs_run.specs.Outcomes.{closes}
 use Rattle.cs_journal.specs.Calls.{is_full}
-use Rattle.cs_journal.specs.Journals.{HasRoom}
-use Rattle.cs_journal.specs.Runs.{RunOf, state_of}
+use Rattle.cs_journal.specs.Journals.{HasRoom, IsLegal}
+use Rattle.cs_journal.specs.Runs.{RunOf, first_state, state_of}
 use Rattle.cs_names.specs.declared.limits.TheConstants.{CONNECTIONS, RUN_ATTACHES}
 use Rattle.cs_plan.specs.Scenes.{state_at}
 use Rattle.cs_registry.specs.declared.found.Found.{Found}
@@ -34,11 +34,12 @@ abbrev pub Gave : Registry RunOf → ℕ → ℕ → Type 0
 Gave registry place pass = IsSomeAnd (held_at registry.runs place) (λ run. pass < run.passes)
 
 -- a run with its key: no more passes than finds, counting those that are still to come, and no more finds than a run has in its life; room in its
--- journal; and it began as the state of its number, which is published
+-- journal, which is legal; and it began as the state of its number, which is published
 pub record RunIsReached (w : World) (place : ℕ) (key : Key) (run : Found RunOf) : Type 0 where
   pub attaches : run.held.passes + waiting place w.connections ≤ run.finds
   pub few : run.finds ≤ RUN_ATTACHES
   pub room : HasRoom (state_of run.held)
+  pub legal : IsLegal (first_state run.held) run.held.journal
   pub published : is_published w.registry key.number ≡ true
   pub fresh : state_at w.registry.scene key.number ≡ Some run.held.fresh
 

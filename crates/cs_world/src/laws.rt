@@ -5,7 +5,7 @@ ghost use Rattle.cs_journal.specs.Marks.{StepMark};
 ghost use Rattle.cs_journal.specs.Runs.{RunOf};
 ghost use Rattle.cs_names.specs.declared.limits.TheConstants.{CONNECTIONS};
 ghost use Rattle.cs_permit.specs.declared.call.Call.{Call};
-ghost use Rattle.cs_plan.specs.Scenes.{Scene};
+ghost use Rattle.cs_plan.specs.Scenes.{IsPlan, Scene, order_in};
 ghost use Rattle.cs_registry.specs.declared.found.Found.{Found};
 ghost use Rattle.cs_registry.specs.Keys.{Key};
 ghost use Rattle.cs_registry.specs.Registries.{Registry};
@@ -29,10 +29,11 @@ ghost use Rattle.cs_world.specs.Judged.{IsJudged};
 ghost use Rattle.cs_world.specs.Lists.{IsTold, IsTurns, steps_of};
 ghost use Rattle.cs_world.specs.Marks.{Mark, refuses_table};
 ghost use Rattle.cs_world.specs.Reached.{CanBeAsked, IsReached};
-ghost use Rattle.cs_world.specs.Reaching.{IsMade, run_reached};
+ghost use Rattle.cs_world.specs.Reaching.{IsMade, front_touches, run_reached};
 ghost use Rattle.cs_world.specs.Runs.{run_step};
 ghost use Rattle.cs_world.specs.Saying.{AllSame, SameFront, SameSess, SameTurn};
 ghost use Rattle.cs_world.specs.Steps.{on_connection, step_of};
+ghost use Rattle.cs_world.specs.Theorem.{AllBegan};
 ghost use Rattle.cs_world.specs.Projections.{projection_of};
 ghost use Rattle.cs_world.specs.Watching.{calls_said};
 ghost use Rattle.cs_world.specs.Worlds.{World, connection, new_world, with_both};
@@ -45,10 +46,19 @@ pub fn calls_are_judged()
     ensures { (run : RunOf) (now pass : ℕ) (call : Call) (mark : StepMark) → IsJudged run now pass call (run_step run now pass call mark).0 (run_step run now pass call mark).1 }
 {}
 
-/// A step of a connection changes no run but the one that it reaches, and no other connection; a
-/// publish and a reload change neither.
+/// A step of a connection changes no run but the one that it reaches, and no other connection; of a
+/// run that it neither reaches nor finds it changes nothing, nor key nor count of finds; a publish and a
+/// reload change no run and no connection. No step changes the scene.
 pub fn only_what_is_reached_changes()
     ensures runs { (w : World) (conn now : ℕ) (x : c.Step) (mark : Mark) (place : ℕ) → run_reached (c.front_by now (connection w conn) x (refuses_table mark)) ≢ Some place → place < length w.registry.runs → held_at (on_connection w conn now x mark).1.registry.runs place ≡ held_at w.registry.runs place }
+    ensures places { (w : World) (conn now : ℕ) (x : c.Step) (mark : Mark) (place : ℕ) →
+        front_touches w.registry (c.front_by now (connection w conn) x (refuses_table mark))
+        ≢ Some place →
+        place < length w.registry.runs →
+        slice_get (on_connection w conn now x mark).1.registry.runs place
+        ≡ slice_get w.registry.runs place }
+    ensures scene { (w : World) (step : Step) (mark : Mark) →
+        (step_of w step mark).1.registry.scene ≡ w.registry.scene }
     ensures connections { (w : World) (conn now : ℕ) (x : c.Step) (mark : Mark) (other : ℕ) → other ≢ conn → connection (on_connection w conn now x mark).1 other ≡ connection w other }
     ensures publish { (w : World) (number : ℕ) (mark : Mark) → ((step_of w (Publish number) mark).1.registry.runs ≡ w.registry.runs) × ((step_of w (Publish number) mark).1.connections ≡ w.connections) }
     ensures reload { (w : World) (users : List Row) (mark : Mark) →
@@ -65,11 +75,15 @@ pub fn new_runs_are_states()
 /// A new world is reached, and each step leads from a reached world to a reached one. In a reached world a
 /// connection attaches to a run that is there and can give a pass, and calls on a run that is there, under
 /// a pass that it gave: so no attach that was found is A5 or S5, nor a call S5 for want of a run or a pass.
+/// Each of its runs began as the crash state of its number's set, which is allowed: that its plan is one
+/// says `World::scene`.
 pub fn reached_worlds()
     ensures new { (scene : Scene) (users : List Row) → IsReached (new_world scene users) }
     ensures step { (w : World) → IsReached w → (step : Step) (mark : Mark) → IsReached (step_of w step mark).1 }
     ensures steps { (w : World) → IsReached w → (marked : List (Step × Mark)) → IsReached (steps_of w marked).1 }
     ensures asked { (w : World) → IsReached w → (conn : ℕ) → conn < CONNECTIONS → (now : ℕ) (step : c.Step) (refused : Bool) (question : Question) → c.front_by now (connection w conn) step refused ≡ c.Asks question → CanBeAsked w.registry question }
+    ensures began { (w : World) → IsReached w →
+        IsPlan (order_in w.registry.scene) w.registry.scene.plan → AllBegan w }
 {}
 
 /// What a step of a connection comes to in a reached world: it is S5 where nobody has the number; the

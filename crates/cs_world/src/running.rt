@@ -5,6 +5,7 @@ ghost use Rattle.cs_users.specs.Rows.{Row};
 ghost use Rattle.cs_world.specs.Isolation.{IsIsolated};
 ghost use Rattle.cs_world.specs.Lists.{IsRun};
 ghost use Rattle.cs_world.specs.Reached.{IsReached};
+ghost use Rattle.cs_world.specs.Theorem.{AllBegan, ListIsJudged};
 ghost use Rattle.cs_world.specs.Worlds.{new_world};
 
 use crate::reply::Reply;
@@ -13,14 +14,20 @@ use crate::world::World;
 use std::alloc::{AllocError, Global};
 
 impl World {
-    /// Takes steps, one after the other; their replies. The memory for the replies is taken first: where it
-    /// is refused, no step was taken, and they come back. Of a new world's steps, no run reaches another.
+    /// Takes steps, one after the other; their replies. The memory for the replies is taken first: where
+    /// it is refused, no step was taken, and they come back. Where steps led to this world, each call is
+    /// refused for want of memory or room, or denied by the first rule that fails, or granted with its
+    /// effect; no other run changes; and each run that is there then began as the state of its number,
+    /// which a crash may leave. Of a new world's steps, no run reaches another.
     pub fn run(
         &mut self,
         alloc: Global,
         steps: Vec<Step>,
     ) -> Result<Vec<Reply>, (Vec<Step>, AllocError)>
         ensures runs { IfOk result (λ replies. IsRun self.old steps.items replies.items self.new) }
+        ensures judged { IsReached self.old → IfOk result (λ replies.
+            ListIsJudged self.old steps.items replies.items self.new) }
+        ensures began { IsReached self.old → IfOk result (λ replies. AllBegan self.new) }
         ensures isolated { IfOk result (λ replies. (scene : Scene) (users : List Row) →
             self.old ≡ new_world scene users →
             IsIsolated self.old steps.items replies.items self.new) }
@@ -34,6 +41,8 @@ impl World {
         for step in steps {
             replies.push_reserved(self.step(alloc, step));
         }
+        // a crash may leave each state of the scene's plan
+        let _scene = self.scene();
         Ok(replies)
     }
 }

@@ -19,20 +19,23 @@ fn is_told_as(text: &'static str, known: &str) -> bool {
     }
 }
 
-const TOLD: [(&str, &str); 7] = [
-    ("K8 no such name", "No such file or directory"),
-    ("C9 name exists", "File exists"),
-    ("M5 directory not empty", "Directory not empty"),
-    ("Q12 not owner or leader", "Operation not permitted"),
-    ("out of memory", "Cannot allocate memory"),
-    ("S5 out of turn", "Input/output error"),
-    ("K8", "Input/output error"),
+/// A text, and what the client is told in its place.
+struct Told(&'static str, &'static str);
+
+const TOLD: [Told; 7] = [
+    Told("K8 no such name", "No such file or directory"),
+    Told("C9 name exists", "File exists"),
+    Told("M5 directory not empty", "Directory not empty"),
+    Told("Q12 not owner or leader", "Operation not permitted"),
+    Told("out of memory", "Cannot allocate memory"),
+    Told("S5 out of turn", "Input/output error"),
+    Told("K8", "Input/output error"),
 ];
 
 #[test]
 fn each_text_is_told_as_one_that_linux_knows(rt: HostRuntime) {
-    for (text, known) in TOLD {
-        assert!(rt; is_told_as(text, known), "{text}");
+    for told in &TOLD {
+        assert!(rt; is_told_as(told.0, told.1), "{}", told.0);
     }
 }
 

@@ -5,7 +5,6 @@ use cs_names::named::{File, Named, Run, User};
 use cs_names::{Name, NameFault, NameOf, Pieces, RuleId, RunName, UserName, as_text, is_text};
 use std::alloc::{AllocError, Global};
 use std::process::Abort;
-use std::test::Fail;
 
 fn fault_of<K: Named>(alloc: Global, bytes: &[u8]) -> Option<NameFault> {
     NameOf::<K>::read(alloc, bytes).err()
@@ -37,62 +36,64 @@ fn assert_letters<K: Named>(
     rt: &(impl Abort + AllocGlobal),
     count: usize,
     fault: Option<NameFault>,
-) -> Result<(), Fail> {
-    let letters = vec![in rt.alloc(); b'x'; count]?;
+) {
+    let letters = vec![in rt.alloc(); b'x'; count].expect(rt, "memory");
     assert_name::<K>(rt, &letters, fault);
-    Ok(())
 }
 
-const NAMES: [(&[u8], Option<NameFault>); 9] = [
-    (b"a", None),
-    (b"...", None),
-    (b"\xc3\xa9", None),
-    (b"", Some(NameFault::Empty)),
-    (b"\xff", Some(NameFault::NotText)),
-    (b".", Some(NameFault::Forbidden)),
-    (b"..", Some(NameFault::Forbidden)),
-    (b"a/b", Some(NameFault::Forbidden)),
-    (b"a\0", Some(NameFault::Forbidden)),
+/// Bytes, and why they are no name, if they are none.
+struct Spelled(&'static [u8], Option<NameFault>);
+
+const NAMES: [Spelled; 9] = [
+    Spelled(b"a", None),
+    Spelled(b"...", None),
+    Spelled(b"\xc3\xa9", None),
+    Spelled(b"", Some(NameFault::Empty)),
+    Spelled(b"\xff", Some(NameFault::NotText)),
+    Spelled(b".", Some(NameFault::Forbidden)),
+    Spelled(b"..", Some(NameFault::Forbidden)),
+    Spelled(b"a/b", Some(NameFault::Forbidden)),
+    Spelled(b"a\0", Some(NameFault::Forbidden)),
 ];
 
 #[test]
-fn reads_names_up_to_their_limit(rt: HostRuntime) -> Result<(), Fail> {
-    for (bytes, fault) in NAMES {
-        assert_name::<File>(&rt, bytes, fault);
+fn reads_names_up_to_their_limit(rt: HostRuntime) {
+    for name in &NAMES {
+        assert_name::<File>(&rt, name.0, name.1);
     }
-    assert_letters::<File>(&rt, 255, None)?;
-    assert_letters::<File>(&rt, 256, Some(NameFault::Long))
+    assert_letters::<File>(&rt, 255, None);
+    assert_letters::<File>(&rt, 256, Some(NameFault::Long));
 }
 
 /// Whether the text becomes a name, or comes back with that fault.
-fn is_moved<K: Named>(
-    alloc: Global,
-    text: &str,
-    fault: Option<NameFault>,
-) -> Result<bool, AllocError> {
-    Ok(
-        match NameOf::<K>::from_text(String::from_str(alloc, text)?) {
-            Ok(name) => fault.is_none() && name.as_str() == text,
-            Err((found, given)) => fault == Some(found) && given.as_str() == text,
-        },
-    )
+fn is_moved<K: Named>(text: String, wanted: &str, fault: Option<NameFault>) -> bool {
+    match NameOf::<K>::from_text(text) {
+        Ok(name) => fault.is_none() && name.as_str() == wanted,
+        Err((found, given)) => fault == Some(found) && given.as_str() == wanted,
+    }
 }
 
-const MOVED: [(&str, Option<NameFault>); 3] = [
-    ("a-0", None),
-    ("a/b", Some(NameFault::Forbidden)),
-    ("", Some(NameFault::Empty)),
+fn assert_moved<K: Named>(rt: &(impl Abort + AllocGlobal), text: &str, fault: Option<NameFault>) {
+    let given = String::from_str(rt.alloc(), text).expect(rt, "memory");
+    assert!(rt; is_moved::<K>(given, text, fault), "{text}");
+}
+
+/// A text, and why it is no name, if it is none.
+struct Moved(&'static str, Option<NameFault>);
+
+const MOVED: [Moved; 3] = [
+    Moved("a-0", None),
+    Moved("a/b", Some(NameFault::Forbidden)),
+    Moved("", Some(NameFault::Empty)),
 ];
 
 #[test]
-fn moves_a_text_into_a_name_or_gives_it_back(rt: HostRuntime) -> Result<(), Fail> {
-    let alloc = rt.alloc();
-    for (text, fault) in MOVED {
-        assert!(rt; is_moved::<File>(alloc, text, fault)?, "{text}");
+fn moves_a_text_into_a_name_or_gives_it_back(rt: HostRuntime) {
+    for moved in &MOVED {
+        assert_moved::<File>(&rt, moved.0, moved.1);
     }
-    assert!(rt; is_moved::<User>(alloc, "a/b", None)?);
-    assert!(rt; is_moved::<Run>(alloc, "A", Some(NameFault::Forbidden))?);
-    Ok(())
+    assert_moved::<User>(&rt, "a/b", None);
+    assert_moved::<Run>(&rt, "A", Some(NameFault::Forbidden));
 }
 
 /// Whether the bytes are a text, which is then just them.
@@ -111,16 +112,17 @@ fn takes_text_without_a_nul(rt: HostRuntime) {
     assert!(rt; !is_lent(b"\xff"));
 }
 
-fn is_before<K: Named>(alloc: Global, first: &[u8], second: &[u8]) -> Result<bool, NameFault> {
-    Ok(NameOf::<K>::read(alloc, first)? < NameOf::<K>::read(alloc, second)?)
+fn assert_before<K: Named>(rt: &(impl Abort + AllocGlobal), first: &[u8], second: &[u8]) {
+    let first = NameOf::<K>::read(rt.alloc(), first).expect(rt, "a name");
+    let second = NameOf::<K>::read(rt.alloc(), second).expect(rt, "a name");
+    assert!(rt; first < second);
 }
 
 #[test]
-fn orders_names_by_their_bytes(rt: HostRuntime) -> Result<(), Fail> {
-    assert!(rt; is_before::<File>(rt.alloc(), b"Z", b"a")?);
-    assert!(rt; is_before::<File>(rt.alloc(), b"a", b"ab")?);
-    assert!(rt; is_before::<User>(rt.alloc(), b"ann", b"bob")?);
-    Ok(())
+fn orders_names_by_their_bytes(rt: HostRuntime) {
+    assert_before::<File>(&rt, b"Z", b"a");
+    assert_before::<File>(&rt, b"a", b"ab");
+    assert_before::<User>(&rt, b"ann", b"bob");
 }
 
 /// Whether the name of a run is printed as it is.
@@ -132,17 +134,17 @@ fn is_printed(alloc: Global, text: &str) -> bool {
 }
 
 #[test]
-fn reads_the_names_of_users_and_runs(rt: HostRuntime) -> Result<(), Fail> {
+fn reads_the_names_of_users_and_runs(rt: HostRuntime) {
     assert_name::<User>(&rt, b"a/b:.", None);
     assert_name::<User>(&rt, b"a\0", Some(NameFault::Forbidden));
-    assert_letters::<User>(&rt, 64, None)?;
-    assert_letters::<User>(&rt, 65, Some(NameFault::Long))?;
-    for bytes in [b"".as_slice(), b"A".as_slice(), b"a b".as_slice()] {
-        assert_name::<Run>(&rt, bytes, Some(NameFault::Forbidden));
-    }
+    assert_letters::<User>(&rt, 64, None);
+    assert_letters::<User>(&rt, 65, Some(NameFault::Long));
+    assert_name::<Run>(&rt, b"", Some(NameFault::Forbidden));
+    assert_name::<Run>(&rt, b"A", Some(NameFault::Forbidden));
+    assert_name::<Run>(&rt, b"a b", Some(NameFault::Forbidden));
     assert!(rt; is_printed(rt.alloc(), "a-0_z"));
-    assert_letters::<Run>(&rt, 32, None)?;
-    assert_letters::<Run>(&rt, 33, Some(NameFault::Forbidden))
+    assert_letters::<Run>(&rt, 32, None);
+    assert_letters::<Run>(&rt, 33, Some(NameFault::Forbidden));
 }
 
 /// How many bytes each piece has.
@@ -152,16 +154,16 @@ fn lengths(alloc: Global, bytes: &[u8]) -> Result<Vec<usize>, AllocError> {
         .collect(alloc)
 }
 
+fn assert_cut(rt: &(impl Abort + AllocGlobal), bytes: &[u8], wanted: &[usize]) {
+    let lengths = lengths(rt.alloc(), bytes).expect(rt, "memory");
+    assert_eq!(rt; lengths.as_slice(), wanted);
+}
+
 #[test]
-fn cuts_a_text_at_each_separator(rt: HostRuntime) -> Result<(), Fail> {
-    let alloc = rt.alloc();
-    assert_eq!(rt; lengths(alloc, b"")?.as_slice(), [0].as_slice());
-    assert_eq!(rt; lengths(alloc, b"a")?.as_slice(), [1].as_slice());
-    assert_eq!(rt;
-        lengths(alloc, b":ab::")?.as_slice(),
-        [0, 2, 0, 0].as_slice()
-    );
-    Ok(())
+fn cuts_a_text_at_each_separator(rt: HostRuntime) {
+    assert_cut(&rt, b"", &[0]);
+    assert_cut(&rt, b"a", &[1]);
+    assert_cut(&rt, b":ab::", &[0, 2, 0, 0]);
 }
 
 #[test]

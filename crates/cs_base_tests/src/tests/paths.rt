@@ -3,7 +3,7 @@
 use super::printing::prints;
 use cs_names::{Name, NameFault, Path};
 use std::alloc::Global;
-use std::test::Fail;
+use std::process::Abort;
 
 /// How many names the path has that the text spells.
 fn count_of(alloc: Global, text: &str) -> Result<usize, NameFault> {
@@ -24,31 +24,38 @@ fn is_written_back(alloc: Global, text: &str) -> bool {
     }
 }
 
-const PATHS: [(&str, Result<usize, NameFault>); 8] = [
-    ("/", Ok(0)),
-    ("/q", Ok(1)),
-    ("/d/s/z", Ok(3)),
-    ("", Err(NameFault::Forbidden)),
-    ("q", Err(NameFault::Forbidden)),
-    ("/q//r", Err(NameFault::Empty)),
-    ("/q/", Err(NameFault::Empty)),
-    ("/q/../\0", Err(NameFault::Forbidden)),
+/// A text, and how many names its path has, or why it is none.
+struct Spelled(&'static str, Result<usize, NameFault>);
+
+const PATHS: [Spelled; 8] = [
+    Spelled("/", Ok(0)),
+    Spelled("/q", Ok(1)),
+    Spelled("/d/s/z", Ok(3)),
+    Spelled("", Err(NameFault::Forbidden)),
+    Spelled("q", Err(NameFault::Forbidden)),
+    Spelled("/q//r", Err(NameFault::Empty)),
+    Spelled("/q/", Err(NameFault::Empty)),
+    Spelled("/q/../\0", Err(NameFault::Forbidden)),
 ];
+
+fn assert_path(rt: &(impl Abort + AllocGlobal), text: &str, count: Result<usize, NameFault>) {
+    assert_eq!(rt; Path::check(text), count, "{text}");
+    assert_eq!(rt; count_of(rt.alloc(), text), count, "{text}");
+    assert_eq!(rt; is_written_back(rt.alloc(), text), count.is_ok(), "{text}");
+}
 
 #[test]
 fn reads_paths_and_writes_them_back(rt: HostRuntime) {
-    for (text, count) in PATHS {
-        assert_eq!(rt; Path::check(text), count, "{text}");
-        assert_eq!(rt; count_of(rt.alloc(), text), count, "{text}");
-        assert_eq!(rt; is_written_back(rt.alloc(), text), count.is_ok(), "{text}");
+    for path in &PATHS {
+        assert_path(&rt, path.0, path.1);
     }
 }
 
 /// Whether the path ends with that name, and the rest is the path of its directory.
-fn is_parted(alloc: Global, path: &Path, directory: &str, name: &str) -> Result<bool, Fail> {
-    let (above, last) = path.names().split_last().ok_or("a name")?;
-    let above = Path::of(alloc, &above)?;
-    Ok(
+fn is_parted(alloc: Global, path: &Path, directory: &str, name: &str) -> Option<bool> {
+    let (above, last) = path.names().split_last()?;
+    let above = Path::of(alloc, &above).ok()?;
+    Some(
         last == name
             && prints(alloc, &above, directory)
             && path.begins_with(&above)
@@ -56,41 +63,38 @@ fn is_parted(alloc: Global, path: &Path, directory: &str, name: &str) -> Result<
     )
 }
 
-fn begins_with(alloc: Global, path: &Path, other: &str) -> Result<bool, NameFault> {
-    Ok(path.begins_with(&Path::read(alloc, other)?))
-}
-
-fn names_of(alloc: Global, path: &Path) -> Result<Vec<Name>, Fail> {
+fn names_of(alloc: Global, path: &Path) -> Option<Vec<Name>> {
     let mut names = Vec::new(alloc);
     for name in path.names() {
-        names.push(Name::read(alloc, name.as_bytes())?)?;
+        names.push(Name::read(alloc, name.as_bytes()).ok()?).ok()?;
     }
-    Ok(names)
+    Some(names)
 }
 
 /// Whether the path's names make it again.
-fn is_made_again(alloc: Global, path: &Path) -> Result<bool, Fail> {
+fn is_made_again(alloc: Global, path: &Path) -> Option<bool> {
     let names = names_of(alloc, path)?;
-    Ok(Path::from_names(alloc, &names)? == *path)
+    Some(Path::from_names(alloc, &names).ok()? == *path)
 }
 
 #[test]
-fn parts_a_path_into_its_directory_and_its_last_name(rt: HostRuntime) -> Result<(), Fail> {
-    let path = Path::read(rt.alloc(), "/d/s!/z")?;
-    assert!(rt; is_parted(rt.alloc(), &path, "/d/s!", "z")?);
-    assert!(rt; !begins_with(rt.alloc(), &path, "/d/s")?);
-    assert!(rt; is_made_again(rt.alloc(), &path)?);
+fn parts_a_path_into_its_directory_and_its_last_name(rt: HostRuntime) {
+    let path = Path::read(rt.alloc(), "/d/s!/z").expect(&rt, "a path");
+    assert!(rt; is_parted(rt.alloc(), &path, "/d/s!", "z") == Some(true));
+    let other = Path::read(rt.alloc(), "/d/s").expect(&rt, "a path");
+    assert!(rt; !path.begins_with(&other));
+    assert!(rt; is_made_again(rt.alloc(), &path) == Some(true));
     assert!(rt; Path::root(rt.alloc()).names().parent().is_empty());
-    Ok(())
 }
 
-fn is_before(alloc: Global, first: &str, second: &str) -> Result<bool, NameFault> {
-    Ok(Path::read(alloc, first)? < Path::read(alloc, second)?)
+fn assert_before(rt: &(impl Abort + AllocGlobal), first: &str, second: &str) {
+    let first = Path::read(rt.alloc(), first).expect(rt, "a path");
+    let second = Path::read(rt.alloc(), second).expect(rt, "a path");
+    assert!(rt; first < second);
 }
 
 #[test]
-fn orders_a_directory_before_what_it_has(rt: HostRuntime) -> Result<(), Fail> {
-    assert!(rt; is_before(rt.alloc(), "/d", "/d/s")?);
-    assert!(rt; is_before(rt.alloc(), "/d/s", "/d!")?);
-    Ok(())
+fn orders_a_directory_before_what_it_has(rt: HostRuntime) {
+    assert_before(&rt, "/d", "/d/s");
+    assert_before(&rt, "/d/s", "/d!");
 }

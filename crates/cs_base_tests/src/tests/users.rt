@@ -5,72 +5,70 @@ use super::world::USERS;
 use cs_users::{Right, Users, UsersFault, has_right};
 use std::alloc::{AllocError, Global};
 use std::process::Abort;
-use std::test::Fail;
 
-const KNOWN: [(&[u8], bool); 5] = [
-    (b"ann", true),
-    (b"staff", true),
-    (b"none", true),
-    (b"zed", false),
-    (b"", false),
+/// A name, and whether it is known.
+struct Known(&'static [u8], bool);
+
+const KNOWN: [Known; 5] = [
+    Known(b"ann", true),
+    Known(b"staff", true),
+    Known(b"none", true),
+    Known(b"zed", false),
+    Known(b"", false),
 ];
 
-fn assert_known(rt: &impl Abort, users: &Users) {
-    for (name, known) in KNOWN {
-        assert_eq!(rt; users.knows(name), known, "{name:?}");
+/// A user, a group, and whether the one is a member of the other, or leads it.
+struct Pair(&'static [u8], &'static [u8], bool);
+
+const MEMBERS: [Pair; 5] = [
+    Pair(b"bob", b"staff", true),
+    Pair(b"bob", b"bob", true),
+    Pair(b"cat", b"staff", false),
+    Pair(b"zed", b"staff", false),
+    Pair(b"none", b"none", false),
+];
+
+const LEADERS: [Pair; 5] = [
+    Pair(b"ann", b"staff", true),
+    Pair(b"bob", b"bob", true),
+    Pair(b"bob", b"staff", false),
+    Pair(b"ann", b"bob", false),
+    Pair(b"none", b"none", false),
+];
+
+/// Looks at who is known, who is a member, and who leads.
+fn assert_groups(rt: &impl Abort, users: &Users) {
+    for row in &KNOWN {
+        assert!(rt; users.knows(row.0) == row.1, "{:?}", row.0);
+    }
+    for row in &MEMBERS {
+        assert!(rt; users.is_member(row.0, row.1) == row.2, "{:?}", row.0);
+    }
+    for row in &LEADERS {
+        assert!(rt; users.is_leader(row.0, row.1) == row.2, "{:?}", row.0);
     }
 }
 
-/// A user, a group, and whether the one is a member of the other.
-const MEMBERS: [(&[u8], &[u8], bool); 5] = [
-    (b"bob", b"staff", true),
-    (b"bob", b"bob", true),
-    (b"cat", b"staff", false),
-    (b"zed", b"staff", false),
-    (b"none", b"none", false),
-];
-
-fn assert_members(rt: &impl Abort, users: &Users) {
-    for (user, group, member) in MEMBERS {
-        assert_eq!(rt; users.is_member(user, group), member, "{user:?}");
-    }
-}
-
-/// A user, a group, and whether the one leads the other.
-const LEADERS: [(&[u8], &[u8], bool); 5] = [
-    (b"ann", b"staff", true),
-    (b"bob", b"bob", true),
-    (b"bob", b"staff", false),
-    (b"ann", b"bob", false),
-    (b"none", b"none", false),
-];
-
-fn assert_leaders(rt: &impl Abort, users: &Users) {
-    for (user, group, leader) in LEADERS {
-        assert_eq!(rt; users.is_leader(user, group), leader, "{user:?}");
-    }
+/// The users of the worked examples.
+fn small_users(rt: &(impl Abort + AllocGlobal)) -> Users {
+    Users::read(rt.alloc(), USERS).expect(rt, "users")
 }
 
 #[test]
-fn members_and_leaders_of_a_group(rt: HostRuntime) -> Result<(), Fail> {
-    let users = Users::read(rt.alloc(), USERS)?;
-    assert_known(&rt, &users);
-    assert_members(&rt, &users);
-    assert_leaders(&rt, &users);
-    Ok(())
+fn members_and_leaders_of_a_group(rt: HostRuntime) {
+    assert_groups(&rt, &small_users(&rt));
 }
 
 #[test]
-fn a_copy_answers_alike(rt: HostRuntime) -> Result<(), Fail> {
-    let users = Users::read(rt.alloc(), USERS)?.try_clone(rt.alloc())?;
-    assert_known(&rt, &users);
-    assert_members(&rt, &users);
-    assert_leaders(&rt, &users);
-    Ok(())
+fn a_copy_answers_alike(rt: HostRuntime) {
+    let copy = small_users(&rt).try_clone(rt.alloc());
+    assert_groups(&rt, &copy.expect(&rt, "memory"));
 }
 
-fn fault_of(alloc: Global, bytes: &[u8]) -> Option<UsersFault> {
-    Users::read(alloc, bytes).err()
+/// Looks at the fault of a file, if it has one.
+fn assert_fault(rt: &(impl Abort + AllocGlobal), bytes: &[u8], wanted: Option<UsersFault>) {
+    let fault = Users::read(rt.alloc(), bytes).err();
+    assert!(rt; fault == wanted, "{bytes:?}");
 }
 
 /// A line whose name has so many letters.
@@ -83,29 +81,29 @@ fn line_of(alloc: Global, length: usize) -> Result<Vec<u8>, AllocError> {
     Ok(line)
 }
 
-const FAULTS: [(&[u8], UsersFault); 8] = [
-    (b"1:ann::\n1:ann::", UsersFault::Twice(2)),
-    (b"1:ann::\n\n# 1:bob::\n2:ann::\n", UsersFault::Twice(4)),
-    (b"1:ann:", UsersFault::FieldCount(1)),
-    (b"1:ann:::", UsersFault::FieldCount(1)),
-    (b"\r\n", UsersFault::FieldCount(1)),
-    (b"1:::", UsersFault::EmptyName(1)),
-    (b"1:ann::\n1\n\xff", UsersFault::NotText),
-    (b"1:an\0n::", UsersFault::NotText),
+/// A file, and its first fault.
+struct Faulty(&'static [u8], UsersFault);
+
+const FAULTS: [Faulty; 8] = [
+    Faulty(b"1:ann::\n1:ann::", UsersFault::Twice(2)),
+    Faulty(b"1:ann::\n\n# 1:bob::\n2:ann::\n", UsersFault::Twice(4)),
+    Faulty(b"1:ann:", UsersFault::FieldCount(1)),
+    Faulty(b"1:ann:::", UsersFault::FieldCount(1)),
+    Faulty(b"\r\n", UsersFault::FieldCount(1)),
+    Faulty(b"1:::", UsersFault::EmptyName(1)),
+    Faulty(b"1:ann::\n1\n\xff", UsersFault::NotText),
+    Faulty(b"1:an\0n::", UsersFault::NotText),
 ];
 
 #[test]
-fn first_fault_of_a_file(rt: HostRuntime) -> Result<(), Fail> {
-    let alloc = rt.alloc();
-    for (bytes, fault) in FAULTS {
-        assert_eq!(rt; fault_of(alloc, bytes), Some(fault));
+fn first_fault_of_a_file(rt: HostRuntime) {
+    for row in &FAULTS {
+        assert_fault(&rt, row.0, Some(row.1));
     }
-    assert_eq!(rt;
-        fault_of(alloc, &line_of(alloc, 65)?),
-        Some(UsersFault::LongName(1))
-    );
-    assert_eq!(rt; fault_of(alloc, &line_of(alloc, 64)?), None);
-    Ok(())
+    let longer = line_of(rt.alloc(), 65).expect(&rt, "memory");
+    assert_fault(&rt, &longer, Some(UsersFault::LongName(1)));
+    let longest = line_of(rt.alloc(), 64).expect(&rt, "memory");
+    assert_fault(&rt, &longest, None);
 }
 
 #[test]
@@ -115,7 +113,7 @@ fn a_fault_prints_its_line(rt: HostRuntime) {
 }
 
 /// A user, the owner, the group and the mode of a file, a right, and whether the user has it.
-type Grant = (
+struct Grant(
     &'static [u8],
     &'static [u8],
     &'static [u8],
@@ -125,26 +123,24 @@ type Grant = (
 );
 
 const GRANTS: [Grant; 7] = [
-    (b"bob", b"ann", b"staff", 0o664, Right::Write, true),
-    (b"cat", b"ann", b"staff", 0o664, Right::Write, false),
-    (b"cat", b"ann", b"staff", 0o664, Right::Read, true),
-    (b"bob", b"ann", b"staff", 0o604, Right::Read, true),
-    (b"ann", b"ann", b"ann", 0o100, Right::Execute, true),
-    (b"none", b"none", b"none", 0o770, Right::Read, false),
-    (b"zed", b"ann", b"staff", 0o070, Right::Read, false),
+    Grant(b"bob", b"ann", b"staff", 0o664, Right::Write, true),
+    Grant(b"cat", b"ann", b"staff", 0o664, Right::Write, false),
+    Grant(b"cat", b"ann", b"staff", 0o664, Right::Read, true),
+    Grant(b"bob", b"ann", b"staff", 0o604, Right::Read, true),
+    Grant(b"ann", b"ann", b"ann", 0o100, Right::Execute, true),
+    Grant(b"none", b"none", b"none", 0o770, Right::Read, false),
+    Grant(b"zed", b"ann", b"staff", 0o070, Right::Read, false),
 ];
 
 fn assert_grant(rt: &impl Abort, users: &Users, grant: &Grant) {
-    let (user, owner, group, mode, right, granted) = *grant;
-    let has = has_right(users, user, owner, group, mode, right);
-    assert_eq!(rt; has, granted, "{user:?}");
+    let has = has_right(users, grant.0, grant.1, grant.2, grant.3, grant.4);
+    assert!(rt; has == grant.5, "{:?}", grant.0);
 }
 
 #[test]
-fn bits_of_owner_and_group_add_to_those_of_others(rt: HostRuntime) -> Result<(), Fail> {
-    let users = Users::read(rt.alloc(), USERS)?;
+fn bits_of_owner_and_group_add_to_those_of_others(rt: HostRuntime) {
+    let users = small_users(&rt);
     for grant in &GRANTS {
         assert_grant(&rt, &users, grant);
     }
-    Ok(())
 }

@@ -13,7 +13,6 @@ use cs_users::Users;
 use cs_wire::{Qid, Stat};
 use std::alloc::Global;
 use std::process::Abort;
-use std::test::Fail;
 
 /// How many bytes the entry of a file has in a read of its directory.
 fn entry_bytes(tree: &PlainTree, number: u64) -> Option<usize> {
@@ -21,12 +20,11 @@ fn entry_bytes(tree: &PlainTree, number: u64) -> Option<usize> {
 }
 
 #[test]
-fn an_entry_has_49_bytes_and_its_texts(rt: HostRuntime) -> Result<(), Fail> {
-    let tree = start_tree(rt.alloc()).ok_or("the tree")?;
+fn an_entry_has_49_bytes_and_its_texts(rt: HostRuntime) {
+    let tree = start_tree(rt.alloc()).expect(&rt, "the tree");
     assert_eq!(rt; entry_bytes(&tree, 1), Some(61));
     assert_eq!(rt; qid_at(&tree, 1).kind, 0x80);
     assert_eq!(rt; entry_bytes(&tree, 5), Some(62));
-    Ok(())
 }
 
 /// The fields of a wstat that tests touch.
@@ -111,11 +109,10 @@ fn changes_nothing_untouched(alloc: Global, tree: &PlainTree) -> Option<bool> {
 }
 
 #[test]
-fn a_stat_that_is_sent_back_changes_nothing(rt: HostRuntime) -> Result<(), Fail> {
-    let tree = start_tree(rt.alloc()).ok_or("the tree")?;
+fn a_stat_that_is_sent_back_changes_nothing(rt: HostRuntime) {
+    let tree = start_tree(rt.alloc()).expect(&rt, "the tree");
     assert_eq!(rt; changes_nothing_sent_back(rt.alloc(), &tree), Some(true));
     assert_eq!(rt; changes_nothing_untouched(rt.alloc(), &tree), Some(true));
-    Ok(())
 }
 
 /// Whether a field of `/f` changes that can't be changed.
@@ -124,105 +121,232 @@ fn is_fixed(alloc: Global, tree: &PlainTree, fields: &Fields) -> Option<bool> {
     Some(changes_fixed(&call, &tree.record(4)?))
 }
 
-fn atime(atime: u32) -> Fields {
-    Fields { atime, ..UNTOUCHED }
-}
+/// A qid of ones but for its version.
+const NO_VERSION: Qid = Qid {
+    kind: u8::MAX,
+    vers: 0,
+    path: u64::MAX,
+};
 
-fn qid(kind: u8, vers: u32, path: u64) -> Fields {
-    let qid = Qid { kind, vers, path };
-    Fields { qid, ..UNTOUCHED }
-}
+/// The qid of `/f`.
+const ITS_OWN: Qid = Qid {
+    kind: 0,
+    vers: 0,
+    path: 4,
+};
 
-fn uid(uid: &'static str) -> Fields {
-    Fields { uid, ..UNTOUCHED }
-}
+/// What ann sends of `/f`, and whether that changes a field that can't be changed.
+struct Sent(Fields, bool);
+
+const SENT: [Sent; 5] = [
+    Sent(
+        Fields {
+            atime: 1,
+            ..UNTOUCHED
+        },
+        true,
+    ),
+    Sent(
+        Fields {
+            atime: 0,
+            ..UNTOUCHED
+        },
+        false,
+    ),
+    Sent(
+        Fields {
+            qid: NO_VERSION,
+            ..UNTOUCHED
+        },
+        true,
+    ),
+    Sent(
+        Fields {
+            qid: ITS_OWN,
+            ..UNTOUCHED
+        },
+        false,
+    ),
+    Sent(
+        Fields {
+            uid: "bob",
+            ..UNTOUCHED
+        },
+        true,
+    ),
+];
 
 #[test]
-fn some_fields_of_a_stat_cannot_be_changed(rt: HostRuntime) -> Result<(), Fail> {
-    let tree = start_tree(rt.alloc()).ok_or("the tree")?;
-    for (fields, fixed) in [
-        (atime(1), true),
-        (atime(0), false),
-        (qid(u8::MAX, 0, u64::MAX), true),
-        (qid(0, 0, 4), false),
-        (uid("bob"), true),
-    ] {
-        assert_eq!(rt; is_fixed(rt.alloc(), &tree, &fields), Some(fixed));
+fn some_fields_of_a_stat_cannot_be_changed(rt: HostRuntime) {
+    let tree = start_tree(rt.alloc()).expect(&rt, "the tree");
+    for sent in &SENT {
+        assert_eq!(rt; is_fixed(rt.alloc(), &tree, &sent.0), Some(sent.1));
     }
-    Ok(())
 }
 
 /// A user, a file's number, what the user sends, and the rule that this fails first.
-type Line = (&'static [u8], u64, Fields, Option<RuleId>);
+struct Line(&'static [u8], u64, Fields, Option<RuleId>);
 
 /// The rule of the call that fails first, or nothing for want of memory.
 fn first_of(alloc: Global, tree: &PlainTree, users: &Users, line: &Line) -> Option<Option<RuleId>> {
-    let (user, number, fields, _) = line;
-    let call = Call::Wstat(wstat(alloc, user, *number, stat_of(alloc, fields)?)?);
+    let call = Call::Wstat(wstat(alloc, line.0, line.1, stat_of(alloc, &line.2)?)?);
     Some(first_failing(&call, tree, &[], users))
 }
 
-fn assert_rules(rt: &(impl Abort + AllocGlobal), lines: &[Line]) -> Result<(), Fail> {
-    let tree = start_tree(rt.alloc()).ok_or("the tree")?;
-    let users = Users::read(rt.alloc(), USERS)?;
+fn assert_rules(rt: &(impl Abort + AllocGlobal), lines: &[Line]) {
+    let tree = start_tree(rt.alloc()).expect(rt, "the tree");
+    let users = Users::read(rt.alloc(), USERS).expect(rt, "users");
     for line in lines {
         assert_eq!(rt; first_of(rt.alloc(), &tree, &users, line), Some(line.3));
     }
-    Ok(())
 }
 
-fn mode(mode: u32) -> Fields {
-    Fields { mode, ..UNTOUCHED }
-}
+const MODES: [Line; 5] = [
+    Line(
+        b"bob",
+        4,
+        Fields {
+            mode: 0o600,
+            ..UNTOUCHED
+        },
+        Some(RuleId::Q12),
+    ),
+    Line(
+        b"ann",
+        4,
+        Fields {
+            mode: 0o600,
+            ..UNTOUCHED
+        },
+        None,
+    ),
+    Line(
+        b"ann",
+        4,
+        Fields {
+            mode: DMDIR | 0o600,
+            ..UNTOUCHED
+        },
+        Some(RuleId::Q11),
+    ),
+    Line(
+        b"ann",
+        0,
+        Fields {
+            mode: DMDIR | DMEXCL | 0o555,
+            ..UNTOUCHED
+        },
+        Some(RuleId::Q11),
+    ),
+    Line(
+        b"ann",
+        0,
+        Fields {
+            mode: DMDIR | 0o555,
+            ..UNTOUCHED
+        },
+        None,
+    ),
+];
 
 #[test]
-fn a_mode_needs_its_owner_or_the_groups_leader(rt: HostRuntime) -> Result<(), Fail> {
-    assert_rules(
-        &rt,
-        &[
-            (b"bob", 4, mode(0o600), Some(RuleId::Q12)),
-            (b"ann", 4, mode(0o600), None),
-            (b"ann", 4, mode(DMDIR | 0o600), Some(RuleId::Q11)),
-            (b"ann", 0, mode(DMDIR | DMEXCL | 0o555), Some(RuleId::Q11)),
-            (b"ann", 0, mode(DMDIR | 0o555), None),
-        ],
-    )
+fn a_mode_needs_its_owner_or_the_groups_leader(rt: HostRuntime) {
+    assert_rules(&rt, &MODES);
 }
 
-fn group(gid: &'static str) -> Fields {
-    Fields { gid, ..UNTOUCHED }
-}
+const GROUPS: [Line; 4] = [
+    Line(
+        b"ann",
+        4,
+        Fields {
+            gid: "nosuch",
+            ..UNTOUCHED
+        },
+        Some(RuleId::Q13),
+    ),
+    Line(
+        b"ann",
+        4,
+        Fields {
+            gid: "cat",
+            ..UNTOUCHED
+        },
+        Some(RuleId::Q14),
+    ),
+    Line(
+        b"ann",
+        4,
+        Fields {
+            gid: "ann",
+            ..UNTOUCHED
+        },
+        None,
+    ),
+    Line(
+        b"bob",
+        4,
+        Fields {
+            gid: "bob",
+            ..UNTOUCHED
+        },
+        Some(RuleId::Q14),
+    ),
+];
 
 #[test]
-fn a_group_needs_a_member_who_owns_or_the_leader_of_both(rt: HostRuntime) -> Result<(), Fail> {
-    assert_rules(
-        &rt,
-        &[
-            (b"ann", 4, group("nosuch"), Some(RuleId::Q13)),
-            (b"ann", 4, group("cat"), Some(RuleId::Q14)),
-            (b"ann", 4, group("ann"), None),
-            (b"bob", 4, group("bob"), Some(RuleId::Q14)),
-        ],
-    )
+fn a_group_needs_a_member_who_owns_or_the_leader_of_both(rt: HostRuntime) {
+    assert_rules(&rt, &GROUPS);
 }
 
-fn length(length: u64) -> Fields {
-    Fields {
-        length,
-        ..UNTOUCHED
-    }
-}
+const LENGTHS: [Line; 5] = [
+    Line(
+        b"cat",
+        4,
+        Fields {
+            length: 5,
+            ..UNTOUCHED
+        },
+        None,
+    ),
+    Line(
+        b"cat",
+        4,
+        Fields {
+            length: 0,
+            ..UNTOUCHED
+        },
+        Some(RuleId::Q9),
+    ),
+    Line(
+        b"bob",
+        4,
+        Fields {
+            length: 0,
+            ..UNTOUCHED
+        },
+        None,
+    ),
+    Line(
+        b"bob",
+        4,
+        Fields {
+            length: 16_777_216,
+            ..UNTOUCHED
+        },
+        None,
+    ),
+    Line(
+        b"bob",
+        4,
+        Fields {
+            length: 16_777_217,
+            ..UNTOUCHED
+        },
+        Some(RuleId::Q10),
+    ),
+];
 
 #[test]
-fn a_length_needs_the_right_to_write(rt: HostRuntime) -> Result<(), Fail> {
-    assert_rules(
-        &rt,
-        &[
-            (b"cat", 4, length(5), None),
-            (b"cat", 4, length(0), Some(RuleId::Q9)),
-            (b"bob", 4, length(0), None),
-            (b"bob", 4, length(16_777_216), None),
-            (b"bob", 4, length(16_777_217), Some(RuleId::Q10)),
-        ],
-    )
+fn a_length_needs_the_right_to_write(rt: HostRuntime) {
+    assert_rules(&rt, &LENGTHS);
 }

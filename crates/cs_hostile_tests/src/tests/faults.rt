@@ -207,3 +207,26 @@ fn any_two_pieces_of_a_write_join(rt: HostRuntime) {
         expect_end(&rt, WELL, writes, Ok(()));
     }
 }
+
+/// The first read gives so many bytes, and the next one the others.
+#[test]
+fn any_two_pieces_of_a_read_join(rt: HostRuntime) {
+    for most in 1..=121usize {
+        let reads = Plan {
+            most,
+            good: 1,
+            ..WELL
+        };
+        expect_end(&rt, reads, WELL, Ok(()));
+    }
+}
+
+#[test]
+fn the_first_exchange_is_read_byte_by_byte(rt: HostRuntime) {
+    let reads = Plan {
+        most: 1,
+        good: 121,
+        ..WELL
+    };
+    expect_end(&rt, reads, WELL, Ok(()));
+}

@@ -1,5 +1,7 @@
 //! Audits of a run by the passes that the connections of a server gave back.
-use crate::tests::server::{served_at_once, server_of};
+use crate::tests::server::{
+    ANN_TO_X, BOB_TO_X, STAT, VERSION, WALK, served, served_at_once, server_of,
+};
 use cs_journal::AuditFault;
 use cs_names::RunName;
 use cs_registry::RunKey;
@@ -61,4 +63,41 @@ fn a_run_is_audited_by_what_its_connections_gave_back(rt: HostRuntime) {
     expect_audit(&rt, rt.alloc(), 3, Ok(()));
     expect_audit(&rt, rt.alloc(), 2, Err(AuditFault::Count));
     expect_audit(&rt, rt.alloc(), 0, Err(AuditFault::Count));
+}
+
+const ANN_STATS: [&[u8]; 3] = [VERSION, ANN_TO_X, STAT];
+
+const BOB_STATS: [&[u8]; 3] = [VERSION, BOB_TO_X, STAT];
+
+const BOB_WALKS: [&[u8]; 3] = [VERSION, BOB_TO_X, WALK];
+
+/// A server, and the passes that its connections gave back.
+#[derive(Drop)]
+struct Ended {
+    server: Server<AnyScene>,
+    passes: GivenPasses,
+}
+
+impl Ended {
+    /// A server on whose run `0/x` ann came and went, and then bob, who sent these requests.
+    fn of<R: Wait + Abort>(rt: &R, alloc: Global, bob: &[&[u8]]) -> Ended {
+        let server = server_of(rt, alloc);
+        let mut passes = GivenPasses::new(alloc);
+        for requests in [&ANN_STATS, bob] {
+            let connection = served(rt, alloc, &server, requests).expect(rt, "memory");
+            assert!(rt; passes.keep(alloc, connection).is_ok());
+        }
+        Ended { server, passes }
+    }
+}
+
+#[test]
+fn a_run_put_in_the_place_of_a_servers_own_is_seen(rt: HostRuntime) {
+    let alloc = rt.alloc();
+    let own = Ended::of(&rt, alloc, &BOB_STATS);
+    let audit = audit_of(&rt, alloc, &own.server, &own.passes);
+    assert!(rt; audit == Some(Ok(())));
+    let other = Ended::of(&rt, alloc, &BOB_WALKS);
+    let audit = audit_of(&rt, alloc, &other.server, &own.passes);
+    assert!(rt; audit == Some(Err(AuditFault::Changed(3))));
 }

@@ -1,6 +1,6 @@
 //! The start tree of the worked examples, its users, and dialogues with worlds over it.
-use crate::tests::asking::message_of;
 use crate::tests::telling::push_reply;
+use cs_asking::message_of;
 use cs_plan::Scene;
 use cs_serve::world_of;
 use cs_trace::read_trace;

@@ -1,6 +1,6 @@
 //! Journals that are full.
-use crate::tests::asking::message_of;
 use crate::tests::fixture::{TRACE, expect_in, join, world_over};
+use cs_asking::message_of;
 use cs_wire::RBody;
 use cs_world::World;
 use std::process::Abort;

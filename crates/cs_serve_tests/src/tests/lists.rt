@@ -120,7 +120,7 @@ fn push_renamed(trace: &mut String) -> Result<(), AllocError> {
     trace.push_str(RENAMED)
 }
 
-fn renamed(rt: &(impl Abort + AllocGlobal)) -> String {
+pub fn renamed(rt: &(impl Abort + AllocGlobal)) -> String {
     let mut trace = String::new(rt.alloc());
     push_renamed(&mut trace).expect(rt, "memory");
     trace

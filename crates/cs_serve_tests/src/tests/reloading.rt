@@ -1,7 +1,7 @@
 //! Users files that a script takes: runs that stand keep their users, and later ones have the new.
-use crate::tests::asking::message_of;
 use crate::tests::commands::{Faulty, expect_fault, expect_printed, inputs_of, outcome, scripted};
 use crate::tests::fixture::{HEADER, TRACE, USERS};
+use cs_asking::message_of;
 use cs_serve::{Inputs, script_of};
 use cs_wire::decode_r;
 use std::alloc::Global;

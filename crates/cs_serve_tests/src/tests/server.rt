@@ -25,7 +25,7 @@ const USERS: &[u8] = b"1:ann::\n2:bob::\n3:cat::\n4:staff:ann:ann,bob\n";
 /// How often a stream looks for what another is to do.
 const TURNS: u32 = 10_000_000;
 
-const VERSION: &[u8] = b"\x13\0\0\0d\xff\xff\0 \0\0\x06\09P2000";
+pub const VERSION: &[u8] = b"\x13\0\0\0d\xff\xff\0 \0\0\x06\09P2000";
 
 const ANN_TO_A: &[u8] = b"\x19\0\0\0h\x01\0\0\0\0\0\xff\xff\xff\xff\x03\0ann\x03\00/a";
 
@@ -33,13 +33,16 @@ const CAT_TO_A: &[u8] = b"\x19\0\0\0h\x01\0\0\0\0\0\xff\xff\xff\xff\x03\0cat\x03
 
 const BOB_TO_B: &[u8] = b"\x19\0\0\0h\x01\0\0\0\0\0\xff\xff\xff\xff\x03\0bob\x03\00/b";
 
-const ANN_TO_X: &[u8] = b"\x19\0\0\0h\x01\0\0\0\0\0\xff\xff\xff\xff\x03\0ann\x03\00/x";
+pub const ANN_TO_X: &[u8] = b"\x19\0\0\0h\x01\0\0\0\0\0\xff\xff\xff\xff\x03\0ann\x03\00/x";
 
-const BOB_TO_X: &[u8] = b"\x19\0\0\0h\x01\0\0\0\0\0\xff\xff\xff\xff\x03\0bob\x03\00/x";
+pub const BOB_TO_X: &[u8] = b"\x19\0\0\0h\x01\0\0\0\0\0\xff\xff\xff\xff\x03\0bob\x03\00/x";
 /// A stat of the root.
-const STAT: &[u8] = b"\x0b\0\0\0|\x02\0\0\0\0\0";
+pub const STAT: &[u8] = b"\x0b\0\0\0|\x02\0\0\0\0\0";
 /// A walk to the file, as the fid 1.
-const WALK: &[u8] = b"\x14\0\0\0n\x02\0\0\0\0\0\x01\0\0\0\x01\0\x01\0f";
+pub const WALK: &[u8] = b"\x14\0\0\0n\x02\0\0\0\0\0\x01\0\0\0\x01\0\x01\0f";
+
+/// A stat of the file, by the fid 1.
+const STAT_F: &[u8] = b"\x0b\0\0\0|\x05\0\x01\0\0\0";
 
 const OPEN_TO_READ: &[u8] = b"\x0c\0\0\0p\x03\0\x01\0\0\0\0";
 
@@ -221,6 +224,18 @@ fn joined(alloc: Global, requests: &[&[u8]]) -> Option<Vec<u8>> {
     Some(bytes)
 }
 
+/// Serves a connection that sends these requests, to its end.
+pub fn served<R: Wait>(
+    rt: &R,
+    alloc: Global,
+    server: &Server<AnyScene>,
+    requests: &[&[u8]],
+) -> Option<Connection<AnyScene>> {
+    let bytes = joined(alloc, requests)?;
+    let mut stream = TwoEnded::new(bytes.as_slice(), Vec::new(alloc));
+    Some(serve_connection(rt, alloc, server, &mut stream, &mut Standing))
+}
+
 /// Looks for the last reply to these requests, on a connection that ends well.
 fn expect_last<R: Wait + Abort>(
     rt: &R,
@@ -269,6 +284,19 @@ fn what_is_written_on_a_connection_is_read_on_others_of_its_run(rt: HostRuntime)
     );
     let runs = runs_of(&rt, alloc, &server).expect(&rt, "memory");
     assert_eq!(rt; runs.as_str().lines().count(), 2);
+}
+
+const ANN_WRITES_AND_LOOKS: [&[u8]; 6] = [VERSION, ANN_TO_A, WALK, OPEN_TO_WRITE, WRITE, STAT_F];
+
+/// The stat of `/f`, of version 1, of five bytes that ann wrote at the moment 720.
+const WRITTEN_AT_720: &[u8] =
+    b"\x46\0\0\0}\x05\0\x3d\0\x3b\0\0\0\0\0\0\0\0\x01\0\0\0\x01\0\0\0\0\0\0\0\xb4\x01\0\0\0\0\0\0\xd0\x02\0\0\x05\0\0\0\0\0\0\0\x01\0f\x03\0ann\x05\0staff\x03\0ann";
+
+#[test]
+fn a_write_has_the_moment_of_its_message(rt: HostRuntime) {
+    let alloc = rt.alloc();
+    let server = server_of(&rt, alloc);
+    expect_last(&rt, alloc, &server, &ANN_WRITES_AND_LOOKS, WRITTEN_AT_720);
 }
 
 /// Looks at a run until a client had so many replies.

@@ -1,5 +1,7 @@
 //! Crash states, and runs of them.
 use crate::tests::fixture::{TRACE, expect_in, expect_over, join, world_over};
+use crate::tests::lists::renamed;
+use std::alloc::{AllocError, Global};
 
 /// The vectors' start tree, and then: `/f` loses its last three bytes, and is removed.
 const CUT: &str = r#"{"op":"truncate","path":"/f","length":2}
@@ -68,4 +70,41 @@ fn refused_attach_leaves_its_run(rt: HostRuntime) {
 "#,
     );
     assert_eq!(rt; world.run_count(), 2);
+}
+
+/// In two runs of a state in which `/a` has 5,000 letters, one of them cuts it to 1 byte, grows it again
+/// and removes it.
+fn cut_and_grown(alloc: Global) -> Result<String, AllocError> {
+    let zeros = "\0".repeat(alloc, 4_999)?;
+    let letters = "a".repeat(alloc, 5_000)?;
+    format!(in alloc;
+        "0 version 8192 9P2000 => Rversion tag 1 msize 8192 version \"9P2000\"
+0 attach 0 ann 5/x => Rattach tag 1 qid (80 0 0)
+0 attach 10 ann 5/y => Rattach tag 1 qid (80 0 0)
+0 walk 0 1 a => Rwalk tag 1 wqid [(00 0 1)]
+0 wstat 1 length=1 => Rwstat tag 1
+0 walk 0 2 a => Rwalk tag 1 wqid [(00 1 1)]
+0 wstat 1 length=5000 => Rwstat tag 1
+0 walk 0 3 a => Rwalk tag 1 wqid [(00 2 1)]
+0 open 1 0 => Ropen tag 1 qid (00 2 1) iounit 0
+0 read 1 0 5000 => Rread 'a{zeros}'
+0 walk 10 11 a => Rwalk tag 1 wqid [(00 0 1)]
+0 open 11 0 => Ropen tag 1 qid (00 0 1) iounit 0
+0 read 11 0 5000 => Rread '{letters}'
+0 remove 1 => Rremove tag 1
+0 walk 0 4 => Rwalk tag 1 wqid []
+0 open 4 0 => Ropen tag 1 qid (80 1 0) iounit 0
+0 list 4 0 61 => Rread 0
+0 walk 10 14 => Rwalk tag 1 wqid []
+0 open 14 0 => Ropen tag 1 qid (80 0 0) iounit 0
+0 list 14 0 61 => Rread 61 a
+"
+    )
+}
+
+#[test]
+fn a_length_is_cut_and_grown_in_one_run_alone(rt: HostRuntime) {
+    let trace = renamed(&rt);
+    let dialogue = cut_and_grown(rt.alloc()).expect(&rt, "memory");
+    expect_over(&rt, trace.as_str(), dialogue.as_str());
 }

@@ -9,7 +9,7 @@ use cs_trace::read_trace;
 use cs_users::Users;
 use std::alloc::{AllocError, Global};
 use std::sync::Arc;
-use std::sync::atomic::{AtomicBool, Ordering};
+use std::sync::atomic::{AtomicBool, AtomicU32, Ordering};
 use std::test::Fail;
 use std::thread;
 
@@ -65,6 +65,34 @@ impl Gate for UntilOne {
             thread::yield_now();
         }
         self.gave_up.store(true, Ordering::SeqCst);
+    }
+}
+
+/// Keeps which states it was asked for, a bit each, and how often it was asked.
+#[derive(Drop)]
+struct Asked {
+    states: AtomicU32,
+    times: AtomicU32,
+}
+
+impl Asked {
+    fn new() -> Asked {
+        Asked {
+            states: AtomicU32::new(0),
+            times: AtomicU32::new(0),
+        }
+    }
+
+    fn of_all_once(&self) -> bool {
+        self.states.load(Ordering::SeqCst) == 0xFFF && self.times.load(Ordering::SeqCst) == 12
+    }
+}
+
+impl Gate for Asked {
+    fn before(&self, number: u32) {
+        let bit = 1u32.checked_shl(number).unwrap_or(0);
+        self.states.fetch_or(bit, Ordering::SeqCst);
+        self.times.fetch_add(1, Ordering::SeqCst);
     }
 }
 
@@ -150,5 +178,21 @@ fn what_stood_already_is_not_counted(rt: HostRuntime) -> Result<(), Fail> {
         Err(PublishFault::Stranger)
     );
     assert_eq!(rt; publish_into(&rt, alloc, &registry, 1, &NoGate), Ok(0));
+    Ok(())
+}
+
+#[test]
+fn a_gate_is_asked_once_for_each_state(rt: HostRuntime) -> Result<(), Fail> {
+    let alloc = rt.alloc();
+    let gate = Asked::new();
+    let scene = moved(alloc).ok_or("the scene")?;
+    let users = users_of(alloc).ok_or("the users")?;
+    let states = publish_all::<Nothing, _, _>(&rt, alloc, scene, users, 2, &gate);
+    assert!(rt; states.is_ok());
+    assert!(rt; gate.of_all_once());
+    let gate = Asked::new();
+    let registry = registry_of(alloc).ok_or("the registry")?;
+    assert_eq!(rt; publish_into(&rt, alloc, &registry, 2, &gate), Ok(12));
+    assert!(rt; gate.of_all_once());
     Ok(())
 }

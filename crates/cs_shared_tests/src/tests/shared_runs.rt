@@ -101,6 +101,21 @@ fn runs_are_told_by_their_names(rt: HostRuntime) -> Result<(), Fail> {
     Ok(())
 }
 
+#[test]
+fn each_run_is_told_by_its_own_handle(rt: HostRuntime) -> Result<(), Fail> {
+    let alloc = rt.alloc();
+    let registry = published(&rt, alloc).ok_or("the registry")?;
+    let a = find(&rt, alloc, &registry, "a").ok_or("0/a")?;
+    let b = find(&rt, alloc, &registry, "b").ok_or("0/b")?;
+    assert!(rt; writes(&rt, alloc, &a, "ann", "HI").is_some());
+    assert!(rt; attach(&rt, alloc, &b, "bob").is_some());
+    let runs = registry.runs(&rt, alloc)?;
+    assert!(rt; runs.len() == 2);
+    assert_eq!(rt; runs[0].run().inspect(&rt, |run| run.entries()), 3);
+    assert_eq!(rt; runs[1].run().inspect(&rt, |run| run.entries()), 1);
+    Ok(())
+}
+
 /// Looks at a run until the flag comes.
 fn look<R: Wait>(
     rt: &R,

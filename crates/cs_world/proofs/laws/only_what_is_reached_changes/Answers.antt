@@ -1,10 +1,13 @@
 use Rattle.std.proofs.Common.{refl}
 use Rattle.cs_world.proofs.Reached.{connections_stay, publish_keeps, reload_keeps, runs_stay}
+use Rattle.cs_world.proofs.Touching.{places_stay, scene_stays}
 use Rattle.cs_world.proofs.laws.only_what_is_reached_changes.Goals as goal
 
 pub returns : goal.returns
 returns c = record {
   runs = runs_stay;
+  places = places_stay;
+  scene = scene_stays;
   connections = connections_stay;
   publish = λ w number mark. (publish_keeps w.registry number mark, refl);
   reload = λ w users mark. (reload_keeps w.registry users mark, refl);

@@ -1,7 +1,8 @@
 //! Families of a small store, worked out by hand.
-use crate::{Family, picks_of};
+use cs_families::{Family, picks_of};
 use cs_serve::Inputs;
-use std::test::Fail;
+use std::alloc::Global;
+use std::process::Abort;
 
 /// A log is made and waited for, a record is put into it, a text is told, and another file gets a byte.
 const TRACE: &str = r#"{"trace":1,"owner":"kv","group":"kv","mode":"750"}
@@ -33,7 +34,8 @@ const MODES: &str = r#"{"trace":2,"profile":"blocks","owner":"kv","group":"kv","
 /// Until the fsync has ended the file may lose its mode, also where it was moved; the root's stays.
 const MODES_LOST: &[u8] = b"[0]\n[0,2]\n[0,2,3]\n";
 
-fn picks(alloc: std::alloc::Global, trace: &str, family: Family) -> (Vec<u8>, u8) {
+/// The lines of a family, and the status.
+fn picks(alloc: Global, trace: &str, family: Family) -> (Vec<u8>, u8) {
     let inputs = Inputs {
         users: &[],
         trace: trace.as_bytes(),
@@ -47,20 +49,20 @@ fn picks(alloc: std::alloc::Global, trace: &str, family: Family) -> (Vec<u8>, u8
     (out, status)
 }
 
-#[test]
-fn families_of_a_small_store(rt: HostRuntime) -> Result<(), Fail> {
-    for (family, wanted) in [(Family::Lost, LOST), (Family::Files, FILES)] {
-        let (out, status) = picks(rt.alloc(), TRACE, family);
-        assert_eq!(rt; status, 0);
-        assert_eq!(rt; out.as_slice(), wanted);
-    }
-    Ok(())
+/// Looks at the lines of a family.
+fn expect_picks(rt: &impl Abort, alloc: Global, trace: &str, family: Family, wanted: &[u8]) {
+    let (out, status) = picks(alloc, trace, family);
+    assert_eq!(rt; status, 0);
+    assert!(rt; out.as_slice() == wanted);
 }
 
 #[test]
-fn a_file_may_lose_its_mode(rt: HostRuntime) -> Result<(), Fail> {
-    let (out, status) = picks(rt.alloc(), MODES, Family::Files);
-    assert_eq!(rt; status, 0);
-    assert_eq!(rt; out.as_slice(), MODES_LOST);
-    Ok(())
+fn families_of_a_small_store(rt: HostRuntime) {
+    expect_picks(&rt, rt.alloc(), TRACE, Family::Lost, LOST);
+    expect_picks(&rt, rt.alloc(), TRACE, Family::Files, FILES);
+}
+
+#[test]
+fn a_file_may_lose_its_mode(rt: HostRuntime) {
+    expect_picks(&rt, rt.alloc(), MODES, Family::Files, MODES_LOST);
 }

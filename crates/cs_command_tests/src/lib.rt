@@ -1,0 +1,5 @@
+//! Archives of states, and families of sets: values from outside.
+#![tactic(auto)]
+
+#[cfg(test)]
+mod tests;

@@ -1,0 +1,4 @@
+//! What the commands `tar` and `picks` write.
+
+mod archives;
+mod families;

@@ -1,0 +1,77 @@
+-- What the commands print: of a scene its list, and of a script what its lines print on a new world.
+use Rattle.std.specs.Prelude.{◌≡◌, ◌⊎◌, true, ℕ, zero, suc, List, ◌++◌, length, replicate, Option, Result, Ok, Err}
+use Rattle.std.specs.Io.KnownBytes.{Appends, Consumes, IsAtEnd, Keeps}
+use Rattle.cs_apm.specs.Orders.{order_of}
+use Rattle.cs_micro.specs.Micros.{micros_in}
+use Rattle.cs_picks.specs.Picks.{picks_in}
+use Rattle.cs_plan.specs.Lists.{list_text}
+use Rattle.cs_plan.specs.Plans.{plan_of}
+use Rattle.cs_plan.specs.Scenes.{Scene}
+use Rattle.cs_trace.specs.Traces.{trace_in}
+use Rattle.cs_users.specs.Reading.{users_in}
+use Rattle.cs_users.specs.Rows.{Row}
+use Rattle.cs_world.specs.Worlds.{World, new_world}
+use Rattle.cs_serve.specs.declared.inputs.Inputs.{Inputs}
+use Rattle.cs_serve.specs.declared.script.ScriptLine.{ScriptLine}
+use Rattle.cs_serve.specs.Printed.{PrintsAll}
+use Rattle.cs_registry.specs.Publishing.{with_published}
+use Rattle.cs_serve.specs.Scripts.{script_in}
+use Rattle.cs_session.specs.Streams.{AppendsFront}
+
+-- the scene is that of the trace, with holes where they are asked for, and the picks
+pub record IsScene (inputs : Inputs) (scene : Scene) : Type 0 where
+  pub picks : List (List ℕ)
+  pub traced : trace_in inputs.trace.now ≡ Ok scene.trace
+  pub picked : picks_in inputs.picks.now ≡ Ok picks
+  pub planned : scene.plan ≡ plan_of (order_of (micros_in scene.trace)) inputs.holes picks
+
+-- ---- list
+
+-- the list of the inputs' scene was written; or after a fault nothing, or some of the list from the front
+abbrev pub Lists : {E : Type 0} → Inputs → Result (Unit {0}) E → Option (List ℕ) → Option (List ℕ) → Type 0
+Lists inputs (Ok done) old new = (scene : Scene) × IsScene inputs scene × Appends old new (list_text scene)
+Lists inputs (Err fault) old new = Keeps old new ⊎ ((scene : Scene) × IsScene inputs scene × AppendsFront old new (list_text scene))
+
+-- ---- script
+
+-- with the states of the numbers below this one published
+abbrev pub with_first : World → ℕ → World
+with_first w zero = w
+with_first w (suc number) = record (with_first w number) { registry = with_published (with_first w number).registry number }
+
+-- every state of the scene is published, and there is no run and no session
+abbrev pub served_world : Scene → List Row → World
+served_world scene users =
+    let new = new_world scene users in
+    record new { registry = record new.registry { published = replicate (length scene.plan) true } }
+
+-- what a script begins with: its inputs' scene and users, and the lines of all bytes of its input
+pub record Begins (inputs : Inputs) (came left : Option (List ℕ)) (w : World) (lines : List ScriptLine) : Type 0 where
+  pub scene : Scene
+  pub users : List Row
+  pub bytes : List ℕ
+  pub is_scene : IsScene inputs scene
+  pub are_users : users_in inputs.users.now ≡ Ok users
+  pub serves : w ≡ served_world scene users
+  pub all_read : Consumes came left bytes × IsAtEnd left
+  pub reads : script_in bytes ≡ Ok lines
+
+-- lines lead there, and what they print was written
+pub record Ran (w : World) (lines : List ScriptLine) (old new : Option (List ℕ)) (w' : World) : Type 0 where
+  pub text : List ℕ
+  pub prints : PrintsAll w lines text w'
+  pub written : Appends old new text
+
+-- the first lines lead there, and of what they print some was written, from the front
+pub record Stopped (w : World) (lines : List ScriptLine) (old new : Option (List ℕ)) (w' : World) : Type 0 where
+  pub run : List ScriptLine
+  pub unrun : List ScriptLine
+  pub text : List ℕ
+  pub parts : lines ≡ run ++ unrun
+  pub prints : PrintsAll w run text w'
+  pub written : AppendsFront old new text
+
+-- what all lines print was written; or after a fault nothing, or some of what the first lines print, from the front
+abbrev pub Scripts : {E : Type 0} → Inputs → Result (Unit {0}) E → Option (List ℕ) → Option (List ℕ) → Option (List ℕ) → Option (List ℕ) → Type 0
+Scripts inputs (Ok done) came left old new = (w w' : World) × (lines : List ScriptLine) × Begins inputs came left w lines × Ran w lines old new w'
+Scripts inputs (Err fault) came left old new = Keeps old new ⊎ ((w w' : World) × (lines : List ScriptLine) × Begins inputs came left w lines × Stopped w lines old new w')

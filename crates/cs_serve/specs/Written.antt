@@ -1,0 +1,29 @@
+-- What was written of a text, and what a fault blames.
+use Rattle.std.specs.Prelude.{ℕ, List, ⊤, Option, Result, Ok, Err}
+use Rattle.std.specs.Io.KnownBytes.{Appends}
+use Rattle.cs_session.specs.declared.stream.Counts.{Counts}
+use Rattle.cs_session.specs.Streams.{AppendsFront, BlamesReads, BlamesWrites}
+use Rattle.cs_serve.specs.declared.fault.ProgramFault.{ProgramFault}
+use Rattle.cs_serve.specs.declared.fault.ProgramFault.TheVariants.{Input, Output}
+
+-- all of it, or after a fault some of it from the front
+abbrev pub Writes : {E : Type 0} → Result (Unit {0}) E → Option (List ℕ) → Option (List ℕ) → List ℕ → Type 0
+Writes (Ok done) old new text = Appends old new text
+Writes (Err fault) old new text = AppendsFront old new text
+
+-- a failed input is due to the reads of a stream, and a failed output to its writes, by its counts
+abbrev pub Blames : Counts → Counts → ProgramFault → Type 0
+Blames old new Input = BlamesReads old new
+Blames old new Output = BlamesWrites old new
+Blames old new fault = ⊤
+
+-- the same where nothing was read
+abbrev pub BlamesOutput : Counts → Counts → ProgramFault → Type 0
+BlamesOutput old new Input = ⊥
+BlamesOutput old new fault = Blames old new fault
+
+-- the fault is of no stream
+abbrev pub IsOfNoStream : ProgramFault → Type 0
+IsOfNoStream Input = ⊥
+IsOfNoStream Output = ⊥
+IsOfNoStream fault = ⊤

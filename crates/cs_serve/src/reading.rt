@@ -1,0 +1,51 @@
+//! All that a stream gives.
+ghost use Rattle.std.specs.Prelude.{◌≡◌, ◌≤◌, IfErr, IfOk, OnOk};
+ghost use Rattle.std.specs.Io.KnownBytes.{Consumes, IsAtEnd};
+ghost use Rattle.cs_names.specs.declared.limits.TheConstants.{CONNECTION_READS};
+ghost use Rattle.cs_session.specs.Streams.{KeepsFaults, up};
+ghost use Rattle.cs_serve.specs.Written.{Blames};
+
+use crate::fault::ProgramFault;
+use cs_names::limits::{CONNECTION_READS, INTERRUPTIONS};
+use cs_session::{Stream, Transfer};
+use std::alloc::Global;
+
+/// How many bytes are read at once.
+const ROOM: usize = 65_536;
+
+/// Reads to the stream's end: its bytes. An interrupted read is tried again, up to 999 in a row: the
+/// thousandth in a row is a fault. There are 4,294,967,295 reads, those that are interrupted among them.
+pub(crate) fn read_all<S: Stream>(alloc: Global, stream: &mut S) -> Result<Vec<u8>, ProgramFault>
+    ensures bytes { IfOk result (λ bytes. Consumes (S.remaining stream.old) (S.remaining stream.new) bytes.items) }
+    ensures end { OnOk result (IsAtEnd (S.remaining stream.new)) }
+    ensures contents { S.contents stream.new ≡ S.contents stream.old }
+    ensures fault { IfErr result (Blames (S.counts stream.old) (S.counts stream.new)) }
+    ensures faults { KeepsFaults (S.counts stream.old) (S.counts stream.new) }
+    ensures bounded { (S.counts stream.new).reads ≤ up CONNECTION_READS (S.counts stream.old).reads }
+{
+    let mut bytes = Vec::new(alloc);
+    let Ok(mut room) = vec![in alloc; 0u8; ROOM] else {
+        return Err(ProgramFault::Memory);
+    };
+    let mut waits = 0;
+    for _ in 0..CONNECTION_READS {
+        match stream.read(room.as_mut_slice()) {
+            Transfer::Failed => return Err(ProgramFault::Input),
+            Transfer::Interrupted => {
+                waits += 1;
+                if waits >= INTERRUPTIONS {
+                    return Err(ProgramFault::Input);
+                }
+                continue;
+            }
+            Transfer::Bytes(0) => return Ok(bytes),
+            Transfer::Bytes(count) => {
+                waits = 0;
+                if bytes.extend_from_slice(&room[..count]).is_err() {
+                    return Err(ProgramFault::Memory);
+                }
+            }
+        }
+    }
+    Err(ProgramFault::Input)
+}

@@ -1,0 +1,176 @@
+//! What a script's lines do in a world, and what they print.
+ghost use Rattle.std.specs.Prelude.{◌≡◌, ◌<◌, ◌≤◌, ℕ, IfErr, IfOk, length, List, Ok, OnErr, OnOk, string_bytes};
+ghost use Rattle.cs_names.specs.declared.limits.TheConstants.{CONNECTIONS};
+ghost use Rattle.cs_serve.specs.Commands.{Ran, Stopped};
+ghost use Rattle.cs_serve.specs.Printed.{Acts, Loaded, Prints};
+ghost use Rattle.cs_serve.specs.Written.{BlamesOutput, Writes};
+ghost use Rattle.cs_serve.specs.declared.script.Action.TheVariants.{HangUp, Send};
+ghost use Rattle.cs_session.specs.Streams.{KeepsFaults, KeepsReads};
+ghost use Rattle.cs_users.specs.Reading.{users_in};
+
+use crate::fault::ProgramFault;
+use crate::printing::{closed_text, print, refused_text, reloaded_text, reply_text};
+use crate::script::{Action, ScriptLine, ScriptTurn};
+use crate::telling::tell;
+use cs_session::Stream;
+use cs_users::{Users, UsersFault};
+use cs_wire::{RMessage, decode};
+use cs_world::{Reply, Step, World};
+use std::alloc::{AllocError, Global};
+use std::io::Write;
+
+/// Tells a message and its reply as text, if that is asked for.
+fn tell_if<E: Write>(
+    alloc: Global,
+    conn: u32,
+    message: &[u8],
+    reply: &RMessage,
+    verbose: bool,
+    err: &mut E,
+) {
+    if verbose {
+        tell(conn, &decode(alloc, message), &Ok(reply), err);
+    }
+}
+
+/// Answers a message: the line that the reply comes to.
+fn send<E: Write>(
+    alloc: Global,
+    world: &mut World,
+    conn: u32,
+    now: u32,
+    message: &[u8],
+    verbose: bool,
+    err: &mut E,
+) -> Result<String, AllocError>
+    requires connection { conn < CONNECTIONS }
+    requires whole { 7 ≤ length message.now }
+    ensures ok { IfOk result (λ text. Acts world.old conn now (Send message.now) (string_bytes text) world.new) }
+    ensures err { OnErr result ((text : List ℕ) × Acts world.old conn now (Send message.now) text world.new) }
+{
+    let reply = world.message(alloc, conn, now, message);
+    tell_if(alloc, conn, message, &reply, verbose, err);
+    reply_text(alloc, conn, &reply)
+}
+
+/// Ends a connection: the line that this comes to.
+fn hang_up(alloc: Global, world: &mut World, conn: u32, now: u32) -> Result<String, AllocError>
+    requires connection { conn < CONNECTIONS }
+    ensures ok { IfOk result (λ text. Acts world.old conn now HangUp (string_bytes text) world.new) }
+    ensures err { OnErr result ((text : List ℕ) × Acts world.old conn now HangUp text world.new) }
+{
+    world.hang_up(alloc, conn, now);
+    closed_text(alloc, conn)
+}
+
+/// Does what a connection does: the line that it comes to.
+fn act<E: Write>(
+    alloc: Global,
+    world: &mut World,
+    turn: &ScriptTurn,
+    verbose: bool,
+    err: &mut E,
+) -> Result<String, AllocError>
+    ensures ok { IfOk result (λ text. Acts world.old turn.now.conn turn.now.moment turn.now.action (string_bytes text) world.new) }
+    ensures err { OnErr result ((text : List ℕ) × Acts world.old turn.now.conn turn.now.moment turn.now.action text world.new) }
+{
+    let conn = turn.conn.number();
+    match &turn.action {
+        Action::Send(message) => send(
+            alloc,
+            world,
+            conn,
+            turn.moment,
+            message.bytes(),
+            verbose,
+            err,
+        ),
+        Action::HangUp => hang_up(alloc, world, conn, turn.moment),
+    }
+}
+
+/// Has the runs that are made from here on have these users: the line that it comes to.
+fn load(alloc: Global, world: &mut World, file: &[u8], users: Users) -> Result<String, AllocError>
+    requires { users_in file.now ≡ Ok users }
+    ensures ok { IfOk result (λ text. Loaded world.old file.now (string_bytes text) world.new) }
+    ensures err { OnErr result ((text : List ℕ) × Loaded world.old file.now text world.new) }
+{
+    match world.step(alloc, Step::Reload(users)) {
+        Reply::Reloaded => reloaded_text(alloc),
+        _ => refused_text(alloc, UsersFault::Memory),
+    }
+}
+
+/// Has the runs that are made from here on have the users of a users file: the line that it comes to.
+fn reload(alloc: Global, world: &mut World, file: &[u8]) -> Result<String, AllocError>
+    ensures ok { IfOk result (λ text. Loaded world.old file.now (string_bytes text) world.new) }
+    ensures err { OnErr result ((text : List ℕ) × Loaded world.old file.now text world.new) }
+{
+    match Users::read(alloc, file) {
+        Ok(users) => load(alloc, world, file, users),
+        Err(fault) => refused_text(alloc, fault),
+    }
+}
+
+/// Does what a line asks: the line that it comes to. With `verbose` a message and its reply are told on
+/// `err` as text.
+fn take_line<E: Write>(
+    alloc: Global,
+    world: &mut World,
+    line: &ScriptLine,
+    verbose: bool,
+    err: &mut E,
+) -> Result<String, AllocError>
+    ensures ok { IfOk result (λ text. Prints world.old line.now (string_bytes text) world.new) }
+    ensures err { OnErr result ((text : List ℕ) × Prints world.old line.now text world.new) }
+{
+    match line {
+        ScriptLine::Turn(turn) => act(alloc, world, turn, verbose, err),
+        ScriptLine::Reload(users) => reload(alloc, world, users.bytes()),
+    }
+}
+
+/// Does what a line asks, and prints what it comes to.
+fn run_line<S: Stream, E: Write>(
+    alloc: Global,
+    world: &mut World,
+    line: &ScriptLine,
+    stream: &mut S,
+    verbose: bool,
+    err: &mut E,
+) -> Result<(), ProgramFault>
+    ensures prints { (text : List ℕ) × Prints world.old line.now text world.new × Writes result (S.contents stream.old) (S.contents stream.new) text }
+    ensures fault { IfErr result (BlamesOutput (S.counts stream.old) (S.counts stream.new)) }
+    ensures faults { KeepsFaults (S.counts stream.old) (S.counts stream.new) }
+    ensures reads { KeepsReads (S.counts stream.old) (S.counts stream.new) }
+    ensures remaining { S.remaining stream.new ≡ S.remaining stream.old }
+{
+    match take_line(alloc, world, line, verbose, err) {
+        Ok(text) => print(stream, text.as_bytes()),
+        Err(_) => Err(ProgramFault::Memory),
+    }
+}
+
+/// Runs lines, one after the other; with `verbose` messages and their replies are told on `err`.
+pub(crate) fn run_lines<S: Stream, E: Write>(
+    alloc: Global,
+    world: &mut World,
+    lines: &[ScriptLine],
+    stream: &mut S,
+    verbose: bool,
+    err: &mut E,
+) -> Result<(), ProgramFault>
+    ensures ran { OnOk result (Ran world.old lines.now (S.contents stream.old) (S.contents stream.new) world.new) }
+    ensures stopped { OnErr result (Stopped world.old lines.now (S.contents stream.old) (S.contents stream.new) world.new) }
+    ensures fault { IfErr result (BlamesOutput (S.counts stream.old) (S.counts stream.new)) }
+    ensures faults { KeepsFaults (S.counts stream.old) (S.counts stream.new) }
+    ensures reads { KeepsReads (S.counts stream.old) (S.counts stream.new) }
+    ensures remaining { S.remaining stream.new ≡ S.remaining stream.old }
+{
+    for line in lines {
+        if let Err(fault) = run_line(alloc, world, line, stream, verbose, err) {
+            return Err(fault);
+        }
+    }
+    Ok(())
+}

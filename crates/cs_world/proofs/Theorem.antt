@@ -1,0 +1,88 @@
+-- What each step of a list comes to, and how runs began.
+use Rattle.std.proofs.Common.{◌≡◌, ◌↔◌, ◌∙◌, ℕ, false, List, [], ◌∷◌, Option, None, Some, refl, sym, ap, subst}
+use Rattle.std.specs.Prelude.{option_map, slice_get}
+use Rattle.cs_apm.specs.States.{crash_state_of}
+use Rattle.cs_plan.specs.Plans.{IsAllowedIn, set_in}
+use Rattle.cs_plan.specs.Scenes.{IsPlan, Scene, micros_of, order_in, state_at}
+use Rattle.cs_plan.specs.declared.recipe.Recipe.{Recipe}
+use Rattle.cs_plan.proofs.Picking.{all_at}
+use Rattle.cs_session.specs.Steps as c
+use Rattle.cs_tree_model.specs.Tree.{Tree}
+use Rattle.cs_world.specs.declared.reply.Reply.{Reply}
+use Rattle.cs_world.specs.declared.step.Step.{Step}
+use Rattle.cs_world.specs.declared.step.Step.TheVariants as s
+use Rattle.cs_world.specs.Ample.{ample, is_short}
+use Rattle.cs_world.specs.Isolation.{OnlyTold}
+use Rattle.cs_world.specs.Lists.{IsRun, steps_of}
+use Rattle.cs_world.specs.Marks.{Mark}
+use Rattle.cs_world.specs.Reached.{IsReached}
+use Rattle.cs_world.specs.Steps.{IsStep, step_of}
+use Rattle.cs_world.specs.Theorem.{AllBegan, ComesTo, IsCrashState, ListIsJudged, StepIsJudged, StepsAreJudged}
+use Rattle.cs_world.specs.Worlds.{World}
+use Rattle.cs_world.proofs.Coming.{comes}
+use Rattle.cs_world.proofs.NoWant.{no_want}
+use Rattle.cs_world.proofs.Reaching.{reaches}
+use Rattle.cs_world.proofs.Remarked.{only_told, run_told, same_step, told_mark}
+use Rattle.cs_world.proofs.Touching.{leaves}
+
+module _ (w : World) (ok : IsReached w) where
+  comes_to : (x : Step) (mark : Mark) → ComesTo w x mark (step_of w x mark).0 (step_of w x mark).1
+  comes_to (s.Publish number) mark = refl
+  comes_to (s.Reload users) mark = refl
+  comes_to (s.Find conn message) mark = comes w ok conn 0 (c.FindStep message) mark
+  comes_to (s.Attach conn now) mark = comes w ok conn now c.AttachStep mark
+  comes_to (s.Call conn now message) mark = comes w ok conn now (c.CallStep message) mark
+  comes_to (s.Close conn now fid) mark = comes w ok conn now (c.CloseStep fid) mark
+  comes_to (s.Table conn change) mark = comes w ok conn 0 (c.Table change) mark
+
+  wants : (x : Step) (mark : Mark) → (is_short (step_of w x mark).0 ≡ false → mark ≡ ample) → (is_short (step_of w x mark).0 ≡ false) ↔ (mark ≡ ample)
+  wants x mark told = (told, λ is. subst (λ (m : Mark). is_short (step_of w x m).0 ≡ false) (sym is) (no_want w ok x))
+
+  judged : (x : Step) (mark : Mark) → (is_short (step_of w x mark).0 ≡ false → mark ≡ ample) → StepIsJudged w x mark (step_of w x mark).0 (step_of w x mark).1
+  judged x mark told =
+      let left = leaves w x mark in
+      record { comes = comes_to x mark; want = wants x mark told; others = left.others; scene = left.scene }
+
+all_judged : (w : World) → IsReached w → (xs : List (Step × Mark)) → OnlyTold w xs → StepsAreJudged w xs (steps_of w xs).0 (steps_of w xs).1
+all_judged w ok [] told = refl
+all_judged w ok (x ∷ xs) told = (
+  (step_of w x.0 x.1).1,
+  judged w ok x.0 x.1 told.0,
+  all_judged (step_of w x.0 x.1).1 (reaches w ok x.0 x.1) xs told.1,
+)
+
+-- of a list that was run
+pub by_run : (w : World) → IsReached w → (steps : List Step) (replies : List Reply) (w' : World) → IsRun w steps replies w' → ListIsJudged w steps replies w'
+by_run w ok steps replies w' run =
+    let its = run_told w steps replies w' run in
+    record {
+      run = its.0;
+      judged = subst (λ (y : List Reply × World). StepsAreJudged w its.0.marked y.0 y.1) (sym its.0.leads) (all_judged w ok its.0.marked its.1);
+    }
+
+-- and of one step
+pub by_step : (w : World) → IsReached w → (x : Step) (reply : Reply) (w' : World) → IsStep w x reply w' → (mark : Mark) × StepIsJudged w x mark reply w'
+by_step w ok x reply w' step =
+    let mark : Mark = told_mark w (x, step.0) in
+    let leads : (reply, w') ≡ step_of w x mark = step.1 ∙ sym (same_step w x step.0) in
+    (mark, subst (λ (y : Reply × World). StepIsJudged w x mark y.0 y.1) (sym leads) (judged w ok x mark (only_told w x step.0)))
+
+-- ---- how runs began
+
+-- the state of a number is one that a crash may leave
+module _ (scene : Scene) (number : ℕ) (tree : Tree) (planned : IsPlan (order_in scene) scene.plan) where
+  by_recipe : (o : Option Recipe) → slice_get scene.plan number ≡ o → option_map (crash_state_of scene.trace (micros_of scene)) (option_map (set_in (order_in scene)) o) ≡ Some tree → IsCrashState scene number tree
+  by_recipe None there is = absurd (cc)
+  by_recipe (Some recipe) there is = record {
+    set = set_in (order_in scene) recipe;
+    set_is = ap (option_map (set_in (order_in scene))) there;
+    allowed = all_at (λ r. IsAllowedIn (order_in scene) (set_in (order_in scene) r)) scene.plan number recipe there planned.allowed;
+    tree_is = sym (cc);
+  }
+
+  crash_state : state_at scene number ≡ Some tree → IsCrashState scene number tree
+  crash_state is = by_recipe (slice_get scene.plan number) refl is
+
+-- so is what each run of a reached world began as
+pub began : (w : World) → IsReached w → IsPlan (order_in w.registry.scene) w.registry.scene.plan → AllBegan w
+began w ok planned place key run there = crash_state w.registry.scene key.number run.held.fresh planned (ok.there.runs place key run there).fresh

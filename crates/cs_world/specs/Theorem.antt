@@ -1,0 +1,81 @@
+-- The theorem, of a list of steps: what each of them comes to, and how the runs began.
+use Rattle.std.specs.Prelude.{◌≡◌, ◌≢◌, ◌↔◌, ◌<◌, ℕ, false, List, [], ◌∷◌, length, slice_get, Some}
+use Rattle.cs_apm.specs.States.{crash_state_of}
+use Rattle.cs_journal.specs.Runs.{RunOf}
+use Rattle.cs_plan.specs.Plans.{IsAllowedIn}
+use Rattle.cs_plan.specs.Scenes.{Scene, micros_of, order_in, set_at}
+use Rattle.cs_registry.specs.declared.found.Found.{Found}
+use Rattle.cs_registry.specs.Keys.{Key}
+use Rattle.cs_session.specs.Steps as c
+use Rattle.cs_tree_model.specs.Tree.{Tree}
+use Rattle.cs_world.specs.declared.reply.Reply.{Reply}
+use Rattle.cs_world.specs.declared.step.Step.{Step}
+use Rattle.cs_world.specs.declared.step.Step.TheVariants.{Publish, Reload, Find, Attach, Call, Close, Table}
+use Rattle.cs_world.specs.Ample.{ample, is_short}
+use Rattle.cs_world.specs.Comes.{Comes}
+use Rattle.cs_world.specs.Lists.{IsRun}
+use Rattle.cs_world.specs.Marks.{Mark, refuses_table}
+use Rattle.cs_world.specs.Publishing.{published}
+use Rattle.cs_world.specs.Reaching.{step_touches}
+use Rattle.cs_world.specs.Reloading.{reloaded}
+use Rattle.cs_world.specs.Steps.{by_registry}
+use Rattle.cs_world.specs.Worlds.{World}
+
+-- a publish and a reload are the registry's; any other step comes to what its connection comes to. A
+-- find and a change of the table have no moment
+abbrev pub ComesTo : World → Step → Mark → Reply → World → Type 0
+ComesTo world (Publish number) mark reply after =
+    (reply, after) ≡ by_registry world (published world.registry number mark)
+ComesTo world (Reload users) mark reply after =
+    (reply, after) ≡ by_registry world (reloaded world.registry users mark)
+ComesTo world (Find conn message) mark reply after =
+    Comes world conn 0 (c.FindStep message) (refuses_table mark) reply after
+ComesTo world (Attach conn now) mark reply after =
+    Comes world conn now c.AttachStep (refuses_table mark) reply after
+ComesTo world (Call conn now message) mark reply after =
+    Comes world conn now (c.CallStep message) (refuses_table mark) reply after
+ComesTo world (Close conn now fid) mark reply after =
+    Comes world conn now (c.CloseStep fid) (refuses_table mark) reply after
+ComesTo world (Table conn change) mark reply after =
+    Comes world conn 0 (c.Table change) (refuses_table mark) reply after
+
+-- a step, in which memory refuses the growth of its mark, has that reply and leads there
+pub record StepIsJudged (world : World) (step : Step) (mark : Mark) (reply : Reply) (after : World)
+    : Type 0 where
+  pub comes : ComesTo world step mark reply after
+  -- no want of memory is told just where memory refuses nothing
+  pub want : (is_short reply ≡ false) ↔ (mark ≡ ample)
+  -- no run changes but the one that it reaches or finds, and the scene stays
+  pub others : (place : ℕ) → step_touches world step mark ≢ Some place
+      → place < length world.registry.runs
+      → slice_get after.registry.runs place ≡ slice_get world.registry.runs place
+  pub scene : after.registry.scene ≡ world.registry.scene
+
+-- steps, each with its mark, have these replies and lead there, one after the other
+abbrev pub StepsAreJudged : World → List (Step × Mark) → List Reply → World → Type 0
+StepsAreJudged world [] [] after = after ≡ world
+StepsAreJudged world [] (reply ∷ replies) after = ⊥
+StepsAreJudged world (x ∷ xs) [] after = ⊥
+StepsAreJudged world (x ∷ xs) (reply ∷ replies) after =
+    (next : World) × StepIsJudged world x.0 x.1 reply next × StepsAreJudged next xs replies after
+
+-- of a list that was run: its steps, in order, each with a mark
+pub record ListIsJudged (world : World) (steps : List Step) (replies : List Reply) (after : World)
+    : Type 0 where
+  pub run : IsRun world steps replies after
+  pub judged : StepsAreJudged world run.marked replies after
+
+-- ---- how runs began
+
+-- a crash may leave the tree: it is the crash state of the number's set, and the set is allowed
+pub record IsCrashState (scene : Scene) (number : ℕ) (tree : Tree) : Type 0 where
+  pub set : List ℕ
+  pub set_is : set_at scene number ≡ Some set
+  pub allowed : IsAllowedIn (order_in scene) set
+  pub tree_is : tree ≡ crash_state_of scene.trace (micros_of scene) set
+
+-- each run that is there began as the state of its number, which a crash may leave
+abbrev pub AllBegan : World → Type 0
+AllBegan world = (place : ℕ) (key : Key) (run : Found RunOf)
+    → slice_get world.registry.runs place ≡ Some (key, run)
+    → IsCrashState world.registry.scene key.number run.held.fresh
