@@ -79,15 +79,21 @@ struct Ended {
 }
 
 impl Ended {
+    /// Serves a connection that sends these requests, and keeps the passes that it gives back.
+    fn serve<R: Wait + Abort>(&mut self, rt: &R, alloc: Global, requests: &[&[u8]]) {
+        let connection = served(rt, alloc, &self.server, requests).expect(rt, "memory");
+        assert!(rt; self.passes.keep(alloc, connection).is_ok());
+    }
+
     /// A server on whose run `0/x` ann came and went, and then bob, who sent these requests.
     fn of<R: Wait + Abort>(rt: &R, alloc: Global, bob: &[&[u8]]) -> Ended {
-        let server = server_of(rt, alloc);
-        let mut passes = GivenPasses::new(alloc);
-        for requests in [&ANN_STATS, bob] {
-            let connection = served(rt, alloc, &server, requests).expect(rt, "memory");
-            assert!(rt; passes.keep(alloc, connection).is_ok());
-        }
-        Ended { server, passes }
+        let mut ended = Ended {
+            server: server_of(rt, alloc),
+            passes: GivenPasses::new(alloc),
+        };
+        ended.serve(rt, alloc, &ANN_STATS);
+        ended.serve(rt, alloc, bob);
+        ended
     }
 }
 
