@@ -17,7 +17,8 @@ use Rattle.cs_micro.specs.declared.micro_op.MicroOp.{MicroOp}
 use Rattle.cs_micro.specs.declared.micro_op.MicroOp.TheVariants.{CreateDirEntry, DeleteDirEntry, MoveDirEntry, ChangeFileSize, WriteBlock, SetAttr, Say}
 use Rattle.cs_micro.specs.Legal.{AreLegal}
 use Rattle.cs_names.specs.Paths.{path_eq}
-use Rattle.cs_apm.specs.Atlases.{HasAllNamed, IsKnownPath, no_record, node_at}
+use Rattle.cs_apm.specs.Atlases.{no_record}
+use Rattle.cs_apm.specs.Making.{HasAllNamed, IsKnownPath, node_at}
 use Rattle.cs_apm.specs.Legal.{IsLegalThere, nodes_of}
 use Rattle.cs_apm.specs.Rules.{named, op_at, touches}
 use Rattle.cs_apm.specs.Slots.{AreAscending, Mirror, slot_entry}
@@ -44,7 +45,7 @@ slot_there rights (p ∷ ps) (s ∷ ss) q e is = ⊎_elim
 
 -- ---- a path that a legal micro-operation names is in a directory
 
-one_of_two : (q r p : Path) (k : ℕ) → k < 2 → get_or (q ∷ r ∷ []) k p ≡ p → (q ≡ p) ⊎ (r ≡ p)
+pub one_of_two : (q r p : Path) (k : ℕ) → k < 2 → get_or (q ∷ r ∷ []) k p ≡ p → (q ≡ p) ⊎ (r ≡ p)
 one_of_two q r p zero low is = inl is
 one_of_two q r p (suc k) low is = inr (only_one r p k (omega (arith, low)) is)
 

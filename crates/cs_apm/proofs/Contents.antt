@@ -31,9 +31,6 @@ module _ (n : ℕ) (f : Content) (ops : List MicroOp) (places : List ℕ) where
 
 -- ---- all files
 
-file_at : List Content → ℕ → Content
-file_at files n = get_or files n no_content
-
 with_file_at : (files : List Content) (file n : ℕ) (g : Content → Content) → n < length files → get_or (with_file file g files) n no_content ≡ cond (file == n) (g (get_or files n no_content)) (get_or files n no_content)
 with_file_at files file n g low = ⊎_elim
     (λ (e : file ≡ n). subst (λ v. get_or (with_file v g files) n no_content ≡ cond (v == n) (g (get_or files n no_content)) (get_or files n no_content)) (sym e)

@@ -53,9 +53,3 @@ bit_read rows j i x low is = ap (λ o. option_map_or (λ r. has r i) o false) (s
 pub bits_past : (rows : List Row) (i j : ℕ) → length rows ≤ j → bit_in rows i j ≡ false
 unfolding bit_in
 bits_past rows i j high = ap (λ o. option_map_or (λ r. has r i) o false) (slice_get_past rows j high)
-
-pub bits_later : (ops : List MicroOp) (syncs : List SyncPoint) (profile : Profile) (rows : List Row) (d : Row) → AreRows (needs ops syncs profile) (length ops) rows → (a b : ℕ) → b ≤ a → bit_in rows a b ≡ false
-bits_later ops syncs profile rows d are a b h = ⊎_elim
-    (λ (l : b < length ops). bits_say (needs ops syncs profile) (length ops) rows d are a b l ∙ needs_later ops syncs profile a b h)
-    (λ (l : length ops ≤ b). bits_past rows a b (subst (λ m. m ≤ b) (sym are.long) l))
-    (cases_lt b (length ops))

@@ -1,5 +1,5 @@
 -- What is found once: the latest create of a path, and the first sync that covers an operation.
-use Rattle.std.proofs.Common.{◌≡◌, ◌≢◌, ℕ, suc, ◌+◌, ◌-◌, ◌<◌, ◌≤◌, ◌&&◌, ◌||◌, not, Bool, true, false, List, [], ◌∷◌, ◌++◌, Option, None, Some, take, refl, sym, ap, ◌∙◌, subst, ⊎_elim, arith}
+use Rattle.std.proofs.Common.{◌≡◌, ◌≢◌, ℕ, suc, ◌+◌, ◌-◌, ◌<◌, ◌≤◌, ◌&&◌, ◌||◌, not, Bool, true, false, List, [], ◌∷◌, ◌++◌, Option, Some, take, refl, sym, ap, ◌∙◌, subst, ⊎_elim, arith}
 use Rattle.std.specs.Prelude.{nat_lt, nat_le}
 use Rattle.std.proofs.lemmas.Bool.{cases_eq, eq-eqb, ne_eqb}
 use Rattle.std.proofs.lemmas.List.Folds.{list_any-append}
@@ -8,7 +8,7 @@ use Rattle.cs_tree_model.specs.Tree.{Path}
 use Rattle.cs_micro.specs.declared.micro_op.MicroOp.{MicroOp}
 use Rattle.cs_micro.specs.declared.sync_point.SyncPoint.{SyncPoint}
 use Rattle.cs_apm.specs.Rules.{op_at, creates, between, is_latest, is_covered}
-use Rattle.cs_apm.specs.Rows.{is_at, is_by}
+use Rattle.cs_apm.specs.Finding.{is_at, is_by}
 use Rattle.cs_apm.specs.Laws.Chains.{range_end}
 
 between_none : (k : ℕ) → between k (k + 1) ≡ []
@@ -37,9 +37,6 @@ still false x = refl
 module _ (ops : List MicroOp) (q : Path) where
   abbrev makes : ℕ → Bool
   makes m = creates (op_at ops m) q
-
-  pub latest_none : IsLatestSoFar ops q None 0
-  latest_none = record { found = λ i low. absurd (omega (arith, low)); low = λ i h. refl }
 
   latest_between : (i k : ℕ) (b : Bool) → i < k → makes k ≡ b → is_latest ops i (k + 1) q ≡ (makes i && not (list_any makes (between i k) || b))
   unfolding is_latest
@@ -84,16 +81,3 @@ covers_by i op j s = (nat_lt i s.at && nat_le s.at j) && is_covered s.covers op
 
 abbrev pub IsFirstSoFar : List SyncPoint → ℕ → MicroOp → Option ℕ → ℕ → Type 0
 IsFirstSoFar syncs i op first n = (j : ℕ) → is_by first j ≡ list_any (covers_by i op j) (take n syncs)
-
-le_true : (m n : ℕ) → m ≤ n → nat_le m n ≡ true
-le_true m n h = grind (arith, h)
-
-or_late : (x y : Bool) → (y ≡ true → x ≡ true) → x ≡ (x || (y || false))
-or_late true y h = refl
-or_late false true h = h refl
-or_late false false h = refl
-
-or_now : (x y : Bool) → (x ≡ true → y ≡ true) → y ≡ (x || (y || false))
-or_now true y h = h refl
-or_now false true h = refl
-or_now false false h = refl

@@ -10,8 +10,10 @@ use Rattle.std.specs.Prelude.{slice_get, slice_set}
 use Rattle.cs_trace.specs.declared.operation.Node.TheVariants as nodes
 use Rattle.cs_micro.specs.declared.micro_op.MicroOp.{MicroOp}
 use Rattle.cs_micro.specs.declared.micro_op.MicroOp.TheVariants.{CreateDirEntry, DeleteDirEntry, MoveDirEntry, ChangeFileSize, WriteBlock, SetAttr, Say}
-use Rattle.cs_apm.specs.Atlases.{AreChanged, marked}
+use Rattle.cs_apm.specs.Atlases.{AreChanged}
+use Rattle.cs_apm.specs.Making.{marked}
 use Rattle.cs_apm.specs.Contents.{changes}
+use Rattle.cs_apm.specs.Laws.Chains.{or_false}
 use Rattle.cs_apm.specs.States.{owners_made}
 
 -- a slice that was changed is put back
@@ -30,10 +32,6 @@ length-marked flags Say = refl
 or_true : (b : Bool) → (b || true) ≡ true
 or_true true = refl
 or_true false = refl
-
-or_false : (b : Bool) → (b || false) ≡ b
-or_false true = refl
-or_false false = refl
 
 -- one flag is set
 set_flag : (flags : List Bool) (file n : ℕ) (flag was : Bool) → ((f : Bool) → slice_get flags n ≡ Some f → f ≡ was) → slice_get (slice_set flags file true) n ≡ Some flag → flag ≡ (was || ((file == n) || false))

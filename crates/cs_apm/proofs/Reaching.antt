@@ -2,7 +2,7 @@
 use Rattle.std.proofs.Common.{◌≡◌, ℕ, ◌+◌, ◌<◌, ◌==◌, ◌&&◌, ◌||◌, Bool, true, false, List, [], ◌∷◌, ◌++◌, length, get_or, Some, sym, ap, ◌∙◌, ⊎_elim, arith, length-append}
 use Rattle.std.proofs.lemmas.Bool.{cases_eq}
 use Rattle.std.proofs.lemmas.List.{get_or_append_left, get_or_at}
-use Rattle.std.proofs.lemmas.Option.{slice_get_read, slice_get-get_or}
+use Rattle.std.proofs.lemmas.Option.{slice_get-get_or}
 use Rattle.std.specs.List.{list_any, range_with_len, slice_get}
 use Rattle.std.specs.Option.{option_map_or}
 use Rattle.cs_apm.specs.declared.row.Row.{Row}
@@ -10,11 +10,6 @@ use Rattle.cs_apm.specs.Bits.{has}
 use Rattle.cs_apm.specs.Chains.{by_chain}
 use Rattle.cs_apm.specs.Rows.{bit_in, AreReach}
 use Rattle.cs_apm.specs.Laws.Chains.{chain_step, row_takes, row_passes}
-
--- what a read of a row says
-pub row_read : (rows : List Row) (n k i : ℕ) (x : Row) → n ≡ length rows → k < n → x ≡ get_or rows k x → bit_in rows i k ≡ has x i
-unfolding bit_in
-row_read rows n k i x long low is = ap (λ o. option_map_or (λ r. has r i) o false) (slice_get_read rows n k x long low is)
 
 pub row_at : (rows : List Row) (k i : ℕ) (d : Row) → k < length rows → bit_in rows i k ≡ has (get_or rows k d) i
 unfolding bit_in

@@ -17,7 +17,8 @@ use Rattle.cs_trace.specs.declared.operation.Node.{Node}
 use Rattle.cs_trace.specs.declared.operation.Node.TheVariants as nodes
 use Rattle.cs_trace.specs.declared.operation.Rights.{Rights}
 use Rattle.cs_trace.specs.Traces.{Trace, record_in, start_paths}
-use Rattle.cs_apm.specs.Atlases.{AreStarts, FindsFiles, no_record, node_at}
+use Rattle.cs_apm.specs.Atlases.{AreStarts, no_record}
+use Rattle.cs_apm.specs.Making.{FindsFiles, node_at}
 use Rattle.cs_apm.specs.Slots.{AreAbove, AreAscending}
 use Rattle.cs_apm.specs.States.{content_at, content_of, no_content, nobody, owner_at, rights_of}
 use Rattle.cs_apm.specs.Laws.Ascents.{above_at}

@@ -1,5 +1,5 @@
 -- Bits of words.
-use Rattle.std.proofs.Common.{◌≡◌, ◌≢◌, ℕ, ◌+◌, ◌*◌, ◌/◌, ◌%◌, ◌^◌, ◌<◌, ◌≤◌, ◌==◌, ◌||◌, true, false, List, length, get_or, set, max, bit_or, refl, sym, ap, ◌∙◌, subst, ⊎_elim, arith, get_or-set_other, get_or-set_same}
+use Rattle.std.proofs.Common.{◌≡◌, ◌≢◌, ℕ, ◌+◌, ◌*◌, ◌/◌, ◌%◌, ◌^◌, ◌<◌, ◌≤◌, ◌==◌, ◌||◌, true, false, List, length, get_or, set, max, bit_or, refl, sym, ap, ◌∙◌, ⊎_elim, arith, get_or-set_other, get_or-set_same}
 use Rattle.std.proofs.lemmas.Bool.{cases_eq, cases_lt, eq-eqb, ne_eqb, eqb-true, false≢true}
 use Rattle.std.proofs.lemmas.List.{get_or_past, get_or-replicate}
 use Rattle.std.proofs.lemmas.Nat.Bits.{bit_at-zero, bit_at_or, bit_at_set_same, bit_at_set_other, bit_at-lt, same_from_bits, bit_at_above}
@@ -94,12 +94,6 @@ join_bits now before other k long alike joined = ⊎_elim
 -- words that add nothing, as far as was looked
 abbrev pub AddsNone : List ℕ → List ℕ → ℕ → Type 0
 AddsNone a b w = (m : ℕ) → m < w → bit_or (get_or a m 0) (get_or b m 0) ≡ get_or b m 0
-
-pub adds_more : (a b : List ℕ) (w : ℕ) → AddsNone a b w → bit_or (get_or a w 0) (get_or b w 0) ≡ get_or b w 0 → AddsNone a b (w + 1)
-adds_more a b w before here m low = ⊎_elim
-    (λ (e : m ≡ w). let P : ℕ → Type 0 = λ x. bit_or (get_or a x 0) (get_or b x 0) ≡ get_or b x 0 in subst P (sym e) here)
-    (λ (e : m ≡ w → ⊥). before m (omega (arith, low, e)))
-    (cases_eq m w)
 
 one_bit : (a b : ℕ) → a < 2 → b < 2 → max a b ≡ b → a ≡ 1 → b ≡ 1
 one_bit a b x y m e = omega (arith, x, y, m, e)

@@ -1,18 +1,14 @@
 -- What is found once of a trace, for the states of all its sets.
-use Rattle.std.specs.Prelude.{◌≡◌, ◌≢◌, ◌<◌, ◌≤◌, ℕ, ◌+◌, ◌*◌, ◌++◌, ◌⊎◌, Bool, true, List, [], Some, None, length, map, slice_get, slice_index_or, slice_set}
+use Rattle.std.specs.Prelude.{◌≡◌, ◌≢◌, ◌<◌, ◌≤◌, ℕ, ◌+◌, ◌*◌, ◌++◌, Bool, List, [], Some, None, length, map, slice_get, slice_index_or}
 use Rattle.std.specs.List.{All, Contains, list_any}
 use Rattle.cs_tree_model.specs.declared.record.Record.{Record}
 use Rattle.cs_tree_model.specs.Tree.{Path, parent_path}
-use Rattle.cs_trace.specs.declared.operation.Node.{Node}
-use Rattle.cs_trace.specs.declared.operation.Node.TheVariants as nodes
 use Rattle.cs_trace.specs.declared.operation.Rights.{Rights}
 use Rattle.cs_trace.specs.Operations.{AreNested}
 use Rattle.cs_trace.specs.Traces.{Trace, start_paths}
 use Rattle.cs_micro.specs.declared.micro_op.MicroOp.{MicroOp}
-use Rattle.cs_micro.specs.declared.micro_op.MicroOp.TheVariants.{ChangeFileSize, WriteBlock}
 use Rattle.cs_apm.specs.Contents.{IsSmall, changes}
 use Rattle.cs_micro.specs.Legal.{AreLegal}
-use Rattle.cs_apm.specs.Rules.{named, op_at}
 use Rattle.cs_apm.specs.States.{Content, content_at, content_of, created, no_content, owners_of, start_state, state_of}
 use Rattle.cs_apm.specs.Slots.{AreAscending, AreKnown, AreKnownSteps, AreSteps, Mirror}
 use Rattle.cs_apm.specs.declared.tables.Tables.{Tables}
@@ -79,40 +75,3 @@ content_before t ops n = slice_index_or (map (content_at t.records) t.files ++ c
 -- the tables as an atlas
 abbrev pub atlas_in : Tables → Atlas
 atlas_in t = record { paths = t.paths.items; slots = t.slots.items; steps = t.steps.items; rights = t.rights.items; owners = t.owners.items; starts = t.starts.items; changed = t.changed.items }
-
--- the paths of the first n records are among these
-abbrev pub HasFirst : List Path → List (Path × Record) → ℕ → Type 0
-HasFirst paths records n = (k : ℕ) → k < n → Contains paths (slice_index_or records k no_record).0
-
--- the paths that a micro-operation names are among these
-abbrev pub HasNamed : List Path → MicroOp → Type 0
-HasNamed paths o = (p : Path) → Contains (named o) p → Contains paths p
-
-abbrev pub HasAllNamed : List Path → List MicroOp → ℕ → Type 0
-HasAllNamed paths ops n = (k : ℕ) → k < n → HasNamed paths (op_at ops k)
-
--- the path is that of a record, or one of the first n micro-operations names it
-abbrev pub IsKnownPath : List (Path × Record) → List MicroOp → ℕ → Path → Type 0
-IsKnownPath records ops n p =
-    ((k : ℕ) × (k < length records) × ((slice_index_or records k no_record).0 ≡ p)) ⊎ ((k : ℕ) × (k < n) × Contains (named (op_at ops k)) p)
-
--- ---- as the tables of files are made
-
-abbrev pub node_at : List Node → ℕ → Node
-node_at ns i = slice_index_or ns i nodes.Directory
-
--- the place is noted, if the node is a file's
-abbrev pub noted : List ℕ → Node → ℕ → List ℕ
-noted starts nodes.Directory place = starts
-noted starts (nodes.File file) place = slice_set starts file place
-
--- of the files, those among the first k nodes are found
-abbrev pub FindsFiles : List Node → ℕ → List ℕ → Type 0
-FindsFiles ns k starts = (n i : ℕ) → n < length starts → i < k → node_at ns i ≡ nodes.File n
-    → (slice_index_or starts n 0 < k) × (node_at ns (slice_index_or starts n 0) ≡ nodes.File n)
-
--- the flag of the file that is changed is set
-abbrev pub marked : List Bool → MicroOp → List Bool
-marked changed (ChangeFileSize file size) = slice_set changed file true
-marked changed (WriteBlock file block at bytes) = slice_set changed file true
-marked changed _ = changed

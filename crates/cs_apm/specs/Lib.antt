@@ -5,12 +5,14 @@ pub mod Chains
 pub mod Sets
 pub mod Orders
 pub mod Rows
+pub mod Finding
 pub mod Legal
 pub mod States
 pub mod Contents
 pub mod Owners
 pub mod Slots
 pub mod Atlases
+pub mod Making
 pub mod Files
 pub mod Wholes
 pub mod Laws

@@ -1,6 +1,7 @@
 //! Which files an operation changes.
 ghost use Rattle.std.specs.Prelude.{◌≡◌, IfOk};
-ghost use Rattle.cs_apm.specs.Atlases.{AreChanged, marked};
+ghost use Rattle.cs_apm.specs.Atlases.{AreChanged};
+ghost use Rattle.cs_apm.specs.Making.{marked};
 
 use cs_micro::MicroOp;
 use std::alloc::{AllocError, Global};

@@ -2,7 +2,7 @@
 //! names, and the first sync behind it that covers it.
 ghost use Rattle.std.specs.Prelude.{◌≡◌, ◌<◌, ◌≤◌, ℕ, length, IfOk};
 ghost use Rattle.cs_tree_model.specs.Tree.{parent_path};
-ghost use Rattle.cs_apm.specs.Rows.{AreSynced, is_at, is_before, is_by, is_maker};
+ghost use Rattle.cs_apm.specs.Finding.{AreSynced, is_at, is_before, is_by, is_maker};
 ghost use Rattle.cs_apm.specs.Rules as rules;
 
 use crate::rules::{creates_parent, is_covered, op_at};

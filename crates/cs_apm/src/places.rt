@@ -2,7 +2,8 @@
 ghost use Rattle.std.specs.Prelude.{◌≡◌, ◌<◌, ◌≤◌, ◌+◌, ◌*◌, ◌⊎◌, ℕ, length, slice_index_or, IfOk, OnOk};
 ghost use Rattle.std.specs.List.{Contains};
 ghost use Rattle.cs_tree_model.specs.Tree.{Path as Names};
-ghost use Rattle.cs_apm.specs.Atlases.{HasAllNamed, HasFirst, HasNamed, IsKnownPath, no_record};
+ghost use Rattle.cs_apm.specs.Atlases.{no_record};
+ghost use Rattle.cs_apm.specs.Making.{HasAllNamed, HasFirst, HasNamed, IsKnownPath};
 ghost use Rattle.cs_apm.specs.Rules.{named};
 ghost use Rattle.cs_apm.specs.Slots.{AreAscending, IsPlace};
 

@@ -2,7 +2,8 @@
 ghost use Rattle.std.specs.Prelude.{◌≡◌, ℕ, ◌<◌, ◌≤◌, length, IfOk};
 ghost use Rattle.cs_apm.specs.Bits.{has};
 ghost use Rattle.cs_apm.specs.Chains.{by_chain};
-ghost use Rattle.cs_apm.specs.Rows.{AreReach, AreRows, AreSynced, IsRow, bit_in, is_maker};
+ghost use Rattle.cs_apm.specs.Rows.{AreReach, AreRows, IsRow, bit_in};
+ghost use Rattle.cs_apm.specs.Finding.{AreSynced, is_maker};
 ghost use Rattle.cs_apm.specs.Rules as rules;
 
 use crate::found::{Makers, first_syncs, is_by};

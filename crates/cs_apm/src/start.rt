@@ -1,6 +1,6 @@
 //! What stands at the start of a trace, and where the records of its files are.
 ghost use Rattle.std.specs.Prelude.{◌≡◌, ◌+◌, ◌<◌, ◌≤◌, ◌^◌, length, IfOk, OnOk};
-ghost use Rattle.cs_apm.specs.Atlases.{FindsFiles, HasFirst, noted};
+ghost use Rattle.cs_apm.specs.Making.{FindsFiles, HasFirst, noted};
 ghost use Rattle.cs_apm.specs.Slots.{AreAscending, HaveRights, Mirror};
 ghost use Rattle.cs_apm.specs.States.{start_entries};
 

@@ -1,6 +1,6 @@
 //! What each micro-operation does to the slots.
 ghost use Rattle.std.specs.Prelude.{◌≡◌, ◌+◌, ◌<◌, ◌≤◌, ◌^◌, length, IfOk, OnOk};
-ghost use Rattle.cs_apm.specs.Atlases.{HasAllNamed, HasNamed};
+ghost use Rattle.cs_apm.specs.Making.{HasAllNamed, HasNamed};
 ghost use Rattle.cs_apm.specs.Slots.{AreAscending, AreSteps, Grows, HaveStepRights, HasStepRights, IsStep};
 
 use crate::places::place_of;

@@ -1,4 +1,5 @@
-//! What the commands `tar` and `picks` write.
+//! What the commands `tar`, `picks` and `list` write.
 
 mod archives;
 mod families;
+mod lists;

@@ -1,4 +1,5 @@
-//! Each call that can tell want of memory, with its first growth refused, then its second, and so on.
+//! Each call that can tell want of memory, and messages to a world, with the first growth refused, then
+//! the second, and so on.
 #![tactic(auto)]
 
 #[cfg(test)]

@@ -1,10 +1,16 @@
-//! Calls whose growths are refused in turn. Each row has the name of the call that it makes.
+//! Calls whose growths are refused in turn, where each row has the name of the call that it makes; and
+//! want of memory as the clients of a world are told it.
 
 mod allowed;
+mod attaches;
 mod calls;
+mod copies;
+mod dialogues;
+mod endings;
 mod fids;
 mod journals;
 mod making;
+mod messages;
 mod registries;
 mod rows;
 mod runs;
@@ -13,4 +19,6 @@ mod sessions;
 mod shown;
 mod start;
 mod stores;
+mod sweeps;
+mod talking;
 mod worlds;

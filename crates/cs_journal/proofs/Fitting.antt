@@ -2,18 +2,19 @@
 use Rattle.std.proofs.Common.{◌≡◌, ◌≢◌, ◌∙◌, ◌↔◌, ℕ, ◌+◌, ◌<◌, Bool, true, List, [], ◌∷◌, length, length-append, Some, sym, ap}
 use Rattle.std.proofs.lemmas.Option.{get_or_from_slice_get, slice_get_within}
 use Rattle.std.specs.Prelude.{slice_get}
+use Rattle.cs_permit.specs.declared.call.Call.{Call}
 use Rattle.cs_permit.specs.declared.call.OpenFile.{OpenFile}
 use Rattle.cs_tree_model.specs.Tree.{Tree}
 use Rattle.cs_users.specs.Rows.{Row}
 use Rattle.cs_journal.proofs.Journals.{last-push, other_entries, other_receipts, own_entries, own_receipts, replay-push}
 use Rattle.cs_journal.proofs.Last.{told_by_place}
 use Rattle.cs_journal.specs.declared.counts.Counts.{Counts}
-use Rattle.cs_journal.specs.Asked.{Asked, asked}
+use Rattle.cs_journal.specs.Asked.{asked}
 use Rattle.cs_journal.specs.Fitting.{Tallies, receipt_at}
 use Rattle.cs_journal.specs.Holding.{IsHeld, counts_of, no_counts}
 use Rattle.cs_journal.specs.Journals.{EntryOf, RunState, apply, entries_of_pass}
 use Rattle.cs_journal.specs.Runs.{Fits, PassOf, ReceiptOf, RunOf, first_state, last_of, opens_under, receipt_of, receipts_in, state_of}
-use Rattle.cs_journal.specs.Steps.{entered, noted}
+use Rattle.cs_journal.specs.Steps.{run_with_entry, pass_with_receipt}
 
 -- what a run counts of a pass
 record Counted (r : RunOf) (p : PassOf) (k : Counts) : Type 0 where
@@ -47,7 +48,7 @@ counted_where_fits fresh tree us opens journal counts h p k there f =
     record { entries = c.entries ∙ sym f.entries; opens = c.opens ∙ sym f.opens; last = f.last ∙ sym c.last }
 
 -- a receipt is of an entry where place, outcome and what the call asks are the entry's
-pub is_receipt_of : (place : ℕ) (r s : ReceiptOf) (e d : EntryOf) (x y : Asked) (b : Bool) → s ≡ r → d ≡ e → s.place ≡ place → s.outcome ≡ d.outcome → x ≡ s.asked → y ≡ asked d.call → ((b ≡ true) ↔ (x ≡ y)) → (b ≡ true) ↔ (r ≡ receipt_of place e)
+pub is_receipt_of : (place : ℕ) (r s : ReceiptOf) (e d : EntryOf) (x y : Call) (b : Bool) → s ≡ r → d ≡ e → s.place ≡ place → s.outcome ≡ d.outcome → x ≡ s.asked → y ≡ asked d.call → ((b ≡ true) ↔ (x ≡ y)) → (b ≡ true) ↔ (r ≡ receipt_of place e)
 is_receipt_of place r s e d x y b sr de at ends xs ys same =
     let told : x ≡ y → s ≡ receipt_of place d = λ both i. record { place = at i; asked = (sym xs ∙ both ∙ ys) i; outcome = ends i } in (
       λ yes. sym sr ∙ told (same.0 yes) ∙ ap (receipt_of place) de,
@@ -56,11 +57,11 @@ is_receipt_of place r s e d x y b sr de at ends xs ys same =
 
 -- ---- after an entry
 
-pub state_entered : (r : RunOf) (e : EntryOf) → state_of (entered r e) ≡ apply (state_of r) e
+pub state_entered : (r : RunOf) (e : EntryOf) → state_of (run_with_entry r e) ≡ apply (state_of r) e
 state_entered r e = replay-push (first_state r) r.journal e
 
 -- the pass of the entry
-pub own_fits : (r : RunOf) (p : PassOf) (e : EntryOf) → e.pass ≡ p.number → Fits r p → Fits (entered r e) (noted r p e)
+pub own_fits : (r : RunOf) (p : PassOf) (e : EntryOf) → e.pass ≡ p.number → Fits r p → Fits (run_with_entry r e) (pass_with_receipt r p e)
 own_fits r p e own f =
     let t : ReceiptOf = receipt_of (length r.journal) e in
     record {
@@ -71,7 +72,7 @@ own_fits r p e own f =
     }
 
 -- another pass, of which as many opens stand as before
-pub other_fits : (r : RunOf) (q : PassOf) (e : EntryOf) → e.pass ≢ q.number → length (opens_under q.number (apply (state_of r) e).opens) ≡ length (opens_under q.number (state_of r).opens) → Fits r q → Fits (entered r e) q
+pub other_fits : (r : RunOf) (q : PassOf) (e : EntryOf) → e.pass ≢ q.number → length (opens_under q.number (apply (state_of r) e).opens) ≡ length (opens_under q.number (state_of r).opens) → Fits r q → Fits (run_with_entry r e) q
 other_fits r q e other same f = record {
   known = f.known;
   entries = f.entries ∙ sym (other_entries q.number r.journal e other);

@@ -8,7 +8,7 @@ use Rattle.std.proofs.lemmas.Option.{slice_get-get_or}
 use Rattle.std.specs.List.{position}
 use Rattle.std.specs.Option.{option_map_or}
 use Rattle.std.specs.Prelude.{if◌then◌else◌, is_some, option_and_then, remove, slice_get}
-use Rattle.cs_permit.specs.Calls.{State}
+use Rattle.cs_permit.specs.Calls.{RulesView}
 use Rattle.cs_permit.specs.declared.call.Call.{Call}
 use Rattle.cs_permit.specs.declared.call.Call.TheVariants.{Attach, Walk, Open, Create, Read, Write, Close, Remove, Stat, Wstat}
 use Rattle.cs_permit.specs.declared.call.OpenFile.{OpenFile}
@@ -137,7 +137,7 @@ at_most false false = omega arith
 pub released_call : (opens : List OpenFile) (pass : ℕ) (call : Call) → Moves opens (released_if (closes call) pass opens) pass (charge opens pass call)
 released_call opens pass call = more_room opens (released_if (closes call) pass opens) pass _ _ (at_most (is_some (ended opens pass call)) (opens_one call)) (released_if_moves (closes call) pass opens)
 
-granted_call : (s : State) (w : Turn) (call : Call) (b : Bool) → opens_one call ≡ b → Moves s.opens (effect_of s w call).opens w.pass (charge s.opens w.pass call)
+granted_call : (s : RulesView) (w : Turn) (call : Call) (b : Bool) → opens_one call ≡ b → Moves s.opens (effect_of s w call).opens w.pass (charge s.opens w.pass call)
 granted_call s w call true one =
     let made = one_more s w call one in
     let two : charge s.opens w.pass call ≡ 2 = rw (ends_none call one, one) refl in
@@ -145,7 +145,7 @@ granted_call s w call true one =
 granted_call s w call false none = rw (as_left s w call none) (released_call s.opens w.pass call)
 
 -- whatever comes of a call, its entry and the opens that it leaves fit where the old opens stood and what the call is charged
-pub call_moves : (s : State) (w : Turn) (call : Call) (o : Outcome) → Moves s.opens (applied s w call o).opens w.pass (charge s.opens w.pass call)
+pub call_moves : (s : RulesView) (w : Turn) (call : Call) (o : Outcome) → Moves s.opens (applied s w call o).opens w.pass (charge s.opens w.pass call)
 call_moves s w call out.Granted = granted_call s w call (opens_one call) refl
 call_moves s w call (out.Denied rule) = released_call s.opens w.pass call
 call_moves s w call out.Short = released_call s.opens w.pass call

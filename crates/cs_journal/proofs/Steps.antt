@@ -36,7 +36,7 @@ use Rattle.cs_journal.specs.Journals.{EntryOf, HasRoom, IsLegal, IsOutcome, RunS
 use Rattle.cs_journal.specs.Marks.{StepMark, Ample, NoEntry, NoRoom, call_mark}
 use Rattle.cs_journal.specs.Runs.{Fits, PassOf, ReceiptOf, RunOf, last_of, opens_under, receipt_of, receipts_in, state_of}
 use Rattle.cs_journal.specs.Small.{is_small}
-use Rattle.cs_journal.specs.Steps.{Stepped, entered, entering, entry_of, refused, step}
+use Rattle.cs_journal.specs.Steps.{Stepped, run_with_entry, entering, entry_of, without_entry, step}
 
 -- ---- the three ends of a step
 
@@ -46,11 +46,11 @@ step_mark ample = Ample
 step_mark no_room = NoRoom
 
 module _ (r : RunOf) (p : PassOf) (now : ℕ) (call : Call) where
-  pub full_step : is_full (state_of r) p.number call ≡ true → (mark : StepMark) × (refused r p (Denied L1) ≡ step r p now call mark)
+  pub full_step : is_full (state_of r) p.number call ≡ true → (mark : StepMark) × (without_entry r p (Denied L1) ≡ step r p now call mark)
   unfolding step
   full_step full = (Ample, rw full refl)
 
-  pub short_step : is_full (state_of r) p.number call ≡ false → is_some (ended (state_of r).opens p.number call) ≡ false → (mark : StepMark) × (refused r p Short ≡ step r p now call mark)
+  pub short_step : is_full (state_of r) p.number call ≡ false → is_some (ended (state_of r).opens p.number call) ≡ false → (mark : StepMark) × (without_entry r p Short ≡ step r p now call mark)
   unfolding step
   short_step room none = (NoEntry, rw (room, none) refl)
 
@@ -150,7 +150,7 @@ module _ (fresh tree : Tree) (us : List Row) (opens : List OpenFile) (journal : 
       others_after q differs =
           ap (λ (s : RunState). length (opens_under q s.opens)) applied_here ∙ moved.others q differs ∙ sym (ap (λ (s : RunState). length (opens_under q s.opens)) state_here)
 
-      pub others_fit : (q : PassOf) → q.number ≢ pass → Fits held_run q → Fits (entered held_run its_entry) q
+      pub others_fit : (q : PassOf) → q.number ≢ pass → Fits held_run q → Fits (run_with_entry held_run its_entry) q
       others_fit q differs f = other_fits held_run q its_entry (λ same. differs (sym same)) (others_after q.number differs) f
 
       -- ---- under a pass that fits

@@ -1,4 +1,5 @@
--- When the receipts of some passes are the entries of a journal, and what an entry's call was answered.
+-- When the receipts of some passes are the entries of a journal, and what an entry's call was
+-- answered.
 use Rattle.std.specs.Prelude.{◌≡◌, ◌≢◌, ℕ, ◌+◌, ◌<◌, ◌≤◌, ◌==◌, Bool, List, [], ◌∷◌, length, map, option_map, slice_get, sum_by, take, Option, None, Some, Result, Ok, Err}
 use Rattle.std.specs.List.{find, flat_map}
 use Rattle.std.specs.List.Sorted.{IsPermutation}
@@ -32,9 +33,11 @@ receipts_count passes = sum_by (λ p. length p.receipts) passes
 
 -- among both is found the same for each place from that one on
 abbrev pub FindSame : ℕ → List ReceiptOf → List ReceiptOf → Type 0
-FindSame place rest all = (later : ℕ) → place ≤ later → find (is_at later) rest ≡ find (is_at later) all
+FindSame place rest all =
+    (later : ℕ) → place ≤ later → find (is_at later) rest ≡ find (is_at later) all
 
--- The receipts of the first pass of a number, but for some with places before that one. They ascend.
+-- The receipts of the first pass of a number, but for some with places before that one. They
+-- ascend.
 pub record IsRest (passes : List PassOf) (number place : ℕ) (rest : List ReceiptOf) : Type 0 where
   pub same : FindSame place rest (receipts_of_pass passes number)
   pub ascending : IsAscending rest
@@ -42,7 +45,8 @@ pub record IsRest (passes : List PassOf) (number place : ℕ) (rest : List Recei
 -- such receipts for each number
 abbrev pub AreRests : {A : Type 0} → (A → List ReceiptOf) → List PassOf → List A → ℕ → Type 0
 AreRests {A} now passes rests place =
-    (number : ℕ) (rest : A) → slice_get rests number ≡ Some rest → IsRest passes number place (now rest)
+    (number : ℕ) (rest : A) → slice_get rests number ≡ Some rest
+    → IsRest passes number place (now rest)
 
 -- each entry before the place has its own receipt
 abbrev pub AreTold : List PassOf → List EntryOf → ℕ → Type 0
@@ -89,8 +93,10 @@ AreAsMany passes journal = receipts_count passes ≡ length journal
 abbrev pub Audits : List PassOf → List EntryOf → Result (Unit {0}) AuditFault → Type 0
 Audits passes journal (Ok x) = AreAsMany passes journal × Tells passes journal (Ok x)
 Audits passes journal (Err Count) = ¬ AreAsMany passes journal
-Audits passes journal (Err (Missing k)) = AreAsMany passes journal × Tells passes journal (Err (Missing k))
-Audits passes journal (Err (Changed k)) = AreAsMany passes journal × Tells passes journal (Err (Changed k))
+Audits passes journal (Err (Missing k)) =
+    AreAsMany passes journal × Tells passes journal (Err (Missing k))
+Audits passes journal (Err (Changed k)) =
+    AreAsMany passes journal × Tells passes journal (Err (Changed k))
 
 -- the audit is ok
 abbrev pub IsAudited : List PassOf → List EntryOf → Type 0

@@ -2,7 +2,7 @@
 use Rattle.std.specs.Prelude.{ℕ, ◌+◌, ◌&&◌, not, nat_lt, Bool, true, false, List, Option, is_some, option_and_then, length, if◌then◌else◌}
 use Rattle.cs_names.specs.declared.limits.TheConstants.{JOURNAL_ENTRIES}
 use Rattle.cs_permit.specs.declared.call.Call.{Call}
-use Rattle.cs_permit.specs.declared.call.Call.TheVariants.{Attach, Walk, Open, Create, Read, Write, Close, Remove, Stat, Wstat}
+use Rattle.cs_permit.specs.declared.call.Call.TheVariants.{Close}
 use Rattle.cs_permit.specs.declared.call.OpenFile.{OpenFile}
 use Rattle.cs_run.specs.Effects.{removes}
 use Rattle.cs_run.specs.Laws.{opens_one}
@@ -14,27 +14,24 @@ use Rattle.cs_journal.specs.Journals.{RunState}
 abbrev pub ended : List OpenFile → ℕ → Call → Option OpenFile
 ended opens pass call = option_and_then (λ number. open_numbered number pass opens) (closes call)
 
--- how many entries a call takes that are not reserved: its own, and for an open or a create that of the close
+-- how many entries a call takes that are not reserved: its own, and for an open or a create that
+-- of the close
 abbrev pub charge : List OpenFile → ℕ → Call → ℕ
-charge opens pass call = if is_some (ended opens pass call) then 0 else if opens_one call then 2 else 1
+charge opens pass call =
+    if is_some (ended opens pass call) then 0 else if opens_one call then 2 else 1
 
 -- there is no room for what a call takes
 abbrev pub is_full : RunState → ℕ → Call → Bool
-is_full s pass call = nat_lt JOURNAL_ENTRIES (s.entries + length s.opens + charge s.opens pass call)
+is_full run pass call =
+    nat_lt JOURNAL_ENTRIES (run.entries + length run.opens + charge run.opens pass call)
 
 -- it is a close
 abbrev pub is_close : Call → Bool
 is_close (Close c) = true
-is_close (Attach c) = false
-is_close (Walk c) = false
-is_close (Open c) = false
-is_close (Create c) = false
-is_close (Read c) = false
-is_close (Write c) = false
-is_close (Remove c) = false
-is_close (Stat c) = false
-is_close (Wstat c) = false
+is_close other = false
 
 -- a close whose open stands, and that removes nothing
 abbrev pub closes_plainly : RunState → ℕ → Call → Bool
-closes_plainly s pass call = is_close call && (is_some (ended s.opens pass call) && not (removes s.tree (ended s.opens pass call)))
+closes_plainly run pass call =
+    is_close call && (is_some (ended run.opens pass call)
+    && not (removes run.tree (ended run.opens pass call)))

@@ -9,8 +9,9 @@ abbrev pub receipt_at : List EntryOf → Option ℕ → Option ReceiptOf
 receipt_at journal None = None
 receipt_at journal (Some place) = option_map (receipt_of place) (slice_get journal place)
 
--- as many entries and opens are counted as the pass has receipts and reserved places, and its last receipt, if any, is of the entry at the last place
-pub record Tallies (counts : Counts) (journal : List EntryOf) (p : PassOf) : Type 0 where
-  pub entries : counts.entries ≡ length p.receipts
-  pub opens : counts.opens ≡ p.reserved
-  pub last : last_of p.receipts ≡ receipt_at journal counts.last
+-- as many entries and opens are counted as the pass has receipts and reserved places, and its last
+-- receipt, if any, is of the entry at the last place
+pub record Tallies (counts : Counts) (journal : List EntryOf) (pass : PassOf) : Type 0 where
+  pub entries : counts.entries ≡ length pass.receipts
+  pub opens : counts.opens ≡ pass.reserved
+  pub last : last_of pass.receipts ≡ receipt_at journal counts.last

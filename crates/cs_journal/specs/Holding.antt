@@ -22,8 +22,10 @@ counts_of pass opens journal = record {
   last = option_map (λ r. r.place) (last_of (receipts_in pass journal));
 }
 
--- the tree and the opens are the replay's, the journal is legal, and the counts of the passes are the journal's
-pub record IsHeld (fresh tree : Tree) (us : List Row) (opens : List OpenFile) (journal : List EntryOf) (counts : List Counts) : Type 0 where
+-- the tree and the opens are the replay's, the journal is legal, and the counts of the passes are
+-- the journal's
+pub record IsHeld (fresh tree : Tree) (us : List Row) (opens : List OpenFile)
+    (journal : List EntryOf) (counts : List Counts) : Type 0 where
   pub grows : CanGrow fresh
   pub tree_is : tree ≡ (replay (start fresh us) journal).tree
   pub opens_are : opens ≡ (replay (start fresh us) journal).opens

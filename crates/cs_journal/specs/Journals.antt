@@ -1,7 +1,7 @@
 -- A run's state, and what the entries of a journal make of it.
 use Rattle.std.specs.Prelude.{◌≡◌, ℕ, ◌+◌, ◌≤◌, ◌==◌, Bool, List, [], ◌∷◌, length, filter}
 use Rattle.cs_names.specs.declared.limits.TheConstants.{JOURNAL_ENTRIES}
-use Rattle.cs_permit.specs.Calls.{State, state}
+use Rattle.cs_permit.specs.Calls.{RulesView, state}
 use Rattle.cs_permit.specs.declared.call.Call.{Call}
 use Rattle.cs_permit.specs.declared.call.OpenFile.{OpenFile}
 use Rattle.cs_run.specs.declared.answer.Answer.{Answer}
@@ -13,7 +13,8 @@ use Rattle.cs_run.specs.Outcomes.{applied, outcome}
 use Rattle.cs_tree_model.specs.Tree.{Tree}
 use Rattle.cs_users.specs.Rows.{Row}
 
--- What a journal keeps of a call: its pass, its moment, the call with the bytes that it writes, and how it ended.
+-- What a journal keeps of a call: its pass, its moment, the call with the bytes that it writes, and
+-- how it ended.
 pub record EntryOf : Type 0 where
   pub pass : ℕ
   pub moment : ℕ
@@ -36,46 +37,55 @@ abbrev pub start : Tree → List Row → RunState
 start t us = record { tree = t; opens = []; users = us; entries = 0 }
 
 -- what the rules look at
-abbrev pub seen : RunState → State
-seen s = state s.tree s.opens s.users
+abbrev pub seen : RunState → RulesView
+seen run = state run.tree run.opens run.users
 
 -- the turn of a call that comes next: its place is how many entries are before it
 abbrev pub turn_in : RunState → ℕ → ℕ → Turn
-turn_in s pass moment = record { moment = moment; place = s.entries; pass = pass }
+turn_in run pass moment = record { moment = moment; place = run.entries; pass = pass }
 
 -- what an entry's call leaves, by its outcome
 abbrev pub left_by : RunState → EntryOf → Left
-left_by s e = applied (seen s) (turn_in s e.pass e.moment) e.call e.outcome
+left_by run entry =
+    applied (seen run) (turn_in run entry.pass entry.moment) entry.call entry.outcome
 
 -- the answer to an entry's call
 abbrev pub answer_to : RunState → EntryOf → Answer
-answer_to s e = (left_by s e).answer
+answer_to run entry = (left_by run entry).answer
 
 -- the state after an entry
 abbrev pub apply : RunState → EntryOf → RunState
-apply s e = record { tree = (left_by s e).tree; opens = (left_by s e).opens; users = s.users; entries = s.entries + 1 }
+apply run entry = record {
+  tree = (left_by run entry).tree;
+  opens = (left_by run entry).opens;
+  users = run.users;
+  entries = run.entries + 1;
+}
 
 -- the state after the entries of a journal, one after the other
 abbrev pub replay : RunState → List EntryOf → RunState
-replay s [] = s
-replay s (e ∷ es) = replay (apply s e) es
+replay run [] = run
+replay run (entry ∷ entries) = replay (apply run entry) entries
 
--- the outcome is the one of the entry's place: the first rule that fails denies the call; else it is granted, or short where it takes memory
+-- the outcome is the one of the entry's place: the first rule that fails denies the call; else it
+-- is granted, or short where it takes memory
 abbrev pub IsOutcome : RunState → EntryOf → Type 0
-IsOutcome s e = (mark : CallMark) × (e.outcome ≡ outcome (seen s) (turn_in s e.pass e.moment) e.call mark)
+IsOutcome run entry = (mark : CallMark)
+    × (entry.outcome ≡ outcome (seen run) (turn_in run entry.pass entry.moment) entry.call mark)
 
 -- there is room for the entries, and for that of each open's close
 abbrev pub HasRoom : RunState → Type 0
-HasRoom s = s.entries + length s.opens ≤ JOURNAL_ENTRIES
+HasRoom run = run.entries + length run.opens ≤ JOURNAL_ENTRIES
 
 -- a legal journal: each outcome is the one of its place, and there is always that room
 abbrev pub IsLegal : RunState → List EntryOf → Type 0
-IsLegal s [] = Unit {0}
-IsLegal s (e ∷ es) = IsOutcome s e × HasRoom (apply s e) × IsLegal (apply s e) es
+IsLegal run [] = Unit {0}
+IsLegal run (entry ∷ entries) =
+    IsOutcome run entry × HasRoom (apply run entry) × IsLegal (apply run entry) entries
 
 -- the entry carries the pass's number
 abbrev pub is_of_pass : ℕ → EntryOf → Bool
-is_of_pass pass e = e.pass == pass
+is_of_pass pass entry = entry.pass == pass
 
 -- the pass's entries, in order
 abbrev pub entries_of_pass : ℕ → List EntryOf → List EntryOf

@@ -6,7 +6,6 @@ pub mod Calls
 pub mod Runs
 pub mod Fitting
 pub mod Marks
-pub mod Said
 pub mod Steps
 pub mod Bounds
 pub mod Holding

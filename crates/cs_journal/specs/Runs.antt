@@ -8,10 +8,12 @@ use Rattle.cs_tree_model.specs.Tree.{Tree, tree_code}
 use Rattle.cs_users.specs.Rows.{Row}
 use Rattle.cs_users.specs.contracts.users.Users as users
 use Rattle.cs_journal.specs.contracts.entry.Entry as entry
-use Rattle.cs_journal.specs.Asked.{Asked, asked}
+use Rattle.cs_permit.specs.declared.call.Call.{Call}
+use Rattle.cs_journal.specs.Asked.{asked}
 use Rattle.cs_journal.specs.Journals.{EntryOf, RunState, entries_of_pass, is_of_pass, replay, start}
 
--- A run: the tree and the users that it began with, its journal, and how many passes it gave. Its state is what the journal's replay gives.
+-- A run: the tree and the users that it began with, its journal, and how many passes it gave. Its
+-- state is what the journal's replay gives.
 pub record RunOf : Type 0 where
   pub fresh : Tree
   pub users : List Row
@@ -19,7 +21,18 @@ pub record RunOf : Type 0 where
   pub passes : ℕ
 
 abbrev pub run_code : Coded RunOf
-run_code = code_by (Tree × (List Row × (List EntryOf × ℕ))) (coded× tree_code (coded× users.the_row.coded (coded× (coded_list entry.the_row.coded) coded_ℕ))) (λ r. (r.fresh, (r.users, (r.journal, r.passes)))) (λ p. record { fresh = p.0; users = p.1.0; journal = p.1.1.0; passes = p.1.1.1 }) (λ _. refl)
+run_code =
+    code_by (Tree × (List Row × (List EntryOf × ℕ)))
+    (coded× tree_code
+    (coded× users.the_row.coded (coded× (coded_list entry.the_row.coded) coded_ℕ)))
+    (λ run. (run.fresh, (run.users, (run.journal, run.passes))))
+    (λ parts. record {
+      fresh = parts.0;
+      users = parts.1.0;
+      journal = parts.1.1.0;
+      passes = parts.1.1.1;
+    })
+    (λ _. refl)
 
 -- a run that no call was made on, and that gave no pass
 abbrev pub fresh_run : Tree → List Row → RunOf
@@ -27,20 +40,29 @@ fresh_run t us = record { fresh = t; users = us; journal = []; passes = 0 }
 
 -- a run's first state, and its state
 abbrev pub first_state : RunOf → RunState
-first_state r = start r.fresh r.users
+first_state run = start run.fresh run.users
 
 abbrev pub state_of : RunOf → RunState
-state_of r = replay (first_state r) r.journal
+state_of run = replay (first_state run) run.journal
+
+-- a run that gave one pass more
+abbrev pub with_pass : RunOf → RunOf
+with_pass run = record {
+  fresh = run.fresh;
+  users = run.users;
+  journal = run.journal;
+  passes = run.passes + 1;
+}
 
 -- What a pass keeps of an entry: its place, what its call asked, and how it ended.
 pub record ReceiptOf : Type 0 where
   pub place : ℕ
-  pub asked : Asked
+  pub asked : Call
   pub outcome : Outcome
 
 -- the receipt of the entry at a place
 abbrev pub receipt_of : ℕ → EntryOf → ReceiptOf
-receipt_of place e = record { place = place; asked = asked e.call; outcome = e.outcome }
+receipt_of place entry = record { place = place; asked = asked entry.call; outcome = entry.outcome }
 
 -- each receipt has a place behind those before it
 abbrev pub IsAscending : List ReceiptOf → Type 0
@@ -59,8 +81,10 @@ fresh_pass number = record { number = number; receipts = []; reserved = 0 }
 -- the receipts of a pass's entries, where the first entry has that place
 abbrev pub receipts_from : ℕ → ℕ → List EntryOf → List ReceiptOf
 receipts_from pass place [] = []
-receipts_from pass place (e ∷ es) =
-    if is_of_pass pass e then receipt_of place e ∷ receipts_from pass (place + 1) es else receipts_from pass (place + 1) es
+receipts_from pass place (entry ∷ entries) =
+    if is_of_pass pass entry
+    then receipt_of place entry ∷ receipts_from pass (place + 1) entries
+    else receipts_from pass (place + 1) entries
 
 abbrev pub receipts_in : ℕ → List EntryOf → List ReceiptOf
 receipts_in pass journal = receipts_from pass 0 journal
@@ -76,9 +100,10 @@ opens_under pass opens = filter (is_under pass) opens
 abbrev pub last_of : {A : Type 0} → List A → Option A
 last_of xs = slice_get xs (length xs - 1)
 
--- The run gave the pass; the pass has as many receipts and reserved places as the run has entries and opens of it; its last receipt, if any, is of its last entry.
-pub record Fits (r : RunOf) (p : PassOf) : Type 0 where
-  pub known : p.number < r.passes
-  pub entries : length p.receipts ≡ length (entries_of_pass p.number r.journal)
-  pub opens : p.reserved ≡ length (opens_under p.number (state_of r).opens)
-  pub last : last_of p.receipts ≡ last_of (receipts_in p.number r.journal)
+-- The run gave the pass; the pass has as many receipts and reserved places as the run has entries
+-- and opens of it; its last receipt, if any, is of its last entry.
+pub record Fits (run : RunOf) (pass : PassOf) : Type 0 where
+  pub known : pass.number < run.passes
+  pub entries : length pass.receipts ≡ length (entries_of_pass pass.number run.journal)
+  pub opens : pass.reserved ≡ length (opens_under pass.number (state_of run).opens)
+  pub last : last_of pass.receipts ≡ last_of (receipts_in pass.number run.journal)

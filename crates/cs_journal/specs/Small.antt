@@ -8,15 +8,11 @@ use Rattle.cs_permit.specs.declared.call.Call.TheVariants as call
 abbrev pub is_start : Place → Bool
 is_start place = place.end == 0 && not (is_some place.last)
 
--- a call that an entry keeps whole: a close, a remove, a stat, or a read that goes on at the start, as each of a file does
+-- a call that an entry keeps whole: a close, a remove, a stat, or a read that goes on at the start,
+-- as each of a file does
 abbrev pub is_small : Call → Bool
 is_small (call.Close c) = true
 is_small (call.Remove c) = true
 is_small (call.Stat c) = true
-is_small (call.Attach c) = false
-is_small (call.Walk c) = false
-is_small (call.Open c) = false
-is_small (call.Create c) = false
 is_small (call.Read c) = is_start c.place
-is_small (call.Write c) = false
-is_small (call.Wstat c) = false
+is_small other = false

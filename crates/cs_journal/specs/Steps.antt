@@ -17,37 +17,49 @@ pub record Stepped : Type 0 where
   pub pass : PassOf
 
 -- no entry: nothing changes
-abbrev pub refused : RunOf → PassOf → Answer → Stepped
-refused r p answer = record { answer = answer; run = r; pass = p }
+abbrev pub without_entry : RunOf → PassOf → Answer → Stepped
+without_entry run pass answer = record { answer = answer; run = run; pass = pass }
 
 -- one entry more, the last
-abbrev pub entered : RunOf → EntryOf → RunOf
-entered r e = record { fresh = r.fresh; users = r.users; journal = r.journal ++ e ∷ []; passes = r.passes }
+abbrev pub run_with_entry : RunOf → EntryOf → RunOf
+run_with_entry run entry = record {
+  fresh = run.fresh;
+  users = run.users;
+  journal = run.journal ++ entry ∷ [];
+  passes = run.passes;
+}
 
--- its receipt, and a place for the close of each open that stands under the pass then
-abbrev pub noted : RunOf → PassOf → EntryOf → PassOf
-noted r p e = record {
-  number = p.number;
-  receipts = p.receipts ++ receipt_of (length r.journal) e ∷ [];
-  reserved = length (opens_under p.number (apply (state_of r) e).opens);
+-- the entry's receipt, and a place for the close of each open that stands under the pass then
+abbrev pub pass_with_receipt : RunOf → PassOf → EntryOf → PassOf
+pass_with_receipt run pass entry = record {
+  number = pass.number;
+  receipts = pass.receipts ++ receipt_of (length run.journal) entry ∷ [];
+  reserved = length (opens_under pass.number (apply (state_of run) entry).opens);
 }
 
 -- an entry, and what its call is answered
 abbrev pub entering : RunOf → PassOf → EntryOf → Stepped
-entering r p e = record { answer = answer_to (state_of r) e; run = entered r e; pass = noted r p e }
+entering run pass entry = record {
+  answer = answer_to (state_of run) entry;
+  run = run_with_entry run entry;
+  pass = pass_with_receipt run pass entry;
+}
 
 -- the entry of a call under a pass at a moment: its outcome is the one of its place
 abbrev pub entry_of : RunOf → PassOf → ℕ → Call → StepMark → EntryOf
-entry_of r p now call mark = record {
-  pass = p.number;
+entry_of run pass now call mark = record {
+  pass = pass.number;
   moment = now;
   call = call;
-  outcome = outcome (seen (state_of r)) (turn_in (state_of r) p.number now) call (call_mark mark);
+  outcome = outcome (seen (state_of run)) (turn_in (state_of run) pass.number now) call
+      (call_mark mark);
 }
 
--- no room in the journal is told by L1, and a refused growth for entry and receipt as want of memory; a call whose entry is reserved reaches neither
+-- no room in the journal is told by L1, and a refused growth for entry and receipt as want of
+-- memory; a call whose entry is reserved reaches neither
 unfoldable pub step : RunOf → PassOf → ℕ → Call → StepMark → Stepped
-step r p now call mark =
-    if is_full (state_of r) p.number call then refused r p (Denied L1)
-    else if refuses_entry mark && not (is_some (ended (state_of r).opens p.number call)) then refused r p Short
-    else entering r p (entry_of r p now call mark)
+step run pass now call mark =
+    if is_full (state_of run) pass.number call then without_entry run pass (Denied L1)
+    else if refuses_entry mark && not (is_some (ended (state_of run).opens pass.number call))
+    then without_entry run pass Short
+    else entering run pass (entry_of run pass now call mark)

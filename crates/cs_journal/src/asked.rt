@@ -2,7 +2,7 @@
 ghost use Rattle.std.specs.Prelude.{◌≡◌, ◌↔◌, IsTrue, map, option_map, string_bytes};
 ghost use Rattle.cs_journal.specs.Asked.{asked};
 ghost use Rattle.cs_journal.specs.Texts.{asked_in};
-ghost use Rattle.cs_wire.specs.Messages.{stat_of};
+ghost use Rattle.cs_permit.specs.Sent.{sent_of};
 
 use cs_names::Name;
 use cs_permit::Call;
@@ -28,7 +28,7 @@ pub(crate) fn asked_by(call: &Call) -> AskedRef<'_>
     ensures { asked_in result ≡ asked call.now }
 {
     match call {
-        Call::Attach(call) => AskedRef::Attach(call.user.as_bytes()),
+        Call::Attach(call) => AskedRef::Attach(call.user.as_str().as_bytes()),
         Call::Walk(call) => {
             AskedRef::Walk(call.number, call.user.as_bytes(), call.names.as_slice())
         }
@@ -53,7 +53,11 @@ pub(crate) fn asked_by(call: &Call) -> AskedRef<'_>
             AskedRef::Remove(call.number, call.user.as_bytes(), call.open_number)
         }
         Call::Stat(call) => AskedRef::Stat(call.number),
-        Call::Wstat(call) => AskedRef::Wstat(call.number, call.user.as_bytes(), &call.stat),
+        Call::Wstat(call) => AskedRef::Wstat(
+            call.number,
+            call.user.as_bytes(),
+            call.stat.as_stat(),
+        ),
     }
 }
 
@@ -66,7 +70,7 @@ fn are_same_texts(texts: &[String], others: &[String]) -> bool
 
 /// Whether the fields of two stats are the same.
 fn is_same_stat(stat: &Stat, other: &Stat) -> bool
-    ensures { IsTrue result ↔ (stat_of stat.now ≡ stat_of other.now) }
+    ensures { IsTrue result ↔ (sent_of stat.now ≡ sent_of other.now) }
 {
     stat.kind == other.kind
         && stat.dev == other.dev
@@ -83,7 +87,8 @@ fn is_same_stat(stat: &Stat, other: &Stat) -> bool
 
 /// Whether the reads of two fids go on after the same name.
 fn is_same_last(name: Option<&Name>, other: Option<&Name>) -> bool
-    ensures { IsTrue result ↔ (option_map (λ n. n.now) name.entry ≡ option_map (λ n. n.now) other.entry) }
+    ensures { IsTrue result ↔ (option_map (λ n. n.now) name.entry
+        ≡ option_map (λ n. n.now) other.entry) }
 {
     match (name, other) {
         (Some(name), Some(other)) => name == other,

@@ -142,8 +142,8 @@ fn audit_journal(journal: &[Entry], passes: &[Pass]) -> Result<(), AuditFault>
 impl<L: TreeRead + Drop> Run<L> {
     /// Whether the receipts of the passes, its own or any others, are the entries of its journal:
     /// Count where there are not as many; then Missing or Changed at the first entry that has no
-    /// receipt, or another, in the first pass of its number. It takes no memory, and as long as there
-    /// are entries.
+    /// receipt, or another, in the first pass of its number. It takes no memory, and as long as
+    /// there are entries.
     pub fn audit(&self, passes: &[Pass]) -> Result<(), AuditFault>
         ensures { Audits passes.now self.now.journal result }
     {

@@ -10,8 +10,8 @@ use crate::ready::Ready;
 use crate::receipt::Receipt;
 use cs_run::{Outcome, Turn};
 
-/// Adds the entry of a call in that turn, and its receipt, with what each keeps of it, and lets the call go.
-/// It takes no memory.
+/// Adds the entry of a call in that turn, and its receipt, with what each keeps of it, and lets the
+/// call go. It takes no memory.
 pub(crate) fn enter(
     journal: &mut Vec<Entry>,
     receipts: &mut Vec<Receipt>,
@@ -24,10 +24,17 @@ pub(crate) fn enter(
     requires pass { turn.pass < RUN_ATTACHES }
     requires entry_room { vec_len journal.old < vec_capacity journal.old }
     requires receipt_room { vec_len receipts.old < vec_capacity receipts.old }
-    ensures journal { journal.new.items ≡ journal.old.items ++ record { pass = turn.pass; moment = turn.moment; call = call_of entry; outcome = outcome } ∷ [] }
+    ensures journal { journal.new.items ≡ journal.old.items
+        ++ record {
+          pass = turn.pass;
+          moment = turn.moment;
+          call = call_of entry;
+          outcome = outcome;
+        } ∷ [] }
     ensures journal_len { vec_len journal.new ≡ vec_len journal.old + 1 }
     ensures journal_capacity { vec_capacity journal.new ≡ vec_capacity journal.old }
-    ensures receipts { receipts.new.items ≡ receipts.old.items ++ record { place = turn.place; asked = asked (call_of receipt); outcome = outcome } ∷ [] }
+    ensures receipts { receipts.new.items ≡ receipts.old.items
+        ++ record { place = turn.place; asked = asked (call_of receipt); outcome = outcome } ∷ [] }
     ensures receipts_len { vec_len receipts.new ≡ vec_len receipts.old + 1 }
     ensures receipts_capacity { vec_capacity receipts.new ≡ vec_capacity receipts.old }
 {

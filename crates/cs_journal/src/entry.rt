@@ -24,7 +24,12 @@ impl Model for Entry {
 
     ghost Value = { EntryOf };
 
-    ghost view = { λ e. record { pass = e.pass; moment = e.moment; call = call_of e.kept; outcome = e.outcome } };
+    ghost view = { λ e. record {
+      pass = e.pass;
+      moment = e.moment;
+      call = call_of e.kept;
+      outcome = e.outcome;
+    } };
 
     ghost invariant = { λ e. e.pass < RUN_ATTACHES };
 }

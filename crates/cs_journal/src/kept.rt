@@ -14,8 +14,9 @@ use cs_permit::{Call, CloseCall, ReadCall, RemoveCall, StatCall};
 use std::alloc::{AllocError, Global};
 use std::sync::Arc;
 
-/// A call as an entry or a receipt keeps it. One that takes memory is shared by both. A close and a remove
-/// lie in memory that was taken before, so that they can be reserved; a stat and a read of a file are small.
+/// A call as an entry or a receipt keeps it. One that takes memory is shared by both. A close and a
+/// remove lie in memory that was taken before, so that they can be reserved; a stat and a read of a
+/// file are small.
 // a variant's short fields come first: they lie beside its tag
 #[derive(Drop)]
 pub(crate) enum Kept {
@@ -50,8 +51,8 @@ impl Kept {
     ghost use Rattle.cs_journal.specs.Ready.{ready_call};
     ghost use Rattle.cs_journal.specs.Texts.{asked_in};
 
-    /// What an entry or a receipt keeps of a call with no memory of its own: a close's user, and a remove's,
-    /// on the last of the blank texts.
+    /// What an entry or a receipt keeps of a call with no memory of its own: a close's user, and a
+    /// remove's, on the last of the blank texts.
     pub(crate) fn small(call: &Call, blanks: &mut Vec<Box<UserText>>) -> Kept
         requires small { is_small call.now ≡ true }
         requires blank { 1 ≤ vec_len blanks.old }

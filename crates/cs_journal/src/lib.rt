@@ -1,5 +1,5 @@
-//! Runs with journals: a working copy of a tree that several users change together, and that keeps every
-//! call as an entry.
+//! Runs with journals: a working copy of a tree that several users change together, and that keeps
+//! every call as an entry.
 #![tactic(auto)]
 
 mod asked;
@@ -21,8 +21,9 @@ mod stepping;
 mod user_text;
 
 pub use auditing::AuditFault;
+pub use cs_permit::PassFault;
 pub use entry::Entry;
 pub use growing::can_grow;
 pub use pass::Pass;
 pub use receipt::Receipt;
-pub use run::{PassFault, Run};
+pub use run::Run;

@@ -40,8 +40,9 @@ fn tallies(counts: &Counts, journal: &[Entry], pass: &Pass) -> bool
 }
 
 impl<L: TreeRead + Drop> Run<L> {
-    /// Whether calls can be made under the pass: the run gave it, with as many entries and opens as it
-    /// has receipts and reserved places, and its last receipt is of its last entry. It takes no memory.
+    /// Whether calls can be made under the pass: the run gave it, with as many entries and opens as
+    /// it has receipts and reserved places, and its last receipt is of its last entry. It takes no
+    /// memory.
     pub fn fits(&self, pass: &Pass) -> bool
         ensures { IsTrue result ↔ Fits self.now pass.now }
     {

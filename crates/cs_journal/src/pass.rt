@@ -6,8 +6,8 @@ use crate::receipt::Receipt;
 use crate::user_text::UserText;
 use std::marker::Model;
 
-/// What one user of a run has: a number, a receipt of each of its entries, and a place for that of each
-/// open's close. Contracts see these three.
+/// What one user of a run has: a number, a receipt of each of its entries, and a place for that of
+/// each open's close. Contracts see these three.
 #[derive(Drop)]
 pub struct Pass {
     pub(crate) number: u32,
@@ -23,9 +23,14 @@ impl Model for Pass {
 
     ghost Value = { PassOf };
 
-    ghost view = { λ p. record { number = p.number; receipts = p.receipts.items; reserved = p.reserved } };
+    ghost view = { λ p. record {
+      number = p.number;
+      receipts = p.receipts.items;
+      reserved = p.reserved;
+    } };
 
-    ghost invariant = { λ p. (vec_len p.receipts + p.reserved ≤ vec_capacity p.receipts) × (p.reserved + p.reserved ≤ vec_len p.blanks) × IsAscending p.receipts.items };
+    ghost invariant = { λ p. (vec_len p.receipts + p.reserved ≤ vec_capacity p.receipts)
+        × (p.reserved + p.reserved ≤ vec_len p.blanks) × IsAscending p.receipts.items };
 }
 
 impl Pass {

@@ -18,8 +18,8 @@ pub(crate) enum Ready {
 }
 
 impl Ready {
-    /// Takes the memory that the call's entry and receipt need, and gives what they keep. A close, a
-    /// remove, a stat and a read that goes on at the start need none.
+    /// Takes the memory that the call's entry and receipt need, and gives what they keep. A close,
+    /// a remove, a stat and a read that goes on at the start need none.
     pub(crate) fn of(
         alloc: Global,
         call: Call,

@@ -25,7 +25,11 @@ impl Model for Receipt {
 
     ghost Value = { ReceiptOf };
 
-    ghost view = { λ r. record { place = r.place; asked = asked (call_of r.kept); outcome = r.outcome } };
+    ghost view = { λ r. record {
+      place = r.place;
+      asked = asked (call_of r.kept);
+      outcome = r.outcome;
+    } };
 }
 
 fn is_same_rule(rule: RuleId, other: RuleId) -> bool
@@ -63,15 +67,16 @@ impl Receipt {
         self.outcome
     }
 
-    /// Whether its call asked what this one asks, but for the bytes that they write. It takes no memory.
+    /// Whether its call asked what this one asks, but for the bytes that they write. It takes no
+    /// memory.
     pub fn asks(&self, call: &Call) -> bool
         ensures { IsTrue result ↔ (self.now.asked ≡ asked call.now) }
     {
         ask_the_same(self.kept.asked(), asked_by(call))
     }
 
-    /// Whether it is the receipt of the entry at that place: of what its call asks, and how it ended.
-    /// It takes no memory.
+    /// Whether it is the receipt of the entry at that place: of what its call asks, and how it
+    /// ended. It takes no memory.
     pub(crate) fn is_of(&self, place: u32, entry: &Entry) -> bool
         ensures { IsTrue result ↔ (self.now ≡ receipt_of place entry.now) }
     {

@@ -44,7 +44,8 @@ fn grant_again<T: TreeStore>(
     requires vers { (n : ℕ) → CanStamp (T.tree tree.old) n }
     requires next { (T.tree tree.old).next < 2 ^ 64 }
     requires above { AreBelow turn.place opens.old.items }
-    ensures { IfOk result (λ answer. left (T.tree tree.new) opens.new.items answer ≡ applied (state (T.tree tree.old) opens.old.items users.now) turn call.now Granted) }
+    ensures { IfOk result (λ answer. left (T.tree tree.new) opens.new.items answer
+        ≡ applied (state (T.tree tree.old) opens.old.items users.now) turn call.now Granted) }
 {
     match act(alloc, call, tree, opens, users, turn) {
         (Outcome::Granted, answer) => Ok(answer),
@@ -65,7 +66,8 @@ fn redo<T: TreeStore>(
     requires vers { (n : ℕ) → CanStamp (T.tree tree.old) n }
     requires next { (T.tree tree.old).next < 2 ^ 64 }
     requires above { AreBelow turn.place opens.old.items }
-    ensures { IfOk result (λ answer. left (T.tree tree.new) opens.new.items answer ≡ applied (state (T.tree tree.old) opens.old.items users.now) turn call.now outcome) }
+    ensures { IfOk result (λ answer. left (T.tree tree.new) opens.new.items answer
+        ≡ applied (state (T.tree tree.old) opens.old.items users.now) turn call.now outcome) }
 {
     match outcome {
         Outcome::Granted => grant_again(alloc, call, tree, opens, users, turn),
@@ -92,7 +94,8 @@ fn redo_entry<T: TreeStore>(
     requires vers { (n : ℕ) → CanStamp (T.tree tree.old) n }
     requires next { (T.tree tree.old).next < 2 ^ 64 }
     requires above { AreBelow place opens.old.items }
-    ensures { IfOk result (λ answer. left (T.tree tree.new) opens.new.items answer ≡ left_by (run_state (T.tree tree.old) opens.old.items users.now place) entry.now) }
+    ensures { IfOk result (λ answer. left (T.tree tree.new) opens.new.items answer
+        ≡ left_by (run_state (T.tree tree.old) opens.old.items users.now place) entry.now) }
 {
     let turn = Turn {
         moment: entry.moment,
@@ -113,7 +116,8 @@ fn answer_of<L: TreeRead + Drop>(
 ) -> Result<Option<Answer>, AllocError>
     requires grows { CanGrow (L.TreeRead.tree (arc_value lower.now)) }
     requires few { length journal.now ≤ JOURNAL_ENTRIES }
-    ensures { IfOk result (λ answer. answer ≡ answer_at (start (L.TreeRead.tree (arc_value lower.now)) users.now) journal.now place) }
+    ensures { IfOk result (λ answer. answer ≡ answer_at
+        (start (L.TreeRead.tree (arc_value lower.now)) users.now) journal.now place) }
 {
     if place >= journal.len() {
         return Ok(None);
@@ -129,9 +133,9 @@ fn answer_of<L: TreeRead + Drop>(
 }
 
 impl<L: TreeRead + Drop> Run<L> {
-    /// What the call of the entry at that place of its journal was answered; None past the end. The calls
-    /// up to that place are done once more, over the tree that the run began with, of which nothing is
-    /// copied.
+    /// What the call of the entry at that place of its journal was answered; None past the end. The
+    /// calls up to that place are done once more, over the tree that the run began with, of which
+    /// nothing is copied.
     pub fn answer_at(&self, alloc: Global, place: usize) -> Result<Option<Answer>, AllocError>
         ensures { IfOk result (λ answer. answer ≡ answer_in self.now place) }
     {

@@ -38,8 +38,8 @@ fn opens_one(call: &Call) -> bool
     }
 }
 
-/// How many entries a call takes that are not reserved: its own, and for an open or a create that of
-/// the close; none where it ends an open that stands.
+/// How many entries a call takes that are not reserved: its own, and for an open or a create that
+/// of the close; none where it ends an open that stands.
 pub(crate) fn charge_of(call: &Call, opens: &Opens, pass: u32) -> usize
     ensures value { result ≡ charge opens.now.items pass call.now }
     ensures few { result ≤ 2 }
@@ -64,8 +64,8 @@ fn fill(alloc: Global, blanks: &mut Vec<Box<UserText>>, count: usize) -> Result<
     Ok(())
 }
 
-/// Room for so many more. A list that has grown long gets room for a whole journal at once, if there is
-/// memory, so that it isn't copied again: what isn't used of it is no page of memory yet.
+/// Room for so many more. A list that has grown long gets room for a whole journal at once, if
+/// there is memory, so that it isn't copied again: what isn't used of it is no page of memory yet.
 fn widen<T>(list: &mut Vec<T>, more: usize) -> Result<(), AllocError>
     ensures items { (list.new.items ≡ list.old.items) × (vec_len list.new ≡ vec_len list.old) }
     ensures ok { OnOk result (vec_len list.new + more ≤ vec_capacity list.new) }
@@ -80,8 +80,8 @@ fn widen<T>(list: &mut Vec<T>, more: usize) -> Result<(), AllocError>
     list.reserve(more)
 }
 
-/// Takes the memory for so many entries and so many receipts more, and for what they keep of a call;
-/// None where it is refused. The lists stay.
+/// Takes the memory for so many entries and so many receipts more, and for what they keep of a
+/// call; None where it is refused. The lists stay.
 pub(crate) fn make_ready(
     alloc: Global,
     call: Call,
@@ -96,11 +96,18 @@ pub(crate) fn make_ready(
     ensures ready { IfSome result (λ made. ready_call made.0 ≡ call) }
     ensures entry { IfSome result (λ made. call_of made.1 ≡ call) }
     ensures receipt { IfSome result (λ made. call_of made.2 ≡ call) }
-    ensures refused { IsNone result → (is_small call ≡ false) ⊎ ((vec_capacity journal.old + 1 ≤ vec_len journal.old + entries) ⊎ ((vec_capacity receipts.old + 1 ≤ vec_len receipts.old + more) ⊎ (vec_len blanks.old < more + more))) }
-    ensures journal { (journal.new.items ≡ journal.old.items) × (vec_len journal.new ≡ vec_len journal.old) }
-    ensures journal_room { (vec_capacity journal.old ≤ vec_capacity journal.new) × (IsSome result → vec_len journal.new + entries ≤ vec_capacity journal.new) }
-    ensures receipts { (receipts.new.items ≡ receipts.old.items) × (vec_len receipts.new ≡ vec_len receipts.old) }
-    ensures receipts_room { (vec_capacity receipts.old ≤ vec_capacity receipts.new) × (IsSome result → vec_len receipts.new + more ≤ vec_capacity receipts.new) }
+    ensures refused { IsNone result → (is_small call ≡ false)
+        ⊎ ((vec_capacity journal.old + 1 ≤ vec_len journal.old + entries)
+        ⊎ ((vec_capacity receipts.old + 1 ≤ vec_len receipts.old + more)
+        ⊎ (vec_len blanks.old < more + more))) }
+    ensures journal { (journal.new.items ≡ journal.old.items)
+        × (vec_len journal.new ≡ vec_len journal.old) }
+    ensures journal_room { (vec_capacity journal.old ≤ vec_capacity journal.new)
+        × (IsSome result → vec_len journal.new + entries ≤ vec_capacity journal.new) }
+    ensures receipts { (receipts.new.items ≡ receipts.old.items)
+        × (vec_len receipts.new ≡ vec_len receipts.old) }
+    ensures receipts_room { (vec_capacity receipts.old ≤ vec_capacity receipts.new)
+        × (IsSome result → vec_len receipts.new + more ≤ vec_capacity receipts.new) }
     ensures blanks { IsNone result → vec_len blanks.old ≤ vec_len blanks.new }
     ensures blanks_left { IsSome result → more + more ≤ vec_len blanks.new + 2 }
 {

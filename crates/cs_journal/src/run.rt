@@ -4,13 +4,14 @@ ghost use Rattle.std.specs.Arc.{arc_value};
 ghost use Rattle.cs_names.specs.declared.limits.TheConstants.{RUN_ATTACHES};
 ghost use Rattle.cs_journal.specs.Bounds.{CanGrow};
 ghost use Rattle.cs_journal.specs.Journals.{IsLegal};
-ghost use Rattle.cs_journal.specs.Runs.{Fits, PassOf, first_state, fresh_pass, fresh_run};
+ghost use Rattle.cs_journal.specs.Runs.{Fits, PassOf, first_state, fresh_pass, fresh_run, with_pass};
 
 use crate::counts::Counts;
 use crate::entry::Entry;
 use crate::pass::Pass;
 use cs_names::limits::RUN_ATTACHES;
 use cs_overlay::Overlay;
+use cs_permit::PassFault;
 use cs_run::opens::Opens;
 use cs_tree_model::TreeRead;
 use cs_users::Users;
@@ -18,9 +19,9 @@ use std::alloc::{AllocError, Global};
 use std::marker::Model;
 use std::sync::Arc;
 
-/// A working copy of a tree, which its users change together by calls under passes, each in its turn.
-/// The tree that it began with is shared and never changes. Contracts see what it began with, its
-/// journal, and how many passes it gave; its state is what replaying the journal gives.
+/// A working copy of a tree, which its users change together by calls under passes, each in its
+/// turn. The tree that it began with is shared and never changes. Contracts see what it began with,
+/// its journal, and how many passes it gave; its state is what replaying the journal gives.
 #[derive(Drop)]
 pub struct Run<L: TreeRead + Drop> {
     pub(crate) lower: Arc<L>,
@@ -41,24 +42,24 @@ impl<L: TreeRead + Drop> Model for Run<L> {
 
     ghost coded = { run_code };
 
-    ghost view = { λ r. record { fresh = L.TreeRead.tree (arc_value r.lower); users = arc_value r.users; journal = r.journal.items; passes = length r.passes.items } };
+    ghost view = { λ r. record {
+      fresh = L.TreeRead.tree (arc_value r.lower);
+      users = arc_value r.users;
+      journal = r.journal.items;
+      passes = length r.passes.items;
+    } };
 
-    ghost invariant = { λ r. IsHeld (L.TreeRead.tree (arc_value r.lower)) r.tree (arc_value r.users) r.opens.items r.journal.items r.passes.items × (vec_len r.journal + length r.opens.items ≤ vec_capacity r.journal) };
-}
-
-/// Why a run gives no pass.
-#[derive(Clone, Copy, Debug, PartialEq, Eq, Drop)]
-pub enum PassFault {
-    /// It gave as many as it gives in its life.
-    Room,
-    Memory,
+    ghost invariant = { λ r. IsHeld (L.TreeRead.tree (arc_value r.lower)) r.tree
+        (arc_value r.users) r.opens.items r.journal.items r.passes.items
+        × (vec_len r.journal + length r.opens.items ≤ vec_capacity r.journal) };
 }
 
 impl<L: TreeRead + Drop> Run<L> {
     /// A run over this tree, with no open and no entry. It copies nothing of the tree.
     pub fn fresh(alloc: Global, lower: Arc<L>, users: Arc<Users>) -> Result<Run<L>, AllocError>
         requires grows { CanGrow (L.TreeRead.tree (arc_value lower)) }
-        ensures { IfOk result (λ run. run ≡ fresh_run (L.TreeRead.tree (arc_value lower)) (arc_value users)) }
+        ensures { IfOk result (λ run. run ≡ fresh_run (L.TreeRead.tree (arc_value lower))
+            (arc_value users)) }
     {
         let tree = Overlay::over(alloc, lower.clone()?);
         Ok(Run {
@@ -82,10 +83,11 @@ impl<L: TreeRead + Drop> Run<L> {
     /// Gives a pass, under which calls can be made: Room where it gave RUN_ATTACHES already.
     pub fn new_pass(&mut self, alloc: Global) -> Result<Pass, PassFault>
         ensures pass { IfOk result (λ pass. pass ≡ fresh_pass self.old.passes) }
-        ensures run { OnOk result (self.new ≡ record self.old { passes = self.old.passes + 1 }) }
+        ensures run { OnOk result (self.new ≡ with_pass self.old) }
         ensures fits { IfOk result (λ pass. Fits self.new pass) }
         ensures others { (q : PassOf) → Fits self.old q → Fits self.new q }
         ensures room { (result ≡ Err PassFault.Room) ↔ (RUN_ATTACHES ≤ self.old.passes) }
+        ensures own { result ≢ Err PassFault.Foreign }
         ensures unchanged { OnErr result (self.new ≡ self.old) }
     {
         let number = self.passes.len();

@@ -20,18 +20,22 @@ use cs_tree_model::TreeRead;
 use std::alloc::Global;
 
 impl<L: TreeRead + Drop> Run<L> {
-    /// Makes a call under a pass at that moment: L1 where the journal has no room for its entry and, of
-    /// an open or a create, for that of the close; want of memory where a growth for entry and receipt is
-    /// refused. Then nothing changes. Else the journal has one entry more, with the outcome by the run's
-    /// rules and the memory that a grant takes, and the pass has its receipt.
+    /// Makes a call under a pass at that moment: L1 where the journal has no room for its entry
+    /// and, of an open or a create, for that of the close; want of memory where a growth for entry
+    /// and receipt is refused. Then nothing changes. Else the journal has one entry more, with the
+    /// outcome by the run's rules and the memory that a grant takes, and the pass has its receipt.
     #[tactic(auto, unfolding(crate::specs::Steps::step))]
     pub fn step(&mut self, alloc: Global, pass: &mut Pass, now: u32, call: Call) -> Answer
         requires fits { Fits self.old pass.old }
-        ensures stepped { (mark : StepMark) × (record { answer = result; run = self.new; pass = pass.new } ≡ step self.old pass.old now call mark) }
+        ensures stepped { (mark : StepMark)
+            × (record { answer = result; run = self.new; pass = pass.new }
+            ≡ step self.old pass.old now call mark) }
         ensures legal { IsLegal (first_state self.new) self.new.journal }
         ensures fits { Fits self.new pass.new }
-        ensures others { (q : PassOf) → q.number ≢ pass.old.number → Fits self.old q → Fits self.new q }
-        ensures plain { closes_plainly (state_of self.old) pass.old.number call ≡ true → result ≡ Answer.Closed }
+        ensures others { (q : PassOf) → q.number ≢ pass.old.number
+            → Fits self.old q → Fits self.new q }
+        ensures plain { closes_plainly (state_of self.old) pass.old.number call ≡ true
+            → result ≡ Answer.Closed }
         ensures answer { FitsCall call result }
     {
         let charge = charge_of(&call, &self.opens, pass.number);

@@ -6,8 +6,6 @@ mod lines;
 mod listing;
 mod paths;
 mod printed;
-#[cfg(test)]
-mod tests;
 
 pub use lines::lines_of;
 pub use listing::{ListOptions, list_with};

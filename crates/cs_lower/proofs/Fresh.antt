@@ -12,7 +12,7 @@ use Rattle.cs_tree_model.specs.Fresh.{fresh, fresh_record, place_in}
 use Rattle.cs_tree_model.specs.Tree.{NameBytes, Path, path_cmp, Tree, IsTree, record_at}
 use Rattle.cs_tree_model.specs.Laws.Fresh.{record_at-fresh}
 use Rattle.cs_tree_model.specs.Laws.FreshReads.{next-fresh}
-use Rattle.cs_tree_model.specs.Laws.Numbers.{both_first}
+use Rattle.cs_tree_model.specs.Maps.Orders.{both_first}
 use Rattle.cs_lower.proofs.Places.{Entry, found_nth, below_at, rises, within}
 
 -- the longer path comes after

@@ -9,8 +9,9 @@ use Rattle.cs_tree_model.specs.declared.record.Record.{Record}
 use Rattle.cs_tree_model.specs.Fresh.{place_in}
 use Rattle.cs_tree_model.specs.Tree.{Path, path_cmp}
 use Rattle.cs_tree_model.specs.Laws.Moves.{found_itself, found_more}
-use Rattle.cs_tree_model.specs.Laws.Numbers.{above, both_first, both_second}
+use Rattle.cs_tree_model.specs.Laws.Numbers.{above}
 use Rattle.cs_tree_model.specs.Laws.Paths.{path_cases}
+use Rattle.cs_tree_model.specs.Maps.Orders.{both_first, both_second}
 use Rattle.cs_lower.specs.Numbers.{entry_number}
 
 -- a record with its path

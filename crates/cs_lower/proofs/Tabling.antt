@@ -17,6 +17,7 @@ use Rattle.std.specs.declared.cmp.Ordering.TheVariants.{Less}
 use Rattle.cs_tree_model.specs.declared.record.Record.{Record}
 use Rattle.cs_tree_model.specs.Tree.{Path, path_cmp, Tree, IsTree, number_at}
 use Rattle.cs_tree_model.specs.Laws.Paths.{path_total, path_exact}
+use Rattle.cs_tree_model.specs.Maps.Orders.{both_true}
 use Rattle.cs_lower.specs.Numbers.{entry_number, numbers_of, ArePlaces}
 use Rattle.cs_lower.proofs.Places.{Entry, nth_found, nth_numbers, rises}
 
@@ -41,18 +42,14 @@ sorted_numbered : (es : List Entry) → is_sorted path_cmp (numbered es) ≡ is_
 sorted_numbered [] = refl
 sorted_numbered (e ∷ es) = λ i. below_numbered e.0 es i && sorted_numbered es i
 
-both_and : (a b : Bool) → T a → T b → T (a && b)
-both_and true b x y = y
-both_and false b x y = x
-
 -- keys that strictly rise
 below_from : (p : Path) (es : List (Path × ℕ)) → AllByRecursion (λ y. path_cmp p y ≡ Less) (keys_of es) → T (below_all path_cmp p es)
 below_from p [] h = tt
-below_from p (e ∷ es) h = both_and _ _ (subst (λ o. T (is_lt o)) (sym h.0) tt) (below_from p es h.1)
+below_from p (e ∷ es) h = both_true _ _ (subst (λ o. T (is_lt o)) (sym h.0) tt) (below_from p es h.1)
 
 sorted_from : (es : List (Path × ℕ)) → IsStrictlySortedBy path_cmp (keys_of es) → T (is_sorted path_cmp es)
 sorted_from [] h = tt
-sorted_from (e ∷ es) h = both_and _ _ (below_from e.0 es (sorted_head path_cmp e.0 (keys_of es) h)) (sorted_from es (sorted_tail path_cmp e.0 (keys_of es) h))
+sorted_from (e ∷ es) h = both_true _ _ (below_from e.0 es (sorted_head path_cmp e.0 (keys_of es) h)) (sorted_from es (sorted_tail path_cmp e.0 (keys_of es) h))
 
 find_lookup : (es : List (Path × ℕ)) (q : Path) → find path_cmp q es ≡ lookup (is_at (path_cmp q)) es
 find_lookup [] q = refl

@@ -4,8 +4,8 @@ ghost use Rattle.std.specs.List.{flat_map};
 ghost use Rattle.cs_micro.specs.Blocks.{block_write, block_writes, bytes_in, touched_blocks};
 
 use crate::micro_op::MicroOp;
+use cs_names::Bytes;
 use cs_names::limits::FILE_BYTES;
-use cs_trace::Bytes;
 use std::alloc::{AllocError, Global};
 
 /// Bytes of a block of a file.
@@ -32,7 +32,7 @@ fn write_block(
         file,
         block,
         at: from - start,
-        bytes: Bytes::of(Vec::from_slice(alloc, piece)?),
+        bytes: Bytes::keep(alloc, piece)?,
     })
 }
 

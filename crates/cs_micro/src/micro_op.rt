@@ -3,8 +3,8 @@ ghost use Rattle.std.specs.Prelude.{◌≡◌, Some};
 ghost use Rattle.cs_micro.specs.Texts.{kind_text, op_text};
 
 use crate::attributes::{RightsText, TargetText};
-use cs_names::Path;
-use cs_trace::{Bytes, Node, Rights, Target};
+use cs_names::{Bytes, Path};
+use cs_trace::{Node, Rights, Target};
 use std::fmt;
 
 /// What an entry that is deleted was the entry of.

@@ -2,8 +2,8 @@
 use Rattle.std.proofs.Common.{◌≡◌, ◌≢◌, ℕ, zero, suc, ◌+◌, ◌-◌, ◌<◌, ◌==◌, ◌||◌, Bool, true, false, cond, List, [], ◌∷◌, ◌++◌, length, map, take, drop, get_or, lit<, nat_cmp, refl, sym, ap, ◌∙◌, subst, arith, length-append, append_assoc}
 use Rattle.std.proofs.Math.ListN.{set}
 use Rattle.std.proofs.Math.Seq.{take-append_seam}
-use Rattle.std.proofs.lemmas.Bool.{false≢true, eqb-true, eq-eqb}
-use Rattle.std.proofs.lemmas.List.{append-nil, drop_all, take_all}
+use Rattle.std.proofs.lemmas.Bool.{false≢true, eqb-false, eqb-true, eq-eqb, ne_eqb, or_parts}
+use Rattle.std.proofs.lemmas.List.{append-nil, drop_all, nil_from_length, take_all}
 use Rattle.std.proofs.lemmas.Slice.Eq.{bytes_eq-Decides, starts_is}
 use Rattle.std.specs.Cmp.{tied_itself, nat_cmp_total}
 use Rattle.std.specs.Cmp.Lexicographic.{pointwise, slice_cmp, texts_ties}
@@ -14,6 +14,7 @@ use Rattle.std.specs.declared.cmp.Ordering.{Ordering}
 use Rattle.std.specs.declared.cmp.Ordering.TheVariants.{Less, Equal, Greater}
 use Rattle.std.proofs.lemmas.Str.{IsUtf8-append, IsUtf8-from_ascii, IsUtf8-nil}
 use Rattle.std.specs.Str.{IsUtf8}
+use Rattle.cs_names.proofs.Cutting.{pieces-append, pieces-some}
 use Rattle.cs_names.proofs.Naming.{flat_map-parted, flat_map-pieces}
 use Rattle.cs_names.specs.Legal.{IsLegalName, name_in}
 use Rattle.cs_names.specs.Joined.{AreLegalNames, begins_name, parted, path_at}
@@ -28,39 +29,6 @@ Path = List (List ℕ)
 
 -- ---- pieces
 
--- there is a first piece
-record HasFirst (cut : List (List ℕ)) : Type 0 where
-  first : List ℕ
-  others : List (List ℕ)
-  is : cut ≡ first ∷ others
-
-put_first-some : (b : ℕ) (cut : List (List ℕ)) → HasFirst (put_first b cut)
-put_first-some b [] = record { first = b ∷ []; others = []; is = refl }
-put_first-some b (p ∷ ps) = record { first = b ∷ p; others = ps; is = refl }
-
-some_by : (t : Bool) (b : ℕ) (bs : List ℕ) → HasFirst (if t then [] ∷ pieces 0 bs else put_first b (pieces 0 bs))
-some_by true b bs = record { first = []; others = pieces 0 bs; is = refl }
-some_by false b bs = put_first-some b (pieces 0 bs)
-
-pieces-some : (bs : List ℕ) → HasFirst (pieces 0 bs)
-pieces-some [] = record { first = []; others = []; is = refl }
-pieces-some (b ∷ bs) = some_by (b == 0) b bs
-
-append_by : (t : Bool) (x : ℕ) (a b : List ℕ) → pieces 0 (a ++ 0 ∷ b) ≡ pieces 0 a ++ pieces 0 b
-    → (if t then [] ∷ pieces 0 (a ++ 0 ∷ b) else put_first x (pieces 0 (a ++ 0 ∷ b))) ≡ (if t then [] ∷ pieces 0 a else put_first x (pieces 0 a)) ++ pieces 0 b
-append_by true x a b rest = ap (λ (cut : List (List ℕ)). [] ∷ cut) rest
-append_by false x a b rest =
-    let some = pieces-some a in
-    ap (put_first x) rest ∙ ap (λ cut. put_first x (cut ++ pieces 0 b)) some.is ∙ sym (ap (λ cut. put_first x cut ++ pieces 0 b) some.is)
-
--- cut at a NUL
-pieces-append : (a b : List ℕ) → pieces 0 (a ++ 0 ∷ b) ≡ pieces 0 a ++ pieces 0 b
-pieces-append [] b = refl
-pieces-append (x ∷ a) b = append_by (x == 0) x a b (pieces-append a b)
-
-nonzero : (n : ℕ) → n ≢ 0 → (n == 0) ≡ false
-nonzero n some = grind arith
-
 -- no NUL in it
 abbrev pub HasNoNul : List ℕ → Type 0
 HasNoNul [] = Unit {0}
@@ -70,31 +38,20 @@ pub no_nul : (bs : List ℕ) → ((i : ℕ) → i < length bs → get_or bs i 0 
 no_nul [] none = tt
 no_nul (b ∷ bs) none = (none 0 (omega arith), no_nul bs (λ i low. none (suc i) (omega (arith, low))))
 
-not_by : (t : Bool) (b : ℕ) → (b == 0) ≡ t → b ≢ 0 → t ≡ false
-not_by true b is some = absurd (some (eqb-true b 0 is))
-not_by false b is some = refl
-
 pieces-name : (bs : List ℕ) → HasNoNul bs → pieces 0 bs ≡ bs ∷ []
 pieces-name [] none = refl
-pieces-name (b ∷ bs) none = rw (not_by (b == 0) b refl none.0) (ap (put_first b) (pieces-name bs none.1))
-
-or_false : (a b : Bool) → a || b ≡ false → (a ≡ false) × (b ≡ false)
-or_false true b is = absurd (false≢true (sym is))
-or_false false b is = (refl, is)
+pieces-name (b ∷ bs) none = rw (ne_eqb b 0 none.0) (ap (put_first b) (pieces-name bs none.1))
 
 allowed_by : (bs : List ℕ) → list_any (λ c. c == 47 || c == 0) bs ≡ false → HasNoNul bs
 allowed_by [] is = tt
 allowed_by (b ∷ bs) is =
-    let both = or_false (b == 47 || b == 0) (list_any (λ c. c == 47 || c == 0) bs) is in
-    (λ none. false≢true (sym (or_false (b == 47) (b == 0) both.0).1 ∙ eq-eqb b 0 none), allowed_by bs both.1)
+    let both = or_parts (b == 47 || b == 0) (list_any (λ c. c == 47 || c == 0) bs) is in
+    (λ none. false≢true (sym (or_parts (b == 47) (b == 0) both.0).1 ∙ eq-eqb b 0 none), allowed_by bs both.1)
 
 pub legal_no_nul : (bs : List ℕ) → IsLegalName bs → HasNoNul bs
-legal_no_nul bs legal = allowed_by bs (or_false _ _ (or_false _ _ legal.allowed).0).0
+legal_no_nul bs legal = allowed_by bs (or_parts _ _ (or_parts _ _ legal.allowed).0).0
 
 -- ---- one name more
-
-path_at-some : (b : ℕ) (bs : List ℕ) → path_at (b ∷ bs) ≡ pieces 0 (b ∷ bs)
-path_at-some b bs = refl
 
 pub path_at-name : (bs : List ℕ) → IsLegalName bs → path_at bs ≡ bs ∷ []
 path_at-name [] legal = absurd (let some = legal.some in omega arith)
@@ -102,7 +59,7 @@ path_at-name (b ∷ bs) legal = pieces-name (b ∷ bs) (legal_no_nul (b ∷ bs) 
 
 pub path_at-push : (bs name : List ℕ) → length bs ≢ 0 → IsLegalName name → path_at ((bs ++ 0 ∷ []) ++ name) ≡ path_at bs ++ name ∷ []
 path_at-push [] name some legal = absurd (some refl)
-path_at-push (b ∷ bs) name some legal = ap path_at (append_assoc (b ∷ bs) (0 ∷ []) name) ∙ pieces-append (b ∷ bs) name ∙ ap (λ cut. pieces 0 (b ∷ bs) ++ cut) (pieces-name name (legal_no_nul name legal))
+path_at-push (b ∷ bs) name some legal = ap path_at (append_assoc (b ∷ bs) (0 ∷ []) name) ∙ pieces-append 0 (b ∷ bs) name ∙ ap (λ cut. pieces 0 (b ∷ bs) ++ cut) (pieces-name name (legal_no_nul name legal))
 
 -- ---- legal names
 
@@ -127,15 +84,15 @@ parent-snoc q x =
 -- cut at the last NUL
 pub path_at-cut : (above last : List ℕ) → AreLegalNames (path_at (above ++ 0 ∷ last)) → HasNoNul last → path_at (above ++ 0 ∷ last) ≡ path_at above ++ last ∷ []
 path_at-cut [] last all none = absurd (nothing_legal all.0)
-path_at-cut (b ∷ above) last all none = pieces-append (b ∷ above) last ∙ ap (λ cut. pieces 0 (b ∷ above) ++ cut) (pieces-name last none)
+path_at-cut (b ∷ above) last all none = pieces-append 0 (b ∷ above) last ∙ ap (λ cut. pieces 0 (b ∷ above) ++ cut) (pieces-name last none)
 
 -- cut at the first one
 pub path_at-first : (first rest : List ℕ) → AreLegalNames (path_at (first ++ 0 ∷ rest)) → HasNoNul first → path_at (first ++ 0 ∷ rest) ≡ first ∷ path_at rest
 path_at-first [] rest all none = absurd (nothing_legal all.0)
 path_at-first (b ∷ first) [] all none =
-    let both : path_at ((b ∷ first) ++ 0 ∷ []) ≡ (b ∷ first) ∷ [] ∷ [] = pieces-append (b ∷ first) [] ∙ ap (λ cut. cut ++ [] ∷ []) (pieces-name (b ∷ first) none) in
+    let both : path_at ((b ∷ first) ++ 0 ∷ []) ≡ (b ∷ first) ∷ [] ∷ [] = pieces-append 0 (b ∷ first) [] ∙ ap (λ cut. cut ++ [] ∷ []) (pieces-name (b ∷ first) none) in
     absurd (nothing_legal (subst AreLegalNames both all).1.0)
-path_at-first (b ∷ first) (r ∷ rest) all none = pieces-append (b ∷ first) (r ∷ rest) ∙ ap (λ cut. cut ++ pieces 0 (r ∷ rest)) (pieces-name (b ∷ first) none)
+path_at-first (b ∷ first) (r ∷ rest) all none = pieces-append 0 (b ∷ first) (r ∷ rest) ∙ ap (λ cut. cut ++ pieces 0 (r ∷ rest)) (pieces-name (b ∷ first) none)
 
 -- with no NUL it is one name
 pub path_at-whole : (bs : List ℕ) → length bs ≢ 0 → HasNoNul bs → path_at bs ≡ bs ∷ []
@@ -149,26 +106,12 @@ split-cut text above last is none all = ap path_at is ∙ path_at-cut above last
 pub split-first : (text first rest : List ℕ) → text ≡ first ++ 0 ∷ rest → HasNoNul first → AreLegalNames (path_at text) → path_at text ≡ first ∷ path_at rest
 split-first text first rest is none all = ap path_at is ∙ path_at-first first rest (subst (λ bs. AreLegalNames (path_at bs)) is all) none
 
-pub some_bytes : (n : ℕ) → (n == 0) ≡ false → n ≢ 0
-some_bytes n is none = false≢true (sym is ∙ eq-eqb n 0 none)
-
 pub parent_of-snoc : (p q : Path) (x : List ℕ) → p ≡ q ++ x ∷ [] → q ≡ parent_path p
 parent_of-snoc p q x is = sym (ap parent_path is ∙ parent-snoc q x)
 
 pub path_at-pieces : (bs : List ℕ) → length bs ≢ 0 → pieces 0 bs ≡ path_at bs
 path_at-pieces [] some = absurd (some refl)
 path_at-pieces (b ∷ bs) some = refl
-
-pub path_at-none : (bs : List ℕ) → length bs ≡ 0 → path_at bs ≡ []
-path_at-none [] is = refl
-path_at-none (b ∷ bs) is = absurd (omega arith)
-
--- a path has names where its text has bytes
-pub empty_at : (bs : List ℕ) → (length bs == 0) ≡ (length (path_at bs) == 0)
-empty_at [] = refl
-empty_at (b ∷ bs) =
-    let some = pieces-some (b ∷ bs) in
-    nonzero (length (b ∷ bs)) (omega arith) ∙ sym (ap (λ cut. length cut == 0) some.is ∙ nonzero (length (some.first ∷ some.others)) (omega arith))
 
 -- ---- the order
 
@@ -191,30 +134,27 @@ zero_less y some = grind arith
 greater_zero : (x : ℕ) → x ≢ 0 → nat_cmp x 0 ≡ Greater
 greater_zero x some = grind arith
 
-is_not : (b : ℕ) → (b == 0) ≡ false → b ≢ 0
-is_not b is none = false≢true (sym is ∙ eq-eqb b 0 none)
-
 cmp_by : (s t : Bool) (x y : ℕ) (a b : List ℕ) → (x == 0) ≡ s → (y == 0) ≡ t → path_cmp (pieces 0 a) (pieces 0 b) ≡ slice_cmp nat_cmp a b
     → path_cmp (if s then [] ∷ pieces 0 a else put_first x (pieces 0 a)) (if t then [] ∷ pieces 0 b else put_first y (pieces 0 b)) ≡ ordering_then (nat_cmp x y) (slice_cmp nat_cmp a b)
 cmp_by true true x y a b p q rest =
     rest ∙ sym (ap (λ o. ordering_then o (slice_cmp nat_cmp a b)) ((λ i. nat_cmp (eqb-true x 0 p i) (eqb-true y 0 q i)) ∙ tied_itself nat_cmp_total 0))
 cmp_by true false x y a b p q rest =
-    less_front y (pieces 0 a) (pieces 0 b) ∙ sym (ap (λ o. ordering_then o (slice_cmp nat_cmp a b)) (ap (λ n. nat_cmp n y) (eqb-true x 0 p) ∙ zero_less y (is_not y q)))
+    less_front y (pieces 0 a) (pieces 0 b) ∙ sym (ap (λ o. ordering_then o (slice_cmp nat_cmp a b)) (ap (λ n. nat_cmp n y) (eqb-true x 0 p) ∙ zero_less y (eqb-false y 0 q)))
 cmp_by false true x y a b p q rest =
-    greater_front x (pieces 0 b) (pieces 0 a) ∙ sym (ap (λ o. ordering_then o (slice_cmp nat_cmp a b)) (ap (nat_cmp x) (eqb-true y 0 q) ∙ greater_zero x (is_not x p)))
+    greater_front x (pieces 0 b) (pieces 0 a) ∙ sym (ap (λ o. ordering_then o (slice_cmp nat_cmp a b)) (ap (nat_cmp x) (eqb-true y 0 q) ∙ greater_zero x (eqb-false x 0 p)))
 cmp_by false false x y a b p q rest =
-    let one = pieces-some a in
-    let two = pieces-some b in
+    let one = pieces-some 0 a in
+    let two = pieces-some 0 b in
     (λ i. path_cmp (put_first x (one.is i)) (put_first y (two.is i)))
     ∙ then_then (nat_cmp x y) (slice_cmp nat_cmp one.first two.first) (path_cmp one.others two.others)
     ∙ ap (ordering_then (nat_cmp x y)) (sym (λ i. path_cmp (one.is i) (two.is i)) ∙ rest)
 
 first_cmp : (t : Bool) (y : ℕ) (b : List ℕ) → path_cmp ([] ∷ []) (if t then [] ∷ pieces 0 b else put_first y (pieces 0 b)) ≡ Less
-first_cmp true y b = let two = pieces-some b in ap (path_cmp []) two.is
+first_cmp true y b = let two = pieces-some 0 b in ap (path_cmp []) two.is
 first_cmp false y b = less_front y [] (pieces 0 b)
 
 last_cmp : (t : Bool) (x : ℕ) (a : List ℕ) → path_cmp (if t then [] ∷ pieces 0 a else put_first x (pieces 0 a)) ([] ∷ []) ≡ Greater
-last_cmp true x a = let one = pieces-some a in ap (λ cut. path_cmp cut []) one.is
+last_cmp true x a = let one = pieces-some 0 a in ap (λ cut. path_cmp cut []) one.is
 last_cmp false x a = greater_front x [] (pieces 0 a)
 
 pieces_cmp : (a b : List ℕ) → path_cmp (pieces 0 a) (pieces 0 b) ≡ slice_cmp nat_cmp a b
@@ -226,8 +166,8 @@ pieces_cmp (x ∷ a) (y ∷ b) = cmp_by (x == 0) (y == 0) x y a b refl refl (pie
 -- texts come as their paths do
 pub cmp_at : (a b : List ℕ) → slice_cmp nat_cmp a b ≡ path_cmp (path_at a) (path_at b)
 cmp_at [] [] = refl
-cmp_at [] (y ∷ b) = let two = pieces-some (y ∷ b) in sym (ap (path_cmp []) two.is)
-cmp_at (x ∷ a) [] = let one = pieces-some (x ∷ a) in sym (ap (λ cut. path_cmp cut []) one.is)
+cmp_at [] (y ∷ b) = let two = pieces-some 0 (y ∷ b) in sym (ap (path_cmp []) two.is)
+cmp_at (x ∷ a) [] = let one = pieces-some 0 (x ∷ a) in sym (ap (λ cut. path_cmp cut []) one.is)
 cmp_at (x ∷ a) (y ∷ b) = sym (pieces_cmp (x ∷ a) (y ∷ b))
 
 pub eq_at : (a b : List ℕ) → pointwise nat_eq a b ≡ path_eq (path_at a) (path_at b)
@@ -271,9 +211,9 @@ within_by true y r b rest some is =
 
 next_by : (t : Bool) (y r : ℕ) (b rest : List ℕ) → (r == 0) ≡ t → t ≡ starts_with same_bytes (path_at ((y ∷ b) ++ r ∷ rest)) (path_at (y ∷ b))
 next_by true y r b rest is =
-    let cut : pieces 0 ((y ∷ b) ++ r ∷ rest) ≡ pieces 0 (y ∷ b) ++ pieces 0 rest = ap (λ n. pieces 0 ((y ∷ b) ++ n ∷ rest)) (eqb-true r 0 is) ∙ pieces-append (y ∷ b) rest in
+    let cut : pieces 0 ((y ∷ b) ++ r ∷ rest) ≡ pieces 0 (y ∷ b) ++ pieces 0 rest = ap (λ n. pieces 0 ((y ∷ b) ++ n ∷ rest)) (eqb-true r 0 is) ∙ pieces-append 0 (y ∷ b) rest in
     sym (ap (λ p. starts_with same_bytes p (pieces 0 (y ∷ b))) cut ∙ starts (pieces 0 (y ∷ b)) (pieces 0 rest))
-next_by false y r b rest is = within_by _ y r b rest (is_not r is) refl
+next_by false y r b rest is = within_by _ y r b rest (eqb-false r 0 is) refl
 
 -- what begins with a text begins with its path where another name follows
 pub begins_rest : (start rest : List ℕ) → begins_name start rest ≡ starts_with same_bytes (path_at (start ++ rest)) (path_at start)
@@ -282,10 +222,10 @@ begins_rest [] (r ∷ rest) = sym (starts [] (path_at (r ∷ rest)))
 begins_rest (y ∷ b) [] =
     let p = path_at (y ∷ b) in
     sym (ap (λ bs. starts_with same_bytes (path_at bs) p) (append-nil (y ∷ b)) ∙ ap (λ q. starts_with same_bytes q p) (sym (append-nil p)) ∙ starts p [])
-begins_rest (y ∷ b) (r ∷ rest) = ap (λ t. t || (r == 0)) (nonzero (length (y ∷ b)) (omega arith)) ∙ next_by (r == 0) y r b rest refl
+begins_rest (y ∷ b) (r ∷ rest) = ap (λ t. t || (r == 0)) (ne_eqb (length (y ∷ b)) 0 (omega arith)) ∙ next_by (r == 0) y r b rest refl
 
 not_empty : (b : ℕ) (bs : List ℕ) (s : Path) → [] ≡ pieces 0 (b ∷ bs) ++ s → ⊥
-not_empty b bs s is = let some = pieces-some (b ∷ bs) in let no : [] ≡ some.first ∷ (some.others ++ s) = is ∙ ap (λ cut. cut ++ s) some.is in cc
+not_empty b bs s is = let some = pieces-some 0 (b ∷ bs) in let no : [] ≡ some.first ∷ (some.others ++ s) = is ∙ ap (λ cut. cut ++ s) some.is in cc
 
 begun_by : (t : Bool) (a b : List ℕ) → ((rest : List ℕ) → a ≢ b ++ rest) → starts_with same_bytes (path_at a) (path_at b) ≡ t → false ≡ t
 begun_by false a b none is = refl
@@ -308,13 +248,9 @@ pub pushed_by : {A E : Type 0} (r : Result A E) (old x new : List ℕ) (P : List
 pushed_by (Ok u) old x new P is holds = subst P (sym is) holds
 pushed_by (Err e) old x new P is holds = tt
 
-no_bytes : (bs : List ℕ) → length bs ≡ 0 → bs ≡ []
-no_bytes [] is = refl
-no_bytes (b ∷ bs) is = absurd (omega arith)
-
 pub first_name : (old name : List ℕ) → length old ≡ 0 → IsLegalName name → path_at (old ++ name) ≡ path_at old ++ name ∷ []
 first_name old name none legal =
-    let empty = no_bytes old none in
+    let empty = nil_from_length old none in
     ap (λ bs. path_at (bs ++ name)) empty ∙ path_at-name name legal ∙ sym (ap (λ bs. path_at bs ++ name ∷ []) empty)
 
 -- ---- names that are read
@@ -336,7 +272,7 @@ named_first (b ∷ x) more legal = λ none. (let some : 0 < length ((b ∷ x) ++
 
 path_at-append : (x rest : List ℕ) → IsLegalName x → path_at (x ++ 0 ∷ rest) ≡ x ∷ pieces 0 rest
 path_at-append [] rest legal = absurd (nothing_legal legal)
-path_at-append (b ∷ x) rest legal = pieces-append (b ∷ x) rest ∙ ap (λ cut. cut ++ pieces 0 rest) (pieces-name (b ∷ x) (legal_no_nul (b ∷ x) legal))
+path_at-append (b ∷ x) rest legal = pieces-append 0 (b ∷ x) rest ∙ ap (λ cut. cut ++ pieces 0 rest) (pieces-name (b ∷ x) (legal_no_nul (b ∷ x) legal))
 
 -- names with a NUL before each but the first
 pub path_at-joined : (x : List ℕ) (p : Path) → AreLegalNames (x ∷ p) → path_at (x ++ behind p) ≡ x ∷ p

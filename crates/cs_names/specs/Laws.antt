@@ -4,6 +4,7 @@ use Rattle.std.specs.Prelude.{Result, Ok, Err, ◌==◌, ◌&&◌, not, if◌the
 use Rattle.std.specs.List.{list_all}
 use Rattle.std.specs.Str.{is_utf8, IsUtf8}
 use Rattle.std.proofs.lemmas.Str.{IsUtf8-from_is_utf8, is_utf8-from_IsUtf8}
+use Rattle.std.proofs.lemmas.Bool.{and_parts}
 use Rattle.std.proofs.lemmas.Bool.Decides.{nat_tests}
 use Rattle.cs_names.specs.declared.fault.NameFault.{NameFault}
 use Rattle.cs_names.specs.declared.fault.NameFault.TheVariants.{Empty, Long, NotText, Forbidden, Memory}
@@ -58,15 +59,10 @@ IsUserName-user_name_in bytes e =
     let read = read_by USER_NAME_BYTES bytes bytes has_nul _ refl e in
     record { some = read.0.some; short = read.0.short; text = read.0.valid; allowed = read.1 }
 
-pub and_both : (a b : Bool) → (a && b) ≡ true → (a ≡ true) × (b ≡ true)
-and_both true true h = (refl, refl)
-and_both true false h = absurd (cc)
-and_both false b h = absurd (cc)
-
 pub IsRunName-is_run_name : (bytes : List ℕ) → is_run_name bytes ≡ true → IsRunName bytes
 IsRunName-is_run_name bytes h =
-    let first = and_both (not (length bytes == 0) && nat_le (length bytes) RUN_NAME_BYTES) (list_all is_run_letter bytes) h in
-    let second = and_both (not (length bytes == 0)) (nat_le (length bytes) RUN_NAME_BYTES) first.0 in
+    let first = and_parts (not (length bytes == 0) && nat_le (length bytes) RUN_NAME_BYTES) (list_all is_run_letter bytes) h in
+    let second = and_parts (not (length bytes == 0)) (nat_le (length bytes) RUN_NAME_BYTES) first.0 in
     record { some = grind (arith, nat_tests, second.0); short = grind (arith, nat_tests, second.1); letters = first.1 }
 
 pub is_run_name-IsRunName : (bytes : List ℕ) → IsRunName bytes → is_run_name bytes ≡ true

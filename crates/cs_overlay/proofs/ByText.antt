@@ -1,49 +1,19 @@
--- A map whose keys are texts, as a finite map by their bytes.
-use Rattle.std.proofs.Common.{◌≡◌, ◌≢◌, ⊎_elim, Bool, true, false, Option, List, [], ◌∷◌, cond, None, Some, refl, sym, ap, ◌∙◌, length}
-use Rattle.std.proofs.lemmas.Map.Text.{btree_map_updates_text, is_eq-slice_cmp}
-use Rattle.std.specs.BTreeMap.{BTreeMap, UpdatesBy, get_by_text, is_at}
-use Rattle.std.specs.Cmp.{eq_by_cmp_equiv}
+-- A map from names to what is said of them, as a finite map from names to numbers.
+use Rattle.std.proofs.Common.{◌≡◌, ◌≢◌, ⊎_elim, Bool, true, false, Option, cond, None, Some, refl, sym, ap, ◌∙◌, length}
+use Rattle.std.specs.BTreeMap.{BTreeMap, UpdatesBy, get_by_text}
 use Rattle.std.specs.FinMap as map
-use Rattle.std.specs.Map.{lookup}
 use Rattle.std.specs.Ordering.{is_eq}
 use Rattle.std.specs.Option.{option_map, is_some}
-use Rattle.std.specs.Str.{bytes_eq}
 use Rattle.std.specs.String.{string_bytes, string_cmp}
 use Rattle.std.specs.declared.string.String.{String}
 use Rattle.cs_tree_model.specs.Laws.Nexts.{total, exact}
-use Rattle.cs_tree_model.specs.Maps.Views.{get_view}
+use Rattle.cs_tree_model.specs.Maps.Texts.{seen, get_seen, seen_insert}
 use Rattle.cs_tree_model.specs.Tree.{NameBytes, name_cmp}
 use Rattle.cs_tree_model.specs.Maps.Changes.{key_cases}
 use Rattle.cs_tree_model.specs.Maps.Values.{get-map_values}
 use Rattle.cs_overlay.proofs.Ranges.{none_of_none}
-use Rattle.std.proofs.lemmas.Bool.{false≢true}
 use Rattle.cs_overlay.specs.declared.names.Said.{Said}
-use Rattle.cs_overlay.specs.Texts.{by_bytes, numbers_of, AreNamed}
-
-lookup_by_bytes : {Y X : Type 0} (q : NameBytes) (es : List (String Y × X)) → lookup (is_at (name_cmp q)) (by_bytes es) ≡ lookup (is_at (λ k. name_cmp q (string_bytes k))) es
-lookup_by_bytes q [] = refl
-lookup_by_bytes q (e ∷ es) = ap (cond (is_eq (name_cmp q (string_bytes e.0))) (Some e.1)) (lookup_by_bytes q es)
-
-same_test : (bs cs : NameBytes) → bytes_eq bs cs ≡ is_eq (name_cmp cs bs)
-same_test bs cs = sym (is_eq-slice_cmp bs cs) ∙ (eq_by_cmp_equiv total).symm bs cs
-
-module _ {Y X : Type 0} where
-  abbrev pub seen : BTreeMap (String Y) X → map.FinMap name_cmp X
-  seen m = map.from_entries (by_bytes m.entries)
-
-  pub get_seen : (m : BTreeMap (String Y) X) (q : NameBytes) → map.get (seen m) q ≡ get_by_text m q
-  get_seen m q = get_view total exact (by_bytes m.entries) q ∙ lookup_by_bytes q m.entries
-
-  module _ (m n : BTreeMap (String Y) X) (bs : NameBytes) where
-    pub seen_insert : (v : X) → UpdatesBy string_cmp (λ k. name_cmp bs (string_bytes k)) m n (Some v) → seen n ≡ map.insert (seen m) bs v
-    seen_insert v h = map.same_map total exact _ _ (λ cs. get_seen n cs ∙ btree_map_updates_text bs m n (Some v) h cs
-        ∙ (λ i. cond (same_test bs cs i) (Some v) (sym (get_seen m cs) i)) ∙ sym (map.get-insert total (seen m) bs v cs))
-
-    pub seen_remove : UpdatesBy string_cmp (λ k. name_cmp bs (string_bytes k)) m n None → seen n ≡ map.remove (seen m) bs
-    seen_remove h = map.same_map total exact _ _ (λ cs. get_seen n cs ∙ btree_map_updates_text bs m n None h cs
-        ∙ (λ i. cond (same_test bs cs i) None (sym (get_seen m cs) i)) ∙ sym (map.get-remove total (seen m) bs cs))
-
--- ---- a number for each name
+use Rattle.cs_overlay.specs.Texts.{numbers_of, AreNamed}
 
 module _ {Y : Type 0} where
   pub get_number : (m : BTreeMap (String Y) Said) (q : NameBytes) → map.get (numbers_of m.entries) q ≡ option_map (λ s. s.number) (get_by_text m q)
@@ -83,6 +53,3 @@ module _ {Y : Type 0} where
 
   pub numbers_none : (m : BTreeMap (String Y) Said) → length m.entries ≡ 0 → numbers_of m.entries ≡ map.empty
   numbers_none m none = map.same_map total exact _ _ (λ q. get_number m q ∙ ap (option_map (λ (s : Said). s.number)) (none_of_none _ m.entries none) ∙ sym (map.get-empty name_cmp q))
-
-  pub named_none : (m : BTreeMap (String Y) Said) → length m.entries ≡ 0 → AreNamed (get_by_text m)
-  named_none m none x s is = absurd (false≢true (ap is_some (sym (none_of_none _ m.entries none) ∙ is)))

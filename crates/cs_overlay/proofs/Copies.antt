@@ -1,5 +1,5 @@
 -- A copy of a lower file says what the lower tree says.
-use Rattle.std.proofs.Common.{◌≡◌, ◌≢◌, ◌==◌, ℕ, true, false, length, cond, List, [], ◌∷◌, Option, None, Some, IsSome, refl, sym, ap, ◌∙◌, subst, ⊎_elim, unwrap_or}
+use Rattle.std.proofs.Common.{◌≡◌, ◌≢◌, ◌==◌, ℕ, true, false, cond, List, [], ◌∷◌, Option, None, Some, IsSome, refl, sym, ap, ◌∙◌, subst, ⊎_elim, unwrap_or}
 use Rattle.std.proofs.lemmas.Bool.{false≢true, cases_eq, eq-eqb, ne_eqb}
 use Rattle.std.specs.Option.{option_map, option_and_then, is_some}
 use Rattle.std.specs.List as list
@@ -9,28 +9,16 @@ use Rattle.cs_tree_model.specs.declared.record.MetadataBuf.{MetadataBuf}
 use Rattle.cs_tree_model.specs.declared.record.Kind.TheVariants as kinds
 use Rattle.cs_tree_model.specs.Record.{metadata_of, kind_of}
 use Rattle.cs_tree_model.specs.Tree.{NameBytes, Path, Tree, IsTree, record_numbered, path_numbered, parent_numbered, content_numbered, name_numbered, last_name}
-use Rattle.cs_tree_model.specs.Table.{node_at, node_in}
+use Rattle.cs_tree_model.specs.Table.{node_at}
 use Rattle.cs_tree_model.specs.Laws.Numbers.{has_number}
 use Rattle.cs_tree_model.specs.Laws.Round.{found_in}
 use Rattle.cs_overlay.specs.declared.node.Node.{Node}
 use Rattle.cs_overlay.specs.Layers.{Upper, content_over, record_of, layers, layer_at, found, found_at, said_over, own_in, HidesPast, IsNode, IsCopy, SameLayers, Alike, with_at}
 
-pub directory_none : (low : Option (List ℕ)) → kinds.Directory ≡ kind_of low → None ≡ low
-directory_none None e = refl
-directory_none (Some bytes) e = (cc)
-
-pub file_some : (low : Option (List ℕ)) (n : ℕ) → kinds.File n ≡ kind_of low → (length (unwrap_or low []) ≡ n) × (Some (unwrap_or low []) ≡ low)
-file_some None n e = (cc)
-file_some (Some bytes) n e = ((cc), refl)
-
 ends : (p : Path) → p ≢ [] → IsSome (last_name p)
 ends [] ne = absurd (ne refl)
 ends (x ∷ []) ne = refl
 ends (x ∷ y ∷ p) ne = ends (y ∷ p) (λ e. (cc))
-
-pub absent : {A : Type 0} (o : Option A) → is_some o ≡ false → o ≡ None
-absent None e = refl
-absent (Some x) e = absurd (false≢true (sym e))
 
 -- only the root's path has no names
 pub not_root : (t : Tree) → IsTree t → (n : ℕ) → n ≢ 0 → path_numbered t n ≢ Some []
@@ -38,21 +26,6 @@ not_root t h n z e =
     let f = found_in t h n [] e in
     let one : f.0 ≡ h.root.0 = (let two : Some f.0 ≡ Some h.root.0 = sym f.1 ∙ h.root.1 in cc) in
     z (sym f.2 ∙ ap (λ (r : Record). r.number) one ∙ h.root.3)
-
--- where no record has the number there is no node
-pub no_node : (t : Tree) (n : ℕ) → None ≡ option_map metadata_of (record_numbered t n) → node_in t n ≡ None
-no_node t n none = by (list.find (has_number n) (entries t.files)) (parent_numbered t n) none
-  where
-    by : (o : Option (Path × Record)) (u : Option ℕ) → None ≡ option_map metadata_of (option_map (λ e. e.1) o) → node_at (option_map (λ e. e.0) o) u (option_map (λ e. e.1) o) ≡ None
-    by None u e = refl
-    by (Some e) u is = absurd (false≢true (ap is_some is))
-
-pub no_node_above : (t : Tree) (n : ℕ) → None ≡ parent_numbered t n → node_in t n ≡ None
-no_node_above t n none = ap (λ u. node_at (path_numbered t n) u (record_numbered t n)) (sym none) ∙ by (path_numbered t n) (record_numbered t n)
-  where
-    by : (p : Option Path) (r : Option Record) → node_at p None r ≡ None
-    by None r = refl
-    by (Some p) r = refl
 
 -- what the calls of the lower store say makes the node
 module _ (t : Tree) (n : ℕ) (m : MetadataBuf) (record_is : Some m ≡ option_map metadata_of (record_numbered t n)) (u : ℕ) (parent_is : Some u ≡ parent_numbered t n)

@@ -23,9 +23,6 @@ use Rattle.cs_overlay.specs.Files.{file_byte, file_bytes, NothingHidden}
 use Rattle.cs_overlay.specs.Layers.{content_over, shape_over, own_in, with_attributes, with_stamp, HidesPast, IsNewFile, IsStep}
 
 module _ (low : Option (List ℕ)) (n : ℕ) where
-  pub step_none : (d : Node) → IsStep low n (λ r. r) d d
-  step_none d = record { shape = refl; own = λ x. refl; name = refl; node = λ h. h }
-
   pub step_on : (f g : Record → Record) (d e v : Node) → IsStep low n f d e → IsStep low n g e v → IsStep low n (λ r. g (f r)) d v
   step_on f g d e v one two = record {
     shape = two.shape ∙ (λ i. with_file (one.shape i) (g (one.shape i).file));

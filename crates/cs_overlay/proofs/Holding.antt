@@ -1,9 +1,9 @@
 -- What holds of an overlay goes on to hold; what a caller promises, of its nodes.
-use Rattle.std.proofs.Common.{◌≡◌, ◌≢◌, ◌+◌, ◌<◌, ◌^◌, ℕ, zero, suc, cond, Option, None, Some, IsSome, IfSome, refl, sym, ap, ◌∙◌, subst, ⊎_elim}
+use Rattle.std.proofs.Common.{◌≡◌, ◌≢◌, ◌+◌, ◌<◌, ◌^◌, ℕ, Option, None, Some, IsSome, IfSome, refl, sym, ap, ◌∙◌, subst, ⊎_elim}
 use Rattle.std.proofs.lemmas.Bool.{cases_eq}
 use Rattle.std.specs.Option.{IsSomeAnd, is_some, option_and_then, option_map}
 use Rattle.cs_tree_model.specs.declared.record.Record.{Record}
-use Rattle.cs_tree_model.specs.Laws.Counts.{count_below}
+use Rattle.cs_tree_model.specs.Laws.Counts.{count_below, counted_alike}
 use Rattle.cs_tree_model.specs.Laws.Changes.{set_node_here, set_node_other}
 use Rattle.cs_tree_model.specs.Laws.Stores as laws
 use Rattle.cs_tree_model.specs.Lookups.{IsIndexed}
@@ -11,17 +11,11 @@ use Rattle.cs_tree_model.specs.Record.{IsDirectory}
 use Rattle.cs_tree_model.specs.Stores.{CanStamp, CanStampParent, IsDirectoryNumbered, at_number}
 use Rattle.cs_tree_model.specs.Effects.{change_at}
 use Rattle.cs_tree_model.specs.Table as table
-use Rattle.cs_tree_model.specs.Table.{Nodes, set_node, tree_of, with_file}
+use Rattle.cs_tree_model.specs.Table.{set_node, tree_of, with_file}
 use Rattle.cs_tree_model.specs.Tree.{NameBytes, Tree, content_numbered, parent_numbered, record_numbered}
 use Rattle.cs_overlay.specs.Layers.{Alike, AreNodes, CanStampNode, HasNode, IsFileIf, IsOver, SameLayers, StepsAt, Upper, found, layer_at, layers, shape_over, step_at, with_answer, with_at}
 use Rattle.cs_overlay.proofs.Layering.{found_same, layers_put, nodes_put, one_upper, step_here, with_at_here}
 use Rattle.cs_overlay.proofs.Views.{parent_is, record_is}
-
--- ---- tables that have the same numbers have as many
-
-pub counted_alike : {A B : Type 0} (f : ℕ → Option A) (g : ℕ → Option B) → ((n : ℕ) → is_some (f n) ≡ is_some (g n)) → (k : ℕ) → count_below f k ≡ count_below g k
-counted_alike f g same zero = refl
-counted_alike f g same (suc k) = λ i. cond (same k i) (counted_alike f g same k i + 1) (counted_alike f g same k i)
 
 -- ---- growths that nobody sees
 

@@ -108,9 +108,6 @@ module _ (own : NameBytes → Option (Option ℕ)) (low : NameBytes → Option �
         least = λ z h t. from_own z h.0 t;
       }
 
-      pub own_number : (n : ℕ) → own x ≡ Some (Some n) → shown own low x ≡ Some n
-      own_number n e = is_own x (Some n) e
-
       -- and else what comes after x
       module _ (gone : own x ≡ Some None) where
         behind : (y : NameBytes) → IsSome (shown own low y) → comes_after last y ≡ true → comes_after (Some x) y ≡ true

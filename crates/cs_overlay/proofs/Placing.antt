@@ -1,18 +1,14 @@
 -- A write of the bytes is a write of the list.
-use Rattle.std.proofs.Common.{◌≡◌, ℕ, ◌+◌, ◌-◌, ◌<◌, ◌≤◌, max, List, [], ◌∷◌, ◌++◌, refl, map, take, drop, length, replicate, slice_index, sym, ap, ◌∙◌, ⊎_elim, arith, length-append}
+use Rattle.std.proofs.Common.{◌≡◌, ℕ, ◌+◌, ◌-◌, ◌<◌, ◌≤◌, max, List, ◌++◌, map, take, drop, length, replicate, slice_index, sym, ap, ◌∙◌, ⊎_elim, arith, length-append}
 use Rattle.std.proofs.lemmas.List.{get_or-take, length-take, length-drop, get_or_append_left, get_or-append_right, get_or-replicate, length-replicate}
 use Rattle.std.proofs.lemmas.List.FromFn.{length-map-range_with_len, get_or-map-range_with_len, fill_by_all}
 use Rattle.std.proofs.lemmas.Bool.{cases_lt}
 use Rattle.std.specs.List.{range_with_len}
 use Rattle.cs_tree_model.specs.Effects.{placed}
+use Rattle.cs_tree_model.specs.Laws.Bytes.{placed_some}
 use Rattle.cs_overlay.specs.Patch.{written_byte}
 use Rattle.cs_overlay.proofs.Pieces.{get-drop}
 use Rattle.cs_overlay.proofs.Putting.{byte_front, byte_in, byte_back}
-
--- some bytes that are placed
-placed_some : (k : ℕ) (w bytes : List ℕ) → 0 < length w → take k (bytes ++ replicate k 0) ++ w ++ drop (k + length w) bytes ≡ placed k w bytes
-placed_some k [] bytes some = absurd (omega arith)
-placed_some k (b ∷ w) bytes some = refl
 
 module _ (f g : ℕ → ℕ) (size offset : ℕ) (w : List ℕ) (goes : (i : ℕ) → g i ≡ written_byte offset w f i) (hides : (i : ℕ) → size ≤ i → f i ≡ 0) where
   abbrev bytes : List ℕ
@@ -58,6 +54,3 @@ module _ (f g : ℕ → ℕ) (size offset : ℕ) (w : List ℕ) (goes : (i : ℕ
   pub written_bytes : 0 < length w → map g (range_with_len 0 (max size (offset + length w))) ≡ placed offset w bytes
   written_bytes some = sym (sym (placed_some offset w bytes some) ∙ fill_by_all g put_there (max size (offset + length w)) 0
       (length-append (take offset (bytes ++ replicate offset 0) ++ w) (drop (offset + length w) bytes) ∙ omega (arith, both, length-drop (offset + length w) bytes, size_is)) place)
-
-  pub written_hides : (i : ℕ) → max size (offset + length w) ≤ i → g i ≡ 0
-  written_hides i le = goes i ∙ byte_back offset w f i (omega (arith, le)) ∙ hides i (omega (arith, le))

@@ -12,12 +12,12 @@ use Rattle.cs_tree_model.specs.Lookups.{IsIndexed, set_kid}
 use Rattle.cs_tree_model.specs.Record.{kind_of}
 use Rattle.cs_tree_model.specs.Stores.{at_number, changed, changed_record}
 use Rattle.cs_tree_model.specs.Table as table
-use Rattle.cs_tree_model.specs.Table.{Nodes, set_node, tree_of, unset_node, with_file}
+use Rattle.cs_tree_model.specs.Table.{set_node, tree_of, with_file}
 use Rattle.cs_tree_model.specs.Tree.{NameBytes, Tree, content_numbered, name_numbered, number_in, parent_numbered, record_numbered}
 use Rattle.cs_overlay.specs.declared.node.Node.{Node}
 use Rattle.cs_overlay.specs.Layers.{Alike, AreNodes, IsNode, IsOver, SaysBoth, StepsAt, Upper, content_over, found, layer_at, layers, shape_over, step_at, with_answer, with_at, with_name, with_stamp}
 use Rattle.cs_overlay.proofs.Layering.{content_said, found_said, found_same, hides_said, layers_put, nodes_put, one_upper, step_here, with_at_here, with_at_other}
-use Rattle.cs_overlay.proofs.Holding.{counted_alike}
+use Rattle.cs_tree_model.specs.Laws.Counts.{counted_alike}
 use Rattle.cs_overlay.proofs.Linking.{put_twice, set_thrice}
 use Rattle.cs_overlay.proofs.Removing as removing
 

@@ -85,9 +85,6 @@ keeps_said c u x o e goes n h = ⊎_elim
     off : (c : Upper) (u : ℕ) (w : Option (Option Node)) → n ≢ u → with_at c u w n ≡ c n
     off c u w ne = let b : u == n ≡ false = ne_eqb u n (λ f. ne (sym f)) in rw b refl
 
-pub keeps_on : (c m e : Upper) → KeepsNodes c m → KeepsNodes m e → KeepsNodes c e
-keeps_on c m e one two n h = two n (one n h)
-
 -- what was said stays said
 pub still_said : (b : Body) (x : NameBytes) (o : Option ℕ) (y : NameBytes) → IsSome (own_in b y) → IsSome (own_in (body_with b x o) y)
 still_said (File p) x o y h = h

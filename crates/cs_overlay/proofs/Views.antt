@@ -1,12 +1,12 @@
 -- What the overlay's files say of the tree that they make.
-use Rattle.std.proofs.Common.{◌≡◌, ◌≢◌, ℕ, zero, suc, [], Option, None, Some, IsSome, refl, sym, ap, ◌∙◌, subst, unwrap_or, take, drop, arith}
+use Rattle.std.proofs.Common.{◌≡◌, ◌≢◌, ℕ, zero, suc, [], Option, None, Some, IsSome, refl, sym, ap, ◌∙◌, subst, take, drop, arith}
 use Rattle.std.proofs.lemmas.Bool.{false≢true}
 use Rattle.std.specs.FinMap.{len}
 use Rattle.std.specs.Option.{option_map, option_and_then, is_some}
 use Rattle.cs_tree_model.specs.declared.record.Record.{Record}
 use Rattle.cs_tree_model.specs.Laws.Counts.{len-files}
 use Rattle.cs_tree_model.specs.Laws.Lookups.{links_of_tree, tree_round}
-use Rattle.cs_tree_model.specs.Laws.Paths.{path_of_root, path_step}
+use Rattle.cs_tree_model.specs.Laws.Paths.{path_of_root, path_step, unwrapped}
 use Rattle.cs_tree_model.specs.Laws.Round.{last_of_snoc, table_of_tree}
 use Rattle.cs_tree_model.specs.Laws.Stores as laws
 use Rattle.cs_tree_model.specs.Lookups.{IsIndexed, Lookup}
@@ -124,14 +124,10 @@ module _ (t : Tree) (c : Upper) (next count : ℕ) (h : IsOver t c next count) (
   name_all zero z = absurd (z refl)
   name_all (suc n) z = by (c (suc n)) refl
     where
-      named : (o : Option NameBytes) → IsSome o → o ≡ Some (unwrap_or o [])
-      named None e = absurd (false≢true e)
-      named (Some x) e = refl
-
       by : (o : Option (Option Node)) → o ≡ c (suc n) → own_name_at t (suc n) o ≡ name_numbered whole (suc n)
       by None e = name_lower (suc n) e
       by (Some None) e = ap (λ o. name_at (suc n) (layer_at t (suc n) o)) e ∙ name_is (suc n)
-      by (Some (Some d)) e = named d.name ((h.nodes (suc n) d (sym e)).named z) ∙ ap (λ o. name_at (suc n) (layer_at t (suc n) o)) e ∙ name_is (suc n)
+      by (Some (Some d)) e = unwrapped d.name [] ((h.nodes (suc n) d (sym e)).named z) ∙ ap (λ o. name_at (suc n) (layer_at t (suc n) o)) e ∙ name_is (suc n)
 
   pub name_root : None ≡ name_numbered whole 0
   name_root = name_is 0

@@ -1,14 +1,11 @@
--- Maps whose keys are texts, by the bytes of the texts.
-use Rattle.std.specs.Prelude.{◌≡◌, ℕ, List, Option, Some, map, string_bytes}
+-- What an overlay says of names, by the bytes of their texts.
+use Rattle.std.specs.Prelude.{◌≡◌, ℕ, List, Option, Some}
 use Rattle.std.specs.FinMap.{FinMap, from_entries}
 use Rattle.std.specs.declared.string.String.{String}
+use Rattle.cs_tree_model.specs.Maps.Texts.{by_bytes}
 use Rattle.cs_tree_model.specs.Maps.Values.{map_values}
 use Rattle.cs_tree_model.specs.Tree.{NameBytes, name_cmp}
 use Rattle.cs_overlay.specs.declared.names.Said.{Said}
-
--- the entries, with the bytes of each text
-abbrev pub by_bytes : {Y X : Type 0} → List (String Y × X) → List (List ℕ × X)
-by_bytes = map (λ e. (string_bytes e.0, e.1))
 
 -- the number that is said of each name
 abbrev pub numbers_of : {Y : Type 0} → List (String Y × Said) → FinMap name_cmp (Option ℕ)

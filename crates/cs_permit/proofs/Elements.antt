@@ -10,7 +10,7 @@ use Rattle.cs_permit.specs.Refusals.{first_failing}
 use Rattle.cs_permit.specs.Walks.{element, element_rules, next, stepped}
 
 -- the last rule of an element fails where it leads nowhere
-last_fails : (a b c : Bool) → c ≡ true → first_failing ((K6, a) ∷ (K7, b) ∷ (K8, c) ∷ []) ≡ None → ⊥
+pub last_fails : (a b c : Bool) → c ≡ true → first_failing ((K6, a) ∷ (K7, b) ∷ (K8, c) ∷ []) ≡ None → ⊥
 last_fails true b c e h = cc
 last_fails false true c e h = cc
 last_fails false false true e h = cc

@@ -1,5 +1,5 @@
 -- The rule of an attach.
-use Rattle.std.specs.Prelude.{not, List, [], ◌∷◌, string_bytes}
+use Rattle.std.specs.Prelude.{not, List, [], ◌∷◌}
 use Rattle.cs_names.specs.declared.rule_id.RuleId.TheVariants.{A6}
 use Rattle.cs_users.specs.Members.{is_known}
 use Rattle.cs_users.specs.Rows.{Row}
@@ -10,5 +10,5 @@ use Rattle.cs_permit.specs.Refusals.{Check}
 abbrev pub attach_rules : List Row → AttachCall → List Check
 attach_rules us c =
     -- unknown user: the uname isn't known
-    (A6, not (is_known us (string_bytes c.user)))
+    (A6, not (is_known us c.user))
     ∷ []

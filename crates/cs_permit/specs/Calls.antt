@@ -18,16 +18,16 @@ use Rattle.cs_permit.specs.Writes.{write_rules}
 use Rattle.cs_permit.specs.Wstats.{wstat_rules}
 
 -- what the rules of a run look at: its tree, its opens, and the users
-pub record State : Type 0 where
+pub record RulesView : Type 0 where
   pub tree : Tree
   pub opens : List OpenFile
   pub users : List Row
 
-abbrev pub state : Tree → List OpenFile → List Row → State
+abbrev pub state : Tree → List OpenFile → List Row → RulesView
 state t opens us = record { tree = t; opens = opens; users = us }
 
 -- the rules of each call; a close has none
-abbrev pub rules_of : State → Call → List Check
+abbrev pub rules_of : RulesView → Call → List Check
 rules_of s (Attach c) = attach_rules s.users c
 rules_of s (Walk c) = walk_rules s.tree s.users c
 rules_of s (Open c) = open_rules s.tree s.opens s.users c
@@ -40,5 +40,5 @@ rules_of s (Stat c) = stat_rules s.tree c
 rules_of s (Wstat c) = wstat_rules s.tree s.users c
 
 -- the first rule of the call that fails
-unfoldable pub first : State → Call → Option RuleId
+unfoldable pub first : RulesView → Call → Option RuleId
 first s call = first_failing (rules_of s call)

@@ -1,5 +1,5 @@
 -- What a wstat changes. A field of its stat that is not to be touched (a number of all ones, an empty text), or that has the present value, is no change.
-use Rattle.std.specs.Prelude.{◌≡◌, ◌⊎◌, ℕ, ◌==◌, not, ◌&&◌, ◌||◌, Bool, false, List, [], string_bytes, Option, None, Some, is_some, if◌then◌else◌}
+use Rattle.std.specs.Prelude.{◌≡◌, ◌⊎◌, ℕ, ◌==◌, not, ◌&&◌, ◌||◌, Bool, false, List, [], Option, None, Some, is_some, if◌then◌else◌}
 use Rattle.std.specs.Option.{option_map_or}
 use Rattle.cs_tree_model.specs.declared.record.MetadataBuf.{MetadataBuf}
 use Rattle.cs_tree_model.specs.Tree.{NameBytes, Tree}
@@ -32,7 +32,7 @@ if_new new test = option_map_or test new false
 
 -- the new name; the root's present one is a slash
 abbrev pub new_name : Tree → WstatCall → Option NameBytes
-new_name t c = new_text (shown_name t c.number) (string_bytes c.stat.name)
+new_name t c = new_text (shown_name t c.number) c.stat.name
 
 -- the new length; a directory's present one is 0
 abbrev pub new_length : WstatCall → MetadataBuf → Option ℕ
@@ -48,7 +48,7 @@ new_mtime c file = new_number ones_4 file.mtime c.stat.mtime
 
 -- the new group, which stands in the field gid
 abbrev pub new_group : WstatCall → MetadataBuf → Option (List ℕ)
-new_group c file = new_text file.group (string_bytes c.stat.gid)
+new_group c file = new_text file.group c.stat.gid
 
 -- a qid whose 13 bytes are all ones
 abbrev pub ones_qid : Qid
@@ -65,8 +65,8 @@ changes_fixed c file =
     || is_some (new_number ones_4 0 c.stat.dev)
     || not (same_qid c.stat.qid ones_qid || same_qid c.stat.qid (qid_of file))
     || is_some (new_number ones_4 file.atime c.stat.atime)
-    || is_some (new_text file.owner (string_bytes c.stat.uid))
-    || is_some (new_text file.muid (string_bytes c.stat.muid))
+    || is_some (new_text file.owner c.stat.uid)
+    || is_some (new_text file.muid c.stat.muid)
 
 -- mode or mtime changes
 abbrev pub changes_attributes : WstatCall → MetadataBuf → Bool
@@ -89,10 +89,10 @@ pub record KeepsEach (t : Tree) (c : WstatCall) (file : MetadataBuf) : Type 0 wh
   pub atime : IsKept ones_4 file.atime c.stat.atime
   pub mtime : IsKept ones_4 file.mtime c.stat.mtime
   pub len : IsKept ones_8 (told_length file.kind) c.stat.length
-  pub name : IsKeptText (shown_name t c.number) (string_bytes c.stat.name)
-  pub uid : IsKeptText file.owner (string_bytes c.stat.uid)
-  pub gid : IsKeptText file.group (string_bytes c.stat.gid)
-  pub muid : IsKeptText file.muid (string_bytes c.stat.muid)
+  pub name : IsKeptText (shown_name t c.number) c.stat.name
+  pub uid : IsKeptText file.owner c.stat.uid
+  pub gid : IsKeptText file.group c.stat.gid
+  pub muid : IsKeptText file.muid c.stat.muid
 
 -- the wstat gives no field a new value
 pub record ChangesNothing (t : Tree) (c : WstatCall) (file : MetadataBuf) : Type 0 where

@@ -8,6 +8,7 @@ pub mod Reads
 pub mod Refusals
 pub mod Removes
 pub mod Rules
+pub mod Sent
 pub mod Shown
 pub mod Sizes
 pub mod Stats

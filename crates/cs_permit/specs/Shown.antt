@@ -31,9 +31,16 @@ abbrev pub told_length : Kind → ℕ
 told_length Directory = 0
 told_length (File length) = length
 
+-- a stat of these fields, whose type and dev are 0
+abbrev pub stat_with : Qid → ℕ → ℕ → ℕ → ℕ → List ℕ → List ℕ → List ℕ → List ℕ → Value stat_shape
+stat_with qid mode atime mtime len name uid gid muid =
+    (0, (0, (qid_value qid, (mode, (atime, (mtime, (len, (name, (uid, (gid, muid))))))))))
+
 -- what a stat tells of a file of that name
 abbrev pub stat_of_file : NameBytes → MetadataBuf → Value stat_shape
-stat_of_file name file = (0, (0, (qid_value (qid_of file), (file.mode, (file.atime, (file.mtime, (told_length file.kind, (name, (file.owner, (file.group, file.muid))))))))))
+stat_of_file name file =
+    stat_with (qid_of file) file.mode file.atime file.mtime (told_length file.kind)
+    name file.owner file.group file.muid
 
 -- what a stat tells of the file of a number under a name, if the file is there
 abbrev pub stat_as : Tree → ℕ → NameBytes → Option (Value stat_shape)

@@ -1,5 +1,5 @@
 -- The rules of a walk, and of each of its elements.
-use Rattle.std.specs.Prelude.{ℕ, not, Bool, List, [], ◌∷◌, map, string_bytes, Option, None, Some, Result, Ok, Err, is_none, is_ok, if◌then◌else◌}
+use Rattle.std.specs.Prelude.{ℕ, not, Bool, List, [], ◌∷◌, Option, None, Some, Result, Ok, Err, is_none, is_ok, if◌then◌else◌}
 use Rattle.cs_names.specs.declared.rule_id.RuleId.{RuleId}
 use Rattle.cs_names.specs.declared.rule_id.RuleId.TheVariants.{K5, K6, K7, K8}
 use Rattle.cs_names.specs.Legal.{name_in}
@@ -50,4 +50,4 @@ abbrev pub walk_rules : Tree → List Row → WalkCall → List Check
 walk_rules t us c =
     -- file is gone
     (K5, is_gone t c.number)
-    ∷ first_element t us c.user c.number (map string_bytes c.names.items)
+    ∷ first_element t us c.user c.number c.names

@@ -27,5 +27,5 @@ write_rules t c =
     -- file is gone
     (E3, is_gone t c.number)
     -- file too large: a write of at least one byte that ends above FILE_BYTES
-    ∷ (E4, not (length c.bytes.items == 0) && ends_too_late (write_start t c) (length c.bytes.items))
+    ∷ (E4, not (length c.bytes == 0) && ends_too_late (write_start t c) (length c.bytes))
     ∷ []

@@ -1,15 +1,17 @@
 //! The calls on a run: what a session asks of it, once its own rules have let the message pass. A
 //! call names a file by its number.
+ghost use Rattle.std.specs.Prelude.{◌≡◌, IfOk};
 
+use crate::sent_stat::SentStat;
 use cs_fids::Place;
-use cs_names::{Name, UserName};
-use cs_wire::Stat;
+use cs_names::{Bytes, Name, Text, Texts, UserName};
+use std::alloc::{AllocError, Global};
 
 /// Attaches a user to the root of the run (attach(5)).
 #[derive(Debug, Drop)]
 pub struct AttachCall {
     /// The uname as it came: whether it is known is a rule of the run.
-    pub user: String,
+    pub user: Text,
 }
 
 /// Walks from a file, by a name at a time (walk(5)).
@@ -18,7 +20,7 @@ pub struct WalkCall {
     pub number: u64,
     pub user: UserName,
     /// The names as they came: whether they are legal is a rule of the run.
-    pub names: Vec<String>,
+    pub names: Texts,
 }
 
 /// Opens a file (open(5)).
@@ -57,7 +59,7 @@ pub struct WriteCall {
     pub number: u64,
     pub user: UserName,
     pub offset: u64,
-    pub bytes: Vec<u8>,
+    pub bytes: Bytes,
 }
 
 /// Ends an open (clunk(5)).
@@ -88,7 +90,7 @@ pub struct WstatCall {
     pub number: u64,
     pub user: UserName,
     /// The stat as it came: a field that is not to be touched is all ones, and a text is empty.
-    pub stat: Stat,
+    pub stat: SentStat,
 }
 
 /// A call on a run.
@@ -113,4 +115,87 @@ pub struct OpenFile {
     pub file: u64,
     pub mode: u8,
     pub pass: u32,
+}
+
+fn copy_walk(alloc: Global, call: &WalkCall) -> Result<WalkCall, AllocError>
+    ensures { IfOk result (λ copy. copy ≡ call.now) }
+{
+    Ok(WalkCall {
+        number: call.number,
+        user: call.user.try_clone()?,
+        names: call.names.try_clone(alloc)?,
+    })
+}
+
+fn copy_create(call: &CreateCall) -> Result<CreateCall, AllocError>
+    ensures { IfOk result (λ copy. copy ≡ call.now) }
+{
+    Ok(CreateCall {
+        number: call.number,
+        user: call.user.try_clone()?,
+        name: call.name.try_clone()?,
+        perm: call.perm,
+        mode: call.mode,
+    })
+}
+
+fn copy_read(call: &ReadCall) -> Result<ReadCall, AllocError>
+    ensures { IfOk result (λ copy. copy ≡ call.now) }
+{
+    Ok(ReadCall {
+        number: call.number,
+        offset: call.offset,
+        count: call.count,
+        place: call.place.try_clone()?,
+    })
+}
+
+fn copy_write(call: &WriteCall) -> Result<WriteCall, AllocError>
+    ensures { IfOk result (λ copy. copy ≡ call.now) }
+{
+    Ok(WriteCall {
+        number: call.number,
+        user: call.user.try_clone()?,
+        offset: call.offset,
+        bytes: call.bytes.try_clone()?,
+    })
+}
+
+impl Call {
+    /// The same call again.
+    pub fn try_clone(&self, alloc: Global) -> Result<Call, AllocError>
+        ensures { IfOk result (λ copy. copy ≡ self.now) }
+    {
+        Ok(match self {
+            Call::Attach(call) => Call::Attach(AttachCall {
+                user: call.user.try_clone()?,
+            }),
+            Call::Walk(call) => Call::Walk(copy_walk(alloc, call)?),
+            Call::Open(call) => Call::Open(OpenCall {
+                number: call.number,
+                user: call.user.try_clone()?,
+                mode: call.mode,
+            }),
+            Call::Create(call) => Call::Create(copy_create(call)?),
+            Call::Read(call) => Call::Read(copy_read(call)?),
+            Call::Write(call) => Call::Write(copy_write(call)?),
+            Call::Close(call) => Call::Close(CloseCall {
+                open_number: call.open_number,
+                user: call.user.try_clone()?,
+            }),
+            Call::Remove(call) => Call::Remove(RemoveCall {
+                number: call.number,
+                user: call.user.try_clone()?,
+                open_number: call.open_number,
+            }),
+            Call::Stat(call) => Call::Stat(StatCall {
+                number: call.number,
+            }),
+            Call::Wstat(call) => Call::Wstat(WstatCall {
+                number: call.number,
+                user: call.user.try_clone()?,
+                stat: call.stat.try_clone()?,
+            }),
+        })
+    }
 }

@@ -1,5 +1,5 @@
-//! What a wstat changes (stat(5)): the new value of each field of its stat that is to be touched and
-//! hasn't the present value.
+//! What a wstat changes (stat(5)): the new value of each field of its stat that is to be touched
+//! and hasn't the present value.
 ghost use Rattle.std.specs.Prelude.{◌≡◌, option_copied};
 ghost use Rattle.cs_tree_model.specs.Record.{lent};
 ghost use Rattle.cs_permit.specs.Changes.{changes_attributes, changes_fixed, new_group, new_length, new_mode, new_mtime, new_name, new_number, new_text, ones_2, ones_4, ones_8, same_qid};
@@ -53,35 +53,38 @@ fn new_text<'a>(present: &str, sent: &'a str) -> Option<&'a str>
 pub fn new_name<'a, T: TreeRead>(tree: &T, call: &'a WstatCall) -> Option<&'a str>
     ensures { option_copied result ≡ new_name (T.tree tree.now) call.now }
 {
-    new_text(shown_name(tree, call.number), call.stat.name.as_str())
+    new_text(
+        shown_name(tree, call.number),
+        call.stat.as_stat().name.as_str(),
+    )
 }
 
 /// The new length, if the wstat has one. A directory's present length is 0.
 pub fn new_length(call: &WstatCall, file: &Metadata) -> Option<u64>
     ensures { result ≡ new_length call.now (lent file.now) }
 {
-    new_u64(told_length(file.kind), call.stat.length)
+    new_u64(told_length(file.kind), call.stat.as_stat().length)
 }
 
 /// The new mode, if the wstat has one.
 pub fn new_mode(call: &WstatCall, file: &Metadata) -> Option<u32>
     ensures { result ≡ new_mode call.now (lent file.now) }
 {
-    new_u32(file.mode, call.stat.mode)
+    new_u32(file.mode, call.stat.as_stat().mode)
 }
 
 /// The new mtime, if the wstat has one.
 pub fn new_mtime(call: &WstatCall, file: &Metadata) -> Option<u32>
     ensures { result ≡ new_mtime call.now (lent file.now) }
 {
-    new_u32(file.mtime, call.stat.mtime)
+    new_u32(file.mtime, call.stat.as_stat().mtime)
 }
 
 /// The new group, if the wstat has one.
 pub fn new_group<'a>(call: &'a WstatCall, file: &Metadata) -> Option<&'a str>
     ensures { option_copied result ≡ new_group call.now (lent file.now) }
 {
-    new_text(file.group.as_str(), call.stat.gid.as_str())
+    new_text(file.group.as_str(), call.stat.as_stat().gid.as_str())
 }
 
 /// The qid of a wstat that is not to be touched.
@@ -101,7 +104,7 @@ fn is_same_qid(a: Qid, b: Qid) -> bool
 pub fn changes_fixed(call: &WstatCall, file: &Metadata) -> bool
     ensures { result ≡ changes_fixed call.now (lent file.now) }
 {
-    let stat = &call.stat;
+    let stat = call.stat.as_stat();
     new_u16(0, stat.kind).is_some()
         || new_u32(0, stat.dev).is_some()
         || !(is_same_qid(stat.qid, ONES_QID) || is_same_qid(stat.qid, qid_of(file)))

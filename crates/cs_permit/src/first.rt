@@ -30,7 +30,7 @@ use cs_users::{Right, Users};
 fn first_of_attach(call: &AttachCall, users: &Users) -> Option<RuleId>
     ensures { result ≡ first_failing (attach_rules users.now call.now) }
 {
-    if !users.knows(call.user.as_bytes()) {
+    if !users.knows(call.user.as_str().as_bytes()) {
         return Some(RuleId::A6);
     }
     None
@@ -43,7 +43,7 @@ pub fn first_of_walk<T: TreeRead>(call: &WalkCall, tree: &T, users: &Users) -> O
     if is_gone(tree, call.number) {
         return Some(RuleId::K5);
     }
-    let name = call.names.first()?;
+    let name = call.names.as_slice().first()?;
     first_of_element(tree, users, &call.user, call.number, name.as_str())
 }
 
@@ -117,7 +117,8 @@ fn ends_too_late(start: u64, count: u64) -> bool
 
 /// Where a write begins.
 fn write_start(call: &WriteCall, file: &Metadata) -> u64
-    ensures { result ≡ (if is_append_only (lent file.now) then told_length file.now.kind else call.now.offset) }
+    ensures { result ≡ (if is_append_only (lent file.now) then told_length file.now.kind
+        else call.now.offset) }
 {
     if is_append_only(file) {
         told_length(file.kind)
@@ -133,7 +134,7 @@ fn first_of_write<T: TreeRead>(call: &WriteCall, tree: &T) -> Option<RuleId>
         return Some(RuleId::E3);
     };
     let start = write_start(call, &file);
-    if !call.bytes.is_empty() && ends_too_late(start, call.bytes.len() as u64) {
+    if call.bytes.len() != 0 && ends_too_late(start, call.bytes.len() as u64) {
         return Some(RuleId::E4);
     }
     None

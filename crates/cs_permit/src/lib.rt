@@ -4,12 +4,14 @@
 
 pub mod call;
 pub mod changes;
+pub mod fault;
 mod first;
 pub mod laws;
 pub mod mode;
 mod read;
 pub mod request;
 pub mod rules;
+pub mod sent_stat;
 mod shown;
 mod table;
 mod tree_name;
@@ -21,12 +23,11 @@ pub use call::{
     WalkCall, WriteCall, WstatCall,
 };
 pub use changes::{new_group, new_length, new_mode, new_mtime, new_name};
+pub use fault::{FindFault, PassFault};
 pub use first::{first_failing, first_of_walk};
-pub use laws::{
-    first_entry_tells, first_rule_of_two_lists, first_rule_that_fails, what_is_kept_needs_no_right,
-};
 pub use read::name_before;
 pub use request::Request;
+pub use sent_stat::SentStat;
 pub use shown::{
     entry_size, entry_stat, qid_at, qid_known, qid_of, shown_name, stat_of_file, stat_ref,
     stat_size, told_length,

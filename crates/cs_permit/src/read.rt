@@ -1,5 +1,5 @@
-//! The rules of a read: of a directory it begins at its first entry or where the last read ended, and
-//! gives whole entries (read(5)).
+//! The rules of a read: of a directory it begins at its first entry or where the last read ended,
+//! and gives whole entries (read(5)).
 ghost use Rattle.std.specs.Prelude.{◌≡◌, option_copied};
 ghost use Rattle.cs_permit.specs.Reads.{is_good_offset, name_before, needs_more, read_rules};
 ghost use Rattle.cs_permit.specs.Refusals.{first_failing};

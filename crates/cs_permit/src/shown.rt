@@ -1,12 +1,12 @@
-//! What a client is shown of a file: its qid, its name, what a stat tells of it, and the size of its
-//! entry in a read of its directory (stat(5), read(5)).
+//! What a client is shown of a file: its qid, its name, what a stat tells of it, and the size of
+//! its entry in a read of its directory (stat(5), read(5)).
 ghost use Rattle.std.specs.Prelude.{◌≡◌, ◌/◌, IfSome, length};
 ghost use Rattle.std.specs.Option.{option_map};
 ghost use Rattle.cs_tree_model.specs.Nexts.{entry_name};
 ghost use Rattle.cs_tree_model.specs.Record.{lent};
 ghost use Rattle.cs_wire.specs.Fields.{IsIn};
 ghost use Rattle.cs_wire.specs.Messages.{qid_of as qid_value, stat_entry, stat_in as fields_of};
-ghost use Rattle.cs_permit.specs.Shown.{entry_of, qid_at, qid_of, qid_or_zeros, shown_name, stat_as, stat_at, stat_of_file, told_length};
+ghost use Rattle.cs_permit.specs.Shown.{entry_of, qid_at, qid_of, qid_or_zeros, shown_name, stat_as, stat_at, stat_of_file, stat_with, told_length};
 ghost use Rattle.cs_permit.specs.Sizes.{IsQid, IsShown, IsStat, numbers_shape};
 
 use cs_names::limits::{NAME_BYTES, USER_NAME_BYTES};
@@ -117,7 +117,8 @@ fn stat_with<'a>(
     texts: Texts<'a>,
 ) -> StatRef<'a>
     requires { IsQid qid }
-    ensures value { fields_of result ≡ (0, (0, (qid_value qid, (mode, (atime, (mtime, (length, (texts.entry.name.now, (texts.entry.uid.now, (texts.entry.gid.now, texts.entry.muid.now)))))))))) }
+    ensures value { fields_of result ≡ stat_with qid mode atime mtime length texts.entry.name.now
+        texts.entry.uid.now texts.entry.gid.now texts.entry.muid.now }
     ensures fits { IsIn numbers_shape (0, (0, (qid_value qid, (mode, (atime, (mtime, length)))))) }
 {
     StatRef {
@@ -178,7 +179,8 @@ pub fn stat_size(stat: &StatRef) -> usize
 
 /// What a stat tells of an entry of a directory, lent. It takes no memory.
 pub fn entry_stat<'a, T: TreeRead>(tree: &'a T, entry: Entry<'a>) -> Option<StatRef<'a>>
-    ensures value { option_map fields_of result ≡ stat_as (T.tree tree.now) entry.entry.number (entry_name entry.entry) }
+    ensures value { option_map fields_of result ≡ stat_as (T.tree tree.now) entry.entry.number
+        (entry_name entry.entry) }
     ensures fits { IfSome result (λ stat. IsStat STAT_BYTES (fields_of stat)) }
 {
     let file = tree.record(entry.number)?;
@@ -187,7 +189,8 @@ pub fn entry_stat<'a, T: TreeRead>(tree: &'a T, entry: Entry<'a>) -> Option<Stat
 
 /// How many bytes an entry of a directory takes in a read of it.
 pub fn entry_size<T: TreeRead>(tree: &T, entry: Entry) -> usize
-    ensures { result ≡ length (entry_of (stat_as (T.tree tree.now) entry.entry.number (entry_name entry.entry))) }
+    ensures { result ≡ length (entry_of (stat_as (T.tree tree.now) entry.entry.number
+        (entry_name entry.entry))) }
 {
     match entry_stat(tree, entry) {
         Some(stat) => stat_size(&stat),

@@ -38,10 +38,11 @@ fn is_state_number(bytes: &[u8]) -> bool
 }
 
 impl<'a> TreeName<'a> {
-    /// The parts of an aname: a number of 1 to 5 digits with no zero before others, a slash, and the
-    /// name of a run; None where it has not this form. It takes no memory.
+    /// The parts of an aname: a number of 1 to 5 digits with no zero before others, a slash, and
+    /// the name of a run; None where it has not this form. It takes no memory.
     pub fn read(aname: &'a [u8]) -> Option<TreeName<'a>>
-        ensures { MatchOption result (tree_name_in aname.now ≡ None) (λ name. tree_name_in aname.now ≡ Some (name.state.now, name.run.now)) }
+        ensures { MatchOption result (tree_name_in aname.now ≡ None)
+            (λ name. tree_name_in aname.now ≡ Some (name.state.now, name.run.now)) }
     {
         let mut pieces = Pieces::of(aname, b'/');
         let state = pieces.next()?;

@@ -30,8 +30,8 @@ fn next_number<T: TreeRead>(tree: &T, number: u64, name: &str) -> Option<u64>
     tree.find_number(number, name)
 }
 
-/// One element of a walk from the file of that number, of which the tree tells this: where it leads, or
-/// the rule that stops it. It takes no memory, and looks up a name and no record.
+/// One element of a walk from the file of that number, of which the tree tells this: where it leads,
+/// or the rule that stops it. It takes no memory, and looks up a name and no record.
 // a record is large: out of line, it would be passed in memory
 #[inline(always)]
 pub fn element_of<T: TreeRead>(
@@ -56,8 +56,8 @@ pub fn element_of<T: TreeRead>(
     next_number(tree, number, name).ok_or(RuleId::K8)
 }
 
-/// One element of a walk from the file of that number: where it leads, or the rule that stops it. It
-/// takes no memory.
+/// One element of a walk from the file of that number: where it leads, or the rule that stops it.
+/// It takes no memory.
 pub fn element<T: TreeRead>(
     tree: &T,
     users: &Users,
@@ -78,7 +78,8 @@ pub fn first_of_element<T: TreeRead>(
     number: u64,
     name: &str,
 ) -> Option<RuleId>
-    ensures { result ≡ first_failing (element_rules (T.tree tree.now) users.now user.now number name.now) }
+    ensures { result
+        ≡ first_failing (element_rules (T.tree tree.now) users.now user.now number name.now) }
 {
     element(tree, users, user, number, name).err()
 }

@@ -121,7 +121,8 @@ fn first_of_fields<T: TreeRead>(
     users: &Users,
     file: &Metadata,
 ) -> Option<RuleId>
-    ensures { result ≡ first_failing (field_rules (T.tree tree.now) users.now call.now (lent file.now)) }
+    ensures { result ≡ first_failing (field_rules (T.tree tree.now) users.now call.now
+        (lent file.now)) }
 {
     if let Some(rule) = first_of_name(call, tree, users) {
         return Some(rule);

@@ -1,25 +1,14 @@
 -- Places and picks that are read one after another.
-use Rattle.std.proofs.Common.{◌≡◌, ◌<◌, ◌≤◌, ℕ, ◌+◌, Bool, true, false, List, [], ◌∷◌, ◌++◌, Option, None, Some, refl, sym, ap, ◌∙◌, append_assoc, drop, get_or, length}
+use Rattle.std.proofs.Common.{◌≡◌, ◌<◌, ◌≤◌, ℕ, ◌+◌, List, [], ◌∷◌, ◌++◌, Option, None, Some, refl, sym, ap, ◌∙◌, append_assoc, drop, get_or, length}
 use Rattle.std.proofs.lemmas.List.{append-nil, drop_all, drop_more}
 use Rattle.std.specs.Option.{option_map}
 use Rattle.std.specs.Prelude.{Result, Ok, Err}
-use Rattle.std.specs.Str.{IsUtf8, is_utf8}
-use Rattle.std.proofs.lemmas.Str.{IsUtf8-from_is_utf8}
 use Rattle.serde_json.specs.View.{items_view, view}
 use Rattle.serde_json.specs.declared.value.Value.{Value}
 use Rattle.cs_picks.specs.Lines.{place_of, places_of, with_place}
 use Rattle.cs_picks.specs.Picks.{behind, with_line}
 use Rattle.cs_picks.specs.declared.fault.PicksFault.{PicksFault}
 use Rattle.cs_picks.specs.declared.fault.PicksFault.TheVariants.{Syntax}
-
--- ---- text
-
-invalid_by : (bytes : List ℕ) (b : Bool) → is_utf8 bytes ≡ b → (IsUtf8 bytes → ⊥) → b ≡ false
-invalid_by bytes true e never = absurd (never (IsUtf8-from_is_utf8 bytes e))
-invalid_by bytes false e never = refl
-
-pub is_utf8-invalid : (bytes : List ℕ) → (IsUtf8 bytes → ⊥) → is_utf8 bytes ≡ false
-is_utf8-invalid bytes never = invalid_by bytes (is_utf8 bytes) refl never
 
 -- ---- the places of a line
 

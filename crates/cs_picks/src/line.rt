@@ -1,9 +1,9 @@
 //! A line of a picks file.
-ghost use Rattle.std.specs.Prelude.{◌≡◌, Some, None, true, false, IfNone, IfOk, IfSome};
-ghost use Rattle.std.specs.Str.{is_utf8};
+ghost use Rattle.std.specs.Prelude.{◌≡◌, IfOk};
 ghost use Rattle.serde_json.specs.View.{items_view, view};
 ghost use Rattle.cs_picks.specs.Lines.{pick_in, place_of, places_in, places_of};
 
+use cs_names::as_utf8;
 use cs_plan::Places;
 use serde_json::Value;
 use std::alloc::{AllocError, Global};
@@ -37,17 +37,6 @@ fn places_in(alloc: Global, value: &Value) -> Result<Option<Places>, AllocError>
     match value.as_array() {
         Some(values) => places_of(alloc, values),
         None => Ok(None),
-    }
-}
-
-fn as_utf8(line: &[u8]) -> Option<&str>
-    ensures some { IfSome result (λ text. text.now ≡ line.now) }
-    ensures text { IfSome result (λ _. is_utf8 line.now ≡ true) }
-    ensures none { IfNone result (is_utf8 line.now ≡ false) }
-{
-    match std::str::from_utf8(line) {
-        Ok(text) => Some(text),
-        Err(_) => None,
     }
 }
 

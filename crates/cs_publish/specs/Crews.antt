@@ -11,8 +11,10 @@ is_crew workers = nat_le 1 workers && nat_le workers WORKERS
 
 -- every state of the plan is published, and there is no run
 abbrev pub all_published : {H : Type 0} → Scene → List Row → Registry H
-all_published scene users = record { scene = scene; users = users; published = replicate (length scene.plan) true; runs = [] }
-
--- the relation knows no other scene
-abbrev pub IsOnly : (Scene → Type 0) → Scene → Type 0
-IsOnly is_scene scene = (other : Scene) → is_scene other → other ≡ scene
+all_published scene users =
+    record {
+      scene = scene;
+      users = users;
+      published = replicate (length scene.plan) true;
+      runs = [];
+    }

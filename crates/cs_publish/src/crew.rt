@@ -1,15 +1,14 @@
 //! The workers: each takes numbers from one channel, makes their states, and sends these.
-ghost use Rattle.std.specs.Prelude.{◌≡◌, ◌+◌, ◌≤◌, IfOk, length};
-ghost use Rattle.std.specs.List.{All};
+ghost use Rattle.std.specs.Prelude.{◌≡◌};
 ghost use Rattle.cs_publish.specs.Crews.{is_crew};
 
 use crate::fault::Lost;
-use crate::gate::Gate;
-use crate::stage::{Made, Stage, Staged, Told};
+use crate::gate::{Gate, ask};
+use crate::stage::{FromWorker, Made, Stage, Staged};
 use crossbeam_channel::{Receiver, Sender, bounded};
 use cs_names::limits::WORKERS;
-use cs_plan::{MakeFault, Published};
-use std::alloc::{AllocError, Global};
+use cs_plan::MakeFault;
+use std::alloc::Global;
 use std::sync::Wait;
 use std::thread::Scope;
 
@@ -47,17 +46,16 @@ fn work<N: Staged, R: Wait, G: Gate>(
     alloc: Global,
     stage: &Stage<N>,
     numbers: &Receiver<u32>,
-    states: Sender<Told<N>>,
+    states: Sender<FromWorker<N>>,
     gate: &G,
 ) {
     for _ in rt.forever() {
         let Ok(number) = numbers.recv(rt) else {
             return;
         };
-        gate.before(number);
-        let told = match stage.make(alloc, number) {
-            Ok(state) => Told::State(state),
-            Err(MakeFault::Memory) => Told::NoMemory,
+        let told = match stage.make(alloc, ask(gate, number)) {
+            Ok(state) => FromWorker::State(state),
+            Err(MakeFault::Memory) => FromWorker::NoMemory,
             Err(MakeFault::NoSuchState) => continue,
         };
         if states.send(rt, told).is_err() {
@@ -66,8 +64,8 @@ fn work<N: Staged, R: Wait, G: Gate>(
     }
 }
 
-/// Starts so many workers, and gives the end where their states come out. They end with the numbers, or
-/// when that end is let go.
+/// Starts so many workers, and gives the end where their states come out. They end with the
+/// numbers, or when that end is let go.
 pub(crate) fn hire<'s, E, N: Staged, R: Wait + Sync, G: Gate>(
     scope: &'s Scope<'s, E>,
     rt: &'s R,
@@ -76,7 +74,7 @@ pub(crate) fn hire<'s, E, N: Staged, R: Wait + Sync, G: Gate>(
     numbers: &'s Receiver<u32>,
     workers: u32,
     gate: &'s G,
-) -> Result<Receiver<Told<N>>, Lost> {
+) -> Result<Receiver<FromWorker<N>>, Lost> {
     let Ok((states, made)) = bounded(alloc, STATES_IN_FLIGHT as usize) else {
         return Err(Lost::Memory);
     };
@@ -95,58 +93,11 @@ pub(crate) fn hire<'s, E, N: Staged, R: Wait + Sync, G: Gate>(
 /// The next state that a worker made.
 pub(crate) fn next_made<N: Staged, R: Wait>(
     rt: &R,
-    made: &Receiver<Told<N>>,
+    made: &Receiver<FromWorker<N>>,
 ) -> Result<Made<N>, Lost> {
     match made.recv(rt) {
-        Ok(Told::State(state)) => Ok(state),
-        Ok(Told::NoMemory) => Err(Lost::Memory),
+        Ok(FromWorker::State(state)) => Ok(state),
+        Ok(FromWorker::NoMemory) => Err(Lost::Memory),
         Err(_) => Err(Lost::Channel),
     }
-}
-
-/// A state that a worker made and that waits by now, if there is one.
-fn waiting<N: Staged, R: Wait>(rt: &R, made: &Receiver<Told<N>>) -> Result<Option<Made<N>>, Lost> {
-    match made.try_recv(rt) {
-        Ok(Told::State(state)) => Ok(Some(state)),
-        Ok(Told::NoMemory) => Err(Lost::Memory),
-        Err(_) => Ok(None),
-    }
-}
-
-/// Puts a state behind the others.
-fn add<N: Staged>(states: &mut Vec<Published>, state: Made<N>) -> Result<(), AllocError>
-    requires own { All (λ state. N.is_scene state.scene) states.old.items }
-    ensures own { IfOk result (λ _. All (λ state. N.is_scene state.scene) states.new.items) }
-    ensures longer { IfOk result (λ _. length states.new.items ≡ length states.old.items + 1) }
-{
-    states.push(state.into_state())?;
-    Ok(())
-}
-
-/// The next states that workers made, so many at most: one for which it waits, and those that are there
-/// by then.
-pub(crate) fn next_states<N: Staged, R: Wait>(
-    rt: &R,
-    alloc: Global,
-    made: &Receiver<Told<N>>,
-    most: u32,
-) -> Result<Vec<Published>, Lost>
-    requires { 1 ≤ most }
-    ensures some { IfOk result (λ states. 1 ≤ length states.items) }
-    ensures few { IfOk result (λ states. length states.items ≤ most) }
-    ensures own { IfOk result (λ states. All (λ state. N.is_scene state.scene) states.items) }
-{
-    let mut states = Vec::new(alloc);
-    let Ok(()) = add(&mut states, next_made(rt, made)?) else {
-        return Err(Lost::Memory);
-    };
-    for _others in 1..most.min(STATES_IN_FLIGHT) {
-        let Some(state) = waiting(rt, made)? else {
-            break;
-        };
-        let Ok(()) = add(&mut states, state) else {
-            return Err(Lost::Memory);
-        };
-    }
-    Ok(states)
 }

@@ -20,7 +20,7 @@ pub(crate) enum Lost {
 }
 
 /// What is told of it.
-pub(crate) fn told(lost: Lost) -> PublishAllFault
+pub(crate) fn fault_of(lost: Lost) -> PublishAllFault
     ensures { result ≢ PublishAllFault.Workers }
 {
     match lost {

@@ -1,13 +1,13 @@
 //! The states of a scene, published in a registry that threads share, while others use it.
-ghost use Rattle.std.specs.Prelude.{◌≡◌, ◌↔◌, ◌<◌, ◌≤◌, ◌^◌, false, length, IfOk, IsErrOf};
+ghost use Rattle.std.specs.Prelude.{◌≡◌, ◌↔◌, ◌≤◌, false, length, IfOk, IsErrOf};
 ghost use Rattle.std.specs.Arc.{arc_value};
-ghost use Rattle.std.specs.List.{All};
-ghost use Rattle.cs_publish.specs.Crews.{IsOnly, is_crew};
+ghost use Rattle.cs_publish.specs.Crews.{is_crew};
+ghost use Rattle.cs_shared.specs.Serving.{IsOnly};
 
-use crate::crew::{hire, is_crew, next_states, numbers_below};
-use crate::fault::{Lost, PublishAllFault, told};
+use crate::crew::{hire, is_crew, next_made, numbers_below};
+use crate::fault::{Lost, PublishAllFault, fault_of};
 use crate::gate::Gate;
-use crate::stage::{Stage, Staged, Told};
+use crate::stage::{FromWorker, Stage, Staged};
 use crossbeam_channel::Receiver;
 use cs_plan::{Published, Scene};
 use cs_registry::PublishFault;
@@ -18,22 +18,23 @@ use std::sync::{Arc, Wait};
 use std::thread;
 use std::thread::Threads;
 
-/// Publishes so many states that the workers make: how many weren't published before.
+/// Publishes so many states that the workers make, each under a lock of its own: how many weren't
+/// published before.
 fn collect_into<S: Served, N: Staged, R: Wait>(
     rt: &R,
     alloc: Global,
     registry: &SharedRegistry<S>,
     count: u32,
-    made: Receiver<Told<N>>,
+    made: Receiver<FromWorker<N>>,
 ) -> Result<u32, Lost>
+    requires only { IsOnly S.is_scene registry.now }
     requires own { IsOnly N.is_scene registry.now }
     ensures { IfOk result (λ published. published ≤ count) }
 {
-    let (mut left, mut published) = (count, 0);
-    'left: while left > 0 {
-        let states = next_states(rt, alloc, &made, left)?;
-        left -= states.len() as u32;
-        published += publish_each(rt, alloc, registry, states)?;
+    let mut published = 0;
+    for _made in 0..count {
+        let state = next_made(rt, &made)?;
+        published += publish_one(rt, alloc, registry, state.into_state())?;
     }
     if registry.missing(rt) > 0 {
         return Err(Lost::Channel);
@@ -41,21 +42,22 @@ fn collect_into<S: Served, N: Staged, R: Wait>(
     Ok(published)
 }
 
-/// Publishes states of the registry's scene: how many weren't published before.
-fn publish_each<S: Served, R: Wait>(
+/// Publishes a state of the registry's scene: 1, or 0 where it stood already.
+fn publish_one<S: Served, R: Wait>(
     rt: &R,
     alloc: Global,
     registry: &SharedRegistry<S>,
-    states: Vec<Published>,
+    state: Published,
 ) -> Result<u32, Lost>
-    requires own { All (λ state. state.scene ≡ registry.now) states.items }
-    requires few { length states.items < 2 ^ 32 }
-    ensures { IfOk result (λ published. published ≤ length states.items) }
+    requires only { IsOnly S.is_scene registry.now }
+    requires own { state.scene ≡ registry.now }
+    ensures { IfOk result (λ one. one ≤ 1) }
 {
-    match registry.publish_each(rt, alloc, states) {
-        Ok(published) => Ok(published as u32),
+    match registry.publish_own(rt, alloc, state) {
+        Ok(()) => Ok(1),
+        Err(PublishFault::Twice) => Ok(0),
         Err(PublishFault::Memory) => Err(Lost::Memory),
-        Err(PublishFault::Twice | PublishFault::Stranger) => Err(Lost::Channel),
+        Err(PublishFault::Stranger) => unreachable!(),
     }
 }
 
@@ -70,6 +72,7 @@ fn gather_into<'s, S: Served, N: Staged, R: Threads + Wait + Sync, G: Gate>(
     workers: u32,
     gate: &'s G,
 ) -> Result<u32, Lost>
+    requires only { IsOnly S.is_scene registry.now }
     requires own { IsOnly N.is_scene registry.now }
     ensures { IfOk result (λ published. published ≤ count) }
 {
@@ -77,6 +80,7 @@ fn gather_into<'s, S: Served, N: Staged, R: Threads + Wait + Sync, G: Gate>(
         thread::scope_env(),
         rt,
         move |scope| -> Result<u32, Lost>
+            requires only { IsOnly S.is_scene registry.now }
             requires own { IsOnly N.is_scene registry.now }
             ensures { IfOk result (λ published. published ≤ count) }
         {
@@ -95,6 +99,7 @@ fn publish_scene_into<S: Served, N: Staged, R: Threads + Wait + Sync, G: Gate>(
     workers: u32,
     gate: &G,
 ) -> Result<u32, Lost>
+    requires only { IsOnly S.is_scene registry.now }
     requires here { N.is_scene (arc_value scene) }
     requires own { IsOnly N.is_scene registry.now }
     ensures { IfOk result (λ published. published ≤ length (arc_value scene).plan) }
@@ -105,9 +110,10 @@ fn publish_scene_into<S: Served, N: Staged, R: Threads + Wait + Sync, G: Gate>(
     gather_into(rt, alloc, registry, count, &stage, &numbers, workers, gate)
 }
 
-/// Publishes the states of the registry's scene, made by so many workers, while other threads may use
-/// the registry: how many it published. A state that stood already is passed over. The faults are those
-/// of `publish_all`; what was published before one stays.
+/// Publishes the states of the registry's scene, made by so many workers, while other threads may
+/// use the registry: how many it published. Each is published as soon as it is made, and one that
+/// stood already is passed over. No content is compared: the type knows no other scene. The faults
+/// are those of `publish_all`; what was published before one stays.
 pub fn publish_into<S: Served, R: Threads + Wait + Sync, G: Gate>(
     rt: &R,
     alloc: Global,
@@ -115,6 +121,7 @@ pub fn publish_into<S: Served, R: Threads + Wait + Sync, G: Gate>(
     workers: u32,
     gate: &G,
 ) -> Result<u32, PublishAllFault>
+    requires { IsOnly S.is_scene registry.now }
     ensures few { IfOk result (λ published. published ≤ length registry.now.plan) }
     ensures crew { IsErrOf result PublishAllFault.Workers ↔ (is_crew workers ≡ false) }
 {
@@ -124,5 +131,7 @@ pub fn publish_into<S: Served, R: Threads + Wait + Sync, G: Gate>(
     let Ok(scene) = Arc::try_clone(registry.scene()) else {
         return Err(PublishAllFault::Memory);
     };
-    publish_scene_into::<S, Brand, R, G>(rt, alloc, registry, scene, workers, gate).map_err(told)
+    publish_scene_into::<S, Brand, R, G>(rt, alloc, registry, scene, workers, gate).map_err(
+        fault_of,
+    )
 }

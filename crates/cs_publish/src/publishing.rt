@@ -1,13 +1,14 @@
 //! All states of a scene, made by several workers.
 ghost use Rattle.std.specs.Prelude.{◌≡◌, ◌↔◌, false, true, IfOk, IsErrOf};
 ghost use Rattle.std.specs.Arc.{arc_value};
-ghost use Rattle.cs_publish.specs.Crews.{IsOnly, all_published, is_crew};
+ghost use Rattle.cs_publish.specs.Crews.{all_published, is_crew};
 ghost use Rattle.cs_registry.specs.Registries.{AdmitsAll, empty};
+ghost use Rattle.cs_shared.specs.Serving.{IsOnly};
 
 use crate::crew::{hire, is_crew, next_made, numbers_below};
-use crate::fault::{Lost, PublishAllFault, told};
+use crate::fault::{Lost, PublishAllFault, fault_of};
 use crate::gate::Gate;
-use crate::stage::{Stage, Staged, Told};
+use crate::stage::{FromWorker, Stage, Staged};
 use crossbeam_channel::Receiver;
 use cs_plan::Scene;
 use cs_registry::{Held, PublishFault, States};
@@ -23,7 +24,7 @@ fn collect<H: Held, N: Staged, R: Wait>(
     rt: &R,
     alloc: Global,
     mut states: States<H>,
-    made: Receiver<Told<N>>,
+    made: Receiver<FromWorker<N>>,
 ) -> Result<States<H>, Lost>
     requires own { IsOnly N.is_scene states.scene }
     requires new { states ≡ empty states.scene states.users }
@@ -96,10 +97,10 @@ fn publish_scene<H: Held, N: Staged, R: Threads + Wait + Sync, G: Gate>(
     gather(rt, alloc, states, &stage, &numbers, workers, gate)
 }
 
-/// A registry of the scene's states, every one of which is published, whose runs have these users. The
-/// states are made by so many workers: each takes the next number, calls the gate with it, and makes
-/// its state. Workers is answered where there are none or more than WORKERS; then Memory, also where no
-/// thread can be made; then Channel, where a number or a state is lost on its way.
+/// A registry of the scene's states, every one of which is published, whose runs have these users.
+/// The states are made by so many workers: each takes the next number, calls the gate with it, and
+/// makes its state. Workers is answered where there are none or more than WORKERS; then Memory,
+/// also where no thread can be made; then Channel, where a number or a state is lost on its way.
 pub fn publish_all<H: Held, R: Threads + Wait + Sync, G: Gate>(
     rt: &R,
     alloc: Global,
@@ -115,5 +116,5 @@ pub fn publish_all<H: Held, R: Threads + Wait + Sync, G: Gate>(
     if !is_crew(workers) {
         return Err(PublishAllFault::Workers);
     }
-    publish_scene::<H, Brand, R, G>(rt, alloc, scene, users, workers, gate).map_err(told)
+    publish_scene::<H, Brand, R, G>(rt, alloc, scene, users, workers, gate).map_err(fault_of)
 }

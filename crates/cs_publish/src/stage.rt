@@ -3,6 +3,7 @@ ghost use Rattle.std.specs.Prelude.{◌≡◌, IfOk};
 ghost use Rattle.std.specs.Arc.{arc_value};
 ghost use Rattle.cs_plan.specs.Scenes as model;
 
+use crate::gate::LetThrough;
 use cs_plan::{MakeFault, Published, Scene};
 use std::alloc::Global;
 use std::marker::{Brand, Model, PhantomData};
@@ -59,7 +60,7 @@ impl<N: Staged> Model for Made<N> {
 
 /// What a worker tells of a number: the state, or that memory refused it.
 #[derive(Drop)]
-pub(crate) enum Told<N: Staged> {
+pub(crate) enum FromWorker<N: Staged> {
     State(Made<N>),
     NoMemory,
 }
@@ -76,11 +77,11 @@ impl<N: Staged> Stage<N> {
     }
 
     /// The state of that number, made anew.
-    pub(crate) fn make(&self, alloc: Global, number: u32) -> Result<Made<N>, MakeFault>
+    pub(crate) fn make(&self, alloc: Global, number: LetThrough) -> Result<Made<N>, MakeFault>
         ensures number { IfOk result (λ made. made.number ≡ number) }
         ensures scene { IfOk result (λ made. made.scene ≡ self.now) }
     {
-        let state = Scene::make(alloc, &self.scene, number)?;
+        let state = Scene::make(alloc, &self.scene, number.number())?;
         Ok(Made {
             state,
             of: PhantomData,

@@ -6,8 +6,8 @@ use Rattle.cs_names.specs.declared.limits.TheConstants.{RUNS}
 use Rattle.cs_plan.specs.Scenes.{IsPublished, Scene, state_at}
 use Rattle.cs_tree_model.specs.Tree.{Tree}
 use Rattle.cs_users.specs.Rows.{Row}
-use Rattle.cs_registry.specs.declared.fault.FindFault.{FindFault}
-use Rattle.cs_registry.specs.declared.fault.FindFault.TheVariants.{Unpublished, Full, Memory}
+use Rattle.cs_permit.specs.declared.fault.FindFault.{FindFault}
+use Rattle.cs_permit.specs.declared.fault.FindFault.TheVariants.{Unpublished, Full, Memory}
 use Rattle.cs_registry.specs.Keys.{Key}
 use Rattle.cs_registry.specs.Registries.{IsKept, Registry, is_published}
 use Rattle.cs_registry.specs.Runs.{Runs, has_no_room, place_of, room_ends, with_find, with_run}

@@ -8,7 +8,7 @@ use Rattle.std.specs.Option.{option_map, option_map_or}
 use Rattle.indexmap.proofs.MapLemmas.{Missing-position}
 use Rattle.cs_tree_model.specs.Tree.{Tree}
 use Rattle.cs_users.specs.Rows.{Row}
-use Rattle.cs_registry.specs.declared.fault.FindFault.{FindFault}
+use Rattle.cs_permit.specs.declared.fault.FindFault.{FindFault}
 use Rattle.cs_registry.specs.declared.found.Found.{Found}
 use Rattle.cs_registry.specs.Keys.{Key, same_key, same_key-laws}
 use Rattle.cs_registry.specs.Registries.{Registry, is_published}
@@ -18,7 +18,7 @@ use Rattle.cs_registry.proofs.Finding.{when_found, when_full, when_new, when_unp
 
 -- ---- a list that changes at one place, or at its end
 
-get_set_other : {X : Type 0} (xs : List X) (place other : ℕ) (x : X) → other ≢ place → slice_get (slice_set xs place x) other ≡ slice_get xs other
+pub get_set_other : {X : Type 0} (xs : List X) (place other : ℕ) (x : X) → other ≢ place → slice_get (slice_set xs place x) other ≡ slice_get xs other
 get_set_other [] place other x apart = refl
 get_set_other (y ∷ ys) zero zero x apart = absurd (apart refl)
 get_set_other (y ∷ ys) zero (suc other) x apart = refl
@@ -67,6 +67,12 @@ length_keys : {K X : Type 0} (es : List (K × X)) → length (keys_of es) ≡ le
 length_keys [] = refl
 length_keys (e ∷ es) = ap suc (length_keys es)
 
+no_place : (place : ℕ) → Some place ≡ None → ⊥
+no_place place h = cc
+
+some_same : (place before : ℕ) → Some place ≡ Some before → place ≡ before
+some_same place before h = cc
+
 module _ {H : Type 0} (is_fresh : ℕ → Tree → List Row → H → Type 0) (old : Registry H) (key : Key) where
   -- the last run, of a key that had none
   placed_last : (run : Found H) → place_of key old.runs ≡ None → place_of key (old.runs ++ (key, run) ∷ []) ≡ Some (length old.runs)
@@ -81,9 +87,6 @@ module _ {H : Type 0} (is_fresh : ℕ → Tree → List Row → H → Type 0) (o
     fresh = λ _. subst (λ (o : Option (Key × Found H)). IsSomeAnd (option_map (λ e. e.1.held) o) (IsNew is_fresh old key.number)) (sym (get_pushed_own old.runs _)) new;
     others = λ other apart. get_pushed_other old.runs other _ apart;
   }
-    where
-      no_place : (k : ℕ) → Some k ≡ None → ⊥
-      no_place k h = cc
 
   old_run : (place : ℕ) (o : Option (Key × Found H)) → slice_get old.runs place ≡ o → place_of key old.runs ≡ Some place → IsFound is_fresh old key place (record old { runs = option_map_or (λ e. slice_set old.runs place (e.0, record e.1 { finds = e.1.finds + 1 })) o old.runs })
   old_run place None there here = record {
@@ -92,24 +95,12 @@ module _ {H : Type 0} (is_fresh : ℕ → Tree → List Row → H → Type 0) (o
     fresh = λ none. absurd (no_place place (sym here ∙ none));
     others = λ other apart. refl;
   }
-    where
-      no_place : (k : ℕ) → Some k ≡ None → ⊥
-      no_place k h = cc
-
-      some_same : (k j : ℕ) → Some k ≡ Some j → k ≡ j
-      some_same k j h = cc
   old_run place (Some e) there here = record {
     here = ap (λ ks. position (same_key key) ks) (keys_set old.runs place e.0 e.1 _ there) ∙ here;
     same = λ before was. (some_same place before (sym here ∙ was), ap (option_map (λ (run : Key × Found H). run.1.held)) (get_set_own old.runs place _ e there) ∙ sym (ap (option_map (λ (run : Key × Found H). run.1.held)) there));
     fresh = λ none. absurd (no_place place (sym here ∙ none));
     others = λ other apart. get_set_other old.runs place other _ apart;
   }
-    where
-      no_place : (k : ℕ) → Some k ≡ None → ⊥
-      no_place k h = cc
-
-      some_same : (k j : ℕ) → Some k ≡ Some j → k ≡ j
-      some_same k j h = cc
 
   abbrev Told : Result ℕ FindFault × Registry H → Type 0
   Told told = IfOk told.0 (λ place. IsFound is_fresh old key place told.1)

@@ -13,4 +13,6 @@ same_key k l = nat_eq k.number l.number && same_bytes k.name l.name
 
 -- keys that are the same are alike
 pub same_key-laws : IsEquivalence same_key
-same_key-laws = and_equiv (on_equiv (λ (key : Key). key.number) nat_eq_equiv) (on_equiv (λ (key : Key). key.name) nat_list_eq_equiv)
+same_key-laws =
+    and_equiv (on_equiv (λ (key : Key). key.number) nat_eq_equiv)
+    (on_equiv (λ (key : Key). key.name) nat_list_eq_equiv)

@@ -15,4 +15,7 @@ are_few_digits bytes = nat_le (length bytes) 5 && list_all is_digit bytes
 
 -- the key of the run that a tree's name names, if its parts are a number and a run's name
 abbrev pub key_in : List ℕ → List ℕ → Option Key
-key_in state name = if are_few_digits state && is_run_name name then Some (record { number = number_in state; name = name }) else None
+key_in state name =
+    if are_few_digits state && is_run_name name
+    then Some (record { number = number_in state; name = name })
+    else None

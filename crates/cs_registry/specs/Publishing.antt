@@ -8,14 +8,20 @@ use Rattle.cs_registry.specs.declared.fault.PublishFault.TheVariants.{Stranger, 
 module _ {H : Type 0} where
   -- the state is one of the registry's own scene
   abbrev pub Belongs : Registry H → Published → Type 0
-  Belongs registry state = (state.number < length registry.scene.plan) × (state.scene ≡ registry.scene)
+  Belongs registry state =
+      (state.number < length registry.scene.plan) × (state.scene ≡ registry.scene)
 
   abbrev pub with_published : Registry H → ℕ → Registry H
-  with_published registry number = record registry { published = slice_set registry.published number true }
+  with_published registry number =
+      record registry { published = slice_set registry.published number true }
 
   -- what is answered, and what is left: Stranger comes first, then Twice, and want of memory last
   abbrev pub Publishes : Registry H → Published → Result Unit PublishFault → Registry H → Type 0
-  Publishes old state (Ok _) new = Belongs old state × (is_published old state.number ≡ false) × (new ≡ with_published old state.number)
+  Publishes old state (Ok _) new =
+      Belongs old state × (is_published old state.number ≡ false)
+      × (new ≡ with_published old state.number)
   Publishes old state (Err Stranger) new = (¬ Belongs old state) × (new ≡ old)
-  Publishes old state (Err Twice) new = Belongs old state × (is_published old state.number ≡ true) × (new ≡ old)
-  Publishes old state (Err Memory) new = Belongs old state × (is_published old state.number ≡ false) × (new ≡ old)
+  Publishes old state (Err Twice) new =
+      Belongs old state × (is_published old state.number ≡ true) × (new ≡ old)
+  Publishes old state (Err Memory) new =
+      Belongs old state × (is_published old state.number ≡ false) × (new ≡ old)

@@ -16,7 +16,12 @@ pub record Registry (H : Type 0) : Type 0 where
 module _ {H : Type 0} where
   -- nothing is published, and there is no run
   abbrev pub empty : Scene → List Row → Registry H
-  empty scene users = record { scene = scene; users = users; published = replicate (length scene.plan) false; runs = [] }
+  empty scene users = record {
+    scene = scene;
+    users = users;
+    published = replicate (length scene.plan) false;
+    runs = [];
+  }
 
   abbrev pub is_published : Registry H → ℕ → Bool
   is_published registry number = slice_index_or registry.published number false
@@ -31,12 +36,16 @@ module _ {H : Type 0} where
 
 -- every state of the scene may be published under its number
 abbrev pub AdmitsAll : (ℕ → Tree → Type 0) → Scene → Type 0
-AdmitsAll admits scene = (state : Published) → IsPublished state → state.scene ≡ scene → admits state.number state.tree
+AdmitsAll admits scene =
+    (state : Published) → IsPublished state → state.scene ≡ scene → admits state.number state.tree
 
--- what is stored for a registry: each state that is there is the state of its number, and may be published under it
-pub record IsKept {H A : Type 0} (admits : ℕ → Tree → Type 0) (scene : Scene) (tree_of : A → Tree) (states : List (Option A)) (missing : ℕ) (runs : Runs H) : Type 0 where
+-- what is stored for a registry: each state that is there is the state of its number, and may be
+-- published under it
+pub record IsKept {H A : Type 0} (admits : ℕ → Tree → Type 0) (scene : Scene) (tree_of : A → Tree)
+    (states : List (Option A)) (missing : ℕ) (runs : Runs H) : Type 0 where
   pub each : length states ≡ length scene.plan
-  pub made : (number : ℕ) (state : A) → slice_get states number ≡ Some (Some state) → IsPublished (record { number = number; scene = scene; tree = tree_of state })
+  pub made : (number : ℕ) (state : A) → slice_get states number ≡ Some (Some state)
+      → IsPublished (record { number = number; scene = scene; tree = tree_of state })
   pub admitted : AdmitsAll admits scene
   pub left : missing ≡ count_by not (map is_some states)
   pub few : length runs ≤ RUNS

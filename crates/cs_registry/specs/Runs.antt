@@ -28,7 +28,8 @@ module _ {H : Type 0} where
   finds_at runs place = option_map (λ run. run.1.finds) (slice_get runs place)
 
   abbrev pub change : (Found H → Found H) → ℕ → Runs H → Runs H
-  change new place runs = option_map_or (λ run. slice_set runs place (run.0, new run.1)) (slice_get runs place) runs
+  change new place runs =
+      option_map_or (λ run. slice_set runs place (run.0, new run.1)) (slice_get runs place) runs
 
   -- with another value kept of the run at a place
   abbrev pub with_held : Runs H → ℕ → H → Runs H

@@ -50,7 +50,9 @@ impl RunKey {
 
     /// The key of the run whose name the bytes spell; None where they spell none.
     pub fn read(number: u32, name: &[u8]) -> Option<RunKey>
-        ensures { MatchOption result (is_run_name name.now ≡ false) (λ key. (is_run_name name.now ≡ true) × (key ≡ record { number = number; name = name.now })) }
+        ensures { MatchOption result (is_run_name name.now ≡ false)
+            (λ key. (is_run_name name.now ≡ true)
+            × (key ≡ record { number = number; name = name.now })) }
     {
         if !RunName::is_legal(name) {
             return None;
@@ -64,8 +66,8 @@ impl RunKey {
         }
     }
 
-    /// The key of the run that a tree's name names; None where its parts are no number of at most five
-    /// digits, or no run's name. It takes no memory.
+    /// The key of the run that a tree's name names; None where its parts are no number of at most
+    /// five digits, or no run's name. It takes no memory.
     pub fn named(name: &TreeName) -> Option<RunKey>
         ensures { result ≡ key_in name.now.state.now name.now.run.now }
     {

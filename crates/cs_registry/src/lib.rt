@@ -7,7 +7,8 @@ mod held;
 mod key;
 mod states;
 
-pub use fault::{FindFault, PublishFault};
+pub use cs_permit::FindFault;
+pub use fault::PublishFault;
 pub use found::Found;
 pub use held::Held;
 pub use key::RunKey;

@@ -8,7 +8,7 @@ use Rattle.std.specs.List.Sorted.{IsBinarySearchResult, IsNonDecreasingBy}
 use Rattle.std.specs.Option.{option_map_or}
 use Rattle.std.specs.Ordering.{nat_cmp, ordering_index}
 use Rattle.std.specs.Prelude.{nat_lt, take}
-use Rattle.cs_permit.specs.Calls.{State}
+use Rattle.cs_permit.specs.Calls.{RulesView}
 use Rattle.cs_permit.specs.declared.call.Call.{Call}
 use Rattle.cs_permit.specs.declared.call.OpenFile.{OpenFile}
 use Rattle.cs_run.proofs.OpenLaws.{as_left, one_more}
@@ -105,7 +105,7 @@ released_if_below n (Some number) pass opens below = released_below n number pas
 more_below : (n : ℕ) (opens : List OpenFile) → AreBelow n opens → AreBelow (n + 1) opens
 more_below n opens below = All-weaker (λ o. o.number < n) (λ o. o.number < n + 1) (λ o less. omega arith) opens below
 
-granted_below : (s : State) (w : Turn) (call : Call) (b : Bool) → opens_one call ≡ b → AreBelow w.place s.opens → AreBelow (w.place + 1) (effect_of s w call).opens
+granted_below : (s : RulesView) (w : Turn) (call : Call) (b : Bool) → opens_one call ≡ b → AreBelow w.place s.opens → AreBelow (w.place + 1) (effect_of s w call).opens
 granted_below s w call true one below =
     let made = one_more s w call one in
     let own : made.one.number < w.place + 1 = rw made.number (omega arith) in
@@ -114,7 +114,7 @@ granted_below s w call false none below =
     rw (as_left s w call none) (more_below w.place _ (released_if_below w.place (closes call) w.pass s.opens below))
 
 -- the numbers of the opens that a call leaves are below that of the next call's open
-pub stays_below : (s : State) (w : Turn) (call : Call) (o : Outcome) → AreBelow w.place s.opens → AreBelow (w.place + 1) (applied s w call o).opens
+pub stays_below : (s : RulesView) (w : Turn) (call : Call) (o : Outcome) → AreBelow w.place s.opens → AreBelow (w.place + 1) (applied s w call o).opens
 stays_below s w call out.Granted below = granted_below s w call (opens_one call) refl below
 stays_below s w call (out.Denied rule) below = more_below w.place _ (released_if_below w.place (closes call) w.pass s.opens below)
 stays_below s w call out.Short below = more_below w.place _ (released_if_below w.place (closes call) w.pass s.opens below)

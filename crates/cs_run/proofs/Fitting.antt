@@ -1,45 +1,29 @@
 -- A read gives no more bytes than it asks for, and a walk no more qids than it has names.
-use Rattle.std.proofs.Common.{◌≡◌, ◌+◌, ◌-◌, ◌≤◌, ℕ, suc, Bool, true, false, if◌then◌else◌, nat_le, List, [], ◌∷◌, ◌++◌, length, take, drop, Option, Some, None, Result, Ok, Err, refl, ap, arith, unwrap_or}
-use Rattle.std.proofs.lemmas.Bool.{leb-true}
-use Rattle.std.proofs.lemmas.List.{length-append, length-take}
+use Rattle.std.proofs.Common.{◌≡◌, ◌≤◌, ℕ, suc, Bool, true, false, if◌then◌else◌, List, [], ◌∷◌, length, take, drop, Option, Some, None, Result, Ok, Err, refl, arith, unwrap_or}
+use Rattle.std.proofs.lemmas.List.{length-take}
 use Rattle.std.specs.Option.{option_map}
-use Rattle.std.specs.Prelude.{map, string_bytes, String}
-use Rattle.std.specs.Global.{Global}
 use Rattle.cs_names.specs.declared.rule_id.RuleId.{RuleId}
-use Rattle.cs_permit.specs.Calls.{State}
+use Rattle.cs_permit.specs.Calls.{RulesView}
 use Rattle.cs_permit.specs.Reads.{name_before}
 use Rattle.cs_permit.specs.Rules.{is_directory, on_file}
-use Rattle.cs_permit.specs.Shown.{entry_bytes}
 use Rattle.cs_permit.specs.Walks.{element}
 use Rattle.cs_permit.specs.declared.call.Call.{Call}
 use Rattle.cs_permit.specs.declared.call.Call.TheVariants.{Attach, Walk, Open, Create, Read, Write, Close, Remove, Stat, Wstat}
 use Rattle.cs_permit.specs.declared.call.ReadCall.{ReadCall}
+use Rattle.cs_run.proofs.Most.{fullest}
 use Rattle.cs_run.specs.Effects.{effect_of}
 use Rattle.cs_run.specs.Laws.{FitsCall, bytes_in, qids_in}
 use Rattle.cs_run.specs.Outcomes.{applied}
-use Rattle.cs_run.specs.Pages.{Page, bytes_given, entries_given, given, no_more, onto, page}
+use Rattle.cs_run.specs.Pages.{bytes_given, entries_given, given}
 use Rattle.cs_run.specs.Walks.{Way, go_on, way}
 use Rattle.cs_run.specs.declared.answer.Answer.{Answer}
 use Rattle.cs_run.specs.declared.answer.Answer.TheVariants as a
 use Rattle.cs_run.specs.declared.answer.Outcome.{Outcome}
 use Rattle.cs_run.specs.declared.answer.Outcome.TheVariants as o
 use Rattle.cs_run.specs.declared.turn.Turn.{Turn}
-use Rattle.cs_tree_model.specs.Tree.{NameBytes, Tree, content_numbered}
+use Rattle.cs_tree_model.specs.Nexts.{names_after}
+use Rattle.cs_tree_model.specs.Tree.{Tree, content_numbered}
 use Rattle.cs_users.specs.Rows.{Row}
-
-page_fits : (t : Tree) (d room : ℕ) (last : Option NameBytes) (names : List NameBytes) → length (page t d room last names).bytes ≤ room
-page_fits t d room last [] = omega arith
-page_fits t d room last (x ∷ xs) = by (nat_le (length (entry_bytes t d x)) room) refl (page_fits t d (room - length (entry_bytes t d x)) (Some x) xs)
-  where
-    rest : Page
-    rest = page t d (room - length (entry_bytes t d x)) (Some x) xs
-
-    by : (b : Bool) → nat_le (length (entry_bytes t d x)) room ≡ b → length rest.bytes ≤ room - length (entry_bytes t d x) → length (if b then onto (entry_bytes t d x) rest else no_more last).bytes ≤ room
-    by true p few =
-        let fits : length (entry_bytes t d x) ≤ room = leb-true (length (entry_bytes t d x)) room p in
-        let all : length (entry_bytes t d x ++ rest.bytes) ≡ length (entry_bytes t d x) + length rest.bytes = length-append (entry_bytes t d x) rest.bytes in
-        omega arith
-    by false p few = omega arith
 
 take_fits : (n : ℕ) (bytes : List ℕ) → length (take n bytes) ≤ n
 take_fits n bytes = omega (arith, length-take n bytes)
@@ -52,7 +36,7 @@ read_fits : (t : Tree) (c : ReadCall) → length (given t c).bytes ≤ c.count
 read_fits t c = by (on_file t c.number is_directory)
   where
     by : (b : Bool) → length (if b then entries_given t c else bytes_given t c).bytes ≤ c.count
-    by true = page_fits t c.number c.count (name_before c) _
+    by true = (fullest t c.number c.count (name_before c) (names_after t c.number (name_before c))).fits
     by false = bytes_fit c.count c.offset (content_numbered t c.number)
 
 further_fits : (t : Tree) (n : ℕ) (rest : ℕ → Way) (k : ℕ) → ((m : ℕ) → length (rest m).qids ≤ k) → (r : Result ℕ RuleId) → length (go_on rest t n r).qids ≤ suc k
@@ -62,10 +46,6 @@ further_fits t n rest k few (Ok m) = (let less = few m in omega arith)
 walk_fits : (t : Tree) (us : List Row) (u : List ℕ) (n : ℕ) (names : List (List ℕ)) → length (way t us u n names).qids ≤ length names
 walk_fits t us u n [] = omega arith
 walk_fits t us u n (x ∷ xs) = further_fits t n (λ m. way t us u m xs) (length xs) (λ m. walk_fits t us u m xs) (element t us u n x)
-
-same_length : (names : List (String Global)) → length (map string_bytes names) ≡ length names
-same_length [] = refl
-same_length (x ∷ xs) = ap suc (same_length xs)
 
 -- an answer without bytes and qids fits every call
 empty_fits : (call : Call) (answer : Answer) → bytes_in answer ≡ 0 → qids_in answer ≡ 0 → FitsCall call answer
@@ -80,9 +60,9 @@ empty_fits (Remove c) answer b q = tt
 empty_fits (Stat c) answer b q = tt
 empty_fits (Wstat c) answer b q = tt
 
-granted_fits : (s : State) (w : Turn) (call : Call) → FitsCall call (effect_of s w call).answer
+granted_fits : (s : RulesView) (w : Turn) (call : Call) → FitsCall call (effect_of s w call).answer
 granted_fits s w (Attach c) = tt
-granted_fits s w (Walk c) = (let few = walk_fits s.tree s.users c.user c.number (map string_bytes c.names.items) in let same = same_length c.names.items in omega arith)
+granted_fits s w (Walk c) = walk_fits s.tree s.users c.user c.number c.names
 granted_fits s w (Open c) = tt
 granted_fits s w (Create c) = tt
 granted_fits s w (Read c) = read_fits s.tree c
@@ -92,7 +72,7 @@ granted_fits s w (Remove c) = tt
 granted_fits s w (Stat c) = tt
 granted_fits s w (Wstat c) = tt
 
-pub fits : (s : State) (w : Turn) (call : Call) (end : Outcome) → FitsCall call (applied s w call end).answer
+pub fits : (s : RulesView) (w : Turn) (call : Call) (end : Outcome) → FitsCall call (applied s w call end).answer
 fits s w call o.Granted = granted_fits s w call
 fits s w call (o.Denied rule) = empty_fits call (a.Denied rule) refl refl
 fits s w call o.Short = empty_fits call a.Short refl refl

@@ -2,7 +2,9 @@ pub mod Ascending
 pub mod Asking
 pub mod Joining
 pub mod Bounding
+pub mod Ending
 pub mod Fitting
+pub mod Most
 pub mod OpenLaws
 pub mod Stopping
 pub mod Trees

@@ -17,13 +17,13 @@ use Rattle.cs_tree_model.specs.Laws.Paths.{insert_cases, path_total, path_exact}
 use Rattle.cs_tree_model.specs.Maps.Changes.{get-remove_same, get-remove_other, key_cases}
 use Rattle.cs_tree_model.specs.Laws.Numbers.{found_numbered, has_number}
 use Rattle.cs_tree_model.specs.Laws.Numbered.{next_changed, next_removed, next_written}
-use Rattle.cs_permit.specs.Calls.{State}
+use Rattle.cs_permit.specs.Calls.{RulesView}
 use Rattle.cs_permit.specs.Writes.{write_start}
 use Rattle.cs_permit.specs.declared.call.Call.{Call}
 use Rattle.cs_permit.specs.declared.call.Call.TheVariants.{Attach, Walk, Open, Create, Read, Write, Close, Remove, Stat, Wstat}
 use Rattle.cs_permit.specs.declared.call.OpenFile.{OpenFile}
 use Rattle.cs_permit.specs.declared.call.WstatCall.{WstatCall}
-use Rattle.cs_run.specs.Effects.{asked, changed_by, changes_some, closed_tree, effect_of, emptying, empties, new_file, removes, stamp, writes, open_effect, create_effect, write_effect, close_effect, remove_effect, wstat_effect}
+use Rattle.cs_run.specs.Effects.{change_asked, changed_by, changes_some, closed_tree, effect_of, emptying, empties, new_file, removes, stamp, writes, open_effect, create_effect, write_effect, close_effect, remove_effect, wstat_effect}
 use Rattle.cs_run.specs.Laws.{AllVersBelow, RaisesByOne}
 use Rattle.cs_run.specs.Opens.{open_numbered}
 use Rattle.cs_run.specs.Outcomes.{applied}
@@ -185,7 +185,7 @@ asked_raises : (t : Tree) (w : Turn) (c : WstatCall) (o : Option Change) → Rai
 asked_raises t w c None = same t
 asked_raises t w c (Some x) = choose (changes_some x) t (changed c.number x (stamp w c.user) t) (changed_raises t c.number x (stamp w c.user))
 
-pub effect_raises : (s : State) (w : Turn) (call : Call) → RaisesByOne s.tree (effect_of s w call).tree
+pub effect_raises : (s : RulesView) (w : Turn) (call : Call) → RaisesByOne s.tree (effect_of s w call).tree
 unfolding open_effect create_effect write_effect close_effect remove_effect wstat_effect
 effect_raises s w (Attach c) = same s.tree
 effect_raises s w (Walk c) = same s.tree
@@ -195,13 +195,13 @@ effect_raises s w (Create c) = record {
   next = added_next s.tree c.number c.name (new_file s.tree c) (stamp w c.user);
 }
 effect_raises s w (Read c) = same s.tree
-effect_raises s w (Write c) = choose (writes s.tree c) s.tree (written_to c.number (write_start s.tree c) c.bytes.items (stamp w c.user) s.tree) (written_raises s.tree c.number (write_start s.tree c) c.bytes.items (stamp w c.user))
+effect_raises s w (Write c) = choose (writes s.tree c) s.tree (written_to c.number (write_start s.tree c) c.bytes (stamp w c.user) s.tree) (written_raises s.tree c.number (write_start s.tree c) c.bytes (stamp w c.user))
 effect_raises s w (Close c) = closed_raises s.tree w c.user (open_numbered c.open_number w.pass s.opens)
 effect_raises s w (Remove c) = removed_raises s.tree c.number (stamp w c.user)
 effect_raises s w (Stat c) = same s.tree
-effect_raises s w (Wstat c) = asked_raises s.tree w c (asked s.tree c)
+effect_raises s w (Wstat c) = asked_raises s.tree w c (change_asked s.tree c)
 
-pub step_raises : (s : State) (w : Turn) (call : Call) (o : Outcome) → RaisesByOne s.tree (applied s w call o).tree
+pub step_raises : (s : RulesView) (w : Turn) (call : Call) (o : Outcome) → RaisesByOne s.tree (applied s w call o).tree
 step_raises s w call Granted = effect_raises s w call
 step_raises s w call (Denied rule) = same s.tree
 step_raises s w call Short = same s.tree

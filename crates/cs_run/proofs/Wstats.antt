@@ -9,7 +9,7 @@ use Rattle.cs_permit.specs.Rules.{file_at, is_directory}
 use Rattle.cs_permit.specs.Wstats.{field_rules, group_rules, is_bad_mode, length_rules, mode_rules, name_rules, number_beside, wstat_rules}
 use Rattle.cs_permit.specs.declared.call.WstatCall.{WstatCall}
 use Rattle.cs_run.proofs.Trees.{file_has_bytes}
-use Rattle.cs_run.specs.Effects.{asked, change_of}
+use Rattle.cs_run.specs.Effects.{change_asked, change_of}
 use Rattle.cs_tree_model.specs.Mode.{is_directory_mode}
 use Rattle.cs_tree_model.specs.Record.{metadata_of}
 use Rattle.cs_tree_model.specs.Stores.{KeepsKind}
@@ -53,7 +53,7 @@ record Granted (t : Tree) (us : List Row) (c : WstatCall) (x : Change) : Type 0 
   same : change_of t c file ≡ x
   pass : AllPass (field_rules t us c file)
 
-module _ (t : Tree) (us : List Row) (c : WstatCall) (x : Change) (pass : AllPass (wstat_rules t us c)) (is : asked t c ≡ Some x) where
+module _ (t : Tree) (us : List Row) (c : WstatCall) (x : Change) (pass : AllPass (wstat_rules t us c)) (is : change_asked t c ≡ Some x) where
   granted : Granted t us c x
   granted = by (file_at t c.number) refl is pass.1.1
     where

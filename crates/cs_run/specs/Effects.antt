@@ -19,7 +19,7 @@ use Rattle.cs_permit.specs.declared.call.RemoveCall.{RemoveCall}
 use Rattle.cs_permit.specs.declared.call.StatCall.{StatCall}
 use Rattle.cs_permit.specs.declared.call.WriteCall.{WriteCall}
 use Rattle.cs_permit.specs.declared.call.WstatCall.{WstatCall}
-use Rattle.cs_permit.specs.Calls.{State}
+use Rattle.cs_permit.specs.Calls.{RulesView}
 use Rattle.cs_permit.specs.Modes.{removes_on_close, truncates}
 use Rattle.cs_permit.specs.Changes.{new_group, new_length, new_mode, new_mtime, new_name}
 use Rattle.cs_permit.specs.Rules.{file_at, is_append_only, on_file}
@@ -105,15 +105,15 @@ create_effect t os w c =
 
 -- a write puts at least one byte, and not into a directory, on which no fid is open for writing
 abbrev pub writes : Tree → WriteCall → Bool
-writes t c = not (length c.bytes.items == 0) && is_some (content_numbered t c.number)
+writes t c = not (length c.bytes == 0) && is_some (content_numbered t c.number)
 
 -- the tree with the bytes of a write
 abbrev pub written_tree : Tree → Turn → WriteCall → Tree
-written_tree t w c = if writes t c then written_to c.number (write_start t c) c.bytes.items (stamp w c.user) t else t
+written_tree t w c = if writes t c then written_to c.number (write_start t c) c.bytes (stamp w c.user) t else t
 
 -- a write tells how many bytes it has
 unfoldable pub write_effect : Tree → List OpenFile → Turn → WriteCall → Left
-write_effect t os w c = left (written_tree t w c) os (a.Written (length c.bytes.items))
+write_effect t os w c = left (written_tree t w c) os (a.Written (length c.bytes))
 
 -- ---- close and remove
 
@@ -149,8 +149,8 @@ change_of t c file = record {
 }
 
 -- the change that a wstat asks for, if its file is there
-abbrev pub asked : Tree → WstatCall → Option Change
-asked t c = option_map (change_of t c) (file_at t c.number)
+abbrev pub change_asked : Tree → WstatCall → Option Change
+change_asked t c = option_map (change_of t c) (file_at t c.number)
 
 -- a change names a field
 abbrev pub changes_some : Change → Bool
@@ -162,7 +162,7 @@ changed_by t w c x = if changes_some x then changed c.number x (stamp w c.user) 
 
 -- with all fields that are new, in one change
 abbrev pub changed_tree : Tree → Turn → WstatCall → Tree
-changed_tree t w c = option_map_or (changed_by t w c) (asked t c) t
+changed_tree t w c = option_map_or (changed_by t w c) (change_asked t c) t
 
 -- a wstat changes the file
 unfoldable pub wstat_effect : Tree → List OpenFile → Turn → WstatCall → Left
@@ -177,7 +177,7 @@ stat_answer t c = option_map_or a.Stat (stat_at t c.number) (a.Denied H2)
 -- ---- every call
 
 -- what each call leaves that is granted
-abbrev pub effect_of : State → Turn → Call → Left
+abbrev pub effect_of : RulesView → Turn → Call → Left
 effect_of s w (Attach c) = left s.tree s.opens (a.Attached (qid_at s.tree 0))
 effect_of s w (Walk c) = left s.tree s.opens (a.Walked (way_asked s.tree s.users c))
 effect_of s w (Open c) = open_effect s.tree s.opens w c

@@ -1,7 +1,7 @@
 -- What calls do to the opens, the versions and the next number of a run.
 use Rattle.std.specs.Prelude.{◌≡◌, ℕ, ◌+◌, ◌<◌, ◌≤◌, Bool, true, false, List, [], ◌∷◌, ◌++◌, Some, length}
 use Rattle.cs_permit.specs.declared.call.Call.{Call}
-use Rattle.cs_permit.specs.declared.call.Call.TheVariants.{Attach, Walk, Open, Create, Read, Write, Close, Remove, Stat, Wstat}
+use Rattle.cs_permit.specs.declared.call.Call.TheVariants.{Create, Open, Read, Walk}
 use Rattle.cs_permit.specs.declared.call.OpenFile.{OpenFile}
 use Rattle.cs_run.specs.declared.answer.Answer.{Answer}
 use Rattle.cs_run.specs.declared.answer.Answer.TheVariants as a
@@ -13,14 +13,7 @@ use Rattle.cs_tree_model.specs.declared.record.Record.{Record}
 abbrev pub opens_one : Call → Bool
 opens_one (Open c) = true
 opens_one (Create c) = true
-opens_one (Attach c) = false
-opens_one (Walk c) = false
-opens_one (Read c) = false
-opens_one (Write c) = false
-opens_one (Close c) = false
-opens_one (Remove c) = false
-opens_one (Stat c) = false
-opens_one (Wstat c) = false
+opens_one other = false
 
 -- one open more, the last, with the number and the pass of the turn
 pub record OpensOne (old new : List OpenFile) (w : Turn) : Type 0 where
@@ -56,5 +49,5 @@ qids_in other = 0
 -- the answer has no more bytes than a read asks for, and no more qids than a walk has names
 abbrev pub FitsCall : Call → Answer → Type 0
 FitsCall (Read c) answer = bytes_in answer ≤ c.count
-FitsCall (Walk c) answer = qids_in answer ≤ length c.names.items
+FitsCall (Walk c) answer = qids_in answer ≤ length c.names
 FitsCall other answer = Unit {0}

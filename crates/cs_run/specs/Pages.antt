@@ -1,5 +1,6 @@
 -- What a read gives: bytes of a file, or as many whole entries of a directory as fit (read(5)).
-use Rattle.std.specs.Prelude.{ℕ, ◌+◌, ◌-◌, ◌==◌, nat_le, min, if◌then◌else◌, List, [], ◌∷◌, ◌++◌, Option, None, Some, length, option_copied, unwrap_or}
+use Rattle.std.specs.Prelude.{◌≡◌, ℕ, ◌+◌, ◌<◌, ◌≤◌, ◌-◌, ◌==◌, nat_le, min, if◌then◌else◌, List, [], ◌∷◌, ◌++◌, Option, None, Some, length, option_copied, unwrap_or, IfSome, slice_get}
+use Rattle.std.specs.List.{flat_map}
 use Rattle.cs_fids.specs.declared.place.Place.{Place}
 use Rattle.cs_permit.specs.declared.call.ReadCall.{ReadCall}
 use Rattle.cs_permit.specs.Reads.{name_before}
@@ -37,6 +38,15 @@ page t d room last (x ∷ xs) =
 -- the same of all names of the directory after the last one
 abbrev pub page_after : Tree → ℕ → ℕ → Option NameBytes → Page
 page_after t d room last = page t d room last (names_after t d last)
+
+-- a page has the whole entries of a front of the names, which fit; the entry of the next name, if any, doesn't fit behind them
+pub record IsFullest (t : Tree) (d room : ℕ) (names : List NameBytes) (p : Page) : Type 0 where
+  pub front : List NameBytes
+  pub rest : List NameBytes
+  pub whole : names ≡ front ++ rest
+  pub entries : p.bytes ≡ flat_map (entry_bytes t d) front
+  pub fits : length p.bytes ≤ room
+  pub next : IfSome (slice_get rest 0) (λ x. room < length p.bytes + length (entry_bytes t d x))
 
 -- What a read gives: bytes, and of a directory where its next read goes on, if that moved.
 pub record Given : Type 0 where

@@ -6,9 +6,8 @@ ghost use Rattle.cs_permit.specs.Refusals.{AllPass};
 ghost use Rattle.cs_permit.specs.Rules.{is_exclusive, on_file};
 ghost use Rattle.cs_run.specs.Effects.{effect_of, left};
 ghost use Rattle.cs_run.specs.Laws.{FitsCall};
-ghost use Rattle.cs_run.specs.Marks.{CallMark};
 ghost use Rattle.cs_run.specs.Opens.{AreBelow, released_if};
-ghost use Rattle.cs_run.specs.Outcomes.{closes, outcome, stepped, takes_memory};
+ghost use Rattle.cs_run.specs.Outcomes.{IsOutcomeOf, closes, takes_memory};
 ghost use Rattle.cs_tree_model.specs.Stores.{CanStamp};
 ghost use Rattle.cs_users.specs.Rows.{Row};
 
@@ -25,7 +24,7 @@ use crate::walking::{act_walk, walk};
 use crate::writing::act_write;
 use crate::wstating::act_wstat;
 use cs_permit::rules::is_exclusive;
-use cs_permit::{Call, OpenCall, OpenFile, first_failing, first_rule_that_fails, qid_at};
+use cs_permit::{Call, OpenCall, OpenFile, first_failing, laws, qid_at};
 use cs_tree_model::{TreeRead, TreeStore};
 use cs_users::Users;
 use std::alloc::{AllocError, Global};
@@ -39,13 +38,17 @@ fn grant<T: TreeStore>(
     users: &Users,
     turn: Turn,
 ) -> Result<Answer, AllocError>
-    requires granted { AllPass (rules_of (state (T.tree tree.old) opens.old.items users.now) call.now) }
+    requires granted { AllPass
+        (rules_of (state (T.tree tree.old) opens.old.items users.now) call.now) }
     requires vers { (n : ℕ) → CanStamp (T.tree tree.old) n }
     requires next { (T.tree tree.old).next < 2 ^ 64 }
     requires above { AreBelow turn.place opens.old.items }
-    ensures ok { IfOk result (λ answer. left (T.tree tree.new) opens.new.items answer ≡ effect_of (state (T.tree tree.old) opens.old.items users.now) turn call.now) }
-    ensures memory { OnErr result (takes_memory (state (T.tree tree.old) opens.old.items users.now) turn call.now ≡ true) }
-    ensures err { OnErr result ((T.tree tree.new ≡ T.tree tree.old) × (opens.new.items ≡ released_if (closes call.now) turn.pass opens.old.items)) }
+    ensures ok { IfOk result (λ answer. left (T.tree tree.new) opens.new.items answer
+        ≡ effect_of (state (T.tree tree.old) opens.old.items users.now) turn call.now) }
+    ensures memory { OnErr result
+        (takes_memory (state (T.tree tree.old) opens.old.items users.now) turn call.now ≡ true) }
+    ensures err { OnErr result ((T.tree tree.new ≡ T.tree tree.old)
+        × (opens.new.items ≡ released_if (closes call.now) turn.pass opens.old.items)) }
 {
     match call {
         Call::Attach(_) => Ok(Answer::Attached(qid_at(tree, 0))),
@@ -89,9 +92,11 @@ fn is_exclusive_file<T: TreeRead>(tree: &T, number: u64) -> bool
     }
 }
 
-/// Opens of which the rules of the open say what they say of all: those of an exclusive file alone ask for any.
+/// Opens of which the rules of the open say what they say of all: those of an exclusive file alone
+/// ask for any.
 fn asked_by_open<'a, T: TreeRead>(call: &OpenCall, tree: &T, opens: &'a Opens) -> &'a [OpenFile]
-    ensures { (users : List Row) → open_rules (T.tree tree.now) result.now users call.now ≡ open_rules (T.tree tree.now) opens.now.items users call.now }
+    ensures { (users : List Row) → open_rules (T.tree tree.now) result.now users call.now
+        ≡ open_rules (T.tree tree.now) opens.now.items users call.now }
 {
     if is_exclusive_file(tree, call.number) {
         opens.beside(call.number)
@@ -102,7 +107,8 @@ fn asked_by_open<'a, T: TreeRead>(call: &OpenCall, tree: &T, opens: &'a Opens) -
 
 /// Opens of which the call's rules say what they say of all.
 fn asked_of<'a, T: TreeRead>(call: &Call, tree: &T, opens: &'a Opens) -> &'a [OpenFile]
-    ensures { (users : List Row) → first (state (T.tree tree.now) result.now users) call.now ≡ first (state (T.tree tree.now) opens.now.items users) call.now }
+    ensures { (users : List Row) → first (state (T.tree tree.now) result.now users) call.now
+        ≡ first (state (T.tree tree.now) opens.now.items users) call.now }
 {
     match call {
         Call::Open(call) => asked_by_open(call, tree, opens),
@@ -125,23 +131,25 @@ fn act_by_rules<T: TreeStore>(
     requires vers { (n : ℕ) → CanStamp (T.tree tree.old) n }
     requires next { (T.tree tree.old).next < 2 ^ 64 }
     requires above { AreBelow turn.place opens.old.items }
-    ensures step { (mark : CallMark) × ((result.0 ≡ outcome (state (T.tree tree.old) opens.old.items users.now) turn call.now mark) × (left (T.tree tree.new) opens.new.items result.1 ≡ stepped (state (T.tree tree.old) opens.old.items users.now) turn call.now mark)) }
+    ensures step { IsOutcomeOf (state (T.tree tree.old) opens.old.items users.now) turn call.now
+        result.0 (left (T.tree tree.new) opens.new.items result.1) }
     ensures fits { FitsCall call.now result.1 }
 {
     if let Some(rule) = first_failing(call, tree, asked_of(call, tree, opens), users) {
         opens.release_if(closes(call), turn.pass);
         return (Outcome::Denied(rule), Answer::Denied(rule));
     }
-    first_rule_that_fails();
+    laws::first_rule_that_fails();
     match grant(alloc, call, tree, opens, users, turn) {
         Ok(answer) => (Outcome::Granted, answer),
         Err(_) => (Outcome::Short, Answer::Short),
     }
 }
 
-/// Does a call by the rules of the run, if there is memory for what it takes. A call that is denied,
-/// or short of memory, leaves the tree, and no open but that of a close or of a remove, which is
-/// released. A read answers no more bytes than it asks for, and a walk no more qids than it has names.
+/// Does a call by the rules of the run, if there is memory for what it takes. A call that is
+/// denied, or short of memory, leaves the tree, and no open but that of a close or of a remove,
+/// which is released. A read answers no more bytes than it asks for, and a walk no more qids than
+/// it has names.
 #[tactic(auto, unfolding(crate::specs::Outcomes::outcome))]
 pub fn act<T: TreeStore>(
     alloc: Global,
@@ -154,7 +162,8 @@ pub fn act<T: TreeStore>(
     requires vers { (n : ℕ) → CanStamp (T.tree tree.old) n }
     requires next { (T.tree tree.old).next < 2 ^ 64 }
     requires above { AreBelow turn.place opens.old.items }
-    ensures step { (mark : CallMark) × ((result.0 ≡ outcome (state (T.tree tree.old) opens.old.items users.now) turn call.now mark) × (left (T.tree tree.new) opens.new.items result.1 ≡ stepped (state (T.tree tree.old) opens.old.items users.now) turn call.now mark)) }
+    ensures step { IsOutcomeOf (state (T.tree tree.old) opens.old.items users.now) turn call.now
+        result.0 (left (T.tree tree.new) opens.new.items result.1) }
     ensures fits { FitsCall call.now result.1 }
 {
     if let Call::Walk(call) = call {

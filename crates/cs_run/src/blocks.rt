@@ -33,7 +33,8 @@ fn ends_below(block: &Vec<OpenFile>, number: u32) -> bool
 fn index_of(opens: &[OpenFile], number: u32) -> Option<usize>
     requires { IsAscending opens.now }
     ensures bound { IfSome result (λ at. at < length opens.now) }
-    ensures found { IfSome result (λ at. (o : Opened) → (slice_index_or opens.now at o).number ≡ number) }
+    ensures found { IfSome result (λ at. (o : Opened) → (slice_index_or opens.now at o).number
+        ≡ number) }
     ensures missing { IsNone result → All (λ o. o.number ≢ number) opens.now }
 {
     match opens.binary_search_by_key(&number, |open| open.number) {
@@ -42,13 +43,16 @@ fn index_of(opens: &[OpenFile], number: u32) -> Option<usize>
     }
 }
 
-/// How many blocks end below the number: where they don't all, the next is the only one that may have it.
+/// How many blocks end below the number: where they don't all, the next is the only one that may
+/// have it.
 fn blocks_below(blocks: &[Vec<OpenFile>], number: u32) -> usize
     requires ascending { IsAscending (joined blocks.now) }
     requires filled { AreFilled blocks.now }
     ensures bound { result ≤ length blocks.now }
-    ensures below { (k : ℕ) (b : Block) → k < result → ends_below number (slice_index_or blocks.now k b) ≡ true }
-    ensures next { (b : Block) → result < length blocks.now → ends_below number (slice_index_or blocks.now result b) ≡ false }
+    ensures below { (k : ℕ) (b : Block) → k < result → ends_below number
+        (slice_index_or blocks.now k b) ≡ true }
+    ensures next { (b : Block) → result < length blocks.now
+        → ends_below number (slice_index_or blocks.now result b) ≡ false }
 {
     blocks.partition_point(|block| ends_below(block, number))
 }
@@ -57,7 +61,8 @@ fn blocks_below(blocks: &[Vec<OpenFile>], number: u32) -> usize
 pub(crate) fn place_of(blocks: &[Vec<OpenFile>], number: u32, pass: u32) -> Option<Place>
     requires ascending { IsAscending (joined blocks.now) }
     requires filled { AreFilled blocks.now }
-    ensures value { position (is_open number pass) (joined blocks.now) ≡ option_map (λ place. before blocks.now place.block + place.at) result }
+    ensures value { position (is_open number pass) (joined blocks.now)
+        ≡ option_map (λ place. before blocks.now place.block + place.at) result }
     ensures stands { IfSome result (λ place. Stands blocks.now place.block place.at) }
 {
     let block = blocks_below(blocks, number);
@@ -121,7 +126,8 @@ pub(crate) fn push_last(blocks: &mut Vec<Vec<OpenFile>>, opened: OpenFile)
 /// The open at that place.
 pub(crate) fn open_at(blocks: &[Vec<OpenFile>], place: Place) -> OpenFile
     requires { Stands blocks.now place.block place.at }
-    ensures { Some result ≡ slice_get (joined blocks.now) (before blocks.now place.block + place.at) }
+    ensures { Some result ≡ slice_get (joined blocks.now)
+        (before blocks.now place.block + place.at) }
 {
     let opens = blocks[place.block].as_slice();
     opens[place.at]
@@ -150,8 +156,10 @@ fn is_on(opens: &[OpenFile], file: u64) -> bool
 pub(crate) fn take_out(blocks: &mut Vec<Vec<OpenFile>>, place: Place) -> OpenFile
     requires stands { Stands blocks.old.items place.block place.at }
     requires filled { AreFilled blocks.old.items }
-    ensures value { Some result ≡ slice_get (joined blocks.old.items) (before blocks.old.items place.block + place.at) }
-    ensures opens { joined blocks.new.items ≡ remove (joined blocks.old.items) (before blocks.old.items place.block + place.at) }
+    ensures value { Some result ≡ slice_get (joined blocks.old.items)
+        (before blocks.old.items place.block + place.at) }
+    ensures opens { joined blocks.new.items ≡ remove (joined blocks.old.items)
+        (before blocks.old.items place.block + place.at) }
     ensures filled { AreFilled blocks.new.items }
 {
     let open = blocks[place.block].remove(place.at);

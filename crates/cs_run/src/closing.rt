@@ -32,7 +32,8 @@ fn remove_closed<T: TreeStore>(
     turn: Turn,
 ) -> Result<(), AllocError>
     requires { (n : ℕ) → CanStamp (T.tree tree.old) n }
-    ensures ok { OnOk result (T.tree tree.new ≡ closed_tree (T.tree tree.old) turn call.now.user closed) }
+    ensures ok { OnOk result (T.tree tree.new ≡ closed_tree
+        (T.tree tree.old) turn call.now.user closed) }
     ensures memory { OnErr result (removes (T.tree tree.old) closed ≡ true) }
     ensures err { OnErr result (T.tree tree.new ≡ T.tree tree.old) }
 {
@@ -57,9 +58,13 @@ pub fn act_close<T: TreeStore>(
     turn: Turn,
 ) -> Result<Answer, AllocError>
     requires { (n : ℕ) → CanStamp (T.tree tree.old) n }
-    ensures ok { IfOk result (λ answer. left (T.tree tree.new) opens.new.items answer ≡ close_effect (T.tree tree.old) opens.old.items turn call.now) }
-    ensures memory { OnErr result (removes (T.tree tree.old) (open_numbered call.now.open_number turn.pass opens.old.items) ≡ true) }
-    ensures err { OnErr result ((T.tree tree.new ≡ T.tree tree.old) × (opens.new.items ≡ released call.now.open_number turn.pass opens.old.items)) }
+    ensures ok { IfOk result (λ answer. left (T.tree tree.new) opens.new.items answer
+        ≡ close_effect (T.tree tree.old) opens.old.items turn call.now) }
+    ensures memory { OnErr result
+        (removes (T.tree tree.old) (open_numbered call.now.open_number turn.pass opens.old.items)
+        ≡ true) }
+    ensures err { OnErr result ((T.tree tree.new ≡ T.tree tree.old)
+        × (opens.new.items ≡ released call.now.open_number turn.pass opens.old.items)) }
 {
     let closed = opens.release(call.open_number, turn.pass);
     remove_closed(alloc, call, tree, closed, turn)?;

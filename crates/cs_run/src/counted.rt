@@ -7,8 +7,8 @@ use crate::opens::Opens;
 use cs_tree_model::TreeStore;
 use cs_users::Users;
 
-/// A run that keeps no journal. It counts its calls: each raises a version by one at most, so that none
-/// can overflow before the count does. Contracts see its `run_of`.
+/// A run that keeps no journal. It counts its calls: each raises a version by one at most, so that
+/// none can overflow before the count does. Contracts see its `run_of`.
 #[derive(Drop)]
 pub struct CountedRun<T: TreeStore + Drop> {
     pub(crate) tree: T,

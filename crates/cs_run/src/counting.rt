@@ -3,14 +3,13 @@ ghost use Rattle.std.specs.Prelude.{◌≡◌, ◌<◌, ◌+◌, ◌≤◌, ℕ,
 ghost use Rattle.cs_run.specs.Counted.{is_full, run_of, state_of, turn_of};
 ghost use Rattle.cs_run.specs.Effects.{left};
 ghost use Rattle.cs_run.specs.Laws.{AllVersBelow, FitsCall, IsGreatestVersion};
-ghost use Rattle.cs_run.specs.Marks.{CallMark};
-ghost use Rattle.cs_run.specs.Outcomes.{outcome, stepped};
+ghost use Rattle.cs_run.specs.Outcomes.{IsOutcomeOf};
 ghost use Rattle.cs_tree_model.specs.Tree.{IsTree, record_numbered};
 
 use crate::acting::act;
 use crate::answer::{Answer, Outcome};
 use crate::counted::CountedRun;
-use crate::laws::{calls_raise_by_one, versions_can_grow};
+use crate::laws;
 use crate::opens::Opens;
 use crate::turn::Turn;
 use cs_permit::Call;
@@ -66,7 +65,8 @@ impl<T: TreeStore + Drop> CountedRun<T> {
         &self.tree
     }
 
-    /// Whether one call more could raise a version, or the next number, above the greatest there is.
+    /// Whether one call more could raise a version, or the next number, above the greatest there
+    /// is.
     pub fn is_full(&self) -> bool
         ensures { result ≡ is_full (run_of self.now) }
     {
@@ -76,13 +76,15 @@ impl<T: TreeStore + Drop> CountedRun<T> {
     /// Makes a call at that moment under a pass, in the turn of its count.
     pub fn step(&mut self, alloc: Global, moment: u32, pass: u32, call: &Call) -> (Outcome, Answer)
         requires room { is_full (run_of self.old) ≡ false }
-        ensures stepped { (mark : CallMark) × ((result.0 ≡ outcome (state_of (run_of self.old)) (turn_of (run_of self.old) moment pass) call.now mark) × (left (run_of self.new).tree (run_of self.new).opens result.1 ≡ stepped (state_of (run_of self.old)) (turn_of (run_of self.old) moment pass) call.now mark)) }
+        ensures stepped { IsOutcomeOf (state_of (run_of self.old))
+            (turn_of (run_of self.old) moment pass) call.now result.0
+            (left (run_of self.new).tree (run_of self.new).opens result.1) }
         ensures fits { FitsCall call.now result.1 }
         ensures users { (run_of self.new).users ≡ (run_of self.old).users }
         ensures count { (run_of self.new).count ≡ (run_of self.old).count + 1 }
     {
-        calls_raise_by_one();
-        versions_can_grow();
+        laws::calls_raise_by_one();
+        laws::versions_can_grow();
         let turn = Turn {
             moment,
             place: self.count,

@@ -76,8 +76,10 @@ pub fn act_create<T: TreeStore>(
     requires vers { CanStamp (T.tree tree.old) call.now.number }
     requires next { (T.tree tree.old).next < 2 ^ 64 }
     requires above { AreBelow turn.place opens.old.items }
-    ensures ok { IfOk result (λ answer. left (T.tree tree.new) opens.new.items answer ≡ create_effect (T.tree tree.old) opens.old.items turn call.now) }
-    ensures err { OnErr result ((T.tree tree.new ≡ T.tree tree.old) × (opens.new.items ≡ opens.old.items)) }
+    ensures ok { IfOk result (λ answer. left (T.tree tree.new) opens.new.items answer
+        ≡ create_effect (T.tree tree.old) opens.old.items turn call.now) }
+    ensures err { OnErr result ((T.tree tree.new ≡ T.tree tree.old)
+        × (opens.new.items ≡ opens.old.items)) }
 {
     opens.reserve()?;
     let number = add_created(alloc, call, tree, users, turn)?;

@@ -1,27 +1,35 @@
-//! What a call leaves of a run, as laws. A call of a function here does nothing: its contract is the
-//! law.
-ghost use Rattle.std.specs.Prelude.{◌≡◌, ◌<◌, ◌^◌, ℕ, false, true};
-ghost use Rattle.cs_permit.specs.Calls.{State};
+//! What a call leaves of a run, as laws. A call of a function here does nothing: its contract is
+//! the law.
+ghost use Rattle.std.specs.Prelude.{◌≡◌, ◌<◌, ◌^◌, ℕ, List, Option, false, true};
+ghost use Rattle.cs_permit.specs.Calls.{RulesView};
 ghost use Rattle.cs_permit.specs.declared.call.Call.{Call};
 ghost use Rattle.cs_run.specs.Effects.{effect_of};
 ghost use Rattle.cs_run.specs.Laws.{AllVersBelow, FitsCall, OpensOne, RaisesByOne, opens_one};
 ghost use Rattle.cs_run.specs.Opens.{released_if};
 ghost use Rattle.cs_run.specs.Outcomes.{applied, closes};
+ghost use Rattle.cs_run.specs.Pages.{IsFullest, page_after};
+ghost use Rattle.cs_run.specs.Walks.{IsLongest, way};
 ghost use Rattle.cs_run.specs.declared.answer.Outcome.{Outcome};
 ghost use Rattle.cs_run.specs.declared.turn.Turn.{Turn};
 ghost use Rattle.cs_tree_model.specs.Stores.{CanStamp};
-ghost use Rattle.cs_tree_model.specs.Tree.{Tree};
+ghost use Rattle.cs_tree_model.specs.Nexts.{names_after};
+ghost use Rattle.cs_tree_model.specs.Tree.{NameBytes, Tree};
+ghost use Rattle.cs_users.specs.Rows.{Row};
 
 /// A grant of an open or a create makes one open, of this turn; a grant of another call leaves the
 /// opens as they are, but for the one that it ends.
 pub fn grants_and_opens()
-    ensures one { (s : State) (w : Turn) (call : Call) → opens_one call ≡ true → OpensOne s.opens (effect_of s w call).opens w }
-    ensures kept { (s : State) (w : Turn) (call : Call) → opens_one call ≡ false → (effect_of s w call).opens ≡ released_if (closes call) w.pass s.opens }
+    ensures one { (s : RulesView) (w : Turn) (call : Call) → opens_one call ≡ true
+        → OpensOne s.opens (effect_of s w call).opens w }
+    ensures kept { (s : RulesView) (w : Turn) (call : Call) → opens_one call ≡ false
+        → (effect_of s w call).opens ≡ released_if (closes call) w.pass s.opens }
 {}
 
-/// A call raises no version by more than one, and the next number by at most one, whatever comes of it.
+/// A call raises no version by more than one, and the next number by at most one, whatever comes of
+/// it.
 pub fn calls_raise_by_one()
-    ensures { (s : State) (w : Turn) (call : Call) (o : Outcome) → RaisesByOne s.tree (applied s w call o).tree }
+    ensures { (s : RulesView) (w : Turn) (call : Call) (o : Outcome)
+        → RaisesByOne s.tree (applied s w call o).tree }
 {}
 
 /// Where each version is below a number that a version can have, each can grow by one.
@@ -31,5 +39,19 @@ pub fn versions_can_grow()
 
 /// A read gives no more bytes than it asks for, and a walk no more qids than it has names.
 pub fn answers_fit()
-    ensures { (s : State) (w : Turn) (call : Call) (o : Outcome) → FitsCall call (applied s w call o).answer }
+    ensures { (s : RulesView) (w : Turn) (call : Call) (o : Outcome)
+        → FitsCall call (applied s w call o).answer }
+{}
+
+/// A walk is the longest: each of its names leads on from where the one before led, and the rule
+/// that is told stops the next, if one is left.
+pub fn walks_are_longest()
+    ensures { (t : Tree) (us : List Row) (user : List ℕ) (n : ℕ) (names : List (List ℕ)) →
+        IsLongest t us user n names (way t us user n names) }
+{}
+
+/// A read of a directory gives as many whole entries as fit.
+pub fn pages_are_fullest()
+    ensures { (t : Tree) (directory room : ℕ) (last : Option NameBytes) → IsFullest t directory room
+        (names_after t directory last) (page_after t directory room last) }
 {}

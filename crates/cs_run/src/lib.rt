@@ -26,6 +26,10 @@ pub use closing::act_close;
 pub use counted::CountedRun;
 pub use counting::greatest_version;
 pub use creating::act_create;
+pub use cs_permit::{
+    AttachCall, Call, CloseCall, CreateCall, OpenCall, ReadCall, RemoveCall, StatCall, WalkCall,
+    WriteCall, WstatCall,
+};
 pub use opening::act_open;
 pub use opens::Opens;
 pub use reading::read;

@@ -76,8 +76,10 @@ pub fn act_open<T: TreeStore>(
     requires granted { AllPass (open_rules (T.tree tree.old) opens.old.items users.now call.now) }
     requires vers { CanStamp (T.tree tree.old) call.now.number }
     requires above { AreBelow turn.place opens.old.items }
-    ensures ok { IfOk result (λ answer. left (T.tree tree.new) opens.new.items answer ≡ open_effect (T.tree tree.old) opens.old.items turn call.now) }
-    ensures err { OnErr result ((T.tree tree.new ≡ T.tree tree.old) × (opens.new.items ≡ opens.old.items)) }
+    ensures ok { IfOk result (λ answer. left (T.tree tree.new) opens.new.items answer
+        ≡ open_effect (T.tree tree.old) opens.old.items turn call.now) }
+    ensures err { OnErr result ((T.tree tree.new ≡ T.tree tree.old)
+        × (opens.new.items ≡ opens.old.items)) }
 {
     opens.reserve()?;
     empty_opened(alloc, call, tree, opens, users, turn)?;

@@ -8,8 +8,8 @@ use cs_permit::OpenFile;
 use std::alloc::{AllocError, Global};
 use std::marker::Model;
 
-/// The opens of a run, in the order of their numbers, of which each stands once. Contracts see their
-/// list, and the room for more.
+/// The opens of a run, in the order of their numbers, of which each stands once. Contracts see
+/// their list, and the room for more.
 #[derive(Drop)]
 pub struct Opens {
     /// None but the last is empty.
@@ -99,7 +99,8 @@ impl Opens {
     }
 }
 
-/// One more than so many opens, whose numbers all lie below this one: so it is no more than a number is.
+/// One more than so many opens, whose numbers all lie below this one: so it is no more than a
+/// number is.
 fn one_more(count: usize, number: u32) -> usize
     requires { count ≤ number }
     ensures { result ≡ count + 1 }

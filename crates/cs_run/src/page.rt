@@ -11,13 +11,12 @@ ghost use Rattle.cs_tree_model.specs.Tree.{IsTree, number_in};
 
 use cs_names::Name;
 use cs_permit::{entry_stat, stat_size};
-use cs_tree_model::laws::listing_goes_on;
-use cs_tree_model::{Entry, TreeRead};
+use cs_tree_model::{Entry, TreeRead, laws};
 use cs_wire::StatRef;
 use std::alloc::{AllocError, Global};
 
-/// The bytes of entries of a directory that follow one another, and the last name among them, or the
-/// name before them.
+/// The bytes of entries of a directory that follow one another, and the last name among them, or
+/// the name before them.
 #[derive(Drop)]
 pub struct Page<'a> {
     pub bytes: Vec<u8>,
@@ -28,15 +27,16 @@ pub struct Page<'a> {
 fn stat_of_entry<'a, T: TreeRead>(tree: &'a T, directory: u64, entry: Entry<'a>) -> StatRef<'a>
     requires is_tree { IsTree (T.tree tree.now) }
     requires found { number_in (T.tree tree.now) directory (entry_name entry) ≡ Some entry.number }
-    ensures value { stat_in (T.tree tree.now) directory (entry_name entry.entry) ≡ Some (fields_of result) }
+    ensures value { stat_in (T.tree tree.now) directory (entry_name entry.entry)
+        ≡ Some (fields_of result) }
     ensures fits { IsStat 600 (fields_of result) }
     ensures entry { IsEntry (fields_of result) }
 {
     entry_stat(tree, entry).unwrap()
 }
 
-/// As many entries of a directory as fit into so many bytes, from the first after that name on. Only
-/// entries take memory.
+/// As many entries of a directory as fit into so many bytes, from the first after that name on.
+/// Only entries take memory.
 pub(crate) fn read_page<'a, T: TreeRead>(
     alloc: Global,
     tree: &'a T,
@@ -45,10 +45,12 @@ pub(crate) fn read_page<'a, T: TreeRead>(
     start: Option<&'a Name>,
 ) -> Result<Page<'a>, AllocError>
     requires { IsTree (T.tree tree.now) }
-    ensures value { IfOk result (λ page. page_of page ≡ page_after (T.tree tree.now) directory room (option_copied start.entry)) }
-    ensures memory { OnErr result (has_some (page_after (T.tree tree.now) directory room (option_copied start.entry)).bytes ≡ true) }
+    ensures value { IfOk result (λ page. page_of page ≡ page_after (T.tree tree.now) directory room
+        (option_copied start.entry)) }
+    ensures memory { OnErr result (has_some (page_after (T.tree tree.now) directory room
+        (option_copied start.entry)).bytes ≡ true) }
 {
-    listing_goes_on(tree, directory);
+    laws::listing_goes_on(tree, directory);
     let mut bytes: Vec<u8> = Vec::new(alloc);
     let mut last = start;
     let mut left = room;

@@ -49,7 +49,8 @@ fn place_after(call: &ReadCall, page: &Page) -> Result<Option<Place>, AllocError
 fn read_entries<T: TreeRead>(alloc: Global, call: &ReadCall, tree: &T) -> Result<Data, AllocError>
     requires { IsTree (T.tree tree.now) }
     ensures value { IfOk result (λ read. read ≡ entries_given (T.tree tree.now) call.now) }
-    ensures memory { OnErr result (has_some (entries_given (T.tree tree.now) call.now).bytes ≡ true) }
+    ensures memory { OnErr result (has_some (entries_given (T.tree tree.now) call.now).bytes
+        ≡ true) }
 {
     let start = name_before(call);
     let page = read_page(alloc, tree, call.number, call.count as usize, start)?;

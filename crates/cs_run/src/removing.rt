@@ -9,7 +9,7 @@ ghost use Rattle.cs_tree_model.specs.Stores.{CanStampParent, removed};
 use crate::answer::Answer;
 use crate::opens::Opens;
 use crate::turn::{Turn, stamp_of};
-use cs_permit::{RemoveCall, first_entry_tells};
+use cs_permit::{RemoveCall, laws};
 use cs_tree_model::TreeStore;
 use cs_users::Users;
 use std::alloc::{AllocError, Global};
@@ -23,11 +23,12 @@ fn remove_file<T: TreeStore>(
 ) -> Result<(), AllocError>
     requires granted { AllPass (remove_rules (T.tree tree.old) users.now call.now) }
     requires vers { CanStampParent (T.tree tree.old) call.now.number }
-    ensures ok { OnOk result (T.tree tree.new ≡ removed call.now.number (stamp turn call.now.user) (T.tree tree.old)) }
+    ensures ok { OnOk result (T.tree tree.new ≡ removed call.now.number (stamp turn call.now.user)
+        (T.tree tree.old)) }
     ensures err { OnErr result (T.tree tree.new ≡ T.tree tree.old) }
 {
     let stamp = stamp_of(turn, &call.user)?;
-    first_entry_tells(tree, call.number);
+    laws::first_entry_tells(tree, call.number);
     tree.remove(alloc, call.number, stamp)
 }
 
@@ -44,8 +45,10 @@ pub fn act_remove<T: TreeStore>(
 ) -> Result<Answer, AllocError>
     requires granted { AllPass (remove_rules (T.tree tree.old) users.now call.now) }
     requires vers { CanStampParent (T.tree tree.old) call.now.number }
-    ensures ok { IfOk result (λ answer. left (T.tree tree.new) opens.new.items answer ≡ remove_effect (T.tree tree.old) opens.old.items turn call.now) }
-    ensures err { OnErr result ((T.tree tree.new ≡ T.tree tree.old) × (opens.new.items ≡ released_if call.now.open_number turn.pass opens.old.items)) }
+    ensures ok { IfOk result (λ answer. left (T.tree tree.new) opens.new.items answer
+        ≡ remove_effect (T.tree tree.old) opens.old.items turn call.now) }
+    ensures err { OnErr result ((T.tree tree.new ≡ T.tree tree.old)
+        × (opens.new.items ≡ released_if call.now.open_number turn.pass opens.old.items)) }
 {
     opens.release_if(call.open_number, turn.pass);
     remove_file(alloc, call, tree, users, turn)?;

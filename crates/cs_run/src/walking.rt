@@ -8,8 +8,7 @@ ghost use Rattle.cs_permit.specs.Walks.{walk_rules};
 ghost use Rattle.cs_permit.specs.declared.call.Call.TheVariants as c;
 ghost use Rattle.cs_permit.specs.declared.call.OpenFile.{OpenFile};
 ghost use Rattle.cs_run.specs.Effects.{left};
-ghost use Rattle.cs_run.specs.Marks.{CallMark};
-ghost use Rattle.cs_run.specs.Outcomes.{outcome, stepped};
+ghost use Rattle.cs_run.specs.Outcomes.{IsOutcomeOf};
 ghost use Rattle.cs_run.specs.Walks.{way, way_asked};
 ghost use Rattle.cs_run.specs.declared.turn.Turn.{Turn};
 ghost use Rattle.cs_tree_model.specs.Record.{lent};
@@ -35,7 +34,8 @@ fn walk_names<'a, T: TreeRead>(
     names: &[String],
 ) -> Result<Walk, AllocError>
     requires { option_map lent told ≡ file_at (T.tree tree.now) start }
-    ensures value { IfOk result (λ walk. walk ≡ way (T.tree tree.now) users.now user.now start (map string_bytes names.now)) }
+    ensures value { IfOk result (λ walk. walk ≡ way (T.tree tree.now) users.now user.now start
+        (map string_bytes names.now)) }
     ensures memory { OnErr result (0 < length names.now) }
 {
     let mut qids: Vec<Qid> = Vec::with_capacity(alloc, names.len())?;
@@ -66,7 +66,7 @@ fn walk_from<'a, T: TreeRead>(
 ) -> Result<Walk, AllocError>
     requires { option_map lent told ≡ file_at (T.tree tree.now) call.now.number }
     ensures value { IfOk result (λ walk. walk ≡ way_asked (T.tree tree.now) users.now call.now) }
-    ensures memory { OnErr result (0 < length call.now.names.items) }
+    ensures memory { OnErr result (0 < length call.now.names) }
 {
     walk_names(
         alloc,
@@ -79,8 +79,8 @@ fn walk_from<'a, T: TreeRead>(
     )
 }
 
-/// Walks as far as the rules let it. Only the qids take memory, once for all names; a name takes one
-/// look-up of a name, and one of a record.
+/// Walks as far as the rules let it. Only the qids take memory, once for all names; a name takes
+/// one look-up of a name, and one of a record.
 // `act` takes `act_walk` in its place, so it isn't to make `grant` larger
 #[inline(never)]
 pub fn walk<T: TreeRead>(
@@ -90,22 +90,25 @@ pub fn walk<T: TreeRead>(
     users: &Users,
 ) -> Result<Walk, AllocError>
     ensures value { IfOk result (λ walk. walk ≡ way_asked (T.tree tree.now) users.now call.now) }
-    ensures memory { OnErr result (0 < length call.now.names.items) }
+    ensures memory { OnErr result (0 < length call.now.names) }
 {
     walk_from(alloc, call, tree, users, tree.record(call.number))
 }
 
-/// The walk that a call asks for. Else the first rule that denies it; or None, where none does and memory is
-/// wanting.
+/// The walk that a call asks for. Else the first rule that denies it; or None, where none does and
+/// memory is wanting.
 fn walk_allowed<T: TreeRead>(
     alloc: Global,
     call: &WalkCall,
     tree: &T,
     users: &Users,
 ) -> Result<Walk, Option<RuleId>>
-    ensures ok { IfOk result (λ walk. (first_failing (walk_rules (T.tree tree.now) users.now call.now) ≡ None) × (walk ≡ way_asked (T.tree tree.now) users.now call.now)) }
-    ensures err { IfErr result (λ first. first ≡ first_failing (walk_rules (T.tree tree.now) users.now call.now)) }
-    ensures memory { IsErrOf result None → 0 < length call.now.names.items }
+    ensures ok { IfOk result (λ walk.
+        (first_failing (walk_rules (T.tree tree.now) users.now call.now) ≡ None)
+        × (walk ≡ way_asked (T.tree tree.now) users.now call.now)) }
+    ensures err { IfErr result (λ first.
+        first ≡ first_failing (walk_rules (T.tree tree.now) users.now call.now)) }
+    ensures memory { IsErrOf result None → 0 < length call.now.names }
 {
     let file = tree.record(call.number);
     if file.is_none() {
@@ -120,8 +123,8 @@ fn walk_allowed<T: TreeRead>(
     }
 }
 
-/// Makes a walk by its rules. They are asked as the walk goes, so that no name is looked up twice, and
-/// the file that it goes from once.
+/// Makes a walk by its rules. They are asked as the walk goes, so that no name is looked up twice,
+/// and the file that it goes from once.
 // an answer is large: in line, it would be copied once more
 #[inline(never)]
 #[tactic(auto, unfolding(crate::specs::Outcomes::outcome))]
@@ -131,7 +134,9 @@ pub fn act_walk<T: TreeRead>(
     tree: &T,
     users: &Users,
 ) -> (Outcome, Answer)
-    ensures { (os : List OpenFile) (w : Turn) → (mark : CallMark) × ((result.0 ≡ outcome (state (T.tree tree.now) os users.now) w (c.Walk call.now) mark) × (left (T.tree tree.now) os result.1 ≡ stepped (state (T.tree tree.now) os users.now) w (c.Walk call.now) mark)) }
+    ensures { (opens : List OpenFile) (turn : Turn)
+        → IsOutcomeOf (state (T.tree tree.now) opens users.now) turn (c.Walk call.now)
+        result.0 (left (T.tree tree.now) opens result.1) }
 {
     match walk_allowed(alloc, call, tree, users) {
         Ok(walk) => (Outcome::Granted, Answer::Walked(walk)),

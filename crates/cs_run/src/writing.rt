@@ -39,7 +39,7 @@ fn write_start<T: TreeRead>(tree: &T, call: &WriteCall) -> u64
 fn writes<T: TreeRead>(tree: &T, call: &WriteCall) -> bool
     ensures { result ≡ writes (T.tree tree.now) call.now }
 {
-    !call.bytes.is_empty() && has_bytes(tree, call.number)
+    call.bytes.len() != 0 && has_bytes(tree, call.number)
 }
 
 /// Puts the bytes into the file, if there are any.
@@ -69,14 +69,15 @@ pub fn act_write<T: TreeStore>(
     alloc: Global,
     call: &WriteCall,
     tree: &mut T,
-    opens: &mut Opens,
+    opens: &Opens,
     turn: Turn,
 ) -> Result<Answer, AllocError>
     requires granted { AllPass (write_rules (T.tree tree.old) call.now) }
     requires vers { CanStamp (T.tree tree.old) call.now.number }
-    ensures ok { IfOk result (λ answer. left (T.tree tree.new) opens.new.items answer ≡ write_effect (T.tree tree.old) opens.old.items turn call.now) }
+    ensures ok { IfOk result (λ answer. left (T.tree tree.new) opens.now.items answer
+        ≡ write_effect (T.tree tree.old) opens.now.items turn call.now) }
     ensures memory { OnErr result (writes (T.tree tree.old) call.now ≡ true) }
-    ensures err { OnErr result ((T.tree tree.new ≡ T.tree tree.old) × (opens.new.items ≡ opens.old.items)) }
+    ensures err { OnErr result (T.tree tree.new ≡ T.tree tree.old) }
 {
     let count = call.bytes.len() as u32;
     write_bytes(alloc, call, tree, turn)?;

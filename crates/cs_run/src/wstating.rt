@@ -4,7 +4,7 @@ ghost use Rattle.std.specs.Option.{option_map_or};
 ghost use Rattle.cs_permit.specs.Changes.{new_group, new_name};
 ghost use Rattle.cs_permit.specs.Refusals.{AllPass};
 ghost use Rattle.cs_permit.specs.Wstats.{wstat_rules};
-ghost use Rattle.cs_run.specs.Effects.{asked, change_of, changed_by, changes_some, left, wstat_effect};
+ghost use Rattle.cs_run.specs.Effects.{change_asked, change_of, changed_by, changes_some, left, wstat_effect};
 ghost use Rattle.cs_tree_model.specs.Record.{lent};
 ghost use Rattle.cs_tree_model.specs.Stores.{CanStamp};
 
@@ -60,8 +60,10 @@ fn change_of<T: TreeRead>(
     call: &WstatCall,
     file: &Metadata,
 ) -> Result<Change, AllocError>
-    ensures value { IfOk result (λ change. change ≡ change_of (T.tree tree.now) call.now (lent file.now)) }
-    ensures memory { OnErr result (changes_some (change_of (T.tree tree.now) call.now (lent file.now)) ≡ true) }
+    ensures value { IfOk result (λ change. change ≡ change_of (T.tree tree.now) call.now
+        (lent file.now)) }
+    ensures memory { OnErr result (changes_some (change_of (T.tree tree.now) call.now
+        (lent file.now)) ≡ true) }
 {
     let name = name_asked(alloc, tree, call)?;
     let group = group_asked(alloc, call, file)?;
@@ -75,13 +77,14 @@ fn change_of<T: TreeRead>(
 }
 
 /// The change that a wstat asks for, if its file is there.
-fn asked<T: TreeRead>(
+fn change_asked<T: TreeRead>(
     alloc: Global,
     tree: &T,
     call: &WstatCall,
 ) -> Result<Option<Change>, AllocError>
-    ensures value { IfOk result (λ change. change ≡ asked (T.tree tree.now) call.now) }
-    ensures memory { OnErr result (option_map_or changes_some (asked (T.tree tree.now) call.now) false ≡ true) }
+    ensures value { IfOk result (λ change. change ≡ change_asked (T.tree tree.now) call.now) }
+    ensures memory { OnErr result (option_map_or changes_some
+        (change_asked (T.tree tree.now) call.now) false ≡ true) }
 {
     match tree.record(call.number) {
         Some(file) => Ok(Some(change_of(alloc, tree, call, &file)?)),
@@ -109,9 +112,10 @@ fn change_by<T: TreeStore>(
     turn: Turn,
 ) -> Result<(), AllocError>
     requires granted { AllPass (wstat_rules (T.tree tree.old) users.now call.now) }
-    requires asked { asked (T.tree tree.old) call.now ≡ Some change.now }
+    requires asked { change_asked (T.tree tree.old) call.now ≡ Some change.now }
     requires vers { (n : ℕ) → CanStamp (T.tree tree.old) n }
-    ensures ok { OnOk result (T.tree tree.new ≡ changed_by (T.tree tree.old) turn call.now change.now) }
+    ensures ok { OnOk result (T.tree tree.new ≡ changed_by
+        (T.tree tree.old) turn call.now change.now) }
     ensures memory { OnErr result (changes_some change.now ≡ true) }
     ensures err { OnErr result (T.tree tree.new ≡ T.tree tree.old) }
 {
@@ -128,17 +132,19 @@ pub fn act_wstat<T: TreeStore>(
     alloc: Global,
     call: &WstatCall,
     tree: &mut T,
-    opens: &mut Opens,
+    opens: &Opens,
     users: &Users,
     turn: Turn,
 ) -> Result<Answer, AllocError>
     requires granted { AllPass (wstat_rules (T.tree tree.old) users.now call.now) }
     requires vers { (n : ℕ) → CanStamp (T.tree tree.old) n }
-    ensures ok { IfOk result (λ answer. left (T.tree tree.new) opens.new.items answer ≡ wstat_effect (T.tree tree.old) opens.old.items turn call.now) }
-    ensures memory { OnErr result (option_map_or changes_some (asked (T.tree tree.old) call.now) false ≡ true) }
-    ensures err { OnErr result ((T.tree tree.new ≡ T.tree tree.old) × (opens.new.items ≡ opens.old.items)) }
+    ensures ok { IfOk result (λ answer. left (T.tree tree.new) opens.now.items answer
+        ≡ wstat_effect (T.tree tree.old) opens.now.items turn call.now) }
+    ensures memory { OnErr result (option_map_or changes_some
+        (change_asked (T.tree tree.old) call.now) false ≡ true) }
+    ensures err { OnErr result (T.tree tree.new ≡ T.tree tree.old) }
 {
-    if let Some(change) = asked(alloc, tree, call)? {
+    if let Some(change) = change_asked(alloc, tree, call)? {
         change_by(alloc, call, tree, users, &change, turn)?;
     }
     Ok(Answer::Changed)

@@ -4,6 +4,7 @@ use Rattle.std.proofs.lemmas.Bool.{cases_eq, cases_lt, eq-eqb, false≢true, le-
 use Rattle.std.proofs.lemmas.List.{ext_get_or, get_or-take, get_or_past, length-replicate, length-take, length-take-le}
 use Rattle.std.specs.Prelude.{fold}
 use Rattle.cs_names.specs.declared.limits.TheConstants.{FILE_BYTES}
+use Rattle.cs_tree_model.specs.Laws.Bytes.{zeros_behind}
 use Rattle.cs_micro.specs.declared.blocks.TheConstants.{BLOCK_BYTES}
 use Rattle.cs_micro.specs.declared.micro_op.MicroOp.{MicroOp}
 use Rattle.cs_micro.specs.declared.micro_op.MicroOp.TheVariants.{CreateDirEntry, DeleteDirEntry, MoveDirEntry, ChangeFileSize, WriteBlock, SetAttr, Say}
@@ -12,7 +13,7 @@ use Rattle.cs_apm.specs.Rules.{op_at}
 use Rattle.cs_apm.specs.States.{Content, overwritten, resized, visible}
 use Rattle.cs_state.specs.Steps.{picked}
 use Rattle.cs_state.specs.Windows.{byte_of}
-use Rattle.cs_state.proofs.Showing.{byte_before, byte_behind, byte_inside, zeros_past}
+use Rattle.cs_state.proofs.Showing.{byte_before, byte_behind, byte_inside}
 use Rattle.cs_same.specs.Reaching.{floor_after, floor_in, reaches}
 use Rattle.cs_same.specs.Windows.{IsWindow}
 
@@ -181,7 +182,7 @@ visible_long : (f : Content) → length (visible f) ≡ f.size
 visible_long f = length-take-le f.size (f.bytes ++ replicate f.size 0) (let a = length-append f.bytes (replicate f.size 0) in let b = length-replicate {A = ℕ} f.size 0 in omega (arith, a, b))
 
 visible_at : (f : Content) (k : ℕ) → k < f.size → get_or (visible f) k 0 ≡ byte_of f k
-visible_at f k low = get_or-take f.size (f.bytes ++ replicate f.size 0) k 0 low ∙ zeros_past f.bytes f.size k
+visible_at f k low = get_or-take f.size (f.bytes ++ replicate f.size 0) k 0 low ∙ zeros_behind f.bytes f.size k
 
 -- files of one size with the same bytes before their end show the same
 pub same_visible : (f g : Content) → f.size ≡ g.size → ((i : ℕ) → i < f.size → byte_of f i ≡ byte_of g i) → visible f ≡ visible g

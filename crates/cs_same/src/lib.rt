@@ -16,11 +16,10 @@ mod places;
 mod reaching;
 mod standing;
 pub mod states;
-#[cfg(test)]
-mod tests;
 mod touched;
 pub mod trees;
 mod windows;
 
-pub use states::{are_same_states, first_same};
+pub use parts::Parts;
+pub use states::{are_same_states, are_seen_same, first_same};
 pub use trees::are_same_trees;

@@ -36,7 +36,7 @@ pub fn are_same_states(
 }
 
 /// Whether the states of two numbers are seen to have equal trees. None is made for this.
-pub(crate) fn are_seen_same(
+pub fn are_seen_same(
     alloc: Global,
     scene: &Arc<Scene>,
     parts: &Parts,

@@ -7,7 +7,7 @@ use Rattle.cs_plan.specs.Scenes.{Scene}
 use Rattle.cs_registry.specs.Publishing.{with_published}
 use Rattle.cs_registry.specs.Registries.{Registry, is_published}
 use Rattle.cs_users.specs.Rows.{Row}
-use Rattle.cs_world.specs.Marks.{refuses_shelf, refuses_state}
+use Rattle.cs_world.specs.Marks.{refuses_keeping, refuses_state}
 use Rattle.cs_world.specs.Publishing.{published}
 use Rattle.cs_world.specs.Steps.{by_registry, IsStep}
 use Rattle.cs_world.specs.Worlds.{World, new_world}
@@ -33,7 +33,7 @@ chosen_is w w' number true false false false e = ap (λ (x : Reply × World). x.
 
 pub one_more : (w w' : World) (number : ℕ) → IsStep w (Publish number) Published w' → w' ≡ record w { registry = with_published w.registry number }
 one_more w w' number step =
-    chosen_is w w' number (nat_lt number (length w.registry.scene.plan)) (refuses_state step.0) (is_published w.registry number) (refuses_shelf step.0) step.1
+    chosen_is w w' number (nat_lt number (length w.registry.scene.plan)) (refuses_state step.0) (is_published w.registry number) (refuses_keeping step.0) step.1
 
 -- ---- all states
 

@@ -4,7 +4,7 @@ use Rattle.hex.specs.Hex.{encode_lower}
 use Rattle.cs_names.specs.Reading.{ReadsAs}
 use Rattle.cs_names.specs.declared.rule_id.RuleId.TheVariants.{S5}
 use Rattle.cs_session.specs.Messages.{IsAnswered}
-use Rattle.cs_session.specs.Receipts.{IsReplied, said, tag_in}
+use Rattle.cs_session.specs.Receipts.{IsReplied, wire_of, tag_in}
 use Rattle.cs_session.specs.declared.message.Message.TheVariants.{HangUp as Ends}
 use Rattle.cs_session.specs.declared.reply.Reply.TheVariants.{Closed, Error}
 use Rattle.cs_users.specs.Faults.{fault_text}
@@ -43,7 +43,7 @@ refused_text fault = codes "reload refused: " ++ (fault_text fault ++ codes "\n"
 -- a message of a connection was answered: by its steps; or by S5, and nothing changes, while a run awaits its attach
 pub record Replies (w : World) (conn now : ℕ) (message : List ℕ) (reply : Message replies) (w' : World) : Type 0 where
   pub replied : (connection w conn).pending ≡ None → IsReplied IsGiven now message (connection w conn) w.registry reply (connection w' conn) w'.registry
-  pub out_of_turn : (connection w conn).pending ≢ None → (reply ≡ said (tag_in message) (Error S5)) × (w' ≡ w)
+  pub out_of_turn : (connection w conn).pending ≢ None → (reply ≡ wire_of (tag_in message) (Error S5)) × (w' ≡ w)
   pub others : w'.connections ≡ slice_set w.connections conn (connection w' conn)
 
 -- a connection was hung up; nothing changes while a run awaits its attach

@@ -9,14 +9,14 @@ use Rattle.cs_permit.specs.declared.call.Call.{Call}
 use Rattle.cs_registry.specs.Keys.{Key}
 use Rattle.cs_run.specs.declared.answer.Answer.{Answer}
 use Rattle.cs_run.specs.declared.answer.Answer.TheVariants.{Denied}
-use Rattle.cs_shared.specs.Serving.{Serves}
-use Rattle.cs_shared.specs.Told.{Told}
+use Rattle.cs_shared.specs.Serving.{HasTree}
+use Rattle.cs_shared.specs.Answers.{IsAnswerOf}
 use Rattle.cs_server.specs.declared.kept.GivenPass.{GivenPass}
-use Rattle.cs_server.specs.Asking.{Calls}
-use Rattle.cs_server.specs.Kept.{AreInside, Kept, given_by}
+use Rattle.cs_server.specs.Asking.{KeptCalls}
+use Rattle.cs_server.specs.Kept.{AreInside, FoundRuns, given_by}
 
-module _ (serves : Serves) (runs : List Key) (passes : List GivenPass) (run place : ℕ) (given : GivenPass) (low : place < length passes) (at : given ≡ get_or passes place given) where
-  old : Kept
+module _ (serves : HasTree) (runs : List Key) (passes : List GivenPass) (run place : ℕ) (given : GivenPass) (low : place < length passes) (at : given ≡ get_or passes place given) where
+  old : FoundRuns
   old = record { runs = runs; passes = passes }
 
   there : slice_get passes place ≡ Some given
@@ -26,7 +26,7 @@ module _ (serves : Serves) (runs : List Key) (passes : List GivenPass) (run plac
   unchanged = ap (slice_set passes place) at ∙ set-get_or passes place given
 
   -- a pass of another run
-  pub stray : (now : ℕ) (call : Call) → (given.run ≡ run → ⊥) → Calls serves (record { runs = runs; passes = passes }) now run place call (Denied S5) (record { runs = runs; passes = slice_set passes place given })
+  pub stray : (now : ℕ) (call : Call) → (given.run ≡ run → ⊥) → KeptCalls serves (record { runs = runs; passes = passes }) now run place call (Denied S5) (record { runs = runs; passes = slice_set passes place given })
   stray now call other = inr (record {
     stray = λ pass is. (let same : Some given ≡ Some (given_by run pass) = sym there ∙ is in let own : given ≡ given_by run pass = cc in other (ap (λ (x : GivenPass). x.run) own));
     denied = refl;
@@ -35,8 +35,8 @@ module _ (serves : Serves) (runs : List Key) (passes : List GivenPass) (run plac
 
   -- one of this run
   pub called : AreInside runs passes → (key : Key) (number : ℕ) → key ≡ get_or runs run key → number ≡ key.number → given.run ≡ run
-      → (now : ℕ) (call : Call) (answer : Answer) (pass : PassOf) → Told serves number given.pass now call answer pass
-      → Calls serves (record { runs = runs; passes = passes }) now run place call answer (record { runs = runs; passes = slice_set passes place (given_by given.run pass) })
+      → (now : ℕ) (call : Call) (answer : Answer) (pass : PassOf) → IsAnswerOf serves number given.pass now call answer pass
+      → KeptCalls serves (record { runs = runs; passes = passes }) now run place call answer (record { runs = runs; passes = slice_set passes place (given_by given.run pass) })
   called inside key number key_is number_is own now call answer pass told =
       let low_run : run < length runs = subst (λ (n : ℕ). n < length runs) (ap (λ (x : GivenPass). x.run) (sym at) ∙ own) (inside place given low) in
       inl (record {
@@ -45,6 +45,6 @@ module _ (serves : Serves) (runs : List Key) (passes : List GivenPass) (run plac
         pass = pass;
         run_is = slice_get-get_or runs run key low_run ∙ ap Some (sym key_is);
         pass_is = there ∙ ap (λ (n : ℕ). Some (given_by n given.pass)) own;
-        told = subst (λ (n : ℕ). Told serves n given.pass now call answer pass) number_is told;
+        told = subst (λ (n : ℕ). IsAnswerOf serves n given.pass now call answer pass) number_is told;
         kept = ap (λ (n : ℕ). record { runs = runs; passes = slice_set passes place (given_by n pass) }) own;
       })

@@ -2,14 +2,15 @@
 use Rattle.std.proofs.Common.{◌≡◌, ℕ, List, Option, sym, subst, inl}
 use Rattle.std.specs.Prelude.{Result}
 use Rattle.cs_session.specs.declared.serving.ServeFault.{ServeFault}
-use Rattle.cs_session.specs.Serving.{Serves as Conversation}
-use Rattle.cs_shared.specs.Serving.{Serves}
-use Rattle.cs_server.specs.Kept.{Kept, nothing}
-use Rattle.cs_server.specs.Served.{GivesAt, HasEnded, Serving}
+use Rattle.cs_session.specs.Serving.{Conversation}
+use Rattle.cs_shared.specs.Serving.{HasTree}
+use Rattle.cs_server.specs.Kept.{FoundRuns, nothing}
+use Rattle.cs_server.specs.Asking.{Gives}
+use Rattle.cs_server.specs.Served.{HasEnded, ConversationOf}
 
-module _ (serves : Serves) (result : Result (Unit {0}) ServeFault) (rem rem' con con' : Option (List ℕ)) (first last kept : Kept) (begins : first ≡ nothing) (ends : kept ≡ last) (is : Conversation (GivesAt serves) result first rem rem' con con' last) where
-  pub serving : Serving serves (record { result = result; kept = kept }) rem rem' con con'
-  serving = subst (λ (k : Kept). Conversation (GivesAt serves) result k rem rem' con con' kept) begins (subst (λ (k : Kept). Conversation (GivesAt serves) result first rem rem' con con' k) (sym ends) is)
+module _ (serves : HasTree) (result : Result (Unit {0}) ServeFault) (rem rem' con con' : Option (List ℕ)) (first last kept : FoundRuns) (begins : first ≡ nothing) (ends : kept ≡ last) (is : Conversation (Gives serves) result first rem rem' con con' last) where
+  pub serving : ConversationOf serves (record { result = result; kept = kept }) rem rem' con con'
+  serving = subst (λ (k : FoundRuns). Conversation (Gives serves) result k rem rem' con con' kept) begins (subst (λ (k : FoundRuns). Conversation (Gives serves) result first rem rem' con con' k) (sym ends) is)
 
   pub has_ended : HasEnded serves (record { result = result; kept = kept })
   has_ended = inl (record { remaining = rem; remaining' = rem'; contents = con; contents' = con'; serving = serving })

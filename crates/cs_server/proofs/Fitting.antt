@@ -13,9 +13,9 @@ use Rattle.cs_journal.specs.Calls.{ended, is_full}
 use Rattle.cs_journal.specs.Journals.{seen, turn_in}
 use Rattle.cs_journal.specs.Marks.{StepMark, refuses_entry}
 use Rattle.cs_journal.specs.Runs.{PassOf, RunOf, state_of}
-use Rattle.cs_journal.specs.Steps.{entering, entry_of, refused, step}
-use Rattle.cs_shared.specs.Serving.{Serves}
-use Rattle.cs_shared.specs.Told.{Told}
+use Rattle.cs_journal.specs.Steps.{entering, entry_of, step, without_entry}
+use Rattle.cs_shared.specs.Serving.{HasTree}
+use Rattle.cs_shared.specs.Answers.{IsAnswerOf}
 
 pub denied_fits : (call : Call) (rule : RuleId) → FitsCall call (Denied rule)
 denied_fits (Attach c) rule = tt
@@ -45,11 +45,11 @@ step_fits : (run : RunOf) (pass : PassOf) (now : ℕ) (call : Call) (mark : Step
 unfolding step
 step_fits run pass now call mark = by (is_full (state_of run) pass.number call) (refuses_entry mark && not (is_some (ended (state_of run).opens pass.number call)))
   where
-    by : (full short : Bool) → FitsCall call (if full then refused run pass (Denied L1) else (if short then refused run pass Short else entering run pass (entry_of run pass now call mark))).answer
+    by : (full short : Bool) → FitsCall call (if full then without_entry run pass (Denied L1) else (if short then without_entry run pass Short else entering run pass (entry_of run pass now call mark))).answer
     by true short = denied_fits call L1
     by false true = short_fits call
     by false false = (let e = entry_of run pass now call mark in fits (seen (state_of run)) (turn_in (state_of run) pass.number now) call e.outcome)
 
-pub told_fits : (serves : Serves) (number : ℕ) (pass pass' : PassOf) (now : ℕ) (call : Call) (answer : Answer) → Told serves number pass now call answer pass' → FitsCall call answer
+pub told_fits : (serves : HasTree) (number : ℕ) (pass pass' : PassOf) (now : ℕ) (call : Call) (answer : Answer) → IsAnswerOf serves number pass now call answer pass' → FitsCall call answer
 told_fits serves number pass pass' now call answer (inl is) = subst (FitsCall call) (sym is.answer_is) (step_fits is.run pass now call is.mark)
 told_fits serves number pass pass' now call answer (inr foreign) = subst (FitsCall call) (sym foreign.0) (denied_fits call S5)

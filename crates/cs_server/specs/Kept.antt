@@ -5,13 +5,14 @@ use Rattle.cs_journal.specs.Runs.{PassOf}
 use Rattle.cs_registry.specs.Keys.{Key}
 use Rattle.cs_server.specs.declared.kept.GivenPass.{GivenPass}
 
--- The keys of the runs that a connection found, and the passes that it was given, each in the order in which they came. A pass has the place of its run.
-pub record Kept : Type 0 where
+-- The keys of the runs that a connection found, and the passes that it was given, each in the order
+-- in which they came. A pass has the place of its run.
+pub record FoundRuns : Type 0 where
   pub runs : List Key
   pub passes : List GivenPass
 
 -- no run was found
-abbrev pub nothing : Kept
+abbrev pub nothing : FoundRuns
 nothing = record { runs = []; passes = [] }
 
 -- each pass is of a run that was found
@@ -19,20 +20,23 @@ abbrev pub AreInside : List Key → List GivenPass → Type 0
 AreInside runs passes = All (λ given. given.run < length runs) passes
 
 -- with a run more, the last
-abbrev pub with_run : Kept → Key → Kept
+abbrev pub with_run : FoundRuns → Key → FoundRuns
 with_run kept key = record { runs = kept.runs ++ key ∷ []; passes = kept.passes }
 
 abbrev pub given_by : ℕ → PassOf → GivenPass
 given_by run pass = record { run = run; pass = pass }
 
 -- with a pass more, the last
-abbrev pub with_pass : Kept → ℕ → PassOf → Kept
-with_pass kept run pass = record { runs = kept.runs; passes = kept.passes ++ given_by run pass ∷ [] }
+abbrev pub kept_with_pass : FoundRuns → ℕ → PassOf → FoundRuns
+kept_with_pass kept run pass =
+    record { runs = kept.runs; passes = kept.passes ++ given_by run pass ∷ [] }
 
 -- with another pass at a place
-abbrev pub put_pass : Kept → ℕ → ℕ → PassOf → Kept
-put_pass kept place run pass = record { runs = kept.runs; passes = slice_set kept.passes place (given_by run pass) }
+abbrev pub put_pass : FoundRuns → ℕ → ℕ → PassOf → FoundRuns
+put_pass kept place run pass =
+    record { runs = kept.runs; passes = slice_set kept.passes place (given_by run pass) }
 
 -- the key of the run that gave the pass at a place
-abbrev pub key_at : Kept → ℕ → Option Key
-key_at kept place = option_map_or (λ given. slice_get kept.runs given.run) (slice_get kept.passes place) None
+abbrev pub key_at : FoundRuns → ℕ → Option Key
+key_at kept place =
+    option_map_or (λ given. slice_get kept.runs given.run) (slice_get kept.passes place) None

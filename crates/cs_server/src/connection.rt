@@ -1,7 +1,7 @@
 //! One connection, from its beginning to its hang-up.
 ghost use Rattle.std.specs.Prelude.{◌≡◌, ◌≤◌, Err, Ok};
 ghost use Rattle.cs_names.specs.declared.limits.TheConstants.{CONNECTION_READS};
-ghost use Rattle.cs_server.specs.Served.{HasEnded, Serving, WasRefused};
+ghost use Rattle.cs_server.specs.Served.{HasEnded, ConversationOf, WasRefused};
 ghost use Rattle.cs_session.specs.Streams.{BlamesReads, BlamesWrites, up};
 ghost use Rattle.cs_wire.specs.declared.framer.FrameFault.TheVariants as frame;
 
@@ -14,8 +14,8 @@ use std::alloc::Global;
 use std::marker::Model;
 use std::sync::Wait;
 
-/// What came of a connection: how its stream was served, and what it kept. Contracts see both. It was
-/// served from its beginning to its hang-up, or there was no memory for its thread.
+/// What came of a connection: how its stream was served, and what it kept. Contracts see both. It
+/// was served from its beginning to its hang-up, or there was no memory for its thread.
 #[derive(Drop)]
 pub struct Connection<S: Served> {
     result: Result<(), ServeFault>,
@@ -29,7 +29,8 @@ impl<S: Served> Model for Connection<S> {
 
     ghost view = { λ c. record { result = c.result; kept = c.kept } };
 
-    ghost invariant = { λ c. model.HasEnded S.serves (record { result = c.result; kept = c.kept }) };
+    ghost invariant = { λ c. model.HasEnded S.serves
+        (record { result = c.result; kept = c.kept }) };
 }
 
 impl<S: Served> Connection<S> {
@@ -66,8 +67,8 @@ impl<S: Served> Connection<S> {
     }
 }
 
-/// Serves a connection to its end, over the runs of the server: its messages are answered in order, each
-/// at its moment, and it hangs up, whatever comes of it.
+/// Serves a connection to its end, over the runs of the server: its messages are answered in order,
+/// each at its moment, and it hangs up, whatever comes of it.
 pub fn serve_connection<S: Served, R: Wait, T: Stream, C: Clock>(
     rt: &R,
     alloc: Global,
@@ -75,15 +76,23 @@ pub fn serve_connection<S: Served, R: Wait, T: Stream, C: Clock>(
     stream: &mut T,
     clock: &mut C,
 ) -> Connection<S>
-    ensures serves { Serving S.serves result (T.remaining stream.old) (T.remaining stream.new) (T.contents stream.old) (T.contents stream.new) }
+    ensures serves { ConversationOf S.serves result (T.remaining stream.old)
+        (T.remaining stream.new) (T.contents stream.old) (T.contents stream.new) }
     // Each fault comes only for its cause, by the stream's counts.
-    ensures read_fault { result.result ≡ Err ServeFault.ReadFault → BlamesReads (T.counts stream.old) (T.counts stream.new) }
-    ensures write_fault { result.result ≡ Err ServeFault.WriteFault → BlamesWrites (T.counts stream.old) (T.counts stream.new) }
-    ensures ended { result.result ≡ Ok tt → (T.counts stream.new).ends ≡ up 1 (T.counts stream.old).ends }
-    ensures cut { result.result ≡ Err (ServeFault.FrameFault frame.Cut) → (T.counts stream.new).ends ≡ up 1 (T.counts stream.old).ends }
-    ensures no_end { result.result ≡ Err ServeFault.ReadFault → (T.counts stream.new).ends ≡ (T.counts stream.old).ends }
-    ensures bounded { (T.counts stream.new).reads ≤ up CONNECTION_READS (T.counts stream.old).reads }
-    ensures memory { result.result ≡ Err ServeFault.Memory → T.counts stream.new ≡ T.counts stream.old }
+    ensures read_fault { result.result ≡ Err ServeFault.ReadFault
+        → BlamesReads (T.counts stream.old) (T.counts stream.new) }
+    ensures write_fault { result.result ≡ Err ServeFault.WriteFault
+        → BlamesWrites (T.counts stream.old) (T.counts stream.new) }
+    ensures ended { result.result ≡ Ok tt
+        → (T.counts stream.new).ends ≡ up 1 (T.counts stream.old).ends }
+    ensures cut { result.result ≡ Err (ServeFault.FrameFault frame.Cut)
+        → (T.counts stream.new).ends ≡ up 1 (T.counts stream.old).ends }
+    ensures no_end { result.result ≡ Err ServeFault.ReadFault
+        → (T.counts stream.new).ends ≡ (T.counts stream.old).ends }
+    ensures bounded { (T.counts stream.new).reads
+        ≤ up CONNECTION_READS (T.counts stream.old).reads }
+    ensures memory { result.result ≡ Err ServeFault.Memory
+        → T.counts stream.new ≡ T.counts stream.old }
 {
     let mut port = SharedPort::new(rt, alloc, server.registry());
     let result = serve_stream(alloc, stream, &mut port, clock);

@@ -7,7 +7,8 @@ use cs_shared::Served;
 use indexmap::IndexMap;
 use std::alloc::{AllocError, Global};
 
-/// The passes of the connections that ended, by the keys of their runs: what the runs are audited with.
+/// The passes of the connections that ended, by the keys of their runs: what the runs are audited
+/// with.
 #[derive(Drop)]
 pub struct GivenPasses {
     runs: IndexMap<RunKey, Vec<Pass>>,
@@ -34,8 +35,8 @@ impl GivenPasses {
         }
     }
 
-    /// Keeps the passes of a connection that ended. Where memory is refused the rest of them is let go:
-    /// an audit of their runs then counts too few receipts.
+    /// Keeps the passes of a connection that ended. Where memory is refused the rest of them is let
+    /// go: an audit of their runs then counts too few receipts.
     pub fn keep<S: Served>(
         &mut self,
         alloc: Global,

@@ -1,18 +1,17 @@
 //! What a connection keeps: the runs that it found, and the passes that it was given.
 ghost use Rattle.std.specs.Prelude.{◌≡◌, ◌<◌, length, slice_get, Some};
 ghost use Rattle.cs_run.specs.Laws.{FitsCall};
-ghost use Rattle.cs_server.specs.Asking.{Attaches, Calls, Finds, find_fault, pass_fault};
+ghost use Rattle.cs_server.specs.Asking.{KeptAttaches, KeptCalls, KeptFinds};
 ghost use Rattle.cs_server.specs.Kept.{key_at, nothing};
 ghost use Rattle.cs_registry.specs.Naming.{key_in};
 
 use cs_journal::Pass;
-use cs_names::RuleId;
 use cs_names::limits::{RUN_ATTACHES, RUNS};
-use cs_permit::{Call, TreeName};
+use cs_names::{RuleId, Text};
+use cs_permit::{Call, FindFault, PassFault, TreeName};
 use cs_registry::RunKey;
 use cs_run::Answer;
-use cs_session::{FindFault, PassFault};
-use cs_shared::{AttachFault, Served, SharedRegistry, SharedRun};
+use cs_shared::{Served, SharedRegistry, SharedRun};
 use std::alloc::Global;
 use std::marker::Model;
 use std::sync::Wait;
@@ -45,8 +44,8 @@ pub struct GivenPass {
     pub pass: Pass,
 }
 
-/// The runs that a connection found, and the passes that it was given, each in the order in which they
-/// came. Contracts see the keys of the runs, and the passes.
+/// The runs that a connection found, and the passes that it was given, each in the order in which
+/// they came. Contracts see the keys of the runs, and the passes.
 #[derive(Drop)]
 pub struct Kept<S: Served> {
     runs: Vec<FoundRun<S>>,
@@ -56,31 +55,11 @@ pub struct Kept<S: Served> {
 impl<S: Served> Model for Kept<S> {
     ghost use Rattle.cs_server.specs.Kept as model;
 
-    ghost Value = { model.Kept };
+    ghost Value = { model.FoundRuns };
 
     ghost view = { λ kept. record { runs = kept.runs.items; passes = kept.passes.items } };
 
     ghost invariant = { λ kept. model.AreInside kept.runs.items kept.passes.items };
-}
-
-fn find_fault(fault: cs_registry::FindFault) -> FindFault
-    ensures { result ≡ find_fault fault }
-{
-    match fault {
-        cs_registry::FindFault::Unpublished => FindFault::Unpublished,
-        cs_registry::FindFault::Full => FindFault::Full,
-        cs_registry::FindFault::Memory => FindFault::Memory,
-    }
-}
-
-fn pass_fault(fault: AttachFault) -> PassFault
-    ensures { result ≡ pass_fault fault }
-{
-    match fault {
-        AttachFault::Foreign => PassFault::Foreign,
-        AttachFault::Room => PassFault::Room,
-        AttachFault::Memory => PassFault::Memory,
-    }
 }
 
 impl<S: Served> FoundRun<S> {
@@ -133,8 +112,8 @@ impl<S: Served> Kept<S> {
         &self.runs[run as usize].key
     }
 
-    /// Finds the run of that name, and keeps it: its place. A find that the registry grants and that isn't
-    /// kept for want of memory stays counted.
+    /// Finds the run of that name, and keeps it: its place. A find that the registry grants and
+    /// that isn't kept for want of memory stays counted.
     pub(crate) fn find<R: Wait>(
         &mut self,
         rt: &R,
@@ -142,15 +121,12 @@ impl<S: Served> Kept<S> {
         registry: &SharedRegistry<S>,
         name: &TreeName,
     ) -> Result<u32, FindFault>
-        ensures { Finds self.old (key_in name.now.state.now name.now.run.now) result self.new }
+        ensures { KeptFinds self.old (key_in name.now.state.now name.now.run.now) result self.new }
     {
         let Some(key) = RunKey::named(name) else {
             return Err(FindFault::Unpublished);
         };
-        let run = match registry.find_key(rt, alloc, key.again()) {
-            Ok(run) => run,
-            Err(fault) => return Err(find_fault(fault)),
-        };
+        let run = registry.find_key(rt, alloc, key.again())?;
         // all runs together are never found so often
         if self.runs.len() >= GRANTS {
             return Err(FindFault::Full);
@@ -162,17 +138,18 @@ impl<S: Served> Kept<S> {
         }
     }
 
-    /// Attaches a user to the run at a place, at that moment, and keeps the pass: its place, and the
-    /// answer. Foreign where no run is there. Its room is made before the run gives it.
+    /// Attaches a user to the run at a place, at that moment, and keeps the pass: its place, and
+    /// the answer. Foreign where no run is there. Its room is made before the run gives it.
     pub(crate) fn attach<R: Wait>(
         &mut self,
         rt: &R,
         alloc: Global,
         now: u32,
         run: u32,
-        user: String,
+        user: Text,
     ) -> Result<(u32, Answer), PassFault>
-        ensures { Attaches S.serves self.old now run (record { user = user }) (slice_get self.old.runs run) result self.new }
+        ensures { KeptAttaches S.serves self.old now run (record { user = user })
+            (slice_get self.old.runs run) result self.new }
     {
         let Some(found) = self.runs.get(run as usize) else {
             return Err(PassFault::Foreign);
@@ -189,12 +166,12 @@ impl<S: Served> Kept<S> {
                 self.passes.push_reserved(GivenPass { run, pass });
                 Ok((place, answer))
             }
-            Err(fault) => Err(pass_fault(fault)),
+            Err(fault) => Err(fault),
         }
     }
 
-    /// Makes a call on the run at a place, at that moment, under the pass at a place; S5 where that run
-    /// didn't give that pass.
+    /// Makes a call on the run at a place, at that moment, under the pass at a place; S5 where that
+    /// run didn't give that pass.
     pub(crate) fn call<R: Wait>(
         &mut self,
         rt: &R,
@@ -204,7 +181,7 @@ impl<S: Served> Kept<S> {
         pass: u32,
         call: Call,
     ) -> Answer
-        ensures called { Calls S.serves self.old now run pass call result self.new }
+        ensures called { KeptCalls S.serves self.old now run pass call result self.new }
         ensures fits { FitsCall call result }
     {
         let Some(given) = self.passes.get_mut(pass as usize) else {

@@ -3,9 +3,10 @@ ghost use Rattle.std.specs.Prelude.{◌≡◌};
 ghost use Rattle.cs_server.specs.Kept.{nothing};
 
 use crate::kept::Kept;
-use cs_permit::{Call, TreeName};
+use cs_names::Text;
+use cs_permit::{Call, FindFault, PassFault, TreeName};
 use cs_run::Answer;
-use cs_session::{FindFault, PassFault, Port};
+use cs_session::Port;
 use cs_shared::{Served, SharedRegistry};
 use std::alloc::Global;
 use std::marker::Model;
@@ -22,7 +23,7 @@ pub struct SharedPort<'r, S: Served, R: Wait> {
 impl<'r, S: Served, R: Wait> Model for SharedPort<'r, S, R> {
     ghost use Rattle.cs_server.specs.Kept as model;
 
-    ghost Value = { model.Kept };
+    ghost Value = { model.FoundRuns };
 
     ghost view = { λ port. port.kept };
 }
@@ -48,9 +49,9 @@ impl<'r, S: Served, R: Wait> SharedPort<'r, S, R> {
 }
 
 impl<'r, S: Served, R: Wait> Port for SharedPort<'r, S, R> {
-    ghost use Rattle.cs_server.specs.Served.{GivesAt};
+    ghost use Rattle.cs_server.specs.Asking.{Gives};
 
-    ghost gives = { λ old mark question told new. GivesAt S.serves old mark question told new };
+    ghost gives = { λ old question told new. Gives S.serves old question told new };
 
     fn find(&mut self, alloc: Global, name: &TreeName) -> Result<u32, FindFault> {
         self.kept.find(self.rt, alloc, self.registry, name)
@@ -61,7 +62,7 @@ impl<'r, S: Served, R: Wait> Port for SharedPort<'r, S, R> {
         alloc: Global,
         now: u32,
         run: u32,
-        user: String,
+        user: Text,
     ) -> Result<(u32, Answer), PassFault> {
         self.kept.attach(self.rt, alloc, now, run, user)
     }

@@ -71,8 +71,8 @@ fn join_each<S: Served, R: Threads>(
 }
 
 /// Serves each stream in a thread of its own, all at once: what came of each, in the order of the
-/// streams. Each thread has a copy of the clock. A stream whose thread can't be made is not served. Where
-/// there is no memory to keep what comes of them, nothing is read.
+/// streams. Each thread has a copy of the clock. A stream whose thread can't be made is not served.
+/// Where there is no memory to keep what comes of them, nothing is read.
 pub fn serve_streams<
     S: Served + Send + Sync,
     R: Threads + Wait + Sync,

@@ -7,11 +7,10 @@ use Rattle.std.proofs.lemmas.List.Concat.{flat_map-append}
 use Rattle.std.proofs.lemmas.List.Folds.{concat-append}
 use Rattle.cs_wire.specs.Framing.{Begins, IsWhole}
 use Rattle.cs_wire.specs.Messages.{Message as Spelled, replies, spelling}
-use Rattle.cs_session.specs.Marks.{PortMark}
-use Rattle.cs_session.specs.Questions.{Question, Told}
+use Rattle.cs_session.specs.Questions.{Question, PortAnswer}
 use Rattle.cs_session.specs.Receipts.{IsReplied}
 use Rattle.cs_session.specs.Sessions.{Sess}
-use Rattle.cs_session.specs.Serving.{Exchange, messages_of, replies_of, Run, Served}
+use Rattle.cs_session.specs.Serving.{Exchange, messages_of, replies_of, Exchanges, AnswersFront}
 
 -- ---- bytes
 
@@ -34,16 +33,16 @@ messages-append (x ∷ xs) ys = ap (λ (z : List (List ℕ)). x.message ∷ z) (
 
 -- ---- exchanges
 
-module _ {P : Type 0} (gives : P → PortMark → Question → Told → P → Type 0) where
-  run_then : (s : Sess) (p : P) (xs : List Exchange) (t : Sess) (q : P) (ys : List Exchange) (u : Sess) (r : P) → Run gives s p xs t q → Run gives t q ys u r → Run gives s p (xs ++ ys) u r
-  run_then s p [] t q ys u r h k = subst (λ (z : P). Run gives s z ys u r) h.1 (subst (λ (z : Sess). Run gives z q ys u r) h.0 k)
+module _ {P : Type 0} (gives : P → Question → PortAnswer → P → Type 0) where
+  run_then : (s : Sess) (p : P) (xs : List Exchange) (t : Sess) (q : P) (ys : List Exchange) (u : Sess) (r : P) → Exchanges gives s p xs t q → Exchanges gives t q ys u r → Exchanges gives s p (xs ++ ys) u r
+  run_then s p [] t q ys u r h k = subst (λ (z : P). Exchanges gives s z ys u r) h.1 (subst (λ (z : Sess). Exchanges gives z q ys u r) h.0 k)
   run_then s p (x ∷ xs) t q ys u r h k = (h.0, h.1, h.2, run_then h.0 h.1 xs t q ys u r h.3 k)
 
-  pub served_none : (s : Sess) (p : P) (came : List ℕ) → Served gives s p came came [] s p
+  pub served_none : (s : Sess) (p : P) (came : List ℕ) → AnswersFront gives s p came came [] s p
   served_none s p came = record { exchanges = []; begins = record { each = tt; parts = refl }; told_is = refl; run = (refl, refl) }
 
   pub served_then : (s : Sess) (p : P) (came mid told : List ℕ) (t : Sess) (q : P) (left more : List ℕ) (u : Sess) (r : P)
-      → Served gives s p came mid told t q → Served gives t q mid left more u r → Served gives s p came left (told ++ more) u r
+      → AnswersFront gives s p came mid told t q → AnswersFront gives t q mid left more u r → AnswersFront gives s p came left (told ++ more) u r
   served_then s p came mid told t q left more u r a b = record {
     exchanges = a.exchanges ++ b.exchanges;
     begins = subst (λ (z : List (List ℕ)). Begins came z left) (sym (messages-append a.exchanges b.exchanges)) (begins_then came (messages_of a.exchanges) mid (messages_of b.exchanges) left a.begins b.begins);
@@ -52,7 +51,7 @@ module _ {P : Type 0} (gives : P → PortMark → Question → Told → P → Ty
   }
 
   served_one : (s : Sess) (p : P) (message left : List ℕ) (now : ℕ) (reply : Spelled replies) (t : Sess) (q : P) → IsWhole message → IsReplied gives now message s p reply t q
-      → Served gives s p (message ++ left) left (spelling reply) t q
+      → AnswersFront gives s p (message ++ left) left (spelling reply) t q
   served_one s p message left now reply t q whole replied = record {
     exchanges = record { message = message; moment = now; reply = reply } ∷ [];
     begins = record { each = (whole, tt); parts = ap (λ (z : List ℕ). z ++ left) (sym (append-nil message)) };
@@ -62,12 +61,12 @@ module _ {P : Type 0} (gives : P → PortMark → Question → Told → P → Ty
 
   -- one message more
   pub served_more : (s : Sess) (p : P) (came mid told : List ℕ) (t : Sess) (q : P) (message left : List ℕ) (now : ℕ) (reply : Spelled replies) (u : Sess) (r : P)
-      → Served gives s p came mid told t q → mid ≡ message ++ left → IsWhole message → IsReplied gives now message t q reply u r → Served gives s p came left (told ++ spelling reply) u r
+      → AnswersFront gives s p came mid told t q → mid ≡ message ++ left → IsWhole message → IsReplied gives now message t q reply u r → AnswersFront gives s p came left (told ++ spelling reply) u r
   served_more s p came mid told t q message left now reply u r a e whole replied =
-      served_then s p came mid told t q left (spelling reply) u r a (subst (λ (z : List ℕ). Served gives t q z left (spelling reply) u r) (sym e) (served_one t q message left now reply u r whole replied))
+      served_then s p came mid told t q left (spelling reply) u r a (subst (λ (z : List ℕ). AnswersFront gives t q z left (spelling reply) u r) (sym e) (served_one t q message left now reply u r whole replied))
 
   -- more bytes
-  pub served_on : (s : Sess) (p : P) (came left told : List ℕ) (t : Sess) (q : P) (piece : List ℕ) → Served gives s p came left told t q → Served gives s p (came ++ piece) (left ++ piece) told t q
+  pub served_on : (s : Sess) (p : P) (came left told : List ℕ) (t : Sess) (q : P) (piece : List ℕ) → AnswersFront gives s p came left told t q → AnswersFront gives s p (came ++ piece) (left ++ piece) told t q
   served_on s p came left told t q piece a = record { exchanges = a.exchanges; begins = begins_on came (messages_of a.exchanges) left piece a.begins; told_is = a.told_is; run = a.run }
 
 -- what holds of a call that succeeds

@@ -1,6 +1,6 @@
 -- Each kind of reply fits the room of its session.
 use Rattle.std.proofs.Common.{◌≡◌, ℕ, zero, suc, ◌+◌, ◌-◌, ◌≤◌, ◌<◌, ◌^◌, Bool, true, false, ◌&&◌, List, [], ◌∷◌, length, Option, refl, arith, lit≤, lit<}
-use Rattle.std.specs.Prelude.{◌==◌, IfOk, None, Some, unwrap_or, slice_index, string_bytes, Vec}
+use Rattle.std.specs.Prelude.{◌==◌, IfOk, None, Some, unwrap_or, slice_index, Vec}
 use Rattle.std.specs.Global.{Global}
 use Rattle.std.specs.Cow.{cow_str_bytes}
 use Rattle.std.specs.declared.borrow.CowStr.{CowStr}
@@ -154,7 +154,7 @@ asks_fit tag (t.Version msize version) fits = tt
 asks_fit tag (t.Auth afid uname aname) fits = tt
 asks_fit tag (t.Attach fid afid uname aname) fits = tt
 asks_fit tag (t.Flush oldtag) fits = tt
-asks_fit tag (t.Walk fid newfid wname) fits = omega (arith, length-map wname.items string_bytes, fits.1.1.0)
+asks_fit tag (t.Walk fid newfid wname) fits = omega (arith, fits.1.1.0)
 asks_fit tag (t.Open fid mode) fits = tt
 asks_fit tag (t.Create fid name perm mode) fits = tt
 asks_fit tag (t.Read fid offset count) fits = tt

@@ -9,4 +9,4 @@ pub mod Sizing
 pub mod Trailing
 pub mod Turns
 pub mod Unread
-pub mod Writing
+pub mod Handling

@@ -10,10 +10,9 @@ use Rattle.cs_names.specs.declared.limits.TheConstants.{MESSAGE_BYTES}
 use Rattle.cs_wire.proofs.OneCut.{short}
 use Rattle.cs_session.specs.declared.serving.ServeFault.{ServeFault}
 use Rattle.cs_session.specs.declared.serving.ServeFault.TheVariants.{ReadFault, WriteFault, FrameFault, Memory}
-use Rattle.cs_session.specs.Marks.{PortMark}
-use Rattle.cs_session.specs.Questions.{Question, Told}
+use Rattle.cs_session.specs.Questions.{Question, PortAnswer}
 use Rattle.cs_session.specs.Sessions.{Sess}
-use Rattle.cs_session.specs.Serving.{Served, Handled, Conversed, StopsAt, EndsAt}
+use Rattle.cs_session.specs.Serving.{AnswersFront, Handles, Converses, StopsAt, EndsAt}
 use Rattle.cs_session.proofs.Known.{Appends-none, Appends-then, Consumes-none, Consumes-keep, Consumes-then}
 use Rattle.cs_session.proofs.Conversing.{served_none, served_on, served_then}
 
@@ -48,17 +47,17 @@ stops_ends WriteFault came left unsent rest h = tt
 stops_ends ReadFault came left unsent rest h = absurd h
 stops_ends Memory came left unsent rest h = absurd h
 
-module _ {P : Type 0} (gives : P → PortMark → Question → Told → P → Type 0) where
+module _ {P : Type 0} (gives : P → Question → PortAnswer → P → Type 0) where
   -- so far, with every whole message answered and every reply written
   pub record Listening (s : Sess) (p : P) (left : List ℕ) (rem rem' con con' : Option (List ℕ)) (s' : Sess) (p' : P) : Type 0 where
     pub came : List ℕ
     pub sent : List ℕ
     pub consumes : Consumes rem rem' came
     pub appends : Appends con con' sent
-    pub served : Served gives s p came left sent s' p'
+    pub served : AnswersFront gives s p came left sent s' p'
 
   pub listening_none : (s : Sess) (p : P) (left : List ℕ) (rem con : Option (List ℕ)) → left ≡ [] → Listening s p left rem rem con con s p
-  listening_none s p left rem con e = record { came = []; sent = []; consumes = Consumes-none rem; appends = Appends-none con; served = subst (λ (z : List ℕ). Served gives s p [] z [] s p) (sym e) (served_none gives s p []) }
+  listening_none s p left rem con e = record { came = []; sent = []; consumes = Consumes-none rem; appends = Appends-none con; served = subst (λ (z : List ℕ). AnswersFront gives s p [] z [] s p) (sym e) (served_none gives s p []) }
 
   -- nothing came
   pub listening_same : (s : Sess) (p : P) (left : List ℕ) (rem rem' rem'' con con' con'' : Option (List ℕ)) (t : Sess) (q : P)
@@ -74,7 +73,7 @@ module _ {P : Type 0} (gives : P → PortMark → Question → Told → P → Ty
 
   -- it was answered
   pub listening_more : (s : Sess) (p : P) (mid left : List ℕ) (rem rem' con con' con'' : Option (List ℕ)) (t : Sess) (q : P) (u : Sess) (r : P)
-      → Listening s p mid rem rem' con con' t q → Handled gives (Ok tt) t q mid left con' con'' u r → Listening s p left rem rem' con con'' u r
+      → Listening s p mid rem rem' con con' t q → Handles gives (Ok tt) t q mid left con' con'' u r → Listening s p left rem rem' con con'' u r
   listening_more s p mid left rem rem' con con' con'' t q u r h a =
       let all : a.sent ++ a.unsent ≡ a.sent = ap (λ (z : List ℕ). a.sent ++ z) a.stops.1 ∙ append-nil a.sent in
       record {
@@ -82,12 +81,12 @@ module _ {P : Type 0} (gives : P → PortMark → Question → Told → P → Ty
         sent = h.sent ++ a.sent;
         consumes = h.consumes;
         appends = Appends-then con con' con'' h.sent a.sent h.appends a.appends;
-        served = served_then gives s p h.came mid h.sent t q left a.sent u r h.served (subst (λ (z : List ℕ). Served gives t q mid left z u r) all a.served);
+        served = served_then gives s p h.came mid h.sent t q left a.sent u r h.served (subst (λ (z : List ℕ). AnswersFront gives t q mid left z u r) all a.served);
       }
 
   -- it was answered up to a fault
   pub conversed_part : (fault : ServeFault) (s : Sess) (p : P) (mid left : List ℕ) (rem rem' con con' con'' : Option (List ℕ)) (t : Sess) (q : P) (u : Sess) (r : P)
-      → Listening s p mid rem rem' con con' t q → Handled gives (Err fault) t q mid left con' con'' u r → Conversed gives (Err fault) s p rem rem' con con'' u r
+      → Listening s p mid rem rem' con con' t q → Handles gives (Err fault) t q mid left con' con'' u r → Converses gives (Err fault) s p rem rem' con con'' u r
   conversed_part fault s p mid left rem rem' con con' con'' t q u r h a = record {
     came = h.came;
     left = left;
@@ -95,13 +94,13 @@ module _ {P : Type 0} (gives : P → PortMark → Question → Told → P → Ty
     unsent = a.unsent;
     consumes = h.consumes;
     appends = Appends-then con con' con'' h.sent a.sent h.appends a.appends;
-    served = subst (λ (z : List ℕ). Served gives s p h.came left z u r) (sym (append_assoc h.sent a.sent a.unsent)) (served_then gives s p h.came mid h.sent t q left (a.sent ++ a.unsent) u r h.served a.served);
+    served = subst (λ (z : List ℕ). AnswersFront gives s p h.came left z u r) (sym (append_assoc h.sent a.sent a.unsent)) (served_then gives s p h.came mid h.sent t q left (a.sent ++ a.unsent) u r h.served a.served);
     ends = stops_ends fault h.came left a.unsent rem' a.stops;
   }
 
   -- it ended with every reply written
   pub conversed_whole : (result : Result (Unit {0}) ServeFault) (s : Sess) (p : P) (left : List ℕ) (rem rem' con con' : Option (List ℕ)) (t : Sess) (q : P)
-      → Listening s p left rem rem' con con' t q → ((came : List ℕ) → EndsAt result came left [] rem') → Conversed gives result s p rem rem' con con' t q
+      → Listening s p left rem rem' con con' t q → ((came : List ℕ) → EndsAt result came left [] rem') → Converses gives result s p rem rem' con con' t q
   conversed_whole result s p left rem rem' con con' t q h ends = record {
     came = h.came;
     left = left;
@@ -109,12 +108,12 @@ module _ {P : Type 0} (gives : P → PortMark → Question → Told → P → Ty
     unsent = [];
     consumes = h.consumes;
     appends = h.appends;
-    served = subst (λ (z : List ℕ). Served gives s p h.came left z t q) (sym (append-nil h.sent)) h.served;
+    served = subst (λ (z : List ℕ). AnswersFront gives s p h.came left z t q) (sym (append-nil h.sent)) h.served;
     ends = ends h.came;
   }
 
   -- nothing was read
-  pub conversed_nothing : (s : Sess) (p : P) (rem con : Option (List ℕ)) → Conversed gives (Err Memory) s p rem rem con con s p
+  pub conversed_nothing : (s : Sess) (p : P) (rem con : Option (List ℕ)) → Converses gives (Err Memory) s p rem rem con con s p
   conversed_nothing s p rem con = record {
     came = [];
     left = [];

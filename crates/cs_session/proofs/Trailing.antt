@@ -2,19 +2,19 @@
 use Rattle.std.proofs.Common.{◌≡◌, ℕ, Bool, true, false, List, [], ◌∷◌, sym, ap}
 use Rattle.cs_session.specs.declared.message.Message.{Message}
 use Rattle.cs_session.specs.declared.reply.Reply.{Reply}
-use Rattle.cs_session.specs.Marks.{PortMark, Mark}
-use Rattle.cs_session.specs.Questions.{Question, Told}
+use Rattle.cs_session.specs.Marks.{TableMark}
+use Rattle.cs_session.specs.Questions.{Question, PortAnswer}
 use Rattle.cs_session.specs.Sessions.{Sess}
 use Rattle.cs_session.specs.Steps.{Step, Takes}
-use Rattle.cs_session.specs.Messages.{Either, Answers, goes_on, step_of}
+use Rattle.cs_session.specs.Messages.{Either, Answers, goes_on, next_step}
 use Rattle.cs_session.specs.Trails.{IsTrail}
 
 choose : (b : Bool) (A B C : Type 0) → Either b A B → (A → C) → (B → C) → C
 choose true A B C e f h = f e
 choose false A B C e f h = h e
 
-module _ {P : Type 0} (gives : P → PortMark → Question → Told → P → Type 0) (now : ℕ) (message : Message) where
-  after_step : (s : Sess) (p : P) (x : Step) (mark : Mark) (said : Reply) (mid : Sess) (there : P) → Takes gives now s p x mark said mid there → (marks : List Mark) (reply : Reply) (s' : Sess) (p' : P) → IsTrail gives now mid there marks reply s' p' → IsTrail gives now s p (mark ∷ marks) reply s' p'
+module _ {P : Type 0} (gives : P → Question → PortAnswer → P → Type 0) (now : ℕ) (message : Message) where
+  after_step : (s : Sess) (p : P) (x : Step) (mark : TableMark) (said : Reply) (mid : Sess) (there : P) → Takes gives now s p x mark said mid there → (marks : List TableMark) (reply : Reply) (s' : Sess) (p' : P) → IsTrail gives now mid there marks reply s' p' → IsTrail gives now s p (mark ∷ marks) reply s' p'
   after_step s p x mark said mid there t marks reply s' p' rest = record {
     steps = record { step = x; mark = mark; reply = said } ∷ rest.steps;
     last = rest.last;
@@ -23,7 +23,7 @@ module _ {P : Type 0} (gives : P → PortMark → Question → Told → P → Ty
     reply_is = rest.reply_is;
   }
 
-  one_step : (s : Sess) (p : P) (x : Step) (mark : Mark) (said : Reply) (mid : Sess) (there : P) → Takes gives now s p x mark said mid there → (marks : List Mark) (reply : Reply) (s' : Sess) (p' : P) → (marks ≡ []) × (reply ≡ said) × (s' ≡ mid) × (p' ≡ there) → IsTrail gives now s p (mark ∷ marks) reply s' p'
+  one_step : (s : Sess) (p : P) (x : Step) (mark : TableMark) (said : Reply) (mid : Sess) (there : P) → Takes gives now s p x mark said mid there → (marks : List TableMark) (reply : Reply) (s' : Sess) (p' : P) → (marks ≡ []) × (reply ≡ said) × (s' ≡ mid) × (p' ≡ there) → IsTrail gives now s p (mark ∷ marks) reply s' p'
   one_step s p x mark said mid there t marks reply s' p' e = record {
     steps = [];
     last = record { step = x; mark = mark; reply = said };
@@ -32,9 +32,9 @@ module _ {P : Type 0} (gives : P → PortMark → Question → Told → P → Ty
     reply_is = e.1;
   }
 
-  pub trail_of : (marks : List Mark) (s : Sess) (p : P) (reply : Reply) (s' : Sess) (p' : P) → Answers gives now message marks s p reply s' p' → IsTrail gives now s p marks reply s' p'
+  pub trail_of : (marks : List TableMark) (s : Sess) (p : P) (reply : Reply) (s' : Sess) (p' : P) → Answers gives now message marks s p reply s' p' → IsTrail gives now s p marks reply s' p'
   trail_of [] s p reply s' p' a = absurd a
   trail_of (mark ∷ marks) s p reply s' p' (said, mid, there, t, e) =
-      choose (goes_on message (step_of message s) said) _ _ (IsTrail gives now s p (mark ∷ marks) reply s' p') e
-      (λ more. after_step s p (step_of message s) mark said mid there t marks reply s' p' (trail_of marks mid there reply s' p' more))
-      (λ done. one_step s p (step_of message s) mark said mid there t marks reply s' p' done)
+      choose (goes_on message (next_step message s) said) _ _ (IsTrail gives now s p (mark ∷ marks) reply s' p') e
+      (λ more. after_step s p (next_step message s) mark said mid there t marks reply s' p' (trail_of marks mid there reply s' p' more))
+      (λ done. one_step s p (next_step message s) mark said mid there t marks reply s' p' done)

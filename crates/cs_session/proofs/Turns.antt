@@ -10,12 +10,11 @@ use Rattle.cs_session.specs.declared.message.Message.TheVariants as m
 use Rattle.cs_session.specs.declared.message.TableStep.TheVariants as t
 use Rattle.cs_session.specs.declared.reply.Reply.{Reply}
 use Rattle.cs_session.specs.declared.reply.Reply.TheVariants as r
-use Rattle.cs_session.specs.Marks.{PortMark}
-use Rattle.cs_session.specs.Questions.{Question, Told}
+use Rattle.cs_session.specs.Questions.{Question, PortAnswer}
 use Rattle.cs_session.specs.Sessions.{Awaited, Sess, blank}
 use Rattle.cs_session.specs.TableSteps.{table_stepped}
 use Rattle.cs_session.specs.Steps.{Step, IsTaken, FindStep, AttachStep, CloseStep, Table}
-use Rattle.cs_session.specs.Messages.{Either, IsAnswered, clunk_or, closes_first, find_or, goes_on, step_of}
+use Rattle.cs_session.specs.Messages.{Either, IsAnswered, clunk_or, closes_first, find_or, goes_on, next_step}
 
 either_true : (b : Bool) (A B : Type 0) → b ≡ true → A → Either b A B
 either_true true A B e a = a
@@ -25,23 +24,23 @@ either_false : (b : Bool) (A B : Type 0) → b ≡ false → B → Either b A B
 either_false true A B e a = absurd (cc)
 either_false false A B e a = a
 
-module _ {P : Type 0} (gives : P → PortMark → Question → Told → P → Type 0) (now : ℕ) (message : Message) (s : Sess) (p : P) where
+module _ {P : Type 0} (gives : P → Question → PortAnswer → P → Type 0) (now : ℕ) (message : Message) (s : Sess) (p : P) where
   -- the step that answers the message
-  ends : (said : Reply) (mid : Sess) (there : P) → IsTaken gives now s p (step_of message s) said mid there → goes_on message (step_of message s) said ≡ false → IsAnswered gives now message s p said mid there
+  ends : (said : Reply) (mid : Sess) (there : P) → IsTaken gives now s p (next_step message s) said mid there → goes_on message (next_step message s) said ≡ false → IsAnswered gives now message s p said mid there
   ends said mid there t e = record { marks = t.mark ∷ []; answers = (said, mid, there, t.takes, either_false _ _ _ e (refl, refl, refl, refl)) }
 
   -- a step before the others
-  goes : (said : Reply) (mid : Sess) (there : P) → IsTaken gives now s p (step_of message s) said mid there → goes_on message (step_of message s) said ≡ true → (reply : Reply) (s' : Sess) (p' : P) → IsAnswered gives now message mid there reply s' p' → IsAnswered gives now message s p reply s' p'
+  goes : (said : Reply) (mid : Sess) (there : P) → IsTaken gives now s p (next_step message s) said mid there → goes_on message (next_step message s) said ≡ true → (reply : Reply) (s' : Sess) (p' : P) → IsAnswered gives now message mid there reply s' p' → IsAnswered gives now message s p reply s' p'
   goes said mid there t e reply s' p' a = record { marks = t.mark ∷ a.marks; answers = (said, mid, there, t.takes, either_true _ _ _ e a.answers) }
 
-  pub ends_by : (x : Step) → step_of message s ≡ x → (said : Reply) (mid : Sess) (there : P) → IsTaken gives now s p x said mid there → goes_on message x said ≡ false → IsAnswered gives now message s p said mid there
+  pub ends_by : (x : Step) → next_step message s ≡ x → (said : Reply) (mid : Sess) (there : P) → IsTaken gives now s p x said mid there → goes_on message x said ≡ false → IsAnswered gives now message s p said mid there
   ends_by x e said mid there t f = ends said mid there (rw e t) (rw e f)
 
-  pub goes_by : (x : Step) → step_of message s ≡ x → (said : Reply) (mid : Sess) (there : P) → IsTaken gives now s p x said mid there → goes_on message x said ≡ true → (reply : Reply) (s' : Sess) (p' : P) → IsAnswered gives now message mid there reply s' p' → IsAnswered gives now message s p reply s' p'
+  pub goes_by : (x : Step) → next_step message s ≡ x → (said : Reply) (mid : Sess) (there : P) → IsTaken gives now s p x said mid there → goes_on message x said ≡ true → (reply : Reply) (s' : Sess) (p' : P) → IsAnswered gives now message mid there reply s' p' → IsAnswered gives now message s p reply s' p'
   goes_by x e said mid there t f = goes said mid there (rw e t) (rw e f)
 
 -- closing the least open fid comes first
-pub closes : {P : Type 0} (gives : P → PortMark → Question → Told → P → Type 0) (now : ℕ) (message : Message) (s : Sess) (p : P) (fid : ℕ) (said : Reply) (mid : Sess) (there : P)
+pub closes : {P : Type 0} (gives : P → Question → PortAnswer → P → Type 0) (now : ℕ) (message : Message) (s : Sess) (p : P) (fid : ℕ) (said : Reply) (mid : Sess) (there : P)
     → closes_first message ≡ true → least_open s.fids ≡ Some fid → IsTaken gives now s p (CloseStep fid) said mid there
     → (reply : Reply) (s' : Sess) (p' : P) → IsAnswered gives now message mid there reply s' p' → IsAnswered gives now message s p reply s' p'
 closes gives now (m.Version msize version) s p fid said mid there first o t = goes gives now (m.Version msize version) s p said mid there (rw o t) (rw o refl)

@@ -9,15 +9,18 @@ use Rattle.cs_run.specs.declared.answer.Answer.{Answer}
 use Rattle.cs_run.specs.declared.answer.Answer.TheVariants as a
 use Rattle.cs_session.specs.declared.reply.Reply.{Reply}
 use Rattle.cs_session.specs.declared.reply.Reply.TheVariants as r
-use Rattle.cs_session.specs.Judgements.{judge, opened_at, refusal}
+use Rattle.cs_session.specs.Decisions.{decide, opened_at, refusal}
 use Rattle.cs_session.specs.Questions.{Question, Ask}
 
 abbrev pub close_question : ℕ → FidMap → ℕ → Option Question
-close_question now fids fid = option_map (λ f. Ask now f.run f.pass (c.Close (record { open_number = f.state.open_number; user = f.user }))) (opened_at fids fid)
+close_question now fids fid =
+    option_map (λ f. Ask now f.run f.pass
+    (c.Close (record { open_number = f.state.open_number; user = f.user }))) (opened_at fids fid)
 
 -- it takes no memory
-abbrev pub close_judged : ℕ → Bool → FidMap → ℕ → Result Question Reply
-close_judged now awaits fids fid = judge (first_failing ((S5, awaits) ∷ [])) false (close_question now fids fid)
+abbrev pub close_decision : ℕ → Bool → FidMap → ℕ → Result Question Reply
+close_decision now awaits fids fid =
+    decide (first_failing ((S5, awaits) ∷ [])) false (close_question now fids fid)
 
 abbrev pub close_reply : Answer → Reply
 close_reply a.Closed = r.Clunk

@@ -3,12 +3,14 @@ pub mod Questions
 pub mod Sessions
 pub mod Names
 pub mod Ready
-pub mod Judgements
+pub mod Decisions
 pub mod Attaches
 pub mod Walks
 pub mod Opens
 pub mod Reads
-pub mod Changes
+pub mod Writes
+pub mod Stats
+pub mod Removes
 pub mod Closes
 pub mod Versions
 pub mod TableSteps

@@ -1,5 +1,5 @@
 -- An open and a create: the fid is open then (open(5)).
-use Rattle.std.specs.Prelude.{ℕ, Bool, List, Option, None, Some, Result, string_bytes, option_and_then, option_map}
+use Rattle.std.specs.Prelude.{ℕ, Bool, List, Option, None, Some, Result, option_and_then, option_map}
 use Rattle.std.specs.FinMap.{insert}
 use Rattle.cs_fids.specs.declared.entry.Entry.TheVariants as entry
 use Rattle.cs_fids.specs.declared.fid.Walked.{Walked}
@@ -15,38 +15,57 @@ use Rattle.cs_session.specs.declared.message.OpenMessage.{OpenMessage}
 use Rattle.cs_session.specs.declared.reply.Reply.{Reply}
 use Rattle.cs_session.specs.declared.reply.Reply.TheVariants as r
 use Rattle.cs_session.specs.Names.{file_in}
-use Rattle.cs_session.specs.Judgements.{judged, refusal, walked_at}
+use Rattle.cs_session.specs.Decisions.{request_decision, refusal, walked_at}
 use Rattle.cs_session.specs.Questions.{Question, Ask}
 
 abbrev pub open_question : ℕ → FidMap → OpenMessage → Option Question
-open_question now fids x = option_map (λ f. Ask now f.run f.pass (c.Open (record { number = f.number; user = f.user; mode = x.mode }))) (walked_at fids x.fid)
+open_question now fids message =
+    option_map (λ f. Ask now f.run f.pass
+    (c.Open (record { number = f.number; user = f.user; mode = message.mode })))
+    (walked_at fids message.fid)
 
-abbrev pub open_judged : ℕ → Bool → Option ℕ → FidMap → OpenMessage → Bool → Result Question Reply
-open_judged now awaits msize fids x refused = judged awaits msize (open_table_rules fids x.fid x.mode) refused (open_question now fids x)
+abbrev pub open_decision : ℕ → Bool → Option ℕ → FidMap → OpenMessage → Bool → Result Question Reply
+open_decision now awaits msize fids message refused =
+    request_decision awaits msize (open_table_rules fids message.fid message.mode) refused
+    (open_question now fids message)
 
 -- the fid stands for the file that was opened, or made, and is open
 abbrev pub open_left : FidMap → ℕ → Option (FidOf Walked) → ℕ → ℕ → ℕ → FidMap
 open_left fids fid None mode open_number number = fids
-open_left fids fid (Some f) mode open_number number = insert fids fid (entry.Opened (opened (moved_to f number) mode open_number))
+open_left fids fid (Some f) mode open_number number =
+    insert fids fid (entry.Opened (opened (moved_to f number) mode open_number))
 
 abbrev pub open_after : FidMap → ℕ → ℕ → Answer → Reply × FidMap
-open_after fids fid mode (a.Opened qid open_number number) = (r.Open qid, open_left fids fid (walked_at fids fid) mode open_number number)
+open_after fids fid mode (a.Opened qid open_number number) =
+    (r.Open qid, open_left fids fid (walked_at fids fid) mode open_number number)
 open_after fids fid mode answer = (refusal answer, fids)
 
 -- ---- create
 
 -- of a file's name
 abbrev pub create_named : ℕ → FidMap → CreateMessage → List ℕ → Option Question
-create_named now fids x name =
-    option_map (λ f. Ask now f.run f.pass (c.Create (record { number = f.number; user = f.user; name = name; perm = x.perm; mode = x.mode }))) (walked_at fids x.fid)
+create_named now fids message name =
+    option_map (λ f. Ask now f.run f.pass
+    (c.Create (record {
+      number = f.number;
+      user = f.user;
+      name = name;
+      perm = message.perm;
+      mode = message.mode;
+    }))) (walked_at fids message.fid)
 
 abbrev pub create_question : ℕ → FidMap → CreateMessage → Option Question
-create_question now fids x = option_and_then (create_named now fids x) (file_in (string_bytes x.name))
+create_question now fids message =
+    option_and_then (create_named now fids message) (file_in message.name)
 
-abbrev pub create_judged : ℕ → Bool → Option ℕ → FidMap → CreateMessage → Bool → Result Question Reply
-create_judged now awaits msize fids x refused =
-    judged awaits msize (create_table_rules fids x.fid (string_bytes x.name) x.perm x.mode) refused (create_question now fids x)
+abbrev pub create_decision : ℕ → Bool → Option ℕ → FidMap → CreateMessage → Bool
+    → Result Question Reply
+create_decision now awaits msize fids message refused =
+    request_decision awaits msize
+    (create_table_rules fids message.fid message.name message.perm message.mode) refused
+    (create_question now fids message)
 
 abbrev pub create_after : FidMap → ℕ → ℕ → Answer → Reply × FidMap
-create_after fids fid mode (a.Opened qid open_number number) = (r.Create qid, open_left fids fid (walked_at fids fid) mode open_number number)
+create_after fids fid mode (a.Opened qid open_number number) =
+    (r.Create qid, open_left fids fid (walked_at fids fid) mode open_number number)
 create_after fids fid mode answer = (refusal answer, fids)

@@ -16,7 +16,7 @@ use Rattle.cs_session.specs.declared.message.ReadMessage.{ReadMessage}
 use Rattle.cs_session.specs.declared.reading.TheConstants.{READ_OVERHEAD}
 use Rattle.cs_session.specs.declared.reply.Reply.{Reply}
 use Rattle.cs_session.specs.declared.reply.Reply.TheVariants as r
-use Rattle.cs_session.specs.Judgements.{judged, opened_at, refusal}
+use Rattle.cs_session.specs.Decisions.{request_decision, opened_at, refusal}
 use Rattle.cs_session.specs.Questions.{Question, Ask}
 
 -- at most as many bytes as an Rread of that message size holds
@@ -24,15 +24,23 @@ abbrev pub cut : Option ℕ → ℕ → ℕ
 cut msize count = min count (unwrap_or msize 0 - READ_OVERHEAD)
 
 abbrev pub read_question : ℕ → Option ℕ → FidMap → ReadMessage → Option Question
-read_question now msize fids x =
-    option_map (λ f. Ask now f.run f.pass (c.Read (record { number = f.number; offset = x.offset; count = cut msize x.count; place = f.state.place }))) (opened_at fids x.fid)
+read_question now msize fids message =
+    option_map (λ f. Ask now f.run f.pass
+    (c.Read (record {
+      number = f.number;
+      offset = message.offset;
+      count = cut msize message.count;
+      place = f.state.place;
+    }))) (opened_at fids message.fid)
 
 -- the place of the fid has a name, whose copy takes memory
 abbrev pub copies_name : FidMap → ℕ → Bool
 copies_name fids fid = option_map_or (λ f. is_some f.state.place.last) (opened_at fids fid) false
 
-abbrev pub read_judged : ℕ → Bool → Option ℕ → FidMap → ReadMessage → Bool → Result Question Reply
-read_judged now awaits msize fids x refused = judged awaits msize (read_table_rules fids x.fid) (refused && copies_name fids x.fid) (read_question now msize fids x)
+abbrev pub read_decision : ℕ → Bool → Option ℕ → FidMap → ReadMessage → Bool → Result Question Reply
+read_decision now awaits msize fids message refused =
+    request_decision awaits msize (read_table_rules fids message.fid)
+    (refused && copies_name fids message.fid) (read_question now msize fids message)
 
 -- the fid's next read of a directory goes on there, if anywhere else than before
 abbrev pub read_left : FidMap → ℕ → Option (FidOf Opened) → Option Place → FidMap

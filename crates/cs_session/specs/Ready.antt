@@ -14,7 +14,8 @@ pub record IsAgreed (size : ℕ) : Type 0 where
 -- the table takes the fid of the run that awaits its attach, with no memory
 abbrev pub HasPlace : Option Awaited → Fids → Type 0
 HasPlace None table = Unit {0}
-HasPlace (Some p) table = (0 < table.room) × (p.fid ≢ NOFID) × (fid_at table p.fid ≡ None)
+HasPlace (Some awaited) table =
+    (0 < table.room) × (awaited.fid ≢ NOFID) × (fid_at table awaited.fid ≡ None)
 
 pub record IsReady (msize : Option ℕ) (pending : Option Awaited) (table : Fids) : Type 0 where
   pub agreed : ForSome msize IsAgreed

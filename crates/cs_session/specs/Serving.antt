@@ -1,4 +1,5 @@
--- What a server does with a stream: whole messages are answered, one after the other, and their replies written in order.
+-- What a server does with a stream: whole messages are answered, one after the other, and their
+-- replies written in order.
 use Rattle.std.specs.Prelude.{◌≡◌, ◌≢◌, ℕ, ◌<◌, List, [], ◌∷◌, ◌++◌, length, map, Option, None, Result, Ok, Err, ⊤}
 use Rattle.std.specs.List.{flat_map}
 use Rattle.std.specs.Io.KnownBytes.{Appends, Consumes, IsAtEnd}
@@ -12,9 +13,8 @@ use Rattle.cs_session.specs.declared.serving.ServeFault.{ServeFault}
 use Rattle.cs_session.specs.declared.serving.ServeFault.TheVariants.{ReadFault, WriteFault, FrameFault as BadFrame, Memory}
 use Rattle.cs_session.specs.declared.serving.Progress.{Progress}
 use Rattle.cs_session.specs.declared.serving.Progress.TheVariants.{More, Done, Stopped}
-use Rattle.cs_session.specs.Marks.{PortMark}
 use Rattle.cs_session.specs.Messages.{IsAnswered}
-use Rattle.cs_session.specs.Questions.{Question, Told}
+use Rattle.cs_session.specs.Questions.{Question, PortAnswer}
 use Rattle.cs_session.specs.Receipts.{IsReplied}
 use Rattle.cs_session.specs.Sessions.{Sess, blank}
 
@@ -25,11 +25,11 @@ pub record Exchange : Type 0 where
   pub reply : Spelled replies
 
 abbrev pub messages_of : List Exchange → List (List ℕ)
-messages_of xs = map (λ x. x.message) xs
+messages_of exchanges = map (λ exchange. exchange.message) exchanges
 
 -- the bytes of the replies, in order
 abbrev pub replies_of : List Exchange → List ℕ
-replies_of xs = flat_map (λ x. spelling x.reply) xs
+replies_of exchanges = flat_map (λ exchange. spelling exchange.reply) exchanges
 
 -- what stands next is that fault
 abbrev pub IsFaulty : FrameFault → List ℕ → Type 0
@@ -37,7 +37,8 @@ IsFaulty frame.Undersize left = IsUndersized left
 IsFaulty frame.Oversize left = IsOversized left
 IsFaulty frame.Cut left = ⊥
 
--- why no more messages were answered: the replies fill their room, and some were; none is left; or a fault stands next
+-- why no more messages were answered: the replies fill their room, and some were; none is left; or
+-- a fault stands next
 abbrev pub StopsFor : Progress → List ℕ → List ℕ → Type 0
 StopsFor More came left = length left < length came
 StopsFor Done came left = IsUnfinished left
@@ -51,12 +52,15 @@ StopsAt (Err WriteFault) left unsent = ⊤
 StopsAt (Err ReadFault) left unsent = ⊥
 StopsAt (Err Memory) left unsent = ⊥
 
--- Where a server stops: what came, what is left of it, what of the replies was not sent, and what the stream has left.
-abbrev pub EndsAt : Result (Unit {0}) ServeFault → List ℕ → List ℕ → List ℕ → Option (List ℕ) → Type 0
+-- Where a server stops: what came, what is left of it, what of the replies was not sent, and what
+-- the stream has left.
+abbrev pub EndsAt : Result (Unit {0}) ServeFault → List ℕ → List ℕ → List ℕ → Option (List ℕ)
+    → Type 0
 -- every byte that came was of a message, every reply was sent, and the stream is at its end
 EndsAt (Ok x) came left unsent rest = (left ≡ []) × (unsent ≡ []) × IsAtEnd rest
 -- the stream ended inside a message
-EndsAt (Err (BadFrame frame.Cut)) came left unsent rest = IsUnfinished left × (left ≢ []) × (unsent ≡ []) × IsAtEnd rest
+EndsAt (Err (BadFrame frame.Cut)) came left unsent rest =
+    IsUnfinished left × (left ≢ []) × (unsent ≡ []) × IsAtEnd rest
 -- the messages before the fault were answered, and it stands next
 EndsAt (Err (BadFrame fault)) came left unsent rest = IsFaulty fault left × (unsent ≡ [])
 -- the messages that came whole were answered
@@ -66,48 +70,56 @@ EndsAt (Err WriteFault) came left unsent rest = ⊤
 -- nothing was read
 EndsAt (Err Memory) came left unsent rest = (came ≡ []) × (unsent ≡ [])
 
-module _ {P : Type 0} (gives : P → PortMark → Question → Told → P → Type 0) where
+module _ {P : Type 0} (gives : P → Question → PortAnswer → P → Type 0) where
   -- a message was answered, and the bytes of its reply come behind these
-  pub record Adds (now : ℕ) (message : List ℕ) (s : Sess) (p : P) (old new : List ℕ) (s' : Sess) (p' : P) : Type 0 where
+  pub record Adds (now : ℕ) (message : List ℕ) (session : Sess) (port : P) (old new : List ℕ)
+      (session' : Sess) (port' : P) : Type 0 where
     pub told : Spelled replies
-    pub replied : IsReplied gives now message s p told s' p'
+    pub replied : IsReplied gives now message session port told session' port'
     pub adds : new ≡ old ++ spelling told
 
   -- each message was answered from where the one before led
-  abbrev pub Run : Sess → P → List Exchange → Sess → P → Type 0
-  Run s p [] s' p' = (s' ≡ s) × (p' ≡ p)
-  Run s p (x ∷ xs) s' p' = (mid : Sess) × (there : P) × IsReplied gives x.moment x.message s p x.reply mid there × Run mid there xs s' p'
+  abbrev pub Exchanges : Sess → P → List Exchange → Sess → P → Type 0
+  Exchanges session port [] session' port' = (session' ≡ session) × (port' ≡ port)
+  Exchanges session port (exchange ∷ others) session' port' =
+      (mid : Sess) × (there : P)
+      × IsReplied gives exchange.moment exchange.message session port exchange.reply mid there
+      × Exchanges mid there others session' port'
 
   -- the whole messages in front of what came were answered with these bytes, and this is left of it
-  pub record Served (s : Sess) (p : P) (came left told : List ℕ) (s' : Sess) (p' : P) : Type 0 where
+  pub record AnswersFront (session : Sess) (port : P) (came left told : List ℕ) (session' : Sess)
+      (port' : P) : Type 0 where
     pub exchanges : List Exchange
     pub begins : Begins came (messages_of exchanges) left
     pub told_is : told ≡ replies_of exchanges
-    pub run : Run s p exchanges s' p'
+    pub run : Exchanges session port exchanges session' port'
 
   -- likewise, with the replies written to a stream
-  pub record Handled (result : Result (Unit {0}) ServeFault) (s : Sess) (p : P) (came left : List ℕ) (con con' : Option (List ℕ)) (s' : Sess) (p' : P) : Type 0 where
+  pub record Handles (result : Result (Unit {0}) ServeFault) (session : Sess) (port : P)
+      (came left : List ℕ) (con con' : Option (List ℕ)) (session' : Sess) (port' : P) : Type 0 where
     pub sent : List ℕ
     pub unsent : List ℕ
     pub appends : Appends con con' sent
-    pub served : Served s p came left (sent ++ unsent) s' p'
+    pub served : AnswersFront session port came left (sent ++ unsent) session' port'
     pub stops : StopsAt result left unsent
 
   -- likewise, with the messages read from it
-  pub record Conversed (result : Result (Unit {0}) ServeFault) (s : Sess) (p : P) (rem rem' con con' : Option (List ℕ)) (s' : Sess) (p' : P) : Type 0 where
+  pub record Converses (result : Result (Unit {0}) ServeFault) (session : Sess) (port : P)
+      (rem rem' con con' : Option (List ℕ)) (session' : Sess) (port' : P) : Type 0 where
     pub came : List ℕ
     pub left : List ℕ
     pub sent : List ℕ
     pub unsent : List ℕ
     pub consumes : Consumes rem rem' came
     pub appends : Appends con con' sent
-    pub served : Served s p came left (sent ++ unsent) s' p'
+    pub served : AnswersFront session port came left (sent ++ unsent) session' port'
     pub ends : EndsAt result came left unsent rem'
 
   -- a connection from its beginning to its hang-up
-  pub record Serves (result : Result (Unit {0}) ServeFault) (p : P) (rem rem' con con' : Option (List ℕ)) (p' : P) : Type 0 where
+  pub record Conversation (result : Result (Unit {0}) ServeFault) (port : P)
+      (rem rem' con con' : Option (List ℕ)) (port' : P) : Type 0 where
     pub last : Sess
     pub there : P
     pub moment : ℕ
-    pub conversed : Conversed result (blank None) p rem rem' con con' last there
-    pub hung_up : IsAnswered gives moment m.HangUp last there r.Closed (blank None) p'
+    pub conversed : Converses result (blank None) port rem rem' con con' last there
+    pub hung_up : IsAnswered gives moment m.HangUp last there r.Closed (blank None) port'

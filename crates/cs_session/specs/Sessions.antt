@@ -9,7 +9,8 @@ use Rattle.cs_permit.specs.contracts.call.AttachCall as attach
 use Rattle.cs_permit.specs.declared.call.AttachCall.{AttachCall}
 use Rattle.cs_session.specs.declared.reply.Reply.{Reply}
 
--- a run that was found, and awaits its attach: the fid of the attach, the run's place at the port, and the call, which names the user
+-- a run that was found, and awaits its attach: the fid of the attach, the run's place at the port,
+-- and the call, which names the user
 pub record Awaited : Type 0 where
   pub fid : ℕ
   pub run : ℕ
@@ -22,24 +23,30 @@ pub record Sess : Type 0 where
   pub fids : FidMap
 
 abbrev pub awaited_code : Coded Awaited
-awaited_code = code_by (ℕ × (ℕ × AttachCall)) (coded× coded_ℕ (coded× coded_ℕ attach.the_row.coded)) (λ p. (p.fid, (p.run, p.call))) (λ parts. record { fid = parts.0; run = parts.1.0; call = parts.1.1 }) (λ _. refl)
+awaited_code = code_by (ℕ × (ℕ × AttachCall)) (coded× coded_ℕ (coded× coded_ℕ attach.the_row.coded))
+    (λ pending. (pending.fid, (pending.run, pending.call)))
+    (λ parts. record { fid = parts.0; run = parts.1.0; call = parts.1.1 }) (λ _. refl)
 
 abbrev pub sess_code : Coded Sess
-sess_code = code_by (Option ℕ × (Option Awaited × FidMap)) (coded× (coded_option coded_ℕ) (coded× (coded_option awaited_code) (code coded_ℕ row.the_row.coded))) (λ s. (s.msize, (s.pending, s.fids))) (λ parts. record { msize = parts.0; pending = parts.1.0; fids = parts.1.1 }) (λ _. refl)
+sess_code = code_by (Option ℕ × (Option Awaited × FidMap))
+    (coded× (coded_option coded_ℕ)
+    (coded× (coded_option awaited_code) (code coded_ℕ row.the_row.coded)))
+    (λ session. (session.msize, (session.pending, session.fids)))
+    (λ parts. record { msize = parts.0; pending = parts.1.0; fids = parts.1.1 }) (λ _. refl)
 
 -- what the number stands for
 abbrev pub entry_at : Sess → ℕ → Option Entry
-entry_at s fid = get s.fids fid
+entry_at session fid = get session.fids fid
 
 abbrev pub with_fids : FidMap → Sess → Sess
-with_fids fids s = record s { fids = fids }
+with_fids fids session = record session { fids = fids }
 
 abbrev pub with_pending : Option Awaited → Sess → Sess
-with_pending p s = record s { pending = p }
+with_pending pending session = record session { pending = pending }
 
 -- the reply, and the fids that are left
 abbrev pub leaves : Sess → Reply × FidMap → Reply × Sess
-leaves s x = (x.0, with_fids x.1 s)
+leaves session answered = (answered.0, with_fids answered.1 session)
 
 -- no fid is left; a session of that message size stands, or none does
 abbrev pub blank : Option ℕ → Sess

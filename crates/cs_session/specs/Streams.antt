@@ -8,7 +8,9 @@ use Rattle.cs_session.specs.declared.stream.Transfer.TheVariants.{Bytes, Interru
 
 -- a read gave the first bytes of what was left; none only at the end, or without room
 abbrev pub ReadGives : Option (List ℕ) → Option (List ℕ) → Transfer → List ℕ → Type 0
-ReadGives old new (Bytes count) buf = (count ≤ length buf) × Consumes old new (take count buf) × (count ≡ 0 → 0 < length buf → IsAtEnd new)
+ReadGives old new (Bytes count) buf =
+    (count ≤ length buf) × Consumes old new (take count buf)
+    × (count ≡ 0 → 0 < length buf → IsAtEnd new)
 ReadGives old new Interrupted buf = Keeps old new
 ReadGives old new Failed buf = Keeps old new
 
@@ -32,14 +34,32 @@ abbrev pub up : ℕ → ℕ → ℕ
 up more count = count + min more (18446744073709551615 - count)
 
 abbrev pub counted_read : Transfer → ℕ → Counts → Counts
-counted_read (Bytes count) room c = record c { reads = up 1 c.reads; interrupted_reads = 0; ends = (if count == 0 && nat_lt 0 room then up 1 c.ends else c.ends) }
-counted_read Interrupted room c = record c { reads = up 1 c.reads; interrupted_reads = up 1 c.interrupted_reads }
-counted_read Failed room c = record c { reads = up 1 c.reads; interrupted_reads = 0; failed_reads = up 1 c.failed_reads }
+counted_read (Bytes count) room c =
+    record c {
+      reads = up 1 c.reads;
+      interrupted_reads = 0;
+      ends = (if count == 0 && nat_lt 0 room then up 1 c.ends else c.ends);
+    }
+counted_read Interrupted room c =
+    record c { reads = up 1 c.reads; interrupted_reads = up 1 c.interrupted_reads }
+counted_read Failed room c =
+    record c { reads = up 1 c.reads; interrupted_reads = 0; failed_reads = up 1 c.failed_reads }
 
 abbrev pub counted_write : Transfer → ℕ → Counts → Counts
-counted_write (Bytes count) bytes c = record c { writes = up 1 c.writes; interrupted_writes = 0; idle_writes = (if count == 0 && nat_lt 0 bytes then up 1 c.idle_writes else c.idle_writes) }
-counted_write Interrupted bytes c = record c { writes = up 1 c.writes; interrupted_writes = up 1 c.interrupted_writes }
-counted_write Failed bytes c = record c { writes = up 1 c.writes; interrupted_writes = 0; failed_writes = up 1 c.failed_writes }
+counted_write (Bytes count) bytes c =
+    record c {
+      writes = up 1 c.writes;
+      interrupted_writes = 0;
+      idle_writes = (if count == 0 && nat_lt 0 bytes then up 1 c.idle_writes else c.idle_writes);
+    }
+counted_write Interrupted bytes c =
+    record c { writes = up 1 c.writes; interrupted_writes = up 1 c.interrupted_writes }
+counted_write Failed bytes c =
+    record c {
+      writes = up 1 c.writes;
+      interrupted_writes = 0;
+      failed_writes = up 1 c.failed_writes;
+    }
 
 -- no read was made
 pub record KeepsReads (old new : Counts) : Type 0 where
@@ -54,14 +74,19 @@ pub record KeepsFaults (old new : Counts) : Type 0 where
   pub failed : old.failed_writes ≤ new.failed_writes
   pub idle : old.idle_writes ≤ new.idle_writes
 
--- the last INTERRUPTIONS calls were all interrupted, and all of them made since: calls before and by now, and the last ones that were interrupted
+-- the last INTERRUPTIONS calls were all interrupted, and all of them made since: calls before and
+-- by now, and the last ones that were interrupted
 abbrev pub GaveUp : ℕ → ℕ → ℕ → Type 0
 GaveUp before now interrupted = (up INTERRUPTIONS before ≤ now) × (INTERRUPTIONS ≤ interrupted)
 
 -- a write failed, or took no byte, or the last ones were all interrupted
 abbrev pub BlamesWrites : Counts → Counts → Type 0
-BlamesWrites old new = (up 1 old.failed_writes ≤ new.failed_writes) ⊎ (up 1 old.idle_writes ≤ new.idle_writes) ⊎ GaveUp old.writes new.writes new.interrupted_writes
+BlamesWrites old new =
+    (up 1 old.failed_writes ≤ new.failed_writes) ⊎ (up 1 old.idle_writes ≤ new.idle_writes)
+    ⊎ GaveUp old.writes new.writes new.interrupted_writes
 
 -- a read failed, or the last ones were all interrupted, or as many were made as a connection has
 abbrev pub BlamesReads : Counts → Counts → Type 0
-BlamesReads old new = (up 1 old.failed_reads ≤ new.failed_reads) ⊎ GaveUp old.reads new.reads new.interrupted_reads ⊎ (up CONNECTION_READS old.reads ≤ new.reads)
+BlamesReads old new =
+    (up 1 old.failed_reads ≤ new.failed_reads) ⊎ GaveUp old.reads new.reads new.interrupted_reads
+    ⊎ (up CONNECTION_READS old.reads ≤ new.reads)

@@ -1,5 +1,5 @@
 -- The steps that change a connection's own table alone.
-use Rattle.std.specs.Prelude.{ℕ, Option, None, Some, is_none, is_some, if◌then◌else◌, string_bytes}
+use Rattle.std.specs.Prelude.{ℕ, Option, None, Some, is_none, is_some, if◌then◌else◌}
 use Rattle.std.specs.FinMap.{remove}
 use Rattle.cs_names.specs.declared.rule_id.RuleId.TheVariants.{N1, S1, S5}
 use Rattle.cs_fids.specs.declared.entry.Entry.{Entry}
@@ -12,7 +12,8 @@ use Rattle.cs_session.specs.declared.reply.Reply.TheVariants as r
 use Rattle.cs_session.specs.Sessions.{Sess, blank, entry_at, with_fids}
 use Rattle.cs_session.specs.Versions.{versioned}
 
--- a clunk of a fid that isn't open frees it; an open one is closed first, by another step (clunk(5))
+-- a clunk of a fid that isn't open frees it; an open one is closed first, by another step
+-- (clunk(5))
 abbrev pub clunk_reply : Option Entry → Reply
 clunk_reply None = r.Error N1
 clunk_reply (Some (entry.Opened x)) = r.Error S5
@@ -24,14 +25,21 @@ clunk_left fids fid (Some (entry.Opened x)) = fids
 clunk_left fids fid (Some (entry.Walked x)) = remove fids fid
 
 abbrev pub clunked : Sess → ℕ → Reply × Sess
-clunked s fid = (clunk_reply (entry_at s fid), with_fids (clunk_left s.fids fid (entry_at s fid)) s)
+clunked session fid = (
+  clunk_reply (entry_at session fid),
+  with_fids (clunk_left session.fids fid (entry_at session fid)) session,
+)
 
 -- a version and a hang-up free every fid, once none is open
-abbrev pub tabled : Sess → TableStep → Reply × Sess
-tabled s (t.Clunk fid) = if is_none s.msize then (r.Error S1, s) else clunked s fid
-tabled s (t.Version msize version) = if is_some (least_open s.fids) then (r.Error S5, s) else versioned msize (string_bytes version)
-tabled s t.HangUp = if is_some (least_open s.fids) then (r.Error S5, s) else (r.Closed, blank None)
+abbrev pub after_change : Sess → TableStep → Reply × Sess
+after_change session (t.Clunk fid) =
+    if is_none session.msize then (r.Error S1, session) else clunked session fid
+after_change session (t.Version msize version) =
+    if is_some (least_open session.fids) then (r.Error S5, session) else versioned msize version
+after_change session t.HangUp =
+    if is_some (least_open session.fids) then (r.Error S5, session) else (r.Closed, blank None)
 
 -- not while a run awaits its attach
 abbrev pub table_stepped : Sess → TableStep → Reply × Sess
-table_stepped s x = if is_some s.pending then (r.Error S5, s) else tabled s x
+table_stepped session change =
+    if is_some session.pending then (r.Error S5, session) else after_change session change

@@ -25,13 +25,18 @@ is_spoken text = same_bytes (before_period text) (codes "9P2000")
 abbrev pub agreed : ℕ → ℕ
 agreed msize = min msize MESSAGE_BYTES
 
--- no message size below the least one; else the smaller of the client's and ours, and whether the version is spoken
+-- no message size below the least one; else the smaller of the client's and ours, and whether the
+-- version is spoken
 abbrev pub version_reply : ℕ → List ℕ → Reply
-version_reply msize text = if nat_lt msize LEAST_MESSAGE_SIZE then r.Error S4 else r.Version (agreed msize) (is_spoken text)
+version_reply msize text =
+    if nat_lt msize LEAST_MESSAGE_SIZE then r.Error S4
+    else r.Version (agreed msize) (is_spoken text)
 
 -- the message size of the session that stands then, if one does
 abbrev pub session_size : ℕ → List ℕ → Option ℕ
-session_size msize text = if nat_lt msize LEAST_MESSAGE_SIZE then None else if is_spoken text then Some (agreed msize) else None
+session_size msize text =
+    if nat_lt msize LEAST_MESSAGE_SIZE then None else if is_spoken text then Some (agreed msize)
+    else None
 
 -- no fid is left, also where the version is refused
 abbrev pub versioned : ℕ → List ℕ → Reply × Sess

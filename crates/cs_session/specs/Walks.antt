@@ -14,20 +14,27 @@ use Rattle.cs_run.specs.Walks.{Way}
 use Rattle.cs_session.specs.declared.message.WalkMessage.{WalkMessage}
 use Rattle.cs_session.specs.declared.reply.Reply.{Reply}
 use Rattle.cs_session.specs.declared.reply.Reply.TheVariants as r
-use Rattle.cs_session.specs.Judgements.{judged, refusal, walked_at}
+use Rattle.cs_session.specs.Decisions.{request_decision, refusal, walked_at}
 use Rattle.cs_session.specs.Questions.{Question, Ask}
 
 abbrev pub walk_question : ℕ → FidMap → WalkMessage → Option Question
-walk_question now fids x = option_map (λ f. Ask now f.run f.pass (c.Walk (record { number = f.number; user = f.user; names = x.names }))) (walked_at fids x.fid)
+walk_question now fids message =
+    option_map (λ f. Ask now f.run f.pass
+    (c.Walk (record { number = f.number; user = f.user; names = message.names })))
+    (walked_at fids message.fid)
 
-abbrev pub walk_judged : ℕ → Bool → Option ℕ → FidMap → WalkMessage → Bool → Result Question Reply
-walk_judged now awaits msize fids x refused = judged awaits msize (walk_table_rules fids x.fid x.newfid) refused (walk_question now fids x)
+abbrev pub walk_decision : ℕ → Bool → Option ℕ → FidMap → WalkMessage → Bool → Result Question Reply
+walk_decision now awaits msize fids message refused =
+    request_decision awaits msize (walk_table_rules fids message.fid message.newfid) refused
+    (walk_question now fids message)
 
 -- the new fid stands for the last file; a walk that a rule stopped makes and moves no fid
 abbrev pub walk_left : FidMap → ℕ → Option (FidOf Walked) → Way → FidMap
 walk_left fids newfid None way = fids
-walk_left fids newfid (Some f) way = if is_some way.stopped then fids else insert fids newfid (entry.Walked (moved_to f way.last))
+walk_left fids newfid (Some f) way =
+    if is_some way.stopped then fids else insert fids newfid (entry.Walked (moved_to f way.last))
 
 abbrev pub walk_after : FidMap → ℕ → ℕ → Answer → Reply × FidMap
-walk_after fids fid newfid (a.Walked way) = (r.Walk way, walk_left fids newfid (walked_at fids fid) way)
+walk_after fids fid newfid (a.Walked way) =
+    (r.Walk way, walk_left fids newfid (walked_at fids fid) way)
 walk_after fids fid newfid answer = (refusal answer, fids)

@@ -13,6 +13,7 @@ use crate::message::{AttachMessage, Message, TableStep};
 use crate::port::Port;
 use crate::reply::Reply;
 use crate::session::Session;
+use cs_names::Text;
 use std::alloc::Global;
 
 impl Session {
@@ -21,7 +22,10 @@ impl Session {
         requires { self.old.pending ≡ None }
         ensures closed { least_open self.new.fids ≡ None }
         ensures idle { self.new.pending ≡ None }
-        ensures before { (message : Message) (reply : Reply) (s : Sess) (p : P) → closes_first message ≡ true → IsAnswered P.gives now message self.new port.new reply s p → IsAnswered P.gives now message self.old port.old reply s p }
+        ensures before { (message : Message) (reply : Reply) (s : Sess) (p : P)
+            → closes_first message ≡ true
+            → IsAnswered P.gives now message self.new port.new reply s p
+            → IsAnswered P.gives now message self.old port.old reply s p }
     {
         while let Some(fid) = self.least_open() {
             let _reply = self.close_step(alloc, port, now, fid);
@@ -37,7 +41,8 @@ impl Session {
         message: AttachMessage,
     ) -> Reply
         requires { self.old.pending ≡ None }
-        ensures answered { IsAnswered P.gives now (m.Attach message) self.old port.old result self.new port.new }
+        ensures answered { IsAnswered P.gives now (m.Attach message) self.old port.old result
+            self.new port.new }
         ensures fits { ReplyFits self.old.msize result }
         ensures idle { self.new.pending ≡ None }
     {
@@ -50,7 +55,8 @@ impl Session {
     /// Closes a fid that is open, or frees one that isn't.
     fn clunk<P: Port>(&mut self, alloc: Global, port: &mut P, now: u32, fid: u32) -> Reply
         requires { self.old.pending ≡ None }
-        ensures answered { IsAnswered P.gives now (m.Clunk fid) self.old port.old result self.new port.new }
+        ensures answered { IsAnswered P.gives now (m.Clunk fid) self.old port.old result self.new
+            port.new }
         ensures plain { IsPlain result }
         ensures idle { self.new.pending ≡ None }
     {
@@ -67,10 +73,11 @@ impl Session {
         port: &mut P,
         now: u32,
         msize: u32,
-        version: String,
+        version: Text,
     ) -> Reply
         requires { self.old.pending ≡ None }
-        ensures answered { IsAnswered P.gives now (m.Version msize version) self.old port.old result self.new port.new }
+        ensures answered { IsAnswered P.gives now (m.Version msize version) self.old port.old result
+            self.new port.new }
         ensures plain { IsPlain result }
         ensures idle { self.new.pending ≡ None }
     {
@@ -82,15 +89,16 @@ impl Session {
     /// answer counts for nothing.
     pub fn hang_up<P: Port>(&mut self, alloc: Global, port: &mut P, now: u32)
         requires { self.old.pending ≡ None }
-        ensures answered { IsAnswered P.gives now m.HangUp self.old port.old r.Closed self.new port.new }
+        ensures answered { IsAnswered P.gives now m.HangUp self.old port.old r.Closed self.new
+            port.new }
         ensures ended { self.new ≡ blank None }
     {
         self.close_all(alloc, port, now);
         let _closed = self.table_step(port, now, TableStep::HangUp);
     }
 
-    /// Answers a message by its steps: the first rule that fails, or want of memory, or what the port
-    /// answered.
+    /// Answers a message by its steps: the first rule that fails, or want of memory, or what the
+    /// port answered.
     pub fn answer<P: Port>(
         &mut self,
         alloc: Global,
@@ -99,7 +107,8 @@ impl Session {
         message: Message,
     ) -> Reply
         requires { self.old.pending ≡ None }
-        ensures answered { IsAnswered P.gives now message self.old port.old result self.new port.new }
+        ensures answered { IsAnswered P.gives now message self.old port.old result self.new
+            port.new }
         ensures fits { MessageFits message → ReplyFits self.old.msize result }
         ensures idle { self.new.pending ≡ None }
     {

@@ -1,19 +1,18 @@
 //! Attaches: a run is found, and then entered (attach(5)).
-ghost use Rattle.std.specs.Prelude.{◌≡◌, ◌≢◌, ◌<◌, ◌≤◌, false, IfErr, IfOk, IsOk, None, string_bytes};
+ghost use Rattle.std.specs.Prelude.{◌≡◌, ◌≢◌, ◌<◌, ◌≤◌, false, IfErr, IfOk, IsOk, None};
 ghost use Rattle.std.specs.FinMap.{get};
-ghost use Rattle.cs_session.specs.Attaches.{entered, find_judged, find_refusal, pass_refusal};
-ghost use Rattle.cs_session.specs.Judgements.{Judged};
+ghost use Rattle.cs_session.specs.Attaches.{attach_settled, find_decision, find_refusal, pass_refusal};
+ghost use Rattle.cs_session.specs.Decisions.{Decides};
 ghost use Rattle.cs_session.specs.Names.{user_in};
 ghost use Rattle.cs_session.specs.Questions.{Find};
 ghost use Rattle.cs_session.specs.Sizes.{IsPlain};
 
-use crate::asked::{first_of, refusal};
 use crate::message::AttachMessage;
-use crate::port::{FindFault, PassFault};
+use crate::question::{first_of, refusal};
 use crate::reply::Reply;
 use cs_fids::{Entry, Fid, FidTable, NOFID};
 use cs_names::{NameFault, RuleId, UserName};
-use cs_permit::{Request, TreeName};
+use cs_permit::{FindFault, PassFault, Request, TreeName};
 use cs_run::Answer;
 use std::alloc::Global;
 
@@ -29,17 +28,18 @@ fn user_in(alloc: Global, uname: &str) -> Result<Option<UserName>, NameFault>
 }
 
 /// What the find of an attach asks, with room for the fid, and the name of its user.
-pub(crate) fn judge_find<'a>(
+pub(crate) fn decide_find<'a>(
     alloc: Global,
     awaits: bool,
     msize: Option<u32>,
     fids: &mut FidTable,
     message: &'a AttachMessage,
 ) -> Result<(TreeName<'a>, Option<UserName>), Reply>
-    ensures judged { Judged (λ a. Find a.0.state.now a.0.run.now) (find_judged awaits msize fids.old.fids message.now) result }
+    ensures decided { Decides (λ a. Find a.0.state.now a.0.run.now)
+        (find_decision awaits msize fids.old.fids message.now) result }
     ensures plain { IfErr result IsPlain }
     ensures idle { IsOk result → awaits ≡ false }
-    ensures user { IfOk result (λ a. a.1 ≡ user_in (string_bytes message.now.uname)) }
+    ensures user { IfOk result (λ a. a.1 ≡ user_in message.now.uname) }
     ensures named { IsOk result → message.now.fid ≢ NOFID }
     ensures free { IsOk result → get fids.old.fids message.now.fid ≡ None }
     ensures room { IsOk result → 0 < fids.new.room }
@@ -60,7 +60,7 @@ pub(crate) fn judge_find<'a>(
     let Ok(user) = user_in(alloc, message.uname.as_str()) else {
         return Err(Reply::Memory);
     };
-    match TreeName::read(message.aname.as_bytes()) {
+    match TreeName::read(message.aname.as_str().as_bytes()) {
         Some(name) => Ok((name, user)),
         None => Err(Reply::Error(RuleId::S5)),
     }
@@ -102,7 +102,8 @@ pub(crate) fn settle_attach(
     requires named { fid ≢ NOFID }
     requires free { get fids.old.fids fid ≡ None }
     requires room { 0 < fids.old.room }
-    ensures value { (result, fids.new.fids) ≡ entered fids.old.fids fid run user pass answer }
+    ensures value { (result, fids.new.fids)
+        ≡ attach_settled fids.old.fids fid run user pass answer }
     ensures plain { IsPlain result }
 {
     match answer {

@@ -73,7 +73,8 @@ impl<RW: Read + Write> Stream for Counted<RW> {
     }
 }
 
-/// A reader and a writer, each an end of its own. It tells the bytes of each end where that end does.
+/// A reader and a writer, each an end of its own. It tells the bytes of each end where that end
+/// does.
 #[derive(Drop)]
 pub struct TwoEnded<R, W> {
     reader: R,

@@ -3,34 +3,38 @@
 #![tactic(auto)]
 
 mod answering;
-mod asked;
 mod attaching;
-mod changing;
 pub mod clock;
+mod closing;
 pub mod counted;
 pub mod laws;
 pub mod message;
 mod opening;
 mod pending;
 pub mod port;
+mod question;
 pub mod reading;
 mod receiving;
+mod removing;
 pub mod reply;
 pub mod serving;
 pub mod session;
+mod stating;
 pub mod stream;
 mod versions;
 mod walking;
+mod writing;
 
 pub use clock::Clock;
 pub use counted::{Counted, TwoEnded};
+pub use cs_permit::{FindFault, PassFault};
 pub use laws::message_is_steps;
 pub use message::{
     AttachMessage, CallMessage, CreateMessage, Message, OpenMessage, ReadMessage, TableStep,
     WalkMessage, WriteMessage, WstatMessage,
 };
-pub use port::{FindFault, PassFault, Port};
-pub use reply::{Bytes, Reply};
+pub use port::Port;
+pub use reply::Reply;
 pub use serving::{ServeFault, serve_stream};
 pub use session::Session;
 pub use stream::{Counts, Stream, Transfer, WriteFault, write_all};

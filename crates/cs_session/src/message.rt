@@ -1,14 +1,17 @@
-//! What a client's messages ask of its session.
+//! What a client's messages ask of its session, as plain values.
+ghost use Rattle.std.specs.Prelude.{◌≡◌, IfOk};
 
-use cs_wire::Stat;
+use cs_names::{Bytes, Text, Texts};
+use cs_permit::SentStat;
+use std::alloc::{AllocError, Global};
 
 /// A Tattach (attach(5)).
 #[derive(Debug, Drop)]
 pub struct AttachMessage {
     pub fid: u32,
     pub afid: u32,
-    pub uname: String,
-    pub aname: String,
+    pub uname: Text,
+    pub aname: Text,
 }
 
 /// A Twalk (walk(5)).
@@ -16,7 +19,7 @@ pub struct AttachMessage {
 pub struct WalkMessage {
     pub fid: u32,
     pub newfid: u32,
-    pub names: Vec<String>,
+    pub names: Texts,
 }
 
 /// A Topen (open(5)).
@@ -30,7 +33,7 @@ pub struct OpenMessage {
 #[derive(Debug, Drop)]
 pub struct CreateMessage {
     pub fid: u32,
-    pub name: String,
+    pub name: Text,
     pub perm: u32,
     pub mode: u8,
 }
@@ -48,14 +51,14 @@ pub struct ReadMessage {
 pub struct WriteMessage {
     pub fid: u32,
     pub offset: u64,
-    pub bytes: Vec<u8>,
+    pub bytes: Bytes,
 }
 
 /// A Twstat (stat(5)).
 #[derive(Debug, Drop)]
 pub struct WstatMessage {
     pub fid: u32,
-    pub stat: Stat,
+    pub stat: SentStat,
 }
 
 /// A message that asks one call of a fid's run.
@@ -76,7 +79,7 @@ pub enum CallMessage {
 /// A change of the connection's own table (version(5), clunk(5)).
 #[derive(Debug, Drop)]
 pub enum TableStep {
-    Version { msize: u32, version: String },
+    Version { msize: u32, version: Text },
     /// A fid that isn't open.
     Clunk(u32),
     HangUp,
@@ -85,11 +88,75 @@ pub enum TableStep {
 /// What a session answers by its steps.
 #[derive(Debug, Drop)]
 pub enum Message {
-    Version { msize: u32, version: String },
+    Version { msize: u32, version: Text },
     Attach(AttachMessage),
     Call(CallMessage),
     /// The fid.
     Clunk(u32),
     /// The connection ends.
     HangUp,
+}
+
+impl AttachMessage {
+    /// The same message again.
+    pub fn try_clone(&self) -> Result<AttachMessage, AllocError>
+        ensures { IfOk result (λ copy. copy ≡ self.now) }
+    {
+        Ok(AttachMessage {
+            fid: self.fid,
+            afid: self.afid,
+            uname: self.uname.try_clone()?,
+            aname: self.aname.try_clone()?,
+        })
+    }
+}
+
+impl CallMessage {
+    /// The same message again.
+    pub fn try_clone(&self, alloc: Global) -> Result<CallMessage, AllocError>
+        ensures { IfOk result (λ copy. copy ≡ self.now) }
+    {
+        Ok(match self {
+            CallMessage::Walk(message) => CallMessage::Walk(WalkMessage {
+                fid: message.fid,
+                newfid: message.newfid,
+                names: message.names.try_clone(alloc)?,
+            }),
+            CallMessage::Open(message) => CallMessage::Open(*message),
+            CallMessage::Create(message) => CallMessage::Create(CreateMessage {
+                fid: message.fid,
+                name: message.name.try_clone()?,
+                perm: message.perm,
+                mode: message.mode,
+            }),
+            CallMessage::Read(message) => CallMessage::Read(*message),
+            CallMessage::Write(message) => CallMessage::Write(WriteMessage {
+                fid: message.fid,
+                offset: message.offset,
+                bytes: message.bytes.try_clone()?,
+            }),
+            CallMessage::Remove(fid) => CallMessage::Remove(*fid),
+            CallMessage::Stat(fid) => CallMessage::Stat(*fid),
+            CallMessage::Wstat(message) => CallMessage::Wstat(WstatMessage {
+                fid: message.fid,
+                stat: message.stat.try_clone()?,
+            }),
+        })
+    }
+}
+
+impl TableStep {
+    /// The same change again.
+    pub fn try_clone(&self) -> Result<TableStep, AllocError>
+        ensures { IfOk result (λ copy. copy ≡ self.now) }
+    {
+        Ok(match self {
+            TableStep::Version { msize, version } => TableStep::Version {
+                msize: *msize,
+                version: version.try_clone()?,
+            },
+            TableStep::Clunk(fid) => TableStep::Clunk(*fid),
+            TableStep::HangUp => TableStep::HangUp,
+        })
+    }
 }

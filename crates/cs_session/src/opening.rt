@@ -1,11 +1,11 @@
 //! Opens and creates (open(5)).
 ghost use Rattle.std.specs.Prelude.{◌≡◌, false, IfErr, IsOk};
-ghost use Rattle.cs_session.specs.Judgements.{Judged, asked, walked_at};
+ghost use Rattle.cs_session.specs.Decisions.{Decides, question_of, walked_at};
 ghost use Rattle.cs_session.specs.Sizes.{IsPlain};
-ghost use Rattle.cs_session.specs.Opens.{create_after, create_judged, open_after, open_judged, open_left};
+ghost use Rattle.cs_session.specs.Opens.{create_after, create_decision, open_after, open_decision, open_left};
 
-use crate::asked::{Asked, first_of, refusal};
 use crate::message::{CreateMessage, OpenMessage};
+use crate::question::{RunQuestion, first_of, refusal};
 use crate::reply::Reply;
 use cs_fids::{Entry, FidTable};
 use cs_names::{Name, RuleId};
@@ -13,14 +13,15 @@ use cs_permit::{Call, CreateCall, OpenCall, Request};
 use cs_run::Answer;
 
 /// What an open asks.
-pub(crate) fn judge_open(
+pub(crate) fn decide_open(
     awaits: bool,
     msize: Option<u32>,
     fids: &FidTable,
     now: u32,
     message: OpenMessage,
-) -> Result<Asked, Reply>
-    ensures judged { Judged asked (open_judged now awaits msize fids.now.fids message) result }
+) -> Result<RunQuestion, Reply>
+    ensures decided { Decides question_of (open_decision now awaits msize fids.now.fids message)
+        result }
     ensures plain { IfErr result IsPlain }
     ensures idle { IsOk result → awaits ≡ false }
 {
@@ -42,23 +43,19 @@ pub(crate) fn judge_open(
         user,
         mode: message.mode,
     });
-    Ok(Asked {
-        now,
-        run: fid.run(),
-        pass: fid.pass(),
-        call,
-    })
+    Ok(RunQuestion::new(now, fid.run(), fid.pass(), call))
 }
 
 /// What a create asks.
-pub(crate) fn judge_create(
+pub(crate) fn decide_create(
     awaits: bool,
     msize: Option<u32>,
     fids: &FidTable,
     now: u32,
     message: CreateMessage,
-) -> Result<Asked, Reply>
-    ensures judged { Judged asked (create_judged now awaits msize fids.now.fids message) result }
+) -> Result<RunQuestion, Reply>
+    ensures decided { Decides question_of (create_decision now awaits msize fids.now.fids message)
+        result }
     ensures plain { IfErr result IsPlain }
     ensures idle { IsOk result → awaits ≡ false }
 {
@@ -71,7 +68,7 @@ pub(crate) fn judge_create(
     if let Some(rule) = first_of(awaits, msize, &request, fids) {
         return Err(Reply::Error(rule));
     }
-    let Ok(name) = Name::from_text(message.name) else {
+    let Ok(name) = Name::from_text(message.name.into_string()) else {
         return Err(Reply::Error(RuleId::S5));
     };
     let Some(Entry::Walked(fid)) = fids.look(message.fid) else {
@@ -87,17 +84,13 @@ pub(crate) fn judge_create(
         perm: message.perm,
         mode: message.mode,
     });
-    Ok(Asked {
-        now,
-        run: fid.run(),
-        pass: fid.pass(),
-        call,
-    })
+    Ok(RunQuestion::new(now, fid.run(), fid.pass(), call))
 }
 
 /// Has the fid, if it isn't open yet, stand for that file and be open.
 fn open_fid(fids: &mut FidTable, fid: u32, mode: u8, open_number: u32, number: u64)
-    ensures { fids.new.fids ≡ open_left fids.old.fids fid (walked_at fids.old.fids fid) mode open_number number }
+    ensures { fids.new.fids
+        ≡ open_left fids.old.fids fid (walked_at fids.old.fids fid) mode open_number number }
 {
     match fids.move_to(fid, number) {
         Ok(()) => {

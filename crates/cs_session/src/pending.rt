@@ -1,20 +1,20 @@
 //! A run that was found, and awaits its attach.
 
-use cs_names::UserName;
+use cs_names::{Text, UserName};
 use std::marker::Model;
 
-/// A run that was found, and awaits its attach. Contracts see the fid and the call of the attach, and
-/// the run's place; the user's name stands here twice, so that the attach takes no memory.
+/// A run that was found, and awaits its attach. Contracts see the fid and the call of the attach,
+/// and the run's place; the user's name stands here twice, so that the attach takes no memory.
 #[derive(Debug, Drop)]
 pub(crate) struct Pending {
     pub(crate) fid: u32,
     pub(crate) run: u32,
-    pub(crate) uname: String,
+    pub(crate) uname: Text,
     pub(crate) user: Option<UserName>,
 }
 
 impl Model for Pending {
-    ghost use Rattle.std.specs.Prelude.{◌≡◌, string_bytes};
+    ghost use Rattle.std.specs.Prelude.{◌≡◌};
     ghost use Rattle.cs_session.specs.Names.{user_in};
     ghost use Rattle.cs_session.specs.Sessions.{Awaited, awaited_code};
 
@@ -24,5 +24,5 @@ impl Model for Pending {
 
     ghost view = { λ p. record { fid = p.fid; run = p.run; call = record { user = p.uname } } };
 
-    ghost invariant = { λ p. p.user ≡ user_in (string_bytes p.uname) };
+    ghost invariant = { λ p. p.user ≡ user_in p.uname };
 }

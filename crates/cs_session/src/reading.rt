@@ -1,16 +1,16 @@
 //! Reads (read(5)).
 ghost use Rattle.std.specs.Prelude.{◌≡◌, ℕ, ◌≤◌, false, is_some, true, IfErr, IfOk, IsOk, OnErr, Option};
 ghost use Rattle.cs_run.specs.Laws.{FitsCall, bytes_in};
-ghost use Rattle.cs_session.specs.Judgements.{Judged, asked, opened_at};
+ghost use Rattle.cs_session.specs.Decisions.{Decides, question_of, opened_at};
 ghost use Rattle.cs_run.specs.declared.answer.Answer.{Answer};
 ghost use Rattle.cs_session.specs.Sizes.{IsPlain, ReplyFits};
-ghost use Rattle.cs_session.specs.Reads.{cut, read_after, read_judged, read_left};
+ghost use Rattle.cs_session.specs.Reads.{cut, read_after, read_decision, read_left};
 
-use crate::asked::{Asked, first_of, refusal};
 use crate::message::ReadMessage;
-use crate::reply::{Bytes, Reply};
+use crate::question::{RunQuestion, first_of, refusal};
+use crate::reply::Reply;
 use cs_fids::{Entry, FidTable, Place};
-use cs_names::RuleId;
+use cs_names::{Bytes, RuleId};
 use cs_permit::{Call, ReadCall, Request};
 use cs_run::Answer;
 use std::alloc::AllocError;
@@ -41,16 +41,19 @@ fn copied(place: &Place) -> Result<Place, AllocError>
 }
 
 /// What a read asks.
-pub(crate) fn judge_read(
+pub(crate) fn decide_read(
     awaits: bool,
     msize: Option<u32>,
     fids: &FidTable,
     now: u32,
     message: ReadMessage,
-) -> Result<Asked, Reply>
-    ensures judged { Judged asked (read_judged now awaits msize fids.now.fids message) result }
+) -> Result<RunQuestion, Reply>
+    ensures decided { Decides question_of (read_decision now awaits msize fids.now.fids message)
+        result }
     ensures plain { IfErr result IsPlain }
-    ensures fits { IfOk result (λ a. (answer : Answer) → FitsCall a.call answer → bytes_in answer ≤ cut msize message.count) }
+    ensures fits { IfOk result
+        (λ a. (answer : Answer) → FitsCall a.call answer
+        → bytes_in answer ≤ cut msize message.count) }
     ensures idle { IsOk result → awaits ≡ false }
 {
     let request = Request::Read { fid: message.fid };
@@ -69,12 +72,7 @@ pub(crate) fn judge_read(
         count: cut(msize, message.count),
         place,
     });
-    Ok(Asked {
-        now,
-        run: fid.run(),
-        pass: fid.pass(),
-        call,
-    })
+    Ok(RunQuestion::new(now, fid.run(), fid.pass(), call))
 }
 
 /// Has the fid's next read of a directory go on there, if anywhere else than before.
@@ -89,7 +87,8 @@ fn go_on_at(fids: &mut FidTable, fid: u32, place: Option<Place>)
 /// The reply to a read, and its fid.
 pub(crate) fn settle_read(fids: &mut FidTable, fid: u32, answer: Answer) -> Reply
     ensures value { (result, fids.new.fids) ≡ read_after fids.old.fids fid answer }
-    ensures fits { (msize : Option ℕ) (count : ℕ) → bytes_in answer ≤ cut msize count → ReplyFits msize result }
+    ensures fits { (msize : Option ℕ) (count : ℕ) → bytes_in answer ≤ cut msize count
+        → ReplyFits msize result }
 {
     match answer {
         Answer::Data(data) => {

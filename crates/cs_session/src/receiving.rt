@@ -1,14 +1,15 @@
 //! From a message's bytes to the reply on the wire.
 ghost use Rattle.std.specs.Option.{ForSome};
-ghost use Rattle.std.specs.Prelude.{◌≡◌, ℕ, ◌≤◌, codes, IfErr, IfOk, length, None, Option};
+ghost use Rattle.std.specs.Prelude.{◌≡◌, ℕ, ◌≤◌, codes, IfErr, IfOk, length, map, None, Option, string_bytes};
 ghost use Rattle.cs_names.specs.Rules.{text_of};
 ghost use Rattle.cs_permit.specs.Refusals.{first_failing};
+ghost use Rattle.cs_permit.specs.Sent.{sent_of};
 ghost use Rattle.cs_permit.specs.Sizes.{IsQid, IsShown};
 ghost use Rattle.cs_session.specs.declared.message.CallMessage.TheVariants as call;
 ghost use Rattle.cs_session.specs.Ready.{IsAgreed};
-ghost use Rattle.cs_session.specs.Receipts.{IsReceived, IsReplied, IsSpelled, IsUnread, error_reply, front_rules, message_in, said, said_version, tag_in};
+ghost use Rattle.cs_session.specs.Receipts.{IsReceived, IsReplied, IsSpelled, IsUnread, error_reply, front_rules, message_in, needs_no_session, wire_of, version_named, tag_in};
 ghost use Rattle.cs_session.specs.Sizes.{FitsIn, FitsWithin, ReplyFits, room_of};
-ghost use Rattle.cs_wire.specs.Messages.{r_view};
+ghost use Rattle.cs_wire.specs.Messages.{r_view, t_kind_of};
 
 use crate::message::{
     AttachMessage, CallMessage, CreateMessage, Message, OpenMessage, ReadMessage, WalkMessage,
@@ -17,16 +18,11 @@ use crate::message::{
 use crate::port::Port;
 use crate::reply::Reply;
 use crate::session::Session;
-use cs_names::RuleId;
-use cs_wire::{Qid, RBody, RMessage, TBody, TMessage, WireFault, decode};
+use cs_names::{Bytes, RuleId, Text, Texts};
+use cs_permit::SentStat;
+use cs_wire::{Qid, RBody, RMessage, Stat, TBody, TKind, TMessage, WireFault, decode};
 use std::alloc::Global;
 use std::borrow::CowStr;
-
-/// The type of a Tversion (version(5)).
-const VERSION: u8 = 100;
-
-/// The type of a Tflush (flush(5)).
-const FLUSH: u8 = 108;
 
 /// The tag of a message, which its reply carries too: its bytes 5 and 6.
 fn tag_in(bytes: &[u8]) -> u16
@@ -36,6 +32,16 @@ fn tag_in(bytes: &[u8]) -> u16
     u16::from_le_bytes([bytes[5], bytes[6]])
 }
 
+/// Whether a message of the type of that number may come with no session.
+fn needs_no_session(number: u8) -> bool
+    ensures { result ≡ needs_no_session (t_kind_of number) }
+{
+    matches!(
+        TKind::of_number(number),
+        Some(TKind::Version | TKind::Flush)
+    )
+}
+
 /// The first of the rules S1 and S2 that a message breaks before it is decoded.
 fn first_failing_front(msize: Option<u32>, bytes: &[u8]) -> Option<RuleId>
     requires { 7 ≤ length bytes.now }
@@ -43,7 +49,7 @@ fn first_failing_front(msize: Option<u32>, bytes: &[u8]) -> Option<RuleId>
 {
     match msize {
         None => {
-            if bytes[4] != VERSION && bytes[4] != FLUSH {
+            if !needs_no_session(bytes[4]) {
                 return Some(RuleId::S1);
             }
         }
@@ -75,7 +81,10 @@ fn message_in(body: TBody) -> Result<Message, Reply>
     Ok(match body {
         TBody::Auth { .. } => return Err(Reply::Error(RuleId::S3)),
         TBody::Flush { .. } => return Err(Reply::Flush),
-        TBody::Version { msize, version } => Message::Version { msize, version },
+        TBody::Version { msize, version } => Message::Version {
+            msize,
+            version: Text::new(version),
+        },
         TBody::Attach {
             fid,
             afid,
@@ -84,8 +93,8 @@ fn message_in(body: TBody) -> Result<Message, Reply>
         } => Message::Attach(AttachMessage {
             fid,
             afid,
-            uname,
-            aname,
+            uname: Text::new(uname),
+            aname: Text::new(aname),
         }),
         TBody::Clunk { fid } => Message::Clunk(fid),
         TBody::Walk { fid, newfid, wname } => Message::Call(walk(fid, newfid, wname)),
@@ -100,22 +109,28 @@ fn message_in(body: TBody) -> Result<Message, Reply>
         TBody::Write { fid, offset, data } => Message::Call(write(fid, offset, data)),
         TBody::Remove { fid } => Message::Call(CallMessage::Remove(fid)),
         TBody::Stat { fid } => Message::Call(CallMessage::Stat(fid)),
-        TBody::Wstat { fid, stat } => Message::Call(CallMessage::Wstat(WstatMessage { fid, stat })),
+        TBody::Wstat { fid, stat } => Message::Call(wstat(fid, stat)),
     })
 }
 
 fn walk(fid: u32, newfid: u32, names: Vec<String>) -> CallMessage
-    ensures { result ≡ call.Walk (record { fid = fid; newfid = newfid; names = names }) }
+    ensures { result
+        ≡ call.Walk (record { fid = fid; newfid = newfid; names = map string_bytes names.items }) }
 {
-    CallMessage::Walk(WalkMessage { fid, newfid, names })
+    CallMessage::Walk(WalkMessage {
+        fid,
+        newfid,
+        names: Texts::new(names),
+    })
 }
 
 fn create(fid: u32, name: String, perm: u32, mode: u8) -> CallMessage
-    ensures { result ≡ call.Create (record { fid = fid; name = name; perm = perm; mode = mode }) }
+    ensures { result
+        ≡ call.Create (record { fid = fid; name = string_bytes name; perm = perm; mode = mode }) }
 {
     CallMessage::Create(CreateMessage {
         fid,
-        name,
+        name: Text::new(name),
         perm,
         mode,
     })
@@ -128,14 +143,27 @@ fn read(fid: u32, offset: u64, count: u32) -> CallMessage
 }
 
 fn write(fid: u32, offset: u64, bytes: Vec<u8>) -> CallMessage
-    ensures { result ≡ call.Write (record { fid = fid; offset = offset; bytes = bytes }) }
+    ensures { result ≡ call.Write (record { fid = fid; offset = offset; bytes = bytes.items }) }
 {
-    CallMessage::Write(WriteMessage { fid, offset, bytes })
+    CallMessage::Write(WriteMessage {
+        fid,
+        offset,
+        bytes: Bytes::new(bytes),
+    })
+}
+
+fn wstat(fid: u32, stat: Stat) -> CallMessage
+    ensures { result ≡ call.Wstat (record { fid = fid; stat = sent_of stat }) }
+{
+    CallMessage::Wstat(WstatMessage {
+        fid,
+        stat: SentStat::new(stat),
+    })
 }
 
 /// What the reply to a version names.
 fn version_text(is_spoken: bool) -> &'static str
-    ensures value { result.now ≡ said_version is_spoken }
+    ensures value { result.now ≡ version_named is_spoken }
     ensures shown { IsShown 7 result.now }
 {
     if is_spoken { "9P2000" } else { "unknown" }
@@ -152,7 +180,8 @@ fn rule_text(rule: RuleId) -> &'static str
 /// An Rerror with that text (error(5)).
 fn error(text: &'static str) -> RBody
     requires { IsShown 48 text.now }
-    ensures value { (tag : ℕ) → r_view (record { tag = tag; body = result }) ≡ error_reply tag text.now }
+    ensures value { (tag : ℕ)
+        → r_view (record { tag = tag; body = result }) ≡ error_reply tag text.now }
     ensures fits { (msize : Option ℕ) → FitsIn (room_of msize) result }
 {
     RBody::Error {
@@ -174,8 +203,9 @@ fn ranged(qid: Qid) -> Qid
 
 /// The words of a reply. It takes no memory.
 fn body_of(reply: Reply) -> RBody
-    ensures value { (tag : ℕ) → r_view (record { tag = tag; body = result }) ≡ said tag reply }
-    ensures fits { (msize : Option ℕ) → ForSome msize IsAgreed → ReplyFits msize reply → FitsIn (room_of msize) result }
+    ensures value { (tag : ℕ) → r_view (record { tag = tag; body = result }) ≡ wire_of tag reply }
+    ensures fits { (msize : Option ℕ) → ForSome msize IsAgreed → ReplyFits msize reply
+        → FitsIn (room_of msize) result }
 {
     match reply {
         Reply::Version { msize, is_spoken } => RBody::Version {
@@ -226,7 +256,8 @@ impl Session {
     fn receive<P: Port>(&mut self, alloc: Global, port: &mut P, now: u32, bytes: &[u8]) -> Reply
         requires whole { 7 ≤ length bytes.now }
         requires idle { self.old.pending ≡ None }
-        ensures received { IsReceived P.gives now bytes.now self.old port.old result self.new port.new }
+        ensures received { IsReceived P.gives now bytes.now self.old port.old result self.new
+            port.new }
         ensures fits { ReplyFits self.old.msize result }
         ensures idle { self.new.pending ≡ None }
     {
@@ -244,9 +275,9 @@ impl Session {
         self.answer(alloc, port, now, asks)
     }
 
-    /// Answers one message, of 7 bytes at least, at that moment. The reply carries the message's tag,
-    /// and has at most as many bytes as the session's message size; the first rule that fails, or want
-    /// of memory, is told by an Rerror (error(5)).
+    /// Answers one message, of 7 bytes at least, at that moment. The reply carries the message's
+    /// tag, and has at most as many bytes as the session's message size; the first rule that fails,
+    /// or want of memory, is told by an Rerror (error(5)).
     pub fn reply<P: Port>(
         &mut self,
         alloc: Global,
@@ -256,21 +287,22 @@ impl Session {
     ) -> RMessage
         requires whole { 7 ≤ length bytes.now }
         requires idle { self.old.pending ≡ None }
-        ensures replied { IsReplied P.gives now bytes.now self.old port.old (r_view result) self.new port.new }
+        ensures replied { IsReplied P.gives now bytes.now self.old port.old (r_view result) self.new
+            port.new }
         ensures fits { FitsWithin (room_of self.old.msize) (r_view result) }
         ensures idle { self.new.pending ≡ None }
     {
         let msize = self.msize();
         let reply = self.receive(alloc, port, now, bytes);
-        told(msize, tag_in(bytes), reply)
+        reply_of(msize, tag_in(bytes), reply)
     }
 }
 
 /// The reply of that tag, in a session of that message size.
-fn told(msize: Option<u32>, tag: u16, reply: Reply) -> RMessage
+fn reply_of(msize: Option<u32>, tag: u16, reply: Reply) -> RMessage
     requires agreed { ForSome msize IsAgreed }
     requires fits { ReplyFits msize reply }
-    ensures value { r_view result ≡ said tag reply }
+    ensures value { r_view result ≡ wire_of tag reply }
     ensures fits { FitsWithin (room_of msize) (r_view result) }
 {
     let _msize = msize;

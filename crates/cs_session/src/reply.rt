@@ -1,40 +1,8 @@
 //! What a step, and a message, is answered.
-ghost use Rattle.std.specs.Prelude.{◌≡◌};
 
-use cs_names::RuleId;
+use cs_names::{Bytes, RuleId};
 use cs_run::{FileStat, Walk};
 use cs_wire::Qid;
-use std::marker::Model;
-
-/// The bytes of a read.
-#[derive(Debug, Drop)]
-pub struct Bytes {
-    bytes: Vec<u8>,
-}
-
-impl Model for Bytes {
-    ghost use Rattle.std.specs.Prelude.{ℕ, List};
-
-    ghost Value = { List ℕ };
-
-    ghost view = { λ b. b.bytes.items };
-}
-
-impl Bytes {
-    /// These bytes.
-    pub fn new(bytes: Vec<u8>) -> Bytes
-        ensures { result ≡ bytes.items }
-    {
-        Bytes { bytes }
-    }
-
-    /// The bytes.
-    pub fn into_vec(self) -> Vec<u8>
-        ensures { result.items ≡ self }
-    {
-        self.bytes
-    }
-}
 
 /// What a step comes to. The last one's is the reply to its message. A walk keeps the rule that
 /// stopped it.
@@ -48,6 +16,7 @@ pub enum Reply {
     Walk(Walk),
     Open(Qid),
     Create(Qid),
+    /// The bytes that were read.
     Read(Bytes),
     /// How many bytes.
     Write(u32),

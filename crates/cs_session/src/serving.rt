@@ -3,7 +3,7 @@ ghost use Rattle.std.specs.Prelude.{◌≡◌, ◌≢◌, ◌+◌, ◌*◌, ◌<
 ghost use Rattle.cs_names.specs.declared.limits.TheConstants.{MESSAGE_BYTES};
 ghost use Rattle.cs_wire.specs.Framing.{IsUnfinished};
 ghost use Rattle.cs_wire.specs.Held.{left, size_of};
-ghost use Rattle.cs_session.specs.Serving.{Adds, Served, Handled, Conversed, Serves, StopsFor};
+ghost use Rattle.cs_session.specs.Serving.{Adds, AnswersFront, Handles, Converses, Conversation, StopsFor};
 ghost use Rattle.cs_session.specs.Streams.{KeepsReads, KeepsFaults, BlamesReads, BlamesWrites, up};
 
 use crate::clock::Clock;
@@ -74,7 +74,8 @@ fn answer_one<P: Port>(
     requires whole { 7 ≤ length message.now }
     requires room { vec_len replies.old + MESSAGE_BYTES ≤ vec_capacity replies.old }
     requires idle { session.old.pending ≡ None }
-    ensures answered { Adds P.gives now message.now session.old port.old replies.old.items replies.new.items session.new port.new }
+    ensures answered { Adds P.gives now message.now session.old port.old replies.old.items
+        replies.new.items session.new port.new }
     ensures room { vec_capacity replies.old ≤ vec_capacity replies.new }
     ensures idle { session.new.pending ≡ None }
 {
@@ -82,8 +83,8 @@ fn answer_one<P: Port>(
     encode(&reply, replies).unwrap();
 }
 
-/// Answers whole messages in place, with each reply at its final place behind the others, while there
-/// is room for a reply.
+/// Answers whole messages in place, with each reply at its final place behind the others, while
+/// there is room for a reply.
 fn answer_some<P: Port, C: Clock>(
     alloc: Global,
     framer: &mut Framer,
@@ -95,7 +96,8 @@ fn answer_some<P: Port, C: Clock>(
     requires empty { replies.old.items ≡ [] }
     requires room { 2 * MESSAGE_BYTES ≤ vec_capacity replies.old }
     requires idle { session.old.pending ≡ None }
-    ensures served { Served P.gives session.old port.old (left framer.old) (left framer.new) replies.new.items session.new port.new }
+    ensures served { AnswersFront P.gives session.old port.old (left framer.old) (left framer.new)
+        replies.new.items session.new port.new }
     ensures stops { StopsFor result (left framer.old) (left framer.new) }
     ensures size { size_of framer.new ≡ size_of framer.old }
     ensures room { 2 * MESSAGE_BYTES ≤ vec_capacity replies.new }
@@ -125,8 +127,10 @@ fn answer_all<S: Stream, P: Port, C: Clock>(
 ) -> Result<(), ServeFault>
     requires room { 2 * MESSAGE_BYTES ≤ vec_capacity replies.old }
     requires idle { session.old.pending ≡ None }
-    ensures handled { Handled P.gives result session.old port.old (left framer.old) (left framer.new) (S.contents stream.old) (S.contents stream.new) session.new port.new }
-    ensures blamed { result ≡ Err ServeFault.WriteFault → BlamesWrites (S.counts stream.old) (S.counts stream.new) }
+    ensures handled { Handles P.gives result session.old port.old (left framer.old)
+        (left framer.new) (S.contents stream.old) (S.contents stream.new) session.new port.new }
+    ensures blamed { result ≡ Err ServeFault.WriteFault
+        → BlamesWrites (S.counts stream.old) (S.counts stream.new) }
     ensures faults { KeepsFaults (S.counts stream.old) (S.counts stream.new) }
     ensures reads { KeepsReads (S.counts stream.old) (S.counts stream.new) }
     ensures remaining { S.remaining stream.new ≡ S.remaining stream.old }
@@ -163,13 +167,20 @@ fn converse<S: Stream, P: Port, C: Clock>(
     requires size { MESSAGE_BYTES ≤ size_of framer.old }
     requires room { 2 * MESSAGE_BYTES ≤ vec_capacity replies.old }
     requires idle { session.old.pending ≡ None }
-    ensures conversed { Conversed P.gives result session.old port.old (S.remaining stream.old) (S.remaining stream.new) (S.contents stream.old) (S.contents stream.new) session.new port.new }
-    ensures read_fault { result ≡ Err ServeFault.ReadFault → BlamesReads (S.counts stream.old) (S.counts stream.new) }
-    ensures write_fault { result ≡ Err ServeFault.WriteFault → BlamesWrites (S.counts stream.old) (S.counts stream.new) }
+    ensures conversed { Converses P.gives result session.old port.old (S.remaining stream.old)
+        (S.remaining stream.new) (S.contents stream.old) (S.contents stream.new) session.new
+        port.new }
+    ensures read_fault { result ≡ Err ServeFault.ReadFault
+        → BlamesReads (S.counts stream.old) (S.counts stream.new) }
+    ensures write_fault { result ≡ Err ServeFault.WriteFault
+        → BlamesWrites (S.counts stream.old) (S.counts stream.new) }
     ensures ended { result ≡ Ok tt → (S.counts stream.new).ends ≡ up 1 (S.counts stream.old).ends }
-    ensures cut { result ≡ Err (ServeFault.FrameFault FrameFault.Cut) → (S.counts stream.new).ends ≡ up 1 (S.counts stream.old).ends }
-    ensures no_end { result ≡ Err ServeFault.ReadFault → (S.counts stream.new).ends ≡ (S.counts stream.old).ends }
-    ensures bounded { (S.counts stream.new).reads ≤ up CONNECTION_READS (S.counts stream.old).reads }
+    ensures cut { result ≡ Err (ServeFault.FrameFault FrameFault.Cut)
+        → (S.counts stream.new).ends ≡ up 1 (S.counts stream.old).ends }
+    ensures no_end { result ≡ Err ServeFault.ReadFault
+        → (S.counts stream.new).ends ≡ (S.counts stream.old).ends }
+    ensures bounded { (S.counts stream.new).reads
+        ≤ up CONNECTION_READS (S.counts stream.old).reads }
     ensures memory { result ≢ Err ServeFault.Memory }
     ensures idle { session.new.pending ≡ None }
 {
@@ -205,23 +216,29 @@ fn converse<S: Stream, P: Port, C: Clock>(
 /// order. Then it hangs up, whatever it returns.
 ///
 /// It ends with `Ok` where the stream ended between two messages. An interrupted read or write is
-/// tried again, up to 999 in a row: the thousandth in a row is a fault. A connection has 4,294,967,295
-/// reads, those that are interrupted among them. Memory for its buffers is taken once, before the first
-/// read; a message that memory is wanting for is answered by an Rerror.
+/// tried again, up to 999 in a row: the thousandth in a row is a fault. A connection has
+/// 4,294,967,295 reads, those that are interrupted among them. Memory for its buffers is taken
+/// once, before the first read; a message that memory is wanting for is answered by an Rerror.
 pub fn serve_stream<S: Stream, P: Port, C: Clock>(
     alloc: Global,
     stream: &mut S,
     port: &mut P,
     clock: &mut C,
 ) -> Result<(), ServeFault>
-    ensures serves { Serves P.gives result port.old (S.remaining stream.old) (S.remaining stream.new) (S.contents stream.old) (S.contents stream.new) port.new }
+    ensures serves { Conversation P.gives result port.old (S.remaining stream.old)
+        (S.remaining stream.new) (S.contents stream.old) (S.contents stream.new) port.new }
     // Each fault comes only for its cause, by the stream's counts.
-    ensures read_fault { result ≡ Err ServeFault.ReadFault → BlamesReads (S.counts stream.old) (S.counts stream.new) }
-    ensures write_fault { result ≡ Err ServeFault.WriteFault → BlamesWrites (S.counts stream.old) (S.counts stream.new) }
+    ensures read_fault { result ≡ Err ServeFault.ReadFault
+        → BlamesReads (S.counts stream.old) (S.counts stream.new) }
+    ensures write_fault { result ≡ Err ServeFault.WriteFault
+        → BlamesWrites (S.counts stream.old) (S.counts stream.new) }
     ensures ended { result ≡ Ok tt → (S.counts stream.new).ends ≡ up 1 (S.counts stream.old).ends }
-    ensures cut { result ≡ Err (ServeFault.FrameFault FrameFault.Cut) → (S.counts stream.new).ends ≡ up 1 (S.counts stream.old).ends }
-    ensures no_end { result ≡ Err ServeFault.ReadFault → (S.counts stream.new).ends ≡ (S.counts stream.old).ends }
-    ensures bounded { (S.counts stream.new).reads ≤ up CONNECTION_READS (S.counts stream.old).reads }
+    ensures cut { result ≡ Err (ServeFault.FrameFault FrameFault.Cut)
+        → (S.counts stream.new).ends ≡ up 1 (S.counts stream.old).ends }
+    ensures no_end { result ≡ Err ServeFault.ReadFault
+        → (S.counts stream.new).ends ≡ (S.counts stream.old).ends }
+    ensures bounded { (S.counts stream.new).reads
+        ≤ up CONNECTION_READS (S.counts stream.old).reads }
     ensures memory { result ≡ Err ServeFault.Memory → S.counts stream.new ≡ S.counts stream.old }
 {
     let mut session = Session::new(alloc);

@@ -10,28 +10,29 @@ ghost use Rattle.cs_session.specs.Sizes.{CallFits, IsPlain, ReplyFits};
 ghost use Rattle.cs_session.specs.Steps.{AttachStep, CallStep, CloseStep, FindStep, IsTaken, Table};
 ghost use Rattle.cs_session.specs.TableSteps.{table_stepped};
 
-use crate::attaching::{find_refusal, judge_find, pass_refusal, settle_attach};
-use crate::changing::{
-    close_reply, judge_close, judge_remove, judge_stat, judge_write, judge_wstat, remove_reply,
-    stat_reply, write_reply, wstat_reply,
-};
+use crate::attaching::{decide_find, find_refusal, pass_refusal, settle_attach};
+use crate::closing::{close_reply, decide_close};
 use crate::message::{
     AttachMessage, CallMessage, CreateMessage, OpenMessage, ReadMessage, TableStep, WalkMessage,
     WriteMessage, WstatMessage,
 };
-use crate::opening::{judge_create, judge_open, settle_create, settle_open};
+use crate::opening::{decide_create, decide_open, settle_create, settle_open};
 use crate::pending::Pending;
 use crate::port::Port;
-use crate::reading::{judge_read, settle_read};
+use crate::reading::{decide_read, settle_read};
+use crate::removing::{decide_remove, remove_reply};
 use crate::reply::Reply;
+use crate::stating::{decide_stat, decide_wstat, stat_reply, wstat_reply};
 use crate::versions::{clunk, session_size, version_reply};
-use crate::walking::{judge_walk, settle_walk};
+use crate::walking::{decide_walk, settle_walk};
+use crate::writing::{decide_write, write_reply};
 use cs_fids::FidTable;
 use cs_names::RuleId;
 use std::alloc::Global;
 use std::marker::Model;
 
-/// A connection: its message size, where a session stands; a run that awaits its attach; and its fids.
+/// A connection: its message size, where a session stands; a run that awaits its attach; and its
+/// fids.
 #[derive(Drop)]
 pub struct Session {
     msize: Option<u32>,
@@ -80,13 +81,14 @@ impl Session {
         now: u32,
         message: AttachMessage,
     ) -> Reply
-        ensures takes { IsTaken P.gives now self.old port.old (FindStep message) result self.new port.new }
+        ensures takes { IsTaken P.gives now self.old port.old (FindStep message) result self.new
+            port.new }
         ensures plain { IsPlain result }
         ensures found { result ≡ Reply.Found → IsSome self.new.pending }
         ensures refused { result ≢ Reply.Found → self.new.pending ≡ self.old.pending }
     {
         let awaits = self.pending.is_some();
-        match judge_find(alloc, awaits, self.msize, &mut self.fids, &message) {
+        match decide_find(alloc, awaits, self.msize, &mut self.fids, &message) {
             Err(reply) => reply,
             Ok((name, user)) => match port.find(alloc, &name) {
                 Ok(run) => {
@@ -128,17 +130,19 @@ impl Session {
 
     /// Closes an open fid, which is free then, whatever the answer is. S5 where the fid isn't open.
     pub fn close_step<P: Port>(&mut self, alloc: Global, port: &mut P, now: u32, fid: u32) -> Reply
-        ensures takes { IsTaken P.gives now self.old port.old (CloseStep fid) result self.new port.new }
+        ensures takes { IsTaken P.gives now self.old port.old (CloseStep fid) result self.new
+            port.new }
         ensures plain { IsPlain result }
         ensures pending { self.new.pending ≡ self.old.pending }
-        ensures fewer { self.old.pending ≡ None → IsOk (opened_in (entry_at self.old fid)) → len self.new.fids < len self.old.fids }
+        ensures fewer { self.old.pending ≡ None → IsOk (opened_in (entry_at self.old fid))
+            → len self.new.fids < len self.old.fids }
     {
         let awaits = self.pending.is_some();
-        let ask = match judge_close(awaits, &mut self.fids, now, fid) {
+        let ask = match decide_close(awaits, &mut self.fids, now, fid) {
             Ok(ask) => ask,
             Err(reply) => return reply,
         };
-        let answer = port.call(alloc, ask.now, ask.run, ask.pass, ask.call);
+        let answer = ask.put(alloc, port);
         close_reply(answer)
     }
 
@@ -152,11 +156,12 @@ impl Session {
         self.msize = msize;
     }
 
-    /// Changes the connection's own table, and asks nothing of the port (version(5), clunk(5)). S5 where
-    /// a run awaits its attach, where the fid of a clunk is open, and where a fid is open at a version or
-    /// a hang-up: it changes nothing.
+    /// Changes the connection's own table, and asks nothing of the port (version(5), clunk(5)). S5
+    /// where a run awaits its attach, where the fid of a clunk is open, and where a fid is open at
+    /// a version or a hang-up: it changes nothing.
     pub fn table_step<P: Port>(&mut self, port: &mut P, now: u32, step: TableStep) -> Reply
-        ensures takes { IsTaken P.gives now self.old port.old (Table step) result self.new port.new }
+        ensures takes { IsTaken P.gives now self.old port.old (Table step) result self.new
+            port.new }
         ensures value { (result, self.new) ≡ table_stepped self.old step }
         ensures plain { IsPlain result }
         ensures idle { self.old.pending ≡ None → self.new.pending ≡ None }
@@ -195,16 +200,17 @@ impl Session {
         now: u32,
         message: WalkMessage,
     ) -> Reply
-        ensures takes { IsTaken P.gives now self.old port.old (CallStep (call.Walk message)) result self.new port.new }
+        ensures takes { IsTaken P.gives now self.old port.old (CallStep (call.Walk message)) result
+            self.new port.new }
         ensures fits { CallFits (call.Walk message) → ReplyFits self.old.msize result }
         ensures pending { self.new.pending ≡ self.old.pending }
     {
         let awaits = self.pending.is_some();
         let (fid, newfid) = (message.fid, message.newfid);
-        match judge_walk(awaits, self.msize, &mut self.fids, now, message) {
+        match decide_walk(awaits, self.msize, &mut self.fids, now, message) {
             Err(reply) => reply,
             Ok((ask, from)) => {
-                let answer = port.call(alloc, ask.now, ask.run, ask.pass, ask.call);
+                let answer = ask.put(alloc, port);
                 settle_walk(&mut self.fids, fid, newfid, from, answer)
             }
         }
@@ -217,15 +223,16 @@ impl Session {
         now: u32,
         message: OpenMessage,
     ) -> Reply
-        ensures takes { IsTaken P.gives now self.old port.old (CallStep (call.Open message)) result self.new port.new }
+        ensures takes { IsTaken P.gives now self.old port.old (CallStep (call.Open message)) result
+            self.new port.new }
         ensures fits { ReplyFits self.old.msize result }
         ensures pending { self.new.pending ≡ self.old.pending }
     {
         let awaits = self.pending.is_some();
-        match judge_open(awaits, self.msize, &self.fids, now, message) {
+        match decide_open(awaits, self.msize, &self.fids, now, message) {
             Err(reply) => reply,
             Ok(ask) => {
-                let answer = port.call(alloc, ask.now, ask.run, ask.pass, ask.call);
+                let answer = ask.put(alloc, port);
                 settle_open(&mut self.fids, message.fid, message.mode, answer)
             }
         }
@@ -238,16 +245,17 @@ impl Session {
         now: u32,
         message: CreateMessage,
     ) -> Reply
-        ensures takes { IsTaken P.gives now self.old port.old (CallStep (call.Create message)) result self.new port.new }
+        ensures takes { IsTaken P.gives now self.old port.old (CallStep (call.Create message))
+            result self.new port.new }
         ensures fits { ReplyFits self.old.msize result }
         ensures pending { self.new.pending ≡ self.old.pending }
     {
         let awaits = self.pending.is_some();
         let (fid, mode) = (message.fid, message.mode);
-        match judge_create(awaits, self.msize, &self.fids, now, message) {
+        match decide_create(awaits, self.msize, &self.fids, now, message) {
             Err(reply) => reply,
             Ok(ask) => {
-                let answer = port.call(alloc, ask.now, ask.run, ask.pass, ask.call);
+                let answer = ask.put(alloc, port);
                 settle_create(&mut self.fids, fid, mode, answer)
             }
         }
@@ -260,15 +268,16 @@ impl Session {
         now: u32,
         message: ReadMessage,
     ) -> Reply
-        ensures takes { IsTaken P.gives now self.old port.old (CallStep (call.Read message)) result self.new port.new }
+        ensures takes { IsTaken P.gives now self.old port.old (CallStep (call.Read message)) result
+            self.new port.new }
         ensures fits { ReplyFits self.old.msize result }
         ensures pending { self.new.pending ≡ self.old.pending }
     {
         let awaits = self.pending.is_some();
-        match judge_read(awaits, self.msize, &self.fids, now, message) {
+        match decide_read(awaits, self.msize, &self.fids, now, message) {
             Err(reply) => reply,
             Ok(ask) => {
-                let answer = port.call(alloc, ask.now, ask.run, ask.pass, ask.call);
+                let answer = ask.put(alloc, port);
                 settle_read(&mut self.fids, message.fid, answer)
             }
         }
@@ -281,44 +290,47 @@ impl Session {
         now: u32,
         message: WriteMessage,
     ) -> Reply
-        ensures takes { IsTaken P.gives now self.old port.old (CallStep (call.Write message)) result self.new port.new }
+        ensures takes { IsTaken P.gives now self.old port.old (CallStep (call.Write message)) result
+            self.new port.new }
         ensures fits { ReplyFits self.old.msize result }
         ensures pending { self.new.pending ≡ self.old.pending }
     {
         let awaits = self.pending.is_some();
-        let ask = match judge_write(awaits, self.msize, &self.fids, now, message) {
+        let ask = match decide_write(awaits, self.msize, &self.fids, now, message) {
             Ok(ask) => ask,
             Err(reply) => return reply,
         };
-        let answer = port.call(alloc, ask.now, ask.run, ask.pass, ask.call);
+        let answer = ask.put(alloc, port);
         write_reply(answer)
     }
 
     fn remove_step<P: Port>(&mut self, alloc: Global, port: &mut P, now: u32, fid: u32) -> Reply
-        ensures takes { IsTaken P.gives now self.old port.old (CallStep (call.Remove fid)) result self.new port.new }
+        ensures takes { IsTaken P.gives now self.old port.old (CallStep (call.Remove fid)) result
+            self.new port.new }
         ensures fits { ReplyFits self.old.msize result }
         ensures pending { self.new.pending ≡ self.old.pending }
     {
         let awaits = self.pending.is_some();
-        let ask = match judge_remove(awaits, self.msize, &mut self.fids, now, fid) {
+        let ask = match decide_remove(awaits, self.msize, &mut self.fids, now, fid) {
             Ok(ask) => ask,
             Err(reply) => return reply,
         };
-        let answer = port.call(alloc, ask.now, ask.run, ask.pass, ask.call);
+        let answer = ask.put(alloc, port);
         remove_reply(answer)
     }
 
     fn stat_step<P: Port>(&mut self, alloc: Global, port: &mut P, now: u32, fid: u32) -> Reply
-        ensures takes { IsTaken P.gives now self.old port.old (CallStep (call.Stat fid)) result self.new port.new }
+        ensures takes { IsTaken P.gives now self.old port.old (CallStep (call.Stat fid)) result
+            self.new port.new }
         ensures fits { ReplyFits self.old.msize result }
         ensures pending { self.new.pending ≡ self.old.pending }
     {
         let awaits = self.pending.is_some();
-        let ask = match judge_stat(awaits, self.msize, &self.fids, now, fid) {
+        let ask = match decide_stat(awaits, self.msize, &self.fids, now, fid) {
             Ok(ask) => ask,
             Err(reply) => return reply,
         };
-        let answer = port.call(alloc, ask.now, ask.run, ask.pass, ask.call);
+        let answer = ask.put(alloc, port);
         stat_reply(answer)
     }
 
@@ -329,22 +341,23 @@ impl Session {
         now: u32,
         message: WstatMessage,
     ) -> Reply
-        ensures takes { IsTaken P.gives now self.old port.old (CallStep (call.Wstat message)) result self.new port.new }
+        ensures takes { IsTaken P.gives now self.old port.old (CallStep (call.Wstat message)) result
+            self.new port.new }
         ensures fits { ReplyFits self.old.msize result }
         ensures pending { self.new.pending ≡ self.old.pending }
     {
         let awaits = self.pending.is_some();
-        let ask = match judge_wstat(awaits, self.msize, &self.fids, now, message) {
+        let ask = match decide_wstat(awaits, self.msize, &self.fids, now, message) {
             Ok(ask) => ask,
             Err(reply) => return reply,
         };
-        let answer = port.call(alloc, ask.now, ask.run, ask.pass, ask.call);
+        let answer = ask.put(alloc, port);
         wstat_reply(answer)
     }
 
-    /// Does a call on a fid's run: the connection's rules, the growth of its table, and then what the
-    /// run answers. A refusal leaves the fids, but for a remove that was asked, whose fid is free
-    /// (remove(5)).
+    /// Does a call on a fid's run: the connection's rules, the growth of its table, and then what
+    /// the run answers. A refusal leaves the fids, but for a remove that was asked, whose fid is
+    /// free (remove(5)).
     pub fn call_step<P: Port>(
         &mut self,
         alloc: Global,
@@ -352,7 +365,8 @@ impl Session {
         now: u32,
         message: CallMessage,
     ) -> Reply
-        ensures takes { IsTaken P.gives now self.old port.old (CallStep message) result self.new port.new }
+        ensures takes { IsTaken P.gives now self.old port.old (CallStep message) result self.new
+            port.new }
         ensures fits { CallFits message → ReplyFits self.old.msize result }
         ensures pending { self.new.pending ≡ self.old.pending }
     {

@@ -111,24 +111,28 @@ pub trait Stream {
     fn read(&mut self, buf: &mut [u8]) -> Transfer
         ensures bytes { ReadGives (remaining self.old) (remaining self.new) result buf.new }
         ensures contents { contents self.new ≡ contents self.old }
-        ensures counted { counts self.new ≡ counted_read result (length buf.old) (counts self.old) };
+        ensures counted { counts self.new
+            ≡ counted_read result (length buf.old) (counts self.old) };
 
     /// Writes some of the bytes, from the front.
     fn write(&mut self, buf: &[u8]) -> Transfer
         ensures bytes { WriteGives (contents self.old) (contents self.new) result buf.now }
         ensures remaining { remaining self.new ≡ remaining self.old }
-        ensures counted { counts self.new ≡ counted_write result (length buf.now) (counts self.old) };
+        ensures counted { counts self.new
+            ≡ counted_write result (length buf.now) (counts self.old) };
 }
 
-/// The bytes were not all written: a write failed, took no byte, or 1,000 in a row were interrupted.
+/// The bytes were not all written: a write failed, took no byte, or 1,000 in a row were
+/// interrupted.
 #[derive(Clone, Copy, Debug, PartialEq, Eq)]
 pub struct WriteFault;
 
-/// Writes all of the bytes. An interrupted write is tried again, up to 999 in a row: the thousandth in
-/// a row is a fault. After a fault some of them, from the front, were written.
+/// Writes all of the bytes. An interrupted write is tried again, up to 999 in a row: the thousandth
+/// in a row is a fault. After a fault some of them, from the front, were written.
 pub fn write_all<S: Stream>(stream: &mut S, bytes: &[u8]) -> Result<(), WriteFault>
     ensures ok { OnOk result (Appends (S.contents stream.old) (S.contents stream.new) bytes.now) }
-    ensures err { OnErr result (AppendsFront (S.contents stream.old) (S.contents stream.new) bytes.now) }
+    ensures err { OnErr result
+        (AppendsFront (S.contents stream.old) (S.contents stream.new) bytes.now) }
     ensures blamed { OnErr result (BlamesWrites (S.counts stream.old) (S.counts stream.new)) }
     ensures faults { KeepsFaults (S.counts stream.old) (S.counts stream.new) }
     ensures remaining { S.remaining stream.new ≡ S.remaining stream.old }

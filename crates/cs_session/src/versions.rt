@@ -1,6 +1,6 @@
 //! Versions, and the other changes of a connection's own table (version(5), clunk(5)).
 ghost use Rattle.std.specs.Option.{ForSome};
-ghost use Rattle.std.specs.Prelude.{◌≡◌, string_bytes};
+ghost use Rattle.std.specs.Prelude.{◌≡◌};
 ghost use Rattle.cs_fids.specs.Tables.{fid_at};
 ghost use Rattle.cs_session.specs.Ready.{IsAgreed};
 ghost use Rattle.cs_session.specs.Sizes.{IsPlain};

@@ -2,14 +2,14 @@
 ghost use Rattle.std.specs.Prelude.{◌≡◌, ◌≢◌, ℕ, ◌<◌, ◌≤◌, false, length, IfErr, IfOk, IsOk, None, Option, Some};
 ghost use Rattle.std.specs.FinMap.{get};
 ghost use Rattle.cs_run.specs.Laws.{FitsCall, qids_in};
-ghost use Rattle.cs_session.specs.Judgements.{Judged, asked, walked_at};
+ghost use Rattle.cs_session.specs.Decisions.{Decides, question_of, walked_at};
 ghost use Rattle.cs_names.specs.declared.limits.TheConstants.{WALK_NAMES};
 ghost use Rattle.cs_run.specs.declared.answer.Answer.{Answer};
 ghost use Rattle.cs_session.specs.Sizes.{IsPlain, ReplyFits};
-ghost use Rattle.cs_session.specs.Walks.{walk_after, walk_judged, walk_left};
+ghost use Rattle.cs_session.specs.Walks.{walk_after, walk_decision, walk_left};
 
-use crate::asked::{Asked, first_of, refusal};
 use crate::message::WalkMessage;
+use crate::question::{RunQuestion, first_of, refusal};
 use crate::reply::Reply;
 use cs_fids::{Entry, Fid, FidTable, NOFID, Walked};
 use cs_names::RuleId;
@@ -17,20 +17,24 @@ use cs_permit::{Call, Request, WalkCall};
 use cs_run::{Answer, Walk};
 
 /// What a walk asks, with a copy of the fid from which it goes, and room for a new one.
-pub(crate) fn judge_walk(
+pub(crate) fn decide_walk(
     awaits: bool,
     msize: Option<u32>,
     fids: &mut FidTable,
     now: u32,
     message: WalkMessage,
-) -> Result<(Asked, Fid<Walked>), Reply>
-    ensures judged { Judged (λ a. asked a.0) (walk_judged now awaits msize fids.old.fids message) result }
+) -> Result<(RunQuestion, Fid<Walked>), Reply>
+    ensures decided { Decides (λ a. question_of a.0)
+        (walk_decision now awaits msize fids.old.fids message) result }
     ensures plain { IfErr result IsPlain }
-    ensures fits { IfOk result (λ a. (answer : Answer) → FitsCall a.0.call answer → qids_in answer ≤ length message.names.items) }
+    ensures fits { IfOk result
+        (λ a. (answer : Answer) → FitsCall a.0.call answer
+        → qids_in answer ≤ length message.names) }
     ensures idle { IsOk result → awaits ≡ false }
     ensures from { IfOk result (λ a. walked_at fids.old.fids message.fid ≡ Some a.1) }
     ensures named { IsOk result → message.newfid ≢ NOFID }
-    ensures free { IsOk result → message.newfid ≢ message.fid → get fids.old.fids message.newfid ≡ None }
+    ensures free { IsOk result → message.newfid ≢ message.fid
+        → get fids.old.fids message.newfid ≡ None }
     ensures room { IsOk result → message.newfid ≢ message.fid → 0 < fids.new.room }
     ensures kept { fids.old.room ≤ fids.new.room }
     ensures fids { fids.new.fids ≡ fids.old.fids }
@@ -59,12 +63,7 @@ pub(crate) fn judge_walk(
         user,
         names: message.names,
     });
-    let ask = Asked {
-        now,
-        run: fid.run(),
-        pass: fid.pass(),
-        call,
-    };
+    let ask = RunQuestion::new(now, fid.run(), fid.pass(), call);
     Ok((ask, from))
 }
 
@@ -99,7 +98,8 @@ pub(crate) fn settle_walk(
     requires free { newfid ≢ fid → get fids.old.fids newfid ≡ None }
     requires room { newfid ≢ fid → 0 < fids.old.room }
     ensures value { (result, fids.new.fids) ≡ walk_after fids.old.fids fid newfid answer }
-    ensures fits { (msize : Option ℕ) (names : ℕ) → names ≤ WALK_NAMES → qids_in answer ≤ names → ReplyFits msize result }
+    ensures fits { (msize : Option ℕ) (names : ℕ) → names ≤ WALK_NAMES → qids_in answer ≤ names
+        → ReplyFits msize result }
 {
     match answer {
         Answer::Walked(way) => {

@@ -1,8 +1,12 @@
-//! Messages as bytes, a connection's fids, and connections over streams.
+//! Messages as bytes, a connection's fids, and connections over streams, hostile ones too.
 
 mod asking;
 mod connections;
+mod copies;
+mod failing;
 mod fids;
 mod framing;
+mod lone_run;
+mod malformed;
 mod messages;
 mod streams;

@@ -3,7 +3,7 @@ use Rattle.std.proofs.Common.{◌≡◌, ◌∙◌, ap, arith, sym}
 use Rattle.cs_journal.specs.Bounds.{CanGrow}
 use Rattle.cs_plan.specs.Scenes.{IsPublished, Published, Scene, state_at}
 use Rattle.cs_registry.specs.Registries.{AdmitsAll}
-use Rattle.cs_shared.specs.Serving.{IsPlanned, Serves, ServesAll}
+use Rattle.cs_shared.specs.Serving.{IsPlanned, HasTree, ServesAll}
 
 -- each version, and the next number, can grow
 can_grow : (state : Published) → IsPublished state → CanGrow state.tree
@@ -12,5 +12,5 @@ can_grow state is = record {
   next = omega (arith, is.unchanged.few);
 }
 
-pub admits_all : (serves : Serves) (scene : Scene) → ServesAll serves scene → IsPlanned scene → AdmitsAll (λ number tree. CanGrow tree × serves number tree) scene
+pub admits_all : (serves : HasTree) (scene : Scene) → ServesAll serves scene → IsPlanned scene → AdmitsAll (λ number tree. CanGrow tree × serves number tree) scene
 admits_all serves scene all planned state is own = (can_grow state is, all planned state.number state.tree (ap (λ (s : Scene). state_at s state.number) (sym own) ∙ is.state))

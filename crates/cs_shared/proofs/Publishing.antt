@@ -1,30 +1,31 @@
--- States that are published one after the other.
-use Rattle.std.proofs.Common.{◌≡◌, ◌∙◌, ◌+◌, ◌++◌, ℕ, suc, List, [], ◌∷◌, refl, sym, ap, subst, arith}
-use Rattle.std.proofs.lemmas.Fn.{FoldsTo-push}
-use Rattle.std.proofs.lemmas.List.{append_assoc}
-use Rattle.std.specs.List.{All}
-use Rattle.cs_plan.specs.Scenes.{Published}
+-- What comes of a state under the registry's lock.
+use Rattle.std.proofs.Common.{◌≡◌, ◌≢◌, ℕ, subst, refl}
+use Rattle.std.specs.Prelude.{◌<◌, Result, Ok, Err, length}
+use Rattle.cs_plan.specs.Scenes.{IsPublished, Published, Scene}
+use Rattle.cs_registry.proofs.Keeping.{state_within}
+use Rattle.cs_registry.specs.Publishing.{Publishes}
 use Rattle.cs_registry.specs.Registries.{Registry}
-use Rattle.cs_shared.specs.Publishing.{IsCounted, IsThere, PublishesEach}
+use Rattle.cs_registry.specs.declared.fault.PublishFault.{PublishFault}
+use Rattle.cs_registry.specs.declared.fault.PublishFault.TheVariants.{Stranger, Twice, Memory}
+use Rattle.cs_shared.specs.Serving.{IsStateOf}
 
--- the states before these are published
-pub record IsFront (start : Registry ℕ) (all xs : List Published) (count : ℕ) (now : Registry ℕ) : Type 0 where
-  pub front : List Published
-  pub whole : front ++ xs ≡ all
-  pub published : PublishesEach start front count now
+module _ (scene : Scene) (old new : Registry ℕ) (state : Published) (same : old.scene ≡ scene) where
+  -- a stranger is no state of the scene under the lock
+  pub stranger_is_none : (answer : Result Unit PublishFault) → Publishes old state answer new → answer ≡ Err Stranger → ¬ IsStateOf scene state
+  stranger_is_none answer is refused =
+      let none : Publishes old state (Err Stranger) new = subst (λ (a : Result Unit PublishFault). Publishes old state a new) refused is in
+      subst (λ (s : Scene). ¬ IsStateOf s state) same none.0
 
--- what holds of each holds of the first, and of each of the others
-pub all_first : {X : Type 0} (P : X → Type 0) (xs rest : List X) (x : X) → xs ≡ x ∷ rest → All P xs → P x
-all_first P xs rest x is all = subst (All P) is all 0 x (omega arith)
+  -- what is no stranger is one
+  pub others_are_own : (answer : Result Unit PublishFault) → Publishes old state answer new → answer ≢ Err Stranger → IsStateOf scene state
+  others_are_own (Ok _) is other = subst (λ (s : Scene). IsStateOf s state) same is.0
+  others_are_own (Err Stranger) is other = absurd (other refl)
+  others_are_own (Err Twice) is other = subst (λ (s : Scene). IsStateOf s state) same is.0
+  others_are_own (Err Memory) is other = subst (λ (s : Scene). IsStateOf s state) same is.0
 
-pub all_others : {X : Type 0} (P : X → Type 0) (xs rest : List X) (x : X) → xs ≡ x ∷ rest → All P xs → All P rest
-all_others P xs rest x is all = λ k d less. subst (All P) is all (suc k) d (omega (arith, less))
-
--- one state more that is there
-pub one_more : (start old new : Registry ℕ) (all xs rest : List Published) (state : Published) (count one : ℕ)
-    → xs ≡ state ∷ rest → IsThere old state one new → IsFront start all xs count old → IsFront start all rest (count + one) new
-one_more start old new all xs rest state count one is there so_far = record {
-  front = so_far.front ++ state ∷ [];
-  whole = append_assoc so_far.front (state ∷ []) rest ∙ (ap (λ ys. so_far.front ++ ys) (sym is) ∙ so_far.whole);
-  published = FoldsTo-push IsCounted (0, start) so_far.front (count, old) state (count + one, new) so_far.published (one, there, refl);
-}
+-- a state that was made in the scene under the lock is no stranger
+pub own_is_no_stranger : (old new : Registry ℕ) (state : Published) (answer : Result Unit PublishFault)
+    → Publishes old state answer new → IsPublished state → state.scene ≡ old.scene → answer ≢ Err Stranger
+own_is_no_stranger old new state answer is made own refused =
+    let within : state.number < length old.scene.plan = subst (λ (s : Scene). state.number < length s.plan) own (state_within state.scene state.number state.tree made.state) in
+    stranger_is_none old.scene old new state refl answer is refused (within, own)

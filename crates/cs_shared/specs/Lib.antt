@@ -1,6 +1,5 @@
 pub mod Serving
 pub mod Locks
-pub mod Told
+pub mod Answers
 pub mod Finding
 pub mod Naming
-pub mod Publishing

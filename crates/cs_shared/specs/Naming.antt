@@ -8,14 +8,18 @@ use Rattle.std.specs.declared.cmp.Ordering.{Ordering}
 use Rattle.cs_registry.specs.Keys.{Key, same_key}
 
 abbrev pub key_cmp : Key → Key → Ordering
-key_cmp k l = ordering_then (nat_cmp k.number l.number) (slice_cmp nat_cmp k.name l.name)
+key_cmp one other =
+    ordering_then (nat_cmp one.number other.number) (slice_cmp nat_cmp one.name other.name)
 
 -- it is an order, and keys that tie are the same
 pub key_total : IsTotalOrder key_cmp
-key_total = then_total (on_total (λ (k : Key). k.number) nat_cmp_total) (on_texts (λ (k : Key). k.name))
+key_total =
+    then_total (on_total (λ (key : Key). key.number) nat_cmp_total)
+    (on_texts (λ (key : Key). key.name))
 
-pub key_ties : (k l : Key) → same_key k l ≡ eq_by_cmp key_cmp k l
-key_ties k l = both_tied _ _ _ _ (unsigned_ties k.number l.number) (texts_ties k.name l.name)
+pub key_ties : (one other : Key) → same_key one other ≡ eq_by_cmp key_cmp one other
+key_ties one other =
+    both_tied _ _ _ _ (unsigned_ties one.number other.number) (texts_ties one.name other.name)
 
 pub key_order : IsPartialOrder same_key (as_partial_cmp key_cmp)
 key_order = alike_po (partial_order_from_total key_total) key_ties

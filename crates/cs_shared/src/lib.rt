@@ -10,6 +10,7 @@ mod shared_registry;
 mod shared_run;
 
 pub use named::NamedRun;
+pub use registry::Registry;
 pub use served::{AnyScene, Served};
 pub use shared_registry::SharedRegistry;
-pub use shared_run::{AttachFault, SharedRun};
+pub use shared_run::SharedRun;

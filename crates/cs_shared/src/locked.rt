@@ -4,21 +4,21 @@ ghost use Rattle.std.specs.Fn.{FnOnceReturnsAt};
 ghost use Rattle.cs_journal.specs.Journals.{IsLegal};
 ghost use Rattle.cs_journal.specs.Runs.{first_state, fresh_pass};
 ghost use Rattle.cs_permit.specs.declared.call.Call.TheVariants as called;
-ghost use Rattle.cs_shared.specs.Locks.{Attaches, Calls};
-ghost use Rattle.cs_shared.specs.Told.{IsStep, Told};
+ghost use Rattle.cs_shared.specs.Locks.{LockedAttaches, LockedCalls};
+ghost use Rattle.cs_shared.specs.Answers.{IsStepOfServedRun, IsAnswerOf};
 
 use crate::served::Served;
-use crate::shared_run::AttachFault;
-use cs_journal::{Pass, PassFault, Run};
-use cs_names::RuleId;
-use cs_permit::{AttachCall, Call};
+use cs_journal::{Pass, Run};
+use cs_names::{RuleId, Text};
+use cs_permit::{AttachCall, Call, PassFault};
 use cs_plan::Built;
 use cs_run::Answer;
 use std::alloc::Global;
 use std::marker::{Model, PhantomData};
 
 /// A run, with the number of its state: the server has the tree that the run began with under that
-/// number. What is done under the lock is done by these calls alone. Contracts see the number and the run.
+/// number. What is done under the lock is done by these calls alone. Contracts see the number and
+/// the run.
 #[derive(Drop)]
 pub(crate) struct Locked<S: Served> {
     number: u32,
@@ -50,8 +50,8 @@ impl<S: Served> Locked<S> {
         }
     }
 
-    /// Makes a call under a pass at that moment, where this run is the one of the number, and the pass
-    /// is its own: else S5.
+    /// Makes a call under a pass at that moment, where this run is the one of the number, and the
+    /// pass is its own: else S5.
     pub(crate) fn call(
         &mut self,
         alloc: Global,
@@ -60,8 +60,8 @@ impl<S: Served> Locked<S> {
         now: u32,
         call: Call,
     ) -> Answer
-        ensures calls { Calls self.old number pass.old now call result self.new pass.new }
-        ensures told { Told S.serves number pass.old now call result pass.new }
+        ensures calls { LockedCalls self.old number pass.old now call result self.new pass.new }
+        ensures told { IsAnswerOf S.serves number pass.old now call result pass.new }
     {
         if self.number != number || !self.run.fits(pass) {
             return Answer::Denied(RuleId::S5);
@@ -76,19 +76,18 @@ impl<S: Served> Locked<S> {
         alloc: Global,
         number: u32,
         now: u32,
-        user: String,
-    ) -> Result<(Pass, Answer), AttachFault>
-        ensures attaches { Attaches self.old number now (called.Attach (record { user = user })) result self.new }
-        ensures told { IfOk result (λ x. IsStep S.serves number (fresh_pass x.0.number) now (called.Attach (record { user = user })) x.1 x.0) }
+        user: Text,
+    ) -> Result<(Pass, Answer), PassFault>
+        ensures attaches { LockedAttaches self.old number now
+            (called.Attach (record { user = user })) result self.new }
+        ensures told { IfOk result
+            (λ x. IsStepOfServedRun S.serves number (fresh_pass x.0.number) now
+            (called.Attach (record { user = user })) x.1 x.0) }
     {
         if self.number != number {
-            return Err(AttachFault::Foreign);
+            return Err(PassFault::Foreign);
         }
-        let mut pass = match self.run.new_pass(alloc) {
-            Ok(pass) => pass,
-            Err(PassFault::Room) => return Err(AttachFault::Room),
-            Err(PassFault::Memory) => return Err(AttachFault::Memory),
-        };
+        let mut pass = self.run.new_pass(alloc)?;
         let _legal = self.run.entries();
         let call = Call::Attach(AttachCall { user });
         let answer = self.run.step(alloc, &mut pass, now, call);

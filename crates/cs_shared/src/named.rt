@@ -10,8 +10,8 @@ use crate::shared_run::SharedRun;
 use std::cmp::Ordering;
 use std::marker::Model;
 
-/// A shared run with its name. Contracts see its key. Runs are ordered by the numbers of their states,
-/// and then by name.
+/// A shared run with its name. Contracts see its key. Runs are ordered by the numbers of their
+/// states, and then by name.
 #[derive(Drop)]
 pub struct NamedRun<S: Served> {
     name: String,

@@ -1,15 +1,13 @@
 //! What the registry's lock keeps.
-ghost use Rattle.std.specs.Prelude.{◌≡◌, ◌≢◌, ◌≤◌, Err, IfOk, OnErr, length};
+ghost use Rattle.std.specs.Prelude.{◌≡◌, ◌≢◌, ◌≤◌, Err, IfOk, length};
 ghost use Rattle.std.specs.Arc.{arc_value};
-ghost use Rattle.std.specs.List.{All};
 ghost use Rattle.std.specs.List.Sorted.{IsPermutation, IsSorted};
 ghost use Rattle.std.specs.Map.{keys_of};
 ghost use Rattle.cs_registry.specs.Publishing.{Publishes};
 ghost use Rattle.cs_registry.specs.Registries.{empty, missing_of, with_users};
 ghost use Rattle.cs_shared.specs.Finding.{AreNumbered, FindsShared};
 ghost use Rattle.cs_shared.specs.Naming.{key_cmp};
-ghost use Rattle.cs_shared.specs.Publishing.{IsThere, PublishesEach, PublishesFront};
-ghost use Rattle.cs_shared.specs.Serving.{ServesAll};
+ghost use Rattle.cs_shared.specs.Serving.{IsOnly, ServesAll};
 
 use crate::named::NamedRun;
 use crate::served::Served;
@@ -21,33 +19,34 @@ use std::alloc::{AllocError, Global};
 use std::marker::Model;
 use std::sync::Arc;
 
-/// The published states of a scene and their shared runs, each of which carries the number of its key.
-/// Contracts see it as cs_registry's, and of a run the number of its state.
+/// The published states of the server's scene and their shared runs, each of which carries the
+/// number of its key. Contracts see it as cs_registry's, and of a run the number of its state.
 #[derive(Drop)]
-pub(crate) struct Registry<S: Served> {
+pub struct Registry<S: Served> {
     states: States<SharedRun<S>>,
 }
 
 impl<S: Served> Model for Registry<S> {
     ghost use Rattle.std.specs.Prelude.{ℕ};
     ghost use Rattle.cs_registry.specs.Registries as model;
-    ghost use Rattle.cs_shared.specs.Finding.{AreNumbered};
+    ghost use Rattle.cs_shared.specs.Finding.{IsOfServer};
 
     ghost Value = { model.Registry ℕ };
 
     ghost view = { λ r. r.states };
 
-    ghost invariant = { λ r. AreNumbered r.states.runs };
+    ghost invariant = { λ r. IsOfServer S.is_scene r.states };
 }
 
 impl<S: Served> Registry<S> {
-    /// A registry of a scene's states, of which none is published.
-    pub(crate) fn new(
+    /// A registry of the states of the server's scene, of which none is published.
+    pub fn new(
         alloc: Global,
         scene: Arc<Scene>,
         users: Arc<Users>,
     ) -> Result<Registry<S>, AllocError>
-        requires { ServesAll S.serves (arc_value scene) }
+        requires here { S.is_scene (arc_value scene) }
+        requires serves { ServesAll S.serves (arc_value scene) }
         ensures { IfOk result (λ registry. registry ≡ empty (arc_value scene) (arc_value users)) }
     {
         // each state of a scene is one that a crash may leave
@@ -58,42 +57,37 @@ impl<S: Served> Registry<S> {
     }
 
     /// How many states of the plan aren't published.
-    pub(crate) fn missing(&self) -> u32
-        ensures { result ≡ missing_of self.now }
+    pub fn missing(&self) -> u32
+        ensures count { result ≡ missing_of self.now }
+        ensures few { result ≤ length self.now.scene.plan }
+        ensures own { S.is_scene self.now.scene }
     {
         self.states.missing()
     }
 
-    /// Publishes a state under its number.
-    pub(crate) fn publish(&mut self, alloc: Global, state: Published) -> Result<(), PublishFault>
-        ensures { Publishes self.old state result self.new }
+    /// Publishes a state under its number: Stranger where the plan has no such number, or the state
+    /// was made in a scene of other content; then Twice; then Memory.
+    pub fn publish(&mut self, alloc: Global, state: Published) -> Result<(), PublishFault>
+        ensures publishes { Publishes self.old state result self.new }
+        ensures own { S.is_scene self.old.scene }
     {
         self.states.publish(alloc, state)
     }
 
-    /// Publishes states of one scene, and looks once whether it has the content of the registry's own:
-    /// how many weren't published. A state that stands already is passed over. After a fault a front of
-    /// them is published.
-    pub(crate) fn publish_each(
-        &mut self,
-        alloc: Global,
-        scene: &Scene,
-        states: Vec<Published>,
-    ) -> Result<usize, PublishFault>
-        requires own { All (λ state. state.scene ≡ scene.now) states.items }
-        ensures each { IfOk result (λ count. PublishesEach self.old states.items count self.new) }
-        ensures few { IfOk result (λ count. count ≤ length states.items) }
-        ensures front { OnErr result (PublishesFront self.old states.items self.new) }
-        ensures stranger { scene.now ≢ self.old.scene → (result ≡ Err PublishFault.Stranger) × (self.new ≡ self.old) }
+    /// The same for a state of the one scene that may be the server's: no content is compared, and
+    /// it is no stranger.
+    pub fn publish_own(&mut self, alloc: Global, state: Published) -> Result<(), PublishFault>
+        requires { IsOnly S.is_scene state.scene }
+        ensures publishes { Publishes self.old state result self.new }
+        ensures own { result ≢ Err PublishFault.Stranger }
     {
-        if !scene.has_content_of(self.states.scene()) {
-            return Err(PublishFault::Stranger);
-        }
-        publish_own(alloc, &mut self.states, states)
+        // its number is one of its scene's plan
+        let _number = state.number();
+        self.states.publish_own(alloc, state)
     }
 
     /// Finds the run of a key.
-    pub(crate) fn find_key(&mut self, alloc: Global, key: RunKey) -> Result<SharedRun<S>, FindFault>
+    pub fn find_key(&mut self, alloc: Global, key: RunKey) -> Result<SharedRun<S>, FindFault>
         ensures finds { FindsShared self.old key result self.new }
         ensures number { IfOk result (λ shared. shared ≡ key.number) }
     {
@@ -105,14 +99,14 @@ impl<S: Served> Registry<S> {
     }
 
     /// A run that is made from now on has these users.
-    pub(crate) fn reload(&mut self, users: Arc<Users>)
+    pub fn reload(&mut self, users: Arc<Users>)
         ensures { self.new ≡ with_users self.old (arc_value users) }
     {
         self.states.reload_shared(users);
     }
 
     /// All runs, in the order of their keys.
-    pub(crate) fn runs(&self, alloc: Global) -> Result<Vec<NamedRun<S>>, AllocError>
+    pub fn runs(&self, alloc: Global) -> Result<Vec<NamedRun<S>>, AllocError>
         ensures all { IfOk result (λ runs. IsPermutation (keys_of self.now.runs) runs.items) }
         ensures sorted { IfOk result (λ runs. IsSorted key_cmp runs.items) }
     {
@@ -120,45 +114,6 @@ impl<S: Served> Registry<S> {
         runs.sort()?;
         Ok(runs)
     }
-}
-
-/// Publishes a state of the registry's own scene: 1, or 0 where it stood already.
-fn publish_one<S: Served>(
-    alloc: Global,
-    registry: &mut States<SharedRun<S>>,
-    state: Published,
-) -> Result<usize, PublishFault>
-    requires own { state.scene ≡ registry.old.scene }
-    ensures there { IfOk result (λ one. IsThere registry.old state one registry.new) }
-    ensures few { IfOk result (λ one. one ≤ 1) }
-    ensures refused { OnErr result (registry.new ≡ registry.old) }
-    ensures scene { registry.new.scene ≡ registry.old.scene }
-    ensures runs { registry.new.runs ≡ registry.old.runs }
-{
-    match registry.publish_own(alloc, state) {
-        Ok(()) => Ok(1),
-        Err(PublishFault::Twice) => Ok(0),
-        Err(fault) => Err(fault),
-    }
-}
-
-/// Publishes states of the registry's own scene: how many weren't published.
-fn publish_own<S: Served>(
-    alloc: Global,
-    registry: &mut States<SharedRun<S>>,
-    states: Vec<Published>,
-) -> Result<usize, PublishFault>
-    requires own { All (λ state. state.scene ≡ registry.old.scene) states.items }
-    ensures each { IfOk result (λ count. PublishesEach registry.old states.items count registry.new) }
-    ensures few { IfOk result (λ count. count ≤ length states.items) }
-    ensures front { OnErr result (PublishesFront registry.old states.items registry.new) }
-    ensures runs { registry.new.runs ≡ registry.old.runs }
-{
-    let mut count = 0;
-    for state in states {
-        count += publish_one(alloc, registry, state)?;
-    }
-    Ok(count)
 }
 
 /// The runs with their names, in the order in which they were made.

@@ -1,10 +1,9 @@
 //! A registry that threads share.
-ghost use Rattle.std.specs.Prelude.{◌≡◌, ◌≤◌, IfOk, length};
+ghost use Rattle.std.specs.Prelude.{◌≡◌, ◌≢◌, ◌≤◌, Err, IfOk, length};
 ghost use Rattle.std.specs.Arc.{arc_value};
-ghost use Rattle.std.specs.List.{All};
 ghost use Rattle.std.specs.List.Sorted.{IsSorted};
 ghost use Rattle.cs_shared.specs.Naming.{key_cmp};
-ghost use Rattle.cs_shared.specs.Serving.{ServesAll};
+ghost use Rattle.cs_shared.specs.Serving.{IsOnly, IsStateOf, ServesAll};
 
 use crate::named::NamedRun;
 use crate::registry::Registry;
@@ -18,8 +17,8 @@ use std::alloc::{AllocError, Global};
 use std::marker::Model;
 use std::sync::{Arc, Mutex, Wait};
 
-/// The published states of a scene, and their runs, which threads share. Contracts see the scene. Each
-/// call takes the registry's lock once, and no run's.
+/// The published states of the server's scene, and their runs, which threads share. Contracts see
+/// the scene. Each call takes the registry's lock once, and no run's.
 #[derive(Drop)]
 pub struct SharedRegistry<S: Served> {
     scene: Arc<Scene>,
@@ -33,17 +32,20 @@ impl<S: Served> Model for SharedRegistry<S> {
     ghost Value = { model.Scene };
 
     ghost view = { λ r. arc_value r.scene };
+
+    ghost invariant = { λ r. S.is_scene (arc_value r.scene) };
 }
 
 impl<S: Served> SharedRegistry<S> {
-    /// A registry of a scene's states, of which none is published, whose runs have these users until
-    /// others are loaded.
+    /// A registry of the states of the server's scene, of which none is published, whose runs have
+    /// these users until others are loaded.
     pub fn new(
         alloc: Global,
         scene: Arc<Scene>,
         users: Arc<Users>,
     ) -> Result<SharedRegistry<S>, AllocError>
-        requires { ServesAll S.serves (arc_value scene) }
+        requires here { S.is_scene (arc_value scene) }
+        requires serves { ServesAll S.serves (arc_value scene) }
         ensures { IfOk result (λ registry. registry ≡ arc_value scene) }
     {
         let own = Arc::try_clone(&scene)?;
@@ -56,47 +58,53 @@ impl<S: Served> SharedRegistry<S> {
 
     /// The scene.
     pub fn scene(&self) -> &Arc<Scene>
-        ensures { arc_value result.now ≡ self.now }
+        ensures scene { arc_value result.now ≡ self.now }
+        ensures own { S.is_scene self.now }
     {
         &self.scene
     }
 
     /// How many states of the plan aren't published.
-    pub fn missing(&self, rt: &impl Wait) -> u32 {
+    pub fn missing(&self, rt: &impl Wait) -> u32
+        ensures { IsOnly S.is_scene self.now → result ≤ length self.now.plan }
+    {
         self.inside.lock(rt).missing()
     }
 
-    /// Publishes a state under its number: Stranger where the plan has no such number, or the state was
-    /// made in a scene of other content; then Twice; then Memory.
+    /// Publishes a state under its number: Stranger where the plan has no such number, or the state
+    /// was made in a scene of other content; then Twice; then Memory.
     pub fn publish(
         &self,
         rt: &impl Wait,
         alloc: Global,
         state: Published,
-    ) -> Result<(), PublishFault> {
+    ) -> Result<(), PublishFault>
+        ensures stranger { IsOnly S.is_scene self.now → result ≡ Err PublishFault.Stranger
+            → ¬ IsStateOf self.now state }
+        ensures own { IsOnly S.is_scene self.now → result ≢ Err PublishFault.Stranger
+            → IsStateOf self.now state }
+    {
         self.inside.lock(rt).publish(alloc, state)
     }
 
-    /// Publishes states of the registry's own scene under one lock, and looks at the scene once and not
-    /// for each: how many weren't published. A state that stands already is passed over. Where memory is
-    /// refused, those before it stay published.
-    pub fn publish_each(
+    /// The same for a state of the scene, which is the only one that may be the server's: no
+    /// content is compared, and it is no stranger.
+    pub fn publish_own(
         &self,
         rt: &impl Wait,
         alloc: Global,
-        states: Vec<Published>,
-    ) -> Result<usize, PublishFault>
-        requires own { All (λ state. state.scene ≡ self.now) states.items }
-        ensures few { IfOk result (λ count. count ≤ length states.items) }
+        state: Published,
+    ) -> Result<(), PublishFault>
+        requires only { IsOnly S.is_scene self.now }
+        requires own { state.scene ≡ self.now }
+        ensures { result ≢ Err PublishFault.Stranger }
     {
-        self.inside
-            .lock(rt)
-            .publish_each(alloc, &self.scene, states)
+        self.inside.lock(rt).publish_own(alloc, state)
     }
 
-    /// Finds the run of that name of the state of that number, and counts the find: the run is made at
-    /// the first. Unpublished (A4), Full (A5) and Memory are as `States::find` has them; Memory also
-    /// where the run has as many handles as can be, and then the find stays counted.
+    /// Finds the run of that name of the state of that number, and counts the find: the run is made
+    /// at the first. Unpublished (A4), Full (A5) and Memory are as `States::find` has them; Memory
+    /// also where the run has as many handles as can be, and then the find stays counted.
     pub fn find(
         &self,
         rt: &impl Wait,
@@ -121,9 +129,9 @@ impl<S: Served> SharedRegistry<S> {
         self.inside.lock(rt).find_key(alloc, key)
     }
 
-    /// Loads another list of users: a run that is made from then on has them. A run that exists keeps
-    /// the list with which it was made. Memory is asked for before the lock is taken; where it is
-    /// refused, the list stays.
+    /// Loads another list of users: a run that is made from then on has them. A run that exists
+    /// keeps the list with which it was made. Memory is asked for before the lock is taken; where
+    /// it is refused, the list stays.
     pub fn reload(&self, rt: &impl Wait, alloc: Global, users: Users) -> Result<(), AllocError> {
         let users = Arc::new(alloc, users)?;
         self.inside.lock(rt).reload(users);

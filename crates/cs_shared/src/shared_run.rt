@@ -6,12 +6,13 @@ ghost use Rattle.cs_journal.specs.Bounds.{CanGrow};
 ghost use Rattle.cs_journal.specs.Journals.{IsLegal};
 ghost use Rattle.cs_journal.specs.Runs.{RunOf, first_state, fresh_pass};
 ghost use Rattle.cs_permit.specs.declared.call.Call.TheVariants as called;
-ghost use Rattle.cs_shared.specs.Told.{IsStep, Told};
+ghost use Rattle.cs_shared.specs.Answers.{IsStepOfServedRun, IsAnswerOf};
 
 use crate::locked::Locked;
 use crate::served::Served;
 use cs_journal::{Pass, Run};
-use cs_permit::Call;
+use cs_names::Text;
+use cs_permit::{Call, PassFault};
 use cs_plan::Built;
 use cs_registry::Held;
 use cs_run::Answer;
@@ -20,8 +21,8 @@ use std::alloc::{AllocError, Global};
 use std::marker::Model;
 use std::sync::{Arc, Mutex, Wait};
 
-/// A run that threads share, under a lock, with the number of its state. Contracts see the number. Each
-/// call takes the run's lock once, and no other.
+/// A run that threads share, under a lock, with the number of its state. Contracts see the number.
+/// Each call takes the run's lock once, and no other.
 #[derive(Drop)]
 pub struct SharedRun<S: Served> {
     number: u32,
@@ -34,16 +35,6 @@ impl<S: Served> Model for SharedRun<S> {
     ghost Value = { ℕ };
 
     ghost view = { λ shared. shared.number };
-}
-
-/// Why a user isn't attached.
-#[derive(Clone, Copy, Debug, PartialEq, Eq)]
-pub enum AttachFault {
-    /// The run is of another number.
-    Foreign,
-    /// It gave RUN_ATTACHES passes.
-    Room,
-    Memory,
 }
 
 impl<S: Served> SharedRun<S> {
@@ -80,23 +71,25 @@ impl<S: Served> SharedRun<S> {
         self.number
     }
 
-    /// Attaches a user under a new pass, at that moment, in seconds since 1970: Foreign where the run
-    /// under the lock is of another number, before all else; Room where it gave RUN_ATTACHES passes; then
-    /// Memory. After a refusal no pass was given, and the run is as it was.
+    /// Attaches a user under a new pass, at that moment, in seconds since 1970: Foreign where the
+    /// run under the lock is of another number, before all else; Room where it gave RUN_ATTACHES
+    /// passes; then Memory. After a refusal no pass was given, and the run is as it was.
     pub fn attach(
         &self,
         rt: &impl Wait,
         alloc: Global,
         now: u32,
-        user: String,
-    ) -> Result<(Pass, Answer), AttachFault>
-        ensures { IfOk result (λ x. IsStep S.serves self.now (fresh_pass x.0.number) now (called.Attach (record { user = user })) x.1 x.0) }
+        user: Text,
+    ) -> Result<(Pass, Answer), PassFault>
+        ensures { IfOk result
+            (λ x. IsStepOfServedRun S.serves self.now (fresh_pass x.0.number) now
+            (called.Attach (record { user = user })) x.1 x.0) }
     {
         self.run.lock(rt).attach(alloc, self.number, now, user)
     }
 
-    /// Makes a call under a pass at that moment, in seconds since 1970: S5 where the run under the lock is
-    /// of another number, or the pass isn't its own, before all else; then as `Run::step`.
+    /// Makes a call under a pass at that moment, in seconds since 1970: S5 where the run under the
+    /// lock is of another number, or the pass isn't its own, before all else; then as `Run::step`.
     pub fn call(
         &self,
         rt: &impl Wait,
@@ -105,16 +98,18 @@ impl<S: Served> SharedRun<S> {
         now: u32,
         call: Call,
     ) -> Answer
-        ensures { Told S.serves self.now pass.old now call result pass.new }
+        ensures { IsAnswerOf S.serves self.now pass.old now call result pass.new }
     {
         self.run.lock(rt).call(alloc, self.number, pass, now, call)
     }
 
-    /// Lends the run to `look`, under the lock. A `look` that makes a call on this same run would wait for
-    /// itself.
+    /// Lends the run to `look`, under the lock. A `look` that makes a call on this same run would
+    /// wait for itself.
     pub fn inspect<T, F: FnOnce(&Run<Built>) -> T>(&self, rt: &impl Wait, look: F) -> T
         requires { F.IsAlwaysCallable look }
-        ensures { (number : ℕ) × ((run : RunOf) × S.serves number run.fresh × IsLegal (first_state run) run.journal × FnOnceReturnsAt F.FnOnce look run result) }
+        ensures { (number : ℕ)
+            × ((run : RunOf) × S.serves number run.fresh × IsLegal (first_state run) run.journal
+            × FnOnceReturnsAt F.FnOnce look run result) }
     {
         self.run.lock(rt).inspect(look)
     }

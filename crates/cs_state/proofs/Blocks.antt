@@ -1,7 +1,7 @@
 -- Those that reach a block: they leave the bytes in it that all of a set leave.
 use Rattle.std.proofs.Common.{◌≡◌, ◌≢◌, ℕ, zero, suc, ◌+◌, ◌*◌, ◌<◌, ◌≤◌, ◌==◌, ◌&&◌, Bool, true, false, cond, nat_lt, List, [], ◌∷◌, ◌++◌, Option, None, Some, refl, sym, ap, ◌∙◌, subst, arith, ⊎_elim, length, map, take, get_or}
 use Rattle.std.proofs.lemmas.Bool.{cases_Bool, cases_eq, cases_lt, eq-eqb, eqb-true, false≢true}
-use Rattle.std.proofs.lemmas.List.{get_or-take, get_or_append_left, get_or_at, get_or_past, length-take, length_push, take_more}
+use Rattle.std.proofs.lemmas.List.{get_or-take, get_or_append_left, get_or_at, get_or_past, length-take, length_push, take_more, append-nil}
 use Rattle.std.proofs.lemmas.List.Sums.{fold_push}
 use Rattle.std.proofs.lemmas.Option.{get_or_from_slice_get, slice_get-get_or, slice_get_within}
 use Rattle.std.specs.Global.{Vec}
@@ -17,7 +17,7 @@ use Rattle.cs_apm.specs.States.{Content, overwritten, resized}
 use Rattle.cs_state.specs.Shares.{ids, mark_at}
 use Rattle.cs_state.specs.Steps.{member_struck, picked, reaches, reaching, resizes, size_before, struck, struck_by, touches, AgreeIn, AreRows, HasRow, IsFitting}
 use Rattle.cs_state.specs.Windows.{byte_of, size_after}
-use Rattle.cs_state.proofs.Listing.{ids_are, ids_have, no_more}
+use Rattle.cs_state.proofs.Listing.{ids_are, ids_have}
 use Rattle.cs_state.proofs.Showing.{byte_before, byte_behind, byte_inside, one_size}
 
 -- ---- folds over those that pass a test
@@ -27,7 +27,7 @@ fold_ids g s f k = by (f k)
   where
     by : (b : Bool) → fold g s (ids f k ++ cond b (k ∷ []) []) ≡ cond b (g (fold g s (ids f k)) k) (fold g s (ids f k))
     by true = fold_push g s (ids f k) k
-    by false = ap (fold g s) (no_more (ids f k))
+    by false = ap (fold g s) (append-nil (ids f k))
 
 pub fold_map : {S X : Type 0} (g : S → X → S) (h : ℕ → X) (s : S) (ks : List ℕ) → fold g s (map h ks) ≡ fold (λ s k. g s (h k)) s ks
 fold_map g h s [] = refl
@@ -42,7 +42,7 @@ picked_end f (x ∷ xs) ys = by (f x) (picked_end f xs ys)
     by false same = same
 
 pub picked_more : (f : ℕ → Bool) (xs : List ℕ) (i : ℕ) → i < length xs → picked f (take (i + 1) xs) ≡ picked f (take i xs) ++ cond (f (get_or xs i 0)) (get_or xs i 0 ∷ []) []
-picked_more f xs i low = ap (picked f) (take_more xs i 0 low) ∙ picked_end f (take i xs) (get_or xs i 0 ∷ []) ∙ ap (λ l. picked f (take i xs) ++ l) (no_more (cond (f (get_or xs i 0)) (get_or xs i 0 ∷ []) []))
+picked_more f xs i low = ap (picked f) (take_more xs i 0 low) ∙ picked_end f (take i xs) (get_or xs i 0 ∷ []) ∙ ap (λ l. picked f (take i xs) ++ l) (append-nil (cond (f (get_or xs i 0)) (get_or xs i 0 ∷ []) []))
 
 -- those that pass two tests, one after the other
 pub picked_ids : (f g : ℕ → Bool) (n : ℕ) → picked g (ids f n) ≡ ids (λ k. f k && g k) n
@@ -50,7 +50,7 @@ picked_ids f g zero = refl
 picked_ids f g (suc n) = picked_end g (ids f n) (cond (f n) (n ∷ []) []) ∙ (λ i. picked_ids f g n i ++ by (f n) (g n) refl i)
   where
     by : (a b : Bool) → b ≡ g n → picked g (cond a (n ∷ []) []) ≡ cond (a && b) (n ∷ []) []
-    by true b same = no_more (cond (g n) (n ∷ []) []) ∙ ap (λ v. cond v (n ∷ []) []) (sym same)
+    by true b same = append-nil (cond (g n) (n ∷ []) []) ∙ ap (λ v. cond v (n ∷ []) []) (sym same)
     by false b same = refl
 
 -- an element of a list with one more
@@ -71,7 +71,7 @@ picked_same f g n [] same low = refl
 picked_same f g n (x ∷ xs) same low = (λ i. cond (same x (low 0 (omega arith)) i) (x ∷ []) [] ++ picked_same f g n xs same (λ k l. low (suc k) (omega (arith, l))) i)
 
 -- those that pass one test pass the other
-ids_same : (f g : ℕ → Bool) (n : ℕ) → ((k : ℕ) → k < n → f k ≡ g k) → ids f n ≡ ids g n
+pub ids_same : (f g : ℕ → Bool) (n : ℕ) → ((k : ℕ) → k < n → f k ≡ g k) → ids f n ≡ ids g n
 ids_same f g zero same = refl
 ids_same f g (suc n) same = (λ i. ids_same f g n (λ k low. same k (omega (arith, low))) i ++ cond (same n (omega arith) i) (n ∷ []) [])
 

@@ -56,7 +56,7 @@ module _ {X : Type 0} (f : X → ℕ) where
   below_zero (x ∷ xs) = (let a = none_below x 0 (omega arith) in let b = below_zero xs in omega (arith, a, b))
 
   -- none of them is y
-  below_past : (xs : List X) (d : X) (y : ℕ) → ((k : ℕ) → k < length xs → f (get_or xs k d) ≢ y) → below f xs (suc y) ≡ below f xs y
+  pub below_past : (xs : List X) (d : X) (y : ℕ) → ((k : ℕ) → k < length xs → f (get_or xs k d) ≢ y) → below f xs (suc y) ≡ below f xs y
   below_past [] d y other = refl
   below_past (x ∷ xs) d y other =
       let rest = below_past xs d y (λ k low. other (suc k) (omega (arith, low))) in
@@ -124,9 +124,6 @@ at_any xs d f i j le low up = ⊎_elim
     let b : f (get_or xs j d) ≡ f (at xs j) = ap f (same_read xs j d none low) in
     omega (arith, s, a, b)))
     (cases_eq i j)
-
-pub read_at : (xs : List Own) (i : ℕ) (x : Own) → i < length xs → x ≡ get_or xs i x → x ≡ at xs i
-read_at xs i x low is = is ∙ same_read xs i x none low
 
 -- those found below an id are all below it
 pub own_split : (own : List Own) (id a : ℕ) → a ≤ length own → ((k : ℕ) → k < a → (at own k).id < id) → ((k : ℕ) → a ≤ k → k < length own → id ≤ (at own k).id) → below (λ (o : Own). o.id) own id ≡ a

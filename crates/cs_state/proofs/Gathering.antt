@@ -16,7 +16,8 @@ use Rattle.cs_state.specs.declared.shares.Shares.{Shares}
 use Rattle.cs_state.specs.Names.{names_in}
 use Rattle.cs_state.specs.Numbers.{below, kept_at, IsKept}
 use Rattle.cs_state.specs.Parts.{AreParts}
-use Rattle.cs_state.specs.Shares.{ids, mark_at, own_from, slots_left, stands, stays, IsLeft, IsShared, IsShares, IsTouched}
+use Rattle.cs_state.specs.Shares.{ids, mark_at, slots_left, stands, stays, IsLeft, IsShared, IsShares, IsTouched}
+use Rattle.cs_state.specs.Merging.{own_from}
 use Rattle.cs_state.proofs.Counting.{below_length}
 use Rattle.cs_state.proofs.Listing.{below_ids, ids_are, ids_have, ids_up}
 use Rattle.cs_state.proofs.Owning.{shared_of}

@@ -1,7 +1,7 @@
 -- The members of a set by their marks, and what an allowed set has of the sizes and of the rights of a file.
 use Rattle.std.proofs.Common.{◌≡◌, ◌≢◌, ℕ, zero, suc, ◌<◌, ◌≤◌, Bool, true, false, cond, List, [], ◌∷◌, ◌++◌, refl, sym, ap, ◌∙◌, arith, ⊎_elim, length, replicate}
 use Rattle.std.proofs.lemmas.Bool.{cases_eq, false≢true, eqb-true}
-use Rattle.std.proofs.lemmas.List.{get_or-set_other, get_or-set_same}
+use Rattle.std.proofs.lemmas.List.{get_or-set_other, get_or-set_same, append-nil}
 use Rattle.std.specs.Prelude.{slice_set}
 use Rattle.cs_trace.specs.declared.operation.Rights.{Rights}
 use Rattle.cs_trace.specs.declared.operation.Target.TheVariants as targets
@@ -17,9 +17,8 @@ use Rattle.cs_state.specs.Owners.{sets_rights}
 use Rattle.cs_state.specs.Shares.{ids, mark_at}
 use Rattle.cs_state.specs.Steps.{resizes}
 use Rattle.cs_state.specs.Windows.{size_after}
-use Rattle.cs_state.proofs.Blocks.{unresized}
+use Rattle.cs_state.proofs.Blocks.{ids_same, unresized}
 use Rattle.cs_state.proofs.Lasting.{IsSaidBy}
-use Rattle.cs_state.proofs.Listing.{no_more}
 
 -- ---- marks that are set one after the other
 
@@ -30,11 +29,7 @@ none_marked (suc n) (suc k) = none_marked n k
 
 pub no_ids : (f : ℕ → Bool) → ((k : ℕ) → f k ≡ false) → (n : ℕ) → ids f n ≡ []
 no_ids f none zero = refl
-no_ids f none (suc n) = ap (λ b. ids f n ++ cond b (n ∷ []) []) (none n) ∙ no_more (ids f n) ∙ no_ids f none n
-
-ids_same : (f g : ℕ → Bool) (n : ℕ) → ((k : ℕ) → k < n → f k ≡ g k) → ids f n ≡ ids g n
-ids_same f g zero same = refl
-ids_same f g (suc n) same = (λ i. ids_same f g n (λ k low. same k (omega (arith, low))) i ++ cond (same n (omega arith) i) (n ∷ []) [])
+no_ids f none (suc n) = ap (λ b. ids f n ++ cond b (n ∷ []) []) (none n) ∙ append-nil (ids f n) ∙ no_ids f none n
 
 -- one more passes, behind all others
 ids_more : (f g : ℕ → Bool) (p n : ℕ) → p < n → ((k : ℕ) → p ≤ k → f k ≡ false) → g p ≡ true → ((k : ℕ) → k ≢ p → g k ≡ f k) → ids g n ≡ ids f n ++ p ∷ []
@@ -42,12 +37,12 @@ ids_more f g p zero low none here same = absurd (omega (arith, low))
 ids_more f g p (suc n) low none here same = ⊎_elim
     (λ (is : p ≡ n).
     (λ i. ids_same g f n (λ k less. same k (omega (arith, less, is))) i ++ cond ((ap g (sym is) ∙ here) i) (n ∷ []) [])
-    ∙ sym (ap (λ b. (ids f n ++ cond b (n ∷ []) []) ++ p ∷ []) (none n (omega (arith, is))) ∙ (λ i. no_more (ids f n) i ++ is i ∷ [])))
+    ∙ sym (ap (λ b. (ids f n ++ cond b (n ∷ []) []) ++ p ∷ []) (none n (omega (arith, is))) ∙ (λ i. append-nil (ids f n) i ++ is i ∷ [])))
     (λ (other : p ≢ n).
     ap (λ b. ids g n ++ cond b (n ∷ []) []) (same n (λ e. other (sym e)) ∙ none n (omega (arith, low)))
-    ∙ no_more (ids g n)
+    ∙ append-nil (ids g n)
     ∙ ids_more f g p n (omega (arith, low, other)) none here same
-    ∙ sym (ap (λ b. (ids f n ++ cond b (n ∷ []) []) ++ p ∷ []) (none n (omega (arith, low))) ∙ ap (λ l. l ++ p ∷ []) (no_more (ids f n))))
+    ∙ sym (ap (λ b. (ids f n ++ cond b (n ∷ []) []) ++ p ∷ []) (none n (omega (arith, low))) ∙ ap (λ l. l ++ p ∷ []) (append-nil (ids f n))))
     (cases_eq p n)
 
 pub marked_more : (marks : List Bool) (n p : ℕ) → n ≡ length marks → p < n → ((k : ℕ) → p ≤ k → mark_at marks k ≡ false) → ids (mark_at (slice_set marks p true)) n ≡ ids (mark_at marks) n ++ p ∷ []

@@ -1,25 +1,12 @@
 -- The ids that pass a test, in order.
 use Rattle.std.proofs.Common.{◌≡◌, ◌≢◌, ℕ, zero, suc, ◌+◌, ◌<◌, ◌≤◌, Bool, true, false, cond, List, [], ◌∷◌, ◌++◌, ◌⊎◌, inl, inr, refl, sym, ap, ◌∙◌, subst, arith, ⊎_elim, length, add-one, length-append}
 use Rattle.std.proofs.Math.Seq.{get_or-append_seam}
-use Rattle.std.proofs.lemmas.Bool.{cases_Bool, cases_eq, cases_lt, false≢true, lt-ltb, le-ltb}
-use Rattle.std.proofs.lemmas.List.{get_or_append_left, get_or-set_same, get_or-set_other}
-use Rattle.std.specs.Prelude.{slice_set}
+use Rattle.std.proofs.lemmas.Bool.{cases_Bool, cases_eq, cases_lt, lt-ltb, le-ltb}
+use Rattle.std.proofs.lemmas.List.{get_or_append_left, append-nil}
 use Rattle.cs_state.specs.Numbers.{below, kept_at, IsKept}
-use Rattle.cs_state.specs.Shares.{ids, mark_at}
+use Rattle.cs_state.specs.Shares.{ids}
 
 -- ---- marks
-
-pub set_marked : (marks : List Bool) (i id : ℕ) → i < length marks → mark_at (slice_set marks i true) id ≡ false → (mark_at marks id ≡ false) × (i ≢ id)
-set_marked marks i id low is = ⊎_elim
-    (λ (same : i ≡ id). absurd (false≢true (sym is ∙ ap (mark_at (slice_set marks i true)) (sym same) ∙ get_or-set_same marks i true false low)))
-    (λ (other : i ≢ id). (sym (get_or-set_other marks i id true false (λ e. other (sym e))) ∙ is, other))
-    (cases_eq i id)
-
-pub set_only : (marks : List Bool) (i id : ℕ) → mark_at (slice_set marks i true) id ≡ true → (mark_at marks id ≡ true) ⊎ (i ≡ id)
-set_only marks i id is = ⊎_elim
-    (λ (same : i ≡ id). inr same)
-    (λ (other : i ≢ id). inl (sym (get_or-set_other marks i id true false (λ e. other (sym e))) ∙ is))
-    (cases_eq i id)
 
 -- ---- a list with one more
 
@@ -31,10 +18,6 @@ at_end xs y k low = ⊎_elim
     let same : k ≡ length xs = (let a = length-append xs (y ∷ []) in omega (arith, a, low, ge)) in
     inr (same, ap (kept_at (xs ++ y ∷ [])) same ∙ get_or-append_seam xs y [] 0))
     (cases_lt k (length xs))
-
-pub no_more : (xs : List ℕ) → xs ++ [] ≡ xs
-no_more [] = refl
-no_more (x ∷ xs) = ap (λ l. x ∷ l) (no_more xs)
 
 module _ (f : ℕ → Bool) where
   pub one_more : (n : ℕ) → ids f (n + 1) ≡ ids f n ++ cond (f n) (n ∷ []) []
@@ -51,7 +34,7 @@ module _ (f : ℕ → Bool) where
   with_it n here = ap (λ b. ids f n ++ cond b (n ∷ []) []) here
 
   without_it : (n : ℕ) → f n ≡ false → ids f (suc n) ≡ ids f n
-  without_it n gone = ap (λ b. ids f n ++ cond b (n ∷ []) []) gone ∙ no_more (ids f n)
+  without_it n gone = ap (λ b. ids f n ++ cond b (n ∷ []) []) gone ∙ append-nil (ids f n)
 
   -- each of them is below n and passes
   pub ids_are : (n k : ℕ) → k < length (ids f n) → (kept_at (ids f n) k < n) × (f (kept_at (ids f n) k) ≡ true)

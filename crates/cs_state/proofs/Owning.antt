@@ -6,7 +6,8 @@ use Rattle.cs_apm.specs.declared.slot.Slot.{Slot}
 use Rattle.cs_apm.specs.Slots.{slot_at}
 use Rattle.cs_state.specs.declared.numbers.Own.{Own}
 use Rattle.cs_state.specs.Numbers.{at, below, kept_at, IsKept, IsMerge, IsOwn}
-use Rattle.cs_state.specs.Shares.{own_from, own_one, stands, IsShared}
+use Rattle.cs_state.specs.Shares.{stands, IsShared}
+use Rattle.cs_state.specs.Merging.{own_from, own_one}
 
 -- ---- one touched id more
 

@@ -1,23 +1,16 @@
 -- A part of a file, byte by byte.
-use Rattle.std.proofs.Common.{◌≡◌, ◌≢◌, ℕ, zero, suc, ◌+◌, ◌-◌, ◌<◌, ◌≤◌, ◌==◌, Bool, true, false, cond, nat_lt, List, [], ◌∷◌, ◌++◌, ◌⊎◌, max, min, refl, sym, ap, ◌∙◌, subst, arith, ⊎_elim, length, map, take, drop, replicate, get_or, length-append, length-drop}
+use Rattle.std.proofs.Common.{◌≡◌, ℕ, ◌+◌, ◌-◌, ◌<◌, ◌≤◌, ◌==◌, Bool, true, false, cond, nat_lt, List, [], ◌∷◌, ◌++◌, ◌⊎◌, max, min, refl, sym, ap, ◌∙◌, subst, arith, ⊎_elim, length, map, take, drop, replicate, get_or, length-append, length-drop}
 use Rattle.std.proofs.Math.Seq.{get_or-append_right}
 use Rattle.std.proofs.lemmas.Bool.{cases_lt}
 use Rattle.std.proofs.lemmas.List.{ext_get_or, get_or-drop, get_or-take, get_or_append_left, get_or_past, length-replicate, length-take, length-take-le}
 use Rattle.std.specs.Prelude.{fold, slice_range}
+use Rattle.cs_tree_model.specs.Laws.Bytes.{zeros_behind}
 use Rattle.cs_micro.specs.declared.micro_op.MicroOp.{MicroOp}
 use Rattle.cs_micro.specs.declared.micro_op.MicroOp.TheVariants.{ChangeFileSize, WriteBlock}
 use Rattle.cs_apm.specs.Contents.{content_after, content_left}
 use Rattle.cs_apm.specs.Rules.{op_at}
 use Rattle.cs_apm.specs.States.{Content, overwritten, padded, put, visible}
 use Rattle.cs_state.specs.Windows.{byte_of, size_after, IsPart}
-
--- zeros behind a list read as what is past its end
-zeros_behind : (xs : List ℕ) (m k : ℕ) → get_or (xs ++ replicate m 0) k 0 ≡ get_or xs k 0
-zeros_behind [] zero k = refl
-zeros_behind [] (suc m) zero = refl
-zeros_behind [] (suc m) (suc k) = zeros_behind [] m k
-zeros_behind (x ∷ xs) m zero = refl
-zeros_behind (x ∷ xs) m (suc k) = zeros_behind xs m k
 
 -- ---- a piece that is put over the bytes
 
@@ -118,9 +111,6 @@ part_copied bytes offset count from end first last copied is k low = ⊎_elim
     get_or_past copied k 0 long ∙ sym (get_or_past bytes (offset + k) 0 ge))
     (cases_lt (offset + k) (length bytes))
 
-pub zeros_past : (xs : List ℕ) (m k : ℕ) → get_or (xs ++ replicate m 0) k 0 ≡ get_or xs k 0
-zeros_past = zeros_behind
-
 -- ---- the size
 
 cond_size : (b : Bool) (f g : Content) → (cond b f g).size ≡ cond b f.size g.size
@@ -161,12 +151,6 @@ module _ (f : Content) (offset count : ℕ) where
   pub part_read : (part : List ℕ) → length part ≡ min count (f.size - offset) → IsPart offset f part → part ≡ take count (drop offset (visible f))
   part_read part long is = ext_get_or 0 part (take count (drop offset (visible f))) (long ∙ sym read_long) (λ k low.
       is k low ∙ sym (get_or-take count (drop offset (visible f)) k 0 (omega (arith, low, long)) ∙ get_or-drop offset (visible f) k 0 ∙ visible_at f (offset + k) (omega (arith, low, long))))
-
-  pub nothing_read : min count (f.size - offset) ≡ 0 → [] ≡ take count (drop offset (visible f))
-  nothing_read none = part_read [] (sym none) (λ k low. absurd (omega (arith, low)))
-
-  pub something_read : min count (f.size - offset) ≢ 0 → take count (drop offset (visible f)) ≢ []
-  something_read some none = some (sym read_long ∙ ap length none)
 
 -- a list that was made longer or shorter reads as before
 pub resized_at : (xs : List ℕ) (n m k : ℕ) → k < n → get_or (take n xs ++ replicate m 0) k 0 ≡ get_or xs k 0

@@ -1,6 +1,6 @@
 -- How many slots something stands in: a state's numbers.
 use Rattle.std.proofs.Common.{◌≡◌, ◌≢◌, ℕ, zero, suc, ◌+◌, ◌<◌, ◌≤◌, nat_lt, Bool, true, false, cond, List, [], ◌∷◌, ◌⊎◌, inl, inr, None, Some, refl, sym, ap, ◌∙◌, arith, ⊎_elim, length, get_or, slice_get}
-use Rattle.std.proofs.lemmas.Bool.{cases_eq, cases_lt, false≢true, lt-ltb, le-ltb}
+use Rattle.std.proofs.lemmas.Bool.{cases_eq, cases_lt, false≢true, le-ltb, cases_Bool}
 use Rattle.std.proofs.lemmas.List.{get_or_past}
 use Rattle.std.specs.Option.{is_some, option_map}
 use Rattle.cs_tree_model.specs.Tree.{Path}
@@ -12,25 +12,15 @@ use Rattle.cs_apm.specs.declared.slot.Slot.TheVariants.{Nothing, Directory, File
 use Rattle.cs_state.specs.declared.numbers.Own.{Own}
 use Rattle.cs_state.specs.Numbers.{below, none, at, kept_at, number_in, HasId}
 use Rattle.cs_state.specs.Shares.{stands, standing, place_of, IsShared}
-use Rattle.cs_state.proofs.Counting.{below_at, below_split}
+use Rattle.cs_state.proofs.Counting.{below_at, below_past, below_split}
 
 abbrev bit : Bool → ℕ
 bit b = cond b 1 0
 
-module _ {X : Type 0} (f : X → ℕ) where
-  not_there : (xs : List X) (d : X) (i : ℕ) → ((k : ℕ) → k < length xs → f (get_or xs k d) ≢ i) → below f xs (suc i) ≡ below f xs i
-  not_there [] d i h = refl
-  not_there (x ∷ xs) d i h =
-      let rest = not_there xs d i (λ k l. h (suc k) (omega (arith, l))) in
-      ⊎_elim
-      (λ (lt : f x < i). (let a : nat_lt (f x) (suc i) ≡ true = lt-ltb (f x) (suc i) (omega (arith, lt)) in let b : nat_lt (f x) i ≡ true = lt-ltb (f x) i lt in λ k. bit (a k) + rest k) ∙ (let b : nat_lt (f x) i ≡ true = lt-ltb (f x) i lt in λ k. bit (sym b k) + below f xs i))
-      (λ (le : i ≤ f x).
-      let ne = h 0 (omega arith) in
-      let a : nat_lt (f x) (suc i) ≡ false = le-ltb (f x) (suc i) (omega (arith, le, ne)) in
-      let b : nat_lt (f x) i ≡ false = le-ltb (f x) i le in
-      (λ k. bit (a k) + rest k) ∙ (λ k. bit (sym b k) + below f xs i))
-      (cases_lt (f x) i)
+one_more : (n : ℕ) → bit true + n ≡ suc n
+one_more n = omega arith
 
+module _ {X : Type 0} (f : X → ℕ) where
   is_there : (xs : List X) (d : X) → ((i j : ℕ) → i < j → j < length xs → f (get_or xs i d) < f (get_or xs j d)) → (k i : ℕ) → k < length xs → f (get_or xs k d) ≡ i → below f xs (suc i) ≡ suc (below f xs i)
   is_there xs d up k i low is =
       let here = below_at f xs d up k low in
@@ -41,10 +31,6 @@ module _ {X : Type 0} (f : X → ℕ) where
       (cases_eq j k))
       (λ j le lt. (let s = up k j (omega (arith, le)) lt in omega (arith, s))) in
       ap (λ v. below f xs (suc v)) (sym is) ∙ next ∙ ap suc (sym here) ∙ ap (λ v. suc (below f xs v)) is
-
-bool_cases : (b : Bool) → (b ≡ true) ⊎ (b ≡ false)
-bool_cases true = inl refl
-bool_cases false = inr refl
 
 module _ (slots : List Slot) (kept : List ℕ) (own : List Own) (h : IsShared slots kept own) where
   absent : (i : ℕ) → stands (slot_at slots i) ≡ false → HasId kept own i → ⊥
@@ -65,19 +51,19 @@ module _ (slots : List Slot) (kept : List ℕ) (own : List Own) (h : IsShared sl
       ⊎_elim
       (λ (in_kept : (k : ℕ) × (k < length kept) × (kept_at kept k ≡ i)).
       let a = is_there (λ k. k) kept 0 h.merge.kept_up in_kept.0 i in_kept.1 in_kept.2 in
-      let b = not_there (λ (o : Own). o.id) own none i (λ j low e. h.merge.apart in_kept.0 j in_kept.1 low (in_kept.2 ∙ sym e)) in
+      let b = below_past (λ (o : Own). o.id) own none i (λ j low e. h.merge.apart in_kept.0 j in_kept.1 low (in_kept.2 ∙ sym e)) in
       omega (arith, so_far, one, a, b))
       (λ (in_own : (k : ℕ) × (k < length own) × ((at own k).id ≡ i)).
       let a = is_there (λ (o : Own). o.id) own none h.merge.own_up in_own.0 i in_own.1 in_own.2 in
-      let b = not_there (λ k. k) kept 0 i (λ j low e. h.merge.apart j in_own.0 low in_own.1 (e ∙ sym in_own.2)) in
+      let b = below_past (λ k. k) kept 0 i (λ j low e. h.merge.apart j in_own.0 low in_own.1 (e ∙ sym in_own.2)) in
       omega (arith, so_far, one, a, b))
       (h.listed i yes))
       (λ (gone : stands (slot_at slots i) ≡ false).
       let zero_more : bit (stands (slot_at slots i)) ≡ 0 = ap bit gone in
-      let a = not_there (λ k. k) kept 0 i (λ j low e. absent i gone (inl (j, low, e))) in
-      let b = not_there (λ (o : Own). o.id) own none i (λ j low e. absent i gone (inr (j, low, e))) in
+      let a = below_past (λ k. k) kept 0 i (λ j low e. absent i gone (inl (j, low, e))) in
+      let b = below_past (λ (o : Own). o.id) own none i (λ j low e. absent i gone (inr (j, low, e))) in
       omega (arith, so_far, zero_more, a, b))
-      (bool_cases (stands (slot_at slots i)))
+      (cases_Bool (stands (slot_at slots i)))
 
 -- ---- the listing by number
 
@@ -101,14 +87,8 @@ module _ (rights : List Rights) where
       no_more n = omega arith
   present_at (p ∷ ps) (Directory k ∷ ss) long (suc i) low e is =
       ap (slice_get (present rights (p ∷ ps) (Directory k ∷ ss))) (standing_first (Directory k) ss i ∙ one_more (standing ss i)) ∙ present_at ps ss (omega (arith, long)) i (omega (arith, low)) e is
-    where
-      one_more : (n : ℕ) → bit true + n ≡ suc n
-      one_more n = omega arith
   present_at (p ∷ ps) (File k ∷ ss) long (suc i) low e is =
       ap (slice_get (present rights (p ∷ ps) (File k ∷ ss))) (standing_first (File k) ss i ∙ one_more (standing ss i)) ∙ present_at ps ss (omega (arith, long)) i (omega (arith, low)) e is
-    where
-      one_more : (n : ℕ) → bit true + n ≡ suc n
-      one_more n = omega arith
 
   -- so many stand in all
   pub present_count : (paths : List Path) (slots : List Slot) → length slots ≡ length paths → length (present rights paths slots) ≡ standing slots (length slots)

@@ -1,6 +1,7 @@
 pub mod Numbers
 pub mod Names
 pub mod Shares
+pub mod Merging
 pub mod Owners
 pub mod Parts
 pub mod States

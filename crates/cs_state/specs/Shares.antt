@@ -82,16 +82,6 @@ pub record IsShares (t : Trace) (ops : List MicroOp) (tables : Tables) (shares :
   pub known : (id : ℕ) → id < length tables.slots.items → (IsKept shares.kept.items id ⊎ IsKept shares.touched.items id) ⊎ ((stands (slot_at tables.slots.items id) ≡ false) × IsLeft tables.steps.items id)
   pub names : shares.names ≡ names_in t ops tables
 
--- what stands at the touched id, if something does: so many kept ones come before it, and n of a state's own
-abbrev pub own_one : ℕ → ℕ → Slot → ℕ → List Own
-own_one id before slot n = cond (stands slot) (record { id = id; number = before + n; slot = slot } ∷ []) []
-
--- the touched ids at which something stands; n of them stand before
-abbrev pub own_from : List ℕ → List ℕ → List Slot → ℕ → List Own
-own_from counts [] slots n = []
-own_from counts (t ∷ ts) slots n =
-    own_one t (kept_at counts t) (slot_at slots t) n ++ own_from counts ts slots (n + cond (stands (slot_at slots t)) 1 0)
-
 -- the two lists have the ids of the slots in which something stands, and each of its own has what stands
 pub record IsShared (slots : List Slot) (kept : List ℕ) (own : List Own) : Type 0 where
   pub merge : IsMerge kept own

@@ -4,7 +4,8 @@ ghost use Rattle.cs_apm.specs.Orders.{needs_of};
 ghost use Rattle.cs_apm.specs.Sets.{IsAllowed};
 ghost use Rattle.cs_state.specs.Numbers.{kept_at};
 ghost use Rattle.cs_state.specs.Parts.{AreParts};
-ghost use Rattle.cs_state.specs.Shares.{own_from, own_one, slots_left, IsShared};
+ghost use Rattle.cs_state.specs.Shares.{slots_left, IsShared};
+ghost use Rattle.cs_state.specs.Merging.{own_from, own_one};
 
 use crate::marks::stands;
 use crate::numbers::Own;

@@ -4,6 +4,7 @@ mod lists;
 mod made;
 mod picks;
 mod rights;
+mod same;
 mod scenes;
 mod sets;
 mod states;

@@ -1,21 +1,9 @@
 //! What is asked of the server in place of a client of Linux.
 
 use cs_rename::{Directories, Renaming, Step, directory_of, is_rename, renaming_of};
-use cs_wire::{RBody, RMessage, TBody, TMessage, decode, decode_r};
+use cs_wire::{RBody, RKind, RMessage, TBody, TKind, TMessage, decode, decode_r};
 use std::alloc::Global;
 use std::borrow::CowStr;
-
-/// The number of an Rversion (version(5)).
-const RVERSION: u8 = 101;
-
-/// The number of an Rattach (attach(5)).
-const RATTACH: u8 = 105;
-
-/// The number of a Twalk (walk(5)).
-const TWALK: u8 = 110;
-
-/// The number of a Twstat (stat(5)).
-const TWSTAT: u8 = 126;
 
 /// What is done with a reply.
 #[derive(Drop)]
@@ -43,10 +31,20 @@ pub(crate) struct Asked {
     renaming: Option<Renaming>,
 }
 
+/// The type of a client's message, if its bytes have one.
+pub(crate) fn type_of(request: &[u8]) -> Option<TKind> {
+    TKind::of_number(request.get(4).copied()?)
+}
+
+/// The type of a reply, if its bytes have one.
+pub(crate) fn reply_type_of(reply: &[u8]) -> Option<RKind> {
+    RKind::of_number(reply.get(4).copied()?)
+}
+
 /// The request, where its reply matters. A walk that memory is wanting for does not.
 fn that_matters(alloc: Global, request: &[u8]) -> Option<TMessage> {
-    match request.get(4).copied() {
-        Some(TWALK | TWSTAT) => {}
+    match type_of(request) {
+        Some(TKind::Walk | TKind::Wstat) => {}
         _ => return None,
     }
     let request = decode(alloc, request).ok()?;
@@ -126,9 +124,9 @@ impl Asked {
     /// What is done with the reply to the first request that isn't answered.
     pub(crate) fn answer(&mut self, reply: &[u8]) -> Outcome {
         self.unanswered = self.unanswered.saturating_sub(1);
-        match reply.get(4).copied() {
-            Some(RVERSION) => self.directories = Directories::new(),
-            Some(RATTACH) => self.directories.attach(),
+        match reply_type_of(reply) {
+            Some(RKind::Version) => self.directories = Directories::new(),
+            Some(RKind::Attach) => self.directories.attach(),
             _ => {}
         }
         if self.unanswered > 0 {

@@ -7,7 +7,7 @@ use crate::log::Log;
 use crate::wall_clock::WallClock;
 use cs_server::{Connection, Server, serve_connection};
 use cs_session::Counted;
-use cs_shared::AnyScene;
+use cs_shared::Served;
 use std::alloc::Global;
 use std::io::{self, Read, Write};
 use std::net::TcpStream;
@@ -26,26 +26,26 @@ fn set_up(stream: &TcpStream) -> io::Result<()> {
 }
 
 /// Serves the stream to its end, and closes it.
-fn serve_stream<R: Wait + Clock, RW: Read + Write + Drop>(
+fn serve_stream<S: Served, R: Wait + Clock, RW: Read + Write + Drop>(
     rt: &R,
     alloc: Global,
-    server: &Server<AnyScene>,
+    server: &Server<S>,
     stream: RW,
-) -> Connection<AnyScene> {
+) -> Connection<S> {
     let mut stream = Counted::new(stream);
     let mut clock = WallClock::new(rt);
     serve_connection(rt, alloc, server, &mut stream, &mut clock)
 }
 
 /// Serves the stream to its end; its messages are told, if the log tells these.
-fn serve_heard<R: Wait + Clock, E: Write, RW: Read + Write + Drop>(
+fn serve_heard<S: Served, R: Wait + Clock, E: Write, RW: Read + Write + Drop>(
     rt: &R,
     alloc: Global,
-    server: &Server<AnyScene>,
+    server: &Server<S>,
     stream: RW,
     conn: u32,
     log: Log<E>,
-) -> Connection<AnyScene> {
+) -> Connection<S> {
     if log.verbose {
         let heard = Heard::new(rt, alloc, stream, conn, log);
         serve_stream(rt, alloc, server, heard)
@@ -56,15 +56,15 @@ fn serve_heard<R: Wait + Clock, E: Write, RW: Read + Write + Drop>(
 
 /// Serves the connection of that number to its end, and tells how it ended; its messages too, if the log
 /// tells these. None where its socket can't be set up: then nothing was read.
-pub(crate) fn serve<R: Wait + Clock, E: Write>(
+pub(crate) fn serve<S: Served, R: Wait + Clock, E: Write>(
     rt: &R,
     alloc: Global,
-    server: &Server<AnyScene>,
+    server: &Server<S>,
     stream: TcpStream,
     conn: u32,
     client: Client,
     log: Log<E>,
-) -> Option<Connection<AnyScene>> {
+) -> Option<Connection<S>> {
     if set_up(&stream).is_err() {
         log.not_set_up(rt, conn);
         return None;

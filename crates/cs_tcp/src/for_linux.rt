@@ -1,18 +1,12 @@
 //! A connection's stream, as Linux's own client needs it.
 
-use crate::asked::{Asked, Outcome};
+use crate::asked::{Asked, Outcome, reply_type_of, type_of};
 use cs_linux::{reply_to_linux, request_of_linux};
 use cs_names::limits::MESSAGE_BYTES;
-use cs_wire::{Framer, RMessage, TMessage, decode, decode_r, encode, encode_t};
+use cs_wire::{Framer, RKind, RMessage, TKind, TMessage, decode, decode_r, encode, encode_t};
 use std::alloc::Global;
 use std::collections::VecDeque;
 use std::io::{self, Read, Write};
-
-/// The number of a Twstat (stat(5)).
-const TWSTAT: u8 = 126;
-
-/// The number of an Rerror (error(5)).
-const RERROR: u8 = 107;
 
 /// A stream to a client of Linux: what is read from it is what the client means, and what is written to
 /// it is told in texts that the client knows. A message goes on once it is whole; one that memory is
@@ -34,7 +28,7 @@ pub(crate) struct ForLinux<RW> {
 
 /// What the client means by a Twstat. None of any other request.
 fn meant_by(alloc: Global, request: &[u8]) -> Option<TMessage> {
-    if request.get(4).copied() != Some(TWSTAT) {
+    if type_of(request) != Some(TKind::Wstat) {
         return None;
     }
     Some(request_of_linux(decode(alloc, request).ok()?))
@@ -42,7 +36,7 @@ fn meant_by(alloc: Global, request: &[u8]) -> Option<TMessage> {
 
 /// What the client is told of an Rerror. None of any other reply.
 fn told_of(alloc: Global, reply: &[u8]) -> Option<RMessage> {
-    if reply.get(4).copied() != Some(RERROR) {
+    if reply_type_of(reply) != Some(RKind::Error) {
         return None;
     }
     Some(reply_to_linux(decode_r(alloc, reply).ok()?))

@@ -3,7 +3,7 @@
 use crate::log::Log;
 use cs_publish::Gate;
 use cs_server::Server;
-use cs_shared::AnyScene;
+use cs_shared::Served;
 use std::io::Write;
 use std::sync::Wait;
 
@@ -12,13 +12,13 @@ const STATES: u32 = 1_024;
 
 /// Tells, as states are made, how many are published by then, if the log tells progress.
 #[derive(Drop)]
-pub(crate) struct Progress<'a, R, E> {
+pub(crate) struct Progress<'a, S: Served, R, E> {
     pub(crate) rt: &'a R,
-    pub(crate) server: &'a Server<AnyScene>,
+    pub(crate) server: &'a Server<S>,
     pub(crate) log: Log<'a, E>,
 }
 
-impl<R: Wait + Sync, E: Write + Send> Gate for Progress<'_, R, E> {
+impl<S: Served + Send + Sync, R: Wait + Sync, E: Write + Send> Gate for Progress<'_, S, R, E> {
     fn before(&self, number: u32) {
         if number == 0 || number % STATES != 0 {
             return;

@@ -1,24 +1,27 @@
 //! The states of a server's scene are published.
+ghost use Rattle.cs_shared.specs.Serving.{IsOnly};
 
 use crate::log::Log;
 use crate::progress::Progress;
 use cs_publish::{PublishAllFault, publish_into};
 use cs_serve::ProgramFault;
 use cs_server::Server;
-use cs_shared::AnyScene;
+use cs_shared::Served;
 use std::alloc::Global;
 use std::io::Write;
 use std::sync::Wait;
 use std::thread::Threads;
 
 /// Publishes all states by so many workers: whether it did. Else it told why.
-pub(crate) fn publish<R: Threads + Wait + Sync, E: Write + Send>(
+pub(crate) fn publish<S: Served + Send + Sync, R: Threads + Wait + Sync, E: Write + Send>(
     rt: &R,
     alloc: Global,
-    server: &Server<AnyScene>,
+    server: &Server<S>,
     workers: u32,
     log: Log<E>,
-) -> bool {
+) -> bool
+    requires { IsOnly S.is_scene server.now }
+{
     let progress = Progress { rt, server, log };
     let fault = match publish_into(rt, alloc, server.registry(), workers, &progress) {
         Ok(states) => {

@@ -4,7 +4,7 @@ ghost use Rattle.cs_users.specs.Reading.{users_in};
 ghost use Rattle.cs_tcp.specs.Reloads.{Loads};
 
 use crate::log::Log;
-use cs_shared::{AnyScene, SharedRegistry};
+use cs_shared::{Served, SharedRegistry};
 use cs_users::{Users, UsersFault};
 use std::alloc::{AllocError, Global};
 use std::fs;
@@ -38,10 +38,10 @@ impl<R: Files> ReadsFiles for R {
 
 /// Loads the users that the bytes of a users file spell, if these aren't the last ones; now they are. Where
 /// memory is wanting the last ones stay, so that these are tried again.
-fn load(
+fn load<S: Served>(
     rt: &impl Wait,
     alloc: Global,
-    registry: &SharedRegistry<AnyScene>,
+    registry: &SharedRegistry<S>,
     last: &mut Vec<u8>,
     bytes: Vec<u8>,
 ) -> Result<(), UsersFault>
@@ -84,11 +84,11 @@ impl Reloading {
 
     /// Reads the file, and loads its users if it changed. One thread at a time, so that what the file was
     /// earlier is never loaded later.
-    fn read<R: ReadsFiles + Wait>(
+    fn read<S: Served, R: ReadsFiles + Wait>(
         &self,
         rt: &R,
         alloc: Global,
-        registry: &SharedRegistry<AnyScene>,
+        registry: &SharedRegistry<S>,
     ) -> Result<(), ReloadFault> {
         let mut last = self.last.lock(rt);
         match rt.read_file(alloc, self.path.as_str()) {
@@ -102,11 +102,11 @@ impl Reloading {
 
     /// Reads the file again: runs that are made from now on have its users. Else it is told why the list
     /// stays.
-    pub(crate) fn again<R: ReadsFiles + Wait, E: Write>(
+    pub(crate) fn again<S: Served, R: ReadsFiles + Wait, E: Write>(
         &self,
         rt: &R,
         alloc: Global,
-        registry: &SharedRegistry<AnyScene>,
+        registry: &SharedRegistry<S>,
         log: Log<E>,
     ) {
         let path = self.path.as_str();

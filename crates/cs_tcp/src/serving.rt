@@ -1,5 +1,7 @@
 //! The command `serve`, after its files were read.
-ghost use Rattle.std.specs.Prelude.{◌≤◌};
+ghost use Rattle.std.specs.Prelude.{◌≡◌, ◌≤◌, IfOk};
+ghost use Rattle.std.specs.Arc.{arc_value};
+ghost use Rattle.cs_shared.specs.Serving.{IsOnly, ServesAll};
 
 use crate::address::Address;
 use crate::client::Client;
@@ -10,11 +12,13 @@ use crate::reloading::{ReadsFiles, Reloading};
 use crate::site::Site;
 use crate::slots::{start_slots, start_watch};
 use crate::summary::print_runs;
+use cs_plan::Scene;
 use cs_serve::{Inputs, ProgramFault, scene_of, users_of};
 use cs_server::Server;
-use cs_shared::{AnyScene, SharedRegistry};
+use cs_shared::{Served, SharedRegistry};
 use std::alloc::Global;
 use std::io::{Read, Write};
+use std::marker::Brand;
 use std::net::{Net, TcpListener, TcpStream};
 use std::rt::Clock;
 use std::sync::{Arc, Mutex, Wait};
@@ -43,11 +47,18 @@ pub struct Serving<'a> {
     pub progress: bool,
 }
 
-/// The server of the inputs: no state is published.
-pub(crate) fn server_of(alloc: Global, inputs: &Inputs) -> Result<Server<AnyScene>, ProgramFault> {
-    let scene = scene_of(alloc, inputs)?;
+/// A server of the scene with the users of the inputs: no state is published.
+pub(crate) fn server_of<S: Served>(
+    alloc: Global,
+    scene: Arc<Scene>,
+    inputs: &Inputs,
+) -> Result<Server<S>, ProgramFault>
+    requires here { S.is_scene (arc_value scene) }
+    requires serves { ServesAll S.serves (arc_value scene) }
+    ensures { IfOk result (λ server. server ≡ arc_value scene) }
+{
     let users = users_of(alloc, inputs.users)?;
-    let (Ok(scene), Ok(users)) = (Arc::new(alloc, scene), Arc::new(alloc, users)) else {
+    let Ok(users) = Arc::new(alloc, users) else {
         return Err(ProgramFault::Memory);
     };
     match SharedRegistry::new(alloc, scene, users) {
@@ -94,16 +105,14 @@ fn listen<R: Net<Listener = TcpListener, Stream = TcpStream>, W: Write>(
 
 /// Accepts connections and serves each in a thread until all have ended, and publishes meanwhile if that
 /// is still to be done: whether no fault was told.
-fn serve_each<'s, R, I: Read + Drop + Send, E: Write + Send>(
-    rt: &'s R,
-    alloc: Global,
-    site: &'s Site,
-    serving: Serving,
-    input: I,
-    log: Log<'s, E>,
-) -> bool
-where
+fn serve_each<
+    's,
+    S: Served + Send + Sync + 's,
     R: Threads + Wait + Clock + ReadsFiles + Sync,
+    I: Read + Drop + Send,
+    E: Write + Send,
+>(rt: &'s R, alloc: Global, site: &'s Site<S>, serving: Serving, input: I, log: Log<'s, E>) -> bool
+    requires { IsOnly S.is_scene site.now.server }
 {
     let Serving {
         workers,
@@ -113,29 +122,39 @@ where
         client,
         ..
     } = serving;
-    thread::scope(thread::scope_env(), rt, move |scope| {
-        if !start_watch(scope, rt, again, input, &site.entrance, log) {
-            return false;
-        }
-        if ready {
-            return start_slots(scope, rt, alloc, site, connections, client, log);
-        }
-        let publisher = scope.spawn(move || publish(rt, alloc, &site.server, workers, log));
-        let Ok(publisher) = publisher else {
-            log.fault(rt, &ProgramFault::Memory);
-            site.entrance.close(rt);
-            return false;
-        };
-        let started = start_slots(scope, rt, alloc, site, connections, client, log);
-        publisher.join(rt) && started
-    })
+    thread::scope(
+        thread::scope_env(),
+        rt,
+        move |scope| -> bool
+            requires { IsOnly S.is_scene site.now.server }
+        {
+            if !start_watch(scope, rt, again, input, &site.entrance, log) {
+                return false;
+            }
+            if ready {
+                return start_slots(scope, rt, alloc, site, connections, client, log);
+            }
+            let publisher = scope.spawn(
+                move || -> bool
+                    requires { IsOnly S.is_scene site.now.server }
+                { publish(rt, alloc, &site.server, workers, log) },
+            );
+            let Ok(publisher) = publisher else {
+                log.fault(rt, &ProgramFault::Memory);
+                site.entrance.close(rt);
+                return false;
+            };
+            let started = start_slots(scope, rt, alloc, site, connections, client, log);
+            publisher.join(rt) && started
+        },
+    )
 }
 
-/// The command, but for the fault that ends it: that is given, and not told yet. Else whether no fault
-/// was told.
-fn serve<R, I: Read + Drop + Send, W: Write, E: Write + Send>(
+/// Serves a scene, the only one that may be the server's, as `serve` does.
+fn serve_scene<S: Served + Send + Sync, R, I: Read + Drop + Send, W: Write, E: Write + Send>(
     rt: &R,
     alloc: Global,
+    scene: Arc<Scene>,
     inputs: &Inputs,
     serving: Serving,
     input: I,
@@ -144,8 +163,11 @@ fn serve<R, I: Read + Drop + Send, W: Write, E: Write + Send>(
 ) -> Result<bool, ProgramFault>
 where
     R: Net<Listener = TcpListener, Stream = TcpStream> + Threads + Wait + Clock + ReadsFiles + Sync,
+    requires here { S.is_scene (arc_value scene) }
+    requires only { IsOnly S.is_scene (arc_value scene) }
+    requires serves { ServesAll S.serves (arc_value scene) }
 {
-    let server = server_of(alloc, inputs)?;
+    let server = server_of::<S>(alloc, scene, inputs)?;
     let reloading = reloading_of(alloc, inputs, serving)?;
     if serving.ready && !publish(rt, alloc, &server, serving.workers, log) {
         return Ok(false);
@@ -162,6 +184,27 @@ where
     let (server, passes) = site.into_parts();
     print_runs(rt, alloc, &server, &passes, out)?;
     Ok(served && !failed)
+}
+
+/// The command, but for the fault that ends it: that is given, and not told yet. Else whether no fault
+/// was told.
+fn serve<R, I: Read + Drop + Send, W: Write, E: Write + Send>(
+    rt: &R,
+    alloc: Global,
+    inputs: &Inputs,
+    serving: Serving,
+    input: I,
+    out: &mut W,
+    log: Log<E>,
+) -> Result<bool, ProgramFault>
+where
+    R: Net<Listener = TcpListener, Stream = TcpStream> + Threads + Wait + Clock + ReadsFiles + Sync,
+{
+    let scene = scene_of(alloc, inputs)?;
+    let Ok(scene) = Arc::new(alloc, scene) else {
+        return Err(ProgramFault::Memory);
+    };
+    serve_scene::<Brand, R, I, W, E>(rt, alloc, scene, inputs, serving, input, out, log)
 }
 
 /// The command `serve`: publishes all states, before it listens or meanwhile, prints the address that it

@@ -7,6 +7,7 @@ use crate::log::Log;
 use crate::reloading::ReadsFiles;
 use crate::site::Site;
 use cs_serve::ProgramFault;
+use cs_shared::Served;
 use std::alloc::Global;
 use std::io::{self, Read, Write};
 use std::rt::Clock;
@@ -15,10 +16,10 @@ use std::thread::Scope;
 
 /// Serves connections until no more come in, and keeps the passes of each. Before one is served the users
 /// file is read again, if it is to be.
-fn serve_slot<R: Wait + Clock + ReadsFiles, E: Write>(
+fn serve_slot<S: Served, R: Wait + Clock + ReadsFiles, E: Write>(
     rt: &R,
     alloc: Global,
-    site: &Site,
+    site: &Site<S>,
     client: Client,
     log: Log<E>,
 ) {
@@ -46,11 +47,17 @@ fn serve_slot<R: Wait + Clock + ReadsFiles, E: Write>(
 
 /// Starts so many threads that serve connections: whether it did. Else it told why, and closed the
 /// entrance.
-pub(crate) fn start_slots<'s, Env, R: Wait + Clock + ReadsFiles + Sync, E: Write + Send>(
+pub(crate) fn start_slots<
+    's,
+    Env,
+    S: Served + Send + Sync + 's,
+    R: Wait + Clock + ReadsFiles + Sync,
+    E: Write + Send,
+>(
     scope: &'s Scope<'s, Env>,
     rt: &'s R,
     alloc: Global,
-    site: &'s Site,
+    site: &'s Site<S>,
     slots: u32,
     client: Client,
     log: Log<'s, E>,

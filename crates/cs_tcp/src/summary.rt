@@ -4,7 +4,7 @@ use cs_journal::AuditFault;
 use cs_registry::RunKey;
 use cs_serve::ProgramFault;
 use cs_server::{GivenPasses, Server};
-use cs_shared::{AnyScene, NamedRun};
+use cs_shared::{NamedRun, Served};
 use std::alloc::Global;
 use std::fmt;
 use std::io::Write;
@@ -26,9 +26,9 @@ impl fmt::Display for Verdict {
 }
 
 /// How many entries the run's journal has, and what its audit comes to.
-fn audit<R: Wait>(
+fn audit<S: Served, R: Wait>(
     rt: &R,
-    named: &NamedRun<AnyScene>,
+    named: &NamedRun<S>,
     passes: &GivenPasses,
 ) -> (usize, Result<(), AuditFault>) {
     let passes = match RunKey::read(named.run().number(), named.name().as_bytes()) {
@@ -42,10 +42,10 @@ fn audit<R: Wait>(
 
 /// Prints a line a run, by the numbers of their states and then by name: its key, how many entries its
 /// journal has, and what its audit by these passes comes to.
-pub(crate) fn print_runs<R: Wait, W: Write>(
+pub(crate) fn print_runs<S: Served, R: Wait, W: Write>(
     rt: &R,
     alloc: Global,
-    server: &Server<AnyScene>,
+    server: &Server<S>,
     passes: &GivenPasses,
     out: &mut W,
 ) -> Result<(), ProgramFault> {

@@ -1,7 +1,7 @@
 -- The paths below a directory stand right after it in the order of paths.
 use Rattle.std.proofs.Common.{◌≡◌, ◌≢◌, length-append, ◌<◌, ◌||◌, ◌&&◌, Bool, true, false, not, List, [], ◌∷◌, ◌++◌, length, drop, filter, nat_lt, refl, sym, ap, ◌∙◌, arith}
 use Rattle.std.proofs.lemmas.List.{append-nil}
-use Rattle.std.proofs.lemmas.Bool.{false≢true}
+use Rattle.std.proofs.lemmas.Bool.{false≢true, and_parts}
 use Rattle.std.proofs.lemmas.Bool.Decides.{nat_tests}
 use Rattle.std.proofs.lemmas.Slice.Eq.{bytes_eq-Decides, starts_is}
 use Rattle.std.specs.declared.cmp.Ordering.{Ordering}
@@ -48,10 +48,6 @@ before_below : (d : Path) (x : NameBytes) (s : Path) → path_cmp d (d ++ x ∷ 
 before_below [] x s = refl
 before_below (y ∷ d) x s = ap (λ o. ordering_then o (path_cmp d (d ++ x ∷ s))) (tied_itself names_total y) ∙ before_below d x s
 
-both_true : (a b : Bool) → a && b ≡ true → (a ≡ true) × (b ≡ true)
-both_true true b is = (refl, is)
-both_true false b is = absurd (false≢true is)
-
 not_less : Less ≢ Greater
 not_less e = false≢true (ap is_gt e)
 
@@ -81,7 +77,7 @@ module _ (d : Path) where
 
   after_below : (p : Path) → is_below d p ≡ true → path_cmp d p ≡ Less
   after_below p is =
-      let both : (nat_lt (length d) (length p) ≡ true) × (starts_with same_bytes p d ≡ true) = both_true _ _ is in
+      let both : (nat_lt (length d) (length p) ≡ true) × (starts_with same_bytes p d ≡ true) = and_parts _ _ is in
       let more : length d < length p = grind (arith, nat_tests, both.0) in
       longer p (drop (length d) p) (begins p both.1) more
 
@@ -97,7 +93,7 @@ module _ (d : Path) where
   -- what is between the path and one below it
   between : (p q : Path) → path_cmp d p ≡ Less → path_cmp p q ≡ Less → is_below d q ≡ true → starts_with same_bytes p d ≡ true
   between p q low high below =
-      let is = begins q (both_true _ _ below).1 in
+      let is = begins q (and_parts _ _ below).1 in
       let there = below_between d (drop (length d) q) p low (λ g. not_less (sym high ∙ ap (path_cmp p) is ∙ g)) in
       begins_of p there.0 there.1
 

@@ -1,6 +1,6 @@
 -- An operation that is taken is legal.
 use Rattle.std.proofs.Common.{◌≡◌, ◌≢◌, ◌⊎◌, ℕ, ◌+◌, ◌-◌, ◌<◌, ◌≤◌, ◌||◌, ◌&&◌, Bool, true, false, List, [], ◌∷◌, ◌++◌, length, drop, cond, inl, inr, ⊎_elim, Option, None, Some, Ok, refl, sym, ap, ◌∙◌, subst, arith, length-take}
-use Rattle.std.proofs.lemmas.Bool.{false≢true}
+use Rattle.std.proofs.lemmas.Bool.{false≢true, or_parts}
 use Rattle.std.proofs.lemmas.Bool.Decides.{nat_tests}
 use Rattle.std.proofs.lemmas.List.{take-append-drop}
 use Rattle.std.proofs.lemmas.Option.{slice_get-get_or}
@@ -124,13 +124,9 @@ pub record IsTaken (m : Paths) (sizes : List ℕ) (made : ℕ) (o : Operation) :
 short_by : (p : Path) → has_too_many_names p ≡ false → length p ≤ TRACE_PATH_NAMES
 short_by p is = grind (arith, nat_tests)
 
-pub not_either : (a b : Bool) → a || b ≡ false → (a ≡ false) × (b ≡ false)
-not_either true b is = absurd (false≢true (sym is))
-not_either false b is = (refl, is)
-
 pub limits_by : (made : ℕ) (p : Path) → is_too_much made p ≡ false → (length p ≤ TRACE_PATH_NAMES) × (made + 1 ≤ TREE_RECORDS)
 limits_by made p is =
-    let both = not_either (has_too_many_names p) _ is in
+    let both = or_parts (has_too_many_names p) _ is in
     let few : made + 1 ≤ TREE_RECORDS = grind (arith, nat_tests, both.1) in
     (short_by p both.0, few)
 
@@ -159,7 +155,7 @@ found_is : {X : Type 0} (o : Option X) (x : X) → found o ≡ Ok x → o ≡ So
 found_is None x is = absurd (cc)
 found_is (Some y) x is = let same : y ≡ x = cc in ap Some same
 
-within : (size : ℕ) → nat_lt FILE_BYTES size ≡ false → size ≤ FILE_BYTES
+pub within : (size : ℕ) → nat_lt FILE_BYTES size ≡ false → size ≤ FILE_BYTES
 within size is = grind (arith, nat_tests)
 
 module _ (m : Paths) (sizes : List ℕ) (made : ℕ) (a : Attributes) (known : AreKnown m sizes) (rights : AreOctal a) (few : made ≤ TREE_RECORDS) where

@@ -1,5 +1,6 @@
 -- What each line that is taken keeps.
 use Rattle.std.proofs.Common.{◌≡◌, ◌≢◌, ◌⊎◌, ℕ, suc, zero, ◌+◌, ◌<◌, ◌≤◌, true, false, cond, List, [], ◌∷◌, ◌++◌, length, map, inl, inr, ⊎_elim, Option, None, Some, option_map, refl, sym, ap, ◌∙◌, subst, arith, length-append}
+use Rattle.std.proofs.lemmas.Option.{same_Some}
 use Rattle.std.proofs.lemmas.List.{length-map, map-append}
 use Rattle.std.specs.FinMap.{FinMap, get, insert, get-insert, len, len-insert, same_map}
 use Rattle.std.specs.List.{slice_get, sum_by}
@@ -58,9 +59,6 @@ pub record IsSound (s : State) : Type 0 where
 
 -- ---- lists that grow
 
-pub some_same : {X : Type 0} (a b : X) → Some a ≡ Some b → a ≡ b
-some_same a b is = cc
-
 slice_get-push_old : {X : Type 0} (xs : List X) (x : X) (n : ℕ) (y : X) → slice_get xs n ≡ Some y → slice_get (xs ++ x ∷ []) n ≡ Some y
 slice_get-push_old [] x n y is = absurd (cc)
 slice_get-push_old (z ∷ xs) x zero y is = is
@@ -71,7 +69,7 @@ slice_get-push_new [] x = refl
 slice_get-push_new (z ∷ xs) x = slice_get-push_new xs x
 
 slice_get-push : {X : Type 0} (xs : List X) (x : X) (n : ℕ) (y : X) → slice_get (xs ++ x ∷ []) n ≡ Some y → (slice_get xs n ≡ Some y) ⊎ ((n ≡ length xs) × (y ≡ x))
-slice_get-push [] x zero y is = inr (refl, sym (some_same x y is))
+slice_get-push [] x zero y is = inr (refl, sym (same_Some x y is))
 slice_get-push [] x (suc n) y is = absurd (cc)
 slice_get-push (z ∷ xs) x zero y is = inl is
 slice_get-push (z ∷ xs) x (suc n) y is = ⊎_elim (λ old. inl old) (λ new. inr (ap suc new.0, new.1)) (slice_get-push xs x n y is)
@@ -103,7 +101,7 @@ pub each_of : {X : Type 0} (m : FinMap path_cmp X) (p : Path) (v : X) (P : Path 
 each_of m p v P new old q w found = ⊎_elim
     (λ (one : (eq_by_cmp path_cmp q p ≡ true) × (q ≡ p)).
     let here : Some v ≡ Some w = sym (get-insert_same path_total path_exact m p v) ∙ ap (get (insert m p v)) (sym one.1) ∙ found in
-    subst (λ x. P x w) (sym one.1) (subst (λ x. P p x) (some_same v w here) new))
+    subst (λ x. P x w) (sym one.1) (subst (λ x. P p x) (same_Some v w here) new))
     (λ (two : (eq_by_cmp path_cmp q p ≡ false) × (q ≢ p)). old q w two.1 (sym (get-insert_other path_total path_exact m q p v two.1) ∙ found))
     (path_cases q p)
 
@@ -119,7 +117,7 @@ HaveNumbers files m = (n : ℕ) (q : Path) → slice_get files n ≡ Some q → 
 abbrev AreFound : List Path → Paths → Type 0
 AreFound files m = (n : ℕ) (q : Path) → get m q ≡ Some (File n) → slice_get files n ≡ Some q
 
-not_file : {X : Type 0} (n : ℕ) → Directory ≡ File n → X
+pub not_file : {X : Type 0} (n : ℕ) → Directory ≡ File n → X
 not_file n is = absurd (cc)
 
 pub file_number : (a b : ℕ) → File a ≡ File b → a ≡ b

@@ -1,6 +1,7 @@
 -- Each line that is taken leaves a sound state.
 use Rattle.std.proofs.Common.{◌≡◌, ◌≢◌, ℕ, zero, suc, ◌+◌, ◌<◌, ◌≤◌, ◌==◌, ◌||◌, Bool, true, false, List, [], ◌∷◌, ◌++◌, length, ⊎_elim, Option, option_map, None, Some, refl, sym, ap, ◌∙◌, subst, arith, length-append, Result, Ok, Err}
-use Rattle.std.proofs.lemmas.Bool.{false≢true, eqb-true, eq-eqb}
+use Rattle.std.proofs.lemmas.Option.{same_Some}
+use Rattle.std.proofs.lemmas.Bool.{false≢true, eqb-true, eq-eqb, or_parts}
 use Rattle.std.proofs.lemmas.Bool.Decides.{nat_tests}
 use Rattle.std.proofs.lemmas.List.{length-set}
 use Rattle.std.proofs.lemmas.List.Sums.{fold_push}
@@ -34,8 +35,8 @@ use Rattle.cs_trace.specs.declared.operation.Rights.{Rights}
 use Rattle.cs_trace.specs.declared.operation.Target.TheVariants as targets
 use Rattle.cs_trace.specs.declared.version.Version.{Version}
 use Rattle.cs_trace.proofs.Octal.{HasOctal, IsOctal, line_octal}
-use Rattle.cs_trace.proofs.Resolved.{AreKnown, AreOctal, IsTaken, MakesShort, free_is, kept_octal, limits_by, not_either, resolve_taken}
-use Rattle.cs_trace.proofs.Sound.{IsSound, each_of, file_number, pushed_octal, some_same, sound-directory, sound-file, start_of, sizes_of, stays}
+use Rattle.cs_trace.proofs.Resolved.{AreKnown, AreOctal, IsTaken, MakesShort, free_is, kept_octal, limits_by, resolve_taken, within}
+use Rattle.cs_trace.proofs.Sound.{IsSound, each_of, file_number, pushed_octal, sound-directory, sound-file, start_of, sizes_of, stays, not_file}
 use Rattle.cs_trace.proofs.Within.{good, limit_by, then_by, value_by}
 
 -- ---- one operation more
@@ -80,16 +81,13 @@ known_of m sizes all p file there = all p (File file) there file refl
 more_known : (m : Paths) (sizes more : List ℕ) → length sizes ≤ length more → AreKnown m sizes → AreKnown m more
 more_known m sizes more longer known p file there = let low = known p file there in omega arith
 
-no_number : {X : Type 0} (n : ℕ) → Directory ≡ File n → X
-no_number n is = absurd (cc)
-
 known_after : (m : Paths) (sizes : List ℕ) (o : Resolved) → AreKnown m sizes → IsLegal m sizes o → AreKnown (paths_after m o) (sizes_after sizes o)
 known_after m sizes (op.Creat p file rights) known fits =
     known_of (insert m p (File file)) (sizes ++ 0 ∷ []) (each_of m p (File file) (IsBelow (length (sizes ++ 0 ∷ [])))
     (λ n is. let same = file_number file n is in omega (arith, same, fits.1, length-append sizes (0 ∷ [])))
     (λ q node apart there n is. let low = all_below m sizes known q node there n is in omega (arith, low, length-append sizes (0 ∷ []))))
 known_after m sizes (op.Mkdir p rights) known fits =
-    known_of (insert m p Directory) sizes (each_of m p Directory (IsBelow (length sizes)) (λ n is. no_number n is) (λ q node apart there. all_below m sizes known q node there))
+    known_of (insert m p Directory) sizes (each_of m p Directory (IsBelow (length sizes)) (λ n is. not_file n is) (λ q node apart there. all_below m sizes known q node there))
 known_after m sizes (op.Unlink p) known fits = λ q file there. known q file (stood m p q (File file) there)
 known_after m sizes (op.Rmdir p) known fits = λ q file there. known q file (stood m p q (File file) there)
 known_after m sizes (op.Rename p q) known fits = known_of (moved p q m) sizes (moved_each m p q (IsBelow (length sizes)) (all_below m sizes known) (λ node low. low) (get m p) refl)
@@ -115,7 +113,7 @@ counted_after sizes made op.Say few = omega arith
 set_octal : (rs : List Rights) (k : ℕ) (r : Rights) → ((n : ℕ) (q : Rights) → slice_get rs n ≡ Some q → q.permissions ≤ 511) → r.permissions ≤ 511
     → (n : ℕ) (q : Rights) → slice_get (slice_set rs k r) n ≡ Some q → q.permissions ≤ 511
 set_octal [] k r old octal n q at = old n q at
-set_octal (x ∷ rs) zero r old octal zero q at = subst (λ (w : Rights). w.permissions ≤ 511) (some_same r q at) octal
+set_octal (x ∷ rs) zero r old octal zero q at = subst (λ (w : Rights). w.permissions ≤ 511) (same_Some r q at) octal
 set_octal (x ∷ rs) zero r old octal (suc n) q at = old (suc n) q at
 set_octal (x ∷ rs) (suc k) r old octal zero q at = old zero q at
 set_octal (x ∷ rs) (suc k) r old octal (suc n) q at = set_octal rs k r (λ m w there. old (suc m) w there) octal n q at
@@ -205,18 +203,15 @@ module _ (s : State) (sound : IsSound s) (made : s.made ≢ 0) where
   new_named (Some (x ∷ names)) false p is = absurd (cc)
   new_named (Some (x ∷ names)) true p is = λ none. let same : good (x ∷ names) ≡ Ok [] = is ∙ ap good none in absurd (cc)
 
-  small_by : (size : ℕ) → nat_lt FILE_BYTES size ≡ false → size ≤ FILE_BYTES
-  small_by size is = grind (arith, nat_tests)
-
   sound-start_step : (l : StartLine) → HasOctal l.claims → s.operations ≡ [] → (n : State) → start_step s l ≡ Ok n → IsSound n
   sound-start_step l octal none =
       then_by (legal (new_path_of l.path l.claims)) _ IsSound (λ p path. then_by (free_at s.paths p) _ IsSound (λ u free. limit_by (is_too_much s.made p || nat_lt FILE_BYTES (size_of l.content)) (with_start s p l.claims l.content) IsSound (λ large.
       let same : s.paths ≡ start_of s = sound.paths ∙ ap (paths_after_all (start_of s)) none in
       let parts = free_is (get s.paths (parent_path p)) (get s.paths p) u free in
-      let both = not_either (is_too_much s.made p) _ large in
+      let both = or_parts (is_too_much s.made p) _ large in
       let limits = limits_by s.made p both.0 in
       sound-start none p l.claims octal (new_named (path_of l.path) (are_user_names l.claims) p path)
-      (ap (λ m. get m p) (sym same) ∙ parts.0) (ap (λ m. get m (parent_path p)) (sym same) ∙ parts.1) limits.0 limits.1 l.content (small_by _ both.1))))
+      (ap (λ m. get m p) (sym same) ∙ parts.0) (ap (λ m. get m (parent_path p)) (sym same) ∙ parts.1) limits.0 limits.1 l.content (within _ both.1))))
 
   begun_by : (t : Bool) (l : StartLine) → HasOctal l.claims → length s.operations == 0 ≡ t → (n : State) → (if t then start_step s l else Err Syntax) ≡ Ok n → IsSound n
   begun_by true l octal is n does = sound-start_step l octal (none_left is) n does

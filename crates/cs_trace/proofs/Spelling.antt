@@ -1,9 +1,11 @@
 -- The text of a path, cut before its last name.
 use Rattle.std.proofs.Common.{◌≡◌, ◌≢◌, ℕ, ◌<◌, ◌==◌, ◌||◌, Bool, true, false, List, [], ◌∷◌, ◌++◌, length, refl, sym, ap, subst, ◌∙◌, arith, length-append}
-use Rattle.std.proofs.lemmas.Bool.{false≢true}
+use Rattle.std.proofs.lemmas.Bool.{ne_eqb, or_parts}
+use Rattle.std.proofs.lemmas.Option.{same_Some}
 use Rattle.std.specs.List.{list_any}
 use Rattle.std.specs.Prelude.{if◌then◌else◌, IfSome, Option, Some, None, option_and_then, unwrap_or, Result, Ok, Err}
 use Rattle.std.specs.Result.{result_ok}
+use Rattle.cs_names.proofs.Cutting.{pieces-append}
 use Rattle.cs_names.proofs.Joined.{parent_of-snoc}
 use Rattle.cs_names.specs.Legal.{IsLegalName, name_in}
 use Rattle.cs_names.specs.Laws.{name_in-legal}
@@ -14,48 +16,14 @@ use Rattle.cs_names.specs.declared.fault.NameFault.TheVariants.{Forbidden}
 use Rattle.cs_tree_model.specs.Tree.{Path, parent_path}
 use Rattle.cs_trace.specs.Names.{below_root, entry_path_of, path_of, spelled_path}
 
--- there is a first piece
-record HasFirst (cut : List (List ℕ)) : Type 0 where
-  first : List ℕ
-  others : List (List ℕ)
-  is : cut ≡ first ∷ others
-
-put_first-some : (b : ℕ) (cut : List (List ℕ)) → HasFirst (put_first b cut)
-put_first-some b [] = record { first = b ∷ []; others = []; is = refl }
-put_first-some b (p ∷ ps) = record { first = b ∷ p; others = ps; is = refl }
-
-some_by : (t : Bool) (b : ℕ) (bs : List ℕ) → HasFirst (if t then [] ∷ pieces 47 bs else put_first b (pieces 47 bs))
-some_by true b bs = record { first = []; others = pieces 47 bs; is = refl }
-some_by false b bs = put_first-some b (pieces 47 bs)
-
-pieces-some : (bs : List ℕ) → HasFirst (pieces 47 bs)
-pieces-some [] = record { first = []; others = []; is = refl }
-pieces-some (b ∷ bs) = some_by (b == 47) b bs
-
-append_by : (t : Bool) (x : ℕ) (a b : List ℕ) → pieces 47 (a ++ 47 ∷ b) ≡ pieces 47 a ++ pieces 47 b
-    → (if t then [] ∷ pieces 47 (a ++ 47 ∷ b) else put_first x (pieces 47 (a ++ 47 ∷ b))) ≡ (if t then [] ∷ pieces 47 a else put_first x (pieces 47 a)) ++ pieces 47 b
-append_by true x a b rest = ap (λ (cut : List (List ℕ)). [] ∷ cut) rest
-append_by false x a b rest =
-    let some = pieces-some a in
-    ap (put_first x) rest ∙ ap (λ cut. put_first x (cut ++ pieces 47 b)) some.is ∙ sym (ap (λ cut. put_first x cut ++ pieces 47 b) some.is)
-
--- cut at a slash
-pieces-append : (a b : List ℕ) → pieces 47 (a ++ 47 ∷ b) ≡ pieces 47 a ++ pieces 47 b
-pieces-append [] b = refl
-pieces-append (x ∷ a) b = append_by (x == 47) x a b (pieces-append a b)
-
-or_false : (a b : Bool) → a || b ≡ false → (a ≡ false) × (b ≡ false)
-or_false true b is = absurd (false≢true (sym is))
-or_false false b is = (refl, is)
-
 pieces-plain : (bs : List ℕ) → list_any (λ c. c == 47 || c == 0) bs ≡ false → pieces 47 bs ≡ bs ∷ []
 pieces-plain [] is = refl
 pieces-plain (b ∷ bs) is =
-    let both = or_false (b == 47 || b == 0) (list_any (λ c. c == 47 || c == 0) bs) is in
-    rw (or_false (b == 47) (b == 0) both.0).0 (ap (put_first b) (pieces-plain bs both.1))
+    let both = or_parts (b == 47 || b == 0) (list_any (λ c. c == 47 || c == 0) bs) is in
+    rw (or_parts (b == 47) (b == 0) both.0).0 (ap (put_first b) (pieces-plain bs both.1))
 
 pieces-name : (name : List ℕ) → IsLegalName name → pieces 47 name ≡ name ∷ []
-pieces-name name legal = pieces-plain name (or_false _ _ (or_false _ _ legal.allowed).0).0
+pieces-name name legal = pieces-plain name (or_parts _ _ (or_parts _ _ legal.allowed).0).0
 
 -- ---- one name more
 
@@ -74,11 +42,8 @@ names_in-push [] name p legal is =
 names_in-push (x ∷ texts) name p legal is =
     step_by x texts (name ∷ []) p (name_in x) (names_in texts) (names_in (texts ++ name ∷ [])) (λ q. names_in-push texts name q legal) is
 
-nonzero : (n : ℕ) → n ≢ 0 → (n == 0) ≡ false
-nonzero n some = grind arith
-
 some_more : (rest name : List ℕ) → (length (rest ++ 47 ∷ name) == 0) ≡ false
-some_more rest name = nonzero (length (rest ++ 47 ∷ name)) (λ none. absurd (omega (arith, none, length-append rest (47 ∷ name))))
+some_more rest name = ne_eqb (length (rest ++ 47 ∷ name)) 0 (λ none. absurd (omega (arith, none, length-append rest (47 ∷ name))))
 
 push_by : (slash alone : Bool) (c : ℕ) (rest name : List ℕ) (p : Path) → (c == 47) ≡ slash → (length rest == 0) ≡ alone → IsLegalName name → 0 < length p
     → (if slash then (if alone then Ok [] else names_in (pieces 47 rest)) else Err Forbidden) ≡ Ok p
@@ -87,7 +52,7 @@ push_by false alone c rest name p first none legal some is = absurd (cc)
 push_by true true c rest name p first none legal some is = absurd (let root : [] ≡ p = cc in let count = ap length root in omega arith)
 push_by true false c rest name p first none legal some is =
     ap (λ b. if b then Ok [] else names_in (pieces 47 (rest ++ 47 ∷ name))) (some_more rest name)
-    ∙ ap names_in (pieces-append rest name ∙ ap (λ cut. pieces 47 rest ++ cut) (pieces-name name legal))
+    ∙ ap names_in (pieces-append 47 rest name ∙ ap (λ cut. pieces 47 rest ++ cut) (pieces-name name legal))
     ∙ names_in-push (pieces 47 rest) name p legal is
 
 path_in-push : (text name : List ℕ) (p : Path) → path_in text ≡ Ok p → 0 < length p → IsLegalName name → path_in (text ++ 47 ∷ name) ≡ Ok (p ++ name ∷ [])
@@ -132,14 +97,11 @@ path_by (Some (x ∷ names)) p entry = entry
 pub path_of-entry : (text : List ℕ) (p : Path) → entry_path_of text ≡ Some p → (path_of text ≡ Some p) × (0 < length p)
 path_of-entry text p entry = let is = path_by (path_of text) p entry in (is, some_by_count (path_of text) p is entry)
 
-same_some : (p q : Path) → Some p ≡ Some q → p ≡ q
-same_some p q is = cc
-
 -- the path before the last name
 pub above-push : (text above name : List ℕ) (p q : Path) → text ≡ above ++ 47 ∷ name → entry_path_of above ≡ Some q → IsLegalName name → path_of text ≡ Some p → q ≡ parent_path p
 above-push text above name p q is entry legal spells =
     let part = path_of-entry above q entry in
-    parent_of-snoc p q name (same_some p (q ++ name ∷ []) (sym spells ∙ (pushed text above name q is part.0 part.1 legal).legal))
+    parent_of-snoc p q name (same_Some p (q ++ name ∷ []) (sym spells ∙ (pushed text above name q is part.0 part.1 legal).legal))
 
 -- what holds of each value that there is
 pub if_some : {A : Type 0} (r : Option A) (P : A → Type 0) → ((x : A) → r ≡ Some x → P x) → IfSome r P

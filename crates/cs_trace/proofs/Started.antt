@@ -1,7 +1,7 @@
 -- What the records at the start are, one by one.
 use Rattle.std.proofs.Common.{◌≡◌, ◌≢◌, ℕ, zero, suc, ◌+◌, ◌≤◌, ◌&&◌, Bool, true, false, cond, T, List, [], ◌∷◌, map, ⊎_elim, Option, None, Some, option_map, refl, sym, ap, ◌∙◌, subst, arith}
 use Rattle.std.proofs.lemmas.Bool.{false≢true}
-use Rattle.std.proofs.lemmas.Option.{slice_get-map}
+use Rattle.std.proofs.lemmas.Option.{slice_get-map, same_Some}
 use Rattle.std.specs.Cmp.{tied_itself}
 use Rattle.std.specs.FinMap.{entries, entries_sorted, find, get, get-entries, is_sorted}
 use Rattle.std.specs.FinMap.Entries.{below_all}
@@ -16,47 +16,33 @@ use Rattle.cs_tree_model.specs.Fresh.{fresh_record, numbered}
 use Rattle.cs_tree_model.specs.Laws.Paths.{path_cases, path_total}
 use Rattle.cs_tree_model.specs.Tree.{Path, path_cmp}
 use Rattle.cs_tree_model.specs.declared.record.Record.{Record}
+use Rattle.cs_tree_model.specs.Maps.Orders.{both_first, both_second, less_of}
 use Rattle.cs_trace.specs.Entries.{Entries, node_by, node_of, record_of, size_of}
 use Rattle.cs_trace.specs.Traces.{IsNodeOf, IsUnchanged, StandsAs}
 use Rattle.cs_trace.specs.declared.entry.Entry.{Entry}
 use Rattle.cs_trace.specs.declared.operation.Node.{Node}
-use Rattle.cs_trace.proofs.Sound.{some_same}
 
 -- ---- in the order of their paths
-
-both_hold : (a b : Bool) → T (a && b) → T a × T b
-both_hold true b h = (tt, h)
-both_hold false b h = absurd h
-
-is_less : (o : Ordering) → T (is_lt o) → o ≡ Less
-is_less Less h = refl
-is_less Equal h = absurd h
-is_less Greater h = absurd h
 
 abbrev pub numbered_from : ℕ → List (Path × Entry) → List (Path × Record)
 numbered_from k es = numbered k (map (λ e. (e.0, record_of e.1)) es)
 
 keys_below : (p : Path) (k : ℕ) (es : List (Path × Entry)) → T (below_all path_cmp p es) → AllByRecursion (λ q. path_cmp p q ≡ Less) (map (λ e. e.0) (numbered_from k es))
 keys_below p k [] all = tt
-keys_below p k (e ∷ es) all =
-    let both = both_hold (is_lt (path_cmp p e.0)) (below_all path_cmp p es) all in
-    (is_less _ both.0, keys_below p (k + 1) es both.1)
+keys_below p k (e ∷ es) all = (less_of _ (both_first _ _ all), keys_below p (k + 1) es (both_second _ _ all))
 
 pub keys_ascend : (k : ℕ) (es : List (Path × Entry)) → T (is_sorted path_cmp es) → IsStrictlySortedBy path_cmp (map (λ e. e.0) (numbered_from k es))
 unfolding IsStrictlySortedBy
 keys_ascend k [] sorted = tt
-keys_ascend k (e ∷ es) sorted =
-    let both = both_hold (below_all path_cmp e.0 es) (is_sorted path_cmp es) sorted in
-    (keys_below e.0 (k + 1) es both.0, keys_ascend (k + 1) es both.1)
+keys_ascend k (e ∷ es) sorted = (keys_below e.0 (k + 1) es (both_first _ _ sorted), keys_ascend (k + 1) es (both_second _ _ sorted))
 
 -- ---- by their places
 
 less_at : (p : Path) (es : List (Path × Entry)) (n : ℕ) (e : Path × Entry) → T (below_all path_cmp p es) → slice_get es n ≡ Some e → path_cmp p e.0 ≡ Less
 less_at p [] n e all at = absurd (cc)
 less_at p (f ∷ es) zero e all at =
-    let both = both_hold (is_lt (path_cmp p f.0)) (below_all path_cmp p es) all in
-    ap (λ (g : Path × Entry). path_cmp p g.0) (sym (some_same f e at)) ∙ is_less _ both.0
-less_at p (f ∷ es) (suc n) e all at = less_at p es n e (both_hold (is_lt (path_cmp p f.0)) (below_all path_cmp p es) all).1 at
+    ap (λ (g : Path × Entry). path_cmp p g.0) (sym (same_Some f e at)) ∙ less_of _ (both_first _ _ all)
+less_at p (f ∷ es) (suc n) e all at = less_at p es n e (both_second _ _ all) at
 
 equal_less : Equal ≢ Less
 equal_less is = false≢true (ap is_lt is)
@@ -65,7 +51,7 @@ equal_less is = false≢true (ap is_lt is)
 found_at : (es : List (Path × Entry)) → T (is_sorted path_cmp es) → (n : ℕ) (e : Path × Entry) → slice_get es n ≡ Some e → find path_cmp e.0 es ≡ Some e.1
 found_at [] sorted n e at = absurd (cc)
 found_at (f ∷ es) sorted zero e at =
-    let same : f ≡ e = some_same f e at in
+    let same : f ≡ e = same_Some f e at in
     ap (λ (g : Path × Entry). find path_cmp g.0 (f ∷ es)) (sym same)
     ∙ ap (λ o. cond (is_tied o) (Some f.1) (find path_cmp f.0 es)) (tied_itself path_total f.0)
     ∙ ap (λ (g : Path × Entry). Some g.1) same
@@ -75,11 +61,10 @@ found_at (f ∷ es) sorted zero e at =
     is_tied Equal = true
     is_tied Greater = false
 found_at (f ∷ es) sorted (suc n) e at =
-    let both = both_hold (below_all path_cmp f.0 es) (is_sorted path_cmp es) sorted in
-    let low = less_at f.0 es n e both.0 at in
+    let low = less_at f.0 es n e (both_first _ _ sorted) at in
     ⊎_elim
     (λ (one : (eq_by_cmp path_cmp e.0 f.0 ≡ true) × (e.0 ≡ f.0)). absurd (equal_less (sym (tied_itself path_total f.0) ∙ ap (path_cmp f.0) (sym one.1) ∙ low)))
-    (λ (two : (eq_by_cmp path_cmp e.0 f.0 ≡ false) × (e.0 ≢ f.0)). ap (λ b. cond b (Some f.1) (find path_cmp e.0 es)) two.0 ∙ found_at es both.1 n e at)
+    (λ (two : (eq_by_cmp path_cmp e.0 f.0 ≡ false) × (e.0 ≢ f.0)). ap (λ b. cond b (Some f.1) (find path_cmp e.0 es)) two.0 ∙ found_at es (both_second _ _ sorted) n e at)
     (path_cases e.0 f.0)
 
 pub get_at : (m : Entries) (n : ℕ) (e : Path × Entry) → slice_get (entries m) n ≡ Some e → get m e.0 ≡ Some e.1
@@ -98,7 +83,7 @@ pub numbers : (k n : ℕ) (es : List (Path × Entry)) (r : Path × Record) → s
 numbers k n [] r at = absurd (cc)
 numbers k zero (e ∷ es) r at =
     let none : k ≡ k + 0 = omega arith in
-    record { entry = e; at = refl; is = sym (some_same _ r at) ∙ ap (λ i. (e.0, fresh_record i (record_of e.1))) none }
+    record { entry = e; at = refl; is = sym (same_Some _ r at) ∙ ap (λ i. (e.0, fresh_record i (record_of e.1))) none }
 numbers k (suc n) (e ∷ es) r at =
     let rest = numbers (k + 1) n es r at in
     record { entry = rest.entry; at = rest.at; is = rest.is ∙ ap (λ i. (rest.entry.0, fresh_record i (record_of rest.entry.1))) (one_later k n) }
@@ -124,7 +109,7 @@ module _ (es : List (Path × Entry)) where
   node_by_place : (n : ℕ) (node : Node) (e : Path × Entry) → slice_get (map (λ f. node_of f.1) es) n ≡ Some node → slice_get es n ≡ Some e → node ≡ node_of e.1
   node_by_place n node e at there =
       let same : option_map (λ (f : Path × Entry). node_of f.1) (slice_get es n) ≡ Some node = sym (slice_get-map (λ f. node_of f.1) es n) ∙ at in
-      some_same node (node_of e.1) (sym same ∙ ap (option_map (λ (f : Path × Entry). node_of f.1)) there)
+      same_Some node (node_of e.1) (sym same ∙ ap (option_map (λ (f : Path × Entry). node_of f.1)) there)
 
   pub kind_at : (n : ℕ) (node : Node) (r : Path × Record) → slice_get (map (λ f. node_of f.1) es) n ≡ Some node → slice_get (numbered_from 0 es) n ≡ Some r → IsNodeOf node r.1
   kind_at n node r at beside =

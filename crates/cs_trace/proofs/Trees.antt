@@ -1,5 +1,5 @@
 -- The tree that lines make: one map as long as nothing changed.
-use Rattle.std.proofs.Common.{◌≡◌, ◌≢◌, true, false, ⊎_elim, cond, T, ◌&&◌, ◌||◌, Bool, List, [], ◌∷◌, Option, None, Some, option_map, refl, sym, ap, subst, ◌∙◌}
+use Rattle.std.proofs.Common.{◌≡◌, ◌≢◌, true, false, ⊎_elim, cond, T, ◌&&◌, ◌||◌, List, [], ◌∷◌, Option, None, Some, option_map, refl, sym, ap, subst, ◌∙◌}
 use Rattle.std.proofs.lemmas.Bool.{false≢true}
 use Rattle.std.specs.FinMap.{empty, entries, entries_sorted, find, get, get-empty, get-entries, get-insert, insert, is_sorted, same_map}
 use Rattle.std.specs.FinMap.Entries.{below_all}
@@ -12,6 +12,7 @@ use Rattle.cs_tree_model.specs.Laws.Paths.{path_cases, path_exact, path_total}
 use Rattle.cs_tree_model.specs.Maps.Changes.{get-insert_other}
 use Rattle.cs_tree_model.specs.Maps.Values.{entries-map_values, get-map_values, map_entries, map_values}
 use Rattle.cs_tree_model.specs.Tree.{Path, path_cmp}
+use Rattle.cs_tree_model.specs.Maps.Orders.{both_first, both_second}
 use Rattle.cs_trace.specs.Below.{has_below, is_below}
 use Rattle.cs_trace.specs.Entries.{Entries, node_of}
 use Rattle.cs_trace.specs.Operations.{Paths}
@@ -49,29 +50,22 @@ abbrev or_else : Option Node → Option Node → Option Node
 or_else None other = other
 or_else (Some node) other = Some node
 
-both_hold : (a b : Bool) → T (a && b) → T a × T b
-both_hold true b h = (tt, h)
-both_hold false b h = absurd h
-
 find_later : (q : Path) (es : List (Path × Entry)) → T (below_all path_cmp q es) → find path_cmp q es ≡ None
 find_later q [] all = refl
-find_later q (e ∷ es) all =
-    let both = both_hold (is_lt (path_cmp q e.0)) (below_all path_cmp q es) all in
-    ⊎_elim
+find_later q (e ∷ es) all = ⊎_elim
     (λ (one : (eq_by_cmp path_cmp q e.0 ≡ true) × (q ≡ e.0)).
-    absurd (subst (λ o. T (is_lt o)) (tied_itself path_total q) (subst (λ p. T (is_lt (path_cmp q p))) (sym one.1) both.0)))
-    (λ (two : (eq_by_cmp path_cmp q e.0 ≡ false) × (q ≢ e.0)). ap (λ b. cond b (Some e.1) (find path_cmp q es)) two.0 ∙ find_later q es both.1)
+    absurd (subst (λ o. T (is_lt o)) (tied_itself path_total q) (subst (λ p. T (is_lt (path_cmp q p))) (sym one.1) (both_first _ _ all))))
+    (λ (two : (eq_by_cmp path_cmp q e.0 ≡ false) × (q ≢ e.0)). ap (λ b. cond b (Some e.1) (find path_cmp q es)) two.0 ∙ find_later q es (both_second _ _ all))
     (path_cases q e.0)
 
 get-with_all : (m : Paths) (es : List (Path × Entry)) (q : Path) → T (is_sorted path_cmp es) → get (with_all m es) q ≡ or_else (option_map node_of (find path_cmp q es)) (get m q)
 get-with_all m [] q sorted = refl
 get-with_all m (e ∷ es) q sorted =
-    let both = both_hold (below_all path_cmp e.0 es) (is_sorted path_cmp es) sorted in
-    get-with_all (insert m e.0 (node_of e.1)) es q both.1
+    get-with_all (insert m e.0 (node_of e.1)) es q (both_second _ _ sorted)
     ∙ ap (or_else (option_map node_of (find path_cmp q es))) (get-insert path_total m e.0 (node_of e.1) q)
     ∙ ⊎_elim
     (λ (one : (eq_by_cmp path_cmp q e.0 ≡ true) × (q ≡ e.0)).
-    let none : find path_cmp q es ≡ None = find_later q es (subst (λ p. T (below_all path_cmp p es)) (sym one.1) both.0) in
+    let none : find path_cmp q es ≡ None = find_later q es (subst (λ p. T (below_all path_cmp p es)) (sym one.1) (both_first _ _ sorted)) in
     rw (one.0, none) refl)
     (λ (two : (eq_by_cmp path_cmp q e.0 ≡ false) × (q ≢ e.0)). rw two.0 refl)
     (path_cases q e.0)

@@ -11,6 +11,7 @@ use Rattle.std.specs.Prelude.{bit_and}
 use Rattle.cs_names.specs.declared.limits.TheConstants.{FILE_BYTES, TREE_RECORDS}
 use Rattle.cs_tree_model.specs.Fresh.{IsNested, fresh, fresh_record, numbered, place_in}
 use Rattle.cs_tree_model.specs.Laws.Fresh.{listing-IsListing, record_at-fresh}
+use Rattle.cs_tree_model.specs.Laws.FreshReads.{length-numbered}
 use Rattle.cs_tree_model.specs.Laws.Paths.{path_exact, path_total}
 use Rattle.cs_tree_model.specs.Maps.Values.{entries-map_values, get-map_values, map_entries, map_values}
 use Rattle.cs_tree_model.specs.Record.{IsMarked}
@@ -82,10 +83,6 @@ module _ (m : Entries) where
       ∙ ap from_entries (zipped 0 (entries m) ∙ sym (entries-map_values path_cmp node_of m))
       ∙ same_map path_total path_exact _ _ (λ q. get-from_entries path_total (entries (map_values node_of m)) q ∙ sym (get-entries (map_values node_of m) q))
 
-  length-numbered : (k : ℕ) (es : List (Path × Record)) → length (numbered k es) ≡ length es
-  length-numbered k [] = refl
-  length-numbered k (e ∷ es) = let rest = length-numbered (k + 1) es in omega arith
-
   each_node : length (nodes_in m) ≡ length (records_in m)
   each_node =
       length-map (entries m) (λ e. node_of e.1)
@@ -128,7 +125,7 @@ module _ (s : State) (sound : IsSound s) (made : s.made ≢ 0) where
 
   few_records : records_made (whole s) ≤ TREE_RECORDS
   few_records =
-      let count : length (records_in s.start) ≡ len s.start = ap length (same_listing s.start) ∙ length-numbered s.start 0 (map_entries record_of (entries s.start)) ∙ length-map (entries s.start) (λ e. (e.0, record_of e.1)) ∙ sym (len-entries s.start) in
+      let count : length (records_in s.start) ≡ len s.start = ap length (same_listing s.start) ∙ length-numbered 0 (map_entries record_of (entries s.start)) ∙ length-map (entries s.start) (λ e. (e.0, record_of e.1)) ∙ sym (len-entries s.start) in
       omega (arith, count, sound.tallied, sound.few)
 
   small_files : All (λ size. size ≤ FILE_BYTES) (start_sizes (whole s))

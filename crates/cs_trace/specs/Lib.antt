@@ -9,6 +9,7 @@ pub mod Kept
 pub mod Lines
 pub mod Names
 pub mod Operations
+pub mod Outcomes
 pub mod Reading
 pub mod Said
 pub mod States

@@ -1,20 +1,20 @@
 //! What an operation needs of what stands, where its path is kept.
-ghost use Rattle.std.specs.Prelude.{◌≡◌, ◌≢◌, ◌||◌, IfErr, IfOk, IsOk, Ok, Err, length, nat_le, nat_lt};
+ghost use Rattle.std.specs.Prelude.{◌≡◌, ◌||◌, IsOk, Err, length, nat_le, nat_lt};
 ghost use Rattle.cs_names.specs.declared.limits.TheConstants.{TRACE_PATH_NAMES, TREE_RECORDS};
 ghost use Rattle.cs_tree_model.specs.Tree.{parent_path};
 ghost use Rattle.cs_trace.specs.Judging.{and_then, creat, emptied_at, ends_above, file_at, free_at, fsync, mkdir, rename, rmdir, say, set_attr, size_in, target_at, truncate, unlink, write};
 ghost use Rattle.cs_trace.specs.Kept.{attributes_of};
+ghost use Rattle.cs_trace.specs.Outcomes.{Gives};
 ghost use Rattle.cs_trace.specs.Said.{change_said, claims_of};
-ghost use Rattle.cs_trace.specs.declared.fault.TraceFaultKind.TheVariants.{Memory};
 
 use crate::attributes::Attributes;
 use crate::digits::Digits;
 use crate::fault::TraceFaultKind;
 use crate::line::{Change, Claims};
-use crate::operation::{Bytes, Covers, Node, Operation, Rights, Target};
+use crate::operation::{Covers, Node, Operation, Rights, Target};
 use crate::tree::Tree;
-use cs_names::Path;
 use cs_names::limits::{FILE_BYTES, SAY_BYTES, TRACE_PATH_NAMES, TREE_RECORDS};
+use cs_names::{Bytes, Path};
 use std::alloc::Global;
 
 /// The number of the file that stands at the path.
@@ -105,9 +105,7 @@ pub(crate) fn creat(
     claims: &Claims<'_>,
 ) -> Result<Operation, TraceFaultKind>
     requires { above.now ≡ parent_path path }
-    ensures done { IfOk result (λ operation. creat tree.now.nodes made file path (claims_of claims.now) ≡ Ok operation) }
-    ensures fault { IfErr result (λ kind. kind ≢ Memory → creat tree.now.nodes made file path (claims_of claims.now) ≡ Err kind) }
-    ensures memory { IfErr result (λ kind. kind ≡ Memory → IsOk (creat tree.now.nodes made file path (claims_of claims.now))) }
+    ensures { Gives (creat tree.now.nodes made file path (claims_of claims.now)) result IsOk }
 {
     check_free(tree, above, &path)?;
     if is_too_much(made, path.names().len()) {
@@ -126,9 +124,7 @@ pub(crate) fn mkdir(
     claims: &Claims<'_>,
 ) -> Result<Operation, TraceFaultKind>
     requires { above.now ≡ parent_path path }
-    ensures done { IfOk result (λ operation. mkdir tree.now.nodes made path (claims_of claims.now) ≡ Ok operation) }
-    ensures fault { IfErr result (λ kind. kind ≢ Memory → mkdir tree.now.nodes made path (claims_of claims.now) ≡ Err kind) }
-    ensures memory { IfErr result (λ kind. kind ≡ Memory → IsOk (mkdir tree.now.nodes made path (claims_of claims.now))) }
+    ensures { Gives (mkdir tree.now.nodes made path (claims_of claims.now)) result IsOk }
 {
     check_free(tree, above, &path)?;
     if is_too_much(made, path.names().len()) {
@@ -186,15 +182,13 @@ pub(crate) fn write(
     offset: u64,
     bytes: &Digits<'_>,
 ) -> Result<Operation, TraceFaultKind>
-    ensures done { IfOk result (λ operation. write tree.now.nodes sizes.now path.now offset bytes.now ≡ Ok operation) }
-    ensures fault { IfErr result (λ kind. kind ≢ Memory → write tree.now.nodes sizes.now path.now offset bytes.now ≡ Err kind) }
-    ensures memory { IfErr result (λ kind. kind ≡ Memory → IsOk (write tree.now.nodes sizes.now path.now offset bytes.now)) }
+    ensures { Gives (write tree.now.nodes sizes.now path.now offset bytes.now) result IsOk }
 {
     let file = file_at(tree, path)?;
     if ends_above(offset, bytes) {
         return Err(TraceFaultKind::TooLarge);
     }
-    let bytes = Bytes::of(bytes.decode(alloc)?);
+    let bytes = Bytes::new(bytes.decode(alloc)?);
     let size = size_in(sizes, file);
     Ok(Operation::Write {
         file,
@@ -228,13 +222,9 @@ pub(crate) fn set_attr(
     path: Path,
     change: &Change<'_>,
 ) -> Result<Operation, TraceFaultKind>
-    ensures done { IfOk result (λ operation.
-        set_attr tree.now.nodes (attributes_of attributes.now)
-        path (change_said change.now) ≡ Ok operation) }
-    ensures fault { IfErr result (λ kind. kind ≢ Memory
-        → set_attr tree.now.nodes (attributes_of attributes.now)
-        path (change_said change.now) ≡ Err kind) }
-    ensures memory { IfErr result (λ kind. kind ≡ Memory → IsOk (set_attr tree.now.nodes (attributes_of attributes.now) path (change_said change.now))) }
+    ensures { Gives
+        (set_attr tree.now.nodes (attributes_of attributes.now) path (change_said change.now))
+        result IsOk }
 {
     let Some(node) = tree.get(&path) else {
         return Err(TraceFaultKind::Missing);

@@ -27,6 +27,6 @@ mod verb;
 mod version;
 
 pub use fault::{TraceFault, TraceFaultKind};
-pub use operation::{Bytes, Covers, Node, Operation, Rights, Target};
+pub use operation::{Covers, Node, Operation, Rights, Target};
 pub use profile::Profile;
 pub use trace::{Trace, read_trace};

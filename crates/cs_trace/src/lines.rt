@@ -1,8 +1,9 @@
 //! The lines of a trace, one after another.
-ghost use Rattle.std.specs.Prelude.{◌≡◌, ◌≢◌, false, IfErr, IfOk, Ok, Err, OnOk, length};
+ghost use Rattle.std.specs.Prelude.{◌≡◌, ◌≢◌, false, IfErr, IfOk, Ok, Err, length};
 ghost use Rattle.cs_trace.specs.Judging.{IsPastNames};
 ghost use Rattle.cs_trace.specs.Kept.{IsBounded, state_of};
 ghost use Rattle.cs_trace.specs.Lines.{is_blank};
+ghost use Rattle.cs_trace.specs.Outcomes.{Leaves};
 ghost use Rattle.cs_trace.specs.Said.{line_said, operation_said};
 ghost use Rattle.cs_trace.specs.States.{later_step, line_step, lines_in, state_in, step};
 ghost use Rattle.cs_trace.specs.Lines as said;
@@ -25,9 +26,9 @@ fn take_operation(
     line: &OperationLine<'_>,
 ) -> Result<(), TraceFaultKind>
     requires { IsBounded (state_of state.old) }
-    ensures done { OnOk result (later_step (state_of state.old) (said.Operation (operation_said line.now)) ≡ Ok (state_of state.new)) }
-    ensures fault { IfErr result (λ kind. kind ≢ Memory → later_step (state_of state.old) (said.Operation (operation_said line.now)) ≡ Err kind) }
-    ensures memory { IfErr result (λ kind. kind ≡ Memory → IsPastNames (later_step (state_of state.old) (said.Operation (operation_said line.now)))) }
+    ensures { Leaves
+        (later_step (state_of state.old) (said.Operation (operation_said line.now)))
+        result (state_of state.new) IsPastNames }
 {
     let operation = resolve(alloc, state, line)?;
     state.take(alloc, operation)?;
@@ -37,9 +38,9 @@ fn take_operation(
 /// A line that isn't blank: first the header, then the files at the start, and then operations.
 fn take_line(alloc: Global, state: &mut State, line: &Line<'_>) -> Result<(), TraceFaultKind>
     requires { IsBounded (state_of state.old) }
-    ensures done { OnOk result (line_step (state_of state.old) (line_said line.now) ≡ Ok (state_of state.new)) }
-    ensures fault { IfErr result (λ kind. kind ≢ Memory → line_step (state_of state.old) (line_said line.now) ≡ Err kind) }
-    ensures memory { IfErr result (λ kind. kind ≡ Memory → IsPastNames (line_step (state_of state.old) (line_said line.now))) }
+    ensures { Leaves
+        (line_step (state_of state.old) (line_said line.now))
+        result (state_of state.new) IsPastNames }
 {
     let is_first = state.made == 0;
     let is_start = state.operations.is_empty();
@@ -63,9 +64,9 @@ fn take(
     scratch: &mut Scratch,
 ) -> Result<(), TraceFaultKind>
     requires { IsBounded (state_of state.old) }
-    ensures done { OnOk result (step (state_of state.old) text.now ≡ Ok (state_of state.new)) }
-    ensures fault { IfErr result (λ kind. kind ≢ Memory → step (state_of state.old) text.now ≡ Err kind) }
-    ensures memory { IfErr result (λ kind. kind ≡ Memory → is_blank text.now ≡ false) }
+    ensures { Leaves
+        (step (state_of state.old) text.now)
+        result (state_of state.new) (λ _. is_blank text.now ≡ false) }
 {
     if is_blank(text) {
         return Ok(());

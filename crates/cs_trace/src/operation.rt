@@ -1,8 +1,5 @@
 //! The operations of a trace, with the files that they name found.
 ghost use Rattle.std.specs.Prelude.{◌≡◌, IfOk};
-ghost use Rattle.std.specs.Cmp.{partial_equiv_from_equiv};
-ghost use Rattle.std.specs.Cmp.Lexicographic.{nat_list_eq_equiv};
-ghost use Rattle.cs_names.specs.Texts.{same_bytes};
 ghost use Rattle.cs_trace.specs.Attributes.{target_of};
 ghost use Rattle.cs_trace.specs.Judging.{changed};
 ghost use Rattle.cs_trace.specs.Names.{rights_of};
@@ -10,9 +7,8 @@ ghost use Rattle.cs_trace.specs.Said.{change_said, claims_of};
 
 use crate::line::{Change, Claims};
 use crate::names::keep_user_name;
-use cs_names::{Path, UserName};
+use cs_names::{Bytes, Path, UserName};
 use std::alloc::{AllocError, Global};
-use std::marker::Model;
 
 /// What stands at a path.
 #[derive(Clone, Copy, Debug, PartialEq, Eq)]
@@ -30,12 +26,6 @@ pub struct Rights {
     pub group: UserName,
     /// The nine bits of three octal digits.
     pub permissions: u16,
-}
-
-/// The bytes of a write. Contracts see them as a list.
-#[derive(Debug, Drop)]
-pub struct Bytes {
-    items: Vec<u8>,
 }
 
 /// What an operation waits for until it is on the disk.
@@ -113,40 +103,6 @@ pub enum Operation {
     Sync(Covers),
     /// A text that the application tells its users.
     Say,
-}
-
-impl Model for Bytes {
-    ghost use Rattle.std.specs.Prelude.{List, ℕ};
-
-    ghost Value = { List ℕ };
-
-    ghost view = { λ bytes. bytes.items.items };
-}
-
-impl Bytes {
-    /// These bytes.
-    pub fn of(items: Vec<u8>) -> Bytes
-        ensures { result ≡ items.items }
-    {
-        Bytes { items }
-    }
-
-    /// The bytes as a slice.
-    pub fn as_slice(&self) -> &[u8]
-        ensures { result.now ≡ self.now }
-    {
-        self.items.as_slice()
-    }
-}
-
-impl PartialEq for Bytes {
-    ghost eq = { same_bytes };
-
-    ghost laws = { partial_equiv_from_equiv nat_list_eq_equiv };
-
-    fn eq(&self, other: &Bytes) -> bool {
-        self.items == other.items
-    }
 }
 
 impl Rights {

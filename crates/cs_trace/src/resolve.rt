@@ -1,10 +1,10 @@
 //! An operation's line in what stands: its paths are judged, then kept, and then what it needs is asked.
-ghost use Rattle.std.specs.Prelude.{◌≡◌, ◌≢◌, ◌<◌, ◌^◌, IfErr, IfOk, Ok, Err, length};
+ghost use Rattle.std.specs.Prelude.{◌≡◌, ◌<◌, ◌^◌, length};
 ghost use Rattle.cs_trace.specs.Judging.{AreShort, IsPastNames, creat, fsync, legal, mkdir, rename, resolve, rmdir, set_attr, truncate, unlink, write};
 ghost use Rattle.cs_trace.specs.Kept.{IsWithin, attributes_of};
 ghost use Rattle.cs_trace.specs.Names.{entry_path_of, new_path_of, path_of, set_path_of};
+ghost use Rattle.cs_trace.specs.Outcomes.{Gives};
 ghost use Rattle.cs_trace.specs.Said.{change_said, claims_of, operation_said};
-ghost use Rattle.cs_trace.specs.declared.fault.TraceFaultKind.TheVariants.{Memory};
 
 use crate::digits::Digits;
 use crate::fault::TraceFaultKind;
@@ -66,9 +66,10 @@ fn creat(
 ) -> Result<Operation, TraceFaultKind>
     requires short { AreShort state.now.tree.nodes }
     requires few { length state.now.sizes.items < 2 ^ 32 }
-    ensures done { IfOk result (λ operation. creat state.now.tree.nodes state.now.made (length state.now.sizes.items) path.now (claims_of claims.now) ≡ Ok operation) }
-    ensures fault { IfErr result (λ kind. kind ≢ Memory → creat state.now.tree.nodes state.now.made (length state.now.sizes.items) path.now (claims_of claims.now) ≡ Err kind) }
-    ensures memory { IfErr result (λ kind. kind ≡ Memory → IsPastNames (creat state.now.tree.nodes state.now.made (length state.now.sizes.items) path.now (claims_of claims.now))) }
+    ensures { Gives
+        (creat state.now.tree.nodes state.now.made (length state.now.sizes.items)
+        path.now (claims_of claims.now))
+        result IsPastNames }
 {
     let Some(path) = path.keep_short(alloc)? else {
         return Err(TraceFaultKind::NoParent);
@@ -87,9 +88,7 @@ fn mkdir(
     claims: &Claims<'_>,
 ) -> Result<Operation, TraceFaultKind>
     requires { AreShort tree.now.nodes }
-    ensures done { IfOk result (λ operation. mkdir tree.now.nodes made path.now (claims_of claims.now) ≡ Ok operation) }
-    ensures fault { IfErr result (λ kind. kind ≢ Memory → mkdir tree.now.nodes made path.now (claims_of claims.now) ≡ Err kind) }
-    ensures memory { IfErr result (λ kind. kind ≡ Memory → IsPastNames (mkdir tree.now.nodes made path.now (claims_of claims.now))) }
+    ensures { Gives (mkdir tree.now.nodes made path.now (claims_of claims.now)) result IsPastNames }
 {
     let Some(path) = path.keep_short(alloc)? else {
         return Err(TraceFaultKind::NoParent);
@@ -101,9 +100,7 @@ fn mkdir(
 #[tactic(auto, using(crate::proofs::Past::nothing_at, crate::proofs::Past::past_unlink))]
 fn unlink(alloc: Global, tree: &Tree, path: &PathText<'_>) -> Result<Operation, TraceFaultKind>
     requires { AreShort tree.now.nodes }
-    ensures done { IfOk result (λ operation. unlink tree.now.nodes path.now ≡ Ok operation) }
-    ensures fault { IfErr result (λ kind. kind ≢ Memory → unlink tree.now.nodes path.now ≡ Err kind) }
-    ensures memory { IfErr result (λ kind. kind ≡ Memory → IsPastNames (unlink tree.now.nodes path.now)) }
+    ensures { Gives (unlink tree.now.nodes path.now) result IsPastNames }
 {
     let Some(path) = path.keep_short(alloc)? else {
         return Err(TraceFaultKind::Missing);
@@ -114,9 +111,7 @@ fn unlink(alloc: Global, tree: &Tree, path: &PathText<'_>) -> Result<Operation, 
 #[tactic(auto, using(crate::proofs::Past::nothing_at, crate::proofs::Past::past_rmdir))]
 fn rmdir(alloc: Global, tree: &Tree, path: &PathText<'_>) -> Result<Operation, TraceFaultKind>
     requires { AreShort tree.now.nodes }
-    ensures done { IfOk result (λ operation. rmdir tree.now.nodes path.now ≡ Ok operation) }
-    ensures fault { IfErr result (λ kind. kind ≢ Memory → rmdir tree.now.nodes path.now ≡ Err kind) }
-    ensures memory { IfErr result (λ kind. kind ≡ Memory → IsPastNames (rmdir tree.now.nodes path.now)) }
+    ensures { Gives (rmdir tree.now.nodes path.now) result IsPastNames }
 {
     let Some(path) = path.keep_short(alloc)? else {
         return Err(TraceFaultKind::Missing);
@@ -133,9 +128,9 @@ fn write(
     bytes: &Digits<'_>,
 ) -> Result<Operation, TraceFaultKind>
     requires { AreShort state.now.tree.nodes }
-    ensures done { IfOk result (λ operation. write state.now.tree.nodes state.now.sizes.items path.now offset bytes.now ≡ Ok operation) }
-    ensures fault { IfErr result (λ kind. kind ≢ Memory → write state.now.tree.nodes state.now.sizes.items path.now offset bytes.now ≡ Err kind) }
-    ensures memory { IfErr result (λ kind. kind ≡ Memory → IsPastNames (write state.now.tree.nodes state.now.sizes.items path.now offset bytes.now)) }
+    ensures { Gives
+        (write state.now.tree.nodes state.now.sizes.items path.now offset bytes.now)
+        result IsPastNames }
 {
     let Some(path) = path.keep_short(alloc)? else {
         return Err(TraceFaultKind::Missing);
@@ -151,9 +146,9 @@ fn truncate(
     length: u64,
 ) -> Result<Operation, TraceFaultKind>
     requires { AreShort state.now.tree.nodes }
-    ensures done { IfOk result (λ operation. truncate state.now.tree.nodes state.now.sizes.items path.now length ≡ Ok operation) }
-    ensures fault { IfErr result (λ kind. kind ≢ Memory → truncate state.now.tree.nodes state.now.sizes.items path.now length ≡ Err kind) }
-    ensures memory { IfErr result (λ kind. kind ≡ Memory → IsPastNames (truncate state.now.tree.nodes state.now.sizes.items path.now length)) }
+    ensures { Gives
+        (truncate state.now.tree.nodes state.now.sizes.items path.now length)
+        result IsPastNames }
 {
     let Some(path) = path.keep_short(alloc)? else {
         return Err(TraceFaultKind::Missing);
@@ -169,13 +164,10 @@ fn set_attr(
     change: &Change<'_>,
 ) -> Result<Operation, TraceFaultKind>
     requires { AreShort state.now.tree.nodes }
-    ensures done { IfOk result (λ operation.
-        set_attr state.now.tree.nodes (attributes_of state.now.attributes)
-        path.now (change_said change.now) ≡ Ok operation) }
-    ensures fault { IfErr result (λ kind. kind ≢ Memory
-        → set_attr state.now.tree.nodes (attributes_of state.now.attributes)
-        path.now (change_said change.now) ≡ Err kind) }
-    ensures memory { IfErr result (λ kind. kind ≡ Memory → IsPastNames (set_attr state.now.tree.nodes (attributes_of state.now.attributes) path.now (change_said change.now))) }
+    ensures { Gives
+        (set_attr state.now.tree.nodes (attributes_of state.now.attributes)
+        path.now (change_said change.now))
+        result IsPastNames }
 {
     let Some(path) = path.keep_short(alloc)? else {
         return Err(TraceFaultKind::Missing);
@@ -186,9 +178,7 @@ fn set_attr(
 #[tactic(auto, using(crate::proofs::Past::nothing_at, crate::proofs::Past::past_fsync))]
 fn fsync(alloc: Global, tree: &Tree, path: &PathText<'_>) -> Result<Operation, TraceFaultKind>
     requires { AreShort tree.now.nodes }
-    ensures done { IfOk result (λ operation. fsync tree.now.nodes path.now ≡ Ok operation) }
-    ensures fault { IfErr result (λ kind. kind ≢ Memory → fsync tree.now.nodes path.now ≡ Err kind) }
-    ensures memory { IfErr result (λ kind. kind ≡ Memory → IsPastNames (fsync tree.now.nodes path.now)) }
+    ensures { Gives (fsync tree.now.nodes path.now) result IsPastNames }
 {
     let Some(path) = path.keep_short(alloc)? else {
         return Err(TraceFaultKind::Missing);
@@ -204,9 +194,7 @@ fn rename(
     to: &PathText<'_>,
 ) -> Result<Operation, TraceFaultKind>
     requires { AreShort tree.now.nodes }
-    ensures done { IfOk result (λ operation. rename tree.now.nodes from.now to.now ≡ Ok operation) }
-    ensures fault { IfErr result (λ kind. kind ≢ Memory → rename tree.now.nodes from.now to.now ≡ Err kind) }
-    ensures memory { IfErr result (λ kind. kind ≡ Memory → IsPastNames (rename tree.now.nodes from.now to.now)) }
+    ensures { Gives (rename tree.now.nodes from.now to.now) result IsPastNames }
 {
     let Some(from) = from.keep_short(alloc)? else {
         return Err(TraceFaultKind::Missing);
@@ -227,9 +215,10 @@ pub(crate) fn resolve(
 ) -> Result<Operation, TraceFaultKind>
     requires short { AreShort state.now.tree.nodes }
     requires few { length state.now.sizes.items < 2 ^ 32 }
-    ensures done { IfOk result (λ operation. resolve state.now.tree.nodes state.now.sizes.items state.now.made (attributes_of state.now.attributes) (operation_said line.now) ≡ Ok operation) }
-    ensures fault { IfErr result (λ kind. kind ≢ Memory → resolve state.now.tree.nodes state.now.sizes.items state.now.made (attributes_of state.now.attributes) (operation_said line.now) ≡ Err kind) }
-    ensures memory { IfErr result (λ kind. kind ≡ Memory → IsPastNames (resolve state.now.tree.nodes state.now.sizes.items state.now.made (attributes_of state.now.attributes) (operation_said line.now))) }
+    ensures { Gives
+        (resolve state.now.tree.nodes state.now.sizes.items state.now.made
+        (attributes_of state.now.attributes) (operation_said line.now))
+        result IsPastNames }
 {
     let tree = &state.tree;
     match line {

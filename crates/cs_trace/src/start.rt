@@ -8,6 +8,7 @@ ghost use Rattle.cs_trace.specs.Judging.{IsPastNames, free_at, legal};
 ghost use Rattle.cs_trace.specs.Kept.{IsBounded, state_of};
 ghost use Rattle.cs_trace.specs.Lines.{Header};
 ghost use Rattle.cs_trace.specs.Names.{new_path_of};
+ghost use Rattle.cs_trace.specs.Outcomes.{Leaves};
 ghost use Rattle.cs_trace.specs.Said.{claims_of, start_of};
 ghost use Rattle.cs_trace.specs.States.{entry_for, first_step, start_at, start_step, with_entry};
 ghost use Rattle.cs_trace.specs.declared.fault.TraceFaultKind.TheVariants.{Memory};
@@ -111,6 +112,7 @@ fn find_above(
 }
 
 /// One entry more at the path of so many names, in the directory above.
+#[tactic(auto, using(crate::proofs::Past::past_start_at))]
 fn start_in(
     alloc: Global,
     state: &mut State,
@@ -123,8 +125,9 @@ fn start_in(
     requires names { names ≡ length path }
     requires above { above ≡ parent_path path }
     requires stands { map.get state.old.tree.nodes above ≡ Some Directory }
-    ensures done { OnOk result (start_at (state_of state.old) path (claims_of line.now.claims) line.now.content ≡ Ok (state_of state.new)) }
-    ensures fault { IfErr result (λ kind. kind ≢ Memory → start_at (state_of state.old) path (claims_of line.now.claims) line.now.content ≡ Err kind) }
+    ensures { Leaves
+        (start_at (state_of state.old) path (claims_of line.now.claims) line.now.content)
+        result (state_of state.new) IsPastNames }
 {
     if is_too_much(state.made, names) || size_of(&line.content) > FILE_BYTES {
         return Err(match state.tree.get(&path) {
@@ -155,16 +158,16 @@ fn start_path<'a>(tree: &Tree, line: &StartLine<'a>) -> Result<PathText<'a>, Tra
 }
 
 /// A file or a directory after the header.
-#[tactic(auto, using(crate::proofs::Past::nothing_above, crate::proofs::Past::past_start_at))]
+#[tactic(auto, using(crate::proofs::Past::nothing_above))]
 pub(crate) fn take_start(
     alloc: Global,
     state: &mut State,
     line: &StartLine<'_>,
 ) -> Result<(), TraceFaultKind>
     requires { IsBounded (state_of state.old) }
-    ensures done { OnOk result (start_step (state_of state.old) (start_of line.now) ≡ Ok (state_of state.new)) }
-    ensures fault { IfErr result (λ kind. kind ≢ Memory → start_step (state_of state.old) (start_of line.now) ≡ Err kind) }
-    ensures memory { IfErr result (λ kind. kind ≡ Memory → IsPastNames (start_step (state_of state.old) (start_of line.now))) }
+    ensures { Leaves
+        (start_step (state_of state.old) (start_of line.now))
+        result (state_of state.new) IsPastNames }
 {
     let text = start_path(&state.tree, line)?;
     let Some(path) = text.keep_short(alloc)? else {
@@ -182,9 +185,9 @@ pub(crate) fn take_header(
     claims: &Claims<'_>,
 ) -> Result<(), TraceFaultKind>
     requires { IsBounded (state_of state.old) }
-    ensures done { OnOk result (first_step (state_of state.old) (Header version (claims_of claims.now)) ≡ Ok (state_of state.new)) }
-    ensures fault { IfErr result (λ kind. kind ≢ Memory → first_step (state_of state.old) (Header version (claims_of claims.now)) ≡ Err kind) }
-    ensures memory { IfErr result (λ kind. kind ≡ Memory → IsOk (first_step (state_of state.old) (Header version (claims_of claims.now)))) }
+    ensures { Leaves
+        (first_step (state_of state.old) (Header version (claims_of claims.now)))
+        result (state_of state.new) IsOk }
 {
     if !are_user_names(claims) {
         return Err(TraceFaultKind::BadName);

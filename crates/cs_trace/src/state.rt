@@ -6,10 +6,10 @@ ghost use Rattle.cs_trace.specs.Operations.{made_by, paths_after, sizes_after, w
 ghost use Rattle.cs_trace.specs.States.{nothing, taken};
 
 use crate::attributes::Attributes;
-use crate::operation::{Bytes, Node, Operation};
+use crate::operation::{Node, Operation};
 use crate::tree::Tree;
 use crate::version::Version;
-use cs_names::Path;
+use cs_names::{Bytes, Path};
 use std::alloc::{AllocError, Global};
 
 /// What the lines so far leave.

@@ -29,13 +29,6 @@ module _ (at : ℕ → Option Node) (k : ℕ) where
   pub step_here : (f : Node → Node) (d : Node) → at k ≡ Some d → step_at at k f ≡ with_at at k (Some (f d))
   step_here f d here = ap (λ w. with_at at k (option_map f w)) here
 
-  -- a step of a node that isn't there leaves the table
-  pub step_absent : (f : Node → Node) → at k ≡ None → Alike (step_at at k f) at
-  step_absent f none q = ⊎_elim
-      (λ (e : q ≡ k). ap at e ∙ none ∙ sym (ap (step_at at k f) e ∙ with_at_here (option_map f (at k)) ∙ ap (option_map f) none))
-      (λ (ne : q ≢ k). sym (with_at_other (option_map f (at k)) q ne))
-      (cases_eq q k)
-
   -- ---- in the model
 
   pub shapes_put : (e : Node) → shapes (with_at at k (Some e)) ≡ set_node (shapes at) k (shape_of e)

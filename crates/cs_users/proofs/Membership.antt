@@ -214,10 +214,6 @@ is_leader-no_group rows user group e =
     ap (λ b. is_known rows user && b && not (same_name user none_name) && (has_leader rows group user || (has_leader rows group [] && is_member rows user group))) (unknown rows group e)
     ∙ neither (is_known rows user) (not (same_name user none_name)) (has_leader rows group user || (has_leader rows group [] && is_member rows user group))
 
--- a place of a name is that of a row
-pub place_within : (rows : List Row) (name : List ℕ) (place : ℕ) → place_of rows name ≡ Some place → place < length rows
-place_within rows name place e = (row_at_place rows name place blank e).0
-
 -- what is asked of the names at two places is asked of those names
 pub asked_at : (asks : List Row → List ℕ → List ℕ → Bool) (rows : List Row) (user group : List ℕ) (place at : ℕ) → place_of rows user ≡ Some place → place_of rows group ≡ Some at
     → asks rows (name_at rows place) (name_at rows at) ≡ asks rows user group

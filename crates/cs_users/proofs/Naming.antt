@@ -12,10 +12,6 @@ use Rattle.cs_names.specs.Legal.{IsUserName}
 use Rattle.cs_users.specs.Members.{is_known, same_name}
 use Rattle.cs_users.specs.Rows.{Row, AreNamed}
 
-pub or_false : (a b : Bool) → (a || b) ≡ false → (a ≡ false) × (b ≡ false)
-or_false true b h = absurd (cc)
-or_false false b h = (refl, h)
-
 -- a name that no row has, under another spelling of the same
 pub other_before : (rows : List Row) (row : Row) (name : List ℕ) → is_known rows row.name ≡ false → same_name row.name name ≡ true → is_known rows name ≡ false
 other_before rows row name new same = subst (λ (n : List ℕ). is_known rows n ≡ false) ((bytes_decides row.name name).0 same) new

@@ -8,28 +8,24 @@ use Rattle.std.specs.declared.hash.BuildHasherDefault.{BuildHasherDefault}
 use Rattle.std.specs.declared.hash.FoldHasher.{FoldHasher}
 use Rattle.std.specs.List.{find, list_any, position, position_or_len, slice_get}
 use Rattle.std.specs.Option.{is_some, option_map_or}
-use Rattle.std.proofs.lemmas.Bool.{cases_Bool, cases_lt}
+use Rattle.std.proofs.lemmas.Bool.{cases_Bool, cases_lt, or_parts}
 use Rattle.std.proofs.lemmas.Bool.Decides.{nat_tests}
 use Rattle.std.proofs.lemmas.List.{get_or-take, length-take, length_push}
 use Rattle.std.proofs.lemmas.List.Folds.{find_at, list_any_at, list_any_none, position_or_len_push}
 use Rattle.std.proofs.lemmas.List.Quantifiers.{position-Some}
 use Rattle.std.proofs.lemmas.List.Sums.{prefix_len-le-length}
-use Rattle.std.proofs.lemmas.Option.{slice_get_past, slice_get_read, slice_get-get_or}
+use Rattle.std.proofs.lemmas.Option.{slice_get_read, slice_get-get_or}
 use Rattle.cs_names.specs.Legal.{IsUserName}
 use Rattle.cs_users.specs.Groups.{name_at, place_of}
 use Rattle.cs_users.specs.Members.{is_known, same_name}
 use Rattle.cs_users.specs.Places.{IsIndexed}
 use Rattle.cs_users.specs.Rows.{Row, AreNamed}
 use Rattle.cs_users.proofs.Keys.{get_by_bytes, get_by_bytes-updated}
-use Rattle.cs_users.proofs.Naming.{AreNamed-push, other_before, or_false}
+use Rattle.cs_users.proofs.Naming.{AreNamed-push, other_before}
 
 chosen : (within : Bool) (n place : ℕ) → cond within (Some n) None ≡ Some place → n ≡ place
 chosen true n place e = cc
 chosen false n place e = absurd (cc)
-
-not_chosen : (within : Bool) (n : ℕ) → cond within (Some n) None ≡ None → within ≡ false
-not_chosen true n e = absurd (cc)
-not_chosen false n e = refl
 
 -- the element at the first place that passes is the first element that passes
 pub find-at_place : {X : Type 0} (p : X → Bool) (xs : List X) (place : ℕ) (x : X) → position p xs ≡ Some place → x ≡ slice_index_or xs place x → find p xs ≡ Some x
@@ -37,25 +33,10 @@ find-at_place {X} p xs place x e is =
     let first = chosen (nat_lt (position_or_len p xs) (length xs)) (position_or_len p xs) place e in
     find_at p xs ∙ ap (slice_get xs) first ∙ slice_get_read xs (length xs) place x refl (position-Some p xs place x e).0 is
 
--- where there is no place there is no element
-pub find-no_place : {X : Type 0} (p : X → Bool) (xs : List X) → position p xs ≡ None → find p xs ≡ None
-find-no_place {X} p xs e =
-    let past = not_chosen (nat_lt (position_or_len p xs) (length xs)) (position_or_len p xs) e in
-    find_at p xs ∙ slice_get_past xs (position_or_len p xs) (grind (arith, nat_tests, past))
-
-found_by : {X : Type 0} (passes : Bool) (x : X) (rest : Option X) (others : Bool) → is_some rest ≡ others → is_some (cond passes (Some x) rest) ≡ (passes || others)
-found_by true x rest others h = refl
-found_by false x rest others h = h
-
--- an element is found where one passes
-is_some-find : {X : Type 0} (p : X → Bool) (xs : List X) → is_some (find p xs) ≡ list_any p xs
-is_some-find p [] = refl
-is_some-find p (x ∷ xs) = found_by (p x) x (find p xs) (list_any p xs) (is_some-find p xs)
-
 absent : {X : Type 0} (p : X → Bool) (xs : List X) → list_any p xs ≡ false → position_or_len p xs ≡ length xs
 absent p [] h = refl
 absent p (x ∷ xs) h =
-    let told = or_false (p x) (list_any p xs) h in
+    let told = or_parts (p x) (list_any p xs) h in
     let rest = absent p xs told.1 in
     grind (arith, told.0, rest)
 

@@ -1,11 +1,11 @@
 -- The pieces of a text are texts.
-use Rattle.std.proofs.Common.{◌≡◌, ℕ, ◌<◌, Bool, true, false, ◌&&◌, ◌||◌, List, [], ◌∷◌, ◌++◌, get_or, refl, sym, ap, subst, ◌∙◌, arith, All, ⊎_elim}
+use Rattle.std.proofs.Common.{◌≡◌, ℕ, ◌<◌, Bool, true, false, ◌||◌, List, [], ◌∷◌, ◌++◌, get_or, refl, sym, ap, subst, ◌∙◌, arith, All, ⊎_elim}
 use Rattle.std.specs.Prelude.{◌==◌, not, if◌then◌else◌, Option, None, IfSome}
 use Rattle.std.specs.Char.{encode_utf8}
 use Rattle.std.specs.List.{list_any}
 use Rattle.std.specs.Str.{is_utf8, encode_utf8_all, all_scalars}
 use Rattle.std.specs.Cmp.{nat_eq_equiv}
-use Rattle.std.proofs.lemmas.Bool.{cases_Bool}
+use Rattle.std.proofs.lemmas.Bool.{cases_Bool, and_parts, or_parts}
 use Rattle.std.proofs.lemmas.Bool.Decides.{nat_tests}
 use Rattle.std.proofs.lemmas.List.{append-nil, get_or_default}
 use Rattle.std.proofs.lemmas.List.Elements.{All-cons, All-head, All-nil, All-tail}
@@ -15,7 +15,6 @@ use Rattle.cs_names.specs.Texts.{has_nul, is_text}
 use Rattle.cs_names.specs.Pieces.{pieces, put_first}
 use Rattle.cs_users.specs.Reading.{IsText, is_skipped, row_in, row_of_fields}
 use Rattle.cs_users.specs.Rows.{Row}
-use Rattle.cs_users.proofs.Naming.{or_false}
 
 IsText-nil : IsText []
 IsText-nil = record { utf8 = IsUtf8-nil; no_nul = refl }
@@ -40,7 +39,7 @@ first_piece sep (b ∷ bs) = first_by (b == sep) b (pieces sep bs)
 pieces-past : (sep : ℕ) (xs rest first : List ℕ) (others : List (List ℕ)) → list_any (λ b. b == sep) xs ≡ false → pieces sep rest ≡ first ∷ others → pieces sep (xs ++ rest) ≡ (xs ++ first) ∷ others
 pieces-past sep [] rest first others h e = e
 pieces-past sep (x ∷ xs) rest first others h e =
-    let told = or_false (x == sep) (list_any (λ b. b == sep) xs) h in
+    let told = or_parts (x == sep) (list_any (λ b. b == sep) xs) h in
     ap (λ (t : Bool). if t then [] ∷ pieces sep (xs ++ rest) else put_first x (pieces sep (xs ++ rest))) told.0 ∙ ap (put_first x) (pieces-past sep xs rest first others told.1 e)
 
 pieces-separated : (sep : ℕ) (bs : List ℕ) → pieces sep (sep ∷ bs) ≡ [] ∷ pieces sep bs
@@ -53,10 +52,6 @@ separates sep c low h =
     let same : a.1 ≡ sep = grind (arith, nat_tests, a.4) in
     let read : get_or (encode_utf8 c) a.0 0 ≡ sep = get_or_default (encode_utf8 c) a.0 0 a.1 a.2 ∙ a.3 ∙ same in
     inside_one c [] (encode_utf8 c) a.0 (sym (append-nil (encode_utf8 c))) a.2 (omega (arith, read)) ∙ read
-
-and_true : (a b : Bool) → (a && b) ≡ true → (a ≡ true) × (b ≡ true)
-and_true true b h = (refl, h)
-and_true false b h = absurd (cc)
 
 -- one character before them: it is the separator, or part of the first piece
 texts_past : (sep c : ℕ) (bs : List ℕ) → sep < 128 → IsText (encode_utf8 c) → All IsText (pieces sep bs) → All IsText (pieces sep (encode_utf8 c ++ bs))
@@ -75,8 +70,8 @@ texts_past sep c bs low front rest =
 all_texts : (sep : ℕ) → sep < 128 → (cs : List ℕ) → all_scalars cs ≡ true → has_nul (encode_utf8_all cs) ≡ false → All IsText (pieces sep (encode_utf8_all cs))
 all_texts sep low [] scalars clean = All-cons IsText [] [] IsText-nil (All-nil IsText)
 all_texts sep low (c ∷ cs) scalars clean =
-    let scalar = and_true _ (all_scalars cs) scalars in
-    let no_nul = or_false (has_nul (encode_utf8 c)) (has_nul (encode_utf8_all cs)) (sym (list_any-append (λ b. b == 0) (encode_utf8 c) (encode_utf8_all cs)) ∙ clean) in
+    let scalar = and_parts _ (all_scalars cs) scalars in
+    let no_nul = or_parts (has_nul (encode_utf8 c)) (has_nul (encode_utf8_all cs)) (sym (list_any-append (λ b. b == 0) (encode_utf8 c) (encode_utf8_all cs)) ∙ clean) in
     texts_past sep c (encode_utf8_all cs) low (record { utf8 = IsUtf8-encode c scalar.0; no_nul = no_nul.0 }) (all_texts sep low cs scalar.1 no_nul.1)
 
 -- the pieces of a text are texts
@@ -107,5 +102,5 @@ not_true false h = refl
 
 pub IsText-from_is_text : (bs : List ℕ) → is_text bs ≡ true → IsText bs
 IsText-from_is_text bs h =
-    let both = and_true (is_utf8 bs) (not (has_nul bs)) h in
+    let both = and_parts (is_utf8 bs) (not (has_nul bs)) h in
     record { utf8 = IsUtf8-from_is_utf8 bs both.0; no_nul = not_true (has_nul bs) both.1 }

@@ -2,7 +2,7 @@
 use Rattle.std.proofs.Common.{◌≡◌, ℕ, ◌+◌, ◌≤◌, ◌<◌, ◌^◌, Bool, true, false, cond, ltb, ◌&&◌, Option, Some, None, List, [], ◌∷◌, length, map, drop, get_or, refl, sym, ap, ◌∙◌, add-one, drop-cons, arith}
 use Rattle.std.specs.Int.{w16, w32, to_le_bytes}
 use Rattle.std.specs.List.{flat_map, AllByRecursion}
-use Rattle.std.proofs.lemmas.Bool.{lt-ltb, ltb-true, le-ltb, ltb-false}
+use Rattle.std.proofs.lemmas.Bool.{lt-ltb, ltb-true, le-ltb, ltb-false, and_parts}
 use Rattle.std.proofs.lemmas.List.{length-append, length-drop, nil_from_length}
 use Rattle.std.proofs.lemmas.List.Concat.{flat_map-cons}
 use Rattle.std.proofs.lemmas.Option.{cond_some}
@@ -76,10 +76,6 @@ number_some v limit n lt = rw (lt-ltb v limit lt) refl
 number_only : (v limit n m : ℕ) → provided (ltb v limit) n ≡ Some m → v < limit
 number_only v limit n m e = ltb-true v limit (cond_some (ltb v limit) n m e).0
 
-both_true : (a b : Bool) → (a && b) ≡ true → (a ≡ true) × (b ≡ true)
-both_true true b e = (refl, e)
-both_true false b e = absurd cc
-
 few_some : (n : ℕ) (r : Option ℕ) (m : ℕ) → n ≤ 16 → r ≡ Some m → cond (ltb 16 n) None r ≡ Some m
 few_some n r m le e = rw (le-ltb 16 n le) e
 
@@ -121,7 +117,7 @@ size_only Two v n e = number_only v (2 ^ 16) 2 n e
 size_only Four v n e = number_only v (2 ^ 32) 4 n e
 size_only Eight v n e = number_only v (2 ^ 64) 8 n e
 size_only Text v n e =
-    let p = both_true (ltb (length v) (2 ^ 16)) (is_text v) (cond_some (ltb (length v) (2 ^ 16) && is_text v) (length v + 2) n e).0 in
+    let p = and_parts (ltb (length v) (2 ^ 16)) (is_text v) (cond_some (ltb (length v) (2 ^ 16) && is_text v) (length v + 2) n e).0 in
     (ltb-true (length v) (2 ^ 16) p.0, p.1)
 size_only Raw v n e = number_only (length v) (2 ^ 32) (length v + 4) n e
 size_only (Several s) v n e =

@@ -1,4 +1,4 @@
--- What the answer to a connection's question makes of a reached world.
+-- What the answer to a connection's question makes of a reachable world.
 use Rattle.std.proofs.Common.{◌≡◌, ◌≢◌, ◌∙◌, ℕ, ◌+◌, ◌<◌, ◌≤◌, ◌==◌, Bool, true, false, Option, Some, IsSome, refl, sym, ap, subst, arith, ◌⊎◌, inl, inr}
 use Rattle.std.specs.Prelude.{slice_get}
 use Rattle.std.specs.Option.{option_map_or}
@@ -12,7 +12,7 @@ use Rattle.cs_registry.specs.Keys.{Key}
 use Rattle.cs_registry.specs.Registries.{Registry}
 use Rattle.cs_registry.specs.Runs.{change, held_at}
 use Rattle.cs_session.specs.Sessions.{Awaited, Sess, entry_at}
-use Rattle.cs_world.specs.Reached.{Gave, AreThere, awaits}
+use Rattle.cs_world.specs.Reachable.{Gave, HasAllThatIsNamed, awaits}
 use Rattle.cs_world.specs.Worlds.{World, connection}
 use Rattle.cs_world.proofs.Judging.{IsSound}
 use Rattle.cs_world.proofs.Placing.{get_set_same}
@@ -21,7 +21,7 @@ use Rattle.cs_world.proofs.Standing.{Came, Moves, Stood, gave, given, is_there, 
 
 -- ---- the registry stays, and no fid is new
 
-module _ (w : World) (ok : AreThere w) (conn : ℕ) (s' : Sess) (same : s'.pending ≡ (connection w conn).pending) where
+module _ (w : World) (ok : HasAllThatIsNamed w) (conn : ℕ) (s' : Sess) (same : s'.pending ≡ (connection w conn).pending) where
   same_count : (place : ℕ) → one_if (awaits place s') ≡ one_if (awaits place (connection w conn))
   same_count place = ap (λ (o : Option Awaited). one_if (option_map_or (λ (p : Awaited). p.run == place) o false)) same
 
@@ -38,7 +38,7 @@ module _ (w : World) (ok : AreThere w) (conn : ℕ) (s' : Sess) (same : s'.pendi
 
 -- ---- one run changes
 
-module _ (w : World) (ok : AreThere w) (conn n : ℕ) (key : Key) (run : Found RunOf) (is : slice_get w.registry.runs n ≡ Some (key, run)) (new : Found RunOf → Found RunOf) (s' : Sess) where
+module _ (w : World) (ok : HasAllThatIsNamed w) (conn n : ℕ) (key : Key) (run : Found RunOf) (is : slice_get w.registry.runs n ≡ Some (key, run)) (new : Found RunOf → Found RunOf) (s' : Sess) where
   abbrev after : Registry RunOf
   after = record w.registry { runs = change new n w.registry.runs }
 

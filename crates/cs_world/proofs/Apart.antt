@@ -1,6 +1,6 @@
 -- Two groups of connections whose finds name runs of their own don't notice each other.
 use Rattle.std.proofs.Common.{◌≡◌, ◌≢◌, ◌∙◌, ℕ, ◌<◌, ◌==◌, Bool, true, false, not, cond, ◌&&◌, ◌||◌, List, [], ◌∷◌, length, length-set, Option, None, Some, Err, refl, sym, ap, subst, arith}
-use Rattle.std.specs.Prelude.{is_none, nat_le, nat_lt, slice_index_or, slice_set, option_and_then, string_bytes}
+use Rattle.std.specs.Prelude.{is_none, nat_le, nat_lt, slice_index_or, slice_set, option_and_then}
 use Rattle.std.specs.List.{list_any}
 use Rattle.std.specs.Option.{option_map, option_map_or}
 use Rattle.std.proofs.lemmas.Bool.{eqb-true, eqb-false}
@@ -21,11 +21,11 @@ use Rattle.cs_fids.specs.Entries.{pass_of, run_of}
 use Rattle.cs_fids.specs.Tables.{FidMap}
 use Rattle.cs_permit.specs.TreeNames.{tree_name_in}
 use Rattle.cs_run.specs.declared.answer.Answer.TheVariants.{Denied}
-use Rattle.cs_session.specs.declared.port.PassFault.TheVariants.{Foreign}
-use Rattle.cs_session.specs.declared.port.FindFault.TheVariants as fault
+use Rattle.cs_permit.specs.declared.fault.PassFault.TheVariants.{Foreign}
+use Rattle.cs_permit.specs.declared.fault.FindFault.TheVariants as fault
 use Rattle.cs_session.specs.declared.reply.Reply.{Reply as Said}
 use Rattle.cs_session.specs.declared.reply.Reply.TheVariants.{Error}
-use Rattle.cs_session.specs.Questions.{Question, Find, Enter, Ask, Told, Entered, Got}
+use Rattle.cs_session.specs.Questions.{Question, Find, Enter, Ask, PortAnswer, Entered, Got}
 use Rattle.cs_session.specs.Sessions.{Sess, blank}
 use Rattle.cs_session.specs.Steps.{Front, Done, Asks, after, front_by}
 use Rattle.cs_session.specs.Steps as c
@@ -38,10 +38,10 @@ use Rattle.cs_world.specs.declared.step.Step.TheVariants as t
 use Rattle.cs_world.specs.Asking.{answered, found_by}
 use Rattle.cs_world.specs.Groups.{NoneMeetsLimit, first_replies, first_steps, is_first, key_found, key_of, meets_limit, needs_room}
 use Rattle.cs_world.specs.Lists.{steps_of}
-use Rattle.cs_world.specs.Marks.{Mark, RunMark, below, in_run, refuses_shelf, refuses_state, refuses_table, refuses_users}
+use Rattle.cs_world.specs.Marks.{WorldMark, RunMark, below, in_run, refuses_keeping, refuses_state, refuses_table, refuses_users}
 use Rattle.cs_world.specs.Projections.{of_front}
 use Rattle.cs_world.specs.Runs.{attached, called}
-use Rattle.cs_world.specs.Steps.{by_registry, goes_from, step_of}
+use Rattle.cs_world.specs.Steps.{by_registry, from_front, step_of}
 use Rattle.cs_world.specs.Worlds.{World, connection, new_world, with_both}
 use Rattle.cs_world.proofs.Invariant.{enter_by}
 use Rattle.cs_world.proofs.Moved.{blank_moved, moved, moved_front, moved_question, moved_reply, moved_told}
@@ -63,7 +63,7 @@ named_by (Some y) state name e =
 
 -- a question that finds names the key of its step
 find_named : (now : ℕ) (s : Sess) (x : c.Step) (refused : Bool) (state name : List ℕ) → front_by now s x refused ≡ Asks (Find state name) → key_found x ≡ key_in state name
-find_named now s (c.FindStep x) refused state name e = named_by (tree_name_in (string_bytes x.aname)) state name (judged_asks s _ refused _ (Find state name) e)
+find_named now s (c.FindStep x) refused state name e = named_by (tree_name_in x.aname) state name (judged_asks s _ refused _ (Find state name) e)
 find_named now s c.AttachStep refused state name e = absurd (let its = enter_by now s s.pending refl (Find state name) e in let is : Find state name ≡ Enter now its.pending.run its.pending.call = its.is in cc)
 find_named now s (c.CallStep x) refused state name e = absurd (let its = call_asks now s (Find state name) x refused e in let is : Find state name ≡ Ask now (run_of its.held) (pass_of its.held) its.call = its.is in cc)
 find_named now s (c.CloseStep fid) refused state name e = absurd (let its = close_asks now s (Find state name) fid refused e in let is : Find state name ≡ Ask now (run_of its.held) (pass_of its.held) its.call = its.is in cc)
@@ -164,7 +164,7 @@ module _ (mine : ℕ → Bool) (ours : Key → Bool) where
           put_both ours f w.registry v.registry a.runs p (within_out (there v.registry) p (sym (let same : p ≡ out (there v.registry) p = cc in same)))
           (λ run. (Got (called run moment pass call (in_run m)).0, (called run moment pass call (in_run m)).1)) (Got (Denied S5)) (λ run g. refl)
 
-      own_by_front : (F : Front) → front_by now (connection v conn) x refused ≡ F → Alike (goes_from w conn x m (moved_front f F)) (goes_from v conn x m F)
+      own_by_front : (F : Front) → front_by now (connection v conn) x refused ≡ F → Alike (from_front w conn x m (moved_front f F)) (from_front v conn x m F)
       own_by_front (Done reply s') e = record {
         to = f;
         said = refl;
@@ -172,8 +172,8 @@ module _ (mine : ℕ → Bool) (ours : Key → Bool) where
       }
       own_by_front (Asks question) e =
           let both = asks_both question e in
-          let A : Told × Registry RunOf = answered v.registry question m in
-          let B : Told × Registry RunOf = answered w.registry (moved_question f question) m in
+          let A : PortAnswer × Registry RunOf = answered v.registry question m in
+          let B : PortAnswer × Registry RunOf = answered w.registry (moved_question f question) m in
           let same : after (connection w conn) x B.0 ≡ moved_reply both.to (after (connection v conn) x A.0) =
           (λ i. after (a.own conn is i) x (both.told i)) ∙ ap (λ (s : Sess). after s x (moved_told both.to A.0)) (moved_alike (there v.registry) f both.to both.alike (connection v conn) (a.inside conn is)) ∙ after_moved both.to (connection v conn) x A.0
           in
@@ -185,8 +185,8 @@ module _ (mine : ℕ → Bool) (ours : Key → Bool) where
                 (after_within (there A.1) (connection v conn) x A.0 (more_within (there v.registry) (there A.1) both.more (connection v conn) (a.inside conn is)) both.fixed));
           }
 
-      own_front : Alike (goes_from w conn x m (front_by now (connection w conn) x refused)) (goes_from v conn x m (front_by now (connection v conn) x refused))
-      own_front = subst (λ (F : Front). Alike (goes_from w conn x m F) (goes_from v conn x m (front_by now (connection v conn) x refused)))
+      own_front : Alike (from_front w conn x m (front_by now (connection w conn) x refused)) (from_front v conn x m (front_by now (connection v conn) x refused))
+      own_front = subst (λ (F : Front). Alike (from_front w conn x m F) (from_front v conn x m (front_by now (connection v conn) x refused)))
           (sym (ap (λ (s : Sess). front_by now s x refused) (a.own conn is) ∙ front_moved f now (connection v conn) x refused))
           (own_by_front (front_by now (connection v conn) x refused) refl)
 
@@ -226,15 +226,15 @@ module _ (mine : ℕ → Bool) (ours : Key → Bool) where
           other_put ours f w.registry v.registry a.runs p (within_out (their ours w.registry) p (sym (let same : p ≡ out (their ours w.registry) p = cc in same)))
           (λ run. (Got (called run moment pass call (in_run m)).0, (called run moment pass call (in_run m)).1)) (Got (Denied S5)) (λ run g. refl)
 
-      other_by_front : (F : Front) → front_by now (connection w conn) x refused ≡ F → Agree f (goes_from w conn x m F).1 v
+      other_by_front : (F : Front) → front_by now (connection w conn) x refused ≡ F → Agree f (from_front w conn x m F).1 v
       other_by_front (Done reply s') e = set_other w.registry s' a.runs (λ p at. at) (done_within (their ours w.registry) now (connection w conn) x refused (a.theirs conn is) reply s' e)
       other_by_front (Asks question) e =
           let its = other_asks question e in
-          let B : Told × Registry RunOf = answered w.registry question m in
+          let B : PortAnswer × Registry RunOf = answered w.registry question m in
           set_other B.1 (after (connection w conn) x B.0).1 its.agree its.still
           (after_within (their ours B.1) (connection w conn) x B.0 (more_within (their ours w.registry) (their ours B.1) its.still (connection w conn) (a.theirs conn is)) its.fixed)
 
-      other_front : Agree f (goes_from w conn x m (front_by now (connection w conn) x refused)).1 v
+      other_front : Agree f (from_front w conn x m (front_by now (connection w conn) x refused)).1 v
       other_front = other_by_front (front_by now (connection w conn) x refused) refl
 
   -- ---- any step
@@ -274,11 +274,11 @@ module _ (mine : ℕ → Bool) (ours : Key → Bool) where
       };
     }
 
-    publish_both : (number : ℕ) (mark : Mark) → Alike (step_of w (t.Publish number) mark) (step_of v (t.Publish number) mark)
+    publish_both : (number : ℕ) (mark : WorldMark) → Alike (step_of w (t.Publish number) mark) (step_of v (t.Publish number) mark)
     publish_both number mark =
-        subst (λ (y : Bool × Bool). Alike (shelved w number (not y.0) (refuses_state mark) y.1 (refuses_shelf mark)) (step_of v (t.Publish number) mark))
+        subst (λ (y : Bool × Bool). Alike (shelved w number (not y.0) (refuses_state mark) y.1 (refuses_keeping mark)) (step_of v (t.Publish number) mark))
         (λ i. (nat_lt number (length (sym a.runs.scene i).plan), slice_index_or (sym a.runs.published i) number false))
-        (shelved_both number (not (nat_lt number (length v.registry.scene.plan))) (refuses_state mark) (is_published v.registry number) (refuses_shelf mark))
+        (shelved_both number (not (nat_lt number (length v.registry.scene.plan))) (refuses_state mark) (is_published v.registry number) (refuses_keeping mark))
 
     reload_both : (users : List Row) (refused : Bool)
         → Alike (by_registry w (cond {A = Reply × Registry RunOf} refused (NotReloaded, w.registry) (Reloaded, with_users w.registry users)))
@@ -306,15 +306,15 @@ module _ (mine : ℕ → Bool) (ours : Key → Bool) where
       };
     }
 
-    turn_both : (conn now : ℕ) (x : c.Step) (mark : Mark) → mine conn ≡ true → ((k : Key) → key_found x ≡ Some k → ours k ≡ mine conn)
+    turn_both : (conn now : ℕ) (x : c.Step) (mark : WorldMark) → mine conn ≡ true → ((k : Key) → key_found x ≡ Some k → ours k ≡ mine conn)
         → (b : Bool) → nat_lt conn CONNECTIONS ≡ b
         → list_any (needs_room w.registry) (cond b (of_front (λ question. question ∷ []) (front_by now (connection w conn) x (refuses_table mark))) []) ≡ false
-        → Alike (cond {A = Reply × World} b (goes_from w conn x (below mark) (front_by now (connection w conn) x (refuses_table mark))) (Connection (Error S5), w)) (cond {A = Reply × World} b (goes_from v conn x (below mark) (front_by now (connection v conn) x (refuses_table mark))) (Connection (Error S5), v))
+        → Alike (cond {A = Reply × World} b (from_front w conn x (below mark) (front_by now (connection w conn) x (refuses_table mark))) (Connection (Error S5), w)) (cond {A = Reply × World} b (from_front v conn x (below mark) (front_by now (connection v conn) x (refuses_table mark))) (Connection (Error S5), v))
     turn_both conn now x mark is own true low few = own_front f w v a conn is (grind (arith, nat_tests)) now x (refuses_table mark) (below mark) (λ k e. own k e ∙ is) few
     turn_both conn now x mark is own false low few = stays_alike (Connection (Error S5))
 
-    turn_other : (conn now : ℕ) (x : c.Step) (mark : Mark) → mine conn ≡ false → ((k : Key) → key_found x ≡ Some k → ours k ≡ mine conn) → (b : Bool) → nat_lt conn CONNECTIONS ≡ b
-        → Agree f (cond {A = Reply × World} b (goes_from w conn x (below mark) (front_by now (connection w conn) x (refuses_table mark))) (Connection (Error S5), w)).1 v
+    turn_other : (conn now : ℕ) (x : c.Step) (mark : WorldMark) → mine conn ≡ false → ((k : Key) → key_found x ≡ Some k → ours k ≡ mine conn) → (b : Bool) → nat_lt conn CONNECTIONS ≡ b
+        → Agree f (cond {A = Reply × World} b (from_front w conn x (below mark) (front_by now (connection w conn) x (refuses_table mark))) (Connection (Error S5), w)).1 v
     turn_other conn now x mark is own true low = other_front f w v a conn is (grind (arith, nat_tests)) now x (refuses_table mark) (below mark) (λ k e. own k e ∙ is)
     turn_other conn now x mark is own false low = a
 
@@ -322,7 +322,7 @@ module _ (mine : ℕ → Bool) (ours : Key → Bool) where
     abbrev Owned : Step → Type 0
     Owned x = (k : Key) → key_of x ≡ Some k → ours k ≡ is_first mine x
 
-    step_both : (x : Step) (mark : Mark) → is_first mine x ≡ true → Owned x → meets_limit w x mark ≡ false → Alike (step_of w x mark) (step_of v x mark)
+    step_both : (x : Step) (mark : WorldMark) → is_first mine x ≡ true → Owned x → meets_limit w x mark ≡ false → Alike (step_of w x mark) (step_of v x mark)
     step_both (t.Publish number) mark is own few = publish_both number mark
     step_both (t.Reload users) mark is own few = reload_both users (refuses_users mark)
     step_both (t.Find conn message) mark is own few = turn_both conn 0 (c.FindStep message) mark is own (nat_lt conn CONNECTIONS) refl few
@@ -331,7 +331,7 @@ module _ (mine : ℕ → Bool) (ours : Key → Bool) where
     step_both (t.Close conn now fid) mark is own few = turn_both conn now (c.CloseStep fid) mark is own (nat_lt conn CONNECTIONS) refl few
     step_both (t.Table conn change) mark is own few = turn_both conn 0 (c.Table change) mark is own (nat_lt conn CONNECTIONS) refl few
 
-    step_other : (x : Step) (mark : Mark) → is_first mine x ≡ false → Owned x → Agree f (step_of w x mark).1 v
+    step_other : (x : Step) (mark : WorldMark) → is_first mine x ≡ false → Owned x → Agree f (step_of w x mark).1 v
     step_other (t.Publish number) mark is own = absurd (cc)
     step_other (t.Reload users) mark is own = absurd (cc)
     step_other (t.Find conn message) mark is own = turn_other conn 0 (c.FindStep message) mark is own (nat_lt conn CONNECTIONS) refl
@@ -342,11 +342,11 @@ module _ (mine : ℕ → Bool) (ours : Key → Bool) where
 
   -- ---- lists of steps
 
-  abbrev pub AllOwned : List (Step × Mark) → Type 0
+  abbrev pub AllOwned : List (Step × WorldMark) → Type 0
   AllOwned [] = Unit {0}
   AllOwned (x ∷ xs) = ((k : Key) → key_of x.0 ≡ Some k → ours k ≡ is_first mine x.0) × AllOwned xs
 
-  pub groups_from : (f : ℕ → ℕ) (w v : World) (xs : List (Step × Mark)) → Agree f w v → AllOwned xs → NoneMeetsLimit w xs → (steps_of v (first_steps mine xs)).0 ≡ first_replies mine xs (steps_of w xs).0
+  pub groups_from : (f : ℕ → ℕ) (w v : World) (xs : List (Step × WorldMark)) → Agree f w v → AllOwned xs → NoneMeetsLimit w xs → (steps_of v (first_steps mine xs)).0 ≡ first_replies mine xs (steps_of w xs).0
   groups_from f w v [] a own few = refl
   groups_from f w v (x ∷ xs) a own few = by (is_first mine x.0) refl (λ to v' b. groups_from to (step_of w x.0 x.1).1 v' xs b own.1 few.1)
     where

@@ -1,6 +1,6 @@
--- What a connection of a reached world asks can be asked.
+-- What a connection of a reachable world asks can be asked.
 use Rattle.std.proofs.Common.{◌≡◌, ◌∙◌, ℕ, ◌+◌, ◌<◌, Bool, false, length, Option, None, Some, IsSome, refl, sym, ap, subst, arith}
-use Rattle.std.specs.Prelude.{IsSomeAnd, nat_lt, slice_set, string_bytes}
+use Rattle.std.specs.Prelude.{IsSomeAnd, nat_lt, slice_set}
 use Rattle.std.proofs.lemmas.Bool.{eq-eqb}
 use Rattle.std.proofs.lemmas.Bool.Decides.{nat_tests}
 use Rattle.cs_fids.specs.declared.entry.Entry.TheVariants as entry
@@ -19,7 +19,7 @@ use Rattle.cs_run.specs.Outcomes.{closes}
 use Rattle.cs_session.specs.Questions.{Question}
 use Rattle.cs_session.specs.Sessions.{Awaited, blank, entry_at}
 use Rattle.cs_session.specs.Steps.{Asks, Step, FindStep, AttachStep, CallStep, CloseStep, Table, front_by}
-use Rattle.cs_world.specs.Reached.{CanBeAsked, HasOpen, IsReached, awaits, waiting}
+use Rattle.cs_world.specs.Reachable.{CanBeAsked, HasOpen, IsReachable, awaits, waiting}
 use Rattle.cs_world.specs.Worlds.{World, connection}
 use Rattle.cs_world.proofs.Invariant.{enter_by, find_by}
 use Rattle.cs_world.proofs.Standing.{counted, given, held_there, one_if, stands}
@@ -33,7 +33,7 @@ free_by s pass asked number is stands room =
 
 -- ---- what is asked can be asked
 
-module _ (w : World) (ok : IsReached w) (conn : ℕ) (inside : conn < CONNECTIONS) where
+module _ (w : World) (ok : IsReachable w) (conn : ℕ) (inside : conn < CONNECTIONS) where
   enter_can : (p : Awaited) → (connection w conn).pending ≡ Some p → IsSomeAnd (held_at w.registry.runs p.run) (λ run. run.passes < RUN_ATTACHES)
   enter_can p waits =
       let its = stands w.registry p.run (ok.there.awaited conn p waits) in
@@ -68,7 +68,7 @@ module _ (w : World) (ok : IsReached w) (conn : ℕ) (inside : conn < CONNECTION
   -- what a connection asks can be asked
   pub can_be_asked : (now : ℕ) (x : Step) (refused : Bool) (q : Question) → front_by now (connection w conn) x refused ≡ Asks q → CanBeAsked w.registry q
   can_be_asked now (FindStep m) refused q e =
-      let its = find_by (tree_name_in (string_bytes m.aname)) q (judged_asks (connection w conn) _ refused _ q e) in
+      let its = find_by (tree_name_in m.aname) q (judged_asks (connection w conn) _ refused _ q e) in
       subst (CanBeAsked w.registry) (sym its.is) tt
   can_be_asked now AttachStep refused q e =
       let its = enter_by now (connection w conn) (connection w conn).pending refl q e in

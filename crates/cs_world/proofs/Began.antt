@@ -5,8 +5,8 @@ use Rattle.std.specs.Option.{option_map_or, option_or}
 use Rattle.cs_journal.specs.Runs.{RunOf}
 use Rattle.cs_names.specs.declared.limits.TheConstants.{CONNECTIONS}
 use Rattle.cs_names.specs.declared.rule_id.RuleId.TheVariants.{S5}
-use Rattle.cs_registry.specs.declared.fault.FindFault.{FindFault}
-use Rattle.cs_registry.specs.declared.fault.FindFault.TheVariants.{Unpublished, Full}
+use Rattle.cs_permit.specs.declared.fault.FindFault.{FindFault}
+use Rattle.cs_permit.specs.declared.fault.FindFault.TheVariants.{Unpublished, Full}
 use Rattle.cs_registry.specs.declared.found.Found.{Found}
 use Rattle.cs_registry.specs.Finds.{found_again, made}
 use Rattle.cs_registry.specs.Keys.{Key}
@@ -14,9 +14,9 @@ use Rattle.cs_registry.specs.Naming.{key_in}
 use Rattle.cs_registry.specs.Registries.{Registry, is_published}
 use Rattle.cs_registry.specs.Runs.{Runs, change, has_no_room, held_at, place_of, with_run}
 use Rattle.cs_run.specs.declared.answer.Answer.TheVariants.{Denied}
-use Rattle.cs_session.specs.declared.port.PassFault.TheVariants.{Foreign}
+use Rattle.cs_permit.specs.declared.fault.PassFault.TheVariants.{Foreign}
 use Rattle.cs_session.specs.declared.reply.Reply.TheVariants.{Error}
-use Rattle.cs_session.specs.Questions.{Question, Find, Enter, Ask, Told, Entered, Got}
+use Rattle.cs_session.specs.Questions.{Question, Find, Enter, Ask, PortAnswer, Entered, Got}
 use Rattle.cs_session.specs.Steps.{Front, Done, Asks, front_by}
 use Rattle.cs_session.specs.Steps as c
 use Rattle.cs_users.specs.Rows.{Row}
@@ -24,14 +24,14 @@ use Rattle.cs_world.specs.declared.reply.Reply.{Reply}
 use Rattle.cs_world.specs.declared.reply.Reply.TheVariants.{Connection}
 use Rattle.cs_world.specs.declared.step.Step.{Step}
 use Rattle.cs_world.specs.declared.step.Step.TheVariants as t
-use Rattle.cs_world.specs.Asking.{answered, found_by, given_run, put_run}
+use Rattle.cs_world.specs.Asking.{answered, found_by, given_run, with_run_at}
 use Rattle.cs_world.specs.Isolation.{users_made_with}
 use Rattle.cs_world.specs.Lists.{steps_of}
-use Rattle.cs_world.specs.Marks.{Mark, RunMark, below, in_run, refuses_table}
-use Rattle.cs_world.specs.Projections.{answers_of, of_front, of_turn, projection_of, put_to, run_of, told_there}
+use Rattle.cs_world.specs.Marks.{WorldMark, RunMark, below, in_run, refuses_table}
+use Rattle.cs_world.specs.Projections.{answers_of, of_front, of_turn, projection_of, put_to, run_with_key, answers_there}
 use Rattle.cs_world.specs.Runs.{attached, called}
-use Rattle.cs_world.specs.Steps.{goes_from, on_connection, step_of}
-use Rattle.cs_world.specs.Turning.{TurnOf, turn_of}
+use Rattle.cs_world.specs.Steps.{from_front, on_connection, step_of}
+use Rattle.cs_world.specs.Turning.{StepOn, connection_step}
 use Rattle.cs_world.specs.Worlds.{World, connection}
 use Rattle.cs_world.proofs.Alone.{MadeWith}
 use Rattle.cs_world.proofs.Keyed as keyed
@@ -71,8 +71,8 @@ module _ (key : Key) where
     finds mark None = there
     finds mark (Some own) = found_cases own (not (is_published r own.number)) (has_no_room r.runs own) (place_of own r.runs) (given_run r own.number mark)
 
-    puts : (n : ℕ) (o : Option RunOf) (new : RunOf → RunOf) (told : RunOf → Told) (none : Told)
-        → has_run (option_map_or {T = RunOf} {U = Told × Registry RunOf} (λ run. (told run, put_run r n (new run))) o (none, r)).1 ≡ true
+    puts : (n : ℕ) (o : Option RunOf) (new : RunOf → RunOf) (told : RunOf → PortAnswer) (none : PortAnswer)
+        → has_run (option_map_or {T = RunOf} {U = PortAnswer × Registry RunOf} (λ run. (told run, with_run_at r n (new run))) o (none, r)).1 ≡ true
     puts n None new told none = there
     puts n (Some run) new told none = changed (λ (found : Found RunOf). record found { held = new run }) n
 
@@ -82,19 +82,19 @@ module _ (key : Key) where
     asked (Ask now n pass call) m = puts n (held_at r.runs n) (λ run. (called run now pass call (in_run m)).1) (λ run. Got (called run now pass call (in_run m)).0) (Got (Denied S5))
 
   module _ (w : World) (there : has_run w.registry ≡ true) where
-    fronted : (conn : ℕ) (x : c.Step) (m : RunMark) (f : Front) → has_run (goes_from w conn x m f).1.registry ≡ true
+    fronted : (conn : ℕ) (x : c.Step) (m : RunMark) (f : Front) → has_run (from_front w conn x m f).1.registry ≡ true
     fronted conn x m (Done reply s) = there
     fronted conn x m (Asks q) = asked w.registry there q m
 
-    turned_by : (conn now : ℕ) (x : c.Step) (mark : Mark) (b : Bool)
-        → has_run (cond {A = Reply × World} b (goes_from w conn x (below mark) (front_by now (connection w conn) x (refuses_table mark))) (Connection (Error S5), w)).1.registry ≡ true
+    turned_by : (conn now : ℕ) (x : c.Step) (mark : WorldMark) (b : Bool)
+        → has_run (cond {A = Reply × World} b (from_front w conn x (below mark) (front_by now (connection w conn) x (refuses_table mark))) (Connection (Error S5), w)).1.registry ≡ true
     turned_by conn now x mark true = fronted conn x (below mark) (front_by now (connection w conn) x (refuses_table mark))
     turned_by conn now x mark false = there
 
-    turned : (conn now : ℕ) (x : c.Step) (mark : Mark) → has_run (on_connection w conn now x mark).1.registry ≡ true
+    turned : (conn now : ℕ) (x : c.Step) (mark : WorldMark) → has_run (on_connection w conn now x mark).1.registry ≡ true
     turned conn now x mark = turned_by conn now x mark (nat_lt conn CONNECTIONS)
 
-    stays : (x : Step) (mark : Mark) → has_run (step_of w x mark).1.registry ≡ true
+    stays : (x : Step) (mark : WorldMark) → has_run (step_of w x mark).1.registry ≡ true
     stays (t.Publish number) mark = ap (λ (runs : Runs RunOf). is_some (place_of key runs)) (publish_keeps w.registry number mark) ∙ there
     stays (t.Reload users) mark = ap (λ (runs : Runs RunOf). is_some (place_of key runs)) (reload_keeps w.registry users mark) ∙ there
     stays (t.Find conn message) mark = turned conn 0 (c.FindStep message) mark
@@ -103,14 +103,14 @@ module _ (key : Key) where
     stays (t.Close conn now fid) mark = turned conn now (c.CloseStep fid) mark
     stays (t.Table conn change) mark = turned conn 0 (c.Table change) mark
 
-  all_stay : (w : World) → has_run w.registry ≡ true → (xs : List (Step × Mark)) → has_run (steps_of w xs).1.registry ≡ true
+  all_stay : (w : World) → has_run w.registry ≡ true → (xs : List (Step × WorldMark)) → has_run (steps_of w xs).1.registry ≡ true
   all_stay w there [] = there
   all_stay w there (x ∷ xs) = all_stay (step_of w x.0 x.1).1 (stays w there x.0 x.1) xs
 
   -- ---- a run that began
 
   module _ (users : List Row) where
-    there_made : (w : World) → has_run w.registry ≡ true → (xs : List (Step × Mark)) → MadeWith key users w xs
+    there_made : (w : World) → has_run w.registry ≡ true → (xs : List (Step × WorldMark)) → MadeWith key users w xs
     there_made w there [] = tt
     there_made w there (x ∷ xs) = (
       λ none is. absurd (let gone : has_run w.registry ≡ false = ap (λ (o : Option ℕ). is_some o) none in cc),
@@ -118,7 +118,7 @@ module _ (key : Key) where
     )
 
     -- the users that stood then are those that it was made with
-    pub made_with : (w : World) (xs : List (Step × Mark)) → users_made_with w xs key ≡ Some users → MadeWith key users w xs
+    pub made_with : (w : World) (xs : List (Step × WorldMark)) → users_made_with w xs key ≡ Some users → MadeWith key users w xs
     made_with w [] is = tt
     made_with w (x ∷ xs) is = by (has_run (step_of w x.0 x.1).1.registry) refl is (made_with (step_of w x.0 x.1).1 xs)
       where
@@ -127,7 +127,7 @@ module _ (key : Key) where
         by true e is rest = (λ none there. (let same : Some w.registry.users ≡ Some users = is in cc), there_made (step_of w x.0 x.1).1 e xs)
         by false e is rest = (λ none there. absurd (cc), rest is)
 
-    ends_there : (w : World) (xs : List (Step × Mark)) → users_made_with w xs key ≡ Some users → has_run (steps_of w xs).1.registry ≡ true
+    ends_there : (w : World) (xs : List (Step × WorldMark)) → users_made_with w xs key ≡ Some users → has_run (steps_of w xs).1.registry ≡ true
     ends_there w [] is = absurd (cc)
     ends_there w (x ∷ xs) is = by (has_run (step_of w x.0 x.1).1.registry) refl is (ends_there (step_of w x.0 x.1).1 xs)
       where
@@ -136,24 +136,24 @@ module _ (key : Key) where
         by true e is rest = all_stay (step_of w x.0 x.1).1 e xs
         by false e is rest = rest is
 
-    run_by : (r : Registry RunOf) (o : Option ℕ) → place_of key r.runs ≡ o → is_some o ≡ true → (run : RunOf) × (run_of r key ≡ Some run)
+    run_by : (r : Registry RunOf) (o : Option ℕ) → place_of key r.runs ≡ o → is_some o ≡ true → (run : RunOf) × (run_with_key r key ≡ Some run)
     run_by r None is some = absurd (cc)
     run_by r (Some n) is some =
         let its = keyed.there key r.runs n is in
         (its.0.held, rw (is, its.1) refl)
 
     -- and it is there in the end
-    pub stands : (w : World) (xs : List (Step × Mark)) → users_made_with w xs key ≡ Some users → (run : RunOf) × (run_of (steps_of w xs).1.registry key ≡ Some run)
+    pub stands : (w : World) (xs : List (Step × WorldMark)) → users_made_with w xs key ≡ Some users → (run : RunOf) × (run_with_key (steps_of w xs).1.registry key ≡ Some run)
     stands w xs is = run_by (steps_of w xs).1.registry (place_of key (steps_of w xs).1.registry.runs) refl (ends_there w xs is)
 
   -- ---- a run that never began
 
-  no_turn : {A : Type 0} (w : World) (of : Question → List A) (none : (q : Question) → of q ≡ []) (mark : Mark) (f : Front) (b : Bool) → cond b (of_front of f) [] ≡ []
+  no_turn : {A : Type 0} (w : World) (of : Question → List A) (none : (q : Question) → of q ≡ []) (mark : WorldMark) (f : Front) (b : Bool) → cond b (of_front of f) [] ≡ []
   no_turn w of none mark f false = refl
   no_turn w of none mark (Done reply s) true = refl
   no_turn w of none mark (Asks q) true = none q
 
-  no_step : {A : Type 0} (w : World) (of : Question → List A) (none : (q : Question) → of q ≡ []) (mark : Mark) (o : Option TurnOf) → option_map_or (of_turn w of mark) o [] ≡ []
+  no_step : {A : Type 0} (w : World) (of : Question → List A) (none : (q : Question) → of q ≡ []) (mark : WorldMark) (o : Option StepOn) → option_map_or (of_turn w of mark) o [] ≡ []
   no_step w of none mark None = refl
   no_step w of none mark (Some turn) = no_turn w of none mark (front_by turn.now (connection w turn.conn) turn.step (refuses_table mark)) (nat_lt turn.conn CONNECTIONS)
 
@@ -163,18 +163,18 @@ module _ (key : Key) where
     none_put (Enter now place call) = rw none refl
     none_put (Ask now place pass call) = rw none refl
 
-    none_told : (q : Question) → told_there r key q mark ≡ []
+    none_told : (q : Question) → answers_there r key q mark ≡ []
     none_told (Find state name) = refl
     none_told (Enter now place call) = rw none refl
     none_told (Ask now place pass call) = rw none refl
 
   -- nothing was put to it, and it isn't there in the end
-  pub record Never (w : World) (xs : List (Step × Mark)) : Type 0 where
+  pub record Never (w : World) (xs : List (Step × WorldMark)) : Type 0 where
     pub puts : projection_of w xs key ≡ []
     pub answers : answers_of w xs key ≡ []
     pub gone : place_of key (steps_of w xs).1.registry.runs ≡ None
 
-  pub never : (w : World) (xs : List (Step × Mark)) → place_of key w.registry.runs ≡ None → users_made_with w xs key ≡ None → Never w xs
+  pub never : (w : World) (xs : List (Step × WorldMark)) → place_of key w.registry.runs ≡ None → users_made_with w xs key ≡ None → Never w xs
   never w [] none is = record { puts = refl; answers = refl; gone = none }
   never w (x ∷ xs) none is = by (has_run (step_of w x.0 x.1).1.registry) refl is (never (step_of w x.0 x.1).1 xs)
     where
@@ -184,7 +184,7 @@ module _ (key : Key) where
       by false e is rest =
           let later = rest (none_if (place_of key (step_of w x.0 x.1).1.registry.runs) e) is in
           record {
-            puts = λ i. no_step w (λ q. put_to w.registry key q (below x.1)) (none_put w.registry none (below x.1)) x.1 (turn_of x.0) i ++ later.puts i;
-            answers = λ i. no_step w (λ q. told_there w.registry key q (below x.1)) (none_told w.registry none (below x.1)) x.1 (turn_of x.0) i ++ later.answers i;
+            puts = λ i. no_step w (λ q. put_to w.registry key q (below x.1)) (none_put w.registry none (below x.1)) x.1 (connection_step x.0) i ++ later.puts i;
+            answers = λ i. no_step w (λ q. answers_there w.registry key q (below x.1)) (none_told w.registry none (below x.1)) x.1 (connection_step x.0) i ++ later.answers i;
             gone = later.gone;
           }

@@ -1,10 +1,10 @@
--- What a step of a connection comes to in a reached world.
+-- What a step of a connection comes to in a reachable world.
 use Rattle.std.proofs.Common.{◌≡◌, ℕ, ◌<◌, Bool, true, false, cond, Option, None, Some, refl, sym, subst, arith}
-use Rattle.std.specs.Prelude.{IsSome, IsSomeAnd, nat_le, nat_lt, string_bytes}
+use Rattle.std.specs.Prelude.{IsSome, IsSomeAnd, nat_le, nat_lt}
 use Rattle.std.proofs.lemmas.Bool.Decides.{nat_tests}
 use Rattle.cs_fids.specs.Entries.{pass_of, run_of}
 use Rattle.cs_journal.specs.Calls.{is_full}
-use Rattle.cs_journal.specs.Runs.{RunOf, state_of}
+use Rattle.cs_journal.specs.Runs.{RunOf, state_of, with_pass}
 use Rattle.cs_run.specs.Outcomes.{closes}
 use Rattle.cs_names.specs.declared.limits.TheConstants.{CONNECTIONS, RUN_ATTACHES}
 use Rattle.cs_names.specs.declared.rule_id.RuleId.TheVariants.{S5}
@@ -19,21 +19,20 @@ use Rattle.cs_session.specs.Steps.{Front, Done, Asks, Step, FindStep, AttachStep
 use Rattle.cs_world.specs.declared.reply.Reply.{Reply}
 use Rattle.cs_world.specs.declared.reply.Reply.TheVariants.{Connection}
 use Rattle.cs_world.specs.Asking.{answered}
-use Rattle.cs_world.specs.Comes.{Comes, Nobody, Alone, Finds, NoPass, Attaches, Calls}
-use Rattle.cs_world.specs.Marks.{Mark, RunMark, below, in_run, refuses_pass, refuses_table}
-use Rattle.cs_world.specs.Reached.{IsReached}
-use Rattle.cs_world.specs.Runs.{with_pass}
-use Rattle.cs_world.specs.Steps.{goes_from, on_connection, told}
+use Rattle.cs_world.specs.Comes.{ConnectionStepComesTo, Nobody, OwnAnswer, AsksRegistry, NoPass, AttachEnds, CallEnds}
+use Rattle.cs_world.specs.Marks.{WorldMark, RunMark, below, in_run, refuses_pass, refuses_table}
+use Rattle.cs_world.specs.Reachable.{IsReachable}
+use Rattle.cs_world.specs.Steps.{from_front, on_connection, continued_from}
 use Rattle.cs_world.specs.Worlds.{World, connection}
 use Rattle.cs_world.proofs.Asked.{can_be_asked}
 use Rattle.cs_world.proofs.Invariant.{enter_by, find_by}
 use Rattle.cs_world.proofs.Judging.{judged}
 use Rattle.cs_world.proofs.Tables.{call_asks, close_asks, judged_asks}
 
-module _ (w : World) (ok : IsReached w) (conn : ℕ) (inside : conn < CONNECTIONS) (now : ℕ) (x : Step) (refused : Bool) where
+module _ (w : World) (ok : IsReachable w) (conn : ℕ) (inside : conn < CONNECTIONS) (now : ℕ) (x : Step) (refused : Bool) where
   -- by the question and its answer
   abbrev Its : Question → RunMark → Type 0
-  Its q mark = Comes w conn now x refused (told w conn x (answered w.registry q mark)).0 (told w conn x (answered w.registry q mark)).1
+  Its q mark = ConnectionStepComesTo w conn now x refused (continued_from w conn x (answered w.registry q mark)).0 (continued_from w conn x (answered w.registry q mark)).1
 
   -- at a run that is there
   run_there : (place : ℕ) (P : RunOf → Type 0) → IsSomeAnd (held_at w.registry.runs place) P → (run : RunOf) × (held_at w.registry.runs place ≡ Some run) × P run
@@ -49,7 +48,7 @@ module _ (w : World) (ok : IsReached w) (conn : ℕ) (inside : conn < CONNECTION
       rw (there, room, short) (NoPass p.run p.call run e there refl)
   enters_by p mark e run there low false short =
       let room : nat_le RUN_ATTACHES run.passes ≡ false = grind (arith, nat_tests) in
-      rw (there, room, short) (Attaches p.run p.call run _ _ e there low (judged (with_pass run) now run.passes (call.Attach p.call) (in_run mark)) refl)
+      rw (there, room, short) (AttachEnds p.run p.call run _ _ e there low (judged (with_pass run) now run.passes (call.Attach p.call) (in_run mark)) refl)
 
   enters : (p : Awaited) (mark : RunMark) → front_by now (connection w conn) x refused ≡ Asks (Enter now p.run p.call) → Its (Enter now p.run p.call) mark
   enters p mark e =
@@ -65,13 +64,13 @@ module _ (w : World) (ok : IsReached w) (conn : ℕ) (inside : conn < CONNECTION
       let there : held_at w.registry.runs place ≡ Some run = its.1 in
       let low : pass < run.passes = its.2.0 in
       let known : nat_lt pass run.passes ≡ true = grind (arith, nat_tests) in
-      rw (there, known) (Calls place pass asked run _ _ e there low (judged run now pass asked (in_run mark)) refl)
+      rw (there, known) (CallEnds place pass asked run _ _ e there low (judged run now pass asked (in_run mark)) refl)
 
-module _ (w : World) (ok : IsReached w) (conn : ℕ) (inside : conn < CONNECTIONS) (now : ℕ) where
+module _ (w : World) (ok : IsReachable w) (conn : ℕ) (inside : conn < CONNECTIONS) (now : ℕ) where
   by_question : (x : Step) (refused : Bool) (q : Question) (mark : RunMark) → front_by now (connection w conn) x refused ≡ Asks q → Its w ok conn inside now x refused q mark
   by_question (FindStep m) refused q mark e =
-      let its = find_by (tree_name_in (string_bytes m.aname)) q (judged_asks (connection w conn) _ refused _ q e) in
-      Finds its.state its.name mark (subst (λ q. front_by now (connection w conn) (FindStep m) refused ≡ Asks q) its.is e) (subst (λ p. told w conn (FindStep m) (answered w.registry q mark) ≡ told w conn (FindStep m) (answered w.registry p mark)) its.is refl)
+      let its = find_by (tree_name_in m.aname) q (judged_asks (connection w conn) _ refused _ q e) in
+      AsksRegistry its.state its.name mark (subst (λ q. front_by now (connection w conn) (FindStep m) refused ≡ Asks q) its.is e) (subst (λ p. continued_from w conn (FindStep m) (answered w.registry q mark) ≡ continued_from w conn (FindStep m) (answered w.registry p mark)) its.is refl)
   by_question AttachStep refused q mark e =
       let its = enter_by now (connection w conn) (connection w conn).pending refl q e in
       subst (λ q. Its w ok conn inside now AttachStep refused q mark) (sym its.is) (enters w ok conn inside now AttachStep refused its.pending mark (subst (λ q. front_by now (connection w conn) AttachStep refused ≡ Asks q) its.is e))
@@ -83,16 +82,16 @@ module _ (w : World) (ok : IsReached w) (conn : ℕ) (inside : conn < CONNECTION
       subst (λ q. Its w ok conn inside now (CloseStep fid) refused q mark) (sym its.is) (calls w ok conn inside now (CloseStep fid) refused (run_of its.held) (pass_of its.held) its.call mark (subst (λ q. front_by now (connection w conn) (CloseStep fid) refused ≡ Asks q) its.is e))
   by_question (Table change) refused q mark e = absurd (cc)
 
-  by_front : (x : Step) (refused : Bool) (mark : RunMark) (f : Front) → front_by now (connection w conn) x refused ≡ f → Comes w conn now x refused (goes_from w conn x mark f).0 (goes_from w conn x mark f).1
-  by_front x refused mark (Done reply s) e = Alone reply s e refl refl
+  by_front : (x : Step) (refused : Bool) (mark : RunMark) (f : Front) → front_by now (connection w conn) x refused ≡ f → ConnectionStepComesTo w conn now x refused (from_front w conn x mark f).0 (from_front w conn x mark f).1
+  by_front x refused mark (Done reply s) e = OwnAnswer reply s e refl refl
   by_front x refused mark (Asks q) e = by_question x refused q mark e
 
-module _ (w : World) (ok : IsReached w) (conn now : ℕ) (x : Step) (mark : Mark) where
+module _ (w : World) (ok : IsReachable w) (conn now : ℕ) (x : Step) (mark : WorldMark) where
   by_number : (b : Bool) → nat_lt conn CONNECTIONS ≡ b
-      → Comes w conn now x (refuses_table mark) (cond {A = Reply × World} b (goes_from w conn x (below mark) (front_by now (connection w conn) x (refuses_table mark))) (Connection (Error S5), w)).0 (cond {A = Reply × World} b (goes_from w conn x (below mark) (front_by now (connection w conn) x (refuses_table mark))) (Connection (Error S5), w)).1
+      → ConnectionStepComesTo w conn now x (refuses_table mark) (cond {A = Reply × World} b (from_front w conn x (below mark) (front_by now (connection w conn) x (refuses_table mark))) (Connection (Error S5), w)).0 (cond {A = Reply × World} b (from_front w conn x (below mark) (front_by now (connection w conn) x (refuses_table mark))) (Connection (Error S5), w)).1
   by_number true is = by_front w ok conn (grind (arith, nat_tests)) now x (refuses_table mark) (below mark) (front_by now (connection w conn) x (refuses_table mark)) refl
   by_number false is = Nobody (grind (arith, nat_tests)) refl refl
 
   -- each step of a connection comes to one of these
-  pub comes : Comes w conn now x (refuses_table mark) (on_connection w conn now x mark).0 (on_connection w conn now x mark).1
+  pub comes : ConnectionStepComesTo w conn now x (refuses_table mark) (on_connection w conn now x mark).0 (on_connection w conn now x mark).1
   comes = by_number (nat_lt conn CONNECTIONS) refl

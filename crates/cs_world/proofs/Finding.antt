@@ -3,7 +3,7 @@ use Rattle.std.proofs.Common.{◌≡◌, ◌∙◌, ℕ, List, Option, None, Som
 use Rattle.std.specs.Prelude.{Result}
 use Rattle.std.specs.Option.{option_map}
 use Rattle.cs_journal.specs.Marks.{Ample}
-use Rattle.cs_registry.specs.declared.fault.FindFault.{FindFault}
+use Rattle.cs_permit.specs.declared.fault.FindFault.{FindFault}
 use Rattle.cs_registry.specs.Finds.{Finds, IsNew, found}
 use Rattle.cs_registry.specs.Keys.{Key}
 use Rattle.cs_registry.specs.Registries.{Registry}

@@ -1,6 +1,6 @@
--- Runs, passes and fids of reached worlds are there, and every step keeps that.
+-- Runs, passes and fids of reachable worlds are there, and every step keeps that.
 use Rattle.std.proofs.Common.{◌≡◌, ◌∙◌, ℕ, zero, suc, ◌<◌, Bool, true, false, cond, List, [], ◌∷◌, length, length-set, Option, None, Some, refl, sym, ap, subst, arith, rules}
-use Rattle.std.specs.Prelude.{is_some, nat_lt, option_map, string_bytes, slice_index_or, slice_set}
+use Rattle.std.specs.Prelude.{is_some, nat_lt, option_map, slice_index_or, slice_set}
 use Rattle.std.specs.FinMap.{empty, get, gets}
 use Rattle.std.proofs.lemmas.Bool.Decides.{nat_tests}
 use Rattle.std.proofs.lemmas.List.{length-replicate}
@@ -15,13 +15,13 @@ use Rattle.cs_session.specs.declared.reply.Reply.{Reply as Said}
 use Rattle.cs_session.specs.declared.reply.Reply.TheVariants.{Error}
 use Rattle.cs_permit.specs.Table.{attach_table_rules}
 use Rattle.cs_permit.specs.TreeNames.{tree_name_in}
-use Rattle.cs_session.specs.Attaches.{attach_judged, find_question}
+use Rattle.cs_session.specs.Attaches.{attach_decision, find_question}
 use Rattle.cs_permit.specs.Refusals.{Check}
-use Rattle.cs_session.specs.Judgements.{judged}
+use Rattle.cs_session.specs.Decisions.{request_decision}
 use Rattle.cs_session.specs.Questions.{Question, Find, Enter}
 use Rattle.cs_session.specs.Sessions.{Awaited, Sess, blank, entry_at}
 use Rattle.cs_session.specs.TableSteps.{table_stepped}
-use Rattle.cs_session.specs.Steps.{Front, Done, Asks, Step, FindStep, AttachStep, CallStep, CloseStep, Table, after, front_by, fronted}
+use Rattle.cs_session.specs.Steps.{Front, Done, Asks, Step, FindStep, AttachStep, CallStep, CloseStep, Table, after, front_by, front_of}
 use Rattle.cs_users.specs.Rows.{Row}
 use Rattle.cs_world.specs.declared.reply.Reply.{Reply}
 use Rattle.cs_world.specs.declared.reply.Reply.TheVariants.{Connection}
@@ -35,9 +35,9 @@ use Rattle.cs_registry.specs.Registries.{Registry, with_users}
 use Rattle.cs_fids.specs.Tables.{FidMap}
 use Rattle.cs_registry.specs.Naming.{key_in}
 use Rattle.cs_world.specs.Asking.{answered}
-use Rattle.cs_world.specs.Marks.{Mark, RunMark, below, refuses_table, refuses_users}
-use Rattle.cs_world.specs.Reached.{Gave, AreThere}
-use Rattle.cs_world.specs.Steps.{by_registry, goes_from, on_connection, step_of}
+use Rattle.cs_world.specs.Marks.{WorldMark, RunMark, below, refuses_table, refuses_users}
+use Rattle.cs_world.specs.Reachable.{Gave, HasAllThatIsNamed}
+use Rattle.cs_world.specs.Steps.{by_registry, from_front, on_connection, step_of}
 use Rattle.cs_world.specs.Worlds.{World, connection, new_world}
 use Rattle.cs_world.proofs.Answering.{stays}
 use Rattle.cs_world.proofs.Keeps.{attaches, calls, finds}
@@ -47,7 +47,7 @@ use Rattle.cs_world.proofs.Tables.{Source, Kept, Walks, Opens, Reads, call_asks,
 
 -- ---- what a connection asks
 
-judged_idle : (s : Sess) (waits : Bool) (msize : Option ℕ) (rules : List Check) (refused : Bool) (q : Option Question) (p : Question) → fronted s (judged waits msize rules refused q) ≡ Asks p → waits ≡ false
+judged_idle : (s : Sess) (waits : Bool) (msize : Option ℕ) (rules : List Check) (refused : Bool) (q : Option Question) (p : Question) → front_of s (request_decision waits msize rules refused q) ≡ Asks p → waits ≡ false
 judged_idle s true msize rules refused q p e = absurd (cc)
 judged_idle s false msize rules refused q p e = refl
 
@@ -70,13 +70,13 @@ pub record IsEnter (now : ℕ) (s : Sess) (q : Question) : Type 0 where
   pub waits : s.pending ≡ Some pending
   pub is : q ≡ Enter now pending.run pending.call
 
-pub enter_by : (now : ℕ) (s : Sess) (o : Option Awaited) → s.pending ≡ o → (q : Question) → fronted s (attach_judged now o) ≡ Asks q → IsEnter now s q
+pub enter_by : (now : ℕ) (s : Sess) (o : Option Awaited) → s.pending ≡ o → (q : Question) → front_of s (attach_decision now o) ≡ Asks q → IsEnter now s q
 enter_by now s None is q e = absurd (cc)
 enter_by now s (Some p) is q e = record { pending = p; waits = is; is = cc }
 
 -- ---- a step of a connection
 
-module _ (w : World) (ok : AreThere w) (conn : ℕ) where
+module _ (w : World) (ok : HasAllThatIsNamed w) (conn : ℕ) where
   -- the entries that a call leaves stand on runs that are there
   source_gave : (of : ℕ) (answer : Answer) (fid : ℕ) (e : Entry) → Source (connection w conn).fids of answer fid e → Gave w.registry (run_of e) (pass_of e)
   source_gave of answer fid e (Kept there) = ok.fids conn fid e there
@@ -102,8 +102,8 @@ module _ (w : World) (ok : AreThere w) (conn : ℕ) where
 
   asks_moves : (now : ℕ) (x : Step) (refused : Bool) (q : Question) (mark : RunMark) → front_by now (connection w conn) x refused ≡ Asks q → Leads x mark q
   asks_moves now (FindStep m) refused q mark e =
-      let its = find_by (tree_name_in (string_bytes m.aname)) q (judged_asks (connection w conn) _ refused _ q e) in
-      let idle : (connection w conn).pending ≡ None = none_if (connection w conn).pending (judged_idle (connection w conn) _ (connection w conn).msize (attach_table_rules (connection w conn).fids m.fid m.afid (string_bytes m.aname)) refused (find_question m) q e) in
+      let its = find_by (tree_name_in m.aname) q (judged_asks (connection w conn) _ refused _ q e) in
+      let idle : (connection w conn).pending ≡ None = none_if (connection w conn).pending (judged_idle (connection w conn) _ (connection w conn).msize (attach_table_rules (connection w conn).fids m.fid m.afid m.aname) refused (find_question m) q e) in
       subst (Leads (FindStep m) mark) (sym its.is) (finds w ok conn m idle mark (key_in its.state its.name))
   asks_moves now AttachStep refused q mark e =
       let its = enter_by now (connection w conn) (connection w conn).pending refl q e in
@@ -118,15 +118,15 @@ module _ (w : World) (ok : AreThere w) (conn : ℕ) where
       (λ answer n x there. ok.fids conn n x (left (connection w conn).fids fid n x there).1))
   asks_moves now (Table change) refused q mark e = absurd (cc)
 
-  by_front : conn < CONNECTIONS → (now : ℕ) (x : Step) (refused : Bool) (mark : RunMark) (f : Front) → front_by now (connection w conn) x refused ≡ f → AreThere (goes_from w conn x mark f).1
+  by_front : conn < CONNECTIONS → (now : ℕ) (x : Step) (refused : Bool) (mark : RunMark) (f : Front) → front_by now (connection w conn) x refused ≡ f → HasAllThatIsNamed (from_front w conn x mark f).1
   by_front inside now x refused mark (Done reply s') e = moved w ok conn inside s' w.registry (done_moves now x refused reply s' e)
   by_front inside now x refused mark (Asks q) e = moved w ok conn inside _ _ (asks_moves now x refused q mark e)
 
-  by_number : (now : ℕ) (x : Step) (mark : Mark) (b : Bool) → nat_lt conn CONNECTIONS ≡ b → AreThere (cond {A = Reply × World} b (goes_from w conn x (below mark) (front_by now (connection w conn) x (refuses_table mark))) (Connection (Error S5), w)).1
+  by_number : (now : ℕ) (x : Step) (mark : WorldMark) (b : Bool) → nat_lt conn CONNECTIONS ≡ b → HasAllThatIsNamed (cond {A = Reply × World} b (from_front w conn x (below mark) (front_by now (connection w conn) x (refuses_table mark))) (Connection (Error S5), w)).1
   by_number now x mark true is = by_front (grind (arith, nat_tests)) now x (refuses_table mark) (below mark) (front_by now (connection w conn) x (refuses_table mark)) refl
   by_number now x mark false is = ok
 
-  pub connection_keeps : (now : ℕ) (x : Step) (mark : Mark) → AreThere (on_connection w conn now x mark).1
+  pub connection_keeps : (now : ℕ) (x : Step) (mark : WorldMark) → HasAllThatIsNamed (on_connection w conn now x mark).1
   connection_keeps now x mark = by_number now x mark (nat_lt conn CONNECTIONS) refl
 
 -- ---- a publish
@@ -138,8 +138,8 @@ index_set_true (x ∷ xs) zero (suc k) is = is
 index_set_true (x ∷ xs) (suc n) zero is = is
 index_set_true (x ∷ xs) (suc n) (suc k) is = index_set_true xs n k is
 
-module _ (w : World) (ok : AreThere w) where
-  more_published : (number : ℕ) → AreThere (record w { registry = with_published w.registry number })
+module _ (w : World) (ok : HasAllThatIsNamed w) where
+  more_published : (number : ℕ) → HasAllThatIsNamed (record w { registry = with_published w.registry number })
   more_published number = record {
     all = ok.all;
     states = length-set w.registry.published number true ∙ ok.states;
@@ -155,14 +155,14 @@ module _ (w : World) (ok : AreThere w) where
     fids = ok.fids;
   }
 
-  publish_by : (number : ℕ) (a b c d : Bool) → AreThere (by_registry w (cond {A = Reply × Registry RunOf} a (Unpublished f.NoSuchState, w.registry) (cond b (Unpublished f.Memory, w.registry) (cond c (Unpublished f.Twice, w.registry) (cond d (Unpublished f.Memory, w.registry) (Published, with_published w.registry number)))))).1
+  publish_by : (number : ℕ) (a b c d : Bool) → HasAllThatIsNamed (by_registry w (cond {A = Reply × Registry RunOf} a (Unpublished f.NoSuchState, w.registry) (cond b (Unpublished f.Memory, w.registry) (cond c (Unpublished f.Twice, w.registry) (cond d (Unpublished f.Memory, w.registry) (Published, with_published w.registry number)))))).1
   publish_by number true b c d = ok
   publish_by number false true c d = ok
   publish_by number false false true d = ok
   publish_by number false false false true = ok
   publish_by number false false false false = more_published number
 
-  other_users : (users : List Row) → AreThere (record w { registry = with_users w.registry users })
+  other_users : (users : List Row) → HasAllThatIsNamed (record w { registry = with_users w.registry users })
   other_users users = record {
     all = ok.all;
     states = ok.states;
@@ -178,12 +178,12 @@ module _ (w : World) (ok : AreThere w) where
     fids = ok.fids;
   }
 
-  reload_by : (users : List Row) (refused : Bool) → AreThere (by_registry w (cond {A = Reply × Registry RunOf} refused (NotReloaded, w.registry) (Reloaded, with_users w.registry users))).1
+  reload_by : (users : List Row) (refused : Bool) → HasAllThatIsNamed (by_registry w (cond {A = Reply × Registry RunOf} refused (NotReloaded, w.registry) (Reloaded, with_users w.registry users))).1
   reload_by users true = ok
   reload_by users false = other_users users
 
   -- each step keeps it
-  pub step_keeps : (x : t.Step) (mark : Mark) → AreThere (step_of w x mark).1
+  pub step_keeps : (x : t.Step) (mark : WorldMark) → HasAllThatIsNamed (step_of w x mark).1
   step_keeps (s.Publish number) mark = publish_by number _ _ _ _
   step_keeps (s.Reload users) mark = reload_by users (refuses_users mark)
   step_keeps (s.Find conn message) mark = connection_keeps w ok conn 0 (FindStep message) mark
@@ -201,7 +201,7 @@ nothing_there : (fid : ℕ) → get no_fids fid ≡ None
 nothing_there fid = search (rules, gets)
 
 -- a new world is so
-pub new_is : (scene : Scene) (users : List Row) → AreThere (new_world scene users)
+pub new_is : (scene : Scene) (users : List Row) → HasAllThatIsNamed (new_world scene users)
 new_is scene users =
     let none : (conn : ℕ) → connection (new_world scene users) conn ≡ blank None = λ conn. index_replicate CONNECTIONS conn (blank None) in
     record {

@@ -1,27 +1,26 @@
 -- The three laws of isolation, of a list of steps from a new world.
-use Rattle.std.proofs.Common.{◌≡◌, ◌∙◌, ℕ, List, [], ◌∷◌, map, Option, None, Some, refl, sym, ap, subst}
+use Rattle.std.proofs.Common.{◌≡◌, ◌∙◌, ℕ, List, [], Option, None, Some, refl, sym, ap, subst}
 use Rattle.std.specs.Prelude.{option_and_then}
 use Rattle.std.specs.Option.{option_map}
 use Rattle.cs_journal.specs.Runs.{RunOf, fresh_run}
 use Rattle.cs_plan.specs.Scenes.{Scene, state_at}
 use Rattle.cs_registry.specs.Keys.{Key}
 use Rattle.cs_registry.specs.Runs.{held_at}
-use Rattle.cs_session.specs.Questions.{Told}
+use Rattle.cs_session.specs.Questions.{PortAnswer}
 use Rattle.cs_tree_model.specs.Tree.{Tree}
 use Rattle.cs_users.specs.Rows.{Row}
 use Rattle.cs_world.specs.declared.heard.Heard.{Heard}
 use Rattle.cs_world.specs.declared.reply.Reply.{Reply}
 use Rattle.cs_world.specs.declared.step.Step.{Step}
 use Rattle.cs_world.specs.Isolation.{AreSame, HaveSameUsers, IsAlone, IsIsolated, NoneReachesAnother, run_after, users_made_with}
-use Rattle.cs_world.specs.Lists.{IsRun, steps_of}
-use Rattle.cs_world.specs.Marks.{Mark, RunMark}
-use Rattle.cs_world.specs.Projections.{IsAlike, alone, answers_of, heard_said, projection_of, projection_said}
+use Rattle.cs_world.specs.Lists.{IsStepList, steps_of}
+use Rattle.cs_world.specs.Marks.{WorldMark, RunMark}
+use Rattle.cs_world.specs.Projections.{alone, answers_of, projection_of}
 use Rattle.cs_world.specs.Worlds.{World, new_world}
 use Rattle.cs_world.proofs.Alone.{alone_there, first_found, first_of, from, from_none}
 use Rattle.cs_world.proofs.Began.{made_with, never, stands}
 use Rattle.cs_world.proofs.Grouping.{groups}
 use Rattle.cs_world.proofs.Remarked.{run_told}
-use Rattle.cs_world.proofs.SameRuns.{alone_same}
 use Rattle.cs_world.proofs.Users.{alone_users}
 
 module _ (scene : Scene) (users : List Row) (key : Key) where
@@ -32,16 +31,16 @@ module _ (scene : Scene) (users : List Row) (key : Key) where
   abbrev start : List Row → Option RunOf
   start own = option_map (λ tree. fresh_run tree own) (state_at scene key.number)
 
-  abbrev puts : List (Step × Mark) → List (Heard × RunMark)
+  abbrev puts : List (Step × WorldMark) → List (Heard × RunMark)
   puts marked = projection_of w marked key
 
-  ends : (marked : List (Step × Mark)) (own : List Row) → users_made_with w marked key ≡ Some own → (o : Option RunOf) → start own ≡ o
-      → ◌≡◌ {A = List Told × Option RunOf} (answers_of w marked key, first_of key own (steps_of w marked).1.registry) (from o (puts marked))
+  ends : (marked : List (Step × WorldMark)) (own : List Row) → users_made_with w marked key ≡ Some own → (o : Option RunOf) → start own ≡ o
+      → ◌≡◌ {A = List PortAnswer × Option RunOf} (answers_of w marked key, first_of key own (steps_of w marked).1.registry) (from o (puts marked))
   ends marked own stood o is = alone_there key own w marked (made_with key own w marked stood) ∙ ap (λ (o : Option RunOf). from o (puts marked)) is
 
   -- ---- a run that was found is that of what reached it, alone
 
-  record IsFrom (marked : List (Step × Mark)) (run : RunOf) : Type 0 where
+  record IsFrom (marked : List (Step × WorldMark)) (run : RunOf) : Type 0 where
     own : List Row
     stood : users_made_with w marked key ≡ Some own
     fresh : RunOf
@@ -49,35 +48,35 @@ module _ (scene : Scene) (users : List Row) (key : Key) where
     answers : answers_of w marked key ≡ (alone fresh (puts marked)).0
     ends : run ≡ (alone fresh (puts marked)).1
 
-  from_by : (marked : List (Step × Mark)) (own : List Row) → users_made_with w marked key ≡ Some own → (o : Option RunOf) → start own ≡ o → (run : RunOf) → run_after w marked key ≡ Some run → IsFrom marked run
+  from_by : (marked : List (Step × WorldMark)) (own : List Row) → users_made_with w marked key ≡ Some own → (o : Option RunOf) → start own ≡ o → (run : RunOf) → run_after w marked key ≡ Some run → IsFrom marked run
   from_by marked own stood None is run found =
       let there : first_of key own (steps_of w marked).1.registry ≡ Some run = first_found key own (steps_of w marked).1.registry run found in
-      absurd (let none : first_of key own (steps_of w marked).1.registry ≡ None = ap (λ (x : List Told × Option RunOf). x.1) (ends marked own stood None is) in cc)
+      absurd (let none : first_of key own (steps_of w marked).1.registry ≡ None = ap (λ (x : List PortAnswer × Option RunOf). x.1) (ends marked own stood None is) in cc)
   from_by marked own stood (Some fresh) is run found =
       let its = ends marked own stood (Some fresh) is in
-      let there : Some run ≡ Some (alone fresh (puts marked)).1 = sym (first_found key own (steps_of w marked).1.registry run found) ∙ ap (λ (x : List Told × Option RunOf). x.1) its in
-      record { own = own; stood = stood; fresh = fresh; begins = is; answers = ap (λ (x : List Told × Option RunOf). x.0) its; ends = cc }
+      let there : Some run ≡ Some (alone fresh (puts marked)).1 = sym (first_found key own (steps_of w marked).1.registry run found) ∙ ap (λ (x : List PortAnswer × Option RunOf). x.1) its in
+      record { own = own; stood = stood; fresh = fresh; begins = is; answers = ap (λ (x : List PortAnswer × Option RunOf). x.0) its; ends = cc }
 
-  began : (marked : List (Step × Mark)) (run : RunOf) → run_after w marked key ≡ Some run → (o : Option (List Row)) → users_made_with w marked key ≡ o → IsFrom marked run
+  began : (marked : List (Step × WorldMark)) (run : RunOf) → run_after w marked key ≡ Some run → (o : Option (List Row)) → users_made_with w marked key ≡ o → IsFrom marked run
   began marked run found None stood =
       absurd (let its = never key w marked refl stood in let none : run_after w marked key ≡ None = ap (λ (o : Option ℕ). option_and_then (held_at (steps_of w marked).1.registry.runs) o) its.gone in cc)
   began marked run found (Some own) stood = from_by marked own stood (start own) refl run found
 
-  its_from : (marked : List (Step × Mark)) (run : RunOf) → run_after w marked key ≡ Some run → IsFrom marked run
+  its_from : (marked : List (Step × WorldMark)) (run : RunOf) → run_after w marked key ≡ Some run → IsFrom marked run
   its_from marked run found = began marked run found (users_made_with w marked key) refl
 
   begin_users : (own : List Row) (o : Option Tree) (fresh : RunOf) → option_map (λ tree. fresh_run tree own) o ≡ Some fresh → fresh.users ≡ own
   begin_users own None fresh is = absurd (cc)
   begin_users own (Some tree) fresh is = let same : fresh_run tree own ≡ fresh = cc in ap (λ (r : RunOf). r.users) (sym same)
 
-  own_users : (marked : List (Step × Mark)) (run : RunOf) (its : IsFrom marked run) → run.users ≡ its.own
+  own_users : (marked : List (Step × WorldMark)) (run : RunOf) (its : IsFrom marked run) → run.users ≡ its.own
   own_users marked run its = ap (λ (r : RunOf). r.users) its.ends ∙ alone_users its.fresh (puts marked) ∙ begin_users its.own (state_at scene key.number) its.fresh its.begins
 
   -- and it has the users that stood when it was made
-  pub has_users : (marked : List (Step × Mark)) (run : RunOf) → run_after w marked key ≡ Some run → users_made_with w marked key ≡ Some run.users
+  pub has_users : (marked : List (Step × WorldMark)) (run : RunOf) → run_after w marked key ≡ Some run → users_made_with w marked key ≡ Some run.users
   has_users marked run found = let its = its_from marked run found in its.stood ∙ ap Some (sym (own_users marked run its))
 
-  pub is_alone : (marked : List (Step × Mark)) (run : RunOf) → run_after w marked key ≡ Some run → IsAlone w marked key run
+  pub is_alone : (marked : List (Step × WorldMark)) (run : RunOf) → run_after w marked key ≡ Some run → IsAlone w marked key run
   is_alone marked run found =
       let its = its_from marked run found in
       record {
@@ -88,23 +87,16 @@ module _ (scene : Scene) (users : List Row) (key : Key) where
         ends = its.ends;
       }
 
-  -- ---- what reaches it alike leaves it alike
-
-  same_alike : (run : RunOf) → IsAlike run run
-  same_alike run = record { state_is = refl; journal = refl; passes = refl }
+  -- ---- the same calls leave the same run
 
   -- where nothing was put to it, nothing was told
-  nothing_said : (xs : List (Heard × RunMark)) → [] ≡ map heard_said xs → xs ≡ []
-  nothing_said [] is = refl
-  nothing_said (x ∷ xs) is = absurd (cc)
-
-  untold : (marked : List (Step × Mark)) (o : Option (List Row)) → users_made_with w marked key ≡ o → puts marked ≡ [] → answers_of w marked key ≡ []
+  untold : (marked : List (Step × WorldMark)) (o : Option (List Row)) → users_made_with w marked key ≡ o → puts marked ≡ [] → answers_of w marked key ≡ []
   untold marked None stood none = (never key w marked refl stood).answers
   untold marked (Some own) stood none =
-      ap (λ (x : List Told × Option RunOf). x.0) (ends marked own stood (start own) refl) ∙ ap (λ (l : List (Heard × RunMark)). (from (start own) l).0) none
-      ∙ ap (λ (x : List Told × Option RunOf). x.0) (sym (from_none (start own)))
+      ap (λ (x : List PortAnswer × Option RunOf). x.0) (ends marked own stood (start own) refl) ∙ ap (λ (l : List (Heard × RunMark)). (from (start own) l).0) none
+      ∙ ap (λ (x : List PortAnswer × Option RunOf). x.0) (sym (from_none (start own)))
 
-  module _ (xs ys : List (Step × Mark)) (have : HaveSameUsers w xs ys key) (alike : projection_said w xs key ≡ projection_said w ys key) where
+  module _ (xs ys : List (Step × WorldMark)) (have : HaveSameUsers w xs ys key) (alike : puts xs ≡ puts ys) where
     -- both runs began the same
     same_fresh : (run other : RunOf) → run_after w xs key ≡ Some run → run_after w ys key ≡ Some other → (one : IsFrom xs run) (two : IsFrom ys other) → two.fresh ≡ one.fresh
     same_fresh run other found there one two =
@@ -112,24 +104,23 @@ module _ (scene : Scene) (users : List Row) (key : Key) where
         let both : Some two.fresh ≡ Some one.fresh = sym two.begins ∙ ap start own ∙ one.begins in
         cc
 
-    runs_same : (run other : RunOf) → run_after w xs key ≡ Some run → run_after w ys key ≡ Some other → (answers_of w xs key ≡ answers_of w ys key) × IsAlike run other
+    runs_same : (run other : RunOf) → run_after w xs key ≡ Some run → run_after w ys key ≡ Some other → (answers_of w xs key ≡ answers_of w ys key) × (run ≡ other)
     runs_same run other found there =
         let one = its_from xs run found in
         let two = its_from ys other there in
         let fresh = same_fresh run other found there one two in
-        let both = alone_same one.fresh one.fresh (same_alike one.fresh) (puts xs) (puts ys) alike in
-        let theirs : other ≡ (alone one.fresh (puts ys)).1 = two.ends ∙ ap (λ (f : RunOf). (alone f (puts ys)).1) fresh in (
-          one.answers ∙ both.0 ∙ sym (two.answers ∙ ap (λ (f : RunOf). (alone f (puts ys)).0) fresh),
-          subst (λ (x : RunOf). IsAlike x other) (sym one.ends) (subst (λ (x : RunOf). IsAlike (alone one.fresh (puts xs)).1 x) (sym theirs) both.1),
+        let both : alone one.fresh (puts xs) ≡ alone two.fresh (puts ys) = λ i. alone (sym fresh i) (alike i) in (
+          one.answers ∙ ap (λ (x : List PortAnswer × RunOf). x.0) both ∙ sym two.answers,
+          one.ends ∙ ap (λ (x : List PortAnswer × RunOf). x.1) both ∙ sym two.ends,
         )
 
     answers_by : (o p : Option (List Row)) → users_made_with w xs key ≡ o → users_made_with w ys key ≡ p → answers_of w xs key ≡ answers_of w ys key
     answers_by None p is js =
         let its = never key w xs refl is in
-        its.answers ∙ sym (untold ys p js (nothing_said (puts ys) (sym (ap (λ (l : List (Heard × RunMark)). map heard_said l) its.puts) ∙ alike)))
+        its.answers ∙ sym (untold ys p js (sym alike ∙ its.puts))
     answers_by (Some own) None is js =
         let its = never key w ys refl js in
-        untold xs (Some own) is (nothing_said (puts xs) (sym (ap (λ (l : List (Heard × RunMark)). map heard_said l) its.puts) ∙ sym alike)) ∙ sym its.answers
+        untold xs (Some own) is (alike ∙ its.puts) ∙ sym its.answers
     answers_by (Some own) (Some other) is js =
         let one = stands key own w xs is in
         let two = stands key other w ys js in
@@ -143,7 +134,7 @@ module _ (scene : Scene) (users : List Row) (key : Key) where
 
 module _ (scene : Scene) (users : List Row) where
   -- all three, of every list
-  pub none_reaches : (marked : List (Step × Mark)) → NoneReachesAnother (new_world scene users) marked
+  pub none_reaches : (marked : List (Step × WorldMark)) → NoneReachesAnother (new_world scene users) marked
   none_reaches marked = record {
     alone = λ key run found. is_alone scene users key marked run found;
     same = λ others key have alike. same scene users key marked others have alike;
@@ -151,7 +142,7 @@ module _ (scene : Scene) (users : List Row) where
   }
 
   -- and of one that was run
-  pub by_run : (w : World) → w ≡ new_world scene users → (steps : List Step) (replies : List Reply) (w' : World) → IsRun w steps replies w' → IsIsolated w steps replies w'
+  pub by_run : (w : World) → w ≡ new_world scene users → (steps : List Step) (replies : List Reply) (w' : World) → IsStepList w steps replies w' → IsIsolated w steps replies w'
   by_run w new steps replies w' run =
       let its = run_told w steps replies w' run in
-      record { run = its.0; told = its.1; laws = subst (λ (x : World). NoneReachesAnother x its.0.marked) (sym new) (none_reaches its.0.marked) }
+      record { taken = its.0; wants = its.1; laws = subst (λ (x : World). NoneReachesAnother x its.0.marked) (sym new) (none_reaches its.0.marked) }

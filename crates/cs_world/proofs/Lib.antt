@@ -31,10 +31,6 @@ pub mod Proper
 pub mod Reached
 pub mod Reaching
 pub mod Remarked
-pub mod SameCalls
-pub mod SameRuns
-pub mod Saying
-pub mod SayingWorlds
 pub mod Standing
 pub mod Stepping
 pub mod Tables

@@ -7,14 +7,14 @@ use Rattle.cs_registry.specs.Registries.{Registry, is_published}
 use Rattle.cs_world.specs.declared.reply.Reply.{Reply}
 use Rattle.cs_world.specs.declared.reply.Reply.TheVariants.{Published, Unpublished}
 use Rattle.cs_world.specs.declared.reply.StateFault.TheVariants.{Twice, Memory}
-use Rattle.cs_world.specs.Marks.{Mark, Below, NoPass, NoShelf}
+use Rattle.cs_world.specs.Marks.{WorldMark, Below, NoPass, NoKeeping}
 use Rattle.cs_world.specs.Publishing.{published}
 
 module _ (old new : Registry RunOf) (number made : ℕ) (e : made ≡ number) (low : made < length old.scene.plan) where
   inside : nat_lt made (length old.scene.plan) ≡ true
   inside = grind (arith, nat_tests)
 
-  abbrev pub Comes : Reply → Mark → ℕ → Type 0
+  abbrev pub Comes : Reply → WorldMark → ℕ → Type 0
   Comes reply mark n = ◌≡◌ {A = Reply × Registry RunOf} (reply, new) (published old n mark)
 
   pub is_kept : is_published old made ≡ false → new ≡ with_published old made → Comes Published (Below NoPass) number
@@ -23,5 +23,5 @@ module _ (old new : Registry RunOf) (number made : ℕ) (e : made ≡ number) (l
   pub is_twice : is_published old made ≡ true → new ≡ old → Comes (Unpublished Twice) (Below NoPass) number
   is_twice there is = subst (Comes (Unpublished Twice) (Below NoPass)) e (rw (inside, there, is) refl)
 
-  pub is_short : is_published old made ≡ false → new ≡ old → Comes (Unpublished Memory) NoShelf number
-  is_short free is = subst (Comes (Unpublished Memory) NoShelf) e (rw (inside, free, is) refl)
+  pub is_short : is_published old made ≡ false → new ≡ old → Comes (Unpublished Memory) NoKeeping number
+  is_short free is = subst (Comes (Unpublished Memory) NoKeeping) e (rw (inside, free, is) refl)

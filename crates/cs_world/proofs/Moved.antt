@@ -21,8 +21,8 @@ use Rattle.cs_permit.specs.Modes.{are_bad_permissions, covers_read, covers_write
 use Rattle.cs_permit.specs.Table.{attach_table_rules, create_table_rules, is_full, is_unknown, open_mode, open_table_rules, read_table_rules, walk_table_rules, write_table_rules}
 use Rattle.cs_permit.specs.TreeNames.{tree_name_in}
 use Rattle.cs_session.specs.declared.reply.Reply.{Reply}
-use Rattle.cs_session.specs.Judgements.{opened_at, walked_at}
-use Rattle.cs_session.specs.Questions.{Question, Find, Enter, Ask, Told, Found, Entered, Got}
+use Rattle.cs_session.specs.Decisions.{opened_at, walked_at}
+use Rattle.cs_session.specs.Questions.{Question, Find, Enter, Ask, PortAnswer, Found, Entered, Got}
 use Rattle.cs_session.specs.Sessions.{Awaited, Sess, blank}
 use Rattle.cs_session.specs.Steps.{Front, Done, Asks}
 use Rattle.cs_tree_model.specs.Maps.Values.{map_entries, map_values, entries-map_values, get-map_values}
@@ -54,7 +54,7 @@ abbrev pub moved_front : (ℕ → ℕ) → Front → Front
 moved_front f (Done reply s) = Done reply (moved f s)
 moved_front f (Asks q) = Asks (moved_question f q)
 
-abbrev pub moved_told : (ℕ → ℕ) → Told → Told
+abbrev pub moved_told : (ℕ → ℕ) → PortAnswer → PortAnswer
 moved_told f (Found (Ok place)) = Found (Ok (f place))
 moved_told f (Found (Err fault)) = Found (Err fault)
 moved_told f (Entered x) = Entered x

@@ -1,6 +1,6 @@
 -- A connection whose runs stand at other places does and leaves the same, but for the places.
 use Rattle.std.proofs.Common.{◌≡◌, ◌∙◌, ℕ, ◌&&◌, Bool, true, false, cond, List, [], ◌∷◌, Option, None, Some, Ok, Err, refl, sym, ap}
-use Rattle.std.specs.Prelude.{is_none, is_some, option_and_then, string_bytes}
+use Rattle.std.specs.Prelude.{is_none, is_some, option_and_then}
 use Rattle.std.specs.Option.{option_map, option_map_or}
 use Rattle.std.specs.FinMap.{get}
 use Rattle.cs_fids.specs.declared.entry.Entry.{Entry}
@@ -27,18 +27,18 @@ use Rattle.cs_session.specs.declared.message.TableStep.{TableStep}
 use Rattle.cs_session.specs.declared.message.TableStep.TheVariants as t
 use Rattle.cs_session.specs.declared.reply.Reply.{Reply}
 use Rattle.cs_session.specs.declared.reply.Reply.TheVariants as r
-use Rattle.cs_session.specs.Attaches.{attach_after, attach_judged, entered}
+use Rattle.cs_session.specs.Attaches.{attach_after, attach_decision, attach_settled}
 use Rattle.cs_session.specs.Calls.{call_after}
-use Rattle.cs_session.specs.Changes.{remove_reply}
+use Rattle.cs_session.specs.Removes.{remove_reply}
 use Rattle.cs_session.specs.Closes.{close_question, close_reply}
-use Rattle.cs_session.specs.Judgements.{after_session, judge, opened_at, walked_at}
+use Rattle.cs_session.specs.Decisions.{after_session, decide, opened_at, walked_at}
 use Rattle.cs_session.specs.Names.{file_in, user_in}
 use Rattle.cs_session.specs.Opens.{create_after, create_named, open_after, open_left}
-use Rattle.cs_session.specs.Questions.{Question, Find, Told, Found, Entered, Got}
+use Rattle.cs_session.specs.Questions.{Question, Find, PortAnswer, Found, Entered, Got}
 use Rattle.cs_session.specs.Reads.{copies_name, cut, read_after, read_left}
 use Rattle.cs_session.specs.Sessions.{Awaited, Sess, blank, with_fids}
-use Rattle.cs_session.specs.Steps.{Step, FindStep, AttachStep, CallStep, CloseStep, Table, after, done, front_by, fronted}
-use Rattle.cs_session.specs.TableSteps.{clunk_left, clunk_reply, clunked, table_stepped, tabled}
+use Rattle.cs_session.specs.Steps.{Step, FindStep, AttachStep, CallStep, CloseStep, Table, after, done, front_by, front_of}
+use Rattle.cs_session.specs.TableSteps.{clunk_left, clunk_reply, clunked, table_stepped, after_change}
 use Rattle.cs_session.specs.Versions.{versioned}
 use Rattle.cs_session.specs.Walks.{walk_after, walk_left}
 use Rattle.cs_world.proofs.Moved.{attach_rules, blank_moved, create_rules, get_moved, insert_moved, least_moved, moved, moved_awaited, moved_entry, moved_fid, moved_fids, moved_front, moved_left, moved_question, moved_reply, moved_told, number_same, of_entry, of_opened, of_walked, open_rules, open_same, opened_moved, read_rules, remove_moved, some_by, unknown, user_same, walk_rules, walked_moved, write_rules}
@@ -46,7 +46,7 @@ use Rattle.cs_world.proofs.Moved.{attach_rules, blank_moved, create_rules, get_m
 module _ (f : ℕ → ℕ) where
   -- ---- what a step does first
 
-  judged_moved : (s : Sess) (o : Option RuleId) (refused : Bool) (q : Option Question) → fronted (moved f s) (judge o refused (option_map (moved_question f) q)) ≡ moved_front f (fronted s (judge o refused q))
+  judged_moved : (s : Sess) (o : Option RuleId) (refused : Bool) (q : Option Question) → front_of (moved f s) (decide o refused (option_map (moved_question f) q)) ≡ moved_front f (front_of s (decide o refused q))
   judged_moved s (Some rule) refused q = refl
   judged_moved s None true q = refl
   judged_moved s None false None = refl
@@ -57,9 +57,9 @@ module _ (f : ℕ → ℕ) where
 
   -- one law for all: the rules, the growth and the question are the same but for places
   shape : (s : Sess) (rules' rules : List Check) → rules' ≡ rules → (refused' refused : Bool) → refused' ≡ refused → (q' q : Option Question) → q' ≡ option_map (moved_question f) q
-      → fronted (moved f s) (judge (first_failing (after_session (is_some (option_map (moved_awaited f) s.pending)) s.msize rules')) refused' q') ≡ moved_front f (fronted s (judge (first_failing (after_session (is_some s.pending) s.msize rules)) refused q))
+      → front_of (moved f s) (decide (first_failing (after_session (is_some (option_map (moved_awaited f) s.pending)) s.msize rules')) refused' q') ≡ moved_front f (front_of s (decide (first_failing (after_session (is_some s.pending) s.msize rules)) refused q))
   shape s rules' rules same refused' refused as_much q' q asked =
-      (λ i. fronted (moved f s) (judge (first_failing (after_session (waits s i) s.msize (same i))) (as_much i) (asked i)))
+      (λ i. front_of (moved f s) (decide (first_failing (after_session (waits s i) s.msize (same i))) (as_much i) (asked i)))
       ∙ judged_moved s (first_failing (after_session (is_some s.pending) s.msize rules)) refused q
 
   find_same : (o : Option (List ℕ × List ℕ)) → option_map (λ (name : List ℕ × List ℕ). Find name.0 name.1) o ≡ option_map (moved_question f) (option_map (λ (name : List ℕ × List ℕ). Find name.0 name.1) o)
@@ -80,7 +80,7 @@ module _ (f : ℕ → ℕ) where
   call_front : (now : ℕ) (s : Sess) (x : CallMessage) (refused : Bool) → front_by now (moved f s) (CallStep x) refused ≡ moved_front f (front_by now s (CallStep x) refused)
   call_front now s (m.Walk x) refused = shape s _ _ (walk_rules f s.fids x.fid x.newfid) refused refused refl _ _ (of_walked f now s.fids (λ y. c.Walk (record { number = y.number; user = y.user; names = x.names })) (λ y. refl) x.fid)
   call_front now s (m.Open x) refused = shape s _ _ (open_rules f s.fids x.fid x.mode) refused refused refl _ _ (of_walked f now s.fids (λ y. c.Open (record { number = y.number; user = y.user; mode = x.mode })) (λ y. refl) x.fid)
-  call_front now s (m.Create x) refused = shape s _ _ (create_rules f s.fids x.fid (string_bytes x.name) x.perm x.mode) refused refused refl _ _ (create_asks now s.fids x (file_in (string_bytes x.name)))
+  call_front now s (m.Create x) refused = shape s _ _ (create_rules f s.fids x.fid x.name x.perm x.mode) refused refused refl _ _ (create_asks now s.fids x (file_in x.name))
   call_front now s (m.Read x) refused =
       shape s _ _ (read_rules f s.fids x.fid) _ _ (λ i. refused && copies s.fids x.fid i) _ _ (of_opened f now s.fids (λ y. c.Read (record { number = y.number; offset = x.offset; count = cut s.msize x.count; place = y.state.place })) (λ y. refl) x.fid)
   call_front now s (m.Write x) refused = shape s _ _ (write_rules f s.fids x.fid) refused refused refl _ _ (of_opened f now s.fids (λ y. c.Write (record { number = y.number; user = y.user; offset = x.offset; bytes = x.bytes })) (λ y. refl) x.fid)
@@ -92,13 +92,13 @@ module _ (f : ℕ → ℕ) where
       shape s _ _ (λ i. (Q1, unknown f s.fids x.fid i) ∷ []) refused refused refl _ _
       (of_entry f now s.fids (λ y. c.Wstat (record { number = number_of y; user = user_of y; stat = x.stat })) (λ y i. c.Wstat (record { number = number_same f y i; user = user_same f y i; stat = x.stat })) x.fid)
 
-  enter_front : (now : ℕ) (s : Sess) (o : Option Awaited) → fronted (moved f s) (attach_judged now (option_map (moved_awaited f) o)) ≡ moved_front f (fronted s (attach_judged now o))
+  enter_front : (now : ℕ) (s : Sess) (o : Option Awaited) → front_of (moved f s) (attach_decision now (option_map (moved_awaited f) o)) ≡ moved_front f (front_of s (attach_decision now o))
   enter_front now s None = refl
   enter_front now s (Some p) = refl
 
   close_front : (now : ℕ) (s : Sess) (fid : ℕ) (refused : Bool) → front_by now (moved f s) (CloseStep fid) refused ≡ moved_front f (front_by now s (CloseStep fid) refused)
   close_front now s fid refused =
-      (λ i. fronted (moved f s) (judge (first_failing ((S5, waits s i) ∷ [])) false (of_opened f now s.fids (λ y. c.Close (record { open_number = y.state.open_number; user = y.user })) (λ y. refl) fid i)))
+      (λ i. front_of (moved f s) (decide (first_failing ((S5, waits s i) ∷ [])) false (of_opened f now s.fids (λ y. c.Close (record { open_number = y.state.open_number; user = y.user })) (λ y. refl) fid i)))
       ∙ judged_moved s (first_failing ((S5, is_some s.pending) ∷ [])) false (close_question now s.fids fid)
 
   -- ---- the steps of the table
@@ -122,23 +122,23 @@ module _ (f : ℕ → ℕ) where
   cond_moved true x' y' x y e g = e
   cond_moved false x' y' x y e g = g
 
-  tabled_moved : (s : Sess) (x : TableStep) → tabled (moved f s) x ≡ moved_reply f (tabled s x)
+  tabled_moved : (s : Sess) (x : TableStep) → after_change (moved f s) x ≡ moved_reply f (after_change s x)
   tabled_moved s (t.Clunk fid) = cond_moved (is_none s.msize) _ _ (r.Error S1, s) (clunked s fid) refl (clunk_moved s fid)
   tabled_moved s (t.Version msize version) =
-      ap (λ (o : Option ℕ). cond (is_some o) (r.Error S5, moved f s) (versioned msize (string_bytes version))) (least_moved f s.fids)
-      ∙ cond_moved (is_some (least_open s.fids)) _ _ (r.Error S5, s) (versioned msize (string_bytes version)) refl (λ i. ((versioned msize (string_bytes version)).0, sym (blank_moved f (versioned msize (string_bytes version)).1.msize) i))
+      ap (λ (o : Option ℕ). cond (is_some o) (r.Error S5, moved f s) (versioned msize version)) (least_moved f s.fids)
+      ∙ cond_moved (is_some (least_open s.fids)) _ _ (r.Error S5, s) (versioned msize version) refl (λ i. ((versioned msize version).0, sym (blank_moved f (versioned msize version).1.msize) i))
   tabled_moved s t.HangUp =
       ap (λ (o : Option ℕ). cond (is_some o) (r.Error S5, moved f s) (r.Closed, blank None)) (least_moved f s.fids)
       ∙ cond_moved (is_some (least_open s.fids)) _ _ (r.Error S5, s) (r.Closed, blank None) refl (λ i. (r.Closed, sym (blank_moved f None) i))
 
   table_moved : (s : Sess) (x : TableStep) → table_stepped (moved f s) x ≡ moved_reply f (table_stepped s x)
   table_moved s x =
-      ap (λ (b : Bool). cond b (r.Error S5, moved f s) (tabled (moved f s) x)) (waits s)
-      ∙ cond_moved (is_some s.pending) _ _ (r.Error S5, s) (tabled s x) refl (tabled_moved s x)
+      ap (λ (b : Bool). cond b (r.Error S5, moved f s) (after_change (moved f s) x)) (waits s)
+      ∙ cond_moved (is_some s.pending) _ _ (r.Error S5, s) (after_change s x) refl (tabled_moved s x)
 
   -- what a step does first is the same but for the places
   pub front_moved : (now : ℕ) (s : Sess) (x : Step) (refused : Bool) → front_by now (moved f s) x refused ≡ moved_front f (front_by now s x refused)
-  front_moved now s (FindStep x) refused = shape s _ _ (attach_rules f s.fids x.fid x.afid (string_bytes x.aname)) refused refused refl _ _ (find_same (tree_name_in (string_bytes x.aname)))
+  front_moved now s (FindStep x) refused = shape s _ _ (attach_rules f s.fids x.fid x.afid x.aname) refused refused refl _ _ (find_same (tree_name_in x.aname))
   front_moved now s AttachStep refused = enter_front now s s.pending
   front_moved now s (CallStep x) refused = call_front now s x refused
   front_moved now s (CloseStep fid) refused = close_front now s fid refused
@@ -146,15 +146,15 @@ module _ (f : ℕ → ℕ) where
 
   -- ---- what comes of an answer
 
-  rooted_moved : (fids : FidMap) (fid run : ℕ) (user : Option (List ℕ)) (pass : ℕ) (answer : Answer) → entered (moved_fids f fids) fid (f run) user pass answer ≡ moved_left f (entered fids fid run user pass answer)
+  rooted_moved : (fids : FidMap) (fid run : ℕ) (user : Option (List ℕ)) (pass : ℕ) (answer : Answer) → attach_settled (moved_fids f fids) fid (f run) user pass answer ≡ moved_left f (attach_settled fids fid run user pass answer)
   rooted_moved fids fid run None pass (a.Attached qid) = refl
   rooted_moved fids fid run (Some user) pass (a.Attached qid) = λ i. (r.Attach qid, sym (insert_moved f fids fid (entry.Walked (walked_fid run pass 0 user))) i)
   rooted_moved fids fid run user pass answer = refl
 
-  enter_moved : (s : Sess) (o : Option Awaited) (told : Told) → attach_after (moved f s) (option_map (moved_awaited f) o) (moved_told f told) ≡ moved_reply f (attach_after s o told)
+  enter_moved : (s : Sess) (o : Option Awaited) (told : PortAnswer) → attach_after (moved f s) (option_map (moved_awaited f) o) (moved_told f told) ≡ moved_reply f (attach_after s o told)
   enter_moved s None told = refl
   enter_moved s (Some p) (Entered (Ok x)) =
-      λ i. (let y = rooted_moved s.fids p.fid p.run (user_in (string_bytes p.call.user)) x.0 x.1 i in (y.0, record { msize = s.msize; pending = None; fids = y.1 }))
+      λ i. (let y = rooted_moved s.fids p.fid p.run (user_in p.call.user) x.0 x.1 i in (y.0, record { msize = s.msize; pending = None; fids = y.1 }))
   enter_moved s (Some p) (Entered (Err fault)) = refl
   enter_moved s (Some p) (Found (Ok place)) = refl
   enter_moved s (Some p) (Found (Err fault)) = refl
@@ -204,7 +204,7 @@ module _ (f : ℕ → ℕ) where
   call_moved fids (m.Wstat x) answer = refl
 
   -- what comes of what it is told is the same but for the places
-  pub after_moved : (s : Sess) (x : Step) (told : Told) → after (moved f s) x (moved_told f told) ≡ moved_reply f (after s x told)
+  pub after_moved : (s : Sess) (x : Step) (told : PortAnswer) → after (moved f s) x (moved_told f told) ≡ moved_reply f (after s x told)
   after_moved s (FindStep x) (Found (Ok place)) = refl
   after_moved s (FindStep x) (Found (Err fault)) = refl
   after_moved s (FindStep x) (Entered e) = refl

@@ -9,23 +9,23 @@ use Rattle.cs_permit.specs.declared.call.Call.TheVariants as call
 use Rattle.cs_run.specs.declared.answer.Answer.{Answer}
 use Rattle.cs_journal.specs.Calls.{ended, is_full}
 use Rattle.cs_journal.specs.Marks.{StepMark, refuses_entry}
-use Rattle.cs_journal.specs.Runs.{Fits, PassOf, RunOf, fresh_pass, state_of}
+use Rattle.cs_journal.specs.Runs.{Fits, PassOf, RunOf, fresh_pass, state_of, with_pass}
 use Rattle.cs_journal.specs.Steps.{Stepped, step}
 use Rattle.cs_world.specs.Marks.{RunMark, InRun}
 use Rattle.cs_world.specs.Passes.{AreOf}
-use Rattle.cs_world.specs.Runs.{attached, called, ran, run_step, under}
+use Rattle.cs_world.specs.Runs.{attached, called, answer_and_run, run_step, under}
 use Rattle.cs_world.proofs.Placing.{get_pushed, get_set}
 
 -- ---- what a step leaves of its run doesn't hang on the pass's receipts
 
 module _ (r : RunOf) (p : PassOf) (now : ℕ) (c : Call) (mark : StepMark) where
-  same_by : (full short : Bool) → is_full (state_of r) p.number c ≡ full → (refuses_entry mark && not (is_some (ended (state_of r).opens p.number c))) ≡ short → ran (step r p now c mark) ≡ run_step r now p.number c mark
+  same_by : (full short : Bool) → is_full (state_of r) p.number c ≡ full → (refuses_entry mark && not (is_some (ended (state_of r).opens p.number c))) ≡ short → answer_and_run (step r p now c mark) ≡ run_step r now p.number c mark
   unfolding step
   same_by true short f e = rw f refl
   same_by false true f e = rw (f, e) refl
   same_by false false f e = rw (f, e) refl
 
-  same_step : ran (step r p now c mark) ≡ run_step r now p.number c mark
+  same_step : answer_and_run (step r p now c mark) ≡ run_step r now p.number c mark
   same_step = same_by _ _ refl refl
 
   keeps_by : (full short : Bool) → is_full (state_of r) p.number c ≡ full → (refuses_entry mark && not (is_some (ended (state_of r).opens p.number c))) ≡ short → ((step r p now c mark).run.passes ≡ r.passes) × ((step r p now c mark).pass.number ≡ p.number)
@@ -45,7 +45,7 @@ Stepping r p now c answer r' p' = (mark : StepMark) × (◌≡◌ {A = Stepped} 
 module _ (r : RunOf) (p : PassOf) (now : ℕ) (c : Call) (answer : Answer) (r' : RunOf) (p' : PassOf) (t : Stepping r p now c answer r' p') where
   -- it is the definition's
   pub taken : ◌≡◌ {A = Answer × RunOf} (answer, r') (run_step r now p.number c t.0)
-  taken = ap ran t.1 ∙ same_step r p now c t.0
+  taken = ap answer_and_run t.1 ∙ same_step r p now c t.0
 
   pub same_passes : r'.passes ≡ r.passes
   same_passes = ap (λ (s : Stepped). s.run.passes) t.1 ∙ (keeps r p now c t.0).0
@@ -83,7 +83,7 @@ module _ (r : RunOf) (ps : List PassOf) (all : AreOf r ps) (n : ℕ) (p : PassOf
 
 -- ---- an attach
 
-module _ (r : RunOf) (ps : List PassOf) (all : AreOf r ps) (r1 : RunOf) (p : PassOf) (new : r1 ≡ record r { passes = r.passes + 1 }) (made : p ≡ fresh_pass r.passes) (now : ℕ) (c : AttachCall) (answer : Answer) (r' : RunOf) (p' : PassOf) (t : Stepping r1 p now (call.Attach c) answer r' p') where
+module _ (r : RunOf) (ps : List PassOf) (all : AreOf r ps) (r1 : RunOf) (p : PassOf) (new : r1 ≡ with_pass r) (made : p ≡ fresh_pass r.passes) (now : ℕ) (c : AttachCall) (answer : Answer) (r' : RunOf) (p' : PassOf) (t : Stepping r1 p now (call.Attach c) answer r' p') where
   pub enters : length ps < RUN_ATTACHES → (number : ℕ) → number ≡ p.number → (mark : RunMark) × (◌≡◌ (Ok (number, answer), r') (attached r now c mark))
   enters few number is =
       let count : length ps ≡ r.passes = all.all in

@@ -1,6 +1,6 @@
--- In a reached world a step in which memory refuses nothing doesn't tell want of memory: each question is answered in its kind.
+-- In a reachable world a step in which memory refuses nothing doesn't tell want of memory: each question is answered in its kind.
 use Rattle.std.proofs.Common.{◌≡◌, ℕ, zero, suc, ◌<◌, Bool, true, false, not, cond, List, [], ◌∷◌, length, Option, None, Some, Result, Ok, Err, refl, subst, arith}
-use Rattle.std.specs.Prelude.{is_none, is_some, nat_le, nat_lt, option_and_then, option_map, slice_get, slice_index_or, string_bytes}
+use Rattle.std.specs.Prelude.{is_none, is_some, nat_le, nat_lt, option_and_then, option_map, slice_get, slice_index_or}
 use Rattle.std.specs.FinMap.{get}
 use Rattle.std.specs.Option.{option_map_or}
 use Rattle.cs_fids.specs.declared.entry.Entry.{Entry}
@@ -10,19 +10,19 @@ use Rattle.cs_fids.specs.Tables.{least_open}
 use Rattle.cs_journal.specs.Calls.{is_full}
 use Rattle.cs_journal.specs.Journals.{seen}
 use Rattle.cs_journal.specs.Marks.{Ample}
-use Rattle.cs_journal.specs.Runs.{RunOf, state_of}
+use Rattle.cs_journal.specs.Runs.{RunOf, state_of, with_pass}
 use Rattle.cs_journal.specs.Steps.{step}
 use Rattle.cs_names.specs.declared.limits.TheConstants.{CONNECTIONS, RUN_ATTACHES}
 use Rattle.cs_names.specs.declared.rule_id.RuleId.{RuleId}
 use Rattle.cs_names.specs.declared.rule_id.RuleId.TheVariants.{H2, S4, S5}
-use Rattle.cs_permit.specs.Calls.{State, first}
+use Rattle.cs_permit.specs.Calls.{RulesView, first}
 use Rattle.cs_permit.specs.declared.call.Call.{Call}
 use Rattle.cs_permit.specs.declared.call.Call.TheVariants as c
 use Rattle.cs_permit.specs.TreeNames.{tree_name_in}
 use Rattle.cs_plan.specs.declared.recipe.Recipe.{Recipe}
 use Rattle.cs_plan.specs.Scenes.{state_at}
-use Rattle.cs_registry.specs.declared.fault.FindFault.{FindFault}
-use Rattle.cs_registry.specs.declared.fault.FindFault.TheVariants.{Unpublished, Full}
+use Rattle.cs_permit.specs.declared.fault.FindFault.{FindFault}
+use Rattle.cs_permit.specs.declared.fault.FindFault.TheVariants.{Unpublished, Full}
 use Rattle.cs_registry.specs.Finds.{found_again, made}
 use Rattle.cs_registry.specs.Keys.{Key}
 use Rattle.cs_registry.specs.Naming.{key_in}
@@ -40,39 +40,41 @@ use Rattle.cs_session.specs.declared.message.CallMessage.TheVariants as m
 use Rattle.cs_session.specs.declared.message.CreateMessage.{CreateMessage}
 use Rattle.cs_session.specs.declared.message.TableStep.{TableStep}
 use Rattle.cs_session.specs.declared.message.TableStep.TheVariants as t
-use Rattle.cs_session.specs.declared.port.PassFault.{PassFault}
-use Rattle.cs_session.specs.declared.port.PassFault.TheVariants as pass
+use Rattle.cs_permit.specs.declared.fault.PassFault.{PassFault}
+use Rattle.cs_permit.specs.declared.fault.PassFault.TheVariants as pass
 use Rattle.cs_session.specs.declared.reply.Reply.{Reply as Said}
 use Rattle.cs_session.specs.declared.reply.Reply.TheVariants as r
-use Rattle.cs_session.specs.Attaches.{attach_after, attach_judged, entered, find_question}
-use Rattle.cs_session.specs.Changes.{remove_question, stat_question, write_question, wstat_question}
+use Rattle.cs_session.specs.Attaches.{attach_after, attach_decision, attach_settled, find_question}
+use Rattle.cs_session.specs.Removes.{remove_question}
+use Rattle.cs_session.specs.Stats.{stat_question, wstat_question}
+use Rattle.cs_session.specs.Writes.{write_question}
 use Rattle.cs_session.specs.Closes.{close_question}
-use Rattle.cs_session.specs.Judgements.{judge, opened_at, walked_at}
+use Rattle.cs_session.specs.Decisions.{decide, opened_at, walked_at}
 use Rattle.cs_session.specs.Names.{file_in, user_in}
 use Rattle.cs_session.specs.Opens.{create_named, create_question, open_question}
-use Rattle.cs_session.specs.Questions.{Question, Enter, Ask, Told, Entered, Got}
+use Rattle.cs_session.specs.Questions.{Question, Enter, Ask, PortAnswer, Entered, Got}
 use Rattle.cs_session.specs.Sessions.{Awaited, Sess, entry_at}
-use Rattle.cs_session.specs.Steps.{Step as Taken, FindStep, AttachStep, CallStep, CloseStep, Table, after, front_by, fronted}
+use Rattle.cs_session.specs.Steps.{Step as Taken, FindStep, AttachStep, CallStep, CloseStep, Table, after, front_by, front_of}
 use Rattle.cs_session.specs.Reads.{read_question}
-use Rattle.cs_session.specs.TableSteps.{clunk_reply, table_stepped, tabled}
+use Rattle.cs_session.specs.TableSteps.{clunk_reply, table_stepped, after_change}
 use Rattle.cs_session.specs.Walks.{walk_question}
 use Rattle.cs_world.specs.declared.reply.Reply.{Reply}
 use Rattle.cs_world.specs.declared.reply.Reply.TheVariants.{Connection, Published, Unpublished as Refused}
 use Rattle.cs_world.specs.declared.reply.StateFault.TheVariants as state
 use Rattle.cs_world.specs.declared.step.Step.{Step}
 use Rattle.cs_world.specs.declared.step.Step.TheVariants as s
-use Rattle.cs_world.specs.Ample.{ample, is_short, is_short_said}
-use Rattle.cs_world.specs.Asking.{answered, call_told, enter_told, find_told, found_by, given_run}
+use Rattle.cs_world.specs.Ample.{ample, tells_want, session_tells_want}
+use Rattle.cs_world.specs.Asking.{answered, call_answer, attach_answer, find_answer, found_by, given_run}
 use Rattle.cs_world.specs.Marks.{InRun}
-use Rattle.cs_world.specs.Reached.{IsReached}
-use Rattle.cs_world.specs.Runs.{attached, called, run_step, with_pass}
-use Rattle.cs_world.specs.Steps.{goes_from, step_of}
+use Rattle.cs_world.specs.Reachable.{IsReachable}
+use Rattle.cs_world.specs.Runs.{attached, called, run_step}
+use Rattle.cs_world.specs.Steps.{from_front, step_of}
 use Rattle.cs_world.specs.Worlds.{World, connection}
 
 -- ---- a call on a run
 
 -- it is denied, or granted: what is so of both is so of its answer
-module _ (run : RunOf) (now number : ℕ) (call : Call) (P : Answer → Type 0) (denied : (rule : RuleId) → P (a.Denied rule)) (granted : (st : State) (w : Turn) → P (effect_of st w call).answer) where
+module _ (run : RunOf) (now number : ℕ) (call : Call) (P : Answer → Type 0) (denied : (rule : RuleId) → P (a.Denied rule)) (granted : (st : RulesView) (w : Turn) → P (effect_of st w call).answer) where
   run_by : (full : Bool) (fails : Option RuleId) → is_full (state_of run) number call ≡ full → first (seen (state_of run)) call ≡ fails → P (run_step run now number call Ample).0
   unfolding step outcome
   run_by true fails f e = rw f (denied _)
@@ -100,15 +102,15 @@ module _ (w : World) (conn : ℕ) where
   here = connection w conn
 
   -- what comes of the answer doesn't tell want of memory
-  abbrev Suffices : Taken → Told → Type 0
-  Suffices x told = is_short_said (after here x told).0 ≡ false
+  abbrev Suffices : Taken → PortAnswer → Type 0
+  Suffices x told = session_tells_want (after here x told).0 ≡ false
 
   abbrev Asked : Taken → Question → Type 0
   Asked x q = Suffices x (answered w.registry q (InRun Ample)).0
 
   -- a call
-  module _ (x : Taken) (now place number : ℕ) (call : Call) (denied : (rule : RuleId) → Suffices x (Got (a.Denied rule))) (granted : (st : State) (turn : Turn) → Suffices x (Got (effect_of st turn call).answer)) where
-    asks_by : (o : Option RunOf) → Suffices x (option_map_or {T = RunOf} {U = Told × Registry RunOf} (λ run. call_told w.registry place (called run now number call Ample)) o (Got (a.Denied S5), w.registry)).0
+  module _ (x : Taken) (now place number : ℕ) (call : Call) (denied : (rule : RuleId) → Suffices x (Got (a.Denied rule))) (granted : (st : RulesView) (turn : Turn) → Suffices x (Got (effect_of st turn call).answer)) where
+    asks_by : (o : Option RunOf) → Suffices x (option_map_or {T = RunOf} {U = PortAnswer × Registry RunOf} (λ run. call_answer w.registry place (called run now number call Ample)) o (Got (a.Denied S5), w.registry)).0
     asks_by None = denied S5
     asks_by (Some run) = call_answers run now number call (λ (answer : Answer). Suffices x (Got answer)) denied granted
 
@@ -124,9 +126,9 @@ module _ (w : World) (conn : ℕ) where
 
   -- a step that is judged
   abbrev Goes : Taken → Result Question Said → Type 0
-  Goes x judged = is_short (goes_from w conn x (InRun Ample) (fronted here judged)).0 ≡ false
+  Goes x judged = tells_want (from_front w conn x (InRun Ample) (front_of here judged)).0 ≡ false
 
-  goes : (x : Taken) (o : Option RuleId) (q : Option Question) → ((p : Question) → q ≡ Some p → Asked x p) → Goes x (judge o false q)
+  goes : (x : Taken) (o : Option RuleId) (q : Option Question) → ((p : Question) → q ≡ Some p → Asked x p) → Goes x (decide o false q)
   goes x (Some rule) q ok = refl
   goes x None None ok = refl
   goes x None (Some p) ok = ok p refl
@@ -137,7 +139,7 @@ module _ (w : World) (conn : ℕ) where
   AllGiven = (number : ℕ) → is_published w.registry number ≡ true → is_some (state_at w.registry.scene number) ≡ true
 
   find_by : (x : AttachMessage) (key : Key) (published full : Bool) (o : Option ℕ) (g : Option RunOf) → (published ≡ true → is_some g ≡ true)
-      → Suffices (FindStep x) (find_told (cond {A = Result ℕ FindFault × Registry RunOf} (not published) (Err Unpublished, w.registry) (cond full (Err Full, w.registry) (option_map_or (found_again w.registry) o (made w.registry key g))))).0
+      → Suffices (FindStep x) (find_answer (cond {A = Result ℕ FindFault × Registry RunOf} (not published) (Err Unpublished, w.registry) (cond full (Err Full, w.registry) (option_map_or (found_again w.registry) o (made w.registry key g))))).0
   find_by x key false full o g ok = refl
   find_by x key true true o g ok = refl
   find_by x key true false (Some n) g ok = refl
@@ -154,24 +156,24 @@ module _ (w : World) (conn : ℕ) where
 
   module _ (p : Awaited) (now : ℕ) where
     abbrev IsEntered : Result (ℕ × Answer) PassFault → Type 0
-    IsEntered told = is_short_said (attach_after here (Some p) (Entered told)).0 ≡ false
+    IsEntered told = session_tells_want (attach_after here (Some p) (Entered told)).0 ≡ false
 
-    rooted_by : (user : Option (List ℕ)) (number : ℕ) (qid : _) → is_short_said (entered here.fids p.fid p.run user number (a.Attached qid)).0 ≡ false
+    rooted_by : (user : Option (List ℕ)) (number : ℕ) (qid : _) → session_tells_want (attach_settled here.fids p.fid p.run user number (a.Attached qid)).0 ≡ false
     rooted_by None number qid = refl
     rooted_by (Some user) number qid = refl
 
     attached_by : (run : RunOf) (full : Bool) → nat_le RUN_ATTACHES run.passes ≡ full → IsEntered (attached run now p.call (InRun Ample)).0
     attached_by run true e = rw e refl
-    attached_by run false e = rw e (run_answers (with_pass run) now run.passes (c.Attach p.call) (λ (answer : Answer). IsEntered (Ok (run.passes, answer))) (λ rule. refl) (λ st turn. rooted_by (user_in (string_bytes p.call.user)) run.passes _))
+    attached_by run false e = rw e (run_answers (with_pass run) now run.passes (c.Attach p.call) (λ (answer : Answer). IsEntered (Ok (run.passes, answer))) (λ rule. refl) (λ st turn. rooted_by (user_in p.call.user) run.passes _))
 
-    entered_by : (o : Option RunOf) → is_short_said (attach_after here (Some p) (option_map_or {T = RunOf} {U = Told × Registry RunOf} (λ run. enter_told w.registry p.run (attached run now p.call (InRun Ample))) o (Entered (Err pass.Foreign), w.registry)).0).0 ≡ false
+    entered_by : (o : Option RunOf) → session_tells_want (attach_after here (Some p) (option_map_or {T = RunOf} {U = PortAnswer × Registry RunOf} (λ run. attach_answer w.registry p.run (attached run now p.call (InRun Ample))) o (Entered (Err pass.Foreign), w.registry)).0).0 ≡ false
     entered_by None = refl
     entered_by (Some run) = attached_by run (nat_le RUN_ATTACHES run.passes) refl
 
-  attach_goes : (now : ℕ) (o : Option Awaited) → here.pending ≡ o → Goes AttachStep (attach_judged now here.pending)
+  attach_goes : (now : ℕ) (o : Option Awaited) → here.pending ≡ o → Goes AttachStep (attach_decision now here.pending)
   attach_goes now None is = rw is refl
   attach_goes now (Some p) is =
-      let its : is_short_said (attach_after here here.pending (answered w.registry (Enter now p.run p.call) (InRun Ample)).0).0 ≡ false = rw is (entered_by p now (held_at w.registry.runs p.run)) in
+      let its : session_tells_want (attach_after here here.pending (answered w.registry (Enter now p.run p.call) (InRun Ample)).0).0 ≡ false = rw is (entered_by p now (held_at w.registry.runs p.run)) in
       rw is its
 
   -- ---- a call's step
@@ -185,33 +187,33 @@ module _ (w : World) (conn : ℕ) where
   stat_tells fid None = refl
   stat_tells fid (Some stat) = refl
 
-  call_goes : (now : ℕ) (x : CallMessage) → is_short (goes_from w conn (CallStep x) (InRun Ample) (front_by now here (CallStep x) false)).0 ≡ false
+  call_goes : (now : ℕ) (x : CallMessage) → tells_want (from_front w conn (CallStep x) (InRun Ample) (front_by now here (CallStep x) false)).0 ≡ false
   unfolding open_effect write_effect remove_effect wstat_effect
   call_goes now (m.Walk x) = goes (CallStep (m.Walk x)) _ (walk_question now here.fids x) (λ p e. made_of (CallStep (m.Walk x)) _ (walked_at here.fids x.fid) p e (λ f. asks (CallStep (m.Walk x)) now f.run f.pass _ (λ rule. refl) (λ st turn. refl)))
   call_goes now (m.Open x) = goes (CallStep (m.Open x)) _ (open_question now here.fids x) (λ p e. made_of (CallStep (m.Open x)) _ (walked_at here.fids x.fid) p e (λ f. asks (CallStep (m.Open x)) now f.run f.pass _ (λ rule. refl) (λ st turn. refl)))
-  call_goes now (m.Create x) = goes (CallStep (m.Create x)) _ (create_question now here.fids x) (λ p e. create_asked now x (file_in (string_bytes x.name)) p e)
+  call_goes now (m.Create x) = goes (CallStep (m.Create x)) _ (create_question now here.fids x) (λ p e. create_asked now x (file_in x.name) p e)
   call_goes now (m.Read x) = goes (CallStep (m.Read x)) _ (read_question now here.msize here.fids x) (λ p e. made_of (CallStep (m.Read x)) _ (opened_at here.fids x.fid) p e (λ f. asks (CallStep (m.Read x)) now f.run f.pass _ (λ rule. refl) (λ st turn. refl)))
   call_goes now (m.Write x) = goes (CallStep (m.Write x)) _ (write_question now here.fids x) (λ p e. made_of (CallStep (m.Write x)) _ (opened_at here.fids x.fid) p e (λ f. asks (CallStep (m.Write x)) now f.run f.pass _ (λ rule. refl) (λ st turn. refl)))
   call_goes now (m.Remove fid) = goes (CallStep (m.Remove fid)) _ (remove_question now here.fids fid) (λ p e. made_of (CallStep (m.Remove fid)) _ (get here.fids fid) p e (λ f. asks (CallStep (m.Remove fid)) now (run_of f) (pass_of f) _ (λ rule. refl) (λ st turn. refl)))
   call_goes now (m.Stat fid) = goes (CallStep (m.Stat fid)) _ (stat_question now here.fids fid) (λ p e. made_of (CallStep (m.Stat fid)) _ (get here.fids fid) p e (λ f. asks (CallStep (m.Stat fid)) now (run_of f) (pass_of f) _ (λ rule. refl) (λ st turn. stat_tells fid _)))
   call_goes now (m.Wstat x) = goes (CallStep (m.Wstat x)) _ (wstat_question now here.fids x) (λ p e. made_of (CallStep (m.Wstat x)) _ (get here.fids x.fid) p e (λ f. asks (CallStep (m.Wstat x)) now (run_of f) (pass_of f) _ (λ rule. refl) (λ st turn. refl)))
 
-  close_goes : (now fid : ℕ) → is_short (goes_from w conn (CloseStep fid) (InRun Ample) (front_by now here (CloseStep fid) false)).0 ≡ false
+  close_goes : (now fid : ℕ) → tells_want (from_front w conn (CloseStep fid) (InRun Ample) (front_by now here (CloseStep fid) false)).0 ≡ false
   unfolding close_effect
   close_goes now fid = goes (CloseStep fid) _ (close_question now here.fids fid) (λ p e. made_of (CloseStep fid) _ (opened_at here.fids fid) p e (λ f. asks (CloseStep fid) now f.run f.pass _ (λ rule. refl) (λ st turn. refl)))
 
   -- ---- a change of the table
 
-  clunk_tells : (o : Option Entry) → is_short_said (clunk_reply o) ≡ false
+  clunk_tells : (o : Option Entry) → session_tells_want (clunk_reply o) ≡ false
   clunk_tells None = refl
   clunk_tells (Some (entry.Opened f)) = refl
   clunk_tells (Some (entry.Walked f)) = refl
 
-  version_tells : (low spoken : Bool) (msize : ℕ) → is_short_said (cond low (r.Error S4) (r.Version msize spoken)) ≡ false
+  version_tells : (low spoken : Bool) (msize : ℕ) → session_tells_want (cond low (r.Error S4) (r.Version msize spoken)) ≡ false
   version_tells true spoken msize = refl
   version_tells false spoken msize = refl
 
-  tabled_by : (x : TableStep) (b : Bool) → is_none here.msize ≡ b → (d : Bool) → is_some (least_open here.fids) ≡ d → is_short_said (tabled here x).0 ≡ false
+  tabled_by : (x : TableStep) (b : Bool) → is_none here.msize ≡ b → (d : Bool) → is_some (least_open here.fids) ≡ d → session_tells_want (after_change here x).0 ≡ false
   tabled_by (t.Clunk fid) true e d g = rw e refl
   tabled_by (t.Clunk fid) false e d g = rw e (clunk_tells (entry_at here fid))
   tabled_by (t.Version msize version) b e true g = rw g refl
@@ -219,31 +221,31 @@ module _ (w : World) (conn : ℕ) where
   tabled_by t.HangUp b e true g = rw g refl
   tabled_by t.HangUp b e false g = rw g refl
 
-  table_by : (x : TableStep) (b : Bool) → is_some here.pending ≡ b → is_short_said (table_stepped here x).0 ≡ false
+  table_by : (x : TableStep) (b : Bool) → is_some here.pending ≡ b → session_tells_want (table_stepped here x).0 ≡ false
   table_by x true e = rw e refl
   table_by x false e = rw e (tabled_by x (is_none here.msize) refl (is_some (least_open here.fids)) refl)
 
   -- ---- each step
 
-  turn_goes : AllGiven → (now : ℕ) (x : Taken) → is_short (goes_from w conn x (InRun Ample) (front_by now here x false)).0 ≡ false
-  turn_goes given now (FindStep x) = goes (FindStep x) _ (find_question x) (λ p e. made_of (FindStep x) _ (tree_name_in (string_bytes x.aname)) p e (λ (name : List ℕ × List ℕ). find_asked given x (key_in name.0 name.1)))
+  turn_goes : AllGiven → (now : ℕ) (x : Taken) → tells_want (from_front w conn x (InRun Ample) (front_by now here x false)).0 ≡ false
+  turn_goes given now (FindStep x) = goes (FindStep x) _ (find_question x) (λ p e. made_of (FindStep x) _ (tree_name_in x.aname) p e (λ (name : List ℕ × List ℕ). find_asked given x (key_in name.0 name.1)))
   turn_goes given now AttachStep = attach_goes now here.pending refl
   turn_goes given now (CallStep x) = call_goes now x
   turn_goes given now (CloseStep fid) = close_goes now fid
   turn_goes given now (Table x) = table_by x (is_some here.pending) refl
 
-  on_by : AllGiven → (now : ℕ) (x : Taken) (b : Bool) → is_short (cond {A = Reply × World} b (goes_from w conn x (InRun Ample) (front_by now here x false)) (Connection (r.Error S5), w)).0 ≡ false
+  on_by : AllGiven → (now : ℕ) (x : Taken) (b : Bool) → tells_want (cond {A = Reply × World} b (from_front w conn x (InRun Ample) (front_by now here x false)) (Connection (r.Error S5), w)).0 ≡ false
   on_by given now x true = turn_goes given now x
   on_by given now x false = refl
 
 module _ (w : World) (number : ℕ) where
-  publish_by : (none shown : Bool) → is_short (cond {A = Reply × Registry RunOf} none (Refused state.NoSuchState, w.registry) (cond shown (Refused state.Twice, w.registry) (Published, with_published w.registry number))).0 ≡ false
+  publish_by : (none shown : Bool) → tells_want (cond {A = Reply × Registry RunOf} none (Refused state.NoSuchState, w.registry) (cond shown (Refused state.Twice, w.registry) (Published, with_published w.registry number))).0 ≡ false
   publish_by true shown = refl
   publish_by false true = refl
   publish_by false false = refl
 
 -- the state of a number that is published is there
-module _ (w : World) (ok : IsReached w) where
+module _ (w : World) (ok : IsReachable w) where
   shown_below : (xs : List Bool) (number : ℕ) → slice_index_or xs number false ≡ true → number < length xs
   shown_below [] number is = absurd (cc)
   shown_below (x ∷ xs) zero is = omega arith
@@ -260,7 +262,7 @@ module _ (w : World) (ok : IsReached w) where
       let states = ok.there.states in
       mapped _ _ (mapped _ (slice_get w.registry.scene.plan number) (there_below w.registry.scene.plan number (omega (arith, low, states))))
 
-  pub no_want : (x : Step) → is_short (step_of w x ample).0 ≡ false
+  pub no_want : (x : Step) → tells_want (step_of w x ample).0 ≡ false
   no_want (s.Publish number) = publish_by w number _ _
   no_want (s.Reload users) = refl
   no_want (s.Find conn message) = on_by w conn all_given 0 (FindStep message) (nat_lt conn CONNECTIONS)

@@ -1,6 +1,6 @@
 -- Each open fid keeps its open, which no other fid has.
 use Rattle.std.proofs.Common.{◌≡◌, ◌≢◌, ◌∙◌, ℕ, ◌<◌, ◌==◌, Bool, true, false, List, length, Option, None, Some, IsSome, Ok, Err, refl, sym, ap, subst, arith, ◌⊎◌, inl, inr}
-use Rattle.std.specs.Prelude.{IsSomeAnd, nat_le, nat_lt, slice_get, string_bytes}
+use Rattle.std.specs.Prelude.{IsSomeAnd, nat_le, nat_lt, slice_get}
 use Rattle.std.specs.FinMap.{get}
 use Rattle.std.specs.Option.{option_map}
 use Rattle.std.proofs.lemmas.Bool.{eqb-true, eqb-false}
@@ -13,7 +13,7 @@ use Rattle.cs_fids.specs.Entries.{pass_of, run_of}
 use Rattle.cs_fids.specs.FidOf.{FidOf}
 use Rattle.cs_fids.specs.Fids.{moved_to, opened, walked_fid, with_place}
 use Rattle.cs_fids.specs.Tables.{FidMap}
-use Rattle.cs_journal.specs.Runs.{RunOf, state_of}
+use Rattle.cs_journal.specs.Runs.{RunOf, state_of, with_pass}
 use Rattle.cs_names.specs.declared.limits.TheConstants.{RUN_ATTACHES}
 use Rattle.cs_permit.specs.declared.call.Call.TheVariants as call
 use Rattle.cs_registry.specs.declared.found.Found.{Found}
@@ -24,16 +24,16 @@ use Rattle.cs_run.specs.declared.answer.Answer.{Answer}
 use Rattle.cs_run.specs.declared.answer.Answer.TheVariants as a
 use Rattle.cs_run.specs.Opens.{open_numbered}
 use Rattle.cs_session.specs.declared.message.AttachMessage.{AttachMessage}
-use Rattle.cs_session.specs.Attaches.{attach_after, entered, find_after}
+use Rattle.cs_session.specs.Attaches.{attach_after, attach_settled, find_after}
 use Rattle.cs_session.specs.Names.{user_in}
-use Rattle.cs_session.specs.Questions.{Question, Find, Enter, Ask, Told, Entered, Got}
+use Rattle.cs_session.specs.Questions.{Question, Find, Enter, Ask, PortAnswer, Entered, Got}
 use Rattle.cs_session.specs.Questions as q
 use Rattle.cs_session.specs.Sessions.{Awaited, Sess, blank, entry_at}
-use Rattle.cs_world.specs.Asking.{answered, put_run}
-use Rattle.cs_world.specs.Judged.{IsJudged}
+use Rattle.cs_world.specs.Asking.{answered, with_run_at}
+use Rattle.cs_world.specs.Ends.{EndsAs}
 use Rattle.cs_world.specs.Marks.{RunMark, in_run, refuses_pass}
-use Rattle.cs_world.specs.Reached.{AreThere, HasOpen, OpensStand}
-use Rattle.cs_world.specs.Runs.{attached, run_step, with_pass}
+use Rattle.cs_world.specs.Reachable.{HasAllThatIsNamed, HasOpen, OpensStand}
+use Rattle.cs_world.specs.Runs.{attached, run_step}
 use Rattle.cs_world.specs.Worlds.{World, connection, with_both}
 use Rattle.cs_world.proofs.Judging.{judged}
 use Rattle.cs_world.proofs.Opens as o
@@ -123,20 +123,20 @@ module _ (registry : Registry RunOf) (state name : List ℕ) (mark : RunMark) (p
 
 -- a run that changes keeps those that it keeps
 module _ (registry : Registry RunOf) (n : ℕ) (run run' : RunOf) (there : held_at registry.runs n ≡ Some run) where
-  put_by : (place pass number : ℕ) → (place ≡ n → IsSome (open_numbered number pass (state_of run).opens) → IsSome (open_numbered number pass (state_of run').opens)) → (b : Bool) → (place == n) ≡ b → HasOpen registry place pass number → HasOpen (put_run registry n run') place pass number
+  put_by : (place pass number : ℕ) → (place ≡ n → IsSome (open_numbered number pass (state_of run).opens) → IsSome (open_numbered number pass (state_of run').opens)) → (b : Bool) → (place == n) ≡ b → HasOpen registry place pass number → HasOpen (with_run_at registry n run') place pass number
   put_by place pass number stays true is h =
       let same : place ≡ n = eqb-true place n is in
       let here : HasOpen registry n pass number = subst (λ p. HasOpen registry p pass number) same h in
       let stood : IsSome (open_numbered number pass (state_of run).opens) = rw there at here in
-      subst (λ p. HasOpen (put_run registry n run') p pass number) (sym same) (rw (put_same registry n run' run there) (stays same stood))
+      subst (λ p. HasOpen (with_run_at registry n run') p pass number) (sym same) (rw (put_same registry n run' run there) (stays same stood))
   put_by place pass number stays false is h = rw (put_other registry n run' place (eqb-false place n is)) h
 
-  pub put_has : (place pass number : ℕ) → (place ≡ n → IsSome (open_numbered number pass (state_of run).opens) → IsSome (open_numbered number pass (state_of run').opens)) → HasOpen registry place pass number → HasOpen (put_run registry n run') place pass number
+  pub put_has : (place pass number : ℕ) → (place ≡ n → IsSome (open_numbered number pass (state_of run).opens) → IsSome (open_numbered number pass (state_of run').opens)) → HasOpen registry place pass number → HasOpen (with_run_at registry n run') place pass number
   put_has place pass number stays h = put_by place pass number stays (place == n) refl h
 
 -- ---- an attach
 
-entered_open : (fids : FidMap) (fid run : ℕ) (user : Option (List ℕ)) (pass : ℕ) (answer : Answer) (k : ℕ) (f : FidOf Opened) → get (entered fids fid run user pass answer).1 k ≡ Some (entry.Opened f) → get fids k ≡ Some (entry.Opened f)
+entered_open : (fids : FidMap) (fid run : ℕ) (user : Option (List ℕ)) (pass : ℕ) (answer : Answer) (k : ℕ) (f : FidOf Opened) → get (attach_settled fids fid run user pass answer).1 k ≡ Some (entry.Opened f) → get fids k ≡ Some (entry.Opened f)
 entered_open fids fid run None pass (a.Attached qid) k f there = there
 entered_open fids fid run (Some user) pass (a.Attached qid) k f there =
     elim (inserted fids fid k (entry.Walked (walked_fid run pass 0 user)) (entry.Opened f) there) [
@@ -145,13 +145,13 @@ entered_open fids fid run (Some user) pass (a.Attached qid) k f there =
     ]
 entered_open fids fid run user pass answer k f there = there
 
-pub attached_open : (s : Sess) (p : Option Awaited) (told : Told) (k : ℕ) (f : FidOf Opened) → entry_at (attach_after s p told).1 k ≡ Some (entry.Opened f) → entry_at s k ≡ Some (entry.Opened f)
+pub attached_open : (s : Sess) (p : Option Awaited) (told : PortAnswer) (k : ℕ) (f : FidOf Opened) → entry_at (attach_after s p told).1 k ≡ Some (entry.Opened f) → entry_at s k ≡ Some (entry.Opened f)
 attached_open s None told k f there = there
-attached_open s (Some p) (Entered (Ok pass)) k f there = entered_open s.fids p.fid p.run (user_in (string_bytes p.call.user)) pass.0 pass.1 k f there
+attached_open s (Some p) (Entered (Ok pass)) k f there = entered_open s.fids p.fid p.run (user_in p.call.user) pass.0 pass.1 k f there
 attached_open s (Some p) (Entered (Err fault)) k f there = there
 attached_open s (Some p) told k f there = there
 
-pub found_open : (s : Sess) (x : AttachMessage) (told : Told) (k : ℕ) (f : FidOf Opened) → entry_at (find_after s x told).1 k ≡ Some (entry.Opened f) → entry_at s k ≡ Some (entry.Opened f)
+pub found_open : (s : Sess) (x : AttachMessage) (told : PortAnswer) (k : ℕ) (f : FidOf Opened) → entry_at (find_after s x told).1 k ≡ Some (entry.Opened f) → entry_at s k ≡ Some (entry.Opened f)
 found_open s x (q.Found (Ok run)) k f there = there
 found_open s x (q.Found (Err fault)) k f there = there
 found_open s x told k f there = there
@@ -173,16 +173,16 @@ module _ (registry : Registry RunOf) (now n : ℕ) (attach : _) (mark : RunMark)
 
 -- ---- a call
 
-module _ (w : World) (there : AreThere w) (ok : OpensStand w) (conn now at : ℕ) (freed : Option ℕ) (question : Question) (its : IsAsked (connection w conn).fids now at freed question) (mark : RunMark) where
+module _ (w : World) (there : HasAllThatIsNamed w) (ok : OpensStand w) (conn now at : ℕ) (freed : Option ℕ) (question : Question) (its : IsAsked (connection w conn).fids now at freed question) (mark : RunMark) where
   place : ℕ
   place = run_of its.held
 
   pass : ℕ
   pass = pass_of its.held
 
-  module _ (run : RunOf) (held : held_at w.registry.runs (run_of its.held) ≡ Some run) (answer : Answer) (run' : RunOf) (end : IsJudged run now (pass_of its.held) its.call answer run') where
+  module _ (run : RunOf) (held : held_at w.registry.runs (run_of its.held) ≡ Some run) (answer : Answer) (run' : RunOf) (end : EndsAs run now (pass_of its.held) its.call answer run') where
     -- an open that stood stands, but for the one that ends
-    stands_still : (c fid : ℕ) (f : FidOf Opened) → entry_at (connection w c) fid ≡ Some (entry.Opened f) → (c ≡ conn → freed ≡ Some fid → ⊥) → HasOpen (put_run w.registry (run_of its.held) run') f.run f.pass f.state.open_number
+    stands_still : (c fid : ℕ) (f : FidOf Opened) → entry_at (connection w c) fid ≡ Some (entry.Opened f) → (c ≡ conn → freed ≡ Some fid → ⊥) → HasOpen (with_run_at w.registry (run_of its.held) run') f.run f.pass f.state.open_number
     stands_still c fid f is keeps =
         put_has w.registry (run_of its.held) run run' held f.run f.pass f.state.open_number
         (λ same stood. o.stays run now (pass_of its.held) its.call answer run' end f.state.open_number f.pass (λ closed.
@@ -193,7 +193,7 @@ module _ (w : World) (there : AreThere w) (ok : OpensStand w) (conn now at : ℕ
         keeps one.0 (e.3 ∙ ap Some (sym one.1))) stood) (ok.stand c fid f is)
 
     -- an open that the answer tells is new
-    new_open : (fid mode open_number number : ℕ) (qid : _) (from : FidOf Walked) (f : FidOf Opened) → fid ≡ at → get (connection w conn).fids fid ≡ Some (entry.Walked from) → answer ≡ a.Opened qid open_number number → entry.Opened f ≡ entry.Opened (opened (moved_to from number) mode open_number) → Made w conn at (put_run w.registry (run_of its.held) run') conn fid f
+    new_open : (fid mode open_number number : ℕ) (qid : _) (from : FidOf Walked) (f : FidOf Opened) → fid ≡ at → get (connection w conn).fids fid ≡ Some (entry.Walked from) → answer ≡ a.Opened qid open_number number → entry.Opened f ≡ entry.Opened (opened (moved_to from number) mode open_number) → Made w conn at (with_run_at w.registry (run_of its.held) run') conn fid f
     new_open fid mode open_number number qid from f here is told e =
         let new = o.opens run now (pass_of its.held) its.call answer run' qid open_number number told end in
         let same : f ≡ opened (moved_to from number) mode open_number = cc in
@@ -201,11 +201,11 @@ module _ (w : World) (there : AreThere w) (ok : OpensStand w) (conn now at : ℕ
         let run_is : f.run ≡ run_of its.held = ap (λ (g : FidOf Opened). g.run) same ∙ sym (ap run_of entry_is) in
         let pass_is : f.pass ≡ pass_of its.held = ap (λ (g : FidOf Opened). g.pass) same ∙ sym (ap pass_of entry_is) in
         let number_is : f.state.open_number ≡ open_number = ap (λ (g : FidOf Opened). g.state.open_number) same in
-        let standing : HasOpen (put_run w.registry (run_of its.held) run') (run_of its.held) (pass_of its.held) open_number = rw (put_same w.registry (run_of its.held) run' run held) new.1 in
+        let standing : HasOpen (with_run_at w.registry (run_of its.held) run') (run_of its.held) (pass_of its.held) open_number = rw (put_same w.registry (run_of its.held) run' run held) new.1 in
         record {
           own = refl;
           here = here;
-          has = subst (λ (n : ℕ). HasOpen (put_run w.registry (run_of its.held) run') f.run f.pass n) (sym number_is) (subst (λ (p : ℕ). HasOpen (put_run w.registry (run_of its.held) run') f.run p open_number) (sym pass_is) (subst (λ (r : ℕ). HasOpen (put_run w.registry (run_of its.held) run') r (pass_of its.held) open_number) (sym run_is) standing));
+          has = subst (λ (n : ℕ). HasOpen (with_run_at w.registry (run_of its.held) run') f.run f.pass n) (sym number_is) (subst (λ (p : ℕ). HasOpen (with_run_at w.registry (run_of its.held) run') f.run p open_number) (sym pass_is) (subst (λ (r : ℕ). HasOpen (with_run_at w.registry (run_of its.held) run') r (pass_of its.held) open_number) (sym run_is) standing));
           fresh = λ other n g there run_same number_same.
               let stood : HasOpen w.registry (run_of its.held) g.pass g.state.open_number = subst (λ (r : ℕ). HasOpen w.registry r g.pass g.state.open_number) (run_same ∙ run_is) (ok.stand other n g there) in
               let has : IsSome (open_numbered g.state.open_number g.pass (state_of run).opens) = rw held at stood in
@@ -215,13 +215,13 @@ module _ (w : World) (there : AreThere w) (ok : OpensStand w) (conn now at : ℕ
         }
 
     call_source : (s' : Sess) → ((fid : ℕ) (e : Entry) → entry_at s' fid ≡ Some e → Source (connection w conn).fids at answer fid e) → ((fid : ℕ) (e : Entry) → entry_at s' fid ≡ Some e → freed ≡ Some fid → ⊥)
-        → KeepsOpens w conn at freed s' (put_run w.registry (run_of its.held) run')
+        → KeepsOpens w conn at freed s' (with_run_at w.registry (run_of its.held) run')
     call_source s' sources free = record {
       stand = stands_still;
       source = λ fid f is. by fid f is (sources fid (entry.Opened f) is);
     }
       where
-        by : (fid : ℕ) (f : FidOf Opened) → entry_at s' fid ≡ Some (entry.Opened f) → Source (connection w conn).fids at answer fid (entry.Opened f) → Was w conn freed conn fid f ⊎ Made w conn at (put_run w.registry (run_of its.held) run') conn fid f
+        by : (fid : ℕ) (f : FidOf Opened) → entry_at s' fid ≡ Some (entry.Opened f) → Source (connection w conn).fids at answer fid (entry.Opened f) → Was w conn freed conn fid f ⊎ Made w conn at (with_run_at w.registry (run_of its.held) run') conn fid f
         by fid f is (Kept was) = inl (record { from = f; was = was; run = refl; pass = refl; number = refl; keeps = λ own gone. free fid (entry.Opened f) is gone })
         by fid f is (Walks j from number was e) = absurd (cc)
         by fid f is (Opens from mode open_number number qid here was told e) = inr (new_open fid mode open_number number qid from f here was told e)
@@ -231,7 +231,7 @@ module _ (w : World) (there : AreThere w) (ok : OpensStand w) (conn now at : ℕ
 
   -- what the answer leads to
   pub called_keeps : (after : Answer → Sess) → ((answer : Answer) (fid : ℕ) (e : Entry) → entry_at (after answer) fid ≡ Some e → Source (connection w conn).fids at answer fid e) → ((answer : Answer) (fid : ℕ) (e : Entry) → entry_at (after answer) fid ≡ Some e → freed ≡ Some fid → ⊥)
-      → (told_after : Told → Sess) → ((answer : Answer) → told_after (Got answer) ≡ after answer)
+      → (told_after : PortAnswer → Sess) → ((answer : Answer) → told_after (Got answer) ≡ after answer)
       → KeepsOpens w conn at freed (told_after (answered w.registry (Ask now (run_of its.held) (pass_of its.held) its.call) mark).0) (answered w.registry (Ask now (run_of its.held) (pass_of its.held) its.call) mark).1
   called_keeps after sources free told_after is =
       let g = given w.registry (run_of its.held) (pass_of its.held) (there.fids conn at its.held its.there) in

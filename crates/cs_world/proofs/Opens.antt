@@ -11,7 +11,7 @@ use Rattle.std.proofs.lemmas.Option.{slice_get-get_or, get_or_from_slice_get}
 use Rattle.cs_journal.specs.Journals.{seen, start, turn_in}
 use Rattle.cs_journal.specs.Runs.{RunOf, state_of}
 use Rattle.cs_journal.proofs.Journals.{below-replay}
-use Rattle.cs_permit.specs.Calls.{State}
+use Rattle.cs_permit.specs.Calls.{RulesView}
 use Rattle.cs_permit.specs.declared.call.Call.{Call}
 use Rattle.cs_permit.specs.declared.call.Call.TheVariants as call
 use Rattle.cs_permit.specs.declared.call.OpenFile.{OpenFile}
@@ -30,7 +30,7 @@ use Rattle.cs_run.specs.Effects.{close_effect, create_effect, effect_of, open_ef
 use Rattle.cs_run.specs.Laws.{opens_one}
 use Rattle.cs_run.specs.Opens.{AreBelow, is_open, open_numbered, released_if}
 use Rattle.cs_run.specs.Outcomes.{applied, closes}
-use Rattle.cs_world.specs.Judged.{IsJudged, Full, NoEntry, Denied, Short, Granted}
+use Rattle.cs_world.specs.Ends.{EndsAs, Full, NoEntry, Denied, Short, Granted}
 use Rattle.cs_world.proofs.Placing.{get_end, get_kept}
 
 none : OpenFile
@@ -125,7 +125,7 @@ module _ (number pass : ℕ) (opens : List OpenFile) (h : IsSome (open_numbered 
 
 -- ---- after a call
 
-module _ (s : State) (w : Turn) (asked : Call) (number pass : ℕ) (differs : closes asked ≡ Some number → ⊥) (h : IsSome (open_numbered number pass s.opens)) where
+module _ (s : RulesView) (w : Turn) (asked : Call) (number pass : ℕ) (differs : closes asked ≡ Some number → ⊥) (h : IsSome (open_numbered number pass s.opens)) where
   granted_by : (b : Bool) → opens_one asked ≡ b → IsSome (open_numbered number pass (effect_of s w asked).opens)
   granted_by true one = let made = one_more s w asked one in rw made.more (more number pass s.opens (made.one ∷ []) h)
   granted_by false none = rw (as_left s w asked none) (without number pass s.opens h (closes asked) w.pass differs)
@@ -137,7 +137,7 @@ module _ (s : State) (w : Turn) (asked : Call) (number pass : ℕ) (differs : cl
 
 module _ (run : RunOf) (now own : ℕ) (asked : Call) (answer : Answer) (run' : RunOf) where
   -- an open stands still that the call doesn't end
-  pub stays : IsJudged run now own asked answer run' → (number pass : ℕ) → (closes asked ≡ Some number → ⊥) → IsSome (open_numbered number pass (state_of run).opens) → IsSome (open_numbered number pass (state_of run').opens)
+  pub stays : EndsAs run now own asked answer run' → (number pass : ℕ) → (closes asked ≡ Some number → ⊥) → IsSome (open_numbered number pass (state_of run).opens) → IsSome (open_numbered number pass (state_of run').opens)
   stays (Full f is same) number pass differs h = subst (λ r. IsSome (open_numbered number pass (state_of r).opens)) (sym same) h
   stays (NoEntry f none is same) number pass differs h = subst (λ r. IsSome (open_numbered number pass (state_of r).opens)) (sym same) h
   stays (Denied rule f fails m) number pass differs h = rw m.opens (applied_stands (seen (state_of run)) (turn_in (state_of run) own now) asked number pass differs h (o.Denied rule))
@@ -165,7 +165,7 @@ stat_tells None qid n number e = cc
 stat_tells (Some stat) qid n number e = cc
 
 -- only an open and a create tell of an open, and its number is the place of the call
-opened_by : (s : State) (w : Turn) (asked : Call) (qid : Qid) (n number : ℕ) → (effect_of s w asked).answer ≡ a.Opened qid n number → (opens_one asked ≡ true) × (n ≡ w.place)
+opened_by : (s : RulesView) (w : Turn) (asked : Call) (qid : Qid) (n number : ℕ) → (effect_of s w asked).answer ≡ a.Opened qid n number → (opens_one asked ≡ true) × (n ≡ w.place)
 unfolding open_effect create_effect write_effect close_effect remove_effect wstat_effect
 opened_by s w (call.Open c) qid n number e = (refl, cc)
 opened_by s w (call.Create c) qid n number e = (refl, cc)
@@ -183,13 +183,13 @@ is_its o number pass n p = rw (eq-eqb o.number number n, eq-eqb o.pass pass p) r
 
 module _ (run : RunOf) (now own : ℕ) (asked : Call) (answer : Answer) (run' : RunOf) (qid : Qid) (n number : ℕ) (told : answer ≡ a.Opened qid n number) where
   -- the open that an answer tells is new, and stands
-  pub opens : IsJudged run now own asked answer run' → (n ≡ (state_of run).entries) × IsSome (open_numbered n own (state_of run').opens)
+  pub opens : EndsAs run now own asked answer run' → (n ≡ (state_of run).entries) × IsSome (open_numbered n own (state_of run').opens)
   opens (Full f is same) = absurd (cc)
   opens (NoEntry f none is same) = absurd (cc)
   opens (Denied rule f fails m) = absurd (let is = m.answer_is in cc)
   opens (Short f fails takes m) = absurd (let is = m.answer_is in cc)
   opens (Granted f fails m) =
-      let s : State = seen (state_of run) in
+      let s : RulesView = seen (state_of run) in
       let w : Turn = turn_in (state_of run) own now in
       let its = opened_by s w asked qid n number (sym m.answer_is ∙ told) in
       let made = one_more s w asked its.0 in

@@ -1,6 +1,6 @@
--- A new world is reached, and each step leads from reached worlds to reached ones.
+-- A new world is reachable, and each step leads from reachable worlds to reached ones.
 use Rattle.std.proofs.Common.{◌≡◌, ◌∙◌, ℕ, ◌<◌, Bool, true, false, cond, List, length, None, Some, refl, sym, ap, subst, arith, rules}
-use Rattle.std.specs.Prelude.{nat_lt, replicate, string_bytes}
+use Rattle.std.specs.Prelude.{nat_lt, replicate}
 use Rattle.std.specs.FinMap.{empty, get, gets}
 use Rattle.std.proofs.lemmas.Bool.Decides.{nat_tests}
 use Rattle.cs_fids.specs.declared.entry.Entry.TheVariants as entry
@@ -27,16 +27,16 @@ use Rattle.cs_world.specs.declared.reply.Reply.TheVariants.{Connection, NotReloa
 use Rattle.cs_world.specs.declared.reply.StateFault.TheVariants as f
 use Rattle.cs_world.specs.declared.step.Step as t
 use Rattle.cs_world.specs.declared.step.Step.TheVariants as s
-use Rattle.cs_world.specs.Marks.{Mark, RunMark, below, refuses_table, refuses_users}
-use Rattle.cs_world.specs.Reached.{IsReached, OpensStand}
-use Rattle.cs_world.specs.Steps.{by_registry, goes_from, on_connection, step_of}
+use Rattle.cs_world.specs.Marks.{WorldMark, RunMark, below, refuses_table, refuses_users}
+use Rattle.cs_world.specs.Reachable.{IsReachable, OpensStand}
+use Rattle.cs_world.specs.Steps.{by_registry, from_front, on_connection, step_of}
 use Rattle.cs_world.specs.Worlds.{World, connection, new_world}
 use Rattle.cs_world.proofs.Invariant.{enter_by, find_by, new_is, step_keeps}
 use Rattle.cs_world.proofs.OpenFids.{KeepsOpens, attach_has, attached_open, called_keeps, find_has, found_open, kept, unopened}
 use Rattle.cs_world.proofs.Placing.{index_replicate}
 use Rattle.cs_world.proofs.Tables.{Kept, call_asks, call_source, close_asks, fid_in, freed_by, freed_is_free, judged_asks, left, refused_keeps, table_keeps}
 
-module _ (w : World) (ok : IsReached w) (conn : ℕ) (inside : conn < CONNECTIONS) where
+module _ (w : World) (ok : IsReachable w) (conn : ℕ) (inside : conn < CONNECTIONS) where
   within : conn < length w.connections
   within = omega (arith, ok.there.all)
 
@@ -57,11 +57,11 @@ module _ (w : World) (ok : IsReached w) (conn : ℕ) (inside : conn < CONNECTION
       stays s' (λ fid f there. table_keeps (connection w conn) fid (entry.Opened f) change _ refl (ap (λ (s : Sess). get s.fids fid) (sym is) ∙ there))
 
   abbrev Opens : Step → RunMark → Question → Type 0
-  Opens x mark q = OpensStand (goes_from w conn x mark (Asks q)).1
+  Opens x mark q = OpensStand (from_front w conn x mark (Asks q)).1
 
   asks_opens : (now : ℕ) (x : Step) (refused : Bool) (q : Question) (mark : RunMark) → front_by now (connection w conn) x refused ≡ Asks q → Opens x mark q
   asks_opens now (FindStep m) refused q mark e =
-      let its = find_by (tree_name_in (string_bytes m.aname)) q (judged_asks (connection w conn) _ refused _ q e) in
+      let its = find_by (tree_name_in m.aname) q (judged_asks (connection w conn) _ refused _ q e) in
       subst (Opens (FindStep m) mark) (sym its.is) (kept w ok.opens conn within 0 None _ _ (unopened w ok.opens conn _ _ (λ place pass number h. find_has w.registry its.state its.name mark place pass number h) (λ fid f there. found_open (connection w conn) m _ fid f there)))
   asks_opens now AttachStep refused q mark e =
       let its = enter_by now (connection w conn) (connection w conn).pending refl q e in
@@ -78,16 +78,16 @@ module _ (w : World) (ok : IsReached w) (conn : ℕ) (inside : conn < CONNECTION
       (λ told. (after (connection w conn) (CloseStep fid) told).1) (λ answer. refl)))
   asks_opens now (Table change) refused q mark e = absurd (cc)
 
-  by_front : (now : ℕ) (x : Step) (refused : Bool) (mark : RunMark) (f : Front) → front_by now (connection w conn) x refused ≡ f → OpensStand (goes_from w conn x mark f).1
+  by_front : (now : ℕ) (x : Step) (refused : Bool) (mark : RunMark) (f : Front) → front_by now (connection w conn) x refused ≡ f → OpensStand (from_front w conn x mark f).1
   by_front now x refused mark (Done reply s') e = kept w ok.opens conn within 0 None s' w.registry (done_opens now x refused reply s' e)
   by_front now x refused mark (Asks q) e = asks_opens now x refused q mark e
 
-module _ (w : World) (ok : IsReached w) where
-  by_number : (conn now : ℕ) (x : Step) (mark : Mark) (b : Bool) → nat_lt conn CONNECTIONS ≡ b → OpensStand (cond {A = Reply × World} b (goes_from w conn x (below mark) (front_by now (connection w conn) x (refuses_table mark))) (Connection (Error S5), w)).1
+module _ (w : World) (ok : IsReachable w) where
+  by_number : (conn now : ℕ) (x : Step) (mark : WorldMark) (b : Bool) → nat_lt conn CONNECTIONS ≡ b → OpensStand (cond {A = Reply × World} b (from_front w conn x (below mark) (front_by now (connection w conn) x (refuses_table mark))) (Connection (Error S5), w)).1
   by_number conn now x mark true is = by_front w ok conn (grind (arith, nat_tests)) now x (refuses_table mark) (below mark) (front_by now (connection w conn) x (refuses_table mark)) refl
   by_number conn now x mark false is = ok.opens
 
-  connection_opens : (conn now : ℕ) (x : Step) (mark : Mark) → OpensStand (on_connection w conn now x mark).1
+  connection_opens : (conn now : ℕ) (x : Step) (mark : WorldMark) → OpensStand (on_connection w conn now x mark).1
   connection_opens conn now x mark = by_number conn now x mark (nat_lt conn CONNECTIONS) refl
 
   publish_by : (number : ℕ) (a b c d : Bool) → OpensStand (by_registry w (cond {A = Reply × Registry RunOf} a (Unpublished f.NoSuchState, w.registry) (cond b (Unpublished f.Memory, w.registry) (cond c (Unpublished f.Twice, w.registry) (cond d (Unpublished f.Memory, w.registry) (Published, with_published w.registry number)))))).1
@@ -101,7 +101,7 @@ module _ (w : World) (ok : IsReached w) where
   reload_by users true = ok.opens
   reload_by users false = record { stand = ok.opens.stand; own = ok.opens.own }
 
-  opens_by : (x : t.Step) (mark : Mark) → OpensStand (step_of w x mark).1
+  opens_by : (x : t.Step) (mark : WorldMark) → OpensStand (step_of w x mark).1
   opens_by (s.Publish number) mark = publish_by number _ _ _ _
   opens_by (s.Reload users) mark = reload_by users (refuses_users mark)
   opens_by (s.Find conn message) mark = connection_opens conn 0 (FindStep message) mark
@@ -111,7 +111,7 @@ module _ (w : World) (ok : IsReached w) where
   opens_by (s.Table conn change) mark = connection_opens conn 0 (Table change) mark
 
   -- each step
-  pub reaches : (x : t.Step) (mark : Mark) → IsReached (step_of w x mark).1
+  pub reaches : (x : t.Step) (mark : WorldMark) → IsReachable (step_of w x mark).1
   reaches x mark = record { there = step_keeps w ok.there x mark; opens = opens_by x mark }
 
 abbrev no_fids : FidMap
@@ -121,7 +121,7 @@ nothing_there : (fid : ℕ) → get no_fids fid ≡ None
 nothing_there fid = search (rules, gets)
 
 -- a new world
-pub new_reached : (scene : Scene) (users : List Row) → IsReached (new_world scene users)
+pub new_reached : (scene : Scene) (users : List Row) → IsReachable (new_world scene users)
 new_reached scene users =
     let none : (conn fid : ℕ) → entry_at (connection (new_world scene users) conn) fid ≡ None = λ conn fid. ap (λ s. entry_at s fid) (index_replicate CONNECTIONS conn (blank None)) ∙ nothing_there fid in
     record {
@@ -132,5 +132,5 @@ new_reached scene users =
       };
     }
 
-pub by_new : (scene : Scene) (users : List Row) (registry : Registry RunOf) (connections : List Sess) → registry ≡ registries.empty scene users → connections ≡ replicate CONNECTIONS (blank None) → IsReached (record { registry = registry; connections = connections })
+pub by_new : (scene : Scene) (users : List Row) (registry : Registry RunOf) (connections : List Sess) → registry ≡ registries.empty scene users → connections ≡ replicate CONNECTIONS (blank None) → IsReachable (record { registry = registry; connections = connections })
 by_new scene users registry connections e f = rw (e, f) (new_reached scene users)

@@ -1,4 +1,4 @@
--- A step of a connection keeps what is true of reached worlds.
+-- A step of a connection keeps what is true of reachable worlds.
 use Rattle.std.proofs.Common.{◌≡◌, ◌≢◌, ◌∙◌, ℕ, zero, suc, ◌+◌, ◌<◌, ◌≤◌, ◌==◌, Bool, true, false, cond, List, [], ◌∷◌, length, length-set, Option, None, Some, IsSome, refl, sym, ap, subst, arith}
 use Rattle.std.specs.Prelude.{IsSomeAnd, filter, slice_get, slice_set, slice_index_or}
 use Rattle.std.specs.Option.{option_map}
@@ -15,7 +15,7 @@ use Rattle.cs_registry.specs.Keys.{Key}
 use Rattle.cs_registry.specs.Registries.{Registry}
 use Rattle.cs_registry.specs.Runs.{held_at}
 use Rattle.cs_session.specs.Sessions.{Awaited, Sess, blank, entry_at}
-use Rattle.cs_world.specs.Reached.{Gave, AreThere, RunIsReached, awaits, waiting}
+use Rattle.cs_world.specs.Reachable.{Gave, HasAllThatIsNamed, RunIsReachable, awaits, waiting}
 use Rattle.cs_world.specs.Reaching.{IsMade}
 use Rattle.cs_world.specs.Worlds.{World, connection, with_both}
 use Rattle.cs_world.proofs.Judging.{IsSound}
@@ -101,7 +101,7 @@ module _ (w : World) (conn : ℕ) (s' : Sess) (r' : Registry RunOf) where
     pub awaited : (p : Awaited) → s'.pending ≡ Some p → IsSome (held_at r'.runs p.run)
     pub fids : (fid : ℕ) (e : Entry) → entry_at s' fid ≡ Some e → Gave r' (run_of e) (pass_of e)
 
-module _ (w : World) (ok : AreThere w) (conn : ℕ) (inside : conn < CONNECTIONS) (s' : Sess) (r' : Registry RunOf) (m : Moves w conn s' r') where
+module _ (w : World) (ok : HasAllThatIsNamed w) (conn : ℕ) (inside : conn < CONNECTIONS) (s' : Sess) (r' : Registry RunOf) (m : Moves w conn s' r') where
   abbrev next : World
   next = with_both w conn s' r'
 
@@ -135,7 +135,7 @@ module _ (w : World) (ok : AreThere w) (conn : ℕ) (inside : conn < CONNECTIONS
   at_most_one true = omega arith
   at_most_one false = omega arith
 
-  run_by : (place : ℕ) (key : Key) (run' : Found RunOf) → Came w conn s' r' place key run' → RunIsReached next place key run'
+  run_by : (place : ℕ) (key : Key) (run' : Found RunOf) → Came w conn s' r' place key run' → RunIsReachable next place key run'
   run_by place key run' (Stood run there fresh room more few) =
       let was = ok.runs place key run there in
       record {
@@ -167,7 +167,7 @@ module _ (w : World) (ok : AreThere w) (conn : ℕ) (inside : conn < CONNECTIONS
   fids_by c true is fid e there = m.fids fid e (ap (λ s. entry_at s fid) (sym (ap (connection next) (eqb-true c conn is) ∙ same_conn)) ∙ there)
   fids_by c false is fid e there = m.gave (run_of e) (pass_of e) (ok.fids c fid e (ap (λ s. entry_at s fid) (sym (other_conn c (eqb-false c conn is))) ∙ there))
 
-  pub moved : AreThere next
+  pub moved : HasAllThatIsNamed next
   moved = record {
     all = length-set w.connections conn s' ∙ ok.all;
     states = ap length m.published ∙ ok.states ∙ ap (λ (s : Scene). length s.plan) (sym m.scene);

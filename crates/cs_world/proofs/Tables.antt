@@ -1,6 +1,6 @@
 -- Where the fids of a connection come from, after a step.
 use Rattle.std.proofs.Common.{◌≡◌, ◌≢◌, ◌∙◌, ℕ, ◌==◌, Bool, true, false, cond, Option, Some, None, Result, Ok, Err, refl, sym, ap, subst, rules, ◌⊎◌, inl, inr}
-use Rattle.std.specs.Prelude.{is_none, is_some, option_and_then, option_map, string_bytes, List}
+use Rattle.std.specs.Prelude.{is_none, is_some, option_and_then, option_map, List}
 use Rattle.std.specs.Option.{option_map_or}
 use Rattle.std.specs.Cmp.{nat_cmp_total, unsigned_tied}
 use Rattle.std.specs.FinMap.{empty, get, gets, insert, remove, get-insert, get-remove}
@@ -28,14 +28,14 @@ use Rattle.cs_session.specs.declared.message.TableStep.{TableStep}
 use Rattle.cs_session.specs.declared.message.TableStep.TheVariants as t
 use Rattle.cs_session.specs.declared.reply.Reply.{Reply}
 use Rattle.cs_session.specs.Calls.{call_after}
-use Rattle.cs_session.specs.Judgements.{judge, opened_at, walked_at}
+use Rattle.cs_session.specs.Decisions.{decide, opened_at, walked_at}
 use Rattle.cs_session.specs.Names.{file_in}
 use Rattle.cs_session.specs.Opens.{create_after, create_named, open_after, open_left}
 use Rattle.cs_session.specs.Questions.{Question, Ask}
 use Rattle.cs_session.specs.Reads.{read_after, read_left}
 use Rattle.cs_session.specs.Sessions.{Sess, entry_at}
-use Rattle.cs_session.specs.Steps.{Done, Asks, CallStep, CloseStep, fronted, front_by}
-use Rattle.cs_session.specs.TableSteps.{clunk_left, table_stepped, tabled}
+use Rattle.cs_session.specs.Steps.{Done, Asks, CallStep, CloseStep, front_of, front_by}
+use Rattle.cs_session.specs.TableSteps.{clunk_left, table_stepped, after_change}
 use Rattle.cs_session.specs.Walks.{walk_after, walk_left}
 use Rattle.cs_wire.specs.declared.message.Qid.{Qid}
 
@@ -82,7 +82,7 @@ pub record IsAsked (fids : FidMap) (now fid : ℕ) (freed : Option ℕ) (q : Que
   pub is : q ≡ Ask now (run_of held) (pass_of held) call
   pub ends : (number : ℕ) → closes call ≡ Some number → (f : FidOf Opened) × (held ≡ entry.Opened f) × (f.state.open_number ≡ number) × (freed ≡ Some fid)
 
-pub judged_asks : (s : Sess) (o : Option RuleId) (refused : Bool) (q : Option Question) (p : Question) → fronted s (judge o refused q) ≡ Asks p → q ≡ Some p
+pub judged_asks : (s : Sess) (o : Option RuleId) (refused : Bool) (q : Option Question) (p : Question) → front_of s (decide o refused q) ≡ Asks p → q ≡ Some p
 judged_asks s (Some rule) refused q p e = absurd (cc)
 judged_asks s None true q p e = absurd (cc)
 judged_asks s None false None p e = absurd (cc)
@@ -147,7 +147,7 @@ module _ (now : ℕ) (s : Sess) (q : Question) where
   unfolding fid_in freed_by
   call_asks (m.Walk x) refused h = by_walked now s q x.fid None _ (λ f. refl) (walked_at s.fids x.fid) refl (judged_asks s _ refused _ q h)
   call_asks (m.Open x) refused h = by_walked now s q x.fid None _ (λ f. refl) (walked_at s.fids x.fid) refl (judged_asks s _ refused _ q h)
-  call_asks (m.Create x) refused h = create_asks now s q x.fid None x refl (file_in (string_bytes x.name)) (judged_asks s _ refused _ q h)
+  call_asks (m.Create x) refused h = create_asks now s q x.fid None x refl (file_in x.name) (judged_asks s _ refused _ q h)
   call_asks (m.Read x) refused h = by_opened now s q x.fid None _ (λ f. refl) (opened_at s.fids x.fid) refl (judged_asks s _ _ _ q h)
   call_asks (m.Write x) refused h = by_opened now s q x.fid None _ (λ f. refl) (opened_at s.fids x.fid) refl (judged_asks s _ refused _ q h)
   call_asks (m.Remove fid) refused h = remove_asks fid (get s.fids fid) refl (judged_asks s _ false _ q h)
@@ -234,7 +234,7 @@ freed_is_free fids (m.Wstat x) answer k f there is = cc
 
 -- ---- a step that asks nothing
 
-pub refused_keeps : (s : Sess) (j : Result Question Reply) (reply : Reply) (s' : Sess) → fronted s j ≡ Done reply s' → s' ≡ s
+pub refused_keeps : (s : Sess) (j : Result Question Reply) (reply : Reply) (s' : Sess) → front_of s j ≡ Done reply s' → s' ≡ s
 refused_keeps s (Err told) reply s' e = cc
 refused_keeps s (Ok q) reply s' e = absurd (cc)
 
@@ -247,7 +247,7 @@ module _ (s : Sess) (k : ℕ) (e : Entry) where
   nothing : get no_fids k ≡ Some e → get s.fids k ≡ Some e
   nothing there = absurd (let none : get no_fids k ≡ None = none_there k in cc)
 
-  tabled_keeps : (x : TableStep) (b : Bool) → (is_none s.msize ≡ b) → (c : Bool) → is_some (least_open s.fids) ≡ c → get (tabled s x).1.fids k ≡ Some e → get s.fids k ≡ Some e
+  tabled_keeps : (x : TableStep) (b : Bool) → (is_none s.msize ≡ b) → (c : Bool) → is_some (least_open s.fids) ≡ c → get (after_change s x).1.fids k ≡ Some e → get s.fids k ≡ Some e
   tabled_keeps (t.Clunk fid) true n c o there = rw n at there
   tabled_keeps (t.Clunk fid) false n c o there = clunk_keeps fid (entry_at s fid) (rw n at there)
   tabled_keeps (t.Version msize version) b n true o there = rw o at there
@@ -264,7 +264,7 @@ none_if None is = refl
 none_if (Some x) is = absurd (cc)
 
 module _ (s : Sess) where
-  tabled_idle : (x : TableStep) (b : Bool) → (is_none s.msize ≡ b) → (c : Bool) → is_some (least_open s.fids) ≡ c → s.pending ≡ None → (tabled s x).1.pending ≡ s.pending
+  tabled_idle : (x : TableStep) (b : Bool) → (is_none s.msize ≡ b) → (c : Bool) → is_some (least_open s.fids) ≡ c → s.pending ≡ None → (after_change s x).1.pending ≡ s.pending
   tabled_idle (t.Clunk fid) true n c o idle = rw n refl
   tabled_idle (t.Clunk fid) false n c o idle = rw n refl
   tabled_idle (t.Version msize version) b n true o idle = rw o refl

@@ -11,13 +11,13 @@ use Rattle.cs_tree_model.specs.Tree.{Tree}
 use Rattle.cs_world.specs.declared.reply.Reply.{Reply}
 use Rattle.cs_world.specs.declared.step.Step.{Step}
 use Rattle.cs_world.specs.declared.step.Step.TheVariants as s
-use Rattle.cs_world.specs.Ample.{ample, is_short}
-use Rattle.cs_world.specs.Isolation.{OnlyTold}
-use Rattle.cs_world.specs.Lists.{IsRun, steps_of}
-use Rattle.cs_world.specs.Marks.{Mark}
-use Rattle.cs_world.specs.Reached.{IsReached}
+use Rattle.cs_world.specs.Ample.{ample, tells_want}
+use Rattle.cs_world.specs.Isolation.{RefusesOnlyWhereTold}
+use Rattle.cs_world.specs.Lists.{IsStepList, steps_of}
+use Rattle.cs_world.specs.Marks.{WorldMark}
+use Rattle.cs_world.specs.Reachable.{IsReachable}
 use Rattle.cs_world.specs.Steps.{IsStep, step_of}
-use Rattle.cs_world.specs.Theorem.{AllBegan, ComesTo, IsCrashState, ListIsJudged, StepIsJudged, StepsAreJudged}
+use Rattle.cs_world.specs.Theorem.{AllBegan, StepComesTo, IsCrashState, ListIsJudged, StepIsJudged, StepsAreJudged}
 use Rattle.cs_world.specs.Worlds.{World}
 use Rattle.cs_world.proofs.Coming.{comes}
 use Rattle.cs_world.proofs.NoWant.{no_want}
@@ -25,8 +25,8 @@ use Rattle.cs_world.proofs.Reaching.{reaches}
 use Rattle.cs_world.proofs.Remarked.{only_told, run_told, same_step, told_mark}
 use Rattle.cs_world.proofs.Touching.{leaves}
 
-module _ (w : World) (ok : IsReached w) where
-  comes_to : (x : Step) (mark : Mark) → ComesTo w x mark (step_of w x mark).0 (step_of w x mark).1
+module _ (w : World) (ok : IsReachable w) where
+  comes_to : (x : Step) (mark : WorldMark) → StepComesTo w x mark (step_of w x mark).0 (step_of w x mark).1
   comes_to (s.Publish number) mark = refl
   comes_to (s.Reload users) mark = refl
   comes_to (s.Find conn message) mark = comes w ok conn 0 (c.FindStep message) mark
@@ -35,15 +35,15 @@ module _ (w : World) (ok : IsReached w) where
   comes_to (s.Close conn now fid) mark = comes w ok conn now (c.CloseStep fid) mark
   comes_to (s.Table conn change) mark = comes w ok conn 0 (c.Table change) mark
 
-  wants : (x : Step) (mark : Mark) → (is_short (step_of w x mark).0 ≡ false → mark ≡ ample) → (is_short (step_of w x mark).0 ≡ false) ↔ (mark ≡ ample)
-  wants x mark told = (told, λ is. subst (λ (m : Mark). is_short (step_of w x m).0 ≡ false) (sym is) (no_want w ok x))
+  wants : (x : Step) (mark : WorldMark) → (tells_want (step_of w x mark).0 ≡ false → mark ≡ ample) → (tells_want (step_of w x mark).0 ≡ false) ↔ (mark ≡ ample)
+  wants x mark told = (told, λ is. subst (λ (m : WorldMark). tells_want (step_of w x m).0 ≡ false) (sym is) (no_want w ok x))
 
-  judged : (x : Step) (mark : Mark) → (is_short (step_of w x mark).0 ≡ false → mark ≡ ample) → StepIsJudged w x mark (step_of w x mark).0 (step_of w x mark).1
+  judged : (x : Step) (mark : WorldMark) → (tells_want (step_of w x mark).0 ≡ false → mark ≡ ample) → StepIsJudged w x mark (step_of w x mark).0 (step_of w x mark).1
   judged x mark told =
       let left = leaves w x mark in
       record { comes = comes_to x mark; want = wants x mark told; others = left.others; scene = left.scene }
 
-all_judged : (w : World) → IsReached w → (xs : List (Step × Mark)) → OnlyTold w xs → StepsAreJudged w xs (steps_of w xs).0 (steps_of w xs).1
+all_judged : (w : World) → IsReachable w → (xs : List (Step × WorldMark)) → RefusesOnlyWhereTold w xs → StepsAreJudged w xs (steps_of w xs).0 (steps_of w xs).1
 all_judged w ok [] told = refl
 all_judged w ok (x ∷ xs) told = (
   (step_of w x.0 x.1).1,
@@ -52,18 +52,18 @@ all_judged w ok (x ∷ xs) told = (
 )
 
 -- of a list that was run
-pub by_run : (w : World) → IsReached w → (steps : List Step) (replies : List Reply) (w' : World) → IsRun w steps replies w' → ListIsJudged w steps replies w'
+pub by_run : (w : World) → IsReachable w → (steps : List Step) (replies : List Reply) (w' : World) → IsStepList w steps replies w' → ListIsJudged w steps replies w'
 by_run w ok steps replies w' run =
     let its = run_told w steps replies w' run in
     record {
-      run = its.0;
+      taken = its.0;
       judged = subst (λ (y : List Reply × World). StepsAreJudged w its.0.marked y.0 y.1) (sym its.0.leads) (all_judged w ok its.0.marked its.1);
     }
 
 -- and of one step
-pub by_step : (w : World) → IsReached w → (x : Step) (reply : Reply) (w' : World) → IsStep w x reply w' → (mark : Mark) × StepIsJudged w x mark reply w'
+pub by_step : (w : World) → IsReachable w → (x : Step) (reply : Reply) (w' : World) → IsStep w x reply w' → (mark : WorldMark) × StepIsJudged w x mark reply w'
 by_step w ok x reply w' step =
-    let mark : Mark = told_mark w (x, step.0) in
+    let mark : WorldMark = told_mark w (x, step.0) in
     let leads : (reply, w') ≡ step_of w x mark = step.1 ∙ sym (same_step w x step.0) in
     (mark, subst (λ (y : Reply × World). StepIsJudged w x mark y.0 y.1) (sym leads) (judged w ok x mark (only_told w x step.0)))
 
@@ -83,6 +83,6 @@ module _ (scene : Scene) (number : ℕ) (tree : Tree) (planned : IsPlan (order_i
   crash_state : state_at scene number ≡ Some tree → IsCrashState scene number tree
   crash_state is = by_recipe (slice_get scene.plan number) refl is
 
--- so is what each run of a reached world began as
-pub began : (w : World) → IsReached w → IsPlan (order_in w.registry.scene) w.registry.scene.plan → AllBegan w
+-- so is what each run of a reachable world began as
+pub began : (w : World) → IsReachable w → IsPlan (order_in w.registry.scene) w.registry.scene.plan → AllBegan w
 began w ok planned place key run there = crash_state w.registry.scene key.number run.held.fresh planned (ok.there.runs place key run there).fresh

@@ -5,8 +5,8 @@ use Rattle.std.specs.Option.{option_map_or}
 use Rattle.cs_journal.specs.Runs.{RunOf}
 use Rattle.cs_names.specs.declared.limits.TheConstants.{CONNECTIONS}
 use Rattle.cs_names.specs.declared.rule_id.RuleId.TheVariants.{S5}
-use Rattle.cs_registry.specs.declared.fault.FindFault.{FindFault}
-use Rattle.cs_registry.specs.declared.fault.FindFault.TheVariants.{Unpublished, Full}
+use Rattle.cs_permit.specs.declared.fault.FindFault.{FindFault}
+use Rattle.cs_permit.specs.declared.fault.FindFault.TheVariants.{Unpublished, Full}
 use Rattle.cs_registry.specs.declared.found.Found.{Found}
 use Rattle.cs_registry.specs.Finds.{found_again, made}
 use Rattle.cs_registry.specs.Keys.{Key}
@@ -15,9 +15,9 @@ use Rattle.cs_registry.specs.Publishing.{with_published}
 use Rattle.cs_registry.specs.Registries.{Registry, is_published, with_users}
 use Rattle.cs_registry.specs.Runs.{change, has_no_room, held_at, place_of, with_run}
 use Rattle.cs_run.specs.declared.answer.Answer.TheVariants.{Denied}
-use Rattle.cs_session.specs.declared.port.PassFault.TheVariants.{Foreign}
+use Rattle.cs_permit.specs.declared.fault.PassFault.TheVariants.{Foreign}
 use Rattle.cs_session.specs.declared.reply.Reply.TheVariants.{Error}
-use Rattle.cs_session.specs.Questions.{Question, Find, Enter, Ask, Told, Entered, Got}
+use Rattle.cs_session.specs.Questions.{Question, Find, Enter, Ask, PortAnswer, Entered, Got}
 use Rattle.cs_session.specs.Steps.{Front, Done, Asks, front_by}
 use Rattle.cs_session.specs.Steps as c
 use Rattle.cs_users.specs.Rows.{Row}
@@ -26,11 +26,11 @@ use Rattle.cs_world.specs.declared.reply.Reply.TheVariants.{Connection, NotReloa
 use Rattle.cs_world.specs.declared.reply.StateFault.TheVariants as state
 use Rattle.cs_world.specs.declared.step.Step.{Step}
 use Rattle.cs_world.specs.declared.step.Step.TheVariants as s
-use Rattle.cs_world.specs.Asking.{answered, found_by, given_run, put_run}
-use Rattle.cs_world.specs.Marks.{Mark, RunMark, below, in_run, refuses_table, refuses_users}
+use Rattle.cs_world.specs.Asking.{answered, found_by, given_run, with_run_at}
+use Rattle.cs_world.specs.Marks.{WorldMark, RunMark, below, in_run, refuses_table, refuses_users}
 use Rattle.cs_world.specs.Reaching.{front_touches, question_touches, step_touches}
 use Rattle.cs_world.specs.Runs.{attached, called}
-use Rattle.cs_world.specs.Steps.{goes_from, on_connection, step_of}
+use Rattle.cs_world.specs.Steps.{from_front, on_connection, step_of}
 use Rattle.cs_world.specs.Worlds.{World, connection}
 use Rattle.cs_world.proofs.Placing.{get_below}
 use Rattle.cs_world.proofs.Reached.{change_other}
@@ -64,8 +64,8 @@ module _ (r : Registry RunOf) where
   finds mark None = same None
   finds mark (Some key) = found_cases key (not (is_published r key.number)) (has_no_room r.runs key) (place_of key r.runs) (given_run r key.number mark)
 
-  puts : (n : ℕ) (o : Option RunOf) (new : RunOf → RunOf) (told : RunOf → Told) (none : Told)
-      → Leaves r (Some n) (option_map_or {T = RunOf} {U = Told × Registry RunOf} (λ run. (told run, put_run r n (new run))) o (none, r)).1
+  puts : (n : ℕ) (o : Option RunOf) (new : RunOf → RunOf) (told : RunOf → PortAnswer) (none : PortAnswer)
+      → Leaves r (Some n) (option_map_or {T = RunOf} {U = PortAnswer × Registry RunOf} (λ run. (told run, with_run_at r n (new run))) o (none, r)).1
   puts n None new told none = same (Some n)
   puts n (Some run) new told none = changes (λ (found : Found RunOf). record found { held = new run }) n
 
@@ -91,26 +91,26 @@ module _ (r : Registry RunOf) where
 -- ---- a step
 
 module _ (w : World) where
-  fronted : (conn : ℕ) (x : c.Step) (m : RunMark) (f : Front) → Leaves w.registry (front_touches w.registry f) (goes_from w conn x m f).1.registry
+  fronted : (conn : ℕ) (x : c.Step) (m : RunMark) (f : Front) → Leaves w.registry (front_touches w.registry f) (from_front w conn x m f).1.registry
   fronted conn x m (Done reply s) = same w.registry None
   fronted conn x m (Asks q) = asked w.registry q m
 
-  turned_by : (conn now : ℕ) (x : c.Step) (mark : Mark) (b : Bool)
+  turned_by : (conn now : ℕ) (x : c.Step) (mark : WorldMark) (b : Bool)
       → Leaves w.registry (front_touches w.registry (front_by now (connection w conn) x (refuses_table mark)))
-      (cond {A = Reply × World} b (goes_from w conn x (below mark) (front_by now (connection w conn) x (refuses_table mark))) (Connection (Error S5), w)).1.registry
+      (cond {A = Reply × World} b (from_front w conn x (below mark) (front_by now (connection w conn) x (refuses_table mark))) (Connection (Error S5), w)).1.registry
   turned_by conn now x mark true = fronted conn x (below mark) (front_by now (connection w conn) x (refuses_table mark))
   turned_by conn now x mark false = same w.registry (front_touches w.registry (front_by now (connection w conn) x (refuses_table mark)))
 
-  turned : (conn now : ℕ) (x : c.Step) (mark : Mark) → Leaves w.registry (front_touches w.registry (front_by now (connection w conn) x (refuses_table mark))) (on_connection w conn now x mark).1.registry
+  turned : (conn now : ℕ) (x : c.Step) (mark : WorldMark) → Leaves w.registry (front_touches w.registry (front_by now (connection w conn) x (refuses_table mark))) (on_connection w conn now x mark).1.registry
   turned conn now x mark = turned_by conn now x mark (nat_lt conn CONNECTIONS)
 
   -- of a step of a connection
-  pub places_stay : (conn now : ℕ) (x : c.Step) (mark : Mark) (place : ℕ) → front_touches w.registry (front_by now (connection w conn) x (refuses_table mark)) ≢ Some place → place < length w.registry.runs
+  pub places_stay : (conn now : ℕ) (x : c.Step) (mark : WorldMark) (place : ℕ) → front_touches w.registry (front_by now (connection w conn) x (refuses_table mark)) ≢ Some place → place < length w.registry.runs
       → slice_get (on_connection w conn now x mark).1.registry.runs place ≡ slice_get w.registry.runs place
   places_stay conn now x mark = (turned conn now x mark).others
 
   -- of any step
-  pub leaves : (x : Step) (mark : Mark) → Leaves w.registry (step_touches w x mark) (step_of w x mark).1.registry
+  pub leaves : (x : Step) (mark : WorldMark) → Leaves w.registry (step_touches w x mark) (step_of w x mark).1.registry
   leaves (s.Publish number) mark = publish_cases w.registry number _ _ _ _
   leaves (s.Reload users) mark = reload_cases w.registry users (refuses_users mark)
   leaves (s.Find conn message) mark = turned conn 0 (c.FindStep message) mark
@@ -119,5 +119,5 @@ module _ (w : World) where
   leaves (s.Close conn now fid) mark = turned conn now (c.CloseStep fid) mark
   leaves (s.Table conn change) mark = turned conn 0 (c.Table change) mark
 
-pub scene_stays : (w : World) (x : Step) (mark : Mark) → (step_of w x mark).1.registry.scene ≡ w.registry.scene
+pub scene_stays : (w : World) (x : Step) (mark : WorldMark) → (step_of w x mark).1.registry.scene ≡ w.registry.scene
 scene_stays w x mark = (leaves w x mark).scene

@@ -2,15 +2,15 @@
 use Rattle.std.proofs.Common.{◌≡◌, ◌∙◌, ℕ, Bool, true, false, List, [], ◌∷◌, refl}
 use Rattle.std.specs.Prelude.{nat_le, nat_lt}
 use Rattle.cs_journal.specs.Marks.{StepMark}
-use Rattle.cs_journal.specs.Runs.{RunOf}
+use Rattle.cs_journal.specs.Runs.{RunOf, with_pass}
 use Rattle.cs_names.specs.declared.limits.TheConstants.{RUN_ATTACHES}
 use Rattle.cs_permit.specs.declared.call.AttachCall.{AttachCall}
 use Rattle.cs_permit.specs.declared.call.Call.{Call}
 use Rattle.cs_permit.specs.declared.call.Call.TheVariants.{Attach, Walk, Open, Create, Read, Write, Close, Remove, Stat, Wstat}
 use Rattle.cs_world.specs.declared.heard.Heard.{Heard}
 use Rattle.cs_world.specs.Marks.{RunMark, in_run, refuses_pass}
-use Rattle.cs_world.specs.Projections.{alone, served}
-use Rattle.cs_world.specs.Runs.{attached, called, run_step, with_pass}
+use Rattle.cs_world.specs.Projections.{alone, call_alone}
+use Rattle.cs_world.specs.Runs.{attached, called, run_step}
 use Rattle.cs_world.proofs.Judging.{judged, keeps_users}
 
 module _ (run : RunOf) (now : ℕ) where
@@ -30,7 +30,7 @@ module _ (run : RunOf) (now : ℕ) where
   attached_by call mark false true f e = rw (f, e) refl
   attached_by call mark false false f e = rw (f, e) (step_users (with_pass run) now run.passes (Attach call) (in_run mark))
 
-  served_users : (pass : ℕ) (call : Call) (mark : RunMark) → (served run now pass call mark).1.users ≡ run.users
+  served_users : (pass : ℕ) (call : Call) (mark : RunMark) → (call_alone run now pass call mark).1.users ≡ run.users
   served_users pass (Attach c) mark = attached_by c mark (nat_le RUN_ATTACHES run.passes) (refuses_pass mark) refl refl
   served_users pass (Walk c) mark = called_users run now pass (Walk c) (in_run mark)
   served_users pass (Open c) mark = called_users run now pass (Open c) (in_run mark)
@@ -45,4 +45,4 @@ module _ (run : RunOf) (now : ℕ) where
 -- whatever calls it was given
 pub alone_users : (run : RunOf) (xs : List (Heard × RunMark)) → (alone run xs).1.users ≡ run.users
 alone_users run [] = refl
-alone_users run (x ∷ xs) = alone_users (served run x.0.now x.0.pass x.0.call x.1).1 xs ∙ served_users run x.0.now x.0.pass x.0.call x.1
+alone_users run (x ∷ xs) = alone_users (call_alone run x.0.now x.0.pass x.0.call x.1).1 xs ∙ served_users run x.0.now x.0.pass x.0.call x.1

@@ -7,7 +7,7 @@ use Rattle.cs_fids.specs.declared.entry.Entry.{Entry}
 use Rattle.cs_fids.specs.declared.entry.Entry.TheVariants as entry
 use Rattle.cs_fids.specs.Entries.{run_of}
 use Rattle.cs_session.specs.declared.reply.Reply.{Reply}
-use Rattle.cs_session.specs.Questions.{Question, Told}
+use Rattle.cs_session.specs.Questions.{Question, PortAnswer}
 use Rattle.cs_session.specs.Sessions.{Awaited, Sess}
 use Rattle.cs_session.specs.Steps.{Done, Asks, Step, after, front_by}
 use Rattle.cs_world.proofs.Moved.{get_moved, moved, moved_awaited, moved_entry, moved_fids, moved_front, moved_question, moved_told}
@@ -105,9 +105,9 @@ module _ (b : ℕ → Bool) where
     asks_fixed q is = let e : Asks q ≡ Asks (moved_question out q) = sym is ∙ front_fixed ∙ ap (moved_front out) is in cc
 
   -- and what it leaves where what it is told does
-  pub after_within : (s : Sess) (x : Step) (told : Told) → Within b s → told ≡ moved_told out told → Within b (after s x told).1
+  pub after_within : (s : Sess) (x : Step) (told : PortAnswer) → Within b s → told ≡ moved_told out told → Within b (after s x told).1
   after_within s x told in_b same = within (after s x told).1
-      (ap (λ (y : Sess). (after y x told).1) (sym (fixed s in_b)) ∙ ap (λ (y : Told). (after (moved out s) x y).1) same ∙ ap (λ (y : Reply × Sess). y.1) (after_moved out s x told))
+      (ap (λ (y : Sess). (after y x told).1) (sym (fixed s in_b)) ∙ ap (λ (y : PortAnswer). (after (moved out s) x y).1) same ∙ ap (λ (y : Reply × Sess). y.1) (after_moved out s x told))
 
 pub more_within : (b c : ℕ → Bool) → ((p : ℕ) → b p ≡ true → c p ≡ true) → (s : Sess) → Within b s → Within c s
 more_within b c more s in_b = record { fids = λ fid e is. more (run_of e) (in_b.fids fid e is); awaits = λ p is. more p.run (in_b.awaits p is) }

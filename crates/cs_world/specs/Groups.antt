@@ -1,5 +1,5 @@
 -- Two groups of connections, and the steps of the first without those of the second.
-use Rattle.std.specs.Prelude.{◌≡◌, ℕ, ◌&&◌, not, nat_le, Bool, true, false, List, [], ◌∷◌, Option, None, filter, is_none, length, option_and_then, string_bytes, if◌then◌else◌}
+use Rattle.std.specs.Prelude.{◌≡◌, ℕ, ◌&&◌, not, nat_le, Bool, true, false, List, [], ◌∷◌, Option, None, filter, is_none, length, option_and_then, if◌then◌else◌}
 use Rattle.std.specs.List.{list_any}
 use Rattle.std.specs.Option.{option_map_or}
 use Rattle.cs_names.specs.declared.limits.TheConstants.{RUNS}
@@ -14,68 +14,80 @@ use Rattle.cs_session.specs.Questions.{Question, Find, Enter, Ask}
 use Rattle.cs_session.specs.Steps as c
 use Rattle.cs_world.specs.declared.reply.Reply.{Reply}
 use Rattle.cs_world.specs.declared.step.Step.{Step}
-use Rattle.cs_world.specs.Marks.{Mark}
+use Rattle.cs_world.specs.Marks.{WorldMark}
 use Rattle.cs_world.specs.Projections.{of_step}
 use Rattle.cs_world.specs.Steps.{step_of}
-use Rattle.cs_world.specs.Turning.{turn_of}
+use Rattle.cs_world.specs.Turning.{connection_step}
 use Rattle.cs_world.specs.Worlds.{World}
 
 -- ---- the steps of a group
 
 -- a step of a connection of the first group, a publish, or a reload
 abbrev pub is_first : (ℕ → Bool) → Step → Bool
-is_first first x = option_map_or (λ t. first t.conn) (turn_of x) true
+is_first first step = option_map_or (λ turn. first turn.conn) (connection_step step) true
 
 -- the steps of the first group, and their replies among those of all steps
-abbrev pub first_steps : (ℕ → Bool) → List (Step × Mark) → List (Step × Mark)
-first_steps first marked = filter (λ x. is_first first x.0) marked
+abbrev pub first_steps : (ℕ → Bool) → List (Step × WorldMark) → List (Step × WorldMark)
+first_steps first marked = filter (λ one. is_first first one.0) marked
 
-abbrev pub first_replies : (ℕ → Bool) → List (Step × Mark) → List Reply → List Reply
+abbrev pub first_replies : (ℕ → Bool) → List (Step × WorldMark) → List Reply → List Reply
 first_replies first [] replies = []
-first_replies first (x ∷ xs) [] = []
-first_replies first (x ∷ xs) (r ∷ rs) = if is_first first x.0 then r ∷ first_replies first xs rs else first_replies first xs rs
+first_replies first (marked ∷ others) [] = []
+first_replies first (marked ∷ others) (reply ∷ replies) =
+    if is_first first marked.0
+    then reply ∷ first_replies first others replies
+    else first_replies first others replies
 
 -- ---- the runs of a group
 
 -- the key of the run that an attach names, if its tree's name is one
 abbrev pub key_named : AttachMessage → Option Key
-key_named x = option_and_then (λ name. key_in name.0 name.1) (tree_name_in (string_bytes x.aname))
+key_named message =
+    option_and_then (λ name. key_in name.0 name.1) (tree_name_in message.aname)
 
 abbrev pub key_found : c.Step → Option Key
-key_found (c.FindStep x) = key_named x
+key_found (c.FindStep message) = key_named message
 key_found c.AttachStep = None
-key_found (c.CallStep x) = None
+key_found (c.CallStep message) = None
 key_found (c.CloseStep fid) = None
-key_found (c.Table x) = None
+key_found (c.Table change) = None
 
 -- the key that a step names, if it is a find
 abbrev pub key_of : Step → Option Key
-key_of x = option_and_then (λ t. key_found t.step) (turn_of x)
+key_of step = option_and_then (λ turn. key_found turn.step) (connection_step step)
 
 -- a find of the group names the key
-abbrev pub names : (Step → Bool) → Key → Step × Mark → Bool
-names group key x = group x.0 && option_map_or (same_key key) (key_of x.0) false
+abbrev pub finds_key : (Step → Bool) → Key → Step × WorldMark → Bool
+finds_key group key marked = group marked.0 && option_map_or (same_key key) (key_of marked.0) false
 
-abbrev pub is_named : (Step → Bool) → List (Step × Mark) → Key → Bool
-is_named group marked key = list_any (names group key) marked
+abbrev pub is_named : (Step → Bool) → List (Step × WorldMark) → Key → Bool
+is_named group marked key = list_any (finds_key group key) marked
 
 -- no run is named by finds of both groups
-abbrev pub AreApart : (ℕ → Bool) → List (Step × Mark) → Type 0
-AreApart first marked = (key : Key) → (is_named (is_first first) marked key && is_named (λ x. not (is_first first x)) marked key) ≡ false
+abbrev pub AreApart : (ℕ → Bool) → List (Step × WorldMark) → Type 0
+AreApart first marked = (key : Key)
+    → (is_named (is_first first) marked key
+    && is_named (λ step. not (is_first first step)) marked key) ≡ false
 
 -- ---- the limit of runs
 
--- a question finds a run of a published state that isn't there, and there are as many as there can be
+-- a question finds a run of a published state that isn't there, and there are as many as can be
 abbrev pub needs_room : Registry RunOf → Question → Bool
 needs_room registry (Find state name) =
-    option_map_or (λ key. is_published registry key.number && is_none (place_of key registry.runs) && nat_le RUNS (length registry.runs)) (key_in state name) false
+    option_map_or
+    (λ key. is_published registry key.number && is_none (place_of key registry.runs)
+    && nat_le RUNS (length registry.runs))
+    (key_in state name) false
 needs_room registry (Enter now place call) = false
 needs_room registry (Ask now place pass call) = false
 
 -- a step asks such a question
-abbrev pub meets_limit : World → Step → Mark → Bool
-meets_limit w x mark = list_any (needs_room w.registry) (of_step w (λ question. question ∷ []) x mark)
+abbrev pub meets_limit : World → Step → WorldMark → Bool
+meets_limit world step mark =
+    list_any (needs_room world.registry) (of_step world (λ question. question ∷ []) step mark)
 
-abbrev pub NoneMeetsLimit : World → List (Step × Mark) → Type 0
-NoneMeetsLimit w [] = Unit {0}
-NoneMeetsLimit w (x ∷ xs) = (meets_limit w x.0 x.1 ≡ false) × NoneMeetsLimit (step_of w x.0 x.1).1 xs
+abbrev pub NoneMeetsLimit : World → List (Step × WorldMark) → Type 0
+NoneMeetsLimit world [] = Unit {0}
+NoneMeetsLimit world (marked ∷ others) =
+    (meets_limit world marked.0 marked.1 ≡ false)
+    × NoneMeetsLimit (step_of world marked.0 marked.1).1 others

@@ -1,4 +1,5 @@
--- The growth that memory refuses in a step, as data: one that the step doesn't reach counts for nothing.
+-- The growth that memory refuses in a step, as data: one that the step doesn't reach counts for
+-- nothing.
 use Rattle.std.specs.Prelude.{Bool, true, false}
 use Rattle.cs_journal.specs.Marks.{StepMark, Ample}
 
@@ -8,62 +9,63 @@ pub data RunMark : Type 0 where
   NoPass : RunMark
   InRun : StepMark → RunMark
 
--- Of a step: the list of users that is loaded; the state that is made; what keeps it, once it is published; a connection's table of fids; or what a run needs.
-pub data Mark : Type 0 where
-  NoUsers : Mark
-  NoState : Mark
-  NoShelf : Mark
-  NoTable : Mark
-  Below : RunMark → Mark
+-- Of a step: the list of users that is loaded; the state that is made; what keeps it, once it is
+-- published; a connection's table of fids; or what a run needs.
+pub data WorldMark : Type 0 where
+  NoUsers : WorldMark
+  NoState : WorldMark
+  NoKeeping : WorldMark
+  NoTable : WorldMark
+  Below : RunMark → WorldMark
 
-abbrev pub refuses_users : Mark → Bool
+abbrev pub refuses_users : WorldMark → Bool
 refuses_users NoUsers = true
 refuses_users NoState = false
-refuses_users NoShelf = false
+refuses_users NoKeeping = false
 refuses_users NoTable = false
-refuses_users (Below m) = false
+refuses_users (Below mark) = false
 
-abbrev pub refuses_state : Mark → Bool
+abbrev pub refuses_state : WorldMark → Bool
 refuses_state NoUsers = false
 refuses_state NoState = true
-refuses_state NoShelf = false
+refuses_state NoKeeping = false
 refuses_state NoTable = false
-refuses_state (Below m) = false
+refuses_state (Below mark) = false
 
-abbrev pub refuses_shelf : Mark → Bool
-refuses_shelf NoUsers = false
-refuses_shelf NoState = false
-refuses_shelf NoShelf = true
-refuses_shelf NoTable = false
-refuses_shelf (Below m) = false
+abbrev pub refuses_keeping : WorldMark → Bool
+refuses_keeping NoUsers = false
+refuses_keeping NoState = false
+refuses_keeping NoKeeping = true
+refuses_keeping NoTable = false
+refuses_keeping (Below mark) = false
 
-abbrev pub refuses_table : Mark → Bool
+abbrev pub refuses_table : WorldMark → Bool
 refuses_table NoUsers = false
 refuses_table NoState = false
-refuses_table NoShelf = false
+refuses_table NoKeeping = false
 refuses_table NoTable = true
-refuses_table (Below m) = false
+refuses_table (Below mark) = false
 
 -- what is left of it for the runs
-abbrev pub below : Mark → RunMark
+abbrev pub below : WorldMark → RunMark
 below NoUsers = InRun Ample
 below NoState = InRun Ample
-below NoShelf = InRun Ample
+below NoKeeping = InRun Ample
 below NoTable = InRun Ample
-below (Below m) = m
+below (Below mark) = mark
 
 abbrev pub refuses_run : RunMark → Bool
 refuses_run NoRun = true
 refuses_run NoPass = false
-refuses_run (InRun m) = false
+refuses_run (InRun mark) = false
 
 abbrev pub refuses_pass : RunMark → Bool
 refuses_pass NoRun = false
 refuses_pass NoPass = true
-refuses_pass (InRun m) = false
+refuses_pass (InRun mark) = false
 
 -- what is left of it for a call in a run
 abbrev pub in_run : RunMark → StepMark
 in_run NoRun = Ample
 in_run NoPass = Ample
-in_run (InRun m) = m
+in_run (InRun mark) = mark

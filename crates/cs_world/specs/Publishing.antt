@@ -5,14 +5,16 @@ use Rattle.cs_registry.specs.Registries.{Registry, is_published}
 use Rattle.cs_world.specs.declared.reply.Reply.{Reply}
 use Rattle.cs_world.specs.declared.reply.Reply.TheVariants.{Published, Unpublished}
 use Rattle.cs_world.specs.declared.reply.StateFault.TheVariants.{NoSuchState, Twice, Memory}
-use Rattle.cs_world.specs.Marks.{Mark, refuses_shelf, refuses_state}
+use Rattle.cs_world.specs.Marks.{WorldMark, refuses_keeping, refuses_state}
 use Rattle.cs_journal.specs.Runs.{RunOf}
 
--- the plan has to have the number; then the state is made; then it must not be published; then it is kept
-abbrev pub published : Registry RunOf → ℕ → Mark → Reply × Registry RunOf
+-- the plan has to have the number; then the state is made; then it must not be published; then it
+-- is kept
+abbrev pub published : Registry RunOf → ℕ → WorldMark → Reply × Registry RunOf
 published registry number mark =
-    if not (nat_lt number (length registry.scene.plan)) then (Unpublished NoSuchState, registry) else
+    if not (nat_lt number (length registry.scene.plan))
+    then (Unpublished NoSuchState, registry) else
     if refuses_state mark then (Unpublished Memory, registry) else
     if is_published registry number then (Unpublished Twice, registry) else
-    if refuses_shelf mark then (Unpublished Memory, registry) else
+    if refuses_keeping mark then (Unpublished Memory, registry) else
     (Published, with_published registry number)

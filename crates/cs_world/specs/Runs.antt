@@ -1,42 +1,41 @@
--- What a run answers under the passes that it gave, by their numbers. A run is told as its journal tells it.
-use Rattle.std.specs.Prelude.{ℕ, ◌+◌, nat_le, nat_lt, Result, Ok, Err, if◌then◌else◌}
+-- What a run answers under the passes that it gave, by their numbers. A run is told as its journal
+-- tells it.
+use Rattle.std.specs.Prelude.{ℕ, nat_le, nat_lt, Result, Ok, Err, if◌then◌else◌}
 use Rattle.cs_names.specs.declared.limits.TheConstants.{RUN_ATTACHES}
 use Rattle.cs_names.specs.declared.rule_id.RuleId.TheVariants.{S5}
 use Rattle.cs_permit.specs.declared.call.AttachCall.{AttachCall}
 use Rattle.cs_permit.specs.declared.call.Call.{Call}
 use Rattle.cs_permit.specs.declared.call.Call.TheVariants.{Attach}
+use Rattle.cs_permit.specs.declared.fault.PassFault.{PassFault}
+use Rattle.cs_permit.specs.declared.fault.PassFault.TheVariants.{Room, Memory}
 use Rattle.cs_run.specs.declared.answer.Answer.{Answer}
 use Rattle.cs_run.specs.declared.answer.Answer.TheVariants.{Denied}
 use Rattle.cs_journal.specs.Marks.{StepMark}
-use Rattle.cs_journal.specs.Runs.{RunOf, fresh_pass}
+use Rattle.cs_journal.specs.Runs.{RunOf, fresh_pass, with_pass}
 use Rattle.cs_journal.specs.Steps.{Stepped, step}
-use Rattle.cs_session.specs.declared.port.PassFault.{PassFault}
-use Rattle.cs_session.specs.declared.port.PassFault.TheVariants.{Room, Memory}
 use Rattle.cs_world.specs.Marks.{RunMark, in_run, refuses_pass}
 
 -- ---- a call
 
 -- what a step answers, and the run that it leaves
-abbrev pub ran : Stepped → Answer × RunOf
-ran x = (x.answer, x.run)
+abbrev pub answer_and_run : Stepped → Answer × RunOf
+answer_and_run stepped = (stepped.answer, stepped.run)
 
--- a run's step under the pass of that number; what it answers and leaves of the run doesn't hang on the pass's receipts
+-- a run's step under the pass of that number; what it answers and leaves of the run doesn't hang on
+-- the pass's receipts
 abbrev pub run_step : RunOf → ℕ → ℕ → Call → StepMark → Answer × RunOf
-run_step run now pass call mark = ran (step run (fresh_pass pass) now call mark)
+run_step run now pass call mark = answer_and_run (step run (fresh_pass pass) now call mark)
 
 -- under a pass that the run gave
 abbrev pub called : RunOf → ℕ → ℕ → Call → StepMark → Answer × RunOf
-called run now pass call mark = if nat_lt pass run.passes then run_step run now pass call mark else (Denied S5, run)
+called run now pass call mark =
+    if nat_lt pass run.passes then run_step run now pass call mark else (Denied S5, run)
 
 -- ---- an attach
 
--- with one pass more
-abbrev pub with_pass : RunOf → RunOf
-with_pass run = record { fresh = run.fresh; users = run.users; journal = run.journal; passes = run.passes + 1 }
-
 -- the number of the pass beside the answer
 abbrev pub under : ℕ → Answer × RunOf → Result (ℕ × Answer) PassFault × RunOf
-under pass x = (Ok (pass, x.0), x.1)
+under pass stepped = (Ok (pass, stepped.0), stepped.1)
 
 -- an attach is a call under a new pass, whose number is how many there were
 abbrev pub attached : RunOf → ℕ → AttachCall → RunMark → Result (ℕ × Answer) PassFault × RunOf

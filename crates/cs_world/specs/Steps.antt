@@ -1,11 +1,12 @@
--- A step of a world, as a function of the growth that memory refuses: its reply, and the world then.
+-- A step of a world, as a function of the growth that memory refuses: its reply, and the world
+-- then.
 use Rattle.std.specs.Prelude.{◌≡◌, ℕ, nat_lt, if◌then◌else◌}
 use Rattle.cs_names.specs.declared.limits.TheConstants.{CONNECTIONS}
 use Rattle.cs_names.specs.declared.rule_id.RuleId.TheVariants.{S5}
 use Rattle.cs_registry.specs.Registries.{Registry}
-use Rattle.cs_session.specs.declared.reply.Reply.{Reply as Said}
+use Rattle.cs_session.specs.declared.reply.Reply.{Reply as SessionReply}
 use Rattle.cs_session.specs.declared.reply.Reply.TheVariants.{Error}
-use Rattle.cs_session.specs.Questions.{Told}
+use Rattle.cs_session.specs.Questions.{PortAnswer}
 use Rattle.cs_session.specs.Sessions.{Sess}
 use Rattle.cs_session.specs.Steps.{Front, Done, Asks, front_by, after}
 use Rattle.cs_session.specs.Steps as c
@@ -14,7 +15,7 @@ use Rattle.cs_world.specs.declared.reply.Reply.TheVariants.{Connection}
 use Rattle.cs_world.specs.declared.step.Step.{Step}
 use Rattle.cs_world.specs.declared.step.Step.TheVariants.{Publish, Reload, Find, Attach, Call, Close, Table}
 use Rattle.cs_world.specs.Asking.{answered}
-use Rattle.cs_world.specs.Marks.{Mark, RunMark, below, refuses_table}
+use Rattle.cs_world.specs.Marks.{WorldMark, RunMark, below, refuses_table}
 use Rattle.cs_world.specs.Publishing.{published}
 use Rattle.cs_world.specs.Reloading.{reloaded}
 use Rattle.cs_journal.specs.Runs.{RunOf}
@@ -22,39 +23,45 @@ use Rattle.cs_world.specs.Worlds.{World, connection, with_both}
 
 -- ---- a step of a connection
 
-abbrev pub replied : World → ℕ → Registry RunOf → Said × Sess → Reply × World
-replied w conn registry x = (Connection x.0, with_both w conn x.1 registry)
+abbrev pub replied : World → ℕ → Registry RunOf → SessionReply × Sess → Reply × World
+replied world conn registry outcome =
+    (Connection outcome.0, with_both world conn outcome.1 registry)
 
 -- the connection goes on from what it is told
-abbrev pub told : World → ℕ → c.Step → Told × Registry RunOf → Reply × World
-told w conn x answer = replied w conn answer.1 (after (connection w conn) x answer.0)
+abbrev pub continued_from : World → ℕ → c.Step → PortAnswer × Registry RunOf → Reply × World
+continued_from world conn step answer =
+    replied world conn answer.1 (after (connection world conn) step answer.0)
 
 -- it answers by itself, or asks the runs
-abbrev pub goes_from : World → ℕ → c.Step → RunMark → Front → Reply × World
-goes_from w conn x mark (Done reply s) = replied w conn w.registry (reply, s)
-goes_from w conn x mark (Asks question) = told w conn x (answered w.registry question mark)
+abbrev pub from_front : World → ℕ → c.Step → RunMark → Front → Reply × World
+from_front world conn step mark (Done reply session) =
+    replied world conn world.registry (reply, session)
+from_front world conn step mark (Asks question) =
+    continued_from world conn step (answered world.registry question mark)
 
 -- out of turn where no connection has the number
-abbrev pub on_connection : World → ℕ → ℕ → c.Step → Mark → Reply × World
-on_connection w conn now x mark =
-    if nat_lt conn CONNECTIONS then goes_from w conn x (below mark) (front_by now (connection w conn) x (refuses_table mark))
-    else (Connection (Error S5), w)
+abbrev pub on_connection : World → ℕ → ℕ → c.Step → WorldMark → Reply × World
+on_connection world conn now step mark =
+    if nat_lt conn CONNECTIONS
+    then from_front world conn step (below mark)
+    (front_by now (connection world conn) step (refuses_table mark))
+    else (Connection (Error S5), world)
 
 -- ---- a step
 
 abbrev pub by_registry : World → Reply × Registry RunOf → Reply × World
-by_registry w x = (x.0, record w { registry = x.1 })
+by_registry world outcome = (outcome.0, record world { registry = outcome.1 })
 
 -- a find and a change of the table have no moment
-abbrev pub step_of : World → Step → Mark → Reply × World
-step_of w (Publish number) mark = by_registry w (published w.registry number mark)
-step_of w (Reload users) mark = by_registry w (reloaded w.registry users mark)
-step_of w (Find conn message) mark = on_connection w conn 0 (c.FindStep message) mark
-step_of w (Attach conn now) mark = on_connection w conn now c.AttachStep mark
-step_of w (Call conn now message) mark = on_connection w conn now (c.CallStep message) mark
-step_of w (Close conn now fid) mark = on_connection w conn now (c.CloseStep fid) mark
-step_of w (Table conn change) mark = on_connection w conn 0 (c.Table change) mark
+abbrev pub step_of : World → Step → WorldMark → Reply × World
+step_of world (Publish number) mark = by_registry world (published world.registry number mark)
+step_of world (Reload users) mark = by_registry world (reloaded world.registry users mark)
+step_of world (Find conn message) mark = on_connection world conn 0 (c.FindStep message) mark
+step_of world (Attach conn now) mark = on_connection world conn now c.AttachStep mark
+step_of world (Call conn now message) mark = on_connection world conn now (c.CallStep message) mark
+step_of world (Close conn now fid) mark = on_connection world conn now (c.CloseStep fid) mark
+step_of world (Table conn change) mark = on_connection world conn 0 (c.Table change) mark
 
 -- with some mark
 abbrev pub IsStep : World → Step → Reply → World → Type 0
-IsStep w x reply w' = (mark : Mark) × ((reply, w') ≡ step_of w x mark)
+IsStep world step reply next = (mark : WorldMark) × ((reply, next) ≡ step_of world step mark)

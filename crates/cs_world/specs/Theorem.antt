@@ -11,40 +11,40 @@ use Rattle.cs_tree_model.specs.Tree.{Tree}
 use Rattle.cs_world.specs.declared.reply.Reply.{Reply}
 use Rattle.cs_world.specs.declared.step.Step.{Step}
 use Rattle.cs_world.specs.declared.step.Step.TheVariants.{Publish, Reload, Find, Attach, Call, Close, Table}
-use Rattle.cs_world.specs.Ample.{ample, is_short}
-use Rattle.cs_world.specs.Comes.{Comes}
-use Rattle.cs_world.specs.Lists.{IsRun}
-use Rattle.cs_world.specs.Marks.{Mark, refuses_table}
+use Rattle.cs_world.specs.Ample.{ample, tells_want}
+use Rattle.cs_world.specs.Comes.{ConnectionStepComesTo}
+use Rattle.cs_world.specs.Lists.{IsStepList}
+use Rattle.cs_world.specs.Marks.{WorldMark, refuses_table}
 use Rattle.cs_world.specs.Publishing.{published}
 use Rattle.cs_world.specs.Reaching.{step_touches}
 use Rattle.cs_world.specs.Reloading.{reloaded}
 use Rattle.cs_world.specs.Steps.{by_registry}
 use Rattle.cs_world.specs.Worlds.{World}
 
--- a publish and a reload are the registry's; any other step comes to what its connection comes to. A
--- find and a change of the table have no moment
-abbrev pub ComesTo : World → Step → Mark → Reply → World → Type 0
-ComesTo world (Publish number) mark reply after =
+-- a publish and a reload are the registry's; any other step comes to what its connection comes to.
+-- A find and a change of the table have no moment
+abbrev pub StepComesTo : World → Step → WorldMark → Reply → World → Type 0
+StepComesTo world (Publish number) mark reply after =
     (reply, after) ≡ by_registry world (published world.registry number mark)
-ComesTo world (Reload users) mark reply after =
+StepComesTo world (Reload users) mark reply after =
     (reply, after) ≡ by_registry world (reloaded world.registry users mark)
-ComesTo world (Find conn message) mark reply after =
-    Comes world conn 0 (c.FindStep message) (refuses_table mark) reply after
-ComesTo world (Attach conn now) mark reply after =
-    Comes world conn now c.AttachStep (refuses_table mark) reply after
-ComesTo world (Call conn now message) mark reply after =
-    Comes world conn now (c.CallStep message) (refuses_table mark) reply after
-ComesTo world (Close conn now fid) mark reply after =
-    Comes world conn now (c.CloseStep fid) (refuses_table mark) reply after
-ComesTo world (Table conn change) mark reply after =
-    Comes world conn 0 (c.Table change) (refuses_table mark) reply after
+StepComesTo world (Find conn message) mark reply after =
+    ConnectionStepComesTo world conn 0 (c.FindStep message) (refuses_table mark) reply after
+StepComesTo world (Attach conn now) mark reply after =
+    ConnectionStepComesTo world conn now c.AttachStep (refuses_table mark) reply after
+StepComesTo world (Call conn now message) mark reply after =
+    ConnectionStepComesTo world conn now (c.CallStep message) (refuses_table mark) reply after
+StepComesTo world (Close conn now fid) mark reply after =
+    ConnectionStepComesTo world conn now (c.CloseStep fid) (refuses_table mark) reply after
+StepComesTo world (Table conn change) mark reply after =
+    ConnectionStepComesTo world conn 0 (c.Table change) (refuses_table mark) reply after
 
 -- a step, in which memory refuses the growth of its mark, has that reply and leads there
-pub record StepIsJudged (world : World) (step : Step) (mark : Mark) (reply : Reply) (after : World)
-    : Type 0 where
-  pub comes : ComesTo world step mark reply after
-  -- no want of memory is told just where memory refuses nothing
-  pub want : (is_short reply ≡ false) ↔ (mark ≡ ample)
+pub record StepIsJudged (world : World) (step : Step) (mark : WorldMark) (reply : Reply)
+    (after : World) : Type 0 where
+  pub comes : StepComesTo world step mark reply after
+  -- the reply tells want of memory exactly where a growth was refused
+  pub want : (tells_want reply ≡ false) ↔ (mark ≡ ample)
   -- no run changes but the one that it reaches or finds, and the scene stays
   pub others : (place : ℕ) → step_touches world step mark ≢ Some place
       → place < length world.registry.runs
@@ -52,18 +52,19 @@ pub record StepIsJudged (world : World) (step : Step) (mark : Mark) (reply : Rep
   pub scene : after.registry.scene ≡ world.registry.scene
 
 -- steps, each with its mark, have these replies and lead there, one after the other
-abbrev pub StepsAreJudged : World → List (Step × Mark) → List Reply → World → Type 0
+abbrev pub StepsAreJudged : World → List (Step × WorldMark) → List Reply → World → Type 0
 StepsAreJudged world [] [] after = after ≡ world
 StepsAreJudged world [] (reply ∷ replies) after = ⊥
-StepsAreJudged world (x ∷ xs) [] after = ⊥
-StepsAreJudged world (x ∷ xs) (reply ∷ replies) after =
-    (next : World) × StepIsJudged world x.0 x.1 reply next × StepsAreJudged next xs replies after
+StepsAreJudged world (marked ∷ others) [] after = ⊥
+StepsAreJudged world (marked ∷ others) (reply ∷ replies) after =
+    (next : World) × StepIsJudged world marked.0 marked.1 reply next
+    × StepsAreJudged next others replies after
 
--- of a list that was run: its steps, in order, each with a mark
+-- of a list that was taken: its steps, in order, each with a mark
 pub record ListIsJudged (world : World) (steps : List Step) (replies : List Reply) (after : World)
     : Type 0 where
-  pub run : IsRun world steps replies after
-  pub judged : StepsAreJudged world run.marked replies after
+  pub taken : IsStepList world steps replies after
+  pub judged : StepsAreJudged world taken.marked replies after
 
 -- ---- how runs began
 

@@ -13,12 +13,16 @@ pub record World : Type 0 where
 
 -- nothing is published, and no connection has a session
 abbrev pub new_world : Scene → List Row → World
-new_world scene users = record { registry = empty scene users; connections = replicate CONNECTIONS (blank None) }
+new_world scene users = record {
+  registry = empty scene users;
+  connections = replicate CONNECTIONS (blank None);
+}
 
 -- the connection of that number
 abbrev pub connection : World → ℕ → Sess
-connection w conn = slice_index_or w.connections conn (blank None)
+connection world conn = slice_index_or world.connections conn (blank None)
 
 -- with that connection, and these runs
 abbrev pub with_both : World → ℕ → Sess → Registry RunOf → World
-with_both w conn s registry = record { registry = registry; connections = slice_set w.connections conn s }
+with_both world conn session registry =
+    record { registry = registry; connections = slice_set world.connections conn session }

@@ -6,8 +6,8 @@ ghost use Rattle.cs_world.specs.Marks.{RunMark};
 ghost use Rattle.cs_world.specs.Runs.{attached, called};
 
 use cs_journal::{Pass, Run};
-use cs_names::RuleId;
 use cs_names::limits::RUN_ATTACHES;
+use cs_names::{RuleId, Text};
 use cs_permit::{AttachCall, Call};
 use cs_plan::Built;
 use cs_registry::Held;
@@ -18,8 +18,8 @@ use std::alloc::{AllocError, Global};
 use std::marker::Model;
 use std::sync::Arc;
 
-/// A run, with the passes that it gave, each at the place of its number. Contracts see the run, as its
-/// journal tells it.
+/// A run, with the passes that it gave, each at the place of its number. Contracts see the run, as
+/// its journal tells it.
 #[derive(Drop)]
 pub struct AttendedRun {
     run: Run<Built>,
@@ -62,15 +62,16 @@ impl Held for AttendedRun {
 }
 
 impl AttendedRun {
-    /// Attaches a user under a new pass, at that moment: the pass's number, and the answer. Room where
-    /// RUN_ATTACHES passes were given. Where it gives no pass it is unchanged.
+    /// Attaches a user under a new pass, at that moment: the pass's number, and the answer. Room
+    /// where RUN_ATTACHES passes were given. Where it gives no pass it is unchanged.
     pub(crate) fn attach(
         &mut self,
         alloc: Global,
         now: u32,
-        user: String,
+        user: Text,
     ) -> Result<(u32, Answer), PassFault>
-        ensures { (mark : RunMark) × ((result, self.new) ≡ attached self.old now (record { user = user }) mark) }
+        ensures { (mark : RunMark)
+            × ((result, self.new) ≡ attached self.old now (record { user = user }) mark) }
     {
         if self.passes.len() >= RUN_ATTACHES as usize {
             return Err(PassFault::Room);
@@ -78,9 +79,7 @@ impl AttendedRun {
         if self.passes.reserve(1).is_err() {
             return Err(PassFault::Memory);
         }
-        let Ok(mut pass) = self.run.new_pass(alloc) else {
-            return Err(PassFault::Memory);
-        };
+        let mut pass = self.run.new_pass(alloc)?;
         let number = pass.number();
         let call = Call::Attach(AttachCall { user });
         let answer = self.run.step(alloc, &mut pass, now, call);
@@ -90,7 +89,8 @@ impl AttendedRun {
 
     /// Does a call under the pass of that number, at that moment; S5 where it gave no such pass.
     pub(crate) fn call(&mut self, alloc: Global, now: u32, pass: u32, call: Call) -> Answer
-        ensures called { (mark : StepMark) × ((result, self.new) ≡ called self.old now pass call mark) }
+        ensures called { (mark : StepMark)
+            × ((result, self.new) ≡ called self.old now pass call mark) }
         ensures fits { FitsCall call result }
     {
         let Some(pass) = self.passes.get_mut(pass as usize) else {

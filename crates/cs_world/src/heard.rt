@@ -2,8 +2,8 @@
 
 use cs_permit::Call;
 
-/// A call that reached a run: under the pass of that number, at that moment, in seconds since 1970. An
-/// attach's pass is the one that it is given.
+/// A call that reached a run: under the pass of that number, at that moment, in seconds since 1970.
+/// An attach's pass is the one that it is given.
 #[derive(Debug, Drop)]
 pub struct Heard {
     pub pass: u32,

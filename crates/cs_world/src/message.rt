@@ -5,14 +5,13 @@ ghost use Rattle.cs_names.specs.declared.limits.TheConstants.{CONNECTIONS};
 ghost use Rattle.cs_names.specs.declared.rule_id.RuleId.TheVariants.{S5};
 ghost use Rattle.cs_session.specs.declared.message.Message.TheVariants as m;
 ghost use Rattle.cs_session.specs.declared.reply.Reply.TheVariants as r;
-ghost use Rattle.cs_session.specs.Messages.{IsAnswered};
 ghost use Rattle.cs_session.specs.Ready.{IsAgreed};
-ghost use Rattle.cs_session.specs.Receipts.{IsReplied, said, tag_in};
+ghost use Rattle.cs_session.specs.Receipts.{tag_in, wire_of};
 ghost use Rattle.cs_session.specs.Sessions.{blank};
 ghost use Rattle.cs_session.specs.Sizes.{FitsWithin, room_of};
 ghost use Rattle.cs_wire.specs.Messages.{r_view};
-ghost use Rattle.cs_world.specs.Asking.{IsGiven};
-ghost use Rattle.cs_world.specs.Reached.{IsReached};
+ghost use Rattle.cs_world.specs.Reachable.{IsReachable};
+ghost use Rattle.cs_world.specs.Replies.{IsAnsweredOn, IsRepliedOn};
 ghost use Rattle.cs_world.specs.Worlds.{connection};
 
 use crate::world::World;
@@ -26,8 +25,9 @@ use std::borrow::CowStr;
 /// What a message is answered that comes while a run awaits its attach.
 fn out_of_turn(bytes: &[u8]) -> RMessage
     requires { 7 ≤ length bytes.now }
-    ensures value { r_view result ≡ said (tag_in bytes.now) (r.Error S5) }
-    ensures fits { (msize : Option ℕ) → ForSome msize IsAgreed → FitsWithin (room_of msize) (r_view result) }
+    ensures value { r_view result ≡ wire_of (tag_in bytes.now) (r.Error S5) }
+    ensures fits { (msize : Option ℕ) → ForSome msize IsAgreed →
+        FitsWithin (room_of msize) (r_view result) }
 {
     RMessage {
         tag: u16::from_le_bytes([bytes[5], bytes[6]]),
@@ -39,37 +39,45 @@ fn out_of_turn(bytes: &[u8]) -> RMessage
 
 impl World {
     /// Answers one message of a connection, of 7 bytes at least, at that moment: by its steps, one
-    /// after the other, and their last reply. The reply carries the message's tag; the first rule that
-    /// fails, or want of memory, is told by an Rerror (error(5)). While a run awaits its attach the
-    /// connection can take none of a message's steps: the reply is S5, and nothing changes. No other
-    /// connection changes.
+    /// after the other, and their last reply. The reply carries the message's tag; the first rule
+    /// that fails, or want of memory, is told by an Rerror (error(5)). While a run awaits its
+    /// attach the connection can take none of a message's steps: the reply is S5, and nothing
+    /// changes. No other connection changes.
     pub fn message(&mut self, alloc: Global, conn: u32, now: u32, bytes: &[u8]) -> RMessage
         requires connection { conn < CONNECTIONS }
         requires whole { 7 ≤ length bytes.now }
-        ensures replied { (connection self.old conn).pending ≡ None → IsReplied IsGiven now bytes.now (connection self.old conn) self.old.registry (r_view result) (connection self.new conn) self.new.registry }
-        ensures out_of_turn { (connection self.old conn).pending ≢ None → (r_view result ≡ said (tag_in bytes.now) (r.Error S5)) × (self.new ≡ self.old) }
-        ensures others { self.new.connections ≡ slice_set self.old.connections conn (connection self.new conn) }
-        ensures reached { IsReached self.old → IsReached self.new }
+        ensures replied { (connection self.old conn).pending ≡ None →
+            IsRepliedOn self.old conn now bytes.now (r_view result) self.new }
+        ensures out_of_turn { (connection self.old conn).pending ≢ None →
+            (r_view result ≡ wire_of (tag_in bytes.now) (r.Error S5)) × (self.new ≡ self.old) }
+        ensures others { self.new.connections
+            ≡ slice_set self.old.connections conn (connection self.new conn) }
+        ensures reachable { IsReachable self.old → IsReachable self.new }
         ensures fits { FitsWithin (room_of (connection self.old conn).msize) (r_view result) }
     {
         let session = &mut self.sessions[conn as usize];
         if session.awaits() {
+            // the session's size is one that S5 fits
             let _agreed = session.msize();
             return out_of_turn(bytes);
         }
         session.reply(alloc, &mut self.runs, now, bytes)
     }
 
-    /// Ends a connection at that moment: its open fids are closed, the least first, and all are freed
-    /// (intro(5)). The reply is Closed; while a run awaits its attach the connection can take none of
-    /// these steps: the reply is S5, and nothing changes. No other connection changes.
+    /// Ends a connection at that moment: its open fids are closed, the least first, and all are
+    /// freed (intro(5)). The reply is Closed; while a run awaits its attach the connection can take
+    /// none of these steps: the reply is S5, and nothing changes. No other connection changes.
     pub fn hang_up(&mut self, alloc: Global, conn: u32, now: u32) -> Reply
         requires connection { conn < CONNECTIONS }
-        ensures closed { (connection self.old conn).pending ≡ None → (result ≡ r.Closed) × IsAnswered IsGiven now m.HangUp (connection self.old conn) self.old.registry r.Closed (connection self.new conn) self.new.registry }
-        ensures ended { (connection self.old conn).pending ≡ None → connection self.new conn ≡ blank None }
-        ensures out_of_turn { (connection self.old conn).pending ≢ None → (result ≡ r.Error S5) × (self.new ≡ self.old) }
-        ensures others { self.new.connections ≡ slice_set self.old.connections conn (connection self.new conn) }
-        ensures reached { IsReached self.old → IsReached self.new }
+        ensures closed { (connection self.old conn).pending ≡ None →
+            (result ≡ r.Closed) × IsAnsweredOn self.old conn now m.HangUp r.Closed self.new }
+        ensures ended { (connection self.old conn).pending ≡ None →
+            connection self.new conn ≡ blank None }
+        ensures out_of_turn { (connection self.old conn).pending ≢ None →
+            (result ≡ r.Error S5) × (self.new ≡ self.old) }
+        ensures others { self.new.connections
+            ≡ slice_set self.old.connections conn (connection self.new conn) }
+        ensures reachable { IsReachable self.old → IsReachable self.new }
     {
         let session = &mut self.sessions[conn as usize];
         if session.awaits() {

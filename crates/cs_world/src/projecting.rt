@@ -1,22 +1,19 @@
 //! What of a list of steps reaches one run.
-ghost use Rattle.std.specs.Prelude.{◌≡◌, IfOk, length, map};
+ghost use Rattle.std.specs.Prelude.{◌≡◌, IfOk, length};
 ghost use Rattle.std.specs.Arc.{arc_value};
 ghost use Rattle.cs_names.specs.declared.limits.TheConstants.{CONNECTIONS};
-ghost use Rattle.cs_world.specs.Ample.{all_ample};
-ghost use Rattle.cs_world.specs.Marks.{Mark, below};
-ghost use Rattle.cs_world.specs.Noting.{IsStart, Notes, world_in};
-ghost use Rattle.cs_world.specs.Projections.{heard_view, of_step, of_turn, projection_of, put_to};
+ghost use Rattle.cs_world.specs.Marks.{WorldMark};
+ghost use Rattle.cs_world.specs.Noting.{IsStart, Notes, puts_in, world_in};
+ghost use Rattle.cs_world.specs.Projections.{calls_put, of_step, of_turn};
 ghost use Rattle.cs_world.specs.Steps.{on_connection, step_of};
 ghost use Rattle.cs_world.specs.Turns.{step_in};
-ghost use Rattle.cs_world.specs.Watching.{calls_said};
 ghost use Rattle.cs_world.specs.Worlds.{new_world};
 
-use crate::copying::copy_step;
 use crate::heard::Heard;
 use crate::reply::Reply;
 use crate::runs::Runs;
 use crate::step::Step;
-use crate::taking::{Turn, take};
+use crate::taking::{ConnectionStep, take};
 use crate::watched::WatchedRuns;
 use crate::world::{World, blanks};
 use cs_names::{RuleId, RunName};
@@ -60,32 +57,30 @@ impl WatchedWorld {
     fn step(&mut self, alloc: Global, step: Step) -> Reply
         requires all { length self.old.sessions.items ≡ CONNECTIONS }
         ensures all { length self.new.sessions.items ≡ CONNECTIONS }
-        ensures notes { (mark : Mark) × Notes self.old self.new result (step_of (world_in self.old) step mark)
-            (of_step (world_in self.old)
-            (λ question. put_to self.old.watched.runs self.old.watched.key question (below mark))
-            step mark) }
+        ensures notes { (mark : WorldMark) × Notes self.old self.new result
+            (step_of (world_in self.old) step mark)
+            (of_step (world_in self.old) (puts_in self.old mark) step mark) }
     {
         let (conn, now, turn) = match step {
             Step::Publish(number) => return self.watched.runs.publish(alloc, number),
             Step::Reload(users) => return self.watched.runs.reload(alloc, users),
-            Step::Find { conn, message } => (conn, 0, Turn::Find(message)),
-            Step::Attach { conn, now } => (conn, now, Turn::Attach),
-            Step::Call { conn, now, message } => (conn, now, Turn::Call(message)),
-            Step::Close { conn, now, fid } => (conn, now, Turn::Close(fid)),
-            Step::Table { conn, change } => (conn, 0, Turn::Table(change)),
+            Step::Find { conn, message } => (conn, 0, ConnectionStep::Find(message)),
+            Step::Attach { conn, now } => (conn, now, ConnectionStep::Attach),
+            Step::Call { conn, now, message } => (conn, now, ConnectionStep::Call(message)),
+            Step::Close { conn, now, fid } => (conn, now, ConnectionStep::Close(fid)),
+            Step::Table { conn, change } => (conn, 0, ConnectionStep::Table(change)),
         };
         self.take(alloc, conn, now, turn)
     }
 
     /// Takes a step of a connection.
-    fn take(&mut self, alloc: Global, conn: u32, now: u32, turn: Turn) -> Reply
+    fn take(&mut self, alloc: Global, conn: u32, now: u32, turn: ConnectionStep) -> Reply
         requires all { length self.old.sessions.items ≡ CONNECTIONS }
         ensures all { length self.new.sessions.items ≡ CONNECTIONS }
-        ensures notes { (mark : Mark) × Notes self.old self.new result
+        ensures notes { (mark : WorldMark) × Notes self.old self.new result
             (on_connection (world_in self.old) conn now (step_in turn) mark)
-            (of_turn (world_in self.old)
-            (λ question. put_to self.old.watched.runs self.old.watched.key question (below mark))
-            mark (record { conn = conn; now = now; step = step_in turn })) }
+            (of_turn (world_in self.old) (puts_in self.old mark) mark
+            (record { conn = conn; now = now; step = step_in turn })) }
     {
         let Some(session) = self.sessions.get_mut(conn as usize) else {
             return Reply::Connection(cs_session::Reply::Error(RuleId::S5));
@@ -97,7 +92,8 @@ impl WatchedWorld {
 impl World {
     /// A new world of the same scene and users, in which nothing reached the run of a key.
     fn watching(&self, alloc: Global, key: RunKey) -> Result<WatchedWorld, AllocError>
-        ensures { IfOk result (λ world. IsStart self.now.registry.scene self.now.registry.users key world) }
+        ensures { IfOk result (λ world.
+            IsStart self.now.registry.scene self.now.registry.users key world) }
     {
         let states = &self.runs.states;
         let scene = Arc::try_clone(states.scene())?;
@@ -105,11 +101,10 @@ impl World {
         WatchedWorld::new(alloc, scene, users, key)
     }
 
-    /// What of a list of steps reaches one run, of that name and of the state of that number: the calls
-    /// that reach it where the steps are those of a new world, of this one's scene and users, in which
-    /// memory refuses nothing; a reload among the steps is taken. Each has its pass and its moment, and
-    /// says what that call says. Want of memory while this is found out is the error. This world stays as
-    /// it is.
+    /// What of a list of steps reaches one run, of that name and of the state of that number: the
+    /// calls that reach it where the steps are those of a new world, of this one's scene and users,
+    /// in which memory refuses nothing, each with its pass and its moment; a reload among the steps
+    /// is taken. Want of memory while this is found out is the error. This world stays as it is.
     pub fn project(
         &self,
         alloc: Global,
@@ -117,14 +112,14 @@ impl World {
         number: u32,
         name: &RunName,
     ) -> Result<Vec<Heard>, AllocError>
-        ensures { IfOk result (λ heard. map heard_view heard.items ≡ calls_said
-            (projection_of (new_world self.now.registry.scene self.now.registry.users)
-            (all_ample steps.now) (record { number = number; name = name.now }))) }
+        ensures { IfOk result (λ heard. heard.items
+            ≡ calls_put (new_world self.now.registry.scene self.now.registry.users) steps.now
+            (record { number = number; name = name.now })) }
     {
         let mut world = self.watching(alloc, RunKey::new(number, name))?;
         for step in steps {
-            let copy = copy_step(alloc, step)?;
-            if world.step(alloc, copy).tells_memory() {
+            let copy = step.try_clone(alloc)?;
+            if world.step(alloc, copy).tells_want() {
                 return Err(AllocError);
             }
         }

@@ -3,8 +3,8 @@ ghost use Rattle.std.specs.Prelude.{◌≡◌, IfErr, IfOk, List};
 ghost use Rattle.cs_plan.specs.Scenes.{Scene};
 ghost use Rattle.cs_users.specs.Rows.{Row};
 ghost use Rattle.cs_world.specs.Isolation.{IsIsolated};
-ghost use Rattle.cs_world.specs.Lists.{IsRun};
-ghost use Rattle.cs_world.specs.Reached.{IsReached};
+ghost use Rattle.cs_world.specs.Lists.{IsStepList};
+ghost use Rattle.cs_world.specs.Reachable.{IsReachable};
 ghost use Rattle.cs_world.specs.Theorem.{AllBegan, ListIsJudged};
 ghost use Rattle.cs_world.specs.Worlds.{new_world};
 
@@ -14,24 +14,26 @@ use crate::world::World;
 use std::alloc::{AllocError, Global};
 
 impl World {
-    /// Takes steps, one after the other; their replies. The memory for the replies is taken first: where
-    /// it is refused, no step was taken, and they come back. Where steps led to this world, each call is
-    /// refused for want of memory or room, or denied by the first rule that fails, or granted with its
-    /// effect; no other run changes; and each run that is there then began as the state of its number,
-    /// which a crash may leave. Of a new world's steps, no run reaches another.
+    /// Takes steps, one after the other; their replies. The memory for the replies is taken first:
+    /// where it is refused, no step was taken, and they come back. Where steps led to this world,
+    /// each call is refused for want of memory or room, or denied by the first rule that fails, or
+    /// granted with its effect; no other run changes; and each run that is there then began as the
+    /// state of its number, which a crash may leave. Of a new world's steps, no run reaches
+    /// another.
     pub fn run(
         &mut self,
         alloc: Global,
         steps: Vec<Step>,
     ) -> Result<Vec<Reply>, (Vec<Step>, AllocError)>
-        ensures runs { IfOk result (λ replies. IsRun self.old steps.items replies.items self.new) }
-        ensures judged { IsReached self.old → IfOk result (λ replies.
+        ensures runs { IfOk result (λ replies.
+            IsStepList self.old steps.items replies.items self.new) }
+        ensures judged { IsReachable self.old → IfOk result (λ replies.
             ListIsJudged self.old steps.items replies.items self.new) }
-        ensures began { IsReached self.old → IfOk result (λ replies. AllBegan self.new) }
+        ensures began { IsReachable self.old → IfOk result (λ replies. AllBegan self.new) }
         ensures isolated { IfOk result (λ replies. (scene : Scene) (users : List Row) →
             self.old ≡ new_world scene users →
             IsIsolated self.old steps.items replies.items self.new) }
-        ensures reached { IsReached self.old → IsReached self.new }
+        ensures reachable { IsReachable self.old → IsReachable self.new }
         ensures refused { IfErr result (λ back. (back.0 ≡ steps) × (self.new ≡ self.old)) }
     {
         let mut replies = match Vec::with_capacity(alloc, steps.len()) {

@@ -1,11 +1,8 @@
 //! The runs of a world, as the port of its connections.
-ghost use Rattle.std.specs.Prelude.{◌≡◌};
-ghost use Rattle.cs_session.specs.Questions.{Found};
-ghost use Rattle.cs_world.specs.Asking.{fault_told, place_told};
 
 use crate::attended::AttendedRun;
 use crate::reply::{Reply, StateFault};
-use cs_names::RuleId;
+use cs_names::{RuleId, Text};
 use cs_permit::{Call, TreeName};
 use cs_plan::{MakeFault, Scene};
 use cs_registry::{PublishFault, RunKey, States};
@@ -33,35 +30,15 @@ impl Model for Runs {
     ghost view = { λ r. r.states };
 }
 
-/// What a find is told.
-fn told(found: Result<u32, cs_registry::FindFault>) -> Result<u32, FindFault>
-    ensures { Found result ≡ place_told found }
-{
-    match found {
-        Ok(place) => Ok(place),
-        Err(fault) => Err(fault_told(fault)),
-    }
-}
-
-fn fault_told(fault: cs_registry::FindFault) -> FindFault
-    ensures { result ≡ fault_told fault }
-{
-    match fault {
-        cs_registry::FindFault::Unpublished => FindFault::Unpublished,
-        cs_registry::FindFault::Full => FindFault::Full,
-        cs_registry::FindFault::Memory => FindFault::Memory,
-    }
-}
-
 impl Runs {
     ghost use Rattle.std.specs.Prelude.{◌≡◌};
-    ghost use Rattle.cs_world.specs.Marks.{Mark};
+    ghost use Rattle.cs_world.specs.Marks.{WorldMark};
     ghost use Rattle.cs_world.specs.Publishing.{published};
     ghost use Rattle.cs_world.specs.Reloading.{reloaded};
 
     /// Makes the state of that number and publishes it.
     pub(crate) fn publish(&mut self, alloc: Global, number: u32) -> Reply
-        ensures { (mark : Mark) × ((result, self.new) ≡ published self.old number mark) }
+        ensures { (mark : WorldMark) × ((result, self.new) ≡ published self.old number mark) }
     {
         let state = match Scene::make(alloc, self.states.scene(), number) {
             Ok(state) => state,
@@ -79,7 +56,7 @@ impl Runs {
 
     /// Loads another list of users: a run that is there keeps the one with which it was made.
     pub(crate) fn reload(&mut self, alloc: Global, users: Users) -> Reply
-        ensures { (mark : Mark) × ((result, self.new) ≡ reloaded self.old users mark) }
+        ensures { (mark : WorldMark) × ((result, self.new) ≡ reloaded self.old users mark) }
     {
         match self.states.reload(alloc, users) {
             Ok(()) => Reply::Reloaded,
@@ -91,13 +68,13 @@ impl Runs {
 impl Port for Runs {
     ghost use Rattle.cs_world.specs.Asking.{IsGiven};
 
-    ghost gives = { λ old mark question told new. IsGiven old mark question told new };
+    ghost gives = { λ old question told new. IsGiven old question told new };
 
     fn find(&mut self, alloc: Global, name: &TreeName) -> Result<u32, FindFault> {
         let Some(key) = RunKey::named(name) else {
             return Err(FindFault::Unpublished);
         };
-        told(self.states.find_key(alloc, key))
+        self.states.find_key(alloc, key)
     }
 
     fn attach(
@@ -105,7 +82,7 @@ impl Port for Runs {
         alloc: Global,
         now: u32,
         run: u32,
-        user: String,
+        user: Text,
     ) -> Result<(u32, Answer), PassFault> {
         if run >= self.states.run_count() {
             return Err(PassFault::Foreign);

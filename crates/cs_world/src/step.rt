@@ -1,10 +1,12 @@
 //! The steps of a world.
+ghost use Rattle.std.specs.Prelude.{◌≡◌, IfOk};
 
 use cs_session::{AttachMessage, CallMessage, TableStep};
 use cs_users::Users;
+use std::alloc::{AllocError, Global};
 
-/// A step: of what publishes states or loads users, or of a connection, by its number. Moments are seconds
-/// since 1970.
+/// A step: of what publishes states or loads users, or of a connection, by its number. Moments are
+/// seconds since 1970.
 #[derive(Debug, Drop)]
 pub enum Step {
     /// The state of that number is made and published.
@@ -16,7 +18,7 @@ pub enum Step {
         conn: u32,
         message: AttachMessage,
     },
-    /// The user of that find is attached to its run.
+    /// The user of that find is attached to its run (attach(5)).
     Attach {
         conn: u32,
         now: u32,
@@ -27,7 +29,7 @@ pub enum Step {
         now: u32,
         message: CallMessage,
     },
-    /// An open fid is closed.
+    /// An open fid is closed (clunk(5)).
     Close {
         conn: u32,
         now: u32,
@@ -38,4 +40,38 @@ pub enum Step {
         conn: u32,
         change: TableStep,
     },
+}
+
+impl Step {
+    /// The same step again.
+    pub(crate) fn try_clone(&self, alloc: Global) -> Result<Step, AllocError>
+        ensures { IfOk result (λ copy. copy ≡ self.now) }
+    {
+        Ok(match self {
+            Step::Publish(number) => Step::Publish(*number),
+            Step::Reload(users) => Step::Reload(users.try_clone(alloc)?),
+            Step::Find { conn, message } => Step::Find {
+                conn: *conn,
+                message: message.try_clone()?,
+            },
+            Step::Attach { conn, now } => Step::Attach {
+                conn: *conn,
+                now: *now,
+            },
+            Step::Call { conn, now, message } => Step::Call {
+                conn: *conn,
+                now: *now,
+                message: message.try_clone(alloc)?,
+            },
+            Step::Close { conn, now, fid } => Step::Close {
+                conn: *conn,
+                now: *now,
+                fid: *fid,
+            },
+            Step::Table { conn, change } => Step::Table {
+                conn: *conn,
+                change: change.try_clone()?,
+            },
+        })
+    }
 }

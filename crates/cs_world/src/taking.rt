@@ -7,7 +7,7 @@ use std::alloc::Global;
 
 /// A step of a connection.
 #[derive(Drop)]
-pub(crate) enum Turn {
+pub(crate) enum ConnectionStep {
     Find(AttachMessage),
     Attach,
     Call(CallMessage),
@@ -21,15 +21,15 @@ pub(crate) fn take<P: Port>(
     session: &mut Session,
     runs: &mut P,
     now: u32,
-    turn: Turn,
+    turn: ConnectionStep,
 ) -> Reply
     ensures { IsTaken P.gives now session.old runs.old (step_in turn) result session.new runs.new }
 {
     match turn {
-        Turn::Find(message) => session.find_step(alloc, runs, now, message),
-        Turn::Attach => session.attach_step(alloc, runs, now),
-        Turn::Call(message) => session.call_step(alloc, runs, now, message),
-        Turn::Close(fid) => session.close_step(alloc, runs, now, fid),
-        Turn::Table(change) => session.table_step(runs, now, change),
+        ConnectionStep::Find(message) => session.find_step(alloc, runs, now, message),
+        ConnectionStep::Attach => session.attach_step(alloc, runs, now),
+        ConnectionStep::Call(message) => session.call_step(alloc, runs, now, message),
+        ConnectionStep::Close(fid) => session.close_step(alloc, runs, now, fid),
+        ConnectionStep::Table(change) => session.table_step(runs, now, change),
     }
 }

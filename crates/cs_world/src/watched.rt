@@ -1,21 +1,20 @@
 //! The runs of a world, with what reaches one of them.
-ghost use Rattle.std.specs.Prelude.{◌≡◌, [], false, IfOk, string_bytes};
-ghost use Rattle.cs_journal.specs.Asked.{Attach, asked};
-ghost use Rattle.cs_journal.specs.Said.{written};
+ghost use Rattle.std.specs.Prelude.{◌≡◌, false, IfOk};
+ghost use Rattle.cs_permit.specs.declared.call.Call.TheVariants.{Attach};
 ghost use Rattle.cs_world.specs.Projections.{stands_at};
 ghost use Rattle.cs_world.specs.Watching.{Hears, HearsAttach, HearsCall};
 
-use crate::copying::copy_call;
 use crate::heard::Heard;
 use crate::runs::Runs;
+use cs_names::Text;
 use cs_permit::{AttachCall, Call, TreeName};
 use cs_registry::RunKey;
 use cs_run::Answer;
 use cs_session::{FindFault, PassFault, Port};
 use std::alloc::{AllocError, Global};
 
-/// The runs of a world, which are the port of its connections, and what reached the run of a key. It is
-/// short where memory for a note was refused.
+/// The runs of a world, which are the port of its connections, and what reached the run of a key.
+/// It is short where memory for a note was refused.
 #[derive(Drop)]
 pub(crate) struct WatchedRuns {
     pub(crate) runs: Runs,
@@ -62,12 +61,12 @@ impl WatchedRuns {
             self.new.heard.items }
     {
         if reaches {
-            self.hear(pass, now, copy_call(alloc, call));
+            self.hear(pass, now, call.try_clone(alloc));
         }
     }
 
-    /// Notes an attach that got a pass, if it reaches the run. One that got none is taken for want of
-    /// memory.
+    /// Notes an attach that got a pass, if it reaches the run. One that got none is taken for want
+    /// of memory.
     fn hear_attach(
         &mut self,
         reaches: bool,
@@ -93,7 +92,7 @@ impl WatchedRuns {
 impl Port for WatchedRuns {
     ghost use Rattle.cs_world.specs.Watching.{IsWatched};
 
-    ghost gives = { λ old mark question told new. IsWatched old question told new };
+    ghost gives = { λ old question told new. IsWatched old question told new };
 
     fn find(&mut self, alloc: Global, name: &TreeName) -> Result<u32, FindFault> {
         self.runs.find(alloc, name)
@@ -104,10 +103,10 @@ impl Port for WatchedRuns {
         alloc: Global,
         now: u32,
         run: u32,
-        user: String,
+        user: Text,
     ) -> Result<(u32, Answer), PassFault> {
         let reaches = self.stands_at(run);
-        let call = copy_user(&user);
+        let call = attach_of(&user);
         let entered = self.runs.attach(alloc, now, run, user);
         self.hear_attach(reaches, now, call, &entered);
         entered
@@ -121,10 +120,10 @@ impl Port for WatchedRuns {
 }
 
 /// The call of an attach of that user.
-fn copy_user(user: &String) -> Result<Call, AllocError>
-    ensures { IfOk result (λ call. (asked call ≡ Attach (string_bytes user.now)) × (written call ≡ [])) }
+fn attach_of(user: &Text) -> Result<Call, AllocError>
+    ensures { IfOk result (λ call. call ≡ Attach (record { user = user.now })) }
 {
     Ok(Call::Attach(AttachCall {
-        user: user.clone()?,
+        user: user.try_clone()?,
     }))
 }

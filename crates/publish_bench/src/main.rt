@@ -1,41 +1,40 @@
-//! All states of a trace, made and published one after the other and by workers; and what `script` does
-//! before its first line. Run by hand with the word `time`, it tells how long each takes; without it the
-//! trace is small, and it tells no time.
+//! All states of a trace, made and published by workers; and what `script` does before its first
+//! line. Run by hand with the word `time`, each row tells how long its work takes, and whether it
+//! is within its bound; without it the trace is small, and it tells no time.
 #![tactic(auto)]
 
 mod publishing;
 mod starting;
-mod traces;
 
-use crate::publishing::{Way, publish};
+use crate::publishing::publish;
 use crate::starting::start;
-use crate::traces::{scene, text_of_creats};
+use cs_bench::Text;
+use cs_plan::Scene;
+use cs_trace::read_trace;
+use std::alloc::Global;
+use std::sync::Arc;
 use std::{env, io};
 
 /// How many files the operations make, and how often each is timed.
-const FILES: u32 = 180;
+const FILES: u64 = 180;
 
-const ROUNDS: u32 = 9;
+const ROUNDS: u64 = 9;
 
-const WAYS: [Way; 7] = [
-    Way::InTurn,
-    Way::Workers(1),
-    Way::Workers(2),
-    Way::Workers(4),
-    Way::Shared(1),
-    Way::Shared(2),
-    Way::Shared(4),
-];
+/// The scene of a trace, with a state for each beginning and for each hole.
+fn scene(alloc: Global, text: &str) -> Option<Arc<Scene>> {
+    let trace = read_trace(alloc, text).ok()?;
+    let scene = Scene::of(alloc, trace, true, Vec::new(alloc)).ok()?;
+    Arc::new(alloc, scene).ok()
+}
 
 fn main(rt: HostRuntime) -> io::Result<()> {
     let timed = env::args(&rt)?.count() > 1;
     let (files, rounds) = if timed { (FILES, ROUNDS) } else { (18, 1) };
-    let Some(text) = text_of_creats(rt.alloc(), files) else {
-        return println!(&rt; "out of memory");
-    };
+    let mut text = Text::new(rt.alloc())?;
+    text.made_files(rt.alloc(), 1, files)?;
     start(&rt, text.as_str(), timed)?;
     let Some(scene) = scene(rt.alloc(), text.as_str()) else {
         return println!(&rt; "no plan");
     };
-    publish(&rt, &scene, &WAYS, rounds, timed)
+    publish(&rt, &scene, rounds, timed)
 }

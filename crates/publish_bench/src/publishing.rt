@@ -1,151 +1,99 @@
-//! All states of a scene, published one after the other or by workers.
+//! All states of a scene, published by workers in a registry that threads share.
+ghost use Rattle.std.specs.Prelude.{◌≡◌};
+ghost use Rattle.std.specs.Arc.{arc_value};
+ghost use Rattle.cs_shared.specs.Serving.{IsOnly, ServesAll};
 
-use cs_plan::{Built, Scene};
-use cs_publish::{NoGate, publish_all, publish_into};
-use cs_registry::{Held, States};
-use cs_shared::{AnyScene, SharedRegistry};
+use cs_bench::{Row, Total};
+use cs_plan::Scene;
+use cs_publish::{NoGate, publish_into};
+use cs_shared::{Served, SharedRegistry};
 use cs_users::Users;
-use std::alloc::{AllocError, Global};
+use std::alloc::Global;
 use std::io;
+use std::marker::Brand;
 use std::rt::Clock;
 use std::sync::{Arc, Wait};
 use std::thread::Threads;
-use std::time::{Duration, Instant};
+use std::time::Instant;
 
-/// What is kept of a run here: nothing.
-#[derive(Drop)]
-pub struct Nothing;
-
-impl Held for Nothing {
-    ghost admits = { λ number tree. Unit {0} };
-
-    ghost is_fresh = { λ number tree users nothing. Unit {0} };
-
-    fn fresh(
-        _alloc: Global,
-        _number: u32,
-        _lower: Arc<Built>,
-        _users: Arc<Users>,
-    ) -> Result<Nothing, AllocError> {
-        Ok(Nothing)
-    }
-}
-
-/// How the states are published: one after the other, by so many workers in a registry of one thread, or by
-/// so many in one that threads share.
-#[derive(Clone, Copy, Debug)]
-pub enum Way {
-    InTurn,
-    Workers(u32),
-    Shared(u32),
-}
-
-/// The registry in which they stand then.
-#[derive(Drop)]
-enum Published {
-    Alone(States<Nothing>),
-    Shared(SharedRegistry<AnyScene>),
-}
-
-/// Publishes them one after the other.
-fn in_turn(alloc: Global, scene: Arc<Scene>, users: Arc<Users>) -> Option<States<Nothing>> {
-    let own = Arc::try_clone(&scene).ok()?;
-    let mut states = States::<Nothing>::new(alloc, own, users).ok()?;
-    for number in 0..scene.plan().len() as u32 {
-        let state = Scene::make(alloc, &scene, number).ok()?;
-        states.publish(alloc, state).ok()?;
-    }
-    Some(states)
-}
-
-fn shared<R: Threads + Wait + Sync>(
+/// A registry of the scene with all states published, by so many workers. None if some state is
+/// missing then.
+fn published<S: Served, R: Threads + Wait + Sync>(
     rt: &R,
     alloc: Global,
     scene: Arc<Scene>,
-    users: Arc<Users>,
     workers: u32,
-) -> Option<SharedRegistry<AnyScene>> {
-    let registry = SharedRegistry::<AnyScene>::new(alloc, scene, users).ok()?;
+) -> Option<SharedRegistry<S>>
+    requires here { S.is_scene (arc_value scene) }
+    requires only { IsOnly S.is_scene (arc_value scene) }
+    requires serves { ServesAll S.serves (arc_value scene) }
+{
+    let users = Users::read(alloc, b"1:ann::\n").ok()?;
+    let users = Arc::new(alloc, users).ok()?;
+    let registry = SharedRegistry::<S>::new(alloc, scene, users).ok()?;
     publish_into(rt, alloc, &registry, workers, &NoGate).ok()?;
+    if registry.missing(rt) > 0 {
+        return None;
+    }
     Some(registry)
 }
 
-impl Way {
-    fn published<R: Threads + Wait + Sync>(
-        self,
-        rt: &R,
-        alloc: Global,
-        scene: &Arc<Scene>,
-    ) -> Option<Published> {
-        let scene = Arc::try_clone(scene).ok()?;
-        let users = Users::read(alloc, b"1:ann::\n").ok()?;
-        let users = Arc::new(alloc, users).ok()?;
-        match self {
-            Way::InTurn => Some(Published::Alone(in_turn(alloc, scene, users)?)),
-            Way::Workers(workers) => {
-                let states = publish_all::<Nothing, _, _>(
-                    rt, alloc, scene, users, workers, &NoGate,
-                );
-                Some(Published::Alone(states.ok()?))
-            }
-            Way::Shared(workers) => {
-                Some(Published::Shared(shared(rt, alloc, scene, users, workers)?))
-            }
-        }
-    }
+/// Publishes the states once more. How long the registry takes to be let go doesn't count.
+fn time_scene<S: Served, R: Threads + Wait + Sync + Clock>(
+    rt: &R,
+    alloc: Global,
+    scene: Arc<Scene>,
+    workers: u32,
+    total: &mut Total,
+) -> io::Result<()>
+    requires here { S.is_scene (arc_value scene) }
+    requires only { IsOnly S.is_scene (arc_value scene) }
+    requires serves { ServesAll S.serves (arc_value scene) }
+{
+    let states = scene.plan().len() as u64;
+    let start = Instant::now(rt)?;
+    let registry = published::<S, R>(rt, alloc, scene, workers);
+    let took = start.elapsed(rt)?;
+    let done = match registry {
+        Some(_) => states,
+        None => 0,
+    };
+    total.add(took, done);
+    Ok(())
 }
 
-/// How many states of the plan aren't published.
-fn missing(rt: &impl Wait, published: &Published) -> u32 {
-    match published {
-        Published::Alone(states) => states.missing(),
-        Published::Shared(registry) => registry.missing(rt),
-    }
-}
-
-/// Publishes the states that way: how long it takes. None where some state is missing then.
 fn time<R: Threads + Wait + Sync + Clock + AllocGlobal>(
     rt: &R,
     scene: &Arc<Scene>,
-    way: Way,
-) -> io::Result<Option<Duration>> {
-    let start = Instant::now(rt)?;
-    let published = way.published(rt, rt.alloc(), scene);
-    let took = start.elapsed(rt)?;
-    let Some(published) = published else {
-        return Ok(None);
-    };
-    if missing(rt, &published) > 0 {
-        return Ok(None);
-    }
-    Ok(Some(took))
+    workers: u32,
+    total: &mut Total,
+) -> io::Result<()> {
+    let scene = Arc::try_clone(scene)?;
+    time_scene::<Brand, R>(rt, rt.alloc(), scene, workers, total)
 }
 
-/// Publishes the states each way, in turn and so often: the least time and the middle one.
+/// Publishes the states by two workers and by one, in turn and each time in the other order.
 pub fn publish<R: Threads + Wait + Sync + Clock + Print + AllocGlobal>(
     rt: &R,
     scene: &Arc<Scene>,
-    ways: &[Way],
-    rounds: u32,
+    rounds: u64,
     timed: bool,
 ) -> io::Result<()> {
-    let states = scene.plan().len();
-    for way in ways {
-        let mut times = Vec::new(rt.alloc());
-        for _ in 0..rounds {
-            let Some(took) = time(rt, scene, *way)? else {
-                return println!(rt; "{way:?}: not all are published");
-            };
-            times.push(took.as_micros())?;
-        }
-        times.sort()?;
-        let least = times.first().copied().unwrap_or(0);
-        let middle = times.get(times.len() / 2).copied().unwrap_or(0);
-        if timed {
-            println!(rt; "{way:?}: {states} states in {middle} microseconds, at least {least}")?;
+    let (mut two, mut one) = (Total::new(), Total::new());
+    for round in 0..rounds {
+        if round % 2 == 0 {
+            time(rt, scene, 2, &mut two)?;
+            time(rt, scene, 1, &mut one)?;
         } else {
-            println!(rt; "{way:?}: {states} states")?;
+            time(rt, scene, 1, &mut one)?;
+            time(rt, scene, 2, &mut two)?;
         }
     }
-    Ok(())
+    let row = Row {
+        what: "states published in a shared registry, by 2 workers",
+        beside: "by 1",
+        most: 0.65,
+        rounds,
+    };
+    row.print(rt, &two, &one, timed)
 }

@@ -1,21 +1,21 @@
 //! What `script` does before it reads its first line.
 
+use cs_bench::{Bound, Total, Work, print_figure};
 use cs_serve::{Inputs, scene_of, users_of, world_of};
 use cs_world::World;
 use std::alloc::Global;
 use std::io;
 use std::rt::Clock;
-use std::time::Instant;
 
-/// The world of a trace, with all of its states published.
-fn started(alloc: Global, inputs: &Inputs) -> Option<World> {
-    let scene = scene_of(alloc, inputs).ok()?;
-    let users = users_of(alloc, inputs.users).ok()?;
-    world_of(alloc, scene, users).ok()
+/// A trace that is read, and its states planned, made and published.
+#[derive(Drop)]
+struct Starting<'a> {
+    trace: &'a str,
+    world: Option<World>,
 }
 
-/// Times it.
-pub fn start(rt: &(impl Clock + Print + AllocGlobal), trace: &str, timed: bool) -> io::Result<()> {
+/// The world of a trace, with all of its states published.
+fn started(alloc: Global, trace: &str) -> Option<World> {
     let inputs = Inputs {
         users: b"1:ann::\n".as_slice(),
         trace: trace.as_bytes(),
@@ -23,16 +23,27 @@ pub fn start(rt: &(impl Clock + Print + AllocGlobal), trace: &str, timed: bool) 
         holes: true,
         verbose: false,
     };
-    let start = Instant::now(rt)?;
-    let world = started(rt.alloc(), &inputs);
-    let took = start.elapsed(rt)?.as_micros();
-    let Some(world) = world else {
-        return println!(rt; "out of memory");
-    };
-    let states = world.scene().plan().len();
-    if timed {
-        println!(rt; "script starts with {states} states after {took} microseconds")
-    } else {
-        println!(rt; "script starts with {states} states")
+    let scene = scene_of(alloc, &inputs).ok()?;
+    let users = users_of(alloc, inputs.users).ok()?;
+    world_of(alloc, scene, users).ok()
+}
+
+impl Work for Starting<'_> {
+    /// Counts the states of the world, which is kept: how long it takes to be let go doesn't count.
+    fn run(&mut self, alloc: Global) -> u64 {
+        self.world = started(alloc, self.trace);
+        match &self.world {
+            Some(world) => world.scene().plan().len() as u64,
+            None => 0,
+        }
     }
+}
+
+/// Times it once.
+pub fn start(rt: &(impl Clock + Print + AllocGlobal), trace: &str, timed: bool) -> io::Result<()> {
+    let mut total = Total::new();
+    total.time(rt, &mut Starting { trace, world: None })?;
+    let figure = (total.seconds(), "s");
+    let what = "states published as script starts";
+    print_figure(rt, what, total.done(), figure, Bound::AtMost(3.0), timed)
 }

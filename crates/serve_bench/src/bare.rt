@@ -1,6 +1,8 @@
-//! A server that does no work: it answers each message with a fixed reply of the right type and size.
+//! A server that does no work, but for keeping what is written if it is to: it answers each message
+//! with a fixed reply of the right type and size.
 ghost use Rattle.std.specs.Prelude.{◌≤◌, length, IfOk};
 
+use crate::keeping::{Keeping, Kept};
 use crate::link::{Link, MESSAGE};
 use cs_wire::Framer;
 use std::alloc::Global;
@@ -49,8 +51,14 @@ fn answer(message: &[u8], out: &mut [u8]) -> usize
     size
 }
 
-/// Answers whole messages that have come while there is room for a reply: the bytes of the replies.
-fn answer_some(framer: &mut Framer, out: &mut [u8]) -> io::Result<usize>
+/// Keeps and answers whole messages that have come while there is room for a reply: the bytes of
+/// the replies.
+fn answer_some(
+    alloc: Global,
+    framer: &mut Framer,
+    kept: &mut Kept,
+    out: &mut [u8],
+) -> io::Result<usize>
     ensures { IfOk result (λ filled. filled ≤ length out.old) }
 {
     let mut filled = 0;
@@ -61,16 +69,19 @@ fn answer_some(framer: &mut Framer, out: &mut [u8]) -> io::Result<usize>
         match framer.next() {
             Err(_) => return Err(io::Error::from(io::ErrorKind::InvalidData)),
             Ok(None) => break,
-            Ok(Some(message)) => filled += answer(message, &mut out[filled..]),
+            Ok(Some(message)) => {
+                kept.keep(alloc, message)?;
+                filled += answer(message, &mut out[filled..]);
+            }
         }
     }
     Ok(filled)
 }
 
 /// Answers all messages that have come, and writes the replies that are ready in one write.
-fn answer_all(link: &mut Link, out: &mut [u8]) -> io::Result<()> {
+fn answer_all(alloc: Global, link: &mut Link, kept: &mut Kept, out: &mut [u8]) -> io::Result<()> {
     for _ in 0..MESSAGE {
-        let filled = answer_some(&mut link.framer, out)?;
+        let filled = answer_some(alloc, &mut link.framer, kept, out)?;
         if filled == 0 {
             break;
         }
@@ -80,14 +91,15 @@ fn answer_all(link: &mut Link, out: &mut [u8]) -> io::Result<()> {
 }
 
 /// Serves a connection to its end.
-fn serve(alloc: Global, stream: TcpStream) -> io::Result<()> {
+fn serve(alloc: Global, stream: TcpStream, keeping: Keeping) -> io::Result<()> {
     let mut link = Link::new(alloc, stream)?;
+    let mut kept = Kept::new(alloc, keeping);
     let mut out = vec![in alloc; 0u8; 2 * MESSAGE]?;
     for _ in 0..u64::MAX {
         if !link.read()? {
             break;
         }
-        answer_all(&mut link, out.as_mut_slice())?;
+        answer_all(alloc, &mut link, &mut kept, out.as_mut_slice())?;
     }
     Ok(())
 }
@@ -98,12 +110,14 @@ pub fn serve_each<R: Threads + Wait + Sync>(
     alloc: Global,
     listener: &TcpListener,
     connections: u32,
+    keeping: Keeping,
 ) -> io::Result<()> {
     thread::scope(thread::scope_env(), rt, |scope| -> io::Result<()> {
         for _ in 0..connections {
             let (stream, _from) = listener.accept()?;
             let thread = scope.spawn(move || {
-                let _ended = serve(alloc, stream);
+                // a connection that ends by a fault has ended as well
+                let _ended = serve(alloc, stream, keeping);
             });
             if thread.is_err() {
                 return Err(io::Error::from(io::ErrorKind::OutOfMemory));

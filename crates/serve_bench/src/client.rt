@@ -26,8 +26,8 @@ pub struct Client {
     messages: Vec<Vec<u8>>,
     /// Nanoseconds of each work.
     pub times: Vec<u64>,
-    /// How long all of them took.
-    pub lasted: Duration,
+    /// How many works the last round had, and how long they took together.
+    last: (u64, Duration),
     /// Whether a work went wrong.
     pub failed: bool,
 }
@@ -45,7 +45,7 @@ impl Client {
             number,
             messages: Vec::new(alloc),
             times: Vec::new(alloc),
-            lasted: Duration::ZERO,
+            last: (0, Duration::ZERO),
             failed: false,
         })
     }
@@ -64,10 +64,11 @@ impl Client {
         Ok(())
     }
 
-    /// Forgets what was measured.
-    pub fn forget(&mut self) {
-        self.times.clear();
-        self.lasted = Duration::ZERO;
+    /// How many works a second it did in the last round.
+    pub fn rate(&self) -> u64 {
+        let (works, lasted) = self.last;
+        let microseconds = u64::try_from(lasted.as_micros()).unwrap_or(u64::MAX);
+        works.saturating_mul(1_000_000) / microseconds.max(1)
     }
 
     /// Does the work once.
@@ -81,6 +82,7 @@ impl Client {
     fn work(&mut self, rt: &impl Clock, limit: Limit) -> io::Result<()> {
         let start = Instant::now(rt)?;
         let mut before = Duration::ZERO;
+        let works = self.times.len();
         for _ in 0..limit.works {
             self.work_once()?;
             let after = start.elapsed(rt)?;
@@ -91,7 +93,8 @@ impl Client {
                 break;
             }
         }
-        self.lasted = self.lasted.saturating_add(before);
+        let more = self.times.len().saturating_sub(works);
+        self.last = (more as u64, before);
         Ok(())
     }
 

@@ -1,18 +1,25 @@
-//! Measures a server over TCP beside one that answers and does no work. Run by hand, it is that server, or the
-//! clients of both; without a word it tries both ends on a few messages, and tells no time.
+//! Measures a server over TCP beside servers that answer and do no work, but for keeping what is
+//! written. Run by hand, it is such a server, or the clients of all; without a word it tries both
+//! ends on a few messages, and tells no time.
 #![tactic(auto)]
 
 mod bare;
 mod client;
+mod keeping;
 mod kind;
 mod link;
 mod messages;
+mod rows;
 mod side;
+mod sides;
 
 use crate::bare::serve_each;
 use crate::client::Limit;
+use crate::keeping::Keeping;
 use crate::kind::Kind;
-use crate::side::{Figures, Side, hundredths};
+use crate::rows::print_alone;
+use crate::side::Side;
+use crate::sides::Sides;
 use std::alloc::Global;
 use std::net::{Net, TcpListener, TcpStream};
 use std::rt::Clock;
@@ -21,12 +28,6 @@ use std::thread::Threads;
 use std::time::Duration;
 use std::{env, io, thread};
 
-/// How often the clients of one server work, and then those of the other.
-const ROUNDS: u32 = 10;
-
-/// How long a round is, in milliseconds: the journal of a run has room for its works.
-const ROUND: u64 = 100;
-
 /// How often a client does a work that is tried.
 const TRIED: u32 = 3;
 
@@ -34,70 +35,26 @@ const TRIED: u32 = 3;
 const TRIED_CONNECTIONS: u32 = 2;
 
 /// Serves so many connections at the address.
-fn run_server<R>(rt: &R, address: &str, connections: u32) -> io::Result<()>
+fn run_server<R>(rt: &R, address: &str, connections: u32, keeping: Keeping) -> io::Result<()>
 where
     R: Net<Listener = TcpListener, Stream = TcpStream>,
     R: Print + AllocGlobal + Threads + Wait + Sync,
 {
     let listener = TcpListener::bind(rt, address)?;
     println!(rt; "listening {address}")?;
-    serve_each(rt, rt.alloc(), &listener, connections)
+    serve_each(rt, rt.alloc(), &listener, connections, keeping)
 }
 
-fn print_figures(rt: &impl Print, kind: Kind, ours: Figures, theirs: Figures) -> io::Result<()> {
-    let what = kind.name();
-    let (rate, bare) = (ours.rate, theirs.rate);
-    let percent = hundredths(rate, bare);
-    println!(rt; "{what}: {rate} a second, bare {bare}: {percent} %")?;
-    let (median, bare) = (ours.median, theirs.median);
-    println!(rt; "    half of them in {median} ns, bare {bare}")?;
-    let (tail, bare) = (ours.tail, theirs.tail);
-    let percent = hundredths(tail, bare);
-    println!(rt; "    99 of 100 in {tail} ns, bare {bare}: {percent} %")?;
-    let (slowest, bare) = (ours.slowest, theirs.slowest);
-    println!(rt; "    the slowest client did {slowest} % of the mean, bare {bare} %")
-}
-
-/// Does each work by the clients of both servers, in turns.
-fn run_clients<R>(
-    rt: &R,
-    addresses: (&str, &str),
-    connections: u32,
-    own_runs: bool,
-) -> io::Result<()>
+/// Does each work by the clients of all servers, in turns.
+fn run_clients<R>(rt: &R, addresses: &[String], connections: u32, own_runs: bool) -> io::Result<()>
 where
     R: Net<Stream = TcpStream> + Print + AllocGlobal + Clock + Threads + Sync,
 {
-    let alloc = rt.alloc();
-    let mut ours = Side::connect(rt, alloc, addresses.0, connections, own_runs)?;
-    let mut theirs = Side::connect(rt, alloc, addresses.1, connections, own_runs)?;
+    let mut sides = Sides::connect(rt, addresses, connections, own_runs)?;
     for kind in Kind::ALL {
-        measure(rt, kind, &mut ours, &mut theirs)?;
+        sides.measure(rt, kind)?;
     }
     Ok(())
-}
-
-/// Does a work by the clients of both servers, in turns.
-fn measure<R: Print + AllocGlobal + Clock + Threads + Sync>(
-    rt: &R,
-    kind: Kind,
-    ours: &mut Side,
-    theirs: &mut Side,
-) -> io::Result<()> {
-    let limit = Limit {
-        works: u32::MAX,
-        time: Duration::from_millis(ROUND),
-    };
-    for _ in 0..ROUNDS {
-        ours.round(rt, kind, limit)?;
-        theirs.round(rt, kind, limit)?;
-    }
-    print_figures(
-        rt,
-        kind,
-        ours.figures(rt.alloc())?,
-        theirs.figures(rt.alloc())?,
-    )
 }
 
 /// Does each work a few times.
@@ -112,15 +69,14 @@ where
     };
     for kind in Kind::ALL {
         side.round(rt, kind, limit)?;
-        let what = kind.name();
-        let works = side.figures(rt.alloc())?.works;
-        println!(rt; "{what}: {works}")?;
+        let figures = side.figures(rt.alloc())?;
+        print_alone(rt, kind, &figures, TRIED_CONNECTIONS, false)?;
     }
     Ok(())
 }
 
 /// Serves a few messages to clients in this process.
-fn run_trial<R>(rt: &R) -> io::Result<()>
+fn run_trial<R>(rt: &R, keeping: Keeping) -> io::Result<()>
 where
     R: Net<Listener = TcpListener, Stream = TcpStream>
         + Print
@@ -136,12 +92,18 @@ where
     let address = format!(in alloc; "127.0.0.1:{port}")?;
     let (served, tried) = thread::join(
         rt,
-        || serve_each(rt, alloc, &listener, TRIED_CONNECTIONS),
+        || serve_each(rt, alloc, &listener, TRIED_CONNECTIONS, keeping),
         || try_each(rt, address.as_str()),
     );
     tried?;
     served?;
-    println!(rt; "ended")
+    let name = keeping.name();
+    println!(rt; "ended: {name}")
+}
+
+/// The number that a word spells, 1 of another word.
+fn number(word: &str) -> u32 {
+    word.parse::<u32>().unwrap_or(1)
 }
 
 fn run<R>(rt: &R, words: &[String]) -> io::Result<()>
@@ -155,17 +117,22 @@ where
         + Sync,
 {
     match words {
-        [] => run_trial(rt),
-        [address, connections] => {
-            let connections = connections.parse::<u32>().unwrap_or(1);
-            run_server(rt, address.as_str(), connections)
+        [] => {
+            run_trial(rt, Keeping::Nothing)?;
+            run_trial(rt, Keeping::Blocks)?;
+            run_trial(rt, Keeping::LargeBlocks)
         }
-        [ours, theirs, connections, runs] => {
-            let connections = connections.parse::<u32>().unwrap_or(1);
-            let addresses = (ours.as_str(), theirs.as_str());
-            run_clients(rt, addresses, connections, runs.as_str() == "own")
+        [address, connections, keeping] => {
+            let keeping = Keeping::of(keeping.as_str());
+            run_server(rt, address.as_str(), number(connections.as_str()), keeping)
         }
-        _ => println!(rt; "ADDR CONNECTIONS, or ADDR ADDR CONNECTIONS one|own"),
+        [addresses @ .., connections, runs] if addresses.len() == 4 => {
+            let own_runs = runs.as_str() == "own";
+            run_clients(rt, addresses, number(connections.as_str()), own_runs)
+        }
+        _ => println!(rt;
+            "ADDR CONNECTIONS forgets|blocks|large, or ADDR ADDR ADDR ADDR CONNECTIONS one|own"
+        ),
     }
 }
 

@@ -94,8 +94,8 @@ fn spell_all(alloc: Global, bodies: Vec<TBody>) -> io::Result<Vec<Vec<u8>>> {
     Ok(all)
 }
 
-/// What a client sends before a work: it begins a session, comes to a run, and makes a file of its own, of one
-/// block.
+/// What a client sends before a work: it begins a session, comes to a run, and makes a file of its
+/// own, of one block.
 pub fn joining(alloc: Global, client: u32, run: u32) -> io::Result<Vec<Vec<u8>>> {
     let name = format!(in alloc; "c{client}")?;
     let mut bodies = Vec::new(alloc);
@@ -108,6 +108,28 @@ pub fn joining(alloc: Global, client: u32, run: u32) -> io::Result<Vec<Vec<u8>>>
     spell_all(alloc, bodies)
 }
 
+/// A walk to the client's own file, an open, a read of a block, and a clunk.
+fn push_opens(alloc: Global, client: u32, bodies: &mut Vec<TBody>) -> Result<(), AllocError> {
+    let name = format!(in alloc; "c{client}")?;
+    bodies.push(walk(alloc, PASSING, Some(name))?)?;
+    bodies.push(TBody::Open {
+        fid: PASSING,
+        mode: 0,
+    })?;
+    bodies.push(read(PASSING))?;
+    bodies.push(TBody::Clunk { fid: PASSING })?;
+    Ok(())
+}
+
+/// A walk of no name, a create, and a remove.
+fn push_creates(alloc: Global, client: u32, bodies: &mut Vec<TBody>) -> Result<(), AllocError> {
+    let name = format!(in alloc; "t{client}")?;
+    bodies.push(walk(alloc, PASSING, None)?)?;
+    bodies.push(create(PASSING, name))?;
+    bodies.push(TBody::Remove { fid: PASSING })?;
+    Ok(())
+}
+
 /// What a client sends for one work, again and again.
 pub fn working(alloc: Global, kind: Kind, client: u32) -> io::Result<Vec<Vec<u8>>> {
     let mut bodies = Vec::new(alloc);
@@ -115,21 +137,13 @@ pub fn working(alloc: Global, kind: Kind, client: u32) -> io::Result<Vec<Vec<u8>
         Kind::Stats => bodies.push(TBody::Stat { fid: FILE })?,
         Kind::Reads => bodies.push(read(OPEN))?,
         Kind::Writes => bodies.push(write(alloc)?)?,
-        Kind::Opens => {
-            let name = format!(in alloc; "c{client}")?;
-            bodies.push(walk(alloc, PASSING, Some(name))?)?;
-            bodies.push(TBody::Open {
-                fid: PASSING,
-                mode: 0,
-            })?;
-            bodies.push(read(PASSING))?;
-            bodies.push(TBody::Clunk { fid: PASSING })?;
-        }
-        Kind::Creates => {
-            let name = format!(in alloc; "t{client}")?;
-            bodies.push(walk(alloc, PASSING, None)?)?;
-            bodies.push(create(PASSING, name))?;
-            bodies.push(TBody::Remove { fid: PASSING })?;
+        Kind::Opens => push_opens(alloc, client, &mut bodies)?,
+        Kind::Creates => push_creates(alloc, client, &mut bodies)?,
+        Kind::Mixed => {
+            bodies.push(TBody::Stat { fid: FILE })?;
+            bodies.push(read(OPEN))?;
+            bodies.push(write(alloc)?)?;
+            push_opens(alloc, client, &mut bodies)?;
         }
     }
     spell_all(alloc, bodies)

@@ -6,7 +6,7 @@ use std::alloc::Global;
 use std::net::{Net, TcpStream};
 use std::rt::Clock;
 use std::thread::Threads;
-use std::{io, thread};
+use std::{io, mem, thread};
 
 /// The clients of a server.
 #[derive(Drop)]
@@ -17,26 +17,21 @@ pub struct Side {
     own_runs: bool,
     /// The number of the next run that nobody came to.
     next_run: u32,
+    /// How many works a second all of them did in each round.
+    rates: Vec<u64>,
 }
 
 /// What the clients of a server measured.
-#[derive(Clone, Copy, Debug)]
+#[derive(Drop)]
 pub struct Figures {
     /// How many works they did.
     pub works: u64,
-    /// How many a second.
-    pub rate: u64,
-    /// Nanoseconds that half of the works took at most.
-    pub median: u64,
+    /// How many a second, in each round.
+    pub rates: Vec<u64>,
     /// Nanoseconds that all but one work of a hundred took at most.
     pub tail: u64,
-    /// The works of the client that did the fewest, in hundredths of the mean.
-    pub slowest: u64,
-}
-
-/// A part of a whole, in hundredths of it.
-pub fn hundredths(part: u64, whole: u64) -> u64 {
-    part.saturating_mul(100) / whole.max(1)
+    /// How many the client did that did the fewest.
+    pub fewest: u64,
 }
 
 impl Side {
@@ -57,6 +52,7 @@ impl Side {
             connections,
             own_runs,
             next_run: 0,
+            rates: Vec::new(alloc),
         })
     }
 
@@ -85,7 +81,18 @@ impl Side {
         if self.clients.iter().any(|client| client.failed) {
             return Err(io::Error::from(io::ErrorKind::Other));
         }
+        let rate = self.rate();
+        self.rates.push(rate)?;
         Ok(())
+    }
+
+    /// How many works a second they did in the last round.
+    fn rate(&self) -> u64 {
+        let mut rate = 0u64;
+        for client in &self.clients {
+            rate = rate.saturating_add(client.rate());
+        }
+        rate
     }
 
     /// The times of all works, the shortest first.
@@ -98,39 +105,29 @@ impl Side {
         Ok(times)
     }
 
-    /// How many works are done a second, and how many the client did that did the fewest.
-    fn rate(&self) -> (u64, u64) {
-        let mut rate = 0u64;
+    /// The works of the client that did the fewest.
+    fn fewest(&self) -> u64 {
         let mut fewest = u64::MAX;
         for client in &self.clients {
-            let works = client.times.len() as u64;
-            let microseconds = u64::try_from(client.lasted.as_micros()).unwrap_or(u64::MAX);
-            rate = rate.saturating_add(works.saturating_mul(1_000_000) / microseconds.max(1));
-            fewest = fewest.min(works);
+            fewest = fewest.min(client.times.len() as u64);
         }
-        (rate, fewest)
+        fewest
     }
 
     /// What was measured since this was asked for the last time.
     pub fn figures(&mut self, alloc: Global) -> io::Result<Figures> {
         let times = self.times(alloc)?;
         let works = times.len();
-        let (rate, fewest) = self.rate();
+        let fewest = self.fewest();
         for client in self.clients.iter_mut() {
-            client.forget();
+            client.times.clear();
         }
+        let all_but_one = works.saturating_sub(works / 100 + 1);
         Ok(Figures {
             works: works as u64,
-            rate,
-            median: times.get(works / 2).copied().unwrap_or(0),
-            tail: times
-                .get(works.saturating_sub(works / 100 + 1))
-                .copied()
-                .unwrap_or(0),
-            slowest: hundredths(
-                fewest.saturating_mul(u64::from(self.connections)),
-                works as u64,
-            ),
+            rates: mem::replace(&mut self.rates, Vec::new(alloc)),
+            tail: times.get(all_but_one).copied().unwrap_or(0),
+            fewest,
         })
     }
 }

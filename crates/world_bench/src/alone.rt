@@ -4,6 +4,7 @@ ghost use Rattle.std.specs.Arc.{arc_value};
 ghost use Rattle.cs_journal.specs.Bounds.{CanGrow};
 
 use cs_journal::{Pass, Run, can_grow};
+use cs_names::Text;
 use cs_permit::{AttachCall, Call, TreeName};
 use cs_plan::{Built, Scene};
 use cs_run::Answer;
@@ -33,7 +34,7 @@ impl Model for LoneRun {
 }
 
 impl Port for LoneRun {
-    ghost gives = { λ before mark question told after. Unit {0} };
+    ghost gives = { λ before question told after. Unit {0} };
 
     fn find(&mut self, _alloc: Global, _name: &TreeName) -> Result<u32, FindFault> {
         Ok(0)
@@ -44,7 +45,7 @@ impl Port for LoneRun {
         alloc: Global,
         now: u32,
         _run: u32,
-        user: String,
+        user: Text,
     ) -> Result<(u32, Answer), PassFault> {
         let call = Call::Attach(AttachCall { user });
         let answer = self.run.step(alloc, &mut self.pass, now, call);

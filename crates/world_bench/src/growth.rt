@@ -1,4 +1,5 @@
-//! Messages to a world of many states, and to one with many runs too, beside a world of one of each.
+//! Messages to a world of many states, and to one with many runs too, beside a world of one of
+//! each.
 
 use crate::kind::Kind;
 use crate::messages::{attach, send_on, spelled, version};
@@ -15,7 +16,8 @@ const CREATS: u32 = 180;
 /// How many runs stand beside the one that the messages are about.
 const RUNS: u32 = 4_095;
 
-/// How often each work is done in a round, and how many rounds are timed: a run's journal has room for all.
+/// How often each work is done in a round, and how many rounds are timed: a run's journal has room
+/// for all.
 const REPEATS: u64 = 250;
 
 const ROUNDS: u64 = 20;

@@ -7,8 +7,8 @@ use std::alloc::Global;
 /// Bytes of a read and of a write.
 const BLOCK: u32 = 4_096;
 
-/// What is sent again and again, on a connection with fids on the root (0 and 1) and on the file (2, and 3,
-/// which is open).
+/// What is sent again and again, on a connection with fids on the root (0 and 1) and on the file
+/// (2, and 3, which is open).
 #[derive(Clone, Copy, Debug, PartialEq, Eq)]
 pub enum Kind {
     Stats,

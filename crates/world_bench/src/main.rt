@@ -1,11 +1,10 @@
-//! Messages to a world, beside the same to a session over one run alone: stats, reads and writes of 4 kB, and
-//! walks of one name; the same among many states and runs; opens and clunks beside many fids, hang-ups, and
-//! audits. Run by hand with the word `time`, each row tells how long its work takes, and whether it is within
-//! its bound.
+//! Messages to a world, beside the same to a session over one run alone: stats, reads and writes of
+//! 4 kB, and walks of one name; the same among many states and runs; opens and clunks beside many
+//! fids, and hang-ups. Run by hand with the word `time`, each row tells how long its work takes,
+//! and whether it is within its bound.
 #![tactic(auto)]
 
 mod alone;
-mod audits;
 mod crowds;
 mod files;
 mod growth;
@@ -13,7 +12,6 @@ mod kind;
 mod messages;
 mod sides;
 
-use crate::audits::audits;
 use crate::crowds::{crowds, hang_ups};
 use crate::growth::growth;
 use crate::kind::Kind;
@@ -22,7 +20,8 @@ use cs_bench::{Row, compare};
 use std::rt::Clock;
 use std::{env, io};
 
-/// How often each work is done in a round, and how many rounds are timed: a run's journal has room for all.
+/// How often each work is done in a round, and how many rounds are timed: a run's journal has room
+/// for all.
 const REPEATS: u64 = 500;
 
 const ROUNDS: u64 = 50;
@@ -61,6 +60,5 @@ fn main(rt: HostRuntime) -> io::Result<()> {
     }
     growth(&rt, timed)?;
     crowds(&rt, timed)?;
-    hang_ups(&rt, timed)?;
-    audits(&rt, timed)
+    hang_ups(&rt, timed)
 }

@@ -16,8 +16,8 @@ pub fn spelled(alloc: Global, body: TBody) -> Option<Vec<u8>> {
     Some(bytes)
 }
 
-/// Sends a message on a connection, and encodes its reply in a buffer that is kept. None where it is
-/// denied.
+/// Sends a message on a connection, and encodes its reply in a buffer that is kept. None where it
+/// is denied.
 pub fn send_on(
     alloc: Global,
     world: &mut World,
@@ -72,8 +72,8 @@ pub fn attach(alloc: Global, fid: u32, aname: &str) -> Option<TBody> {
     })
 }
 
-/// The messages that begin a session, with fids on the root (0 and 1) and on the file (2, and 3, which
-/// is open).
+/// The messages that begin a session, with fids on the root (0 and 1) and on the file (2, and 3,
+/// which is open).
 pub fn opening(alloc: Global) -> Option<Vec<Vec<u8>>> {
     let mut all = Vec::new(alloc);
     let bodies = [

@@ -27,8 +27,8 @@ pub struct ToSession {
 }
 
 impl ToWorld {
-    /// A world of a state for each of so many creats and holes, in which the connection 0 has begun a
-    /// session.
+    /// A world of a state for each of so many creats and holes, in which the connection 0 has begun
+    /// a session.
     pub fn of(alloc: Global, creats: u32, repeats: u64) -> Option<ToWorld> {
         let mut side = ToWorld {
             world: world_of(alloc, scene(alloc, creats)?, users(alloc)?).ok()?,

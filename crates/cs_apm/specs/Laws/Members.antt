@@ -1,6 +1,6 @@
 -- The members of a set in order, and the operations in order of which the set has some.
 use Rattle.std.proofs.Common.{◌≡◌, ◌≢◌, ℕ, zero, suc, ◌+◌, ◌<◌, ◌≤◌, ◌==◌, Bool, true, false, cond, List, [], ◌∷◌, ◌⊎◌, inl, inr, refl, sym, ap, ◌∙◌, arith, ⊎_elim, length, map, take, get_or}
-use Rattle.std.proofs.lemmas.Bool.{cases_eq, false≢true, eq-eqb, ne_eqb}
+use Rattle.std.proofs.lemmas.Bool.{cases_eq, false≢true, eq-eqb, ne_eqb, cases_Bool}
 use Rattle.std.proofs.lemmas.List.{map_more}
 use Rattle.std.proofs.lemmas.List.Sums.{fold_push}
 use Rattle.std.proofs.lemmas.List.Folds.{list_any_at}
@@ -9,7 +9,6 @@ use Rattle.std.specs.List.{Contains}
 use Rattle.cs_micro.specs.declared.micro_op.MicroOp.{MicroOp}
 use Rattle.cs_apm.specs.Rules.{op_at}
 use Rattle.cs_apm.specs.Sets.{is_member}
-use Rattle.cs_apm.specs.Laws.Search.{bool_cases}
 
 pub found_has : (places : List ℕ) (i : ℕ) → is_member places i ≡ true → (k : ℕ) × (k < length places) × (get_or places k 0 ≡ i)
 found_has [] i h = absurd (false≢true h)
@@ -56,7 +55,7 @@ module _ {S : Type 0} (after : S → MicroOp → S) where
     not_between a i le low high = ⊎_elim
         (λ (yes : is_member places i ≡ true). absurd (member (found_has places i yes)))
         (λ (no_member : is_member places i ≡ false). no_member)
-        (bool_cases (is_member places i))
+        (cases_Bool (is_member places i))
       where
         at_or_after : (a k : ℕ) → (k < a) ⊎ (a ≤ k)
         at_or_after zero k = inr (omega arith)

@@ -1,5 +1,5 @@
 -- The slots mirror what stands at each path, step by step, and list it in order.
-use Rattle.std.proofs.Common.{◌≡◌, ◌≢◌, ℕ, zero, suc, ◌<◌, ◌&&◌, Bool, true, false, cond, T, List, [], ◌∷◌, None, Some, refl, sym, ap, ◌∙◌, subst, arith, ⊎_elim, length}
+use Rattle.std.proofs.Common.{◌≡◌, ◌≢◌, ℕ, zero, suc, ◌<◌, Bool, true, false, cond, T, List, [], ◌∷◌, None, Some, refl, sym, ap, ◌∙◌, subst, arith, ⊎_elim, length}
 use Rattle.std.proofs.lemmas.Bool.{false≢true}
 use Rattle.std.proofs.lemmas.List.{length-set}
 use Rattle.std.specs.Prelude.{slice_set, fold, map}
@@ -10,6 +10,7 @@ use Rattle.std.specs.FinMap.Entries.{below_all}
 use Rattle.cs_names.specs.Paths.{path_eq, path_ties}
 use Rattle.cs_tree_model.specs.Tree.{Path, path_cmp}
 use Rattle.cs_tree_model.specs.Laws.Paths.{path_total, path_exact}
+use Rattle.cs_tree_model.specs.Maps.Orders.{both_true}
 use Rattle.cs_trace.specs.declared.operation.Node.TheVariants as nodes
 use Rattle.cs_trace.specs.declared.operation.Rights.{Rights}
 use Rattle.cs_trace.specs.declared.operation.Target.TheVariants as targets
@@ -170,10 +171,6 @@ module _ (rights : List Rights) where
       (step_mirror paths up slots long m mirror (op_at ops k) (step_at steps k) (step_is paths ops steps h k))
 
   -- ---- the listing
-
-  both_true : (a b : Bool) → T a → T b → T (a && b)
-  both_true true b x y = y
-  both_true false b x y = absurd x
 
   below_present : (p : Path) (paths : List Path) (slots : List Slot) → AreAbove p paths → T (below_all path_cmp p (present rights paths slots))
   below_present p [] slots h = tt

@@ -1,8 +1,8 @@
 -- A set that has what its members need leaves a tree.
-use Rattle.std.proofs.Common.{◌≡◌, ◌≢◌, ℕ, zero, suc, ◌<◌, ◌≤◌, Bool, true, false, ◌&&◌, List, [], ◌⊎◌, inl, inr, Option, None, Some, refl, sym, ap, ◌∙◌, arith, ⊎_elim, length}
-use Rattle.std.proofs.lemmas.Bool.{cases_eq, false≢true}
-use Rattle.std.specs.Option.{is_some}
+use Rattle.std.proofs.Common.{◌≡◌, ◌≢◌, ℕ, zero, suc, ◌<◌, ◌≤◌, Bool, true, false, ◌&&◌, List, [], ◌⊎◌, Some, refl, sym, ap, ◌∙◌, arith, ⊎_elim, length}
+use Rattle.std.proofs.lemmas.Bool.{cases_eq, false≢true, cases_lt}
 use Rattle.std.specs.FinMap.{get}
+use Rattle.cs_tree_model.specs.Laws.Fresh.{not_both}
 use Rattle.cs_tree_model.specs.Tree.{Path, parent_path}
 use Rattle.cs_trace.specs.declared.operation.Node.{Node}
 use Rattle.cs_micro.specs.declared.micro_op.MicroOp.{MicroOp}
@@ -12,9 +12,6 @@ use Rattle.cs_apm.specs.Rules.{creates, op_at, touches}
 use Rattle.cs_apm.specs.Laws.One.{apart, made, nested_after, created_touched, Deletes}
 use Rattle.cs_apm.specs.Laws.Search.{NonePass, First, first_of, Last, last_of}
 use Rattle.cs_apm.specs.Laws.Shown.{all, cut, IsCutBy, cut_by, after_cut, cut_below, steady, shown}
-
-not_both : {A : Type 0} (o : Option A) (a : A) → o ≡ None → o ≡ Some a → ⊥
-not_both o a none some = false≢true (ap is_some (sym none ∙ some))
 
 module _ (start : Paths) (ops : List MicroOp) (has : ℕ → Bool) (n : ℕ)
     (nested : (k : ℕ) → k ≤ n → AreNested (nodes_of all start ops k))
@@ -99,15 +96,10 @@ module _ (start : Paths) (ops : List MicroOp) (has : ℕ → Bool) (n : ℕ)
     cut_lower = ⊎_elim
         (λ (z : cut ops has d n ≡ 0). omega (arith, z))
         (λ (b : IsCutBy ops has d n (cut ops has d n)). ⊎_elim
-        (λ (le : c ≤ b.place). absurd (none_later b.place le b.below b.member b.touching))
         (λ (lt : b.place < c). (let z = b.next in omega (arith, z, lt)))
-        (at_or_below c b.place))
+        (λ (le : c ≤ b.place). absurd (none_later b.place le b.below b.member b.touching))
+        (cases_lt b.place c))
         (cut_by start ops has d n)
-      where
-        at_or_below : (a b : ℕ) → (a ≤ b) ⊎ (b < a)
-        at_or_below zero b = inl (omega arith)
-        at_or_below (suc a) zero = inr (omega arith)
-        at_or_below (suc a) (suc b) = ⊎_elim (λ (l : a ≤ b). inl (omega (arith, l))) (λ (l : b < a). inr (omega (arith, l))) (at_or_below a b)
 
     directory_left : IsDirectoryAt (nodes_of has start ops n) d
     directory_left = shown start ops has needs n d ∙ steady start ops has d (cut ops has d n) c cut_lower all_earlier ∙ in_directory

@@ -1,9 +1,10 @@
 -- One micro-operation on the map of nodes.
 use Rattle.std.proofs.Common.{◌≡◌, ◌≢◌, ℕ, Bool, true, false, cond, ◌||◌, [], ◌⊎◌, inl, inr, Option, None, Some, refl, sym, ap, ◌∙◌, subst, ⊎_elim}
-use Rattle.std.proofs.lemmas.Bool.{false≢true}
+use Rattle.std.proofs.lemmas.Bool.{false≢true, cases_Bool}
 use Rattle.std.specs.FinMap.{get, insert, remove}
 use Rattle.std.specs.Option.{is_some}
 use Rattle.cs_names.specs.Paths.{path_eq}
+use Rattle.cs_tree_model.specs.Laws.Fresh.{not_both}
 use Rattle.cs_tree_model.specs.Laws.Paths.{option_cases, path_exact, path_total}
 use Rattle.cs_tree_model.specs.Maps.Changes as changes
 use Rattle.cs_tree_model.specs.Tree.{Path, parent_path}
@@ -56,9 +57,6 @@ first_apart false b h = refl
 second_apart : (a b : Bool) → (a || b) ≡ false → b ≡ false
 second_apart true b h = absurd (false≢true (sym h))
 second_apart false b h = h
-
-eq_apart : (p q : Path) → path_eq p q ≡ false → q ≢ p
-eq_apart p q h e = false≢true (sym h ∙ (ap (λ w. path_eq w q) (sym e) ∙ same_path q))
 
 -- ---- what a move leaves
 
@@ -119,9 +117,6 @@ created_touched (SetAttr target rights) q h = refl
 created_touched Say q h = refl
 
 -- ---- a legal operation
-
-not_both : {A : Type 0} (o : Option A) (a : A) → o ≡ None → o ≡ Some a → ⊥
-not_both o a none some = false≢true (ap is_some (sym none ∙ some))
 
 abbrev is_directory : Option Node → Bool
 is_directory None = false
@@ -187,12 +182,8 @@ pub above : (m : Paths) (o : MicroOp) → IsLegalThere m o → AreNested m → (
 above m o h nested q e is named = ⊎_elim
     (λ (one : touches o q ≡ true). at_touched o h one is)
     (λ (two : touches o q ≡ false). nested.nested q e (sym (untouched m o q two) ∙ is) named)
-    (cases (touches o q))
+    (cases_Bool (touches o q))
   where
-    cases : (b : Bool) → (b ≡ true) ⊎ (b ≡ false)
-    cases true = inl refl
-    cases false = inr refl
-
     at_touched : (o : MicroOp) → IsLegalThere m o → touches o q ≡ true → get (paths_after m o) q ≡ Some e → IsDirectoryAt m (parent_path q)
     at_touched (CreateDirEntry p node rights) h t is = subst (λ w. IsDirectoryAt m (parent_path w)) (one_touched p q t) (free_entry m h.0 p node rights h.1).1
     at_touched (DeleteDirEntry p kind) h t is = absurd (not_both (get (remove m p) q) e (ap (get (remove m p)) (sym (one_touched p q t)) ∙ get-remove_same m p) is)

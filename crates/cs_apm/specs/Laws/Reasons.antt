@@ -1,6 +1,6 @@
 -- The rules as tests say what they say as sentences.
-use Rattle.std.proofs.Common.{◌≡◌, ◌<◌, ◌≤◌, ◌⊎◌, inl, inr, ℕ, zero, suc, ◌+◌, ◌-◌, ◌&&◌, ◌||◌, ◌==◌, not, Bool, true, false, List, [], ◌∷◌, get_or, refl, sym, ap, ◌∙◌, subst, arith, ⊎_elim}
-use Rattle.std.proofs.lemmas.Bool.{cases_Bool, false≢true, and_parts, and_from, or_cases, or_left, or_right, eqb-true, eq-eqb, lt-ltb, not-true}
+use Rattle.std.proofs.Common.{◌≡◌, ◌<◌, ◌⊎◌, inl, inr, ℕ, zero, suc, ◌+◌, ◌-◌, ◌&&◌, ◌||◌, ◌==◌, not, Bool, true, false, List, [], ◌∷◌, get_or, refl, sym, ap, ◌∙◌, subst, arith, ⊎_elim}
+use Rattle.std.proofs.lemmas.Bool.{cases_Bool, false≢true, and_parts, and_from, or_cases, or_left, or_right, eqb-true, eq-eqb, lt-ltb, not-true, leb-true, le-leb, ltb-true}
 use Rattle.std.specs.Prelude.{nat_lt, nat_le, ◌↔◌}
 use Rattle.std.specs.List.{Contains, list_any}
 use Rattle.cs_names.specs.Paths.{path_eq}
@@ -22,9 +22,6 @@ use Rattle.cs_apm.specs.Laws.Paths.{any_between, any_found, any_from, none_betwe
 
 pub touches_says : (o : MicroOp) (p : Path) → touches o p ≡ true → Touches o p
 touches_says o p h = (let w = any_found (λ q. path_eq q p) (touched o) h in subst (Contains (touched o)) (path_from_eq w.0 p w.2) w.1)
-
-pub says_touches : (o : MicroOp) (p : Path) → Touches o p → touches o p ≡ true
-says_touches o p there = any_from (λ q. path_eq q p) (touched o) p there (same_path p)
 
 -- the paths that it names are listed
 pub listed : (o : MicroOp) (p : Path) → Names o p → Contains (named o) p
@@ -190,27 +187,18 @@ says_covered (covers.Directory d) o h = ⊎_elim
     (λ (s : SetsDirectory o d). or_right (touches_entry_of o d) (sets_directory o d) (says_directory o d s))
     h
 
-le_says : (m n : ℕ) → nat_le m n ≡ true → m ≤ n
-le_says m n h = grind (arith, h)
-
-says_le : (m n : ℕ) → m ≤ n → nat_le m n ≡ true
-says_le m n h = grind (arith, h)
-
-lt_says : (m n : ℕ) → nat_lt m n ≡ true → m < n
-lt_says m n h = grind (arith, h)
-
 module _ (ops : List MicroOp) (syncs : List SyncPoint) (i j : ℕ) where
   synced_says : is_synced syncs i j (op_at ops i) ≡ true → IsSyncedBetween ops syncs i j
   synced_says h =
       let w = any_found (λ (s : SyncPoint). (nat_lt i s.at && nat_le s.at j) && is_covered s.covers (op_at ops i)) syncs h in
       let parts = and_parts (nat_lt i w.0.at && nat_le w.0.at j) (is_covered w.0.covers (op_at ops i)) w.2 in
       let times = and_parts (nat_lt i w.0.at) (nat_le w.0.at j) parts.0 in
-      record { point = w.0; there = w.1; behind = lt_says i w.0.at times.0; ahead = le_says w.0.at j times.1; covered = covered_says w.0.covers (op_at ops i) parts.1 }
+      record { point = w.0; there = w.1; behind = ltb-true i w.0.at times.0; ahead = leb-true w.0.at j times.1; covered = covered_says w.0.covers (op_at ops i) parts.1 }
 
   says_synced : IsSyncedBetween ops syncs i j → is_synced syncs i j (op_at ops i) ≡ true
   says_synced w = any_from (λ (s : SyncPoint). (nat_lt i s.at && nat_le s.at j) && is_covered s.covers (op_at ops i)) syncs w.point w.there
       (and_from (nat_lt i w.point.at && nat_le w.point.at j) (is_covered w.point.covers (op_at ops i))
-      (and_from (nat_lt i w.point.at) (nat_le w.point.at j) (lt-ltb i w.point.at w.behind) (says_le w.point.at j w.ahead))
+      (and_from (nat_lt i w.point.at) (nat_le w.point.at j) (lt-ltb i w.point.at w.behind) (le-leb w.point.at j w.ahead))
       (says_covered w.point.covers (op_at ops i) w.covered))
 
   -- ---- the latest create
@@ -277,7 +265,7 @@ module _ (ops : List MicroOp) (syncs : List SyncPoint) (profile : Profile) (i j 
   needs_says h =
       let parts = and_parts (nat_lt i j) (pair_needs profile a b || makes_parent ops i j || is_synced syncs i j a) h in
       record {
-        before = lt_says i j parts.0;
+        before = ltb-true i j parts.0;
         reason = ⊎_elim
             (λ (two : (pair_needs profile a b || makes_parent ops i j) ≡ true). ⊎_elim
             pair_says

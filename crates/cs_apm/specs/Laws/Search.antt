@@ -1,10 +1,6 @@
 -- The first and the last place that passes a test.
-use Rattle.std.proofs.Common.{◌≡◌, ◌≢◌, ℕ, zero, suc, ◌<◌, ◌≤◌, Bool, true, false, ◌⊎◌, inl, inr, refl, ap, ◌∙◌, arith, ⊎_elim}
-use Rattle.std.proofs.lemmas.Bool.{cases_eq}
-
-pub bool_cases : (b : Bool) → (b ≡ true) ⊎ (b ≡ false)
-bool_cases true = inl refl
-bool_cases false = inr refl
+use Rattle.std.proofs.Common.{◌≡◌, ◌≢◌, ℕ, zero, suc, ◌<◌, ◌≤◌, Bool, true, false, ◌⊎◌, inl, inr, ap, ◌∙◌, arith, ⊎_elim}
+use Rattle.std.proofs.lemmas.Bool.{cases_eq, cases_Bool, cases_lt}
 
 abbrev pub NonePass : (ℕ → Bool) → ℕ → ℕ → Type 0
 NonePass t a b = (i : ℕ) → a ≤ i → i < b → t i ≡ false
@@ -36,18 +32,13 @@ first_of t a zero = inl (λ i le lt. absurd (omega (arith, lt)))
 first_of t a (suc b) = ⊎_elim
     (λ (none : NonePass t a b). ⊎_elim
     (λ (yes : t b ≡ true). ⊎_elim
-    (λ (le : a ≤ b). inr (record { place = b; from = le; below = omega arith; passes = yes; none_before = none }))
     (λ (lt : b < a). inl (λ i le low. absurd (omega (arith, lt, le, low))))
-    (at_or_below a b))
+    (λ (le : a ≤ b). inr (record { place = b; from = le; below = omega arith; passes = yes; none_before = none }))
+    (cases_lt b a))
     (λ (not_here : t b ≡ false). inl (none_more t a b none not_here))
-    (bool_cases (t b)))
+    (cases_Bool (t b)))
     (λ (f : First t a b). inr (record { place = f.place; from = f.from; below = (let low = f.below in omega arith); passes = f.passes; none_before = f.none_before }))
     (first_of t a b)
-  where
-    at_or_below : (m n : ℕ) → (m ≤ n) ⊎ (n < m)
-    at_or_below zero n = inl (omega arith)
-    at_or_below (suc m) zero = inr (omega arith)
-    at_or_below (suc m) (suc n) = ⊎_elim (λ (l : m ≤ n). inl (omega (arith, l))) (λ (l : n < m). inr (omega (arith, l))) (at_or_below m n)
 
 pub last_of : (t : ℕ → Bool) (a b : ℕ) → NonePass t a b ⊎ Last t a b
 last_of t a zero = inl (λ i le lt. absurd (omega (arith, lt)))
@@ -59,10 +50,5 @@ last_of t a (suc b) = ⊎_elim
     (λ (none : NonePass t a b). inl (none_more t a b none not_here))
     (λ (l : Last t a b). inr (record { place = l.place; from = l.from; below = (let low = l.below in omega arith); passes = l.passes; none_after = none_more t (suc l.place) b l.none_after not_here }))
     (last_of t a b))
-    (bool_cases (t b)))
-    (below_or_at b a)
-  where
-    below_or_at : (m n : ℕ) → (m < n) ⊎ (n ≤ m)
-    below_or_at m zero = inr (omega arith)
-    below_or_at zero (suc n) = inl (omega arith)
-    below_or_at (suc m) (suc n) = ⊎_elim (λ (l : m < n). inl (omega (arith, l))) (λ (l : n ≤ m). inr (omega (arith, l))) (below_or_at m n)
+    (cases_Bool (t b)))
+    (cases_lt b a)

@@ -1,6 +1,6 @@
 -- What stands at a path after a set's operations: what stood there after the last of them that touches it.
 use Rattle.std.proofs.Common.{◌≡◌, ◌≢◌, ℕ, zero, suc, ◌<◌, ◌≤◌, Bool, true, false, cond, ◌&&◌, List, ◌⊎◌, inl, inr, refl, sym, ap, ◌∙◌, subst, arith, ⊎_elim}
-use Rattle.std.proofs.lemmas.Bool.{cases_eq, false≢true}
+use Rattle.std.proofs.lemmas.Bool.{cases_eq, false≢true, cases_Bool, and_parts}
 use Rattle.std.specs.FinMap.{get}
 use Rattle.cs_tree_model.specs.Tree.{Path}
 use Rattle.cs_micro.specs.declared.micro_op.MicroOp.{MicroOp}
@@ -8,7 +8,7 @@ use Rattle.cs_trace.specs.Operations.{Paths}
 use Rattle.cs_apm.specs.Rules.{touches, op_at}
 use Rattle.cs_apm.specs.Legal.{nodes_of, HasNeeds}
 use Rattle.cs_apm.specs.Laws.One.{untouched, agree}
-use Rattle.cs_apm.specs.Laws.Search.{bool_cases, NonePass}
+use Rattle.cs_apm.specs.Laws.Search.{NonePass}
 
 abbrev pub all : ℕ → Bool
 all i = true
@@ -26,10 +26,6 @@ pub record IsCutBy (ops : List MicroOp) (has : ℕ → Bool) (p : Path) (k c : �
   pub member : has place ≡ true
   pub touching : touches (op_at ops place) p ≡ true
 
-both_true : (a b : Bool) → (a && b) ≡ true → (a ≡ true) × (b ≡ true)
-both_true true b h = (refl, h)
-both_true false b h = absurd (false≢true h)
-
 module _ (start : Paths) (ops : List MicroOp) (has : ℕ → Bool) where
   -- the paths after the first k operations
   abbrev pub whole : ℕ → Paths
@@ -42,7 +38,7 @@ module _ (start : Paths) (ops : List MicroOp) (has : ℕ → Bool) where
   cut_by p zero = inl refl
   cut_by p (suc k) = ⊎_elim
       (λ (yes : (has k && touches (op_at ops k) p) ≡ true).
-      let b = both_true (has k) (touches (op_at ops k) p) yes in
+      let b = and_parts (has k) (touches (op_at ops k) p) yes in
       inr (record { place = k; next = ap (λ t. cond t (suc k) (cut ops has p k)) yes; below = omega arith; member = b.0; touching = b.1 }))
       (λ (no_member : (has k && touches (op_at ops k) p) ≡ false).
       let same : cut ops has p (suc k) ≡ cut ops has p k = ap (λ t. cond t (suc k) (cut ops has p k)) no_member in
@@ -50,7 +46,7 @@ module _ (start : Paths) (ops : List MicroOp) (has : ℕ → Bool) where
       (λ (z : cut ops has p k ≡ 0). inl (same ∙ z))
       (λ (c : IsCutBy ops has p k (cut ops has p k)). inr (record { place = c.place; next = same ∙ c.next; below = (let l = c.below in omega arith); member = c.member; touching = c.touching }))
       (cut_by p k))
-      (bool_cases (has k && touches (op_at ops k) p))
+      (cases_Bool (has k && touches (op_at ops k) p))
 
   -- from the cut on none of the set touches p
   pub after_cut : (p : Path) (k : ℕ) → NonePass (λ i. has i && touches (op_at ops i) p) (cut ops has p k) k
@@ -65,7 +61,7 @@ module _ (start : Paths) (ops : List MicroOp) (has : ℕ → Bool) where
       (λ (e : i ≡ k). ap (λ j. has j && touches (op_at ops j) p) e ∙ no_member)
       (λ (e : i ≢ k). after_cut p k i (subst (λ c. c ≤ i) same le) (omega (arith, lt, e)))
       (cases_eq i k))
-      (bool_cases (has k && touches (op_at ops k) p))
+      (cases_Bool (has k && touches (op_at ops k) p))
 
   pub cut_below : (p : Path) (k : ℕ) → cut ops has p k ≤ k
   cut_below p k = ⊎_elim
@@ -90,7 +86,7 @@ module _ (start : Paths) (ops : List MicroOp) (has : ℕ → Bool) where
         let has_i = needs.path i k p lt member yes touching in
         absurd (false≢true (sym (after_cut p k i le lt) ∙ (λ j. has_i j && yes j))))
         (λ (free : touches (op_at ops i) p ≡ false). free)
-        (bool_cases (touches (op_at ops i) p)))
+        (cases_Bool (touches (op_at ops i) p)))
 
     pub shown : (k : ℕ) (p : Path) → get (left k) p ≡ get (whole (cut ops has p k)) p
     shown zero p = refl
@@ -98,6 +94,6 @@ module _ (start : Paths) (ops : List MicroOp) (has : ℕ → Bool) where
         (λ (member : has k ≡ true). rw member (⊎_elim
         (λ (touching : touches (op_at ops k) p ≡ true). rw touching (agree (left k) (whole k) (op_at ops k) (λ q t. shown k q ∙ current q k member t) p touching))
         (λ (free : touches (op_at ops k) p ≡ false). rw free (untouched (left k) (op_at ops k) p free ∙ shown k p))
-        (bool_cases (touches (op_at ops k) p))))
+        (cases_Bool (touches (op_at ops k) p))))
         (λ (other : has k ≡ false). rw other (shown k p))
-        (bool_cases (has k))
+        (cases_Bool (has k))

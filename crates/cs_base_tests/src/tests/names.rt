@@ -2,7 +2,10 @@
 
 use super::printing::prints;
 use cs_names::named::{File, Named, Run, User};
-use cs_names::{Name, NameFault, NameOf, Pieces, RuleId, RunName, UserName, as_text, is_text};
+use cs_names::{
+    Bytes, Name, NameFault, NameOf, Pieces, RuleId, RunName, Text, Texts, UserName, as_text,
+    is_text,
+};
 use std::alloc::{AllocError, Global};
 use std::process::Abort;
 
@@ -110,6 +113,50 @@ fn takes_text_without_a_nul(rt: HostRuntime) {
     assert!(rt; is_lent(b"\xc3\xa9/"));
     assert!(rt; !is_lent(b"a\0"));
     assert!(rt; !is_lent(b"\xff"));
+}
+
+/// Whether the text, and its bytes, are kept as they are, and copies equal them.
+fn are_kept(alloc: Global, text: &str) -> Result<bool, AllocError> {
+    let kept = Text::keep(alloc, text)?;
+    let bytes = Bytes::keep(alloc, text.as_bytes())?;
+    Ok(
+        kept.try_clone()? == kept
+            && kept.as_str() == text
+            && bytes.try_clone()? == bytes
+            && bytes.as_slice() == text.as_bytes(),
+    )
+}
+
+fn two_texts(alloc: Global, first: &str, second: &str) -> Result<Texts, AllocError> {
+    let mut texts = Vec::new(alloc);
+    texts.push(String::from_str(alloc, first)?)?;
+    texts.push(String::from_str(alloc, second)?)?;
+    Ok(Texts::new(texts))
+}
+
+/// Whether a copy of two texts equals them, and other texts of the same bytes don't.
+fn are_copied(alloc: Global) -> Result<bool, AllocError> {
+    let texts = two_texts(alloc, "a", "b")?;
+    Ok(texts.try_clone(alloc)? == texts && texts != two_texts(alloc, "ab", "")?)
+}
+
+#[test]
+fn copies_equal_what_they_are_made_of(rt: HostRuntime) {
+    assert!(rt; are_kept(rt.alloc(), "").expect(&rt, "memory"));
+    assert!(rt; are_kept(rt.alloc(), "a\0b/\u{e9}").expect(&rt, "memory"));
+    assert!(rt; are_copied(rt.alloc()).expect(&rt, "memory"));
+    let text = Text::keep(rt.alloc(), "a").expect(&rt, "memory");
+    assert!(rt; text != Text::keep(rt.alloc(), "b").expect(&rt, "memory"));
+}
+
+#[test]
+fn gives_back_what_was_put_in(rt: HostRuntime) {
+    let text = String::from_str(rt.alloc(), "ann").expect(&rt, "memory");
+    assert!(rt; Text::new(text).into_string().as_str() == "ann");
+    let bytes = Vec::from_slice(rt.alloc(), b"hello").expect(&rt, "memory");
+    assert!(rt; Bytes::new(bytes).into_vec().as_slice() == b"hello".as_slice());
+    let texts = two_texts(rt.alloc(), "a", "b").expect(&rt, "memory");
+    assert!(rt; texts.into_vec().len() == 2);
 }
 
 fn assert_before<K: Named>(rt: &(impl Abort + AllocGlobal), first: &[u8], second: &[u8]) {

@@ -8,8 +8,8 @@ use std::alloc::Global;
 pub const USERS: &[u8] =
     b"# people\n1:ann::\n2:bob::\n3:cat::\n4:staff:ann:ann,bob,zed\n5:none::\n";
 
-/// Number, path, owner, group, mode and bytes of a record; None for a directory.
-type Row = (
+/// A record: its number, path, owner, group and mode, and the bytes of a file.
+struct Row(
     u64,
     &'static str,
     &'static [u8],
@@ -19,37 +19,43 @@ type Row = (
 );
 
 const START: [Row; 4] = [
-    (0, "/", b"cat", b"staff", DMDIR | 0o775, None),
-    (1, "/d", b"ann", b"staff", DMDIR | 0o755, None),
-    (4, "/f", b"ann", b"staff", 0o664, Some(b"hello")),
-    (5, "/n", b"none", b"none", 0o600, Some(b"")),
+    Row(0, "/", b"cat", b"staff", DMDIR | 0o775, None),
+    Row(1, "/d", b"ann", b"staff", DMDIR | 0o755, None),
+    Row(4, "/f", b"ann", b"staff", 0o664, Some(b"hello")),
+    Row(5, "/n", b"none", b"none", 0o600, Some(b"")),
 ];
 
-fn record(alloc: Global, row: &Row) -> Option<(Path, Record)> {
-    let (number, path, owner, group, mode, bytes) = *row;
-    let content = match bytes {
-        None => Content::directory(),
-        Some(bytes) => Content::file(Vec::from_slice(alloc, bytes).ok()?),
-    };
-    let record = Record {
-        number,
+fn content(alloc: Global, bytes: Option<&[u8]>) -> Option<Content> {
+    match bytes {
+        None => Some(Content::directory()),
+        Some(bytes) => Some(Content::file(Vec::from_slice(alloc, bytes).ok()?)),
+    }
+}
+
+fn record(alloc: Global, row: &Row) -> Option<Record> {
+    Some(Record {
+        number: row.0,
         vers: 0,
-        owner: UserName::read(alloc, owner).ok()?,
-        group: UserName::read(alloc, group).ok()?,
-        mode,
+        owner: UserName::read(alloc, row.2).ok()?,
+        group: UserName::read(alloc, row.3).ok()?,
+        mode: row.4,
         atime: 0,
         mtime: 0,
-        muid: UserName::read(alloc, owner).ok()?,
-        content,
-    };
-    Some((Path::read(alloc, path).ok()?, record))
+        muid: UserName::read(alloc, row.2).ok()?,
+        content: content(alloc, row.5)?,
+    })
+}
+
+fn push_record(alloc: Global, records: &mut Vec<(Path, Record)>, row: &Row) -> Option<()> {
+    let path = Path::read(alloc, row.1).ok()?;
+    records.push((path, record(alloc, row)?)).ok()
 }
 
 /// The tree of these records.
 pub fn start_tree(alloc: Global) -> Option<PlainTree> {
     let mut records = Vec::new(alloc);
     for row in &START {
-        records.push(record(alloc, row)?).ok()?;
+        push_record(alloc, &mut records, row)?;
     }
     PlainTree::try_from_records(alloc, records).ok()
 }

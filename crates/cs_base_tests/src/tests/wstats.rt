@@ -4,8 +4,8 @@ use super::world::{USERS, start_tree};
 use cs_names::{RuleId, UserName};
 use cs_permit::changes::changes_fixed;
 use cs_permit::{
-    Call, WstatCall, first_failing, new_group, new_length, new_mode, new_mtime, new_name, qid_at,
-    stat_ref, stat_size,
+    Call, SentStat, WstatCall, first_failing, new_group, new_length, new_mode, new_mtime, new_name,
+    qid_at, stat_ref, stat_size,
 };
 use cs_tree::PlainTree;
 use cs_tree_model::{DMDIR, DMEXCL, TreeRead};
@@ -75,7 +75,7 @@ fn wstat(alloc: Global, user: &[u8], number: u64, stat: Stat) -> Option<WstatCal
     Some(WstatCall {
         number,
         user: UserName::read(alloc, user).ok()?,
-        stat,
+        stat: SentStat::new(stat),
     })
 }
 

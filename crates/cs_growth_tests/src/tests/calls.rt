@@ -3,10 +3,10 @@
 use super::shown::push_bytes;
 use super::start::user;
 use cs_fids::Place;
-use cs_names::{Name, UserName};
+use cs_names::{Bytes, Name, Text, Texts, UserName};
 use cs_permit::{
-    AttachCall, Call, CloseCall, CreateCall, OpenCall, ReadCall, RemoveCall, StatCall, WalkCall,
-    WriteCall, WstatCall,
+    AttachCall, Call, CloseCall, CreateCall, OpenCall, ReadCall, RemoveCall, SentStat, StatCall,
+    WalkCall, WriteCall, WstatCall,
 };
 use cs_run::{Answer, Data};
 use cs_wire::{Qid, Stat};
@@ -78,7 +78,7 @@ fn walk(alloc: Global, user: UserName) -> Option<Call> {
     Some(Call::Walk(WalkCall {
         number: 0,
         user,
-        names,
+        names: Texts::new(names),
     }))
 }
 
@@ -97,7 +97,7 @@ fn write(alloc: Global, user: UserName) -> Option<Call> {
         number: 4,
         user,
         offset: 3,
-        bytes: Vec::from_slice(alloc, b"HI").ok()?,
+        bytes: Bytes::keep(alloc, b"HI").ok()?,
     }))
 }
 
@@ -139,12 +139,12 @@ fn wstat(alloc: Global, user: UserName) -> Option<Call> {
     Some(Call::Wstat(WstatCall {
         number: 4,
         user,
-        stat,
+        stat: SentStat::new(stat),
     }))
 }
 
 fn attach(alloc: Global) -> Option<Call> {
-    let user = String::from_str(alloc, "ann").ok()?;
+    let user = Text::keep(alloc, "ann").ok()?;
     Some(Call::Attach(AttachCall { user }))
 }
 

@@ -98,7 +98,7 @@ impl Kept {
         match self.run.new_pass(alloc) {
             Ok(pass) => Some(End::Done(Told::Pass(pass.number()))),
             Err(PassFault::Memory) => Some(End::Short),
-            Err(PassFault::Room) => None,
+            Err(PassFault::Room | PassFault::Foreign) => None,
         }
     }
 

@@ -2,7 +2,7 @@
 ghost use Rattle.std.specs.Prelude.{◌≡◌};
 
 use super::rows::{Row, expect_swept};
-use super::scene::{start_scene, start_users};
+use super::scene::{of_world, start_users};
 use cs_hoard::{End, Subject};
 use cs_names::RunName;
 use cs_plan::{Built, MakeFault, Scene};
@@ -52,12 +52,6 @@ struct Kept {
     name: RunName,
 }
 
-fn give(alloc: Global) -> Option<(Arc<Scene>, Arc<Users>)> {
-    let scene = Arc::new(alloc, start_scene(alloc)?).ok()?;
-    let users = Arc::new(alloc, start_users(alloc)?).ok()?;
-    Some((scene, users))
-}
-
 fn publish_end(told: Result<(), PublishFault>) -> Option<End<u32>> {
     match told {
         Ok(()) => Some(End::Done(0)),
@@ -95,7 +89,7 @@ impl Kept {
     fn renew(&mut self, alloc: Global) -> Option<End<u32>> {
         let (scene, users) = match self.given.take() {
             Some(given) => given,
-            None => give(alloc)?,
+            None => of_world(alloc)?,
         };
         match States::new(alloc, scene, users) {
             Ok(states) => {
@@ -127,14 +121,14 @@ impl Subject for Kept {
     type Answer = u32;
 
     fn start(alloc: Global, row: &Row<Call>) -> Option<Kept> {
-        let (scene, users) = give(alloc)?;
+        let (scene, users) = of_world(alloc)?;
         let mut states = States::new(alloc, scene, users).ok()?;
         if let Call::Find | Call::FindKey = row.1 {
             publish(alloc, &mut states)?;
         }
         Some(Kept {
             states,
-            given: give(alloc),
+            given: of_world(alloc),
             users: start_users(alloc),
             name: RunName::read(alloc, b"x").ok()?,
         })

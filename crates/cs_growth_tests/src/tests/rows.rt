@@ -8,7 +8,7 @@ use std::process::Abort;
 pub struct Row<C>(pub &'static str, pub C);
 
 /// As few bytes as malloc gives.
-const FEW: usize = 16;
+pub const FEW: usize = 16;
 
 /// Makes the call of each row with its growths refused in turn, of which there is one at least.
 pub fn expect_swept<C, S: Subject<Row = Row<C>>>(rt: &(impl Abort + AllocGlobal), rows: &[Row<C>]) {

@@ -1,16 +1,15 @@
 //! The calls of a connection, over a port that takes no memory.
 
+use super::messages::{attach, create, open, read, text, walk, write, wstat};
 use super::rows::{Row, expect_no_growth, expect_swept};
-use cs_fids::NOFID;
 use cs_hoard::{End, Subject};
-use cs_names::RuleId;
+use cs_names::{RuleId, Text, Texts};
 use cs_permit::{Call, TreeName};
 use cs_run::Answer;
 use cs_session::{
-    AttachMessage, CallMessage, CreateMessage, FindFault, Message, OpenMessage, PassFault, Port,
-    ReadMessage, Reply, Session, WalkMessage, WriteMessage, WstatMessage,
+    AttachMessage, CallMessage, FindFault, Message, PassFault, Port, Reply, Session, WalkMessage,
 };
-use cs_wire::{Qid, RBody, RMessage, Stat};
+use cs_wire::{Qid, RBody, RMessage};
 use std::alloc::Global;
 
 /// A step or a message, on a connection whose fid 0 was walked to; the fid 1 is open.
@@ -46,7 +45,7 @@ const QID: Qid = Qid {
 struct Fake;
 
 impl Port for Fake {
-    ghost gives = { λ p m question told p'. Unit {0} };
+    ghost gives = { λ p question told p'. Unit {0} };
 
     fn find(&mut self, _alloc: Global, _name: &TreeName) -> Result<u32, FindFault> {
         Ok(0)
@@ -57,7 +56,7 @@ impl Port for Fake {
         _alloc: Global,
         _now: u32,
         _run: u32,
-        _user: String,
+        _user: Text,
     ) -> Result<(u32, Answer), PassFault> {
         Ok((1, Answer::Attached(QID)))
     }
@@ -76,79 +75,6 @@ impl Port for Fake {
             _ => Answer::Denied(RuleId::L1),
         }
     }
-}
-
-fn text(alloc: Global, text: &str) -> Option<String> {
-    String::from_str(alloc, text).ok()
-}
-
-fn attach(alloc: Global, fid: u32) -> Option<AttachMessage> {
-    Some(AttachMessage {
-        fid,
-        afid: NOFID,
-        uname: text(alloc, "ann")?,
-        aname: text(alloc, "0/a")?,
-    })
-}
-
-const KEPT: Qid = Qid {
-    kind: u8::MAX,
-    vers: u32::MAX,
-    path: u64::MAX,
-};
-
-fn wstat(alloc: Global) -> Option<CallMessage> {
-    let stat = Stat {
-        kind: u16::MAX,
-        dev: u32::MAX,
-        qid: KEPT,
-        mode: u32::MAX,
-        atime: u32::MAX,
-        mtime: u32::MAX,
-        length: u64::MAX,
-        name: text(alloc, "b")?,
-        uid: String::new(alloc),
-        gid: String::new(alloc),
-        muid: String::new(alloc),
-    };
-    Some(CallMessage::Wstat(WstatMessage { fid: 0, stat }))
-}
-
-fn walk(alloc: Global, newfid: u32) -> CallMessage {
-    CallMessage::Walk(WalkMessage {
-        fid: 0,
-        newfid,
-        names: Vec::new(alloc),
-    })
-}
-
-fn open(fid: u32) -> CallMessage {
-    CallMessage::Open(OpenMessage { fid, mode: 2 })
-}
-
-fn create(alloc: Global) -> Option<CallMessage> {
-    Some(CallMessage::Create(CreateMessage {
-        fid: 0,
-        name: text(alloc, "c")?,
-        perm: 0o644,
-        mode: 1,
-    }))
-}
-
-fn read() -> CallMessage {
-    CallMessage::Read(ReadMessage {
-        fid: 1,
-        offset: 0,
-        count: 9,
-    })
-}
-
-fn write(alloc: Global) -> Option<CallMessage> {
-    Some(CallMessage::Write(WriteMessage {
-        fid: 1,
-        offset: 0,
-        bytes: Vec::from_slice(alloc, b"abc").ok()?,
-    }))
 }
 
 /// What a step or a message is given.
@@ -312,7 +238,7 @@ impl Subject for Kept {
             let walk = CallMessage::Walk(WalkMessage {
                 fid,
                 newfid: fid,
-                names: Vec::new(alloc),
+                names: Texts::new(Vec::new(alloc)),
             });
             let walk = self.session.call_step(alloc, &mut self.port, 7, walk);
             write!(told, " {stat:?} {walk:?}").ok()?;

@@ -1,10 +1,10 @@
 //! The steps of a world, and lists of them.
 
 use super::rows::{Row, expect_no_growth, expect_swept};
-use super::scene::{start_scene, start_users};
+use super::scene::{of_world, start_users};
 use cs_fids::NOFID;
 use cs_hoard::{End, Subject};
-use cs_names::RunName;
+use cs_names::{RunName, Text, Texts};
 use cs_plan::Scene;
 use cs_session::{AttachMessage, CallMessage, TableStep, WalkMessage};
 use cs_users::Users;
@@ -32,8 +32,8 @@ enum Word {
     Project,
 }
 
-fn text(alloc: Global, text: &str) -> Option<String> {
-    String::from_str(alloc, text).ok()
+fn text(alloc: Global, text: &str) -> Option<Text> {
+    Text::keep(alloc, text).ok()
 }
 
 fn begin(alloc: Global, conn: u32) -> Option<Step> {
@@ -60,11 +60,11 @@ fn find(alloc: Global) -> Option<Step> {
 
 fn walk(alloc: Global) -> Option<Step> {
     let mut names = Vec::new(alloc);
-    names.push(text(alloc, "d")?).ok()?;
+    names.push(String::from_str(alloc, "d").ok()?).ok()?;
     let message = CallMessage::Walk(WalkMessage {
         fid: 0,
         newfid: 1,
-        names,
+        names: Texts::new(names),
     });
     Some(Step::Call {
         conn: 0,
@@ -99,12 +99,6 @@ enum Given {
     World(Arc<Scene>, Arc<Users>),
     Step(Step),
     Steps(Vec<Step>),
-}
-
-fn of_world(alloc: Global) -> Option<(Arc<Scene>, Arc<Users>)> {
-    let scene = Arc::new(alloc, start_scene(alloc)?).ok()?;
-    let users = Arc::new(alloc, start_users(alloc)?).ok()?;
-    Some((scene, users))
 }
 
 fn give(alloc: Global, word: Word) -> Option<Given> {
@@ -152,7 +146,7 @@ struct Kept {
 }
 
 fn end_of(reply: Reply) -> Option<End<Told>> {
-    if reply.tells_memory() {
+    if reply.tells_want() {
         return Some(End::Short);
     }
     Some(End::Done(Told::Reply(reply)))
@@ -161,7 +155,7 @@ fn end_of(reply: Reply) -> Option<End<Told>> {
 /// None of the steps takes memory.
 fn end_of_all(replies: Vec<Reply>) -> Option<End<Told>> {
     for reply in &replies {
-        if reply.tells_memory() {
+        if reply.tells_want() {
             return None;
         }
     }

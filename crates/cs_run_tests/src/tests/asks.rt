@@ -1,10 +1,10 @@
 //! Calls by their words.
 
 use cs_fids::Place;
-use cs_names::{Name, UserName};
+use cs_names::{Bytes, Name, Text, Texts, UserName};
 use cs_permit::{
-    AttachCall, Call, CloseCall, CreateCall, OpenCall, ReadCall, RemoveCall, StatCall, WalkCall,
-    WriteCall, WstatCall,
+    AttachCall, Call, CloseCall, CreateCall, OpenCall, ReadCall, RemoveCall, SentStat, StatCall,
+    WalkCall, WriteCall, WstatCall,
 };
 use cs_wire::{Qid, Stat};
 use std::alloc::Global;
@@ -40,20 +40,20 @@ fn perm_of(word: &str) -> Option<u32> {
 }
 
 fn attach(alloc: Global, user: UserName) -> Option<Call> {
-    let user = String::from_str(alloc, user.as_str()).ok()?;
+    let user = Text::keep(alloc, user.as_str()).ok()?;
     Some(Call::Attach(AttachCall { user }))
 }
 
 /// Names, with slashes between them.
-fn names_of(alloc: Global, text: &str) -> Option<Vec<String>> {
+fn names_of(alloc: Global, text: &str) -> Option<Texts> {
     let mut names = Vec::new(alloc);
     if text.is_empty() {
-        return Some(names);
+        return Some(Texts::new(names));
     }
     for name in text.split('/') {
         names.push(String::from_str(alloc, name).ok()?).ok()?;
     }
-    Some(names)
+    Some(Texts::new(names))
 }
 
 /// From a file, by these names.
@@ -110,7 +110,7 @@ fn write(alloc: Global, user: UserName, words: &str) -> Option<Call> {
     let (file, words) = cut(words);
     let (offset, text) = cut(words);
     let (number, offset) = (number(file)?, number(offset)?);
-    let bytes = Vec::from_slice(alloc, text.as_bytes()).ok()?;
+    let bytes = Bytes::keep(alloc, text.as_bytes()).ok()?;
     Some(Call::Write(WriteCall {
         number,
         user,
@@ -211,7 +211,7 @@ fn stat_of(alloc: Global, changes: &str) -> Option<Stat> {
 fn wstat(alloc: Global, user: UserName, words: &str) -> Option<Call> {
     let (file, changes) = cut(words);
     let number = number(file)?;
-    let stat = stat_of(alloc, changes)?;
+    let stat = SentStat::new(stat_of(alloc, changes)?);
     Some(Call::Wstat(WstatCall { number, user, stat }))
 }
 

@@ -3,7 +3,7 @@ ghost use Rattle.std.specs.Prelude.{◌≡◌};
 
 use super::asks::cut;
 use cs_journal::{Pass, Run, can_grow};
-use cs_names::{Path, UserName};
+use cs_names::{Bytes, Path, Text, Texts, UserName};
 use cs_permit::{AttachCall, Call, CloseCall, OpenCall, RemoveCall, StatCall, WalkCall, WriteCall};
 use cs_run::Answer;
 use cs_tree::PlainTree;
@@ -116,7 +116,7 @@ impl Side {
 }
 
 pub fn attach(alloc: Global, user: &str) -> Option<Call> {
-    let user = String::from_str(alloc, user).ok()?;
+    let user = Text::keep(alloc, user).ok()?;
     Some(Call::Attach(AttachCall { user }))
 }
 
@@ -127,7 +127,7 @@ fn walk(alloc: Global) -> Option<Call> {
     Some(Call::Walk(WalkCall {
         number: 0,
         user,
-        names,
+        names: Texts::new(names),
     }))
 }
 
@@ -145,7 +145,7 @@ fn write(alloc: Global, words: &str) -> Option<Call> {
     let (offset, text) = words.split_once(' ')?;
     let offset = offset.parse::<u64>().ok()?;
     let user = user(alloc)?;
-    let bytes = Vec::from_slice(alloc, text.as_bytes()).ok()?;
+    let bytes = Bytes::keep(alloc, text.as_bytes()).ok()?;
     Some(Call::Write(WriteCall {
         number: FILE,
         user,

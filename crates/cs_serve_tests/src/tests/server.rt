@@ -1,6 +1,6 @@
 //! Connections over runs that they share, of a state that is published.
 
-use cs_names::RunName;
+use cs_names::{RunName, Text};
 use cs_permit::{Call, StatCall, TreeName};
 use cs_plan::Scene;
 use cs_run::Answer;
@@ -384,7 +384,7 @@ fn a_port_tells_why_a_run_is_not_found(rt: HostRuntime) {
 
 /// How an attach to the run at a place comes out: the place of the pass.
 fn attach(alloc: Global, port: &mut impl Port, run: u32, user: &str) -> Result<u32, PassFault> {
-    let Ok(user) = user.to_string(alloc) else {
+    let Ok(user) = Text::keep(alloc, user) else {
         return Err(PassFault::Memory);
     };
     match port.attach(alloc, 720, run, user) {

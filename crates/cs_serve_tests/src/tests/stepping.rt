@@ -1,4 +1,5 @@
 //! Steps in words.
+use cs_names::{Bytes, Text, Texts};
 use cs_session::{
     AttachMessage, CallMessage, OpenMessage, ReadMessage, TableStep, WalkMessage, WriteMessage,
 };
@@ -12,7 +13,7 @@ fn number(word: &str) -> Option<u32> {
 
 fn begin(alloc: Global, conn: &str) -> Option<Step> {
     let conn = number(conn)?;
-    let version = String::from_str(alloc, "9P2000").ok()?;
+    let version = Text::keep(alloc, "9P2000").ok()?;
     let change = TableStep::Version {
         msize: 8192,
         version,
@@ -29,8 +30,8 @@ fn find(alloc: Global, words: &str) -> Option<Step> {
     let message = AttachMessage {
         fid,
         afid: u32::MAX,
-        uname: String::from_str(alloc, user).ok()?,
-        aname: String::from_str(alloc, tree).ok()?,
+        uname: Text::keep(alloc, user).ok()?,
+        aname: Text::keep(alloc, tree).ok()?,
     };
     Some(Step::Find { conn, message })
 }
@@ -61,7 +62,7 @@ fn walk(alloc: Global) -> Option<CallMessage> {
     Some(CallMessage::Walk(WalkMessage {
         fid: 0,
         newfid: 1,
-        names,
+        names: Texts::new(names),
     }))
 }
 
@@ -70,7 +71,7 @@ fn write(alloc: Global) -> Option<CallMessage> {
     Some(CallMessage::Write(WriteMessage {
         fid: 1,
         offset: 0,
-        bytes: Vec::from_slice(alloc, b"HI").ok()?,
+        bytes: Bytes::keep(alloc, b"HI").ok()?,
     }))
 }
 

@@ -159,8 +159,8 @@ fn projection_on_a_run_has_what_reached_it(rt: HostRuntime) {
     let heard = projected(rt.alloc(), &world, TWO_USERS, b"x").expect(&rt, "calls");
     assert_eq!(rt;
         heard.as_str(),
-        r#"Heard { pass: 0, now: 7, call: Attach(AttachCall { user: "ann" }) }
-Heard { pass: 1, now: 8, call: Attach(AttachCall { user: "bob" }) }
+        r#"Heard { pass: 0, now: 7, call: Attach(AttachCall { user: Text { text: "ann" } }) }
+Heard { pass: 1, now: 8, call: Attach(AttachCall { user: Text { text: "bob" } }) }
 "#
     );
     let other = projected(rt.alloc(), &world, TWO_USERS, b"y").expect(&rt, "calls");

@@ -1,5 +1,7 @@
 //! Messages by their words.
 use cs_fids::NOFID;
+use cs_names::{Bytes, Text, Texts};
+use cs_permit::SentStat;
 use cs_session::{
     AttachMessage, CallMessage, CreateMessage, Message, OpenMessage, ReadMessage, WalkMessage,
     WriteMessage, WstatMessage,
@@ -12,13 +14,13 @@ pub fn attaching(alloc: Global, fid: u32) -> Option<AttachMessage> {
     Some(AttachMessage {
         fid,
         afid: NOFID,
-        uname: String::from_str(alloc, "ann").ok()?,
-        aname: String::from_str(alloc, "0/a").ok()?,
+        uname: Text::keep(alloc, "ann").ok()?,
+        aname: Text::keep(alloc, "0/a").ok()?,
     })
 }
 
 fn version(alloc: Global, msize: u32) -> Option<Message> {
-    let version = String::from_str(alloc, "9P2000.L").ok()?;
+    let version = Text::keep(alloc, "9P2000.L").ok()?;
     Some(Message::Version { msize, version })
 }
 
@@ -29,7 +31,7 @@ fn walking(alloc: Global, fid: u32) -> Option<CallMessage> {
     Some(CallMessage::Walk(WalkMessage {
         fid,
         newfid: 2,
-        names,
+        names: Texts::new(names),
     }))
 }
 
@@ -38,13 +40,13 @@ fn cloning(alloc: Global, fid: u32) -> CallMessage {
     CallMessage::Walk(WalkMessage {
         fid,
         newfid: 2,
-        names: Vec::new(alloc),
+        names: Texts::new(Vec::new(alloc)),
     })
 }
 
 /// A create of a file that is opened to be written.
 fn creating(alloc: Global, fid: u32) -> Option<CallMessage> {
-    let name = String::from_str(alloc, "c").ok()?;
+    let name = Text::keep(alloc, "c").ok()?;
     Some(CallMessage::Create(CreateMessage {
         fid,
         name,
@@ -62,7 +64,7 @@ fn reading(fid: u32) -> CallMessage {
 }
 
 fn writing(alloc: Global, fid: u32) -> Option<CallMessage> {
-    let bytes = Vec::from_slice(alloc, b"abc").ok()?;
+    let bytes = Bytes::keep(alloc, b"abc").ok()?;
     Some(CallMessage::Write(WriteMessage {
         fid,
         offset: 0,
@@ -91,7 +93,10 @@ fn renaming(alloc: Global, fid: u32) -> Option<CallMessage> {
         gid: String::new(alloc),
         muid: String::new(alloc),
     };
-    Some(CallMessage::Wstat(WstatMessage { fid, stat }))
+    Some(CallMessage::Wstat(WstatMessage {
+        fid,
+        stat: SentStat::new(stat),
+    }))
 }
 
 fn call_of(alloc: Global, word: &str, fid: u32) -> Option<CallMessage> {

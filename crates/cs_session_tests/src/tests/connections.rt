@@ -1,11 +1,10 @@
 //! Examples of a connection over a port that keeps no runs, and answers each call by its kind.
 use super::asking::{attaching, message_of};
-use cs_names::RuleId;
+use cs_names::{RuleId, Text};
 use cs_permit::{Call, TreeName};
 use cs_run::Answer;
 use cs_session::{
-    Bytes, CallMessage, FindFault, Message, PassFault, Port, Reply, Session, TableStep,
-    message_is_steps,
+    CallMessage, FindFault, Message, PassFault, Port, Reply, Session, TableStep, message_is_steps,
 };
 use cs_wire::{Qid, encode};
 use std::alloc::Global;
@@ -62,7 +61,7 @@ impl Fake {
 }
 
 impl Port for Fake {
-    ghost gives = { λ p m question told p'. Unit {0} };
+    ghost gives = { λ p question told p'. Unit {0} };
 
     fn find(&mut self, _alloc: Global, name: &TreeName) -> Result<u32, FindFault> {
         if name.is_of_state_zero() {
@@ -77,7 +76,7 @@ impl Port for Fake {
         _alloc: Global,
         now: u32,
         _run: u32,
-        _user: String,
+        _user: Text,
     ) -> Result<(u32, Answer), PassFault> {
         if self.moments.push(now).is_err() {
             Err(PassFault::Memory)
@@ -386,10 +385,4 @@ fn answers_bytes_with_the_tag_of_the_message(rt: HostRuntime) {
     for pair in &PAIRS {
         expect_pair(&rt, &mut session, &mut port, pair);
     }
-}
-
-#[test]
-fn gives_back_the_bytes_of_a_read(rt: HostRuntime) {
-    let bytes = Vec::from_slice(rt.alloc(), b"hello").expect(&rt, "memory");
-    assert!(rt; Bytes::new(bytes).into_vec().as_slice() == b"hello".as_slice());
 }

@@ -34,7 +34,7 @@ const UNFINISHED: &[u8] =
 
 /// A clock that stands.
 #[derive(Drop)]
-struct Standing;
+pub struct Standing;
 
 impl Clock for Standing {
     fn now(&mut self) -> u32 {

@@ -1,17 +1,21 @@
 //! Workers over a file that is written, waited for and moved, whose plan has twelve states.
-ghost use Rattle.std.specs.Prelude.{◌≡◌};
+ghost use Rattle.std.specs.Prelude.{◌≡◌, IfSome};
+ghost use Rattle.std.specs.Arc.{arc_value};
+ghost use Rattle.cs_shared.specs.Serving.{IsOnly, ServesAll};
 
 use cs_plan::{Built, Published, Scene};
 use cs_publish::{Gate, NoGate, PublishAllFault, publish_all, publish_into};
 use cs_registry::{Held, PublishFault};
-use cs_shared::{AnyScene, SharedRegistry};
+use cs_shared::{Served, SharedRegistry};
 use cs_trace::read_trace;
 use cs_users::Users;
 use std::alloc::{AllocError, Global};
-use std::sync::Arc;
+use std::marker::Brand;
+use std::process::Abort;
 use std::sync::atomic::{AtomicBool, AtomicU32, Ordering};
-use std::test::Fail;
+use std::sync::{Arc, Wait};
 use std::thread;
+use std::thread::Threads;
 
 const HEADER: &str = "{\"trace\":1,\"owner\":\"cat\",\"group\":\"staff\",\"mode\":\"775\"}\n";
 
@@ -123,76 +127,127 @@ fn moved(alloc: Global) -> Option<Arc<Scene>> {
     scene_of(alloc, text_of(alloc).ok()?.as_str())
 }
 
-fn registry_of(alloc: Global) -> Option<SharedRegistry<AnyScene>> {
-    SharedRegistry::<AnyScene>::new(alloc, moved(alloc)?, users_of(alloc)?).ok()
-}
-
 fn state_of(alloc: Global, scene: Option<Arc<Scene>>) -> Option<Published> {
     Scene::make(alloc, &scene?, 0).ok()
 }
 
+/// How many states are missing, and how many runs there are, once so many workers have published; the
+/// fault where they are refused.
+fn publish<R: Threads + Wait + Sync + Abort, G: Gate>(
+    rt: &R,
+    alloc: Global,
+    workers: u32,
+    gate: &G,
+) -> Result<(u32, u32), PublishAllFault> {
+    let scene = moved(alloc).expect(rt, "the scene");
+    let users = users_of(alloc).expect(rt, "the users");
+    let states = publish_all::<Nothing, _, _>(rt, alloc, scene, users, workers, gate)?;
+    Ok((states.missing(), states.run_count()))
+}
+
 #[test]
-fn two_workers_are_at_it_at_once(rt: HostRuntime) -> Result<(), Fail> {
-    let alloc = rt.alloc();
+fn two_workers_are_at_it_at_once(rt: HostRuntime) {
     let gate = UntilOne {
         asked: AtomicBool::new(false),
         gave_up: AtomicBool::new(false),
     };
-    let scene = moved(alloc).ok_or("the scene")?;
-    let users = users_of(alloc).ok_or("the users")?;
-    let Ok(states) = publish_all::<Nothing, _, _>(&rt, alloc, scene, users, 2, &gate) else {
-        return Err(Fail::from("not published"));
-    };
+    assert!(rt; publish(&rt, rt.alloc(), 2, &gate) == Ok((0, 0)));
     assert!(rt; !gate.gave_up.load(Ordering::SeqCst));
-    assert_eq!(rt; (states.missing(), states.run_count()), (0, 0));
-    Ok(())
 }
 
 #[test]
-fn there_are_1_to_64_workers(rt: HostRuntime) -> Result<(), Fail> {
+fn there_are_1_to_64_workers(rt: HostRuntime) {
     let alloc = rt.alloc();
-    for (workers, refused) in [(0, true), (1, false), (64, false), (65, true)] {
-        let scene = moved(alloc).ok_or("the scene")?;
-        let users = users_of(alloc).ok_or("the users")?;
-        let states = publish_all::<Nothing, _, _>(&rt, alloc, scene, users, workers, &NoGate);
-        assert_eq!(rt; matches!(states, Err(PublishAllFault::Workers)), refused);
-        assert_eq!(rt; states.is_err(), refused);
-    }
-    Ok(())
+    let refused = Err(PublishAllFault::Workers);
+    assert!(rt; publish(&rt, alloc, 0, &NoGate) == refused);
+    assert!(rt; publish(&rt, alloc, 1, &NoGate).is_ok());
+    assert!(rt; publish(&rt, alloc, 64, &NoGate).is_ok());
+    assert!(rt; publish(&rt, alloc, 65, &NoGate) == refused);
+}
+
+/// A registry of the scene.
+fn registry_of<S: Served>(alloc: Global, scene: Arc<Scene>) -> Option<SharedRegistry<S>>
+    requires here { S.is_scene (arc_value scene) }
+    requires serves { ServesAll S.serves (arc_value scene) }
+    ensures { IfSome result (λ registry. registry ≡ arc_value scene) }
+{
+    SharedRegistry::<S>::new(alloc, scene, users_of(alloc)?).ok()
+}
+
+/// So many workers publish into the registry, and this comes of it.
+fn publishes<S: Served, R: Threads + Wait + Sync + Abort, G: Gate>(
+    rt: &R,
+    alloc: Global,
+    registry: &SharedRegistry<S>,
+    workers: u32,
+    gate: &G,
+    wanted: Result<u32, PublishAllFault>,
+)
+    requires { IsOnly S.is_scene registry.now }
+{
+    assert!(rt; publish_into(rt, alloc, registry, workers, gate) == wanted);
+}
+
+/// A state of that scene is not published, for this fault.
+fn is_refused<S: Served, R: Wait + Abort>(
+    rt: &R,
+    alloc: Global,
+    registry: &SharedRegistry<S>,
+    scene: Option<Arc<Scene>>,
+    fault: PublishFault,
+) {
+    let state = state_of(alloc, scene).expect(rt, "state 0");
+    assert!(rt; registry.publish(rt, alloc, state) == Err(fault));
+}
+
+/// Publishes in a registry of the scene by too many workers, and then twice, with a state of its own and
+/// one of another scene between.
+fn counts<S: Served, R: Threads + Wait + Sync + Abort>(rt: &R, alloc: Global, scene: Arc<Scene>)
+    requires here { S.is_scene (arc_value scene) }
+    requires only { IsOnly S.is_scene (arc_value scene) }
+    requires serves { ServesAll S.serves (arc_value scene) }
+{
+    let registry = registry_of::<S>(alloc, scene).expect(rt, "the registry");
+    let refused = Err(PublishAllFault::Workers);
+    publishes(rt, alloc, &registry, 65, &NoGate, refused);
+    assert!(rt; registry.missing(rt) == 12);
+    publishes(rt, alloc, &registry, 2, &NoGate, Ok(12));
+    assert!(rt; registry.missing(rt) == 0);
+    is_refused(rt, alloc, &registry, moved(alloc), PublishFault::Twice);
+    let other = scene_of(alloc, HEADER);
+    is_refused(rt, alloc, &registry, other, PublishFault::Stranger);
+    publishes(rt, alloc, &registry, 1, &NoGate, Ok(0));
 }
 
 #[test]
-fn what_stood_already_is_not_counted(rt: HostRuntime) -> Result<(), Fail> {
-    let alloc = rt.alloc();
-    let registry = registry_of(alloc).ok_or("the registry")?;
-    let own = state_of(alloc, moved(alloc)).ok_or("state 0")?;
-    let stranger = state_of(alloc, scene_of(alloc, HEADER)).ok_or("a stranger")?;
-    let refused = publish_into(&rt, alloc, &registry, 65, &NoGate);
-    assert_eq!(rt; refused, Err(PublishAllFault::Workers));
-    assert_eq!(rt; registry.missing(&rt), 12);
-    assert_eq!(rt; publish_into(&rt, alloc, &registry, 2, &NoGate), Ok(12));
-    assert_eq!(rt; registry.missing(&rt), 0);
-    assert_eq!(rt; registry.publish(&rt, alloc, own), Err(PublishFault::Twice));
-    assert_eq!(rt;
-        registry.publish(&rt, alloc, stranger),
-        Err(PublishFault::Stranger)
-    );
-    assert_eq!(rt; publish_into(&rt, alloc, &registry, 1, &NoGate), Ok(0));
-    Ok(())
+fn what_stood_already_is_not_counted(rt: HostRuntime) {
+    let scene = moved(rt.alloc()).expect(&rt, "the scene");
+    counts::<Brand, HostRuntime>(&rt, rt.alloc(), scene);
+}
+
+/// Publishes in a registry of the scene by two workers, who ask the gate.
+fn asks<S: Served, R: Threads + Wait + Sync + Abort>(
+    rt: &R,
+    alloc: Global,
+    scene: Arc<Scene>,
+    gate: &Asked,
+)
+    requires here { S.is_scene (arc_value scene) }
+    requires only { IsOnly S.is_scene (arc_value scene) }
+    requires serves { ServesAll S.serves (arc_value scene) }
+{
+    let registry = registry_of::<S>(alloc, scene).expect(rt, "the registry");
+    publishes(rt, alloc, &registry, 2, gate, Ok(12));
 }
 
 #[test]
-fn a_gate_is_asked_once_for_each_state(rt: HostRuntime) -> Result<(), Fail> {
+fn a_gate_is_asked_once_for_each_state(rt: HostRuntime) {
     let alloc = rt.alloc();
     let gate = Asked::new();
-    let scene = moved(alloc).ok_or("the scene")?;
-    let users = users_of(alloc).ok_or("the users")?;
-    let states = publish_all::<Nothing, _, _>(&rt, alloc, scene, users, 2, &gate);
-    assert!(rt; states.is_ok());
+    assert!(rt; publish(&rt, alloc, 2, &gate).is_ok());
     assert!(rt; gate.of_all_once());
     let gate = Asked::new();
-    let registry = registry_of(alloc).ok_or("the registry")?;
-    assert_eq!(rt; publish_into(&rt, alloc, &registry, 2, &gate), Ok(12));
+    let scene = moved(alloc).expect(&rt, "the scene");
+    asks::<Brand, HostRuntime>(&rt, alloc, scene, &gate);
     assert!(rt; gate.of_all_once());
-    Ok(())
 }

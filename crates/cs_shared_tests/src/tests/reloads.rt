@@ -1,7 +1,7 @@
 //! Another list of users, loaded between attaches of threads.
 
 use super::side::{comes, find, published};
-use cs_names::RuleId;
+use cs_names::{RuleId, Text};
 use cs_run::Answer;
 use cs_shared::{AnyScene, SharedRegistry};
 use cs_users::Users;
@@ -22,7 +22,7 @@ fn is_known<R: Wait>(
     user: &str,
 ) -> Option<bool> {
     let run = find(rt, alloc, registry, name)?;
-    match run.attach(rt, alloc, 1, user.to_string(alloc).ok()?) {
+    match run.attach(rt, alloc, 1, Text::keep(alloc, user).ok()?) {
         Ok((_, Answer::Attached(_))) => Some(true),
         Ok((_, Answer::Denied(RuleId::A6))) => Some(false),
         _ => None,

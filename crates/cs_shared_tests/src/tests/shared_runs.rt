@@ -6,11 +6,11 @@ use cs_names::{RuleId, RunName};
 use cs_permit::{Call, StatCall};
 use cs_registry::FindFault;
 use cs_run::Answer;
-use cs_shared::{AnyScene, SharedRun};
-use std::alloc::Global;
+use cs_shared::{AnyScene, NamedRun, SharedRegistry, SharedRun};
+use std::alloc::{AllocError, Global};
+use std::process::Abort;
 use std::sync::Wait;
 use std::sync::atomic::{AtomicBool, Ordering};
-use std::test::Fail;
 use std::thread;
 
 /// Whether the user opens the file and reads this.
@@ -48,72 +48,103 @@ fn writes<R: Wait>(
     }
 }
 
-#[test]
-fn a_run_is_found_once_its_state_is_published(rt: HostRuntime) -> Result<(), Fail> {
-    let alloc = rt.alloc();
-    let (registry, state) = registry_of(alloc).ok_or("the registry")?;
-    assert_eq!(rt; registry.missing(&rt), 1);
-    let name = RunName::read(alloc, b"a")?;
-    let early = registry.find(&rt, alloc, 0, &name);
+/// No run is found before its state is published.
+fn expect_unpublished<R: Wait + Abort>(rt: &R, alloc: Global, registry: &SharedRegistry<AnyScene>) {
+    let name = RunName::read(alloc, b"a").expect(rt, "a name");
+    let early = registry.find(rt, alloc, 0, &name);
     assert!(rt; matches!(early, Err(FindFault::Unpublished)));
+}
+
+#[test]
+fn a_run_is_found_once_its_state_is_published(rt: HostRuntime) {
+    let alloc = rt.alloc();
+    let (registry, state) = registry_of(alloc).expect(&rt, "the registry");
+    assert!(rt; registry.missing(&rt) == 1);
+    expect_unpublished(&rt, alloc, &registry);
     assert!(rt; registry.publish(&rt, alloc, state).is_ok());
     assert!(rt; find(&rt, alloc, &registry, "a").is_some());
-    Ok(())
+}
+
+/// A run of that name of the registry.
+fn run_of<R: Wait + Abort>(
+    rt: &R,
+    alloc: Global,
+    registry: &SharedRegistry<AnyScene>,
+    name: &str,
+) -> SharedRun<AnyScene> {
+    find(rt, alloc, registry, name).expect(rt, "a run")
 }
 
 #[test]
-fn what_is_written_in_a_run_is_read_there_and_nowhere_else(rt: HostRuntime) -> Result<(), Fail> {
+fn what_is_written_in_a_run_is_read_there_and_nowhere_else(rt: HostRuntime) {
     let alloc = rt.alloc();
-    let registry = published(&rt, alloc).ok_or("the registry")?;
-    let a = find(&rt, alloc, &registry, "a").ok_or("0/a")?;
+    let registry = published(&rt, alloc).expect(&rt, "the registry");
+    let a = run_of(&rt, alloc, &registry, "a");
     assert!(rt; writes(&rt, alloc, &a, "ann", "HI").is_some());
-    let b = find(&rt, alloc, &registry, "b").ok_or("0/b")?;
-    assert_eq!(rt; reads(&rt, alloc, &b, "bob", "hello"), Some(true));
-    let again = find(&rt, alloc, &registry, "a").ok_or("0/a again")?;
-    assert_eq!(rt; reads(&rt, alloc, &again, "cat", "HIllo"), Some(true));
-    Ok(())
+    let b = run_of(&rt, alloc, &registry, "b");
+    assert!(rt; reads(&rt, alloc, &b, "bob", "hello") == Some(true));
+    let again = run_of(&rt, alloc, &registry, "a");
+    assert!(rt; reads(&rt, alloc, &again, "cat", "HIllo") == Some(true));
 }
 
 #[test]
-fn a_pass_calls_its_own_run_alone(rt: HostRuntime) -> Result<(), Fail> {
+fn a_pass_calls_its_own_run_alone(rt: HostRuntime) {
     let alloc = rt.alloc();
-    let registry = published(&rt, alloc).ok_or("the registry")?;
-    let a = find(&rt, alloc, &registry, "a").ok_or("0/a")?;
-    let b = find(&rt, alloc, &registry, "b").ok_or("0/b")?;
-    let mut ann = writes(&rt, alloc, &a, "ann", "HI").ok_or("ann")?;
+    let registry = published(&rt, alloc).expect(&rt, "the registry");
+    let a = run_of(&rt, alloc, &registry, "a");
+    let b = run_of(&rt, alloc, &registry, "b");
+    let mut ann = writes(&rt, alloc, &a, "ann", "HI").expect(&rt, "ann");
     let stat = Call::Stat(StatCall { number: F });
     let told = b.call(&rt, alloc, &mut ann, 3, stat);
     assert!(rt; matches!(told, Answer::Denied(RuleId::S5)));
-    assert_eq!(rt; ann.receipts().len(), 3);
+    assert!(rt; ann.receipts().len() == 3);
+}
+
+/// Adds each run's state and name.
+fn push_runs(text: &mut String, runs: &[NamedRun<AnyScene>]) -> Result<(), AllocError> {
+    for run in runs {
+        write!(text, "{} {}, ", run.run().number(), run.name())?;
+    }
     Ok(())
 }
 
 #[test]
-fn runs_are_told_by_their_names(rt: HostRuntime) -> Result<(), Fail> {
+fn runs_are_told_by_their_names(rt: HostRuntime) {
     let alloc = rt.alloc();
-    let registry = published(&rt, alloc).ok_or("the registry")?;
+    let registry = published(&rt, alloc).expect(&rt, "the registry");
     assert!(rt; find(&rt, alloc, &registry, "b").is_some());
     assert!(rt; find(&rt, alloc, &registry, "a").is_some());
-    let runs = registry.runs(&rt, alloc)?;
-    assert!(rt; runs.len() == 2);
-    assert_eq!(rt; (runs[0].run().number(), runs[0].name()), (0, "a"));
-    assert_eq!(rt; (runs[1].run().number(), runs[1].name()), (0, "b"));
+    let runs = registry.runs(&rt, alloc).expect(&rt, "memory");
+    let mut text = String::new(alloc);
+    push_runs(&mut text, &runs).expect(&rt, "memory");
+    assert!(rt; text.as_str() == "0 a, 0 b, ");
+}
+
+/// How many entries each run has.
+fn push_entries<R: Wait>(
+    rt: &R,
+    text: &mut String,
+    runs: &[NamedRun<AnyScene>],
+) -> Result<(), AllocError> {
+    for run in runs {
+        let entries = run.run().inspect(rt, |run| run.entries());
+        write!(text, "{entries}, ")?;
+    }
     Ok(())
 }
 
 #[test]
-fn each_run_is_told_by_its_own_handle(rt: HostRuntime) -> Result<(), Fail> {
+fn each_run_is_told_by_its_own_handle(rt: HostRuntime) {
     let alloc = rt.alloc();
-    let registry = published(&rt, alloc).ok_or("the registry")?;
-    let a = find(&rt, alloc, &registry, "a").ok_or("0/a")?;
-    let b = find(&rt, alloc, &registry, "b").ok_or("0/b")?;
+    let registry = published(&rt, alloc).expect(&rt, "the registry");
+    let a = run_of(&rt, alloc, &registry, "a");
+    let b = run_of(&rt, alloc, &registry, "b");
     assert!(rt; writes(&rt, alloc, &a, "ann", "HI").is_some());
     assert!(rt; attach(&rt, alloc, &b, "bob").is_some());
-    let runs = registry.runs(&rt, alloc)?;
-    assert!(rt; runs.len() == 2);
-    assert_eq!(rt; runs[0].run().inspect(&rt, |run| run.entries()), 3);
-    assert_eq!(rt; runs[1].run().inspect(&rt, |run| run.entries()), 1);
-    Ok(())
+    let runs = registry.runs(&rt, alloc).expect(&rt, "memory");
+    let mut text = String::new(alloc);
+    push_entries(&rt, &mut text, &runs).expect(&rt, "memory");
+    assert!(rt; text.as_str() == "3, 1, ");
 }
 
 /// Looks at a run until the flag comes.
@@ -146,18 +177,17 @@ fn ask<R: Wait>(
 }
 
 #[test]
-fn a_run_is_called_while_another_is_locked(rt: HostRuntime) -> Result<(), Fail> {
+fn a_run_is_called_while_another_is_locked(rt: HostRuntime) {
     let alloc = rt.alloc();
-    let registry = published(&rt, alloc).ok_or("the registry")?;
-    let a = find(&rt, alloc, &registry, "a").ok_or("0/a")?;
-    let b = find(&rt, alloc, &registry, "b").ok_or("0/b")?;
-    let bob = attach(&rt, alloc, &b, "bob").ok_or("bob")?;
+    let registry = published(&rt, alloc).expect(&rt, "the registry");
+    let a = run_of(&rt, alloc, &registry, "a");
+    let b = run_of(&rt, alloc, &registry, "b");
+    let bob = attach(&rt, alloc, &b, "bob").expect(&rt, "bob");
     let (looking, answered) = (AtomicBool::new(false), AtomicBool::new(false));
     let looked = thread::join(
         &rt,
         || look(&rt, &a, &looking, &answered),
         || ask(&rt, alloc, &b, bob, &looking, &answered),
     );
-    assert_eq!(rt; looked, (true, true));
-    Ok(())
+    assert!(rt; looked == (true, true));
 }

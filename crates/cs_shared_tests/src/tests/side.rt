@@ -2,7 +2,7 @@
 
 use cs_fids::Place;
 use cs_journal::Pass;
-use cs_names::{RunName, UserName};
+use cs_names::{Bytes, RunName, Text, Texts, UserName};
 use cs_permit::{Call, OpenCall, ReadCall, StatCall, WalkCall, WriteCall};
 use cs_plan::{Published, Scene};
 use cs_run::Answer;
@@ -54,7 +54,7 @@ pub fn attach<R: Wait>(
     run: &SharedRun<AnyScene>,
     user: &str,
 ) -> Option<Pass> {
-    match run.attach(rt, alloc, 1, user.to_string(alloc).ok()?) {
+    match run.attach(rt, alloc, 1, Text::keep(alloc, user).ok()?) {
         Ok((pass, Answer::Attached(_))) => Some(pass),
         _ => None,
     }
@@ -78,7 +78,7 @@ pub fn open(alloc: Global, user: &str, mode: u8) -> Option<Call> {
 
 pub fn write(alloc: Global, user: &str, text: &str) -> Option<Call> {
     let user = UserName::read(alloc, user.as_bytes()).ok()?;
-    let bytes = text.to_string(alloc).ok()?.into_bytes();
+    let bytes = Bytes::keep(alloc, text.as_bytes()).ok()?;
     Some(Call::Write(WriteCall {
         number: F,
         user,
@@ -98,7 +98,7 @@ pub fn walk(alloc: Global, user: &str) -> Option<Call> {
     Some(Call::Walk(WalkCall {
         number: 0,
         user,
-        names: Vec::new(alloc),
+        names: Texts::new(Vec::new(alloc)),
     }))
 }
 

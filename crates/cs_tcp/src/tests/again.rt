@@ -1,12 +1,12 @@
 //! Connections that are accepted where others have ended.
 
 use super::client::looks_for_g;
-use super::fixture::{TRACE, comes, inputs_of, told_of};
-use super::loopback::LOOPBACK;
+use super::fixture::{TRACE, Told, comes, inputs_of, told_of};
+use super::loopback::{LOOPBACK, expect_ended};
 use crate::Serving;
 use std::io::{self, Read};
+use std::process::Abort;
 use std::sync::atomic::{AtomicBool, AtomicU64, Ordering};
-use std::test::Fail;
 use std::thread;
 
 /// Standard input, which ends once it is to.
@@ -29,9 +29,7 @@ const AGAIN: Serving = Serving {
 };
 
 #[test]
-fn three_clients_are_served_one_after_another_until_the_input_ends(
-    rt: HostRuntime,
-) -> Result<(), Fail> {
+fn three_clients_are_served_one_after_another_until_the_input_ends(rt: HostRuntime) {
     let alloc = rt.alloc();
     let (port, ends) = (AtomicU64::new(0), AtomicBool::new(false));
     let (told, replies) = thread::join(
@@ -52,14 +50,15 @@ fn three_clients_are_served_one_after_another_until_the_input_ends(
             (at_once, after)
         },
     );
-    assert_eq!(rt; replies, ((true, true), true));
-    assert_eq!(rt; told.status, 0);
-    assert!(rt;
-        std::str::from_utf8(told.out.as_slice())?.ends_with("\nrun 0/x entries 6 audit ok\n")
-    );
-    let err = std::str::from_utf8(told.err.as_slice())?;
+    assert!(rt; replies == ((true, true), true));
+    expect_ended(&rt, &told, b"\nrun 0/x entries 6 audit ok\n");
+    expect_in_order(&rt, &told);
+}
+
+/// Each connection was accepted once the one before it had ended.
+fn expect_in_order(rt: &impl Abort, told: &Told) {
+    let err = std::str::from_utf8(told.err.as_slice()).expect(rt, "a text");
     let first_ended = err.find("\n0 ended\n1 accepted from 127.0.0.1:");
     let second_ended = err.find("\n1 ended\n2 accepted from 127.0.0.1:");
     assert!(rt; first_ended.is_some() && first_ended < second_ended);
-    Ok(())
 }

@@ -101,9 +101,10 @@ pub fn add_types(
 
 /// Begins a session, attaches, and opens `f`.
 fn open(alloc: Global, stream: &mut TcpStream, attach: &[u8], open: &[u8]) -> Option<()> {
-    for message in [VERSION, attach, WALK, open] {
-        granted(alloc, stream, message)?;
-    }
+    granted(alloc, stream, VERSION)?;
+    granted(alloc, stream, attach)?;
+    granted(alloc, stream, WALK)?;
+    granted(alloc, stream, open)?;
     Some(())
 }
 

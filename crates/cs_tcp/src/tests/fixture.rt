@@ -1,13 +1,14 @@
 //! The command over a small tree, and what it told.
 
 use crate::{ReadsFiles, Serving, serve_of};
-use cs_serve::Inputs;
+use cs_plan::Scene;
+use cs_serve::{Inputs, scene_of};
 use std::alloc::Global;
 use std::io::{self, Read, Write};
 use std::net::{Net, TcpListener, TcpStream};
 use std::rt::Clock;
 use std::sync::atomic::{AtomicU64, Ordering};
-use std::sync::{Mutex, Wait};
+use std::sync::{Arc, Mutex, Wait};
 use std::thread;
 use std::thread::Threads;
 
@@ -75,6 +76,12 @@ pub fn inputs_of(trace: &[u8], verbose: bool) -> Inputs<'_> {
         holes: false,
         verbose,
     }
+}
+
+/// The scene of the trace.
+pub fn scene_in(alloc: Global) -> Option<Arc<Scene>> {
+    let scene = scene_of(alloc, &inputs_of(TRACE, false)).ok()?;
+    Arc::new(alloc, scene).ok()
 }
 
 /// The command on this trace, with `--verbose`; its port is told once it listens.

@@ -4,7 +4,7 @@ use crate::for_linux::ForLinux;
 use std::alloc::Global;
 use std::collections::VecDeque;
 use std::io::{self, Read, Write};
-use std::test::Fail;
+use std::process::Abort;
 
 const CLUNK: &[u8] = b"\x0b\0\0\0x\x01\0\x01\0\0\0";
 
@@ -35,30 +35,44 @@ fn read_to_end<R: Read>(alloc: Global, reader: &mut R, piece: &mut [u8]) -> io::
     Ok(bytes)
 }
 
-#[test]
-fn a_wstat_asks_for_no_other_atime_or_muid(rt: HostRuntime) -> Result<(), Fail> {
-    let mut sent = VecDeque::new(rt.alloc());
-    for bytes in [CLUNK, WSTAT, CLUNK, b"cut"] {
-        sent.write_all(bytes)?;
+/// Messages of Linux, the last of which is cut, and what they are read as.
+const SENT: [&[u8]; 4] = [CLUNK, WSTAT, CLUNK, b"cut"];
+
+const MEANT_ALL: [&[u8]; 4] = [CLUNK, MEANT, CLUNK, b"cut"];
+
+fn write_each<W: Write>(writer: &mut W, pieces: &[&[u8]]) -> io::Result<()> {
+    for piece in pieces {
+        writer.write_all(piece)?;
     }
-    let mut stream = ForLinux::new(rt.alloc(), sent);
-    let bytes = read_to_end(rt.alloc(), &mut stream, &mut [0u8; 5])?;
-    let mut wanted = Vec::new(rt.alloc());
-    for bytes in [CLUNK, MEANT, CLUNK, b"cut"] {
-        wanted.extend_from_slice(bytes)?;
-    }
-    assert_eq!(rt; bytes.as_slice(), wanted.as_slice());
     Ok(())
 }
 
+/// What the stream gives to its end, so many bytes at a time, is in these pieces.
+fn gives<R: Read>(
+    rt: &(impl Abort + AllocGlobal),
+    stream: &mut R,
+    piece: &mut [u8],
+    wanted: &[&[u8]],
+) {
+    let bytes = read_to_end(rt.alloc(), stream, piece).expect(rt, "memory");
+    let mut joined = Vec::new(rt.alloc());
+    write_each(&mut joined, wanted).expect(rt, "memory");
+    assert!(rt; bytes.as_slice() == joined.as_slice());
+}
+
 #[test]
-fn a_denial_is_told_as_an_error_of_linux(rt: HostRuntime) -> Result<(), Fail> {
+fn a_wstat_asks_for_no_other_atime_or_muid(rt: HostRuntime) {
+    let mut sent = VecDeque::new(rt.alloc());
+    write_each(&mut sent, &SENT).expect(&rt, "memory");
+    let mut stream = ForLinux::new(rt.alloc(), sent);
+    gives(&rt, &mut stream, &mut [0u8; 5], &MEANT_ALL);
+}
+
+#[test]
+fn a_denial_is_told_as_an_error_of_linux(rt: HostRuntime) {
     let mut stream = ForLinux::new(rt.alloc(), VecDeque::new(rt.alloc()));
     let (front, rest) = DENIED.split_at(9);
-    stream.write_all(front)?;
-    stream.write_all(rest)?;
+    write_each(&mut stream, &[front, rest]).expect(&rt, "memory");
     // no Rerror is a request, so that its bytes come back as they are
-    let bytes = read_to_end(rt.alloc(), &mut stream, &mut [0u8; 64])?;
-    assert_eq!(rt; bytes.as_slice(), TOLD);
-    Ok(())
+    gives(&rt, &mut stream, &mut [0u8; 64], &[TOLD]);
 }

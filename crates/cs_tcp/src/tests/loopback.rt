@@ -1,10 +1,10 @@
 //! Clients that are served.
 
 use super::client::{ann_writes, attached_at_last, bob_reads, hang_up_early, looks_for_g};
-use super::fixture::{TRACE, served};
+use super::fixture::{TRACE, Told, served};
 use crate::{Client, Serving};
+use std::process::Abort;
 use std::sync::atomic::{AtomicBool, AtomicU64};
-use std::test::Fail;
 use std::thread;
 
 pub const LOOPBACK: Serving = Serving {
@@ -18,8 +18,21 @@ pub const LOOPBACK: Serving = Serving {
     progress: false,
 };
 
+/// The command ended well, with this at the end of standard output.
+pub fn expect_ended(rt: &impl Abort, told: &Told, end: &[u8]) {
+    assert_eq!(rt; told.status, 0);
+    assert!(rt; told.out.starts_with(b"listening 127.0.0.1:"));
+    assert!(rt; told.out.ends_with(end));
+}
+
+/// This is on standard error.
+pub fn expect_told(rt: &impl Abort, told: &Told, text: &str) {
+    let err = std::str::from_utf8(told.err.as_slice()).expect(rt, "a text");
+    assert!(rt; err.contains(text), "{text}");
+}
+
 #[test]
-fn two_clients_are_served_at_once_and_share_a_run(rt: HostRuntime) -> Result<(), Fail> {
+fn two_clients_are_served_at_once_and_share_a_run(rt: HostRuntime) {
     let alloc = rt.alloc();
     let port = AtomicU64::new(0);
     let (opened, written) = (AtomicBool::new(false), AtomicBool::new(false));
@@ -33,17 +46,16 @@ fn two_clients_are_served_at_once_and_share_a_run(rt: HostRuntime) -> Result<(),
         ),
     );
     assert!(rt; ann.is_some());
-    let bob = bob.ok_or("bob")?;
-    assert_eq!(rt; bob.as_slice(), b"u\x01\0\x05\0\0\0HIllo".as_slice());
-    assert_eq!(rt; told.status, 0);
-    let out = std::str::from_utf8(told.out.as_slice())?;
-    assert!(rt; out.starts_with("listening 127.0.0.1:"));
-    assert!(rt; out.ends_with("\nrun 0/x entries 10 audit ok\n"));
-    Ok(())
+    let bob = bob.expect(&rt, "bob");
+    assert!(rt; bob.as_slice() == b"u\x01\0\x05\0\0\0HIllo".as_slice());
+    expect_ended(&rt, &told, b"\nrun 0/x entries 10 audit ok\n");
 }
 
+const VERSIONS: &str =
+    "1 <- Tversion tag 65535 msize 8192 version \"9P2000\"\n1 -> Rversion tag 65535 msize 8192 version \"9P2000\"\n";
+
 #[test]
-fn a_client_that_hangs_up_inside_a_message(rt: HostRuntime) -> Result<(), Fail> {
+fn a_client_that_hangs_up_inside_a_message(rt: HostRuntime) {
     let alloc = rt.alloc();
     let port = AtomicU64::new(0);
     let meanwhile = Serving {
@@ -59,24 +71,16 @@ fn a_client_that_hangs_up_inside_a_message(rt: HostRuntime) -> Result<(), Fail> 
         },
     );
     assert!(rt; early.is_some() && attached.is_some());
-    assert_eq!(rt; told.status, 0);
-    let out = std::str::from_utf8(told.out.as_slice())?;
-    assert!(rt; out.ends_with("\nrun 0/x entries 1 audit ok\n"));
-    let err = std::str::from_utf8(told.err.as_slice())?;
-    for line in [
-        "published 2 states\n",
-        "0 accepted from 127.0.0.1:",
-        "0 ended: the stream ended inside a message\n",
-        "1 <- Tversion tag 65535 msize 8192 version \"9P2000\"\n1 -> Rversion tag 65535 msize 8192 version \"9P2000\"\n",
-        "1 attached ann to 0/x\n1 ended\n",
-    ] {
-        assert!(rt; err.contains(line), "{line}");
-    }
-    Ok(())
+    expect_ended(&rt, &told, b"\nrun 0/x entries 1 audit ok\n");
+    expect_told(&rt, &told, "published 2 states\n");
+    expect_told(&rt, &told, "0 accepted from 127.0.0.1:");
+    expect_told(&rt, &told, "0 ended: the stream ended inside a message\n");
+    expect_told(&rt, &told, VERSIONS);
+    expect_told(&rt, &told, "1 attached ann to 0/x\n1 ended\n");
 }
 
 #[test]
-fn a_client_of_linux_is_told_an_error_that_it_knows(rt: HostRuntime) -> Result<(), Fail> {
+fn a_client_of_linux_is_told_an_error_that_it_knows(rt: HostRuntime) {
     let alloc = rt.alloc();
     let port = AtomicU64::new(0);
     let linux = Serving {
@@ -89,12 +93,7 @@ fn a_client_of_linux_is_told_an_error_that_it_knows(rt: HostRuntime) -> Result<(
         || served(&rt, alloc, TRACE, linux, &port),
         || looks_for_g(&rt, alloc, &port),
     );
-    let reply = reply.ok_or("no reply")?;
-    assert_eq!(rt;
-        reply.as_slice(),
-        b"k\x01\0\x19\0No such file or directory".as_slice()
-    );
-    let err = std::str::from_utf8(told.err.as_slice())?;
-    assert!(rt; err.contains("0 -> Rerror tag 1 ename \"K8 no such name\"\n"));
-    Ok(())
+    let reply = reply.expect(&rt, "a reply");
+    assert!(rt; reply.as_slice() == b"k\x01\0\x19\0No such file or directory".as_slice());
+    expect_told(&rt, &told, "0 -> Rerror tag 1 ename \"K8 no such name\"\n");
 }

@@ -9,7 +9,6 @@ use std::net::{Ipv4Addr, Net, OpenListener, SocketAddr, TcpListener, TcpStream};
 use std::rt::Clock;
 use std::sync::Wait;
 use std::sync::atomic::{AtomicBool, AtomicU64, Ordering};
-use std::test::Fail;
 use std::thread::Threads;
 
 /// Whether the command ends with status 1 and this on standard error, and prints nothing.
@@ -33,21 +32,19 @@ const NOWHERE: Serving = Serving {
 };
 
 #[test]
-fn an_address_that_is_none(rt: HostRuntime) -> Result<(), Fail> {
+fn an_address_that_is_none(rt: HostRuntime) {
     let text = b"crashfs: cannot listen\n";
     assert!(rt; is_refused(&rt, rt.alloc(), TRACE, NOWHERE, text));
-    Ok(())
 }
 
 #[test]
-fn a_trace_at_fault_comes_before_the_address(rt: HostRuntime) -> Result<(), Fail> {
+fn a_trace_at_fault_comes_before_the_address(rt: HostRuntime) {
     let text = b"crashfs: trace line 1: Syntax\n";
     assert!(rt; is_refused(&rt, rt.alloc(), b"{}", NOWHERE, text));
-    Ok(())
 }
 
 #[test]
-fn no_workers_publish_nothing(rt: HostRuntime) -> Result<(), Fail> {
+fn no_workers_publish_nothing(rt: HostRuntime) {
     let idle = Serving {
         workers: 0,
         ready: true,
@@ -55,7 +52,6 @@ fn no_workers_publish_nothing(rt: HostRuntime) -> Result<(), Fail> {
     };
     let text = b"crashfs: publishing failed\n";
     assert!(rt; is_refused(&rt, rt.alloc(), TRACE, idle, text));
-    Ok(())
 }
 
 /// A listener whose first accepts fail, and that counts them.
@@ -90,8 +86,7 @@ fn accepted_after<R: Wait + Clock>(rt: &R, failures: u64) -> (bool, u64) {
 }
 
 #[test]
-fn accepts_that_fail_end_by_a_bound(rt: HostRuntime) -> Result<(), Fail> {
-    assert_eq!(rt; accepted_after(&rt, 99), (true, 100));
-    assert_eq!(rt; accepted_after(&rt, 100), (false, 100));
-    Ok(())
+fn accepts_that_fail_end_by_a_bound(rt: HostRuntime) {
+    assert!(rt; accepted_after(&rt, 99) == (true, 100));
+    assert!(rt; accepted_after(&rt, 100) == (false, 100));
 }

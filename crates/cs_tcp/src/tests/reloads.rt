@@ -2,14 +2,16 @@
 
 use super::again::Input;
 use super::client::{ATTACH_BOB, OPEN_TO_READ, OPEN_TO_WRITE, READ, WALK, add_types, session};
-use super::fixture::{TRACE, USERS, inputs_of, told_of};
+use super::fixture::{TRACE, Told, USERS, inputs_of, told_of};
 use super::loopback::LOOPBACK;
-use crate::Serving;
+use crate::{ReadsFiles, Serving};
 use std::alloc::Global;
-use std::net::{Net, TcpStream};
-use std::rt::Files;
+use std::net::{Net, TcpListener, TcpStream};
+use std::process::Abort;
+use std::rt::{Clock, Files};
+use std::sync::Wait;
 use std::sync::atomic::{AtomicBool, AtomicU64, Ordering};
-use std::test::Fail;
+use std::thread::Threads;
 use std::{fs, thread};
 
 const FILE: &str = "reloads.users";
@@ -27,10 +29,15 @@ const ATTACH_DAN_TO_Z: &[u8] = b"\x19\0\0\0h\x01\0\0\0\0\0\xff\xff\xff\xff\x03\0
 const ATTACH_DAN_TO_1: &[u8] = b"\x19\0\0\0h\x01\0\0\0\0\0\xff\xff\xff\xff\x03\0dan\x03\01/x";
 
 /// What the file becomes, None where it goes away, and what the next client then asks.
-const LATER: [(Option<&[u8]>, &[&[u8]]); 5] = [
-    (
-        Some(b"1:ann::\n2:dan::\n"),
-        &[
+struct Later {
+    file: Option<&'static [u8]>,
+    asked: &'static [&'static [u8]],
+}
+
+const LATER: [Later; 5] = [
+    Later {
+        file: Some(b"1:ann::\n2:dan::\n"),
+        asked: &[
             ATTACH_DAN_TO_X,
             ATTACH_BOB_TO_Y,
             ATTACH_DAN_TO_Y,
@@ -38,12 +45,45 @@ const LATER: [(Option<&[u8]>, &[&[u8]]); 5] = [
             OPEN_TO_WRITE,
             OPEN_TO_READ,
         ],
-    ),
-    (Some(b"1:ann:"), &[ATTACH_DAN_TO_Z]),
-    (Some(b"1:ann:"), &[ATTACH_DAN_TO_Z]),
-    (None, &[ATTACH_DAN_TO_Z]),
-    (Some(b"1:ann::\n"), &[ATTACH_DAN_TO_Z, ATTACH_DAN_TO_1]),
+    },
+    Later {
+        file: Some(b"1:ann:"),
+        asked: &[ATTACH_DAN_TO_Z],
+    },
+    Later {
+        file: Some(b"1:ann:"),
+        asked: &[ATTACH_DAN_TO_Z],
+    },
+    Later {
+        file: None,
+        asked: &[ATTACH_DAN_TO_Z],
+    },
+    Later {
+        file: Some(b"1:ann::\n"),
+        asked: &[ATTACH_DAN_TO_Z, ATTACH_DAN_TO_1],
+    },
 ];
+
+/// Writes the file, or removes it.
+fn change_file<R: Files>(rt: &R, bytes: Option<&[u8]>) -> Option<()> {
+    match bytes {
+        Some(bytes) => fs::write(rt, FILE, bytes).ok(),
+        None => fs::remove_file(rt, FILE).ok(),
+    }
+}
+
+/// The file changes, and the next client asks.
+fn ask_later<R: Net<Stream = TcpStream> + Files>(
+    rt: &R,
+    alloc: Global,
+    port: &AtomicU64,
+    later: &Later,
+    types: &mut Vec<u8>,
+) -> Option<()> {
+    change_file(rt, later.file)?;
+    let mut client = session(rt, alloc, port)?;
+    add_types(alloc, &mut client, later.asked, types)
+}
 
 /// What bob is answered while the file changes, and the clients beside him, by the types of the replies.
 fn answers<R: Net<Stream = TcpStream> + Files>(
@@ -54,63 +94,77 @@ fn answers<R: Net<Stream = TcpStream> + Files>(
     let mut types = Vec::new(alloc);
     let mut bob = session(rt, alloc, port)?;
     add_types(alloc, &mut bob, &[ATTACH_BOB], &mut types)?;
-    for (bytes, messages) in LATER {
-        match bytes {
-            Some(bytes) => fs::write(rt, FILE, bytes).ok()?,
-            None => fs::remove_file(rt, FILE).ok()?,
-        }
-        let mut client = session(rt, alloc, port)?;
-        add_types(alloc, &mut client, messages, &mut types)?;
+    for later in &LATER {
+        ask_later(rt, alloc, port, later, &mut types)?;
     }
     add_types(alloc, &mut bob, &[WALK, OPEN_TO_READ, READ], &mut types)?;
     Some(types)
 }
 
-#[test]
-fn runs_that_are_made_later_have_the_new_users(rt: HostRuntime) -> Result<(), Fail> {
-    let alloc = rt.alloc();
-    for again in [false, true] {
-        let (port, ends) = (AtomicU64::new(0), AtomicBool::new(false));
-        let serving = Serving {
-            connections: 6,
-            again,
-            reload: Some(FILE),
-            ..LOOPBACK
-        };
-        fs::write(&rt, FILE, USERS)?;
-        let (told, types) = thread::join(
-            &rt,
-            || told_of(
-                &rt,
-                alloc,
-                &inputs_of(TRACE, true),
-                serving,
-                Input { ends: &ends },
-                &port,
-            ),
-            || {
-                let types = answers(&rt, alloc, &port);
-                ends.store(true, Ordering::SeqCst);
-                types
-            },
-        );
-        let types = types.ok_or("the clients")?;
-        assert_eq!(rt; std::str::from_utf8(types.as_slice())?, "ikkiokqiiiikoqu");
-        assert_eq!(rt; told.status, 0);
-        let err = std::str::from_utf8(told.err.as_slice())?;
-        assert_eq!(rt;
-            err.matches("1 -> Rerror tag 1 ename \"A6 unknown user\"\n")
-                .count(),
-            2
-        );
-        assert_eq!(rt;
-            err.matches("crashfs: users line 1: FieldCount\n").count(),
-            1
-        );
-        assert_eq!(rt;
-            err.matches("crashfs: reloads.users: cannot read\n").count(),
-            1
-        );
+/// What the command told, and what the clients were answered, while the file changes.
+fn reloaded<R>(rt: &R, alloc: Global, again: bool) -> (Told, Option<Vec<u8>>)
+where
+    R: Net<Listener = TcpListener, Stream = TcpStream>
+        + Threads
+        + Wait
+        + Clock
+        + ReadsFiles
+        + Files
+        + Sync,
+{
+    let (port, ends) = (AtomicU64::new(0), AtomicBool::new(false));
+    let serving = Serving {
+        connections: 6,
+        again,
+        reload: Some(FILE),
+        ..LOOPBACK
+    };
+    let input = Input { ends: &ends };
+    thread::join(
+        rt,
+        || told_of(rt, alloc, &inputs_of(TRACE, true), serving, input, &port),
+        || {
+            let types = answers(rt, alloc, &port);
+            ends.store(true, Ordering::SeqCst);
+            types
+        },
+    )
+}
+
+/// What is told so often.
+struct Often(&'static str, usize);
+
+const OFTEN: [Often; 3] = [
+    Often("1 -> Rerror tag 1 ename \"A6 unknown user\"\n", 2),
+    Often("crashfs: users line 1: FieldCount\n", 1),
+    Often("crashfs: reloads.users: cannot read\n", 1),
+];
+
+/// Looks at what was answered and told while the file changed.
+fn expect_reloaded<R>(rt: &R, alloc: Global, again: bool)
+where
+    R: Net<Listener = TcpListener, Stream = TcpStream>
+        + Threads
+        + Wait
+        + Clock
+        + ReadsFiles
+        + Files
+        + Sync
+        + Abort,
+{
+    let (told, types) = reloaded(rt, alloc, again);
+    assert!(rt; types.expect(rt, "the clients").as_slice() == b"ikkiokqiiiikoqu".as_slice());
+    assert_eq!(rt; told.status, 0);
+    let err = std::str::from_utf8(told.err.as_slice()).expect(rt, "a text");
+    for row in &OFTEN {
+        assert_eq!(rt; err.matches(row.0).count(), row.1, "{}", row.0);
     }
-    Ok(())
+}
+
+#[test]
+fn runs_that_are_made_later_have_the_new_users(rt: HostRuntime) {
+    fs::write(&rt, FILE, USERS).expect(&rt, "a file");
+    expect_reloaded(&rt, rt.alloc(), false);
+    fs::write(&rt, FILE, USERS).expect(&rt, "a file");
+    expect_reloaded(&rt, rt.alloc(), true);
 }

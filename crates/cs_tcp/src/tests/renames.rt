@@ -1,15 +1,15 @@
 //! Renames as Linux's own client asks for them.
 
 use super::client::asks;
-use super::fixture::served;
-use super::loopback::LOOPBACK;
+use super::fixture::{Told, served};
+use super::loopback::{LOOPBACK, expect_told};
 use crate::{Client, ReadsFiles, Serving};
 use std::alloc::Global;
 use std::net::{Net, TcpListener, TcpStream};
+use std::process::Abort;
 use std::rt::Clock;
 use std::sync::Wait;
 use std::sync::atomic::AtomicU64;
-use std::test::Fail;
 use std::thread;
 use std::thread::Threads;
 
@@ -44,15 +44,24 @@ const TO_G: &[u8] =
 const TO_D: &[u8] =
     b"\x42\0\0\0\x7e\x02\0\x01\0\0\0\x35\0\x33\0\xff\xff\xff\xff\xff\xff\xff\xff\xff\xff\xff\xff\xff\xff\xff\xff\xff\xff\xff\xff\xff\xff\xff\xff\xff\xff\xff\xff\xff\xff\xff\xff\xff\xff\xff\xff\xff\xff\xff\x01\0d\0\0\0\0\x03\0ann";
 
-/// What the messages are answered over the trace, and what is told.
-fn answered<R>(
-    rt: &R,
-    alloc: Global,
-    trace: &[u8],
-    messages: &[&[u8]],
-) -> Result<(Vec<u8>, Vec<u8>, Vec<u8>), Fail>
+/// What the command told of a client, the type of each reply, and the last reply.
+#[derive(Drop)]
+struct Answered {
+    told: Told,
+    types: Vec<u8>,
+    last: Vec<u8>,
+}
+
+/// What the messages are answered over the trace.
+fn ask_all<R>(rt: &R, alloc: Global, trace: &[u8], messages: &[&[u8]]) -> Answered
 where
-    R: Net<Listener = TcpListener, Stream = TcpStream> + Threads + Wait + Clock + ReadsFiles + Sync,
+    R: Net<Listener = TcpListener, Stream = TcpStream>
+        + Threads
+        + Wait
+        + Clock
+        + ReadsFiles
+        + Sync
+        + Abort,
 {
     let port = AtomicU64::new(0);
     let linux = Serving {
@@ -65,44 +74,42 @@ where
         || served(rt, alloc, trace, linux, &port),
         || asks(rt, alloc, &port, messages),
     );
-    let (types, last) = answers.ok_or("no reply")?;
-    Ok((types, last, told.err))
+    let (types, last) = answers.expect(rt, "replies");
+    Answered { told, types, last }
 }
 
-#[test]
-fn a_file_gets_the_name_of_another_file(rt: HostRuntime) -> Result<(), Fail> {
-    let messages = [CLONE_ROOT, F, TO_G, F_AGAIN, G, OPEN_G, READ_G];
-    let (types, last, told) = answered(&rt, rt.alloc(), OPEN_ROOT, &messages)?;
-    assert_eq!(rt; types.as_slice(), b"oo\x7fkoqu".as_slice());
-    assert_eq!(rt; last.as_slice(), b"u\x01\0\x05\0\0\0hello".as_slice());
-    let told = std::str::from_utf8(told.as_slice())?;
-    assert!(rt; told.contains("0 <- Tremove tag 2 fid 4294967294\n0 -> Rremove tag 2\n"));
-    Ok(())
-}
+const TO_A_FILE: [&[u8]; 7] = [CLONE_ROOT, F, TO_G, F_AGAIN, G, OPEN_G, READ_G];
 
 #[test]
-fn a_file_does_not_get_the_name_of_a_directory(rt: HostRuntime) -> Result<(), Fail> {
-    let messages = [CLONE_ROOT, F, D, F_AGAIN, TO_D];
-    let (types, last, _) = answered(&rt, rt.alloc(), OPEN_ROOT, &messages)?;
-    assert_eq!(rt; types.as_slice(), b"ooook".as_slice());
-    assert_eq!(rt; last.as_slice(), b"k\x02\0\x0b\0File exists".as_slice());
-    let (types, _, _) = answered(
-        &rt,
-        rt.alloc(),
-        OPEN_ROOT,
-        &[CLONE_ROOT, F, TO_D, D, F_AGAIN],
-    )?;
-    assert_eq!(rt; types.as_slice(), b"ookoo".as_slice());
-    Ok(())
+fn a_file_gets_the_name_of_another_file(rt: HostRuntime) {
+    let answered = ask_all(&rt, rt.alloc(), OPEN_ROOT, &TO_A_FILE);
+    assert!(rt; answered.types.as_slice() == b"oo\x7fkoqu".as_slice());
+    assert!(rt; answered.last.as_slice() == b"u\x01\0\x05\0\0\0hello".as_slice());
+    let removed = "0 <- Tremove tag 2 fid 4294967294\n0 -> Rremove tag 2\n";
+    expect_told(&rt, &answered.told, removed);
 }
 
+const TO_A_DIRECTORY: [&[u8]; 5] = [CLONE_ROOT, F, D, F_AGAIN, TO_D];
+
+const TO_A_DIRECTORY_AT_ONCE: [&[u8]; 5] = [CLONE_ROOT, F, TO_D, D, F_AGAIN];
+
 #[test]
-fn nothing_is_removed_for_a_user_who_may_not_rename(rt: HostRuntime) -> Result<(), Fail> {
-    let messages = [CLONE_ROOT, F, TO_G, G, F_AGAIN];
-    let (types, _, told) = answered(&rt, rt.alloc(), CLOSED_ROOT, &messages)?;
-    assert_eq!(rt; types.as_slice(), b"ookoo".as_slice());
-    let told = std::str::from_utf8(told.as_slice())?;
-    assert!(rt; told.contains("0 -> Rerror tag 2 ename \"Q6 no write right in the parent\"\n"));
-    assert!(rt; !told.contains("Tremove"));
-    Ok(())
+fn a_file_does_not_get_the_name_of_a_directory(rt: HostRuntime) {
+    let first = ask_all(&rt, rt.alloc(), OPEN_ROOT, &TO_A_DIRECTORY);
+    assert!(rt; first.types.as_slice() == b"ooook".as_slice());
+    assert!(rt; first.last.as_slice() == b"k\x02\0\x0b\0File exists".as_slice());
+    let second = ask_all(&rt, rt.alloc(), OPEN_ROOT, &TO_A_DIRECTORY_AT_ONCE);
+    assert!(rt; second.types.as_slice() == b"ookoo".as_slice());
+}
+
+const NOT_ALLOWED: [&[u8]; 5] = [CLONE_ROOT, F, TO_G, G, F_AGAIN];
+
+#[test]
+fn nothing_is_removed_for_a_user_who_may_not_rename(rt: HostRuntime) {
+    let answered = ask_all(&rt, rt.alloc(), CLOSED_ROOT, &NOT_ALLOWED);
+    assert!(rt; answered.types.as_slice() == b"ookoo".as_slice());
+    let denied = "0 -> Rerror tag 2 ename \"Q6 no write right in the parent\"\n";
+    expect_told(&rt, &answered.told, denied);
+    let err = std::str::from_utf8(answered.told.err.as_slice()).expect(&rt, "a text");
+    assert!(rt; !err.contains("Tremove"));
 }

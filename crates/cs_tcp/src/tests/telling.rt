@@ -1,12 +1,11 @@
 //! What is told on standard error.
 
-use super::fixture::{TRACE, inputs_of, told_of};
+use super::fixture::{TRACE, inputs_of, scene_in, told_of};
 use crate::heard::Heard;
 use crate::log::Log;
 use crate::progress::Progress;
-use crate::publishing::publish;
 use crate::serving::server_of;
-use crate::{Client, Serving};
+use crate::{Client, ReadsFiles, Serving};
 use cs_plan::Scene;
 use cs_publish::Gate;
 use cs_server::{Server, serve_connection};
@@ -14,9 +13,10 @@ use cs_session::{Clock, Counted};
 use cs_shared::AnyScene;
 use std::alloc::Global;
 use std::io::{self, Read, Write};
+use std::net::{Net, TcpListener, TcpStream};
+use std::process::Abort;
 use std::sync::atomic::AtomicU64;
 use std::sync::{Mutex, Wait};
-use std::test::Fail;
 use std::thread::Threads;
 
 /// A version, an attach of ann to `0/x`, the same fid once more, and a message of no type.
@@ -71,42 +71,54 @@ impl Write for Pieces {
     }
 }
 
-/// A server with its states published.
-fn server<R: Threads + Wait + Sync>(
-    rt: &R,
-    alloc: Global,
-    log: Log<Vec<u8>>,
-) -> Option<Server<AnyScene>> {
-    let server = server_of(alloc, &inputs_of(TRACE, true)).ok()?;
-    if publish(rt, alloc, &server, 1, log) {
-        Some(server)
-    } else {
-        None
+/// A server with state 0 published.
+fn server<R: Wait>(rt: &R, alloc: Global) -> Option<Server<AnyScene>> {
+    let scene = scene_in(alloc)?;
+    let server = server_of::<AnyScene>(alloc, scene, &inputs_of(TRACE, true)).ok()?;
+    let registry = server.registry();
+    let state = Scene::make(alloc, registry.scene(), 0).ok()?;
+    registry.publish(rt, alloc, state).ok()?;
+    Some(server)
+}
+
+/// Whether a client whose bytes come in pieces of so many is served to its end.
+fn is_served<'a, R: Wait>(rt: &'a R, alloc: Global, most: usize, log: Log<'a, Vec<u8>>) -> bool {
+    let Some(server) = server(rt, alloc) else {
+        return false;
+    };
+    let client = Pieces {
+        left: REQUESTS,
+        most,
+    };
+    let mut stream = Counted::new(Heard::new(rt, alloc, client, 7, log));
+    let connection = serve_connection(rt, alloc, &server, &mut stream, &mut Standing);
+    connection.result().is_ok()
+}
+
+/// What is told of such a client, if it was served.
+fn told_in_pieces<R: Wait>(rt: &R, alloc: Global, most: usize) -> Option<Vec<u8>> {
+    let err = Mutex::new(Vec::new(alloc));
+    let log = Log {
+        writer: &err,
+        verbose: false,
+        progress: false,
+    };
+    if !is_served(rt, alloc, most, log) {
+        return None;
     }
+    Some(err.into_inner())
+}
+
+fn expect_told<R: Wait + Abort>(rt: &R, alloc: Global, most: usize) {
+    let told = told_in_pieces(rt, alloc, most).expect(rt, "a client that is served");
+    assert!(rt; told.as_slice() == TOLD.as_bytes(), "{most}");
 }
 
 #[test]
-fn each_message_is_told_with_its_reply(rt: HostRuntime) -> Result<(), Fail> {
-    let alloc = rt.alloc();
-    for most in [1, 30, 65_536] {
-        let err = Mutex::new(Vec::new(alloc));
-        let log = Log {
-            writer: &err,
-            verbose: false,
-            progress: false,
-        };
-        let server = server(&rt, alloc, log).ok_or("the server")?;
-        let client = Pieces {
-            left: REQUESTS,
-            most,
-        };
-        let mut stream = Counted::new(Heard::new(&rt, alloc, client, 7, log));
-        let connection = serve_connection(&rt, alloc, &server, &mut stream, &mut Standing);
-        assert_eq!(rt; connection.result(), Ok(()));
-        let told = err.lock(&rt);
-        assert_eq!(rt; std::str::from_utf8(told.as_slice())?, TOLD, "{most}");
-    }
-    Ok(())
+fn each_message_is_told_with_its_reply(rt: HostRuntime) {
+    expect_told(&rt, rt.alloc(), 1);
+    expect_told(&rt, rt.alloc(), 30);
+    expect_told(&rt, rt.alloc(), 65_536);
 }
 
 /// Tells before these states.
@@ -129,10 +141,7 @@ fn progress_before<R: Wait + Sync>(
     numbers: &[u32],
     progress: bool,
 ) -> Option<Vec<u8>> {
-    let server = server_of(alloc, &inputs_of(TRACE, true)).ok()?;
-    let registry = server.registry();
-    let state = Scene::make(alloc, registry.scene(), 0).ok()?;
-    registry.publish(rt, alloc, state).ok()?;
+    let server = server(rt, alloc)?;
     let err = Mutex::new(Vec::new(alloc));
     let log = Log {
         writer: &err,
@@ -143,17 +152,14 @@ fn progress_before<R: Wait + Sync>(
     Some(err.into_inner())
 }
 
+const NUMBERS: [u32; 6] = [0, 1, 1_023, 1_024, 1_025, 2_048];
+
 #[test]
-fn progress_is_told_at_every_1024th_state(rt: HostRuntime) -> Result<(), Fail> {
-    let numbers = [0, 1, 1_023, 1_024, 1_025, 2_048];
-    for (progress, text) in [
-        (true, b"published 1 of 2\npublished 1 of 2\n".as_slice()),
-        (false, b"".as_slice()),
-    ] {
-        let told = progress_before(&rt, rt.alloc(), &numbers, progress).ok_or("the server")?;
-        assert_eq!(rt; told.as_slice(), text);
-    }
-    Ok(())
+fn progress_is_told_at_every_1024th_state(rt: HostRuntime) {
+    let told = progress_before(&rt, rt.alloc(), &NUMBERS, true).expect(&rt, "the server");
+    assert!(rt; told.as_slice() == b"published 1 of 2\npublished 1 of 2\n".as_slice());
+    let told = progress_before(&rt, rt.alloc(), &NUMBERS, false).expect(&rt, "the server");
+    assert!(rt; told.is_empty());
 }
 
 /// An address that is none, so that the command ends behind publishing.
@@ -171,43 +177,65 @@ const NOWHERE: Serving = Serving {
 /// A trace with no operation: one state.
 const UNCHANGED: &[u8] = b"{\"trace\":1,\"owner\":\"cat\",\"group\":\"staff\",\"mode\":\"775\"}\n";
 
+/// A trace, whether messages are told, and progress, and what is told.
+struct Asked {
+    trace: &'static [u8],
+    verbose: bool,
+    progress: bool,
+    told: &'static [u8],
+}
+
+const ASKED: [Asked; 4] = [
+    Asked {
+        trace: TRACE,
+        verbose: false,
+        progress: false,
+        told: b"crashfs: cannot listen\n",
+    },
+    Asked {
+        trace: TRACE,
+        verbose: true,
+        progress: false,
+        told: b"published 2 states\ncrashfs: cannot listen\n",
+    },
+    Asked {
+        trace: TRACE,
+        verbose: false,
+        progress: true,
+        told: b"published 2 states\ncrashfs: cannot listen\n",
+    },
+    Asked {
+        trace: UNCHANGED,
+        verbose: true,
+        progress: false,
+        told: b"published 1 state\ncrashfs: cannot listen\n",
+    },
+];
+
+/// Looks at what is told of publishing.
+fn expect_published<R>(rt: &R, alloc: Global, asked: &Asked)
+where
+    R: Net<Listener = TcpListener, Stream = TcpStream>
+        + Threads
+        + Wait
+        + std::rt::Clock
+        + ReadsFiles
+        + Sync
+        + Abort,
+{
+    let serving = Serving {
+        progress: asked.progress,
+        ..NOWHERE
+    };
+    let inputs = inputs_of(asked.trace, asked.verbose);
+    let port = AtomicU64::new(0);
+    let told = told_of(rt, alloc, &inputs, serving, io::empty(), &port);
+    assert!(rt; told.err.as_slice() == asked.told);
+}
+
 #[test]
-fn publishing_is_told_when_it_is_asked_for(rt: HostRuntime) -> Result<(), Fail> {
-    for (trace, verbose, progress, text) in [
-        (TRACE, false, false, b"crashfs: cannot listen\n".as_slice()),
-        (
-            TRACE,
-            true,
-            false,
-            b"published 2 states\ncrashfs: cannot listen\n".as_slice(),
-        ),
-        (
-            TRACE,
-            false,
-            true,
-            b"published 2 states\ncrashfs: cannot listen\n".as_slice(),
-        ),
-        (
-            UNCHANGED,
-            true,
-            false,
-            b"published 1 state\ncrashfs: cannot listen\n".as_slice(),
-        ),
-    ] {
-        let serving = Serving {
-            progress,
-            ..NOWHERE
-        };
-        let inputs = inputs_of(trace, verbose);
-        let told = told_of(
-            &rt,
-            rt.alloc(),
-            &inputs,
-            serving,
-            io::empty(),
-            &AtomicU64::new(0),
-        );
-        assert_eq!(rt; told.err.as_slice(), text);
+fn publishing_is_told_when_it_is_asked_for(rt: HostRuntime) {
+    for asked in &ASKED {
+        expect_published(&rt, rt.alloc(), asked);
     }
-    Ok(())
 }

@@ -1,10 +1,19 @@
 //! Workers that publish for a server.
+ghost use Rattle.std.specs.Prelude.{◌≡◌};
+ghost use Rattle.std.specs.Arc.{arc_value};
+ghost use Rattle.cs_shared.specs.Serving.{IsOnly, ServesAll};
 
-use super::fixture::{TRACE, comes, inputs_of};
+use super::fixture::{TRACE, comes, inputs_of, scene_in};
 use crate::serving::server_of;
+use cs_plan::Scene;
 use cs_publish::{Gate, publish_into};
+use cs_shared::Served;
+use std::alloc::Global;
+use std::marker::Brand;
+use std::process::Abort;
 use std::sync::atomic::{AtomicBool, Ordering};
-use std::test::Fail;
+use std::sync::{Arc, Wait};
+use std::thread::Threads;
 
 /// Holds the worker of state 0 until another begins state 1.
 #[derive(Drop)]
@@ -24,20 +33,31 @@ impl Gate for UntilOne {
     }
 }
 
+/// Two workers publish the states of the scene for a server.
+fn two_publish<S: Served, R: Threads + Wait + Sync + Abort>(
+    rt: &R,
+    alloc: Global,
+    scene: Arc<Scene>,
+    gate: &UntilOne,
+)
+    requires here { S.is_scene (arc_value scene) }
+    requires only { IsOnly S.is_scene (arc_value scene) }
+    requires serves { ServesAll S.serves (arc_value scene) }
+{
+    let server = server_of::<S>(alloc, scene, &inputs_of(TRACE, false)).ok();
+    let server = server.expect(rt, "the server");
+    let registry = server.registry();
+    assert!(rt; publish_into(rt, alloc, registry, 2, gate) == Ok(2));
+    assert!(rt; registry.missing(rt) == 0);
+}
+
 #[test]
-fn two_workers_publish_for_a_server_at_once(rt: HostRuntime) -> Result<(), Fail> {
-    let alloc = rt.alloc();
+fn two_workers_publish_for_a_server_at_once(rt: HostRuntime) {
     let gate = UntilOne {
         begun: AtomicBool::new(false),
         came: AtomicBool::new(false),
     };
-    let Ok(server) = server_of(alloc, &inputs_of(TRACE, false)) else {
-        return Err(Fail::from("the server"));
-    };
-    let Ok(states) = publish_into(&rt, alloc, server.registry(), 2, &gate) else {
-        return Err(Fail::from("not published"));
-    };
-    assert_eq!(rt; (states, server.registry().missing(&rt)), (2, 0));
+    let scene = scene_in(rt.alloc()).expect(&rt, "the scene");
+    two_publish::<Brand, HostRuntime>(&rt, rt.alloc(), scene, &gate);
     assert!(rt; gate.came.load(Ordering::SeqCst));
-    Ok(())
 }

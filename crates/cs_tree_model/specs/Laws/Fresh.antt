@@ -2,19 +2,17 @@
 use Rattle.std.proofs.Common.{◌≡◌, ◌≢◌, ℕ, ◌+◌, true, false, cond, T, List, [], ◌∷◌, ◌++◌, ◌⊎◌, inl, inr, Option, None, Some, refl, sym, ap, ◌∙◌, arith, ⊎_elim}
 use Rattle.std.proofs.lemmas.Bool.{false≢true}
 use Rattle.std.specs.Option.{is_some}
-use Rattle.std.specs.declared.cmp.Ordering.{Ordering}
-use Rattle.std.specs.declared.cmp.Ordering.TheVariants.{Less, Equal, Greater}
-use Rattle.std.specs.Ordering.{eq_by_cmp, is_eq, is_lt, ordering_then}
+use Rattle.std.specs.declared.cmp.Ordering.TheVariants.{Less}
+use Rattle.std.specs.Ordering.{eq_by_cmp, is_eq, ordering_then}
 use Rattle.std.specs.FinMap.{FinMap, find, get, insert, empty, entries, entries_sorted, get-entries, get-empty, is_sorted}
 use Rattle.std.specs.FinMap.Entries.{below_all}
 use Rattle.cs_tree_model.specs.declared.record.Record.{Record}
 use Rattle.cs_tree_model.specs.Record.{IsDirectory, IsMarked}
 use Rattle.cs_tree_model.specs.Tree.{NameBytes, Path, name_cmp, path_cmp, parent_path}
-use Rattle.cs_tree_model.specs.Listing.{Follows, AllFollow, IsListing, IsRoot}
+use Rattle.cs_tree_model.specs.Listing.{Follows, AllFollow, IsListing}
 use Rattle.cs_tree_model.specs.Laws.Paths.{path_total, path_cases, insert_here, insert_other}
 use Rattle.std.specs.Cmp.{IsTotalOrder, nat_cmp_total, tied_itself}
 use Rattle.std.specs.Cmp.Lexicographic.{lists_total}
-use Rattle.cs_tree_model.specs.Laws.Numbers.{both_first, both_second}
 use Rattle.cs_tree_model.specs.Laws.Reads.{parent_of_snoc}
 use Rattle.cs_tree_model.specs.Laws.Round.{path_ends}
 use Rattle.std.specs.FinMap.{get-from_entries}
@@ -22,6 +20,7 @@ use Rattle.std.specs.Option.{option_map}
 use Rattle.cs_tree_model.specs.Tree.{IsTree, record_at}
 use Rattle.cs_tree_model.specs.Laws.Made.{listing_is_tree}
 use Rattle.cs_tree_model.specs.Fresh.{fresh_record, numbered, listing, fresh, IsNested, place_in}
+use Rattle.cs_tree_model.specs.Maps.Orders.{both_first, both_second, less_of}
 
 -- ---- a directory's path is below those of its entries
 
@@ -45,11 +44,6 @@ root_below [] named = absurd (named refl)
 root_below (x ∷ p) named = refl
 
 -- ---- entries in order
-
-less_of : (o : Ordering) → T (is_lt o) → o ≡ Less
-less_of Less h = refl
-less_of Equal h = absurd h
-less_of Greater h = absurd h
 
 module _ {X : Type 0} where
   find_itself : (e : Path × X) (es : List (Path × X)) → find path_cmp e.0 (e ∷ es) ≡ Some e.1

@@ -1,10 +1,10 @@
 -- What is read of a fresh tree: its n-th path has the number n.
-use Rattle.std.proofs.Common.{◌≡◌, ◌≢◌, ℕ, suc, ◌+◌, ◌-◌, ◌≤◌, ◌==◌, ◌&&◌, Bool, true, false, T, List, [], ◌∷◌, Option, None, Some, refl, sym, ap, ◌∙◌, arith, ⊎_elim, length, slice_get}
+use Rattle.std.proofs.Common.{◌≡◌, ◌≢◌, ℕ, suc, ◌+◌, ◌-◌, ◌≤◌, ◌==◌, true, false, T, List, [], ◌∷◌, Option, None, Some, refl, sym, ap, ◌∙◌, arith, ⊎_elim, length, slice_get}
 use Rattle.std.proofs.lemmas.Bool.{cases_eq, eq-eqb, ne_eqb}
 use Rattle.std.specs.List as list
 use Rattle.std.specs.Option.{option_map}
 use Rattle.std.specs.Ordering.{is_lt}
-use Rattle.std.specs.FinMap.{FinMap, find, get, entries, entries_sorted, get-entries, from_entries, from_sorted, get-from_entries, get-from_sorted, entries-from_sorted, same_map, is_sorted, len, len-entries}
+use Rattle.std.specs.FinMap.{FinMap, get, entries, entries_sorted, from_entries, from_sorted, get-from_entries, get-from_sorted, entries-from_sorted, same_map, is_sorted, len, len-entries}
 use Rattle.std.specs.FinMap.Entries.{below_all}
 use Rattle.cs_tree_model.specs.declared.record.Record.{Record}
 use Rattle.cs_tree_model.specs.Tree.{Path, path_cmp, record_numbered, path_numbered, number_at}
@@ -12,23 +12,15 @@ use Rattle.cs_tree_model.specs.Listing.{next_above}
 use Rattle.cs_tree_model.specs.Laws.Paths.{path_total, path_exact}
 use Rattle.cs_tree_model.specs.Fresh.{fresh_record, numbered, listing, fresh, place_in}
 use Rattle.cs_tree_model.specs.Laws.Fresh.{record_at-fresh}
-
-both_follow : (a b c : Bool) → (T b → T c) → T (a && b) → T (a && c)
-both_follow true b c f h = f h
-both_follow false b c f h = h
-
-first_follow : (a b c d : Bool) → (T a → T b) → (T c → T d) → T (a && c) → T (b && d)
-first_follow true true c d f g h = g h
-first_follow true false c d f g h = absurd (f tt)
-first_follow false b c d f g h = absurd h
+use Rattle.cs_tree_model.specs.Maps.Orders.{both_follow}
 
 below_all-numbered : (p : Path) (n : ℕ) (es : List (Path × Record)) → T (below_all path_cmp p es) → T (below_all path_cmp p (numbered n es))
 below_all-numbered p n [] h = tt
-below_all-numbered p n (e ∷ es) h = both_follow (is_lt (path_cmp p e.0)) (below_all path_cmp p es) (below_all path_cmp p (numbered (n + 1) es)) (below_all-numbered p (n + 1) es) h
+below_all-numbered p n (e ∷ es) h = both_follow (is_lt (path_cmp p e.0)) (is_lt (path_cmp p e.0)) (below_all path_cmp p es) (below_all path_cmp p (numbered (n + 1) es)) (λ x. x) (below_all-numbered p (n + 1) es) h
 
 is_sorted-numbered : (n : ℕ) (es : List (Path × Record)) → T (is_sorted path_cmp es) → T (is_sorted path_cmp (numbered n es))
 is_sorted-numbered n [] h = tt
-is_sorted-numbered n (e ∷ es) h = first_follow (below_all path_cmp e.0 es) (below_all path_cmp e.0 (numbered (n + 1) es)) (is_sorted path_cmp es) (is_sorted path_cmp (numbered (n + 1) es)) (below_all-numbered e.0 (n + 1) es) (is_sorted-numbered (n + 1) es) h
+is_sorted-numbered n (e ∷ es) h = both_follow (below_all path_cmp e.0 es) (below_all path_cmp e.0 (numbered (n + 1) es)) (is_sorted path_cmp es) (is_sorted path_cmp (numbered (n + 1) es)) (below_all-numbered e.0 (n + 1) es) (is_sorted-numbered (n + 1) es) h
 
 -- the files of a fresh tree in order are its listing
 pub entries-fresh : (m : FinMap path_cmp Record) → entries (fresh m).files ≡ listing m
@@ -75,7 +67,7 @@ number_at-fresh m p = ap (option_map (λ r. r.number)) (record_at-fresh m p) ∙
 
 -- ---- how many
 
-length-numbered : (n : ℕ) (es : List (Path × Record)) → length (numbered n es) ≡ length es
+pub length-numbered : (n : ℕ) (es : List (Path × Record)) → length (numbered n es) ≡ length es
 length-numbered n [] = refl
 length-numbered n (e ∷ es) = ap suc (length-numbered (n + 1) es)
 
@@ -93,11 +85,3 @@ next-fresh m = of_entries (entries m) ∙ sym (len-entries m)
     of_entries : (es : List (Path × Record)) → next_above (numbered 0 es) ≡ length es
     of_entries [] = refl
     of_entries (e ∷ es) = next-numbered 0 e es ∙ omega arith
-
--- the same by its two fields
-pub fresh_fields : (m : FinMap path_cmp Record) → fresh m ≡ record { files = from_sorted (listing m); next = len m }
-fresh_fields m = λ i. record { files = files_same i; next = next-fresh m i }
-  where
-    files_same : (fresh m).files ≡ from_sorted (listing m)
-    files_same = same_map path_total path_exact (fresh m).files (from_sorted (listing m)) (λ p.
-        get-entries (fresh m).files p ∙ ap (find path_cmp p) (entries-fresh m) ∙ sym (get-from_sorted path_cmp (listing m) p (is_sorted-numbered 0 (entries m) (entries_sorted m))))

@@ -10,16 +10,15 @@ use Rattle.std.specs.List.{filter}
 use Rattle.std.specs.Option.{is_some, option_and_then, option_map_or}
 use Rattle.std.specs.Ordering.{is_lt}
 use Rattle.std.specs.Prelude.{T}
-use Rattle.std.specs.declared.cmp.Ordering.{Ordering}
-use Rattle.std.specs.declared.cmp.Ordering.TheVariants.{Less, Equal, Greater}
+use Rattle.std.specs.declared.cmp.Ordering.TheVariants.{Less}
 use Rattle.cs_tree_model.specs.declared.record.Record.{Record}
 use Rattle.cs_tree_model.specs.Effects.{child_names, comes_after, entry_after}
 use Rattle.cs_tree_model.specs.Nexts.{names_after, next_name}
 use Rattle.cs_tree_model.specs.Tree.{NameBytes, Path, name_cmp, path_cmp, path_numbered, Tree}
 use Rattle.cs_tree_model.specs.Laws.Entries.{child, child_is, names_cmp, names_of}
 use Rattle.cs_tree_model.specs.Laws.Nexts.{comes_later, is_less, not_both}
-use Rattle.cs_tree_model.specs.Laws.Numbers.{both_first, both_second}
 use Rattle.cs_tree_model.specs.Laws.Paths.{option_cases}
+use Rattle.cs_tree_model.specs.Maps.Orders.{both_first, both_second, less_of}
 
 -- what holds of each name
 abbrev All : (NameBytes → Type 0) → List NameBytes → Type 0
@@ -82,15 +81,10 @@ ascending_above k p z at (e ∷ es) h = ⊎_elim
     (λ (some : (y : NameBytes) × (child p e.0 ≡ Some y)).
     let is = some.1 in
     rw is (
-      sym (names_cmp p z some.0) ∙ (λ i. path_cmp (sym at i) (sym (child_is p e.0 some.0 is) i)) ∙ less (path_cmp k e.0) (both_first _ _ h),
+      sym (names_cmp p z some.0) ∙ (λ i. path_cmp (sym at i) (sym (child_is p e.0 some.0 is) i)) ∙ less_of (path_cmp k e.0) (both_first _ _ h),
       ascending_above k p z at es (both_second _ _ h),
     ))
     (option_cases (child p e.0))
-  where
-    less : (o : Ordering) → T (is_lt o) → o ≡ Less
-    less Less t = refl
-    less Equal t = absurd t
-    less Greater t = absurd t
 
 ascending : (p : Path) (es : List (Path × Record)) → T (is_sorted path_cmp es) → Ascending (names_of p es)
 ascending p [] sorted = tt

@@ -1,7 +1,7 @@
 -- What a store has to do for each call: which nodes it changes, and which names it finds then. What a
 -- caller promises of the tree is told of the nodes.
-use Rattle.std.proofs.Common.{◌≡◌, ◌≢◌, ℕ, ◌+◌, ◌<◌, ◌^◌, ◌==◌, true, false, Option, None, Some, IsSome, IfSome, refl, sym, ap, ◌∙◌, subst, arith, ⊎_elim, ◌++◌, take, replicate}
-use Rattle.std.proofs.lemmas.Bool.{false≢true, cases_eq, eq-eqb, ne_eqb}
+use Rattle.std.proofs.Common.{◌≡◌, ◌≢◌, ℕ, ◌+◌, ◌==◌, true, false, Option, None, Some, IsSome, refl, sym, ap, ◌∙◌, subst, arith, ⊎_elim, ◌++◌, take, replicate}
+use Rattle.std.proofs.lemmas.Bool.{false≢true, cases_eq, ne_eqb}
 use Rattle.std.specs.Option.{option_map, option_map_or, option_and_then, is_some, IsSomeAnd}
 use Rattle.cs_tree_model.specs.declared.change.New.{New}
 use Rattle.cs_tree_model.specs.declared.change.Stamp.{Stamp}
@@ -9,12 +9,11 @@ use Rattle.cs_tree_model.specs.declared.record.Record.{Record}
 use Rattle.cs_tree_model.specs.Effects.{stamped, new_record, change_at, add, take_out, rename}
 use Rattle.cs_tree_model.specs.Lookups.{Lookup, IsIndexed, set_kid}
 use Rattle.cs_tree_model.specs.Record.{IsDirectory}
-use Rattle.cs_tree_model.specs.Stores.{at_number, added, removed, sized, CanStamp, CanStampParent, IsDirectoryNumbered}
+use Rattle.cs_tree_model.specs.Stores.{at_number, added, removed, sized, IsDirectoryNumbered}
 use Rattle.cs_tree_model.specs.Table.{Node, Nodes, path_of, tree_of, IsTable, set_node, unset_node, with_file}
-use Rattle.cs_tree_model.specs.Tree.{NameBytes, Path, Tree, IsTree, record_numbered, path_numbered, parent_numbered, number_in, content_numbered}
+use Rattle.cs_tree_model.specs.Tree.{NameBytes, Tree, IsTree, record_numbered, path_numbered, parent_numbered, number_in, content_numbered}
 use Rattle.cs_tree_model.specs.Laws.Changes.{set_node_here, set_node_other, table_set_file, file_path, next_of_tree}
 use Rattle.cs_tree_model.specs.Laws.Lookups.{number_in-links, links_file, links_more, links_less, links_moved}
-use Rattle.cs_tree_model.specs.Laws.Moves.{with_name}
 use Rattle.cs_tree_model.specs.Laws.Numbers.{path_numbered-tree_of, record_numbered-tree_of}
 use Rattle.cs_tree_model.specs.Laws.Paths.{option_cases}
 use Rattle.cs_tree_model.specs.Laws.Reads.{parent_of_node, no_parent_of_node, tree_of_is_tree}
@@ -74,13 +73,6 @@ module _ (at : Nodes) (kids : Lookup) (next : ℕ) (h : IsIndexed at kids next) 
       (λ (none : at n ≡ None). absurd (subst (λ o. IsSomeAnd o IsDirectory) (record_in n ∙ ap (option_map (λ (d : Node). d.file)) none) is))
       (λ (some : (d : Node) × (at n ≡ Some d)). (some.0, some.1, subst (λ o. IsSomeAnd o IsDirectory) (record_in n ∙ ap (option_map (λ (d : Node). d.file)) some.1) is))
       (option_cases (at n))
-
-  -- the version of a node can grow
-  pub node_can_stamp : (n : ℕ) (d : Node) → at n ≡ Some d → CanStamp t n → d.file.vers + 1 < 2 ^ 32
-  node_can_stamp n d here can = subst (λ o. IfSome o (λ r. r.vers + 1 < 2 ^ 32)) (record_in n ∙ ap (option_map (λ (d : Node). d.file)) here) can
-
-  pub parent_can_stamp : (n : ℕ) (d : Node) → at n ≡ Some d → CanStampParent t n → CanStamp t d.parent
-  parent_can_stamp n d here can = subst (λ o. IfSome o (CanStamp t)) (parent_in n ∙ ap (option_map (λ (d : Node). d.parent)) here) can
 
   -- a node has its directory, which is another
   pub node_above : (n : ℕ) (d : Node) → at n ≡ Some d → n ≢ 0 → (u : Node) × (at d.parent ≡ Some u) × IsDirectory u.file

@@ -1,11 +1,12 @@
 -- A finite map with a function of each value.
-use Rattle.std.proofs.Common.{◌≡◌, true, false, cond, ◌&&◌, Bool, T, List, [], ◌∷◌, Option, None, Some, refl, sym, ap, ◌∙◌, map, ⊎_elim}
+use Rattle.std.proofs.Common.{◌≡◌, true, false, T, List, [], ◌∷◌, refl, sym, ap, ◌∙◌, map, ⊎_elim}
 use Rattle.std.proofs.lemmas.Bool.{cases_Bool}
 use Rattle.std.specs.Option.{option_map}
 use Rattle.std.specs.Ordering.{eq_by_cmp, is_lt}
 use Rattle.std.specs.declared.cmp.Ordering.{Ordering}
 use Rattle.std.specs.FinMap.{FinMap, find, get, entries, entries_sorted, get-entries, from_sorted, get-from_sorted, entries-from_sorted, is_sorted}
 use Rattle.std.specs.FinMap.Entries.{below_all}
+use Rattle.cs_tree_model.specs.Maps.Orders.{both_follow}
 
 abbrev pub map_entries : {K X Y : Type 0} → (X → Y) → List (K × X) → List (K × Y)
 map_entries f = map (λ e. (e.0, f e.1))
@@ -13,11 +14,6 @@ map_entries f = map (λ e. (e.0, f e.1))
 -- the map with f of each value
 unfoldable pub map_values : {K X Y : Type 0} {R : K → K → Ordering} → (X → Y) → FinMap R X → FinMap R Y
 map_values f m = from_sorted (map_entries f (entries m))
-
-both_follow : (a b c d : Bool) → (T a → T b) → (T c → T d) → T (a && c) → T (b && d)
-both_follow true true c d g h k = h k
-both_follow true false c d g h k = absurd (g tt)
-both_follow false b c d g h k = absurd k
 
 module _ {K X Y : Type 0} (R : K → K → Ordering) (f : X → Y) where
   below_all-map : (p : K) (es : List (K × X)) → T (below_all R p es) → T (below_all R p (map_entries f es))

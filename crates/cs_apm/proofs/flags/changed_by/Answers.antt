@@ -1,6 +1,7 @@
 use Rattle.std.proofs.Common.{◌∷◌, [], ◌++◌, ◌∙◌, ap, subst, sym, length, take, drop}
 use Rattle.std.proofs.lemmas.List.{take_more}
-use Rattle.cs_apm.specs.Atlases.{AreChanged, marked}
+use Rattle.cs_apm.specs.Atlases.{AreChanged}
+use Rattle.cs_apm.specs.Making.{marked}
 use Rattle.cs_apm.proofs.Marking.{changed_more, length-marked, put_back}
 use Rattle.cs_apm.proofs.flags.changed_by.Goals as goal
 

@@ -1,4 +1,4 @@
-use Rattle.cs_apm.specs.Rows.{AreSynced}
+use Rattle.cs_apm.specs.Finding.{AreSynced}
 use Rattle.cs_apm.proofs.found.first_syncs.Given as goal
 
 abbrev pub invariant-loop-i : goal.invariant-loop-i

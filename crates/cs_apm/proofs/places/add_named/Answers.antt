@@ -1,8 +1,9 @@
-use Rattle.std.proofs.Common.{◌≡◌, ℕ, zero, suc, ◌<◌, [], ◌∷◌, ◌⊎◌, inl, inr, ⊎_elim, sym, ap, subst, arith, rules, get_or}
+use Rattle.std.proofs.Common.{◌≡◌, [], ◌∷◌, ◌⊎◌, inl, inr, ⊎_elim, sym, ap, subst, arith, rules}
 use Rattle.std.specs.List.{Contains}
 use Rattle.cs_tree_model.specs.Tree.{Path}
 use Rattle.cs_micro.specs.declared.micro_op.MicroOp.{MicroOp}
 use Rattle.cs_apm.specs.Rules.{named}
+use Rattle.cs_apm.proofs.Closing.{one_of_two}
 use Rattle.cs_apm.proofs.places.add_named.Goals as goal
 
 -- the path of an operation that has this one
@@ -14,11 +15,6 @@ first o q r p is same = subst (λ ps. Contains ps p) (sym is) (0, omega arith, s
 
 second : (o : MicroOp) (q r p : Path) → named o ≡ q ∷ r ∷ [] → r ≡ p → Contains (named o) p
 second o q r p is same = subst (λ ps. Contains ps p) (sym is) (1, omega arith, same)
-
-of_two : (q r p : Path) (k : ℕ) → k < 2 → get_or (q ∷ r ∷ []) k p ≡ p → (q ≡ p) ⊎ (r ≡ p)
-of_two q r p zero low is = inl is
-of_two q r p (suc zero) low is = inr is
-of_two q r p (suc (suc k)) low is = absurd (omega (arith, low))
 
 pub returns-in_ok-add_path-in-CreateDirEntry-clause-only : goal.returns-in_ok-add_path-in-CreateDirEntry-clause-only
 returns-in_ok-add_path-in-CreateDirEntry-clause-only c = λ p h. ⊎_elim
@@ -39,7 +35,7 @@ returns-in_ok-add_path-in-MoveDirEntry-2-clause-there c = λ p h.
     ⊎_elim
     (λ (same : c.in-MoveDirEntry.from ≡ p). subst (Contains now) same (c.add_path-in-MoveDirEntry-2.ensures.others c.in-MoveDirEntry.from c.in_ok-add_path-in-MoveDirEntry.ensures.there))
     (λ (same : c.in-MoveDirEntry.to ≡ p). subst (Contains now) same c.in_ok-add_path-in-MoveDirEntry-2.ensures.there)
-    (of_two c.in-MoveDirEntry.from c.in-MoveDirEntry.to p at.0 at.1 at.2)
+    (one_of_two c.in-MoveDirEntry.from c.in-MoveDirEntry.to p at.0 at.1 at.2)
 
 pub returns-in_ok-add_path-in-MoveDirEntry-2-clause-only : goal.returns-in_ok-add_path-in-MoveDirEntry-2-clause-only
 returns-in_ok-add_path-in-MoveDirEntry-2-clause-only c = λ p h. ⊎_elim

@@ -2,7 +2,8 @@ use Rattle.std.proofs.Common.{◌≡◌, ◌⊎◌, ℕ, ◌+◌, ◌<◌, ◌�
 use Rattle.std.specs.List.{Contains}
 use Rattle.std.specs.Prelude.{slice_index_or}
 use Rattle.cs_tree_model.specs.Tree.{Path}
-use Rattle.cs_apm.specs.Atlases.{HasFirst, no_record}
+use Rattle.cs_apm.specs.Atlases.{no_record}
+use Rattle.cs_apm.specs.Making.{HasFirst}
 use Rattle.cs_apm.specs.Slots.{AreAscending}
 use Rattle.cs_apm.proofs.places.add_starts.Given as goal
 

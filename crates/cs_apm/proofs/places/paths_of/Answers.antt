@@ -5,7 +5,8 @@ use Rattle.cs_tree_model.specs.Tree.{Path}
 use Rattle.cs_micro.specs.declared.micro_op.MicroOp.{MicroOp}
 use Rattle.std.proofs.lemmas.List.{get_or_read}
 use Rattle.cs_micro.specs.declared.micro_op.MicroOp.TheVariants.{Say}
-use Rattle.cs_apm.specs.Atlases.{HasAllNamed, HasNamed, IsKnownPath, no_record}
+use Rattle.cs_apm.specs.Atlases.{no_record}
+use Rattle.cs_apm.specs.Making.{HasAllNamed, HasNamed, IsKnownPath}
 use Rattle.cs_apm.specs.Rules.{op_at, named}
 use Rattle.cs_apm.proofs.places.paths_of.Goals as goal
 use borrow.Author.Count.{below_more}

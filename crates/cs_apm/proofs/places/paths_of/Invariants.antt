@@ -1,7 +1,7 @@
 use Rattle.std.proofs.Common.{◌+◌, ◌*◌, ◌≤◌, length}
 use Rattle.std.specs.List.{Contains}
 use Rattle.cs_tree_model.specs.Tree.{Path}
-use Rattle.cs_apm.specs.Atlases.{HasAllNamed, HasFirst, IsKnownPath}
+use Rattle.cs_apm.specs.Making.{HasAllNamed, HasFirst, IsKnownPath}
 use Rattle.cs_apm.specs.Slots.{AreAscending}
 use Rattle.cs_apm.proofs.places.paths_of.Given as goal
 

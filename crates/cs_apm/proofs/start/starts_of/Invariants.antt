@@ -1,5 +1,5 @@
 use Rattle.std.proofs.Common.{◌≡◌, length}
-use Rattle.cs_apm.specs.Atlases.{FindsFiles}
+use Rattle.cs_apm.specs.Making.{FindsFiles}
 use Rattle.cs_apm.proofs.start.starts_of.Given as goal
 
 abbrev pub invariant-loop-place : goal.invariant-loop-place

@@ -1,7 +1,7 @@
 use Rattle.std.proofs.Common.{◌∷◌, [], ◌++◌, ◌∙◌, arith, ap, subst, sym, length, take}
 use Rattle.std.proofs.lemmas.List.{get_or_read, take_more}
 use Rattle.cs_micro.specs.declared.micro_op.MicroOp.TheVariants.{Say}
-use Rattle.cs_apm.specs.Atlases.{HasNamed}
+use Rattle.cs_apm.specs.Making.{HasNamed}
 use Rattle.cs_apm.specs.Slots.{AreSteps, HaveStepRights}
 use Rattle.cs_apm.proofs.Growing.{grows_on, have_more, steps_kept, steps_more}
 use Rattle.cs_apm.proofs.steps.steps_of.Goals as goal

@@ -1,11 +1,11 @@
 use lib.Utf8.{encode}
 use Rattle.std.proofs.Common.{◌≡◌, ℕ, List, ◌∷◌, ◌++◌, ◌==◌, [], length, ap, sym, subst, ◌∙◌}
-use Rattle.std.proofs.lemmas.Bool.{eqb-true}
+use Rattle.std.proofs.lemmas.Bool.{eqb-true, eqb-false}
 use Rattle.std.specs.String.{string_bytes}
 use Rattle.std.specs.Prelude.{OnOk, Result, Ok, Err}
 use Rattle.cs_names.specs.Legal.{IsLegalName}
 use Rattle.cs_names.specs.Joined.{AreLegalNames, path_at}
-use Rattle.cs_names.proofs.Joined.{AreLegalNames-snoc, first_name, path_at-push, pushed_by, some_bytes}
+use Rattle.cs_names.proofs.Joined.{AreLegalNames-snoc, first_name, path_at-push, pushed_by}
 use Rattle.cs_names.proofs.path.push_name.Goals as goal
 
 -- one more name that is legal
@@ -28,7 +28,7 @@ returns-clause-names c =
     let name = c.args.name.now in
     let more = string_bytes c.push.new.self in
     pushed_by c.push_str-2.result more (more ++ name) _ (λ bs. path_at bs ≡ path_at old ++ name ∷ []) c.push_str-2.ensures.bytes
-    (ap (λ bs. path_at (bs ++ name)) c.in_ok-push.ensures.bytes ∙ path_at-push old name (some_bytes (length old) (ap (λ bs. length bs == 0) (sym c.as_bytes.ensures.value) ∙ sym c.is_empty.ensures ∙ c.if-is_empty.false)) c.requires)
+    (ap (λ bs. path_at (bs ++ name)) c.in_ok-push.ensures.bytes ∙ path_at-push old name (eqb-false (length old) 0 (ap (λ bs. length bs == 0) (sym c.as_bytes.ensures.value) ∙ sym c.is_empty.ensures ∙ c.if-is_empty.false)) c.requires)
 
 pub returns-then-is_empty-clause-legal : goal.returns-then-is_empty-clause-legal
 returns-then-is_empty-clause-legal c = kept c.push_str.result (string_bytes c.args.text.now) c.args.name.now (string_bytes c.push_str.new.self) c.requires (returns-then-is_empty-clause-names c)

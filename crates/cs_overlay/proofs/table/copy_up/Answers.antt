@@ -2,7 +2,8 @@ use Rattle.std.proofs.Common.{ap, sym, ◌∙◌, subst, IfSome, nat_eq}
 use Rattle.std.specs.HashMap.{get}
 use Rattle.std.specs.Map.{lookup}
 use Rattle.cs_overlay.specs.Layers.{IsCopy}
-use Rattle.cs_overlay.proofs.Copies.{same_alike, same_copied, absent}
+use Rattle.cs_overlay.proofs.Copies.{same_alike, same_copied}
+use Rattle.cs_overlay.proofs.Owning.{absent}
 use Rattle.cs_overlay.proofs.table.copy_up.Goals as goal
 
 pub returns-in_err-insert-clause-same : goal.returns-in_err-insert-clause-same

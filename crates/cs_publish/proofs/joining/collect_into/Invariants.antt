@@ -1,8 +1,5 @@
-use Rattle.std.proofs.Common.{◌+◌, ◌≤◌}
+use Rattle.std.proofs.Common.{◌≤◌}
 use Rattle.cs_publish.proofs.joining.collect_into.Given as goal
 
-abbrev pub invariant-left : goal.invariant-left
-invariant-left g l = l.published + l.left ≤ l.fn.count
-
-abbrev pub decreases-left : goal.decreases-left
-decreases-left g l = l.left
+abbrev pub invariant-loop-made : goal.invariant-loop-made
+invariant-loop-made g l = l.published ≤ l._made

@@ -7,6 +7,6 @@ use Rattle.cs_publish.proofs.publishing.collect.Goals as goal
 pub returns : goal.returns
 returns g c =
     let v = c.missing.invariant in
-    let none : count_by not c.missing.states.published ≡ 0 = omega (arith, c.missing-in-missing.ensures, c.missing-test.false) in
+    let none : count_by not c.missing.states.published ≡ 0 = omega (arith, c.missing-in-missing.ensures.count, c.missing-test.false) in
     let each = all_there c.missing.states.published none ∙ ap (λ n. replicate n true) (v.2 ∙ ap (λ (s : Scene). length s.plan) v.0) in
     λ i. record { scene = v.0 i; users = v.1 i; published = each i; runs = v.3 i }

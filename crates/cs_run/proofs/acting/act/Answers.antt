@@ -14,4 +14,4 @@ pub returns-in-Walk-clause-fits : goal.returns-in-Walk-clause-fits
 returns-in-Walk-clause-fits g c =
     let s = state (g.T.TreeRead.tree c.args.tree.now) c.args.opens.now.items c.args.users.now in
     let stepped_is = c.act_walk.ensures c.args.opens.now.items c.args.turn in
-    rw c.in-Walk.is (subst (λ (l : Left). FitsCall (k.Walk c.in-Walk.call) l.answer) (sym stepped_is.1.1) (fits s c.args.turn (k.Walk c.in-Walk.call) (outcome s c.args.turn (k.Walk c.in-Walk.call) stepped_is.0)))
+    rw c.in-Walk.is (subst (λ (l : Left). FitsCall (k.Walk c.in-Walk.call) l.answer) (sym stepped_is.leaves_is) (fits s c.args.turn (k.Walk c.in-Walk.call) (outcome s c.args.turn (k.Walk c.in-Walk.call) stepped_is.mark)))

@@ -1,6 +1,7 @@
 use Rattle.std.proofs.Common.{◌≡◌, ◌+◌, ◌<◌, ℕ, List, sym, ap, ◌∙◌, subst, length}
 use Rattle.cs_state.specs.Numbers.{kept_at}
-use Rattle.cs_state.specs.Shares.{own_from, slots_left, IsShared}
+use Rattle.cs_state.specs.Shares.{slots_left, IsShared}
+use Rattle.cs_state.specs.Merging.{own_from}
 use Rattle.cs_state.proofs.Gathering.{after_long, few_numbers, members_inside, shared_all}
 use Rattle.cs_state.proofs.building.own_of.Goals as goal
 

@@ -1,4 +1,4 @@
-use Rattle.cs_state.specs.Shares.{own_from}
+use Rattle.cs_state.specs.Merging.{own_from}
 use Rattle.cs_state.proofs.Owning.{goes_on, one_longer}
 use Rattle.cs_state.proofs.building.standing.Goals as goal
 

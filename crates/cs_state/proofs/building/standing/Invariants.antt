@@ -1,5 +1,5 @@
 use Rattle.std.proofs.Common.{◌≡◌, ◌++◌, ◌≤◌, length, drop}
-use Rattle.cs_state.specs.Shares.{own_from}
+use Rattle.cs_state.specs.Merging.{own_from}
 use Rattle.cs_state.proofs.building.standing.Given as goal
 
 abbrev pub invariant-loop-id : goal.invariant-loop-id

@@ -40,7 +40,7 @@ loop-i-preserved c =
     let numbered = YieldsList-at c.into_iter-i-iterator.ensures.into_iter_gives (YieldsList-from_enumerate (YieldsList-at c.enumerate-i-items.ensures.source cut) c.enumerate-i-items.ensures.count) in
     let at = turn lines _ _ _ (YieldsList-turn numbered c.loop-i.yielded _ c.loop-i.yielded_by _ _ (c.in-Some.i, c.in-Some.line) c.in-Some.is c.next.ensures.steps) in
     let before = read_before lines _ _ (state_of c.loop-i.state) at.number c.loop-i.invariant in
-    let next = goes_on (state_of c.loop-i.state) c.in-Some.i lines _ at.low at.is before (state_of c.take.new.state) c.in_default.ensures.done in
+    let next = goes_on (state_of c.loop-i.state) c.in-Some.i lines _ at.low at.is before (state_of c.take.new.state) c.in_default.ensures in
     let number : c.in-Some.i + 1 ≡ length (c.loop-i.yielded ++ (c.in-Some.i, c.in-Some.line) ∷ []) = omega (arith, at.number, length_push c.loop-i.yielded (c.in-Some.i, c.in-Some.line)) in
     read_before lines _ _ (state_of c.take.new.state) number next
 

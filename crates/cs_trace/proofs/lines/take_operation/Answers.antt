@@ -6,4 +6,4 @@ use Rattle.cs_trace.proofs.lines.take_operation.Goals as goal
 pub take-requires-clause-within : goal.take-requires-clause-within
 take-requires-clause-within c =
     let s = c.args.state.now in
-    resolve_within s.tree.nodes s.sizes.items s.made (attributes_of s.attributes) (operation_said c.args.line.now) _ c.in_ok-operation.ensures.done
+    resolve_within s.tree.nodes s.sizes.items s.made (attributes_of s.attributes) (operation_said c.args.line.now) _ c.in_ok-operation.ensures

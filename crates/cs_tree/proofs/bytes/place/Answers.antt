@@ -1,8 +1,8 @@
-use Rattle.std.proofs.Common.{◌≡◌, ◌<◌, ◌≤◌, ◌+◌, ◌-◌, ℕ, max, List, [], ◌∷◌, ◌++◌, refl, take, drop, length, replicate, sym, ap, ◌∙◌, ⊎_elim, arith, length-append}
+use Rattle.std.proofs.Common.{◌≡◌, ◌<◌, ◌≤◌, ◌+◌, ◌-◌, ℕ, max, List, ◌++◌, take, drop, length, replicate, sym, ap, ◌∙◌, ⊎_elim, arith, length-append}
 use Rattle.std.proofs.lemmas.Bool.{cases_lt}
 use Rattle.std.proofs.lemmas.List.{take-append-le, take-replicate, append-nil, drop_all, take_all, length-replicate}
 use Rattle.std.proofs.Math.Seq.{take-append-add}
-use Rattle.cs_tree_model.specs.Effects.{placed}
+use Rattle.cs_tree_model.specs.Laws.Bytes.{placed_some}
 use Rattle.cs_tree.proofs.bytes.place.Goals as goal
 
 front : (k m : ℕ) (items : List ℕ) → k ≤ m → take k (items ++ replicate (m - length items) 0) ≡ take k (items ++ replicate k 0)
@@ -22,11 +22,6 @@ behind e m items is = ⊎_elim
     drop_all e (items ++ replicate (m - length items) 0) (omega (arith, is, length-append items (replicate (m - length items) 0), length-replicate {A = ℕ} (m - length items) 0))
     ∙ sym (drop_all e items a))
     (cases_lt e (length items))
-
--- some bytes that are placed
-placed_some : (k : ℕ) (w bytes : List ℕ) → 0 < length w → take k (bytes ++ replicate k 0) ++ w ++ drop (k + length w) bytes ≡ placed k w bytes
-placed_some k [] bytes some = absurd (omega arith)
-placed_some k (b ∷ w) bytes some = refl
 
 pub returns-clause-ok : goal.returns-clause-ok
 returns-clause-ok c =

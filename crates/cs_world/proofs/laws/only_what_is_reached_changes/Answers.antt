@@ -5,10 +5,12 @@ use Rattle.cs_world.proofs.laws.only_what_is_reached_changes.Goals as goal
 
 pub returns : goal.returns
 returns c = record {
-  runs = runs_stay;
-  places = places_stay;
-  scene = scene_stays;
-  connections = connections_stay;
+  step = λ w conn now x mark. record {
+    runs = runs_stay w conn now x mark;
+    places = places_stay w conn now x mark;
+    connections = connections_stay w conn now x mark;
+  };
   publish = λ w number mark. (publish_keeps w.registry number mark, refl);
   reload = λ w users mark. (reload_keeps w.registry users mark, refl);
+  scene = scene_stays;
 }

@@ -5,7 +5,8 @@ use Rattle.std.specs.Prelude.{slice_index_or}
 use Rattle.cs_tree_model.specs.Tree.{Path}
 use Rattle.cs_trace.specs.Traces.{start_paths}
 use Rattle.cs_micro.specs.Legal.{AreLegal}
-use Rattle.cs_apm.specs.Atlases.{AreChanged, FindsFiles, HasAllNamed, HasFirst, IsKnownPath, no_record}
+use Rattle.cs_apm.specs.Atlases.{AreChanged, no_record}
+use Rattle.cs_apm.specs.Making.{FindsFiles, HasAllNamed, HasFirst, IsKnownPath}
 use Rattle.cs_apm.specs.Slots.{AreKnownSteps, AreSteps, HaveRights, Mirror, slot_at}
 use Rattle.cs_apm.specs.States.{owner_at, owners_made, owners_of, rights_of, start_entries}
 use Rattle.cs_apm.specs.Laws.Small.{small_steps}

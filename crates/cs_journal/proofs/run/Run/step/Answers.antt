@@ -4,7 +4,7 @@ use Rattle.cs_journal.specs.Asked.{asked}
 use Rattle.cs_journal.specs.Calls.{charge, closes_plainly, ended, is_full}
 use Rattle.cs_journal.specs.declared.counts.Counts.{Counts}
 use Rattle.cs_journal.specs.Holding.{IsHeld}
-use Rattle.cs_journal.specs.Steps.{entered, step}
+use Rattle.cs_journal.specs.Steps.{run_with_entry, step}
 use Rattle.cs_journal.specs.Journals.{EntryOf, IsLegal, RunState, start}
 use Rattle.cs_journal.specs.Runs.{IsAscending, PassOf, RunOf, receipt_of, state_of}
 use Rattle.cs_names.specs.declared.limits.TheConstants.{JOURNAL_ENTRIES}
@@ -70,10 +70,10 @@ enter-requires-clause-receipt_room g c =
 
 -- ---- the call's effect, by the names of the run and the pass
 
-effect_len : (g : Over) (c : goal.After-len-3 g) → left c.act-outcome.new.tree c.act-outcome.new.opens.items c.act-outcome.result.1 ≡ stepped (state c.self.inside.tree c.self.inside.opens.items (arc_value c.self.inside.users)) (record { moment = c.args.now; place = length c.self.inside.journal.items; pass = c.pass.inside.number }) c.args.call c.act-outcome.ensures.step.0
+effect_len : (g : Over) (c : goal.After-len-3 g) → left c.act-outcome.new.tree c.act-outcome.new.opens.items c.act-outcome.result.1 ≡ stepped (state c.self.inside.tree c.self.inside.opens.items (arc_value c.self.inside.users)) (record { moment = c.args.now; place = length c.self.inside.journal.items; pass = c.pass.inside.number }) c.args.call c.act-outcome.ensures.step.mark
 effect_len g c =
     let place : c.len-2.result ≡ length c.self.inside.journal.items = omega (arith, c.self.inside.journal.ok) in
-    effect_at _ _ _ _ _ _ _ _ _ _ c.deref.ensures (λ i. record { moment = c.args.now; place = place i; pass = c.pass.inside.number }) (c.call.ensures ∙ c.in-Some.ensures.ready) c.act-outcome.ensures.step.1.1
+    effect_at _ _ _ _ _ _ _ _ _ _ c.deref.ensures (λ i. record { moment = c.args.now; place = place i; pass = c.pass.inside.number }) (c.call.ensures ∙ c.in-Some.ensures.ready) c.act-outcome.ensures.step.leaves_is
 
 pub overflow_add-pass : goal.overflow_add-pass
 overflow_add-pass g c =
@@ -99,19 +99,19 @@ overflow_sub-pass g c =
 
 -- ---- after the call
 
-effect_of : (g : Over) (c : goal.After-self-1 g) → left c.act-outcome.new.tree c.act-outcome.new.opens.items c.act-outcome.result.1 ≡ stepped (state c.self.inside.tree c.self.inside.opens.items (arc_value c.self.inside.users)) (record { moment = c.args.now; place = length c.self.inside.journal.items; pass = c.pass.inside.number }) c.args.call c.act-outcome.ensures.step.0
+effect_of : (g : Over) (c : goal.After-self-1 g) → left c.act-outcome.new.tree c.act-outcome.new.opens.items c.act-outcome.result.1 ≡ stepped (state c.self.inside.tree c.self.inside.opens.items (arc_value c.self.inside.users)) (record { moment = c.args.now; place = length c.self.inside.journal.items; pass = c.pass.inside.number }) c.args.call c.act-outcome.ensures.step.mark
 effect_of g c =
     let place : c.len-2.result ≡ length c.self.inside.journal.items = omega (arith, c.self.inside.journal.ok) in
-    effect_at _ _ _ _ _ _ _ _ _ _ c.deref.ensures (λ i. record { moment = c.args.now; place = place i; pass = c.pass.inside.number }) (c.call.ensures ∙ c.in-Some.ensures.ready) c.act-outcome.ensures.step.1.1
+    effect_at _ _ _ _ _ _ _ _ _ _ c.deref.ensures (λ i. record { moment = c.args.now; place = place i; pass = c.pass.inside.number }) (c.call.ensures ∙ c.in-Some.ensures.ready) c.act-outcome.ensures.step.leaves_is
 
-outcome_of : (g : Over) (c : goal.After-self-1 g) → c.act-outcome.result.0 ≡ outcome (state c.self.inside.tree c.self.inside.opens.items (arc_value c.self.inside.users)) (record { moment = c.args.now; place = length c.self.inside.journal.items; pass = c.pass.inside.number }) c.args.call c.act-outcome.ensures.step.0
+outcome_of : (g : Over) (c : goal.After-self-1 g) → c.act-outcome.result.0 ≡ outcome (state c.self.inside.tree c.self.inside.opens.items (arc_value c.self.inside.users)) (record { moment = c.args.now; place = length c.self.inside.journal.items; pass = c.pass.inside.number }) c.args.call c.act-outcome.ensures.step.mark
 outcome_of g c =
     let place : c.len-2.result ≡ length c.self.inside.journal.items = omega (arith, c.self.inside.journal.ok) in
-    outcome_at _ _ _ _ _ _ _ _ _ _ c.deref.ensures (λ i. record { moment = c.args.now; place = place i; pass = c.pass.inside.number }) (c.call.ensures ∙ c.in-Some.ensures.ready) c.act-outcome.ensures.step.1.0
+    outcome_at _ _ _ _ _ _ _ _ _ _ c.deref.ensures (λ i. record { moment = c.args.now; place = place i; pass = c.pass.inside.number }) (c.call.ensures ∙ c.in-Some.ensures.ready) c.act-outcome.ensures.step.ends
 
 -- the entry and the receipt that were added
 abbrev entry_is : (g : Over) (c : goal.After-self-1 g) → EntryOf
-entry_is g c = record { pass = c.pass.inside.number; moment = c.args.now; call = c.args.call; outcome = outcome (state c.self.inside.tree c.self.inside.opens.items (arc_value c.self.inside.users)) (record { moment = c.args.now; place = length c.self.inside.journal.items; pass = c.pass.inside.number }) c.args.call c.act-outcome.ensures.step.0 }
+entry_is g c = record { pass = c.pass.inside.number; moment = c.args.now; call = c.args.call; outcome = outcome (state c.self.inside.tree c.self.inside.opens.items (arc_value c.self.inside.users)) (record { moment = c.args.now; place = length c.self.inside.journal.items; pass = c.pass.inside.number }) c.args.call c.act-outcome.ensures.step.mark }
 
 journal_is : (g : Over) (c : goal.After-self-1 g) → c.enter.new.journal.items ≡ c.self.inside.journal.items ++ entry_is g c ∷ []
 journal_is g c = c.enter.ensures.journal ∙ (λ i. c.in-Some.ensures.journal.0 i ++ record { pass = c.pass.inside.number; moment = c.args.now; call = c.in-Some.ensures.entry i; outcome = outcome_of g c i } ∷ [])
@@ -153,7 +153,7 @@ invariant_of-pass-2 g c =
     )
 
 -- the run and the pass that are left
-run_is : (g : Over) (c : goal.After-self-1 g) (v : Counts) → ◌≡◌ {A = RunOf} (record { fresh = g.L.TreeRead.tree (arc_value c.self.inside.lower); users = arc_value c.self.inside.users; journal = c.enter.new.journal.items; passes = length (set c.self.inside.passes.items c.pass.inside.number v) }) (entered (record { fresh = g.L.TreeRead.tree (arc_value c.self.inside.lower); users = arc_value c.self.inside.users; journal = c.self.inside.journal.items; passes = length c.self.inside.passes.items }) (entry_is g c))
+run_is : (g : Over) (c : goal.After-self-1 g) (v : Counts) → ◌≡◌ {A = RunOf} (record { fresh = g.L.TreeRead.tree (arc_value c.self.inside.lower); users = arc_value c.self.inside.users; journal = c.enter.new.journal.items; passes = length (set c.self.inside.passes.items c.pass.inside.number v) }) (run_with_entry (record { fresh = g.L.TreeRead.tree (arc_value c.self.inside.lower); users = arc_value c.self.inside.users; journal = c.self.inside.journal.items; passes = length c.self.inside.passes.items }) (entry_is g c))
 run_is g c v = λ i. record { fresh = g.L.TreeRead.tree (arc_value c.self.inside.lower); users = arc_value c.self.inside.users; journal = journal_is g c i; passes = length-set c.self.inside.passes.items c.pass.inside.number v i }
 
 pass_is : (g : Over) (c : goal.After-self-1 g) → ◌≡◌ {A = PassOf} (record { number = c.pass.inside.number; receipts = c.enter.new.receipts.items; reserved = c.pass.inside.reserved + c.len-3.result - c.len-before.result }) (record { number = c.pass.inside.number; receipts = c.pass.inside.receipts.items ++ receipt_of (length c.self.inside.journal.items) (entry_is g c) ∷ []; reserved = c.pass.inside.reserved + length c.act-outcome.new.opens.items - length c.self.inside.opens.items })
@@ -199,7 +199,7 @@ returns-clause-plain g c plain =
     let p : PassOf = record { number = c.pass.inside.number; receipts = c.pass.inside.receipts.items; reserved = c.pass.inside.reserved } in
     let own = along (λ r q. closes_plainly (state_of r) q.number c.args.call ≡ true) _ c.args.self.now p c.args.pass.now c.self.view_is c.pass.view_is plain in
     let there = subst (λ (s : RunState). closes_plainly s p.number c.args.call ≡ true) (state_here _ i.tree _ i.opens.items i.journal.items i.passes.items c.self.invariant.0) own in
-    ap (λ (l : Left). l.answer) (effect_of g c) ∙ plainly _ p.number c.args.now c.args.call c.act-outcome.ensures.step.0 there
+    ap (λ (l : Left). l.answer) (effect_of g c) ∙ plainly _ p.number c.args.now c.args.call c.act-outcome.ensures.step.mark there
 
 pub returns-then-len-entries-gt-JOURNAL_ENTRIES-clause-stepped : goal.returns-then-len-entries-gt-JOURNAL_ENTRIES-clause-stepped
 returns-then-len-entries-gt-JOURNAL_ENTRIES-clause-stepped g c =

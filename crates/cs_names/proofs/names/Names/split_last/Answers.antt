@@ -1,12 +1,13 @@
 use Rattle.std.proofs.Common.{◌≡◌, ◌∷◌, ◌++◌, [], ℕ, List, length, take, drop, lit<, ap, sym, subst, ◌∙◌}
 use Rattle.std.proofs.lemmas.Str.Pattern.{NoCharPasses-char, drop_at_char}
+use Rattle.std.proofs.lemmas.Bool.{eqb-false}
 use Rattle.std.proofs.lemmas.List.{take-append-drop}
 use Rattle.std.specs.Prelude.{◌==◌}
 use Rattle.std.specs.Str.{NoCharPasses}
 use Rattle.std.specs.Str.Pattern.{HasCharAt}
 use Rattle.cs_names.specs.Legal.{IsLegalName}
 use Rattle.cs_names.specs.Joined.{AreLegalNames, path_at}
-use Rattle.cs_names.proofs.Joined.{AreLegalNames-front, no_nul, path_at-whole, some_bytes, split-cut}
+use Rattle.cs_names.proofs.Joined.{AreLegalNames-front, no_nul, path_at-whole, split-cut}
 use Rattle.cs_names.proofs.names.Names.split_last.Goals as goal
 
 -- a text that is cut at a NUL
@@ -35,5 +36,5 @@ returns-in-Some c =
 pub returns-in-None : goal.returns-in-None
 returns-in-None c =
     let text = c.self.inside.text.now in
-    let whole = path_at-whole text (some_bytes (length text) (sym c.is_empty.ensures ∙ c.if-is_empty.false)) (no_nul text (λ i low. NoCharPasses-char 0 text i c.in-None.ensures.cases (lit< tt) low)) in
+    let whole = path_at-whole text (eqb-false (length text) 0 (sym c.is_empty.ensures ∙ c.if-is_empty.false)) (no_nul text (λ i low. NoCharPasses-char 0 text i c.in-None.ensures.cases (lit< tt) low)) in
     (sym c.self.view_is ∙ whole, (subst AreLegalNames whole c.self.invariant).0)

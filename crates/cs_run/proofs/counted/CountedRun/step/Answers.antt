@@ -18,6 +18,6 @@ invariant_of-self g c =
     let s = state (g.T.TreeRead.tree c.args.self.now.tree) c.args.self.now.opens.items c.args.self.now.users in
     let turn : Turn = record { moment = c.args.moment; place = c.args.self.now.count; pass = c.args.pass } in
     record {
-      bounded = subst (AllVersBelow (c.args.self.now.count + 1 + 1)) (sym (ap (λ l. l.tree) c.act.ensures.step.1.1)) (raised.versions (c.args.self.now.count + 1) c.args.self.now.bounded);
-      below = subst (AreBelow (c.args.self.now.count + 1)) (sym (ap (λ l. l.opens) c.act.ensures.step.1.1)) (stays_below s turn c.args.call.now (outcome s turn c.args.call.now c.act.ensures.step.0) c.args.self.now.below);
+      bounded = subst (AllVersBelow (c.args.self.now.count + 1 + 1)) (sym (ap (λ l. l.tree) c.act.ensures.step.leaves_is)) (raised.versions (c.args.self.now.count + 1) c.args.self.now.bounded);
+      below = subst (AreBelow (c.args.self.now.count + 1)) (sym (ap (λ l. l.opens) c.act.ensures.step.leaves_is)) (stays_below s turn c.args.call.now (outcome s turn c.args.call.now c.act.ensures.step.mark) c.args.self.now.below);
     }

@@ -4,7 +4,7 @@ use Rattle.std.specs.BTreeMap.{get_by_text}
 use Rattle.std.specs.Option.{option_copied, is_some}
 use Rattle.std.specs.String.{string_bytes}
 use Rattle.cs_tree_model.specs.Laws.Nexts.{entry_same}
-use Rattle.cs_tree.proofs.ByText.{get_seen}
+use Rattle.cs_tree_model.specs.Maps.Texts.{get_seen}
 use Rattle.cs_tree.proofs.children.Children.after.Goals as goal
 
 pub returns-in_err-name-clause-name : goal.returns-in_err-name-clause-name

@@ -1,6 +1,6 @@
 use Rattle.std.proofs.Common.{ap, ◌∙◌}
 use Rattle.std.specs.FinMap as map
-use Rattle.cs_tree.proofs.ByText.{seen_remove}
+use Rattle.cs_tree_model.specs.Maps.Texts.{seen_remove}
 use Rattle.cs_tree.proofs.children.Children.remove.Goals as goal
 
 pub returns : goal.returns

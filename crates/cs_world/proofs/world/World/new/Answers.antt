@@ -5,5 +5,5 @@ use Rattle.cs_world.proofs.world.World.new.Goals as goal
 pub new-requires : goal.new-requires
 new-requires c = λ state is its. can_grow state is
 
-pub returns-clause-reached : goal.returns-clause-reached
-returns-clause-reached c = by_new _ _ c.in_ok-states.states c.in_ok-blanks.field-0.items c.in_ok-states.ensures c.in_ok-blanks.ensures
+pub returns-clause-reachable : goal.returns-clause-reachable
+returns-clause-reachable c = by_new _ _ c.in_ok-states.states c.in_ok-blanks.field-0.items c.in_ok-states.ensures c.in_ok-blanks.ensures

@@ -1,10 +1,9 @@
-use Rattle.std.proofs.Common.{◌≡◌, ◌∙◌, ◌++◌, ◌+◌, [], ◌∷◌, List, add-one, arith, drop, drop-cons, false, length-drop, map, refl, sym, ap}
+use Rattle.std.proofs.Common.{◌≡◌, ◌∙◌, ◌++◌, ◌+◌, [], ◌∷◌, List, add-one, arith, drop, drop-cons, false, length-drop, refl, sym, ap}
 use Rattle.std.proofs.lemmas.List.{append-nil, nil_from_length}
 use Rattle.cs_world.specs.declared.step.Step.{Step}
-use Rattle.cs_world.specs.Ample.{all_ample, is_short}
+use Rattle.cs_world.specs.Ample.{all_ample, tells_want}
 use Rattle.cs_world.specs.Noting.{world_in}
-use Rattle.cs_world.specs.Projections.{heard_view, projection_of}
-use Rattle.cs_world.specs.Watching.{calls_said}
+use Rattle.cs_world.specs.Projections.{calls_of, projection_of}
 use Rattle.cs_world.proofs.Projected.{more_noted, start_all, start_noted}
 use Rattle.cs_world.proofs.world.World.project.Goals as goal
 
@@ -20,19 +19,19 @@ loop-step-init c =
 pub loop-step-preserved : goal.loop-step-preserved
 loop-step-preserved c =
     let notes = c.step.ensures.notes in
-    let told : is_short c.step.result ≡ false = sym c.tells_memory.ensures ∙ c.if-tells_memory.false in
+    let told : tells_want c.step.result ≡ false = sym c.tells_want.ensures ∙ c.if-tells_want.false in
     let i = c.loop-step.step-index in
     let items : drop i c.args.steps.now ≡ c.step-item.result ∷ drop (i + 1) c.args.steps.now = drop-cons c.args.steps.now i c.step-item.result c.loop-step-test.true ∙ (λ k. sym c.step-item.is k ∷ drop (sym (add-one i) k) c.args.steps.now) in
     record {
       all = c.step.ensures.all;
       key = notes.1.key ∙ c.loop-step.invariant.key;
-      noted = more_noted c.loop-step.world c.step.new.self c.step-item.result c.in_ok-copy.copy c.in_ok-copy.ensures c.step.result notes.0 notes.1 c.loop-step.invariant.all told _ c.loop-step.invariant.key (drop i c.args.steps.now) (drop (i + 1) c.args.steps.now) items _ c.loop-step.invariant.noted;
+      noted = more_noted c.loop-step.world c.step.new.self c.step-item.result c.step.result notes.0 (rw c.in_ok-copy.ensures at notes.1) told _ c.loop-step.invariant.key (drop i c.args.steps.now) (drop (i + 1) c.args.steps.now) items _ c.loop-step.invariant.noted;
     }
 
 pub returns : goal.returns
 returns c =
     let w = c.loop-step.world in
     let empty : drop c.loop-step.step-index c.args.steps.now ≡ [] = nil_from_length (drop c.loop-step.step-index c.args.steps.now) (omega (arith, length-drop c.loop-step.step-index c.args.steps.now, c.loop-step-test.false)) in
-    sym (append-nil (map heard_view w.watched.heard.items))
-    ∙ ap (λ (items : List Step). map heard_view w.watched.heard.items ++ calls_said (projection_of (world_in w) (all_ample items) (record { number = c.args.number; name = c.args.name.now }))) (sym empty)
+    sym (append-nil (w.watched.heard.items))
+    ∙ ap (λ (items : List Step). w.watched.heard.items ++ calls_of (projection_of (world_in w) (all_ample items) (record { number = c.args.number; name = c.args.name.now }))) (sym empty)
     ∙ c.loop-step.invariant.noted c.if-world.false

@@ -1,0 +1,29 @@
+-- What is found once for the rows of an order; for private clauses.
+use Rattle.std.specs.Prelude.{◌≡◌, ℕ, ◌||◌, ◌==◌, Bool, true, false, List, Option, None, Some, length, nat_le, nat_lt, slice_get}
+use Rattle.cs_micro.specs.declared.micro_op.MicroOp.{MicroOp}
+use Rattle.cs_micro.specs.declared.sync_point.SyncPoint.{SyncPoint}
+use Rattle.cs_apm.specs.declared.found.Makers.{Makers}
+use Rattle.cs_apm.specs.Rules.{is_synced, op_at}
+
+-- the place that was found
+abbrev pub is_at : Option ℕ → ℕ → Bool
+is_at None i = false
+is_at (Some k) i = k == i
+
+-- a place that was found is not behind j
+abbrev pub is_by : Option ℕ → ℕ → Bool
+is_by None j = false
+is_by (Some at) j = nat_le at j
+
+-- a place is before the one that was found, if one was
+abbrev pub is_before : ℕ → Option ℕ → Bool
+is_before place None = true
+is_before place (Some at) = nat_lt place at
+
+abbrev pub is_maker : Makers → ℕ → Bool
+is_maker makers i = is_at makers.first i || is_at makers.second i
+
+-- for each of the first n micro-operations the first sync behind it that covers it
+pub record AreSynced (ops : List MicroOp) (syncs : List SyncPoint) (n : ℕ) (found : List (Option ℕ)) : Type 0 where
+  pub long : length found ≡ n
+  pub each : (i : ℕ) (first : Option ℕ) → slice_get found i ≡ Some first → (j : ℕ) → is_by first j ≡ is_synced syncs i j (op_at ops i)

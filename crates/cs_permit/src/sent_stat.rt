@@ -1,0 +1,65 @@
+//! The stat that a Twstat sends, which contracts see as what it says, and no memory.
+ghost use Rattle.std.specs.Prelude.{◌≡◌, IfOk};
+ghost use Rattle.cs_permit.specs.Sent.{sent_of};
+
+use cs_wire::Stat;
+use std::alloc::AllocError;
+use std::marker::Model;
+
+/// The stat that a Twstat sends. Contracts see its fields, of each text the bytes.
+#[derive(Debug, Drop)]
+pub struct SentStat {
+    stat: Stat,
+}
+
+impl Model for SentStat {
+    ghost use Rattle.cs_permit.specs.Sent.{StatSent, sent_of};
+
+    ghost Value = { StatSent };
+
+    ghost view = { λ s. sent_of s.stat };
+}
+
+impl SentStat {
+    /// This stat.
+    pub fn new(stat: Stat) -> SentStat
+        ensures { result ≡ sent_of stat }
+    {
+        SentStat { stat }
+    }
+
+    /// The stat.
+    pub fn as_stat(&self) -> &Stat
+        ensures { sent_of result.now ≡ self.now }
+    {
+        &self.stat
+    }
+
+    /// The same stat again.
+    pub fn try_clone(&self) -> Result<SentStat, AllocError>
+        ensures { IfOk result (λ copy. copy ≡ self.now) }
+    {
+        Ok(SentStat {
+            stat: copy_stat(&self.stat)?,
+        })
+    }
+}
+
+/// A stat that says the same.
+fn copy_stat(stat: &Stat) -> Result<Stat, AllocError>
+    ensures { IfOk result (λ copy. sent_of copy ≡ sent_of stat.now) }
+{
+    Ok(Stat {
+        kind: stat.kind,
+        dev: stat.dev,
+        qid: stat.qid,
+        mode: stat.mode,
+        atime: stat.atime,
+        mtime: stat.mtime,
+        length: stat.length,
+        name: stat.name.clone()?,
+        uid: stat.uid.clone()?,
+        gid: stat.gid.clone()?,
+        muid: stat.muid.clone()?,
+    })
+}

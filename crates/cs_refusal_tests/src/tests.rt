@@ -1,8 +1,0 @@
-//! Want of memory as the clients of a world are told it.
-
-mod attaches;
-mod dialogues;
-mod endings;
-mod start;
-mod sweeps;
-mod talking;

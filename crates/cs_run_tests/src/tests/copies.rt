@@ -1,0 +1,54 @@
+//! Copies of calls.
+
+use super::asks::call_of;
+use cs_fids::Place;
+use cs_names::Name;
+use cs_permit::Call;
+use std::alloc::Global;
+use std::process::Abort;
+
+/// A call of each kind, and a remove by an open fid.
+const CALLS: &str = "\
+attach
+walk 1 s/z
+open 4 12
+create 0 g 644 1
+read 0 61 400
+write 4 3 HI
+close 7
+remove 4
+remove_open 4 7
+stat 4
+wstat 4 name=g,mode=600
+";
+
+/// A place behind an entry of a directory, so that a read has a name to copy.
+fn place(alloc: Global) -> Option<Place> {
+    let last = Some(Name::read(alloc, b"d").ok()?);
+    Some(Place { end: 61, last })
+}
+
+fn shown(alloc: Global, call: &Call) -> Option<String> {
+    let mut text = String::new(alloc);
+    write!(text, "{call:?}").ok()?;
+    Some(text)
+}
+
+/// A call of ann, and its copy, each with all that it says.
+fn with_copy(alloc: Global, words: &str) -> Option<(String, String)> {
+    let call = call_of(alloc, "ann", words, &place(alloc)?)?;
+    let copy = call.try_clone(alloc).ok()?;
+    Some((shown(alloc, &call)?, shown(alloc, &copy)?))
+}
+
+fn expect_copy(rt: &(impl Abort + AllocGlobal), words: &str) {
+    let (call, copy) = with_copy(rt.alloc(), words).expect(rt, "memory");
+    assert_eq!(rt; copy.as_str(), call.as_str());
+}
+
+#[test]
+fn a_copy_of_each_call_says_the_same(rt: HostRuntime) {
+    for words in CALLS.lines() {
+        expect_copy(&rt, words);
+    }
+}

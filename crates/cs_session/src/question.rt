@@ -1,0 +1,78 @@
+//! What a step asks of a run, once its rules have let it pass.
+ghost use Rattle.std.specs.Prelude.{◌≡◌};
+ghost use Rattle.cs_permit.specs.Refusals.{first_failing};
+ghost use Rattle.cs_permit.specs.Table.{table_rules};
+ghost use Rattle.cs_run.specs.Laws.{FitsCall};
+ghost use Rattle.cs_session.specs.Decisions.{after_session, question_of, refusal};
+ghost use Rattle.cs_session.specs.Questions.{Got};
+ghost use Rattle.cs_session.specs.Sizes.{IsPlain};
+
+use crate::port::Port;
+use crate::reply::Reply;
+use cs_fids::FidTable;
+use cs_names::RuleId;
+use cs_permit::{Call, Request, first_of_table};
+use cs_run::Answer;
+use std::alloc::Global;
+
+/// A call on the run at that place, at that moment, under the pass at that place.
+#[derive(Drop)]
+pub(crate) struct RunQuestion {
+    pub(crate) now: u32,
+    pub(crate) run: u32,
+    pub(crate) pass: u32,
+    pub(crate) call: Call,
+}
+
+impl RunQuestion {
+    pub(crate) fn new(now: u32, run: u32, pass: u32, call: Call) -> RunQuestion
+        ensures { result ≡ record { now = now; run = run; pass = pass; call = call } }
+    {
+        RunQuestion {
+            now,
+            run,
+            pass,
+            call,
+        }
+    }
+
+    /// Puts it to the port.
+    pub(crate) fn put<P: Port>(self, alloc: Global, port: &mut P) -> Answer
+        ensures given { P.gives port.old (question_of self) (Got result) port.new }
+        ensures fits { FitsCall self.call result }
+    {
+        port.call(alloc, self.now, self.run, self.pass, self.call)
+    }
+}
+
+/// The first rule of the connection that the request fails: S5 where a run awaits its attach, S1
+/// where no session stands, and then those of its fids. It takes no memory.
+#[tactic(auto, unfolding(cs_permit::specs::Table::first_of_table))]
+pub(crate) fn first_of(
+    awaits: bool,
+    msize: Option<u32>,
+    request: &Request,
+    fids: &FidTable,
+) -> Option<RuleId>
+    ensures { result
+        ≡ first_failing (after_session awaits msize (table_rules fids.now.fids request.now)) }
+{
+    if awaits {
+        return Some(RuleId::S5);
+    }
+    if msize.is_none() {
+        return Some(RuleId::S1);
+    }
+    first_of_table(request, fids)
+}
+
+/// What a denial or want of memory is told as.
+pub(crate) fn refusal(answer: Answer) -> Reply
+    ensures value { result ≡ refusal answer }
+    ensures plain { IsPlain result }
+{
+    match answer {
+        Answer::Denied(rule) => Reply::Error(rule),
+        _ => Reply::Memory,
+    }
+}

@@ -1,0 +1,91 @@
+//! Stats and wstats (stat(5)).
+ghost use Rattle.std.specs.Prelude.{◌≡◌, false, IfErr, IsOk};
+ghost use Rattle.cs_session.specs.Decisions.{Decides, question_of};
+ghost use Rattle.cs_session.specs.Sizes.{IsPlain};
+ghost use Rattle.cs_session.specs.Stats.{stat_decision, stat_reply, wstat_decision, wstat_reply};
+
+use crate::message::WstatMessage;
+use crate::question::{RunQuestion, first_of, refusal};
+use crate::reply::Reply;
+use cs_fids::FidTable;
+use cs_names::RuleId;
+use cs_permit::{Call, Request, StatCall, WstatCall};
+use cs_run::Answer;
+
+/// What a stat asks. It takes no memory.
+pub(crate) fn decide_stat(
+    awaits: bool,
+    msize: Option<u32>,
+    fids: &FidTable,
+    now: u32,
+    fid: u32,
+) -> Result<RunQuestion, Reply>
+    ensures decided { Decides question_of (λ _. stat_decision now awaits msize fids.now.fids fid)
+        result }
+    ensures plain { IfErr result IsPlain }
+    ensures idle { IsOk result → awaits ≡ false }
+{
+    if let Some(rule) = first_of(awaits, msize, &Request::Stat { fid }, fids) {
+        return Err(Reply::Error(rule));
+    }
+    let Some(entry) = fids.look(fid) else {
+        return Err(Reply::Error(RuleId::S5));
+    };
+    let call = Call::Stat(StatCall {
+        number: entry.number(),
+    });
+    Ok(RunQuestion::new(now, entry.run(), entry.pass(), call))
+}
+
+/// What a wstat asks.
+pub(crate) fn decide_wstat(
+    awaits: bool,
+    msize: Option<u32>,
+    fids: &FidTable,
+    now: u32,
+    message: WstatMessage,
+) -> Result<RunQuestion, Reply>
+    ensures decided { Decides question_of (wstat_decision now awaits msize fids.now.fids message)
+        result }
+    ensures plain { IfErr result IsPlain }
+    ensures idle { IsOk result → awaits ≡ false }
+{
+    let request = Request::Wstat { fid: message.fid };
+    if let Some(rule) = first_of(awaits, msize, &request, fids) {
+        return Err(Reply::Error(rule));
+    }
+    let Some(entry) = fids.look(message.fid) else {
+        return Err(Reply::Error(RuleId::S5));
+    };
+    let Ok(user) = entry.user().try_clone() else {
+        return Err(Reply::Memory);
+    };
+    let call = Call::Wstat(WstatCall {
+        number: entry.number(),
+        user,
+        stat: message.stat,
+    });
+    Ok(RunQuestion::new(now, entry.run(), entry.pass(), call))
+}
+
+/// The reply to a stat.
+pub(crate) fn stat_reply(answer: Answer) -> Reply
+    ensures value { result ≡ stat_reply answer }
+    ensures plain { IsPlain result }
+{
+    match answer {
+        Answer::Stat(stat) => Reply::Stat(stat),
+        answer => refusal(answer),
+    }
+}
+
+/// The reply to a wstat.
+pub(crate) fn wstat_reply(answer: Answer) -> Reply
+    ensures value { result ≡ wstat_reply answer }
+    ensures plain { IsPlain result }
+{
+    match answer {
+        Answer::Changed => Reply::Wstat,
+        answer => refusal(answer),
+    }
+}

@@ -1,0 +1,163 @@
+//! The first states with equal trees, of the worked trace.
+ghost use Rattle.std.specs.Prelude.{◌<◌, length};
+ghost use Rattle.std.specs.Arc.{arc_value};
+
+use cs_plan::Scene;
+use cs_same::{Parts, are_same_states, are_seen_same, first_same};
+use cs_trace::read_trace;
+use std::alloc::{AllocError, Global};
+use std::process::Abort;
+use std::sync::Arc;
+
+/// A store that takes a change into its log and then into a new table.
+const STORE: &str = r#"{"trace":1,"owner":"kv","group":"kv","mode":"750"}
+{"start":"file","path":"/table","owner":"kv","group":"kv","mode":"640","bytes":"613d310a"}
+
+{"op":"creat","path":"/log","owner":"kv","group":"kv","mode":"640"}
+{"op":"fsync","path":"/"}
+{"op":"write","path":"/log","offset":0,"bytes":"613d320a"}
+{"op":"fsync","path":"/log"}
+{"op":"say","text":"a=2 is stored"}
+{"op":"mkdir","path":"/tmp","owner":"kv","group":"kv","mode":"700"}
+{"op":"creat","path":"/tmp/table","owner":"kv","group":"kv","mode":"640"}
+{"op":"write","path":"/tmp/table","offset":0,"bytes":"613d320a"}
+{"op":"fsync","path":"/tmp/table"}
+{"op":"rename","from":"/tmp/table","to":"/table"}
+{"op":"fsync","path":"/"}
+{"op":"rmdir","path":"/tmp"}
+{"op":"truncate","path":"/log","length":0}
+{"op":"sync"}
+"#;
+
+/// Found by a second reading of the formats, which keeps whole trees.
+const FIRSTS: [u32; 26] = [
+    0, 1, 2, 3, 3, 5, 6, 7, 8, 9, 10, 11, 1, 5, 6, 7, 3, 5, 8, 3, 5, 6, 9, 10, 11, 25,
+];
+
+/// Each way in which what was done comes to nothing: bytes that stand there already, or that are written
+/// back, a file that is cut and filled again, one that is put in the place of its like, one that goes, and
+/// permissions that are set back.
+const BACK: &str = r#"{"trace":2,"profile":"blocks","owner":"kv","group":"kv","mode":"750"}
+{"start":"file","path":"/data","owner":"kv","group":"kv","mode":"640","bytes":"616263"}
+
+{"op":"write","path":"/data","offset":0,"bytes":"61"}
+{"op":"write","path":"/data","offset":1,"bytes":"78"}
+{"op":"write","path":"/data","offset":1,"bytes":"62"}
+{"op":"truncate","path":"/data","length":1}
+{"op":"write","path":"/data","offset":1,"bytes":"6263"}
+{"op":"chmod","path":"/data","mode":"600"}
+{"op":"chmod","path":"/data","mode":"640"}
+{"op":"creat","path":"/new","owner":"kv","group":"kv","mode":"640"}
+{"op":"write","path":"/new","offset":0,"bytes":"616263"}
+{"op":"rename","from":"/new","to":"/data"}
+{"op":"creat","path":"/gone","owner":"kv","group":"kv","mode":"640"}
+{"op":"write","path":"/gone","offset":0,"bytes":"7a"}
+{"op":"unlink","path":"/gone"}
+{"op":"write","path":"/data","offset":2,"bytes":"63"}
+"#;
+
+/// By hand: what is new is the letter that is wrong, the file that is cut or has zeros, the mode, and the
+/// file that stands beside.
+const BACK_FIRSTS: [u32; 18] = [0, 0, 2, 0, 4, 5, 0, 7, 0, 9, 10, 11, 0, 13, 14, 15, 0, 0];
+
+/// The first state with the tree of this one, by comparing whole trees.
+fn first_by_trees(alloc: Global, scene: &Arc<Scene>, number: u32) -> Result<u32, AllocError>
+    requires { number < length (arc_value scene.now).plan }
+{
+    for other in 0..number {
+        if are_same_states(alloc, scene, other, number)? {
+            return Ok(other);
+        }
+    }
+    Ok(number)
+}
+
+/// Whether the state is seen to have the tree of another, if that is there.
+fn is_seen(alloc: Global, scene: &Arc<Scene>, other: u32, number: u32) -> Result<bool, AllocError>
+    requires { number < length (arc_value scene.now).plan }
+{
+    if other as usize >= scene.plan().len() {
+        return Ok(false);
+    }
+    let parts = Parts::of(alloc, scene)?;
+    are_seen_same(alloc, scene, &parts, other, number)
+}
+
+/// Adds so many zeros, as a trace spells them.
+fn push_zeros(text: &mut String, count: u32) -> Result<(), AllocError> {
+    for _ in 0..count {
+        text.push_str("00")?;
+    }
+    Ok(())
+}
+
+/// A trace of a file of so many blocks of zeros, into each of which a zero is written.
+fn idle_text(alloc: Global, blocks: u32) -> Result<String, AllocError> {
+    let mut text = String::new(alloc);
+    text.push_str("{\"trace\":1,\"owner\":\"kv\",\"group\":\"kv\",\"mode\":\"750\"}\n")?;
+    text.push_str("{\"start\":\"file\",\"path\":\"/data\",\"owner\":\"kv\",\"group\":\"kv\",")?;
+    text.push_str("\"mode\":\"640\",\"bytes\":\"")?;
+    for _ in 0..blocks {
+        push_zeros(&mut text, 4096)?;
+    }
+    text.push_str("\"}\n")?;
+    for block in 0..blocks {
+        let offset = u64::from(block) * 4096;
+        text.push_str("{\"op\":\"write\",\"path\":\"/data\",\"bytes\":\"00\",\"offset\":")?;
+        text.push_str(&format!(in alloc; "{offset}}}\n")?)?;
+    }
+    Ok(text)
+}
+
+/// The states of a trace, with holes if they are asked for.
+fn states_of(rt: &impl Abort, alloc: Global, text: &str, holes: bool) -> Arc<Scene> {
+    let trace = read_trace(alloc, text).expect(rt, "a trace");
+    let scene = Scene::of(alloc, trace, holes, Vec::new(alloc)).expect(rt, "a scene");
+    Arc::new(alloc, scene).expect(rt, "memory")
+}
+
+/// The state has that first one, seen without the trees and by whole trees.
+fn expect_first(rt: &impl Abort, alloc: Global, scene: &Arc<Scene>, number: u32, first: u32)
+    requires { number < length (arc_value scene.now).plan }
+{
+    assert!(rt;
+        is_seen(alloc, scene, first, number) == Ok(true),
+        "{number}"
+    );
+    assert!(rt;
+        first_by_trees(alloc, scene, number) == Ok(first),
+        "{number}"
+    );
+}
+
+/// Each state has the first of its number, by the digests, without the trees and by whole trees.
+fn expect_firsts(rt: &impl Abort, alloc: Global, scene: &Arc<Scene>, firsts: &[u32]) {
+    let found = first_same(alloc, scene).expect(rt, "memory");
+    assert_eq!(rt; found.as_slice(), firsts);
+    for number in 0..scene.plan().len() as u32 {
+        let first = firsts.get(number as usize).copied().unwrap_or(number);
+        expect_first(rt, alloc, scene, number, first);
+    }
+}
+
+#[test]
+fn finds_the_first_states_with_equal_trees(rt: HostRuntime) {
+    let scene = states_of(&rt, rt.alloc(), STORE, true);
+    expect_firsts(&rt, rt.alloc(), &scene, &FIRSTS);
+}
+
+#[test]
+fn equal_states_are_found_in_each_way(rt: HostRuntime) {
+    let scene = states_of(&rt, rt.alloc(), BACK, false);
+    expect_firsts(&rt, rt.alloc(), &scene, &BACK_FIRSTS);
+}
+
+/// There are nine prefixes, and for each of the first seven writes those of the later ones.
+const ALL_EQUAL: [u32; 37] = [0; 37];
+
+#[test]
+fn writes_of_what_stands_there_leave_equal_states(rt: HostRuntime) {
+    let text = idle_text(rt.alloc(), 8).expect(&rt, "memory");
+    let scene = states_of(&rt, rt.alloc(), &text, true);
+    expect_firsts(&rt, rt.alloc(), &scene, &ALL_EQUAL);
+}

@@ -1,0 +1,66 @@
+-- How a call on a run ends.
+use Rattle.std.specs.Prelude.{Option, ◌≡◌, ℕ, true, false, [], ◌∷◌, ◌++◌, None, Some}
+use Rattle.cs_names.specs.declared.rule_id.RuleId.{RuleId}
+use Rattle.cs_names.specs.declared.rule_id.RuleId.TheVariants.{L1}
+use Rattle.cs_permit.specs.Calls.{first}
+use Rattle.cs_permit.specs.declared.call.Call.{Call}
+use Rattle.cs_run.specs.declared.answer.Answer.{Answer}
+use Rattle.cs_run.specs.declared.answer.Answer.TheVariants as a
+use Rattle.cs_run.specs.declared.answer.Outcome.{Outcome}
+use Rattle.cs_run.specs.declared.answer.Outcome.TheVariants as o
+use Rattle.cs_run.specs.Effects.{Left, effect_of, left}
+use Rattle.cs_run.specs.Opens.{released_if}
+use Rattle.cs_run.specs.Outcomes.{closes, takes_memory}
+use Rattle.cs_journal.specs.Calls.{ended, is_full}
+use Rattle.cs_journal.specs.Journals.{seen, turn_in}
+use Rattle.cs_journal.specs.Runs.{RunOf, state_of}
+
+-- a call was made: the journal has one entry more, the last, with how it ended; and the answer, the
+-- tree and the opens are these
+pub record HasEntry (run : RunOf) (now pass : ℕ) (call : Call) (outcome : Outcome) (leaves : Left)
+    (answer : Answer) (run' : RunOf) : Type 0 where
+  pub answer_is : answer ≡ leaves.answer
+  pub entry : run'.journal
+      ≡ run.journal ++ record { pass = pass; moment = now; call = call; outcome = outcome } ∷ []
+  pub tree : (state_of run').tree ≡ leaves.tree
+  pub opens : (state_of run').opens ≡ leaves.opens
+  pub fresh : run'.fresh ≡ run.fresh
+  pub users : run'.users ≡ run.users
+  pub passes : run'.passes ≡ run.passes
+
+-- the first rule that the call fails in the run, if any
+abbrev pub failing_rule : RunOf → Call → Option RuleId
+failing_rule run call = first (seen (state_of run)) call
+
+-- what a call that isn't granted leaves: the tree, and the opens but for the one that a close or a
+-- remove ends
+abbrev pub not_granted : RunOf → ℕ → Call → Answer → Left
+not_granted run pass call answer =
+    left (state_of run).tree (released_if (closes call) pass (state_of run).opens) answer
+
+-- one of five ends; that memory was refused `want` of the theorem says
+pub data EndsAs (run : RunOf) (now pass : ℕ) (call : Call) (answer : Answer) (run' : RunOf)
+    : Type 0 where
+  -- no room in the journal: nothing changes
+  Full : is_full (state_of run) pass call ≡ true → answer ≡ a.Denied L1 → run' ≡ run
+      → EndsAs run now pass call answer run'
+  -- the entry isn't reserved, and the call is answered short: nothing changes
+  NoEntry : is_full (state_of run) pass call ≡ false
+      → ended (state_of run).opens pass call ≡ None → answer ≡ a.Short → run' ≡ run
+      → EndsAs run now pass call answer run'
+  -- a rule fails, and this is the first
+  Denied : (rule : RuleId) → is_full (state_of run) pass call ≡ false
+      → failing_rule run call ≡ Some rule
+      → HasEntry run now pass call (o.Denied rule)
+      (not_granted run pass call (a.Denied rule)) answer run'
+      → EndsAs run now pass call answer run'
+  -- no rule fails, and the call takes memory
+  Short : is_full (state_of run) pass call ≡ false → failing_rule run call ≡ None
+      → takes_memory (seen (state_of run)) (turn_in (state_of run) pass now) call ≡ true
+      → HasEntry run now pass call o.Short (not_granted run pass call a.Short) answer run'
+      → EndsAs run now pass call answer run'
+  -- no rule fails, and the effect is that of the call
+  Granted : is_full (state_of run) pass call ≡ false → failing_rule run call ≡ None
+      → HasEntry run now pass call o.Granted
+      (effect_of (seen (state_of run)) (turn_in (state_of run) pass now) call) answer run'
+      → EndsAs run now pass call answer run'

@@ -1,0 +1,95 @@
+-- What is true of every world that steps lead to.
+use Rattle.std.specs.Prelude.{◌≡◌, ℕ, ◌+◌, ◌<◌, ◌≤◌, ◌==◌, Bool, true, false, filter, List, length, IsSome, IsSomeAnd, Some, slice_get}
+use Rattle.std.specs.Option.{option_map_or}
+use Rattle.cs_fids.specs.declared.entry.Entry.{Entry}
+use Rattle.cs_fids.specs.declared.entry.Entry.TheVariants as entry
+use Rattle.cs_fids.specs.declared.fid.Opened.{Opened}
+use Rattle.cs_fids.specs.FidOf.{FidOf}
+use Rattle.cs_fids.specs.Entries.{pass_of, run_of}
+use Rattle.cs_run.specs.Opens.{open_numbered}
+use Rattle.cs_run.specs.Outcomes.{closes}
+use Rattle.cs_journal.specs.Calls.{is_full}
+use Rattle.cs_journal.specs.Journals.{HasRoom, IsLegal}
+use Rattle.cs_journal.specs.Runs.{RunOf, first_state, state_of}
+use Rattle.cs_names.specs.declared.limits.TheConstants.{CONNECTIONS, RUN_ATTACHES}
+use Rattle.cs_plan.specs.Scenes.{state_at}
+use Rattle.cs_registry.specs.declared.found.Found.{Found}
+use Rattle.cs_registry.specs.Keys.{Key}
+use Rattle.cs_registry.specs.Registries.{Registry, is_published}
+use Rattle.cs_registry.specs.Runs.{held_at}
+use Rattle.cs_session.specs.Questions.{Question, Find, Enter, Ask}
+use Rattle.cs_session.specs.Sessions.{Awaited, Sess, entry_at}
+use Rattle.cs_session.specs.Steps as c
+use Rattle.cs_world.specs.Worlds.{World, connection}
+
+-- the run at a place awaits the connection's attach
+abbrev pub awaits : ℕ → Sess → Bool
+awaits place session = option_map_or (λ attach. attach.run == place) session.pending false
+
+-- how many connections have found it, and are still to attach to it
+abbrev pub waiting : ℕ → List Sess → ℕ
+waiting place connections = length (filter (awaits place) connections)
+
+-- a run is at the place, and gave a pass of that number
+abbrev pub Gave : Registry RunOf → ℕ → ℕ → Type 0
+Gave registry place pass = IsSomeAnd (held_at registry.runs place) (λ run. pass < run.passes)
+
+-- a run with its key: no more passes than finds, counting those that are still to come, and no more
+-- finds than a run has in its life; room in its journal, which is legal; and it began as the state
+-- of its number, which is published
+pub record RunIsReachable (world : World) (place : ℕ) (key : Key) (run : Found RunOf) : Type 0 where
+  pub attaches : run.held.passes + waiting place world.connections ≤ run.finds
+  pub few : run.finds ≤ RUN_ATTACHES
+  pub room : HasRoom (state_of run.held)
+  pub legal : IsLegal (first_state run.held) run.held.journal
+  pub published : is_published world.registry key.number ≡ true
+  pub fresh : state_at world.registry.scene key.number ≡ Some run.held.fresh
+
+-- of each number of the plan it is kept whether its state is published; each run is so; a run that
+-- awaits an attach is there; and each fid has a run that is there, and a pass that it gave
+pub record HasAllThatIsNamed (world : World) : Type 0 where
+  pub all : length world.connections ≡ CONNECTIONS
+  pub states : length world.registry.published ≡ length world.registry.scene.plan
+  pub runs : (place : ℕ) (key : Key) (run : Found RunOf)
+      → slice_get world.registry.runs place ≡ Some (key, run) → RunIsReachable world place key run
+  pub awaited : (conn : ℕ) (attach : Awaited) → (connection world conn).pending ≡ Some attach
+      → IsSome (held_at world.registry.runs attach.run)
+  pub fids : (conn fid : ℕ) (held : Entry) → entry_at (connection world conn) fid ≡ Some held
+      → Gave world.registry (run_of held) (pass_of held)
+
+-- an open of that number stands in the run at a place, under that pass
+abbrev pub HasOpen : Registry RunOf → ℕ → ℕ → ℕ → Type 0
+HasOpen registry place pass number =
+    IsSomeAnd (held_at registry.runs place)
+    (λ run. IsSome (open_numbered number pass (state_of run).opens))
+
+-- each open fid's open stands, and no other fid has it
+pub record OpensStand (world : World) : Type 0 where
+  pub stand : (conn fid : ℕ) (one : FidOf Opened)
+      → entry_at (connection world conn) fid ≡ Some (entry.Opened one)
+      → HasOpen world.registry one.run one.pass one.state.open_number
+  pub own : (conn fid other_conn other_fid : ℕ) (one other : FidOf Opened)
+      → entry_at (connection world conn) fid ≡ Some (entry.Opened one)
+      → entry_at (connection world other_conn) other_fid ≡ Some (entry.Opened other)
+      → one.run ≡ other.run → one.state.open_number ≡ other.state.open_number
+      → (conn ≡ other_conn) × (fid ≡ other_fid)
+
+pub record IsReachable (world : World) : Type 0 where
+  pub there : HasAllThatIsNamed world
+  pub opens : OpensStand world
+
+-- what a question is put to is there: of an attach a run that can give a pass, and of a call a run
+-- that gave the pass; and a close, and a remove of an open fid, has room for its entry
+abbrev pub CanBeAsked : Registry RunOf → Question → Type 0
+CanBeAsked registry (Find state name) = Unit {0}
+CanBeAsked registry (Enter now place call) =
+    IsSomeAnd (held_at registry.runs place) (λ run. run.passes < RUN_ATTACHES)
+CanBeAsked registry (Ask now place pass call) =
+    IsSomeAnd (held_at registry.runs place) (λ run. (pass < run.passes)
+    × (IsSome (closes call) → is_full (state_of run) pass call ≡ false))
+
+-- so can all that a connection asks
+abbrev pub AsksWhatCanBeAsked : World → ℕ → Type 0
+AsksWhatCanBeAsked world conn = (now : ℕ) (step : c.Step) (refused : Bool) (question : Question)
+    → c.front_by now (connection world conn) step refused ≡ c.Asks question
+    → CanBeAsked world.registry question

@@ -1,0 +1,173 @@
+//! Calls on a run that keeps no journal, beside the tree's own calls.
+ghost use Rattle.std.specs.Prelude.{◌≡◌, IsTrue, IsSome};
+ghost use Rattle.cs_tree_model.specs.Stores.{CanStamp};
+ghost use Rattle.cs_tree_model.specs.Tree.{content_numbered};
+
+use crate::files::{FILE, name, tree, user, users};
+use crate::kind::{BLOCK, Kind, OFFSET};
+use cs_bench::{Row, Work, compare};
+use cs_names::{Name, UserName};
+use cs_permit::{Call, qid_at, stat_ref};
+use cs_run::{Answer, CountedRun};
+use cs_tree::PlainTree;
+use cs_tree_model::{Kind as FileKind, Stamp, TreeRead, TreeStore};
+use cs_wire::Qid;
+use std::alloc::Global;
+use std::io;
+use std::rt::Clock;
+
+/// How often each call is made in a round, and how many rounds are timed.
+const REPEATS: u64 = 1_000;
+
+const ROUNDS: u64 = 1_000;
+
+/// A call on a run.
+#[derive(Drop)]
+struct ByCall {
+    run: CountedRun<PlainTree>,
+    call: Call,
+    repeats: u64,
+}
+
+/// Makes a call: whether it is granted.
+pub fn is_granted<T: TreeStore + Drop>(
+    alloc: Global,
+    run: &mut CountedRun<T>,
+    call: &Call,
+) -> bool {
+    if run.is_full() {
+        return false;
+    }
+    let (_outcome, answer) = run.step(alloc, 1, 0, call);
+    !matches!(answer, Answer::Denied(_) | Answer::Short)
+}
+
+impl Work for ByCall {
+    fn run(&mut self, alloc: Global) -> u64 {
+        let mut done = 0u64;
+        for _ in 0..self.repeats {
+            done = done.wrapping_add(u64::from(is_granted(alloc, &mut self.run, &self.call)));
+        }
+        done
+    }
+}
+
+/// The same by the tree's own calls.
+#[derive(Drop)]
+struct ByTree {
+    tree: PlainTree,
+    kind: Kind,
+    names: Vec<Name>,
+    user: UserName,
+    bytes: Vec<u8>,
+    repeats: u64,
+}
+
+/// Whether it is a file that can be changed once more.
+fn takes_bytes(tree: &PlainTree, number: u64) -> bool
+    ensures file { IsTrue result → IsSome (content_numbered tree.now number) }
+    ensures vers { IsTrue result → CanStamp tree.now number }
+{
+    let Some(file) = tree.record(number) else {
+        return false;
+    };
+    match file.kind {
+        FileKind::Directory => false,
+        FileKind::File { .. } => file.vers < u32::MAX,
+    }
+}
+
+impl ByTree {
+    fn of(alloc: Global, kind: Kind, repeats: u64) -> Option<ByTree> {
+        let mut names = Vec::new(alloc);
+        if let Kind::Walks(count) = kind {
+            for depth in 1..count.saturating_add(1) {
+                names.push(name(alloc, depth)?).ok()?;
+            }
+        }
+        Some(ByTree {
+            tree: tree(alloc)?,
+            kind,
+            names,
+            user: user(alloc)?,
+            bytes: vec![in alloc; 9u8; BLOCK].ok()?,
+            repeats,
+        })
+    }
+
+    fn stat(&self, alloc: Global) -> Option<()> {
+        let _stat = stat_ref(&self.tree, FILE)?.copied(alloc).ok()?;
+        Some(())
+    }
+
+    fn read(&self, alloc: Global) -> Option<()> {
+        let bytes = self.tree.read_at(alloc, FILE, OFFSET, BLOCK).ok()??;
+        (bytes.len() == BLOCK).then_some(())
+    }
+
+    fn write(&mut self, alloc: Global) -> Option<()> {
+        let bytes = self.bytes.as_slice();
+        if !takes_bytes(&self.tree, FILE) || bytes.is_empty() || bytes.len() > 65_536 {
+            return None;
+        }
+        let user = self.user.try_clone().ok()?;
+        let stamp = Stamp { now: 1, user };
+        self.tree.write_at(alloc, FILE, OFFSET, bytes, stamp).ok()
+    }
+
+    fn walk(&self, alloc: Global) -> Option<()> {
+        let mut qids: Vec<Qid> = Vec::with_capacity(alloc, self.names.len()).ok()?;
+        let mut number = 0;
+        for name in &self.names {
+            number = self.tree.find_number(number, name.as_str())?;
+            qids.push(qid_at(&self.tree, number)).ok()?;
+        }
+        Some(())
+    }
+
+    fn once(&mut self, alloc: Global) -> Option<()> {
+        match self.kind {
+            Kind::Stats => self.stat(alloc),
+            Kind::Reads => self.read(alloc),
+            Kind::Writes => self.write(alloc),
+            Kind::Walks(_) => self.walk(alloc),
+        }
+    }
+}
+
+impl Work for ByTree {
+    fn run(&mut self, alloc: Global) -> u64 {
+        let mut done = 0u64;
+        for _ in 0..self.repeats {
+            done = done.wrapping_add(u64::from(self.once(alloc).is_some()));
+        }
+        done
+    }
+}
+
+fn by_call(alloc: Global, kind: Kind, repeats: u64) -> Option<ByCall> {
+    Some(ByCall {
+        run: CountedRun::new(alloc, tree(alloc)?, users(alloc)?),
+        call: kind.call(alloc)?,
+        repeats,
+    })
+}
+
+/// Makes a call on a run and by the tree's own.
+pub fn calls(rt: &(impl Clock + Print + AllocGlobal), kind: Kind, timed: bool) -> io::Result<()> {
+    let alloc = rt.alloc();
+    let repeats = if timed { REPEATS } else { 1 };
+    let (Some(mut call), Some(mut own)) = (
+        by_call(alloc, kind, repeats),
+        ByTree::of(alloc, kind, repeats),
+    ) else {
+        return println!(rt; "out of memory");
+    };
+    let row = Row {
+        what: kind.name(),
+        beside: "by the tree's own calls",
+        most: 2.0,
+        rounds: ROUNDS,
+    };
+    compare(rt, &row, &mut call, &mut own, timed)
+}

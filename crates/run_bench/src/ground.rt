@@ -1,0 +1,91 @@
+//! What runs stand on, and a run with a pass.
+
+use crate::files::{tree, users};
+use cs_journal::{Pass, Run, can_grow};
+use cs_overlay::Overlay;
+use cs_permit::Call;
+use cs_run::{Answer, CountedRun};
+use cs_tree::PlainTree;
+use cs_users::Users;
+use std::alloc::Global;
+use std::marker::Model;
+use std::sync::Arc;
+
+/// A tree that runs can begin with, and their users.
+#[derive(Drop)]
+pub struct Ground {
+    lower: Arc<PlainTree>,
+    users: Arc<Users>,
+}
+
+impl Model for Ground {
+    ghost use Rattle.std.specs.Arc.{arc_value};
+    ghost use Rattle.std.specs.Prelude.{ℕ};
+    ghost use Rattle.cs_journal.specs.Bounds.{CanGrow};
+
+    ghost Value = { ℕ };
+
+    ghost view = { λ ground. 0 };
+
+    ghost invariant = { λ ground. CanGrow (arc_value ground.lower) };
+}
+
+impl Ground {
+    pub fn new(alloc: Global, tree: PlainTree) -> Option<Ground> {
+        if !can_grow(&tree) {
+            return None;
+        }
+        Some(Ground {
+            lower: Arc::new(alloc, tree).ok()?,
+            users: Arc::new(alloc, users(alloc)?).ok()?,
+        })
+    }
+
+    /// That of a file of 1 MB and directories in one another.
+    pub fn level(alloc: Global) -> Option<Ground> {
+        Ground::new(alloc, tree(alloc)?)
+    }
+
+    /// A fresh run over it.
+    pub fn run(&self, alloc: Global) -> Option<Run<PlainTree>> {
+        Run::fresh(alloc, self.lower.clone().ok()?, self.users.clone().ok()?).ok()
+    }
+
+    /// A run over it that keeps no journal.
+    pub fn plain(&self, alloc: Global) -> Option<CountedRun<Overlay<PlainTree>>> {
+        let tree = Overlay::over(alloc, self.lower.clone().ok()?);
+        Some(CountedRun::new(alloc, tree, users(alloc)?))
+    }
+}
+
+/// A run, and its first pass.
+#[derive(Drop)]
+pub struct Side {
+    run: Run<PlainTree>,
+    pass: Pass,
+}
+
+impl Model for Side {
+    ghost use Rattle.std.specs.Prelude.{ℕ};
+    ghost use Rattle.cs_journal.specs.Runs.{Fits};
+
+    ghost Value = { ℕ };
+
+    ghost view = { λ side. 0 };
+
+    ghost invariant = { λ side. Fits side.run side.pass };
+}
+
+impl Side {
+    /// A fresh run.
+    pub fn fresh(alloc: Global, ground: &Ground) -> Option<Side> {
+        let mut run = ground.run(alloc)?;
+        let pass = run.new_pass(alloc).ok()?;
+        Some(Side { run, pass })
+    }
+
+    /// Makes a call.
+    pub fn step(&mut self, alloc: Global, call: Call) -> Answer {
+        self.run.step(alloc, &mut self.pass, 1, call)
+    }
+}

@@ -1,0 +1,113 @@
+//! Steps of a run that keeps a journal, beside the same calls on its tree alone.
+
+use crate::calls::is_granted;
+use crate::ground::{Ground, Side};
+use crate::kind::Kind;
+use cs_bench::{Row, Total, Work};
+use cs_overlay::Overlay;
+use cs_run::{Answer, CountedRun};
+use cs_tree::PlainTree;
+use std::alloc::Global;
+use std::io;
+use std::rt::Clock;
+
+/// On how many runs the steps are made.
+const RUNS: u64 = 16;
+
+/// So many steps of a run.
+#[derive(Drop)]
+struct Stepping {
+    side: Side,
+    kind: Kind,
+    count: u64,
+}
+
+impl Work for Stepping {
+    fn run(&mut self, alloc: Global) -> u64 {
+        let mut done = 0u64;
+        for _ in 0..self.count {
+            if let Some(call) = self.kind.call(alloc) {
+                let answer = self.side.step(alloc, call);
+                let is_granted = !matches!(answer, Answer::Denied(_) | Answer::Short);
+                done = done.wrapping_add(u64::from(is_granted));
+            }
+        }
+        done
+    }
+}
+
+/// So many calls on a run that keeps no journal.
+#[derive(Drop)]
+struct Alone<'a> {
+    run: &'a mut CountedRun<Overlay<PlainTree>>,
+    kind: Kind,
+    count: u64,
+}
+
+impl Work for Alone<'_> {
+    fn run(&mut self, alloc: Global) -> u64 {
+        let mut done = 0u64;
+        for _ in 0..self.count {
+            if let Some(call) = self.kind.call(alloc) {
+                done = done.wrapping_add(u64::from(is_granted(alloc, self.run, &call)));
+            }
+        }
+        done
+    }
+}
+
+/// How many steps are made on one run, whose journal has room for them, and how long they may take.
+fn row(kind: Kind) -> (u64, f64) {
+    match kind {
+        Kind::Writes => (6_000, 2.0),
+        _ => (60_000, 1.3),
+    }
+}
+
+/// Makes the steps on fresh runs, each time beside as many calls on one run without a journal. Of
+/// several runs the first doesn't count: it finds no memory that was used before.
+fn take_turns(
+    rt: &(impl Clock + AllocGlobal),
+    kind: Kind,
+    count: u64,
+    runs: u64,
+) -> io::Result<Option<(Total, Total)>> {
+    let alloc = rt.alloc();
+    let Some(ground) = Ground::level(alloc) else {
+        return Ok(None);
+    };
+    let Some(mut plain) = ground.plain(alloc) else {
+        return Ok(None);
+    };
+    let mut totals = (Total::new(), Total::new());
+    for run in 0..runs {
+        let Some(side) = Side::fresh(alloc, &ground) else {
+            return Ok(None);
+        };
+        if run == 1 {
+            totals = (Total::new(), Total::new());
+        }
+        totals.0.time(rt, &mut Stepping { side, kind, count })?;
+        let run = &mut plain;
+        totals.1.time(rt, &mut Alone { run, kind, count })?;
+    }
+    Ok(Some(totals))
+}
+
+/// Makes steps, and the same calls alone.
+pub fn steps(rt: &(impl Clock + Print + AllocGlobal), kind: Kind, timed: bool) -> io::Result<()> {
+    let (steps, most) = row(kind);
+    let (count, runs) = if timed { (steps, RUNS) } else { (1, 1) };
+    let Some(totals) = take_turns(rt, kind, count, runs)? else {
+        return println!(rt; "out of memory");
+    };
+    let name = kind.name();
+    let what = format!(in rt.alloc(); "steps of {name}")?;
+    let row = Row {
+        what: what.as_str(),
+        beside: "the calls alone",
+        most,
+        rounds: runs,
+    };
+    row.print(rt, &totals.0, &totals.1, timed)
+}

@@ -1,0 +1,1 @@
+"""What the command `measure` does: benchmark programs that are built, servers, and their memory."""

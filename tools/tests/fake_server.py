@@ -1,0 +1,48 @@
+#!/usr/bin/env -S python3 -S
+"""A server for the tests of `measure`: `serve .. --listen ADDR ..`, or `ADDR CONNECTIONS KEEPING`.
+
+It answers each message by its type alone, and refuses writes behind the first ten.
+"""
+
+import socketserver
+import struct
+import sys
+
+WRITES = 10
+TWRITE, RERROR = 118, 107
+
+
+class Connection(socketserver.StreamRequestHandler):
+    written = 0
+
+    def handle(self):
+        while True:
+            head = self.rfile.read(7)
+            if len(head) < 7:
+                return
+            size, kind, tag = struct.unpack('<IBH', head)
+            self.rfile.read(size - 7)
+            if kind == TWRITE:
+                self.written += 1
+            refused = kind == TWRITE and self.written > WRITES
+            fields = struct.pack('<H', 2) + b'no' if refused else b''
+            reply = RERROR if refused else kind + 1
+            self.wfile.write(struct.pack('<IBH', 7 + len(fields), reply, tag) + fields)
+
+
+class Server(socketserver.ThreadingTCPServer):
+    allow_reuse_address = True
+    daemon_threads = True
+    request_queue_size = 64
+
+
+def main(words):
+    address = words[words.index('--listen') + 1] if words[0] == 'serve' else words[0]
+    host, port = address.rsplit(':', 1)
+    with Server((host, int(port)), Connection) as server:
+        print(f'listening {address}', flush=True)
+        server.serve_forever()
+
+
+if __name__ == '__main__':
+    main(sys.argv[1:])

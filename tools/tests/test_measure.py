@@ -1,0 +1,135 @@
+"""The command `measure`, over programs that the tests make. Nothing is built, and nothing is timed."""
+
+from __future__ import annotations
+
+import os
+import subprocess
+import sys
+from typing import List
+
+from measuring.memory import crowd, growth, idle, journal
+from measuring.programs import Programs
+from measuring.servers import free_address, halves, listening
+
+from .support import TOOLS, InFolder
+
+CRATES = """# Each crate with the libraries that it stands on.
+cs_bench:
+first_bench: cs_bench
+second_bench may_wait=2: cs_bench
+serve_bench: cs_bench
+"""
+ROWS = """looked up: 3 ns; beside: 2 ns: 1.50 times, within (at most 2)
+kept: 41.200 MB, past (at most 40)
+no row, within reason
+"""
+FAKE = str(TOOLS / 'tests' / 'fake_server.py')
+
+
+class Measure(InFolder):
+    def setUp(self) -> None:
+        super().setUp()
+        self.write('crates.txt', CRATES)
+        for line in CRATES.splitlines()[1:]:
+            name = line.partition(':')[0].split()[0]
+            os.makedirs(self.path('crates', name, 'src'))
+            os.mkdir(self.path('crates', name, 'out'))
+            root = 'lib.rt' if name == 'cs_bench' else 'main.rt'
+            self.write(os.path.join('crates', name, 'src', root), '')
+
+    def program(self, name: str, lines: List[str]) -> None:
+        """Puts a program where it would be built."""
+        os.makedirs(self.path('crates', name, 'out'), exist_ok=True)
+        self.write(os.path.join('crates', name, 'out', name), '\n'.join(lines) + '\n', 0o755)
+
+    def printing(self, name: str, text: str, status: int = 0) -> None:
+        shown = ['test "$1" = time || exit 9', "cat <<'END'", text + 'END', f'exit {status}']
+        self.program(name, ['#!/bin/sh', *shown])
+
+    def measure(self, *names: str) -> subprocess.CompletedProcess:
+        words = [sys.executable, str(TOOLS / 'measure'), '--top', self.folder, *names]
+        return subprocess.run(words, stdout=subprocess.PIPE, stderr=subprocess.PIPE, text=True)
+
+    def test_rows_of_built_programs_are_printed_and_the_others_named(self) -> None:
+        self.printing('first_bench', ROWS)
+        told = self.measure()
+        self.assertEqual(told.stdout.splitlines(), [
+            '== first_bench', *ROWS.splitlines(),
+            '== second_bench: not built: second_bench',
+            '== serve_bench: not built: serve_bench, crashfs',
+            '== memory: not built: crashfs',
+            'past: first_bench: kept: 41.200 MB, past (at most 40)',
+            '1 rows within, 1 past; not built: second_bench, serve_bench, memory',
+        ])
+        self.assertEqual((told.returncode, told.stderr), (1, ''))
+
+    def test_a_program_that_fails_is_named(self) -> None:
+        self.printing('second_bench', ROWS.splitlines()[0] + '\n', status=3)
+        told = self.measure('second_bench')
+        self.assertEqual(told.stdout.splitlines()[-2:], [
+            'second_bench failed: status 3',
+            '1 rows within, 0 past; failed: second_bench',
+        ])
+        self.assertEqual(told.returncode, 1)
+
+    def test_where_all_rows_are_within_the_status_is_zero(self) -> None:
+        self.printing('first_bench', ROWS.splitlines()[0] + '\n')
+        self.assertEqual(self.measure('first_bench').returncode, 0)
+
+    def test_a_name_that_is_no_benchmark_is_refused(self) -> None:
+        told = self.measure('cs_bench')
+        self.assertEqual(told.returncode, 2)
+        self.assertIn('cs_bench is none of first_bench, second_bench, serve_bench, memory',
+                      told.stderr)
+
+    def test_clients_get_the_served_address_and_those_of_three_bare_servers(self) -> None:
+        self.program('crashfs', ['#!/bin/sh', f'exec {FAKE} "$@"'])
+        self.program('serve_bench', ['#!/bin/sh', f'test $# = 3 && exec {FAKE} "$@"',
+                                     'echo "$# words, $5 clients, $6"'])
+        told = self.measure('serve_bench')
+        self.assertEqual([line for line in told.stdout.splitlines() if 'words' in line],
+                         ['6 words, 8 clients, own', '6 words, 8 clients, one',
+                          '6 words, 64 clients, own'], told.stdout + told.stderr)
+        self.assertEqual(told.returncode, 0)
+
+    def test_a_server_that_does_not_listen_is_told(self) -> None:
+        self.program('crashfs', ['#!/bin/sh', 'exit 4'])
+        told = self.measure('memory')
+        self.assertEqual(told.returncode, 1)
+        self.assertEqual(told.stdout.count('memory failed: '), 3)
+
+
+class Memory(InFolder):
+    """A server is brought to each state, and its memory is read then."""
+
+    def grown(self, fill) -> int:
+        address = free_address()
+        with listening([FAKE, address, '9', 'forgets']) as server:
+            more, count = growth(server, lambda: fill(address))
+        self.assertGreaterEqual(more, 0)
+        return count
+
+    def test_connections_come_to_a_run_and_wait(self) -> None:
+        self.assertEqual(self.grown(lambda address: idle(address, 3)), 3)
+
+    def test_runs_are_spread_over_connections(self) -> None:
+        self.assertEqual(self.grown(lambda address: crowd(address, 7, 3)), 7)
+
+    def test_writes_go_on_until_one_is_refused(self) -> None:
+        self.assertEqual(self.grown(lambda address: journal(address, 1_000)), 10)
+
+    def test_writes_end_where_none_is_refused(self) -> None:
+        self.assertEqual(self.grown(lambda address: journal(address, 8)), 8)
+
+
+class Processors(InFolder):
+    def test_servers_and_clients_have_half_of_the_processors_each(self) -> None:
+        servers, clients = halves()
+        self.assertTrue(servers and clients)
+        if len(os.sched_getaffinity(0)) > 1:
+            self.assertFalse(set(servers) & set(clients))
+
+    def test_only_programs_are_benchmarks(self) -> None:
+        names = Programs(TOOLS.parent).benchmarks()
+        self.assertIn('serve_bench', names)
+        self.assertNotIn('cs_bench', names)
