@@ -1,4 +1,7 @@
 //! What runs stand on, and a run with a pass.
+ghost use Rattle.std.specs.Arc.{arc_value};
+ghost use Rattle.std.specs.Prelude.{IfSome};
+ghost use Rattle.cs_journal.specs.Bounds.{CanGrow};
 
 use crate::files::{tree, users};
 use cs_journal::{Pass, Run, can_grow};
@@ -30,15 +33,21 @@ impl Model for Ground {
     ghost invariant = { λ ground. CanGrow (arc_value ground.lower) };
 }
 
+/// The tree, if runs can begin with it.
+fn shared(alloc: Global, tree: PlainTree) -> Option<Arc<PlainTree>>
+    ensures { IfSome result (λ lower. CanGrow (arc_value lower)) }
+{
+    if !can_grow(&tree) {
+        return None;
+    }
+    Arc::new(alloc, tree).ok()
+}
+
 impl Ground {
     pub fn new(alloc: Global, tree: PlainTree) -> Option<Ground> {
-        if !can_grow(&tree) {
-            return None;
-        }
-        Some(Ground {
-            lower: Arc::new(alloc, tree).ok()?,
-            users: Arc::new(alloc, users(alloc)?).ok()?,
-        })
+        let lower = shared(alloc, tree)?;
+        let users = Arc::new(alloc, users(alloc)?).ok()?;
+        Some(Ground { lower, users })
     }
 
     /// That of a file of 1 MB and directories in one another.
