@@ -74,7 +74,7 @@ def blocks_of(text):
 def calls_of(crate):
     """The public calls that can tell want of memory, as `crate Type::call`."""
     names, modules = public_names(crate)
-    for path in sorted((CRATES / crate / 'src').glob('*.rt')):
+    for path in sorted((CRATES / crate / 'src').rglob('*.rt')):
         text = path.read_text().split('#[cfg(test)]')[0]
         for of, is_trait, part in blocks_of(text):
             for _, is_public, call, rest in FUNCTION.findall(part):

@@ -9,7 +9,7 @@ use Rattle.cs_users.specs.Rows.{Row}
 use Rattle.cs_journal.proofs.Journals.{last-push, other_entries, other_receipts, own_entries, own_receipts, replay-push}
 use Rattle.cs_journal.proofs.Last.{told_by_place}
 use Rattle.cs_journal.specs.declared.counts.Counts.{Counts}
-use Rattle.cs_journal.specs.Asked.{asked}
+use Rattle.cs_journal.specs.Summaries.{without_bytes}
 use Rattle.cs_journal.specs.Fitting.{Tallies, receipt_at}
 use Rattle.cs_journal.specs.Holding.{IsHeld, counts_of, no_counts}
 use Rattle.cs_journal.specs.Journals.{EntryOf, RunState, apply, entries_of_pass}
@@ -47,12 +47,12 @@ counted_where_fits fresh tree us opens journal counts h p k there f =
     let c = counted_in fresh tree us opens journal counts h p k there in
     record { entries = c.entries ∙ sym f.entries; opens = c.opens ∙ sym f.opens; last = f.last ∙ sym c.last }
 
--- a receipt is of an entry where place, outcome and what the call asks are the entry's
-pub is_receipt_of : (place : ℕ) (r s : ReceiptOf) (e d : EntryOf) (x y : Call) (b : Bool) → s ≡ r → d ≡ e → s.place ≡ place → s.outcome ≡ d.outcome → x ≡ s.asked → y ≡ asked d.call → ((b ≡ true) ↔ (x ≡ y)) → (b ≡ true) ↔ (r ≡ receipt_of place e)
+-- a receipt is of an entry where place, outcome and the call without its bytes are the entry's
+pub is_receipt_of : (place : ℕ) (r s : ReceiptOf) (e d : EntryOf) (x y : Call) (b : Bool) → s ≡ r → d ≡ e → s.place ≡ place → s.outcome ≡ d.outcome → x ≡ s.call → y ≡ without_bytes d.call → ((b ≡ true) ↔ (x ≡ y)) → (b ≡ true) ↔ (r ≡ receipt_of place e)
 is_receipt_of place r s e d x y b sr de at ends xs ys same =
-    let told : x ≡ y → s ≡ receipt_of place d = λ both i. record { place = at i; asked = (sym xs ∙ both ∙ ys) i; outcome = ends i } in (
+    let told : x ≡ y → s ≡ receipt_of place d = λ both i. record { place = at i; call = (sym xs ∙ both ∙ ys) i; outcome = ends i } in (
       λ yes. sym sr ∙ told (same.0 yes) ∙ ap (receipt_of place) de,
-      λ its. same.1 (xs ∙ ap (λ (t : ReceiptOf). t.asked) (sr ∙ its ∙ sym (ap (receipt_of place) de)) ∙ sym ys),
+      λ its. same.1 (xs ∙ ap (λ (t : ReceiptOf). t.call) (sr ∙ its ∙ sym (ap (receipt_of place) de)) ∙ sym ys),
     )
 
 -- ---- after an entry

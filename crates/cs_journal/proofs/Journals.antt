@@ -12,7 +12,7 @@ use Rattle.cs_tree_model.specs.Tree.{Tree}
 use Rattle.cs_users.specs.Rows.{Row}
 use Rattle.cs_journal.specs.declared.counts.Counts.{Counts}
 use Rattle.cs_journal.specs.Holding.{IsHeld}
-use Rattle.cs_journal.specs.Journals.{EntryOf, HasRoom, IsLegal, IsOutcome, RunState, apply, entries_of_pass, is_of_pass, replay, seen, start, turn_in}
+use Rattle.cs_journal.specs.Journals.{EntryOf, HasRoom, IsLegal, IsOutcome, RunState, apply, entries_of_pass, is_of_pass, replay, rules_view_of, start, turn_in}
 use Rattle.cs_journal.specs.Runs.{ReceiptOf, last_of, receipt_of, receipts_from, receipts_in}
 
 -- ---- one entry more
@@ -94,7 +94,7 @@ users-replay s (e ∷ es) = users-replay (apply s e) es
 pub versions-replay : (k : ℕ) (s : RunState) (es : List EntryOf) → AllVersBelow k s.tree → AllVersBelow (k + length es) (replay s es).tree
 versions-replay k s [] below = subst (λ n. AllVersBelow n s.tree) (sym (add-zero k)) below
 versions-replay k s (e ∷ es) below =
-    let raised = step_raises (seen s) (turn_in s e.pass e.moment) e.call e.outcome in
+    let raised = step_raises (rules_view_of s) (turn_in s e.pass e.moment) e.call e.outcome in
     let rest : AllVersBelow (k + 1 + length es) (replay (apply s e) es).tree = versions-replay (k + 1) (apply s e) es (raised.versions k below) in
     let same : k + 1 + length es ≡ k + suc (length es) = omega arith in
     subst (λ n. AllVersBelow n (replay (apply s e) es).tree) same rest
@@ -103,14 +103,14 @@ versions-replay k s (e ∷ es) below =
 pub next-replay : (s : RunState) (es : List EntryOf) → (replay s es).tree.next ≤ s.tree.next + length es
 next-replay s [] = omega arith
 next-replay s (e ∷ es) =
-    let raised = step_raises (seen s) (turn_in s e.pass e.moment) e.call e.outcome in
+    let raised = step_raises (rules_view_of s) (turn_in s e.pass e.moment) e.call e.outcome in
     let rest : (replay (apply s e) es).tree.next ≤ (apply s e).tree.next + length es = next-replay (apply s e) es in
     omega (arith, raised.next, rest)
 
 -- each open's number is the place of an entry
 pub below-replay : (s : RunState) (es : List EntryOf) → AreBelow s.entries s.opens → AreBelow (replay s es).entries (replay s es).opens
 below-replay s [] below = below
-below-replay s (e ∷ es) below = below-replay (apply s e) es (stays_below (seen s) (turn_in s e.pass e.moment) e.call e.outcome below)
+below-replay s (e ∷ es) below = below-replay (apply s e) es (stays_below (rules_view_of s) (turn_in s e.pass e.moment) e.call e.outcome below)
 
 -- what a run holds is the state that its journal gives
 pub held_state : (fresh tree : Tree) (us : List Row) (opens : List OpenFile) (journal : List EntryOf) (counts : List Counts) → IsHeld fresh tree us opens journal counts

@@ -1,3 +1,4 @@
+pub mod Keeping
 pub mod Moves
 pub mod Journals
 pub mod Fitting

@@ -7,7 +7,7 @@ use Rattle.std.specs.Option.{option_map}
 use Rattle.std.specs.Prelude.{is_some, nat_lt}
 use Rattle.cs_names.specs.declared.limits.TheConstants.{JOURNAL_ENTRIES}
 use Rattle.cs_names.specs.declared.rule_id.RuleId.TheVariants.{L1}
-use Rattle.cs_permit.specs.Calls.{first, state}
+use Rattle.cs_permit.specs.Calls.{failing_rule, rules_view}
 use Rattle.cs_permit.specs.declared.call.Call.{Call}
 use Rattle.cs_permit.specs.declared.call.Call.TheVariants as k
 use Rattle.cs_permit.specs.declared.call.CloseCall.{CloseCall}
@@ -30,9 +30,9 @@ use Rattle.cs_journal.specs.declared.counts.Counts.{Counts}
 use Rattle.cs_journal.proofs.Fitting.{other_fits, own_fits}
 use Rattle.cs_journal.proofs.Journals.{IsLegal-push, below-replay, held_state, last-push, next-replay, other_entries, other_receipts, own_entries, own_receipts, replay-push, versions-replay}
 use Rattle.cs_journal.proofs.Moves.{Moves, call_moves, released_call}
-use Rattle.cs_journal.specs.Calls.{charge, closes_plainly, ended, is_full}
+use Rattle.cs_journal.specs.Calls.{charge, closes_plainly, ended, is_close, is_full}
 use Rattle.cs_journal.specs.Holding.{IsHeld, counts_of, no_counts}
-use Rattle.cs_journal.specs.Journals.{EntryOf, HasRoom, IsLegal, IsOutcome, RunState, answer_to, apply, entries_of_pass, replay, seen, start, turn_in}
+use Rattle.cs_journal.specs.Journals.{EntryOf, HasRoom, IsLegal, IsOutcome, RunState, answer_to, apply, entries_of_pass, replay, rules_view_of, start, turn_in}
 use Rattle.cs_journal.specs.Marks.{StepMark, Ample, NoEntry, NoRoom, call_mark}
 use Rattle.cs_journal.specs.Runs.{Fits, PassOf, ReceiptOf, RunOf, last_of, opens_under, receipt_of, receipts_in, state_of}
 use Rattle.cs_journal.specs.Small.{is_small}
@@ -106,7 +106,7 @@ module _ (fresh tree : Tree) (us : List Row) (opens : List OpenFile) (journal : 
 
     one_more_entry : length journal + 1 ≤ JOURNAL_ENTRIES
     one_more_entry =
-        let m = call_moves (state tree opens us) turn_here call out.Short in
+        let m = call_moves (rules_view tree opens us) turn_here call out.Short in
         omega (arith, m.room, limit)
 
     pub versions_grow : (n : ℕ) → CanStamp tree n
@@ -122,9 +122,9 @@ module _ (fresh tree : Tree) (us : List Row) (opens : List OpenFile) (journal : 
         subst P (sym state_here) full
 
     -- ---- after the call
-    module _ (mark : CallMark) (tree' : Tree) (opens' : List OpenFile) (answer : Answer) (effect : left tree' opens' answer ≡ stepped (state tree opens us) turn_here call mark) where
+    module _ (mark : CallMark) (tree' : Tree) (opens' : List OpenFile) (answer : Answer) (effect : left tree' opens' answer ≡ stepped (rules_view tree opens us) turn_here call mark) where
       abbrev pub its_outcome : Outcome
-      its_outcome = outcome (state tree opens us) turn_here call mark
+      its_outcome = outcome (rules_view tree opens us) turn_here call mark
 
       abbrev pub its_entry : EntryOf
       its_entry = record { pass = pass; moment = now; call = call; outcome = its_outcome }
@@ -132,7 +132,7 @@ module _ (fresh tree : Tree) (us : List Row) (opens : List OpenFile) (journal : 
       pub moved : Moves opens opens' pass (charge opens pass call)
       moved =
           let P : Left → Type 0 = λ l. Moves opens l.opens pass (charge opens pass call) in
-          subst P (sym effect) (call_moves (state tree opens us) turn_here call its_outcome)
+          subst P (sym effect) (call_moves (rules_view tree opens us) turn_here call its_outcome)
 
       applied_here : apply (state_of held_run) its_entry ≡ record { tree = tree'; opens = opens'; users = us; entries = length journal + 1 }
       applied_here = ap (λ s. apply s its_entry) state_here ∙ (λ i. record { tree = (sym effect i).tree; opens = (sym effect i).opens; users = us; entries = length journal + 1 })
@@ -218,8 +218,8 @@ module _ (fresh tree : Tree) (us : List Row) (opens : List OpenFile) (journal : 
 
         same_entry : its_entry ≡ entry_of held_run held_pass now call (step_mark mark)
         same_entry =
-            let own : its_outcome ≡ outcome (state tree opens us) turn_here call (call_mark (step_mark mark)) = ap (outcome (state tree opens us) turn_here call) (sym (marked mark)) in
-            let there : outcome (state tree opens us) turn_here call (call_mark (step_mark mark)) ≡ outcome (seen (state_of held_run)) (turn_in (state_of held_run) pass now) call (call_mark (step_mark mark)) = ap (λ (s : RunState). outcome (seen s) (turn_in s pass now) call (call_mark (step_mark mark))) (sym state_here) in
+            let own : its_outcome ≡ outcome (rules_view tree opens us) turn_here call (call_mark (step_mark mark)) = ap (outcome (rules_view tree opens us) turn_here call) (sym (marked mark)) in
+            let there : outcome (rules_view tree opens us) turn_here call (call_mark (step_mark mark)) ≡ outcome (rules_view_of (state_of held_run)) (turn_in (state_of held_run) pass now) call (call_mark (step_mark mark)) = ap (λ (s : RunState). outcome (rules_view_of s) (turn_in s pass now) call (call_mark (step_mark mark))) (sym state_here) in
             λ i. record { pass = pass; moment = now; call = call; outcome = (own ∙ there) i }
 
         pub stepped_after : (m : StepMark) × (record { answer = answer; run = run_after; pass = pass_after } ≡ step held_run held_pass now call m)
@@ -242,6 +242,12 @@ along P r r' p p' run_is pass_is there =
 pub inside : (r r' : RunOf) (p p' : PassOf) → r ≡ r' → p ≡ p' → Fits r' p' → Fits r p
 inside = along Fits
 
+-- a growth that is refused, of a run and a pass by other names
+pub short_at : (r r' : RunOf) (p p' : PassOf) (now : ℕ) (call : Call) → r ≡ r' → p ≡ p' → is_full (state_of r) p.number call ≡ false → is_some (ended (state_of r).opens p.number call) ≡ false
+    → (mark : StepMark) × (without_entry r' p' Short ≡ step r' p' now call mark)
+short_at r r' p p' now call run_is pass_is room none =
+    short_step r' p' now call (along (λ s q. is_full (state_of s) q.number call ≡ false) r' r p' p (sym run_is) (sym pass_is) room) (along (λ s q. is_some (ended (state_of s).opens q.number call) ≡ false) r' r p' p (sym run_is) (sym pass_is) none)
+
 -- a call that ends an open that stands is charged nothing
 pub free : (opens : List OpenFile) (pass : ℕ) (call : Call) → is_some (ended opens pass call) ≡ true → charge opens pass call ≡ 0
 free opens pass call is = rw is refl
@@ -255,12 +261,12 @@ ends_none_if opens pass call charged = by (is_some (ended opens pass call)) refl
 
 -- a call's effect, with its parts by other names
 pub effect_at : (t : Tree) (os : List OpenFile) (us us' : List Row) (w w' : Turn) (call call' : Call) (mark : CallMark) (l : Left)
-    → us' ≡ us → w' ≡ w → call' ≡ call → l ≡ stepped (state t os us') w' call' mark → l ≡ stepped (state t os us) w call mark
-effect_at t os us us' w w' call call' mark l users_are turn_is call_is e = e ∙ (λ i. stepped (state t os (users_are i)) (turn_is i) (call_is i) mark)
+    → us' ≡ us → w' ≡ w → call' ≡ call → l ≡ stepped (rules_view t os us') w' call' mark → l ≡ stepped (rules_view t os us) w call mark
+effect_at t os us us' w w' call call' mark l users_are turn_is call_is e = e ∙ (λ i. stepped (rules_view t os (users_are i)) (turn_is i) (call_is i) mark)
 
 pub outcome_at : (t : Tree) (os : List OpenFile) (us us' : List Row) (w w' : Turn) (call call' : Call) (mark : CallMark) (o : Outcome)
-    → us' ≡ us → w' ≡ w → call' ≡ call → o ≡ outcome (state t os us') w' call' mark → o ≡ outcome (state t os us) w call mark
-outcome_at t os us us' w w' call call' mark o users_are turn_is call_is e = e ∙ (λ i. outcome (state t os (users_are i)) (turn_is i) (call_is i) mark)
+    → us' ≡ us → w' ≡ w → call' ≡ call → o ≡ outcome (rules_view t os us') w' call' mark → o ≡ outcome (rules_view t os us) w call mark
+outcome_at t os us us' w w' call call' mark o users_are turn_is call_is e = e ∙ (λ i. outcome (rules_view t os (users_are i)) (turn_is i) (call_is i) mark)
 
 -- the room that a call and its opens take isn't nothing
 pub some_room : (opens : List OpenFile) (pass : ℕ) (call : Call) → 1 ≤ length opens + charge opens pass call
@@ -281,14 +287,22 @@ both true true true is = absurd cc
 both true false c is = absurd cc
 both false b c is = absurd cc
 
-plain_close : (s : RunState) (pass now : ℕ) (c : CloseCall) (mark : CallMark) → closes_plainly s pass (k.Close c) ≡ true → (stepped (seen s) (turn_in s pass now) (k.Close c) mark).answer ≡ Closed
-unfolding outcome first close_effect
+plain_close : (s : RunState) (pass now : ℕ) (c : CloseCall) (mark : CallMark) → closes_plainly s pass (k.Close c) ≡ true → (stepped (rules_view_of s) (turn_in s pass now) (k.Close c) mark).answer ≡ Closed
+unfolding outcome failing_rule close_effect
 plain_close s pass now c mark plain =
     let kept : removes s.tree (open_numbered c.open_number pass s.opens) ≡ false = both true (is_some (open_numbered c.open_number pass s.opens)) _ plain in
     rw (kept, granted_if mark) refl
 
+ends_one : (a b c : Bool) → (a && (b && c)) ≡ true → b ≡ true
+ends_one true true c is = refl
+ends_one true false c is = absurd cc
+ends_one false b c is = absurd cc
+
+pub not_plain : (s : RunState) (pass : ℕ) (call : Call) → is_some (ended s.opens pass call) ≡ false → closes_plainly s pass call ≡ true → ⊥
+not_plain s pass call none plain = let bad : false ≡ true = sym none ∙ ends_one (is_close call) (is_some (ended s.opens pass call)) _ plain in absurd cc
+
 -- such a close is answered whatever memory refuses
-pub plainly : (s : RunState) (pass now : ℕ) (call : Call) (mark : CallMark) → closes_plainly s pass call ≡ true → (stepped (seen s) (turn_in s pass now) call mark).answer ≡ Closed
+pub plainly : (s : RunState) (pass now : ℕ) (call : Call) (mark : CallMark) → closes_plainly s pass call ≡ true → (stepped (rules_view_of s) (turn_in s pass now) call mark).answer ≡ Closed
 plainly s pass now (k.Close c) mark plain = plain_close s pass now c mark plain
 plainly s pass now (k.Attach c) mark plain = absurd cc
 plainly s pass now (k.Walk c) mark plain = absurd cc

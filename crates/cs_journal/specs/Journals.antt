@@ -1,7 +1,7 @@
 -- A run's state, and what the entries of a journal make of it.
 use Rattle.std.specs.Prelude.{◌≡◌, ℕ, ◌+◌, ◌≤◌, ◌==◌, Bool, List, [], ◌∷◌, length, filter}
 use Rattle.cs_names.specs.declared.limits.TheConstants.{JOURNAL_ENTRIES}
-use Rattle.cs_permit.specs.Calls.{RulesView, state}
+use Rattle.cs_permit.specs.Calls.{RulesView, rules_view}
 use Rattle.cs_permit.specs.declared.call.Call.{Call}
 use Rattle.cs_permit.specs.declared.call.OpenFile.{OpenFile}
 use Rattle.cs_run.specs.declared.answer.Answer.{Answer}
@@ -21,6 +21,13 @@ pub record EntryOf : Type 0 where
   pub call : Call
   pub outcome : Outcome
 
+-- A journal in memory: its entries, for how many there is room, and the bytes of each block of
+-- those that its calls wrote.
+pub record JournalOf : Type 0 where
+  pub items : List EntryOf
+  pub capacity : ℕ
+  pub blocks : List (List ℕ)
+
 -- A run's state: its tree, its opens, the users, and how many entries there are.
 pub record RunState : Type 0 where
   pub tree : Tree
@@ -37,8 +44,8 @@ abbrev pub start : Tree → List Row → RunState
 start t us = record { tree = t; opens = []; users = us; entries = 0 }
 
 -- what the rules look at
-abbrev pub seen : RunState → RulesView
-seen run = state run.tree run.opens run.users
+abbrev pub rules_view_of : RunState → RulesView
+rules_view_of run = rules_view run.tree run.opens run.users
 
 -- the turn of a call that comes next: its place is how many entries are before it
 abbrev pub turn_in : RunState → ℕ → ℕ → Turn
@@ -47,7 +54,7 @@ turn_in run pass moment = record { moment = moment; place = run.entries; pass = 
 -- what an entry's call leaves, by its outcome
 abbrev pub left_by : RunState → EntryOf → Left
 left_by run entry =
-    applied (seen run) (turn_in run entry.pass entry.moment) entry.call entry.outcome
+    applied (rules_view_of run) (turn_in run entry.pass entry.moment) entry.call entry.outcome
 
 -- the answer to an entry's call
 abbrev pub answer_to : RunState → EntryOf → Answer
@@ -71,7 +78,7 @@ replay run (entry ∷ entries) = replay (apply run entry) entries
 -- is granted, or short where it takes memory
 abbrev pub IsOutcome : RunState → EntryOf → Type 0
 IsOutcome run entry = (mark : CallMark)
-    × (entry.outcome ≡ outcome (seen run) (turn_in run entry.pass entry.moment) entry.call mark)
+    × (entry.outcome ≡ outcome (rules_view_of run) (turn_in run entry.pass entry.moment) entry.call mark)
 
 -- there is room for the entries, and for that of each open's close
 abbrev pub HasRoom : RunState → Type 0

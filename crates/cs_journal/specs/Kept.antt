@@ -1,13 +1,19 @@
--- What an entry and a receipt keep in memory: a call that both share, or a small one.
+-- What an entry and a receipt keep in memory of a call: all of it, shared by both; of a write its
+-- bytes' piece, and the rest shared; or a small call.
 use Rattle.std.specs.Arc.{arc_value}
-use Rattle.std.specs.Prelude.{ℕ, List, Option, None, Some}
+use Rattle.std.specs.Prelude.{◌<◌, ℕ, List, Option, None, Some}
 use Rattle.cs_fids.specs.Fids.{first_place}
+use Rattle.cs_names.specs.declared.limits.TheConstants.{RUN_ATTACHES}
 use Rattle.cs_permit.specs.declared.call.Call.{Call}
 use Rattle.cs_permit.specs.declared.call.Call.TheVariants as call
+use Rattle.cs_journal.specs.declared.entry.Entry.{Entry}
 use Rattle.cs_journal.specs.declared.kept.Kept.{Kept}
 use Rattle.cs_journal.specs.declared.kept.Kept.TheVariants as k
+use Rattle.cs_journal.specs.declared.kept.WriteHead.{WriteHead}
+use Rattle.cs_journal.specs.Journals.{EntryOf}
+use Rattle.cs_journal.specs.Written.{IsWithin, bytes_at}
 
--- a close, a remove, and a read that goes on at the start
+-- a close, a remove, a read that goes on at the start, and a write
 abbrev pub close_call : ℕ → List ℕ → Call
 close_call open_number user = call.Close (record { open_number = open_number; user = user })
 
@@ -19,11 +25,41 @@ abbrev pub read_call : ℕ → ℕ → ℕ → Call
 read_call number offset count =
     call.Read (record { number = number; offset = offset; count = count; place = first_place })
 
--- the call
-abbrev pub call_of : Kept → Call
-call_of (k.Shared shared) = arc_value shared
-call_of (k.Close open_number user) = close_call open_number user.value
-call_of (k.Remove number user) = remove_call number user.value None
-call_of (k.RemoveOpen open_number number user) = remove_call number user.value (Some open_number)
-call_of (k.Read count number offset) = read_call number offset count
-call_of (k.Stat number) = call.Stat (record { number = number })
+abbrev pub write_call : WriteHead → List ℕ → Call
+write_call head bytes =
+    call.Write (record {
+      number = head.number;
+      user = head.user;
+      offset = head.offset;
+      bytes = bytes;
+    })
+
+-- the call, where the bytes that it writes lie in these blocks
+abbrev pub call_of : List (List ℕ) → Kept → Call
+call_of blocks (k.Shared shared) = arc_value shared
+call_of blocks (k.Write piece head) = write_call (arc_value head) (bytes_at blocks piece)
+call_of blocks (k.Close open_number user) = close_call open_number user.value
+call_of blocks (k.Remove number user) = remove_call number user.value None
+call_of blocks (k.RemoveOpen open_number number user) =
+    remove_call number user.value (Some open_number)
+call_of blocks (k.Read count number offset) = read_call number offset count
+call_of blocks (k.Stat number) = call.Stat (record { number = number })
+
+-- they do lie there
+abbrev pub LiesIn : List (List ℕ) → Kept → Type 0
+LiesIn blocks (k.Write piece head) = IsWithin blocks piece
+LiesIn blocks other = Unit {0}
+
+-- an entry whose call's bytes lie in these blocks
+abbrev pub entry_in : List (List ℕ) → Entry → EntryOf
+entry_in blocks e = record {
+  pass = e.pass;
+  moment = e.moment;
+  call = call_of blocks e.kept;
+  outcome = e.outcome;
+}
+
+-- they do lie there, and a run gives the pass
+pub record IsEntryIn (blocks : List (List ℕ)) (e : Entry) : Type 0 where
+  pub few : e.pass < RUN_ATTACHES
+  pub within : LiesIn blocks e.kept

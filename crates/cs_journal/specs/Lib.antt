@@ -1,6 +1,6 @@
 pub mod Journals
-pub mod Asked
-pub mod Texts
+pub mod Summaries
+pub mod Written
 pub mod Kept
 pub mod Calls
 pub mod Runs

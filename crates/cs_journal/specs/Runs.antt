@@ -7,9 +7,10 @@ use Rattle.cs_run.specs.declared.answer.Outcome.{Outcome}
 use Rattle.cs_tree_model.specs.Tree.{Tree, tree_code}
 use Rattle.cs_users.specs.Rows.{Row}
 use Rattle.cs_users.specs.contracts.users.Users as users
-use Rattle.cs_journal.specs.contracts.entry.Entry as entry
+use Rattle.cs_permit.specs.contracts.call.Call as call
+use Rattle.cs_run.specs.contracts.answer.Outcome as outcome
 use Rattle.cs_permit.specs.declared.call.Call.{Call}
-use Rattle.cs_journal.specs.Asked.{asked}
+use Rattle.cs_journal.specs.Summaries.{without_bytes}
 use Rattle.cs_journal.specs.Journals.{EntryOf, RunState, entries_of_pass, is_of_pass, replay, start}
 
 -- A run: the tree and the users that it began with, its journal, and how many passes it gave. Its
@@ -20,11 +21,24 @@ pub record RunOf : Type 0 where
   pub journal : List EntryOf
   pub passes : ℕ
 
+abbrev pub entry_code : Coded EntryOf
+entry_code =
+    code_by (ℕ × (ℕ × (Call × Outcome)))
+    (coded× coded_ℕ (coded× coded_ℕ (coded× call.the_row.coded outcome.the_row.coded)))
+    (λ e. (e.pass, (e.moment, (e.call, e.outcome))))
+    (λ parts. record {
+      pass = parts.0;
+      moment = parts.1.0;
+      call = parts.1.1.0;
+      outcome = parts.1.1.1;
+    })
+    (λ _. refl)
+
 abbrev pub run_code : Coded RunOf
 run_code =
     code_by (Tree × (List Row × (List EntryOf × ℕ)))
     (coded× tree_code
-    (coded× users.the_row.coded (coded× (coded_list entry.the_row.coded) coded_ℕ)))
+    (coded× users.the_row.coded (coded× (coded_list entry_code) coded_ℕ)))
     (λ run. (run.fresh, (run.users, (run.journal, run.passes))))
     (λ parts. record {
       fresh = parts.0;
@@ -54,15 +68,20 @@ with_pass run = record {
   passes = run.passes + 1;
 }
 
--- What a pass keeps of an entry: its place, what its call asked, and how it ended.
+-- What a pass keeps of an entry: its place, its call without the bytes that it writes, and how it
+-- ended.
 pub record ReceiptOf : Type 0 where
   pub place : ℕ
-  pub asked : Call
+  pub call : Call
   pub outcome : Outcome
 
 -- the receipt of the entry at a place
 abbrev pub receipt_of : ℕ → EntryOf → ReceiptOf
-receipt_of place entry = record { place = place; asked = asked entry.call; outcome = entry.outcome }
+receipt_of place entry = record {
+  place = place;
+  call = without_bytes entry.call;
+  outcome = entry.outcome;
+}
 
 -- each receipt has a place behind those before it
 abbrev pub IsAscending : List ReceiptOf → Type 0

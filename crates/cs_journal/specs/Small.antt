@@ -16,3 +16,8 @@ is_small (call.Remove c) = true
 is_small (call.Stat c) = true
 is_small (call.Read c) = is_start c.place
 is_small other = false
+
+-- a write, of which the bytes are kept apart from the rest
+abbrev pub is_write : Call → Bool
+is_write (call.Write c) = true
+is_write other = false

@@ -6,7 +6,7 @@ use Rattle.cs_run.specs.declared.answer.Answer.{Answer}
 use Rattle.cs_run.specs.declared.answer.Answer.TheVariants.{Denied, Short}
 use Rattle.cs_run.specs.Outcomes.{outcome}
 use Rattle.cs_journal.specs.Calls.{ended, is_full}
-use Rattle.cs_journal.specs.Journals.{EntryOf, answer_to, apply, seen, turn_in}
+use Rattle.cs_journal.specs.Journals.{EntryOf, answer_to, apply, rules_view_of, turn_in}
 use Rattle.cs_journal.specs.Marks.{StepMark, call_mark, refuses_entry}
 use Rattle.cs_journal.specs.Runs.{PassOf, RunOf, opens_under, receipt_of, state_of}
 
@@ -51,7 +51,7 @@ entry_of run pass now call mark = record {
   pass = pass.number;
   moment = now;
   call = call;
-  outcome = outcome (seen (state_of run)) (turn_in (state_of run) pass.number now) call
+  outcome = outcome (rules_view_of (state_of run)) (turn_in (state_of run) pass.number now) call
       (call_mark mark);
 }
 

@@ -6,7 +6,8 @@ ghost use Rattle.cs_journal.specs.Audit.{AreRests, Audits, FindSame, Tells, Tell
 ghost use Rattle.cs_journal.specs.Audit.{is_at, receipts_count, receipts_of_pass};
 ghost use Rattle.cs_journal.specs.Runs.{IsAscending};
 
-use crate::entry::Entry;
+use crate::entry::EntryRef;
+use crate::journal::Journal;
 use crate::pass::Pass;
 use crate::receipt::Receipt;
 use crate::run::Run;
@@ -97,7 +98,7 @@ fn first_at(receipts: &[Receipt], place: u32) -> Option<&Receipt>
 }
 
 /// Whether the receipt that was found for an entry's place, if one was, is the entry's own.
-fn audit_entry(receipt: Option<&Receipt>, place: u32, entry: &Entry) -> Result<(), AuditFault>
+fn audit_entry(receipt: Option<&Receipt>, place: u32, entry: &EntryRef) -> Result<(), AuditFault>
     ensures { TellsOf (option_map (λ r. r.now) receipt.entry) place entry.now result }
 {
     let Some(receipt) = receipt else {
@@ -111,16 +112,17 @@ fn audit_entry(receipt: Option<&Receipt>, place: u32, entry: &Entry) -> Result<(
 }
 
 /// The first entry without its own receipt, if there is one. Each receipt is passed over once.
-fn audit_entries(journal: &[Entry], passes: &[Pass]) -> Result<(), AuditFault>
-    requires { length journal.now ≤ JOURNAL_ENTRIES }
-    ensures { Tells passes.now journal.now result }
+fn audit_entries(journal: &Journal, passes: &[Pass]) -> Result<(), AuditFault>
+    requires { length journal.now.items ≤ JOURNAL_ENTRIES }
+    ensures { Tells passes.now journal.now.items result }
 {
     let mut rests = receipts_by_number(passes);
-    for (place, entry) in journal.iter().enumerate() {
+    for place in 0..journal.len() {
+        let entry = journal.entry(place);
         let number = entry.pass();
         let rest = from_place(rests[number], place as u32);
         rests[number] = rest;
-        match audit_entry(first_at(rest, place as u32), place as u32, entry) {
+        match audit_entry(first_at(rest, place as u32), place as u32, &entry) {
             Ok(()) => {}
             Err(fault) => return Err(fault),
         }
@@ -129,9 +131,9 @@ fn audit_entries(journal: &[Entry], passes: &[Pass]) -> Result<(), AuditFault>
 }
 
 /// The same, where there are as many receipts as entries.
-fn audit_journal(journal: &[Entry], passes: &[Pass]) -> Result<(), AuditFault>
-    requires { length journal.now ≤ JOURNAL_ENTRIES }
-    ensures { Audits passes.now journal.now result }
+fn audit_journal(journal: &Journal, passes: &[Pass]) -> Result<(), AuditFault>
+    requires { length journal.now.items ≤ JOURNAL_ENTRIES }
+    ensures { Audits passes.now journal.now.items result }
 {
     if !has_count(passes, journal.len()) {
         return Err(AuditFault::Count);

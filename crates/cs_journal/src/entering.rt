@@ -1,10 +1,11 @@
 //! Entries and receipts of calls, with the memory for both taken before.
-ghost use Rattle.std.specs.Prelude.{◌≡◌, ◌<◌, ◌+◌, [], ◌∷◌, ◌++◌, vec_capacity, vec_len};
+ghost use Rattle.std.specs.Prelude.{◌≡◌, ◌<◌, ◌+◌, [], ◌∷◌, ◌++◌, length, vec_capacity, vec_len};
 ghost use Rattle.cs_names.specs.declared.limits.TheConstants.{RUN_ATTACHES};
-ghost use Rattle.cs_journal.specs.Asked.{asked};
-ghost use Rattle.cs_journal.specs.Kept.{call_of};
+ghost use Rattle.cs_journal.specs.Kept.{LiesIn, call_of};
+ghost use Rattle.cs_journal.specs.Summaries.{without_bytes};
 
 use crate::entry::Entry;
+use crate::journal::Journal;
 use crate::kept::Kept;
 use crate::ready::Ready;
 use crate::receipt::Receipt;
@@ -12,8 +13,9 @@ use cs_run::{Outcome, Turn};
 
 /// Adds the entry of a call in that turn, and its receipt, with what each keeps of it, and lets the
 /// call go. It takes no memory.
+#[inline]
 pub(crate) fn enter(
-    journal: &mut Vec<Entry>,
+    journal: &mut Journal,
     receipts: &mut Vec<Receipt>,
     turn: Turn,
     _ready: Ready,
@@ -22,23 +24,28 @@ pub(crate) fn enter(
     outcome: Outcome,
 )
     requires pass { turn.pass < RUN_ATTACHES }
-    requires entry_room { vec_len journal.old < vec_capacity journal.old }
+    requires lies { LiesIn journal.old.blocks entry }
+    requires entry_room { length journal.old.items < journal.old.capacity }
     requires receipt_room { vec_len receipts.old < vec_capacity receipts.old }
     ensures journal { journal.new.items ≡ journal.old.items
         ++ record {
           pass = turn.pass;
           moment = turn.moment;
-          call = call_of entry;
+          call = call_of journal.old.blocks entry;
           outcome = outcome;
         } ∷ [] }
-    ensures journal_len { vec_len journal.new ≡ vec_len journal.old + 1 }
-    ensures journal_capacity { vec_capacity journal.new ≡ vec_capacity journal.old }
+    ensures journal_len { length journal.new.items ≡ length journal.old.items + 1 }
+    ensures journal_capacity { journal.new.capacity ≡ journal.old.capacity }
     ensures receipts { receipts.new.items ≡ receipts.old.items
-        ++ record { place = turn.place; asked = asked (call_of receipt); outcome = outcome } ∷ [] }
+        ++ record {
+          place = turn.place;
+          call = without_bytes (call_of [] receipt);
+          outcome = outcome;
+        } ∷ [] }
     ensures receipts_len { vec_len receipts.new ≡ vec_len receipts.old + 1 }
     ensures receipts_capacity { vec_capacity receipts.new ≡ vec_capacity receipts.old }
 {
-    journal.push_reserved(Entry {
+    journal.push(Entry {
         pass: turn.pass as u8,
         outcome,
         moment: turn.moment,

@@ -1,12 +1,16 @@
 //! The entries of a journal.
-ghost use Rattle.std.specs.Prelude.{◌≡◌, ◌<◌};
+ghost use Rattle.std.specs.Prelude.{◌≡◌, ◌<◌, IfOk};
 ghost use Rattle.cs_names.specs.declared.limits.TheConstants.{RUN_ATTACHES};
 
 use crate::kept::Kept;
-use cs_run::Outcome;
+use crate::ready::Ready;
+use crate::summary::CallSummary;
+use crate::written::Written;
+use cs_run::{Outcome, Turn};
+use std::alloc::{AllocError, Global};
 use std::marker::Model;
 
-/// An entry of a journal. Contracts see the pass, the moment, the call, and how it ended.
+/// An entry of a journal, as it lies there.
 #[derive(Drop)]
 pub struct Entry {
     // small, so that an entry is
@@ -16,30 +20,71 @@ pub struct Entry {
     pub(crate) kept: Kept,
 }
 
-impl Model for Entry {
-    ghost use Rattle.std.specs.Prelude.{◌<◌};
-    ghost use Rattle.cs_names.specs.declared.limits.TheConstants.{RUN_ATTACHES};
+/// An entry with the bytes that its call wrote. Contracts see the pass, the moment, the call, and
+/// how it ended.
+#[derive(Drop)]
+pub(crate) struct EntryRef<'a> {
+    pub(crate) entry: &'a Entry,
+    pub(crate) written: &'a Written,
+}
+
+impl<'a> Model for EntryRef<'a> {
     ghost use Rattle.cs_journal.specs.Journals.{EntryOf};
-    ghost use Rattle.cs_journal.specs.Kept.{call_of};
 
     ghost Value = { EntryOf };
 
-    ghost view = { λ e. record {
-      pass = e.pass;
-      moment = e.moment;
-      call = call_of e.kept;
-      outcome = e.outcome;
-    } };
+    ghost use Rattle.cs_journal.specs.Kept.{IsEntryIn, entry_in};
 
-    ghost invariant = { λ e. e.pass < RUN_ATTACHES };
+    ghost view = { λ e. entry_in e.written.now e.entry.now };
+
+    ghost invariant = { λ e. IsEntryIn e.written.now e.entry.now };
 }
 
-impl Entry {
+impl<'a> EntryRef<'a> {
+    ghost use Rattle.cs_journal.specs.Ready.{ready_call};
+    ghost use Rattle.cs_journal.specs.Summaries.{call_in, without_bytes};
+
     /// The number of its pass.
     pub(crate) fn pass(&self) -> usize
         ensures value { result ≡ self.now.pass }
         ensures few { result < RUN_ATTACHES }
     {
-        self.pass as usize
+        self.entry.pass as usize
+    }
+
+    /// The turn of its call, at that place.
+    pub(crate) fn turn(&self, place: u32) -> Turn
+        ensures { result ≡ record {
+          moment = self.now.moment;
+          place = place;
+          pass = self.now.pass;
+        } }
+    {
+        Turn {
+            moment: self.entry.moment,
+            place,
+            pass: u32::from(self.entry.pass),
+        }
+    }
+
+    /// How its call ended.
+    pub(crate) fn outcome(&self) -> Outcome
+        ensures { result ≡ self.now.outcome }
+    {
+        self.entry.outcome
+    }
+
+    /// Its call without the bytes that it wrote.
+    pub(crate) fn summary(&self) -> CallSummary<'_>
+        ensures { call_in result ≡ without_bytes self.now.call }
+    {
+        self.entry.kept.summary()
+    }
+
+    /// Its call, once more.
+    pub(crate) fn again(&self, alloc: Global) -> Result<Ready, AllocError>
+        ensures { IfOk result (λ ready. ready_call ready ≡ self.now.call) }
+    {
+        self.entry.kept.again(alloc, self.written)
     }
 }

@@ -1,26 +1,39 @@
 //! What an entry and a receipt keep of a call.
-ghost use Rattle.std.specs.Prelude.{◌≡◌, ◌+◌, ◌≤◌, IfOk, true, vec_len};
-ghost use Rattle.cs_journal.specs.Kept.{call_of, close_call, read_call, remove_call};
+ghost use Rattle.std.specs.Prelude.{◌≡◌, ◌+◌, ◌≤◌, ℕ, IfOk, List, true, vec_len};
+ghost use Rattle.cs_journal.specs.Kept.{LiesIn, call_of, close_call, read_call, remove_call, write_call};
 ghost use Rattle.cs_journal.specs.Ready.{ready_call};
 ghost use Rattle.cs_journal.specs.Small.{is_small, is_start};
 ghost use Rattle.cs_permit.specs.declared.call.Call.TheVariants.{Remove};
 
-use crate::asked::{AskedRef, asked_by};
 use crate::ready::Ready;
+use crate::summary::{CallSummary, summary_of};
 use crate::user_text::UserText;
+use crate::written::{Piece, Written};
 use cs_fids::Place;
-use cs_names::UserName;
-use cs_permit::{Call, CloseCall, ReadCall, RemoveCall, StatCall};
+use cs_names::{Bytes, UserName};
+use cs_permit::{Call, CloseCall, ReadCall, RemoveCall, StatCall, WriteCall};
 use std::alloc::{AllocError, Global};
 use std::sync::Arc;
 
-/// A call as an entry or a receipt keeps it. One that takes memory is shared by both. A close and a
-/// remove lie in memory that was taken before, so that they can be reserved; a stat and a read of a
-/// file are small.
+/// What is kept of a write beside its bytes.
+#[derive(Drop)]
+pub(crate) struct WriteHead {
+    pub(crate) number: u64,
+    pub(crate) offset: u64,
+    pub(crate) user: UserText,
+}
+
+/// A call as an entry or a receipt keeps it. One that takes memory is shared by both; the bytes of
+/// a write lie with those of others. A close and a remove lie in memory that was taken before, so
+/// that they can be reserved; a stat and a read of a file are small.
 // a variant's short fields come first: they lie beside its tag
 #[derive(Drop)]
 pub(crate) enum Kept {
     Shared(Arc<Call>),
+    Write {
+        piece: Piece,
+        head: Arc<WriteHead>,
+    },
     Close {
         open_number: u32,
         user: Box<UserText>,
@@ -46,17 +59,17 @@ pub(crate) enum Kept {
 }
 
 impl Kept {
-    ghost use Rattle.cs_journal.specs.Asked.{asked};
-    ghost use Rattle.cs_journal.specs.Kept.{call_of};
+    ghost use Rattle.cs_journal.specs.Kept.{LiesIn, call_of};
     ghost use Rattle.cs_journal.specs.Ready.{ready_call};
-    ghost use Rattle.cs_journal.specs.Texts.{asked_in};
+    ghost use Rattle.cs_journal.specs.Summaries.{call_in, without_bytes};
 
     /// What an entry or a receipt keeps of a call with no memory of its own: a close's user, and a
     /// remove's, on the last of the blank texts.
     pub(crate) fn small(call: &Call, blanks: &mut Vec<Box<UserText>>) -> Kept
         requires small { is_small call.now ≡ true }
         requires blank { 1 ≤ vec_len blanks.old }
-        ensures value { call_of result ≡ call.now }
+        ensures value { (blocks : List (List ℕ)) → call_of blocks result ≡ call.now }
+        ensures lies { (blocks : List (List ℕ)) → LiesIn blocks result }
         ensures left { vec_len blanks.old ≤ vec_len blanks.new + 1 }
     {
         match call {
@@ -81,11 +94,13 @@ impl Kept {
     }
 
     /// The call, once more.
-    pub(crate) fn again(&self, alloc: Global) -> Result<Ready, AllocError>
-        ensures { IfOk result (λ ready. ready_call ready ≡ call_of self.now) }
+    pub(crate) fn again(&self, alloc: Global, written: &Written) -> Result<Ready, AllocError>
+        requires { LiesIn written.now self.now }
+        ensures { IfOk result (λ ready. ready_call ready ≡ call_of written.now self.now) }
     {
         match self {
             Kept::Shared(call) => Ok(Ready::Shared(call.clone()?)),
+            Kept::Write { piece, head } => write_again(alloc, head, written.piece(*piece)),
             Kept::Close { open_number, user } => close_again(alloc, *open_number, user),
             Kept::Remove { number, user } => remove_again(alloc, *number, user, None),
             Kept::RemoveOpen {
@@ -97,30 +112,34 @@ impl Kept {
                 count,
                 number,
                 offset,
-            } => Ok(Ready::Small(read_again(*number, *offset, *count))),
-            Kept::Stat(number) => Ok(Ready::Small(Call::Stat(StatCall { number: *number }))),
+            } => Ok(Ready::Own(read_again(*number, *offset, *count))),
+            Kept::Stat(number) => Ok(Ready::Own(Call::Stat(StatCall { number: *number }))),
         }
     }
 
-    /// What the call asks.
-    pub(crate) fn asked(&self) -> AskedRef<'_>
-        ensures { asked_in result ≡ asked (call_of self.now) }
+    /// The call without the bytes that it writes.
+    pub(crate) fn summary(&self) -> CallSummary<'_>
+        ensures { (blocks : List (List ℕ)) → call_in result
+            ≡ without_bytes (call_of blocks self.now) }
     {
         match self {
-            Kept::Shared(call) => asked_by(call),
-            Kept::Close { open_number, user } => AskedRef::Close(*open_number, user.as_bytes()),
-            Kept::Remove { number, user } => AskedRef::Remove(*number, user.as_bytes(), None),
+            Kept::Shared(call) => summary_of(call),
+            Kept::Write { head, .. } => {
+                CallSummary::Write(head.number, head.user.as_bytes(), head.offset)
+            }
+            Kept::Close { open_number, user } => CallSummary::Close(*open_number, user.as_bytes()),
+            Kept::Remove { number, user } => CallSummary::Remove(*number, user.as_bytes(), None),
             Kept::RemoveOpen {
                 open_number,
                 number,
                 user,
-            } => AskedRef::Remove(*number, user.as_bytes(), Some(*open_number)),
+            } => CallSummary::Remove(*number, user.as_bytes(), Some(*open_number)),
             Kept::Read {
                 count,
                 number,
                 offset,
-            } => AskedRef::Read(*number, *offset, *count, 0, None),
-            Kept::Stat(number) => AskedRef::Stat(*number),
+            } => CallSummary::Read(*number, *offset, *count, 0, None),
+            Kept::Stat(number) => CallSummary::Stat(*number),
         }
     }
 }
@@ -144,7 +163,7 @@ fn close_again(alloc: Global, open_number: u32, user: &UserText) -> Result<Ready
     ensures { IfOk result (λ ready. ready_call ready ≡ close_call open_number user.now) }
 {
     let user = user.name(alloc)?;
-    Ok(Ready::Small(Call::Close(CloseCall { open_number, user })))
+    Ok(Ready::Own(Call::Close(CloseCall { open_number, user })))
 }
 
 fn remove_again(
@@ -156,10 +175,23 @@ fn remove_again(
     ensures { IfOk result (λ ready. ready_call ready ≡ remove_call number user.now open_number) }
 {
     let user = user.name(alloc)?;
-    Ok(Ready::Small(Call::Remove(RemoveCall {
+    Ok(Ready::Own(Call::Remove(RemoveCall {
         number,
         user,
         open_number,
+    })))
+}
+
+fn write_again(alloc: Global, head: &WriteHead, bytes: &[u8]) -> Result<Ready, AllocError>
+    ensures { IfOk result (λ ready. ready_call ready ≡ write_call head.now bytes.now) }
+{
+    let user = head.user.name(alloc)?;
+    let bytes = Bytes::keep(alloc, bytes)?;
+    Ok(Ready::Own(Call::Write(WriteCall {
+        number: head.number,
+        user,
+        offset: head.offset,
+        bytes,
     })))
 }
 
@@ -178,7 +210,8 @@ fn read_again(number: u64, offset: u64, count: u32) -> Call
 /// What is kept of a remove.
 fn removed(call: &RemoveCall, user: Box<UserText>) -> Kept
     requires { user.value ≡ call.now.user }
-    ensures { call_of result ≡ Remove call.now }
+    ensures value { (blocks : List (List ℕ)) → call_of blocks result ≡ Remove call.now }
+    ensures lies { (blocks : List (List ℕ)) → LiesIn blocks result }
 {
     match call.open_number {
         Some(open_number) => Kept::RemoveOpen {

@@ -2,12 +2,12 @@
 //! every call as an entry.
 #![tactic(auto)]
 
-mod asked;
 mod auditing;
 mod counts;
 mod entering;
 mod entry;
 mod growing;
+mod journal;
 mod kept;
 pub mod laws;
 mod matching;
@@ -18,7 +18,9 @@ mod replaying;
 mod room;
 mod run;
 mod stepping;
+mod summary;
 mod user_text;
+mod written;
 
 pub use auditing::AuditFault;
 pub use cs_permit::PassFault;

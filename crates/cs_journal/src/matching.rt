@@ -4,31 +4,32 @@ ghost use Rattle.cs_journal.specs.Fitting.{Tallies, receipt_at};
 ghost use Rattle.cs_journal.specs.Runs.{Fits, last_of};
 
 use crate::counts::Counts;
-use crate::entry::Entry;
+use crate::journal::Journal;
 use crate::pass::Pass;
 use crate::receipt::Receipt;
 use crate::run::Run;
 use cs_tree_model::TreeRead;
 
 /// Whether the last receipt is that of the entry at the place, if there is one.
-fn is_last(receipts: &[Receipt], journal: &[Entry], last: Option<u32>) -> bool
-    ensures { IsTrue result ↔ (last_of receipts.now ≡ receipt_at journal.now last) }
+fn is_last(receipts: &[Receipt], journal: &Journal, last: Option<u32>) -> bool
+    ensures { IsTrue result ↔ (last_of receipts.now ≡ receipt_at journal.now.items last) }
 {
     let Some(place) = last else {
         return receipts.is_empty();
     };
-    let Some(entry) = journal.get(place as usize) else {
+    if place as usize >= journal.len() {
         return receipts.is_empty();
-    };
+    }
+    let entry = journal.entry(place as usize);
     match receipts.last() {
-        Some(receipt) => receipt.is_of(place, entry),
+        Some(receipt) => receipt.is_of(place, &entry),
         None => false,
     }
 }
 
 /// Whether what is counted of a pass is what this one has, its last receipt too.
-fn tallies(counts: &Counts, journal: &[Entry], pass: &Pass) -> bool
-    ensures { IsTrue result ↔ Tallies counts.now journal.now pass.now }
+fn tallies(counts: &Counts, journal: &Journal, pass: &Pass) -> bool
+    ensures { IsTrue result ↔ Tallies counts.now journal.now.items pass.now }
 {
     if counts.entries != pass.receipts.len() {
         return false;

@@ -1,16 +1,16 @@
 //! The receipts of a pass.
 ghost use Rattle.std.specs.Prelude.{◌≡◌, ◌↔◌, IsTrue};
 
-use crate::asked::{ask_the_same, asked_by};
-use crate::entry::Entry;
+use crate::entry::EntryRef;
 use crate::kept::Kept;
+use crate::summary::{are_same, summary_of};
 use cs_names::RuleId;
 use cs_permit::Call;
 use cs_run::Outcome;
 use std::marker::Model;
 
-/// What a pass keeps of an entry. Contracts see the entry's place, what its call asked without the
-/// bytes that it wrote, and how it ended.
+/// What a pass keeps of an entry. Contracts see the entry's place, its call without the bytes that
+/// it wrote, and how it ended.
 #[derive(Drop)]
 pub struct Receipt {
     pub(crate) kept: Kept,
@@ -19,15 +19,16 @@ pub struct Receipt {
 }
 
 impl Model for Receipt {
-    ghost use Rattle.cs_journal.specs.Asked.{asked};
+    ghost use Rattle.std.specs.Prelude.{[]};
     ghost use Rattle.cs_journal.specs.Kept.{call_of};
     ghost use Rattle.cs_journal.specs.Runs.{ReceiptOf};
+    ghost use Rattle.cs_journal.specs.Summaries.{without_bytes};
 
     ghost Value = { ReceiptOf };
 
     ghost view = { λ r. record {
       place = r.place;
-      asked = asked (call_of r.kept);
+      call = without_bytes (call_of [] r.kept);
       outcome = r.outcome;
     } };
 }
@@ -50,7 +51,7 @@ fn is_same_end(outcome: Outcome, other: Outcome) -> bool
 }
 
 impl Receipt {
-    ghost use Rattle.cs_journal.specs.Asked.{asked};
+    ghost use Rattle.cs_journal.specs.Summaries.{without_bytes};
     ghost use Rattle.cs_journal.specs.Runs.{receipt_of};
 
     /// The place of its entry in the journal.
@@ -67,25 +68,24 @@ impl Receipt {
         self.outcome
     }
 
-    /// Whether its call asked what this one asks, but for the bytes that they write. It takes no
-    /// memory.
-    pub fn asks(&self, call: &Call) -> bool
-        ensures { IsTrue result ↔ (self.now.asked ≡ asked call.now) }
+    /// Whether its call is this one, but for the bytes that they write. It takes no memory.
+    pub fn is_for(&self, call: &Call) -> bool
+        ensures { IsTrue result ↔ (self.now.call ≡ without_bytes call.now) }
     {
-        ask_the_same(self.kept.asked(), asked_by(call))
+        are_same(self.kept.summary(), summary_of(call))
     }
 
-    /// Whether it is the receipt of the entry at that place: of what its call asks, and how it
-    /// ended. It takes no memory.
-    pub(crate) fn is_of(&self, place: u32, entry: &Entry) -> bool
+    /// Whether it is the receipt of the entry at that place: of its call, and how it ended. It
+    /// takes no memory.
+    pub(crate) fn is_of(&self, place: u32, entry: &EntryRef) -> bool
         ensures { IsTrue result ↔ (self.now ≡ receipt_of place entry.now) }
     {
         if self.place != place {
             return false;
         }
-        if !is_same_end(self.outcome, entry.outcome) {
+        if !is_same_end(self.outcome, entry.outcome()) {
             return false;
         }
-        ask_the_same(self.kept.asked(), entry.kept.asked())
+        are_same(self.kept.summary(), entry.summary())
     }
 }

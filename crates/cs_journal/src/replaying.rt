@@ -5,14 +5,15 @@ ghost use Rattle.cs_names.specs.declared.limits.TheConstants.{JOURNAL_ENTRIES};
 ghost use Rattle.cs_journal.specs.Audit.{answer_at, answer_in};
 ghost use Rattle.cs_journal.specs.Bounds.{CanGrow};
 ghost use Rattle.cs_journal.specs.Journals.{left_by, run_state, start};
-ghost use Rattle.cs_permit.specs.Calls.{state};
+ghost use Rattle.cs_permit.specs.Calls.{rules_view};
 ghost use Rattle.cs_run.specs.Effects.{left};
 ghost use Rattle.cs_run.specs.Opens.{AreBelow, released_if};
 ghost use Rattle.cs_run.specs.Outcomes.{applied, closes};
 ghost use Rattle.cs_run.specs.declared.answer.Outcome.TheVariants.{Granted};
 ghost use Rattle.cs_tree_model.specs.Stores.{CanStamp};
 
-use crate::entry::Entry;
+use crate::entry::EntryRef;
+use crate::journal::Journal;
 use crate::run::Run;
 use cs_overlay::Overlay;
 use cs_permit::Call;
@@ -45,7 +46,7 @@ fn grant_again<T: TreeStore>(
     requires next { (T.tree tree.old).next < 2 ^ 64 }
     requires above { AreBelow turn.place opens.old.items }
     ensures { IfOk result (λ answer. left (T.tree tree.new) opens.new.items answer
-        ≡ applied (state (T.tree tree.old) opens.old.items users.now) turn call.now Granted) }
+        ≡ applied (rules_view (T.tree tree.old) opens.old.items users.now) turn call.now Granted) }
 {
     match act(alloc, call, tree, opens, users, turn) {
         (Outcome::Granted, answer) => Ok(answer),
@@ -67,7 +68,7 @@ fn redo<T: TreeStore>(
     requires next { (T.tree tree.old).next < 2 ^ 64 }
     requires above { AreBelow turn.place opens.old.items }
     ensures { IfOk result (λ answer. left (T.tree tree.new) opens.new.items answer
-        ≡ applied (state (T.tree tree.old) opens.old.items users.now) turn call.now outcome) }
+        ≡ applied (rules_view (T.tree tree.old) opens.old.items users.now) turn call.now outcome) }
 {
     match outcome {
         Outcome::Granted => grant_again(alloc, call, tree, opens, users, turn),
@@ -85,7 +86,7 @@ fn redo<T: TreeStore>(
 /// Does the call of the entry at the place once more: its answer.
 fn redo_entry<T: TreeStore>(
     alloc: Global,
-    entry: &Entry,
+    entry: EntryRef,
     place: u32,
     tree: &mut T,
     opens: &mut Opens,
@@ -95,15 +96,19 @@ fn redo_entry<T: TreeStore>(
     requires next { (T.tree tree.old).next < 2 ^ 64 }
     requires above { AreBelow place opens.old.items }
     ensures { IfOk result (λ answer. left (T.tree tree.new) opens.new.items answer
-        ≡ left_by (run_state (T.tree tree.old) opens.old.items users.now place) entry.now) }
+        ≡ left_by (run_state (T.tree tree.old) opens.old.items users.now place) entry.entry) }
 {
-    let turn = Turn {
-        moment: entry.moment,
-        place,
-        pass: u32::from(entry.pass),
-    };
-    let ready = entry.kept.again(alloc)?;
-    redo(alloc, ready.call(), entry.outcome, tree, opens, users, turn)
+    let ready = entry.again(alloc)?;
+    let turn = entry.turn(place);
+    redo(
+        alloc,
+        ready.call(),
+        entry.outcome(),
+        tree,
+        opens,
+        users,
+        turn,
+    )
 }
 
 /// What the call of the entry at the place was answered, if there is one.
@@ -111,13 +116,13 @@ fn answer_of<L: TreeRead + Drop>(
     alloc: Global,
     lower: &Arc<L>,
     users: &Users,
-    journal: &[Entry],
+    journal: &Journal,
     place: usize,
 ) -> Result<Option<Answer>, AllocError>
     requires grows { CanGrow (L.TreeRead.tree (arc_value lower.now)) }
-    requires few { length journal.now ≤ JOURNAL_ENTRIES }
+    requires few { length journal.now.items ≤ JOURNAL_ENTRIES }
     ensures { IfOk result (λ answer. answer ≡ answer_at
-        (start (L.TreeRead.tree (arc_value lower.now)) users.now) journal.now place) }
+        (start (L.TreeRead.tree (arc_value lower.now)) users.now) journal.now.items place) }
 {
     if place >= journal.len() {
         return Ok(None);
@@ -125,9 +130,10 @@ fn answer_of<L: TreeRead + Drop>(
     let mut tree = Overlay::over(alloc, lower.clone()?);
     let mut opens = Opens::new(alloc);
     for k in 0..place {
-        redo_entry(alloc, &journal[k], k as u32, &mut tree, &mut opens, users)?;
+        let entry = journal.entry(k);
+        redo_entry(alloc, entry, k as u32, &mut tree, &mut opens, users)?;
     }
-    let entry = &journal[place];
+    let entry = journal.entry(place);
     let answer = redo_entry(alloc, entry, place as u32, &mut tree, &mut opens, users)?;
     Ok(Some(answer))
 }

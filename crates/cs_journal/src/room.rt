@@ -1,13 +1,14 @@
 //! How many entries a call takes, and the memory for them.
-ghost use Rattle.std.specs.Prelude.{◌≡◌, ◌+◌, ◌≤◌, ◌⊎◌, ◌<◌, IfSome, IsNone, IsSome, OnErr, OnOk, false, true, vec_capacity, vec_len};
+ghost use Rattle.std.specs.Prelude.{◌≡◌, ◌+◌, ◌≤◌, ◌⊎◌, ◌<◌, [], IfSome, IsNone, IsSome, OnErr, OnOk, false, length, true, vec_capacity, vec_len};
 ghost use Rattle.cs_names.specs.declared.limits.TheConstants.{JOURNAL_ENTRIES};
 ghost use Rattle.cs_journal.specs.Calls.{charge};
-ghost use Rattle.cs_journal.specs.Kept.{call_of};
-ghost use Rattle.cs_journal.specs.Ready.{ready_call};
+ghost use Rattle.cs_journal.specs.Kept.{LiesIn, call_of};
+ghost use Rattle.cs_journal.specs.Ready.{is_apart, ready_call};
 ghost use Rattle.cs_journal.specs.Small.{is_small};
+ghost use Rattle.cs_journal.specs.Summaries.{without_bytes};
 ghost use Rattle.cs_run.specs.Laws.{opens_one};
 
-use crate::entry::Entry;
+use crate::journal::Journal;
 use crate::kept::Kept;
 use crate::ready::Ready;
 use crate::receipt::Receipt;
@@ -53,6 +54,7 @@ pub(crate) fn charge_of(call: &Call, opens: &Opens, pass: u32) -> usize
 }
 
 /// Takes the memory for so many blank texts.
+#[inline]
 fn fill(alloc: Global, blanks: &mut Vec<Box<UserText>>, count: usize) -> Result<(), AllocError>
     ensures room { OnOk result (count ≤ vec_len blanks.new) }
     ensures kept { vec_len blanks.old ≤ vec_len blanks.new }
@@ -64,46 +66,64 @@ fn fill(alloc: Global, blanks: &mut Vec<Box<UserText>>, count: usize) -> Result<
     Ok(())
 }
 
-/// Room for so many more. A list that has grown long gets room for a whole journal at once, if
-/// there is memory, so that it isn't copied again: what isn't used of it is no page of memory yet.
-fn widen<T>(list: &mut Vec<T>, more: usize) -> Result<(), AllocError>
+/// Room for so many more, which a list has no room for. One that has grown long gets room for a
+/// whole journal at once, if there is memory, so that it isn't copied again: what isn't used of it
+/// is no page of memory yet.
+#[inline(never)]
+fn grow<T>(list: &mut Vec<T>, more: usize) -> Result<(), AllocError>
     ensures items { (list.new.items ≡ list.old.items) × (vec_len list.new ≡ vec_len list.old) }
     ensures ok { OnOk result (vec_len list.new + more ≤ vec_capacity list.new) }
     ensures capacity { vec_capacity list.old ≤ vec_capacity list.new }
     ensures full { OnErr result (vec_capacity list.old < vec_len list.old + more) }
 {
     let len = list.len();
-    let is_short = list.capacity() - len < more;
-    if is_short && LONG <= len && len < JOURNAL_ENTRIES {
+    if LONG <= len && len < JOURNAL_ENTRIES {
         let _whole = list.reserve_exact(JOURNAL_ENTRIES - len);
     }
     list.reserve(more)
 }
 
+/// Room for so many more.
+#[inline]
+pub(crate) fn widen<T>(list: &mut Vec<T>, more: usize) -> Result<(), AllocError>
+    ensures items { (list.new.items ≡ list.old.items) × (vec_len list.new ≡ vec_len list.old) }
+    ensures ok { OnOk result (vec_len list.new + more ≤ vec_capacity list.new) }
+    ensures capacity { vec_capacity list.old ≤ vec_capacity list.new }
+    ensures full { OnErr result (vec_capacity list.old < vec_len list.old + more) }
+{
+    if list.capacity() - list.len() >= more {
+        return Ok(());
+    }
+    grow(list, more)
+}
+
 /// Takes the memory for so many entries and so many receipts more, and for what they keep of a
 /// call; None where it is refused. The lists stay.
-pub(crate) fn make_ready(
+#[inline]
+pub(crate) fn make_room(
     alloc: Global,
-    call: Call,
-    journal: &mut Vec<Entry>,
+    ready: &Ready,
+    journal: &mut Journal,
     receipts: &mut Vec<Receipt>,
     blanks: &mut Vec<Box<UserText>>,
     entries: usize,
     more: usize,
-) -> Option<(Ready, Kept, Kept)>
+) -> Option<(Kept, Kept)>
+    requires apart { is_apart ready.now ≡ true }
     requires some { 1 ≤ more }
     requires few { more ≤ JOURNAL_ENTRIES }
-    ensures ready { IfSome result (λ made. ready_call made.0 ≡ call) }
-    ensures entry { IfSome result (λ made. call_of made.1 ≡ call) }
-    ensures receipt { IfSome result (λ made. call_of made.2 ≡ call) }
-    ensures refused { IsNone result → (is_small call ≡ false)
-        ⊎ ((vec_capacity journal.old + 1 ≤ vec_len journal.old + entries)
+    ensures lies { IfSome result (λ made. LiesIn journal.new.blocks made.0) }
+    ensures entry { IfSome result (λ made. call_of journal.new.blocks made.0
+        ≡ ready_call ready.now) }
+    ensures receipt { IfSome result (λ made. without_bytes (call_of [] made.1)
+        ≡ without_bytes (ready_call ready.now)) }
+    ensures refused { IsNone result → (is_small (ready_call ready.now) ≡ false)
+        ⊎ ((journal.old.capacity + 1 ≤ length journal.old.items + entries)
         ⊎ ((vec_capacity receipts.old + 1 ≤ vec_len receipts.old + more)
         ⊎ (vec_len blanks.old < more + more))) }
-    ensures journal { (journal.new.items ≡ journal.old.items)
-        × (vec_len journal.new ≡ vec_len journal.old) }
-    ensures journal_room { (vec_capacity journal.old ≤ vec_capacity journal.new)
-        × (IsSome result → vec_len journal.new + entries ≤ vec_capacity journal.new) }
+    ensures journal { journal.new.items ≡ journal.old.items }
+    ensures journal_room { (journal.old.capacity ≤ journal.new.capacity)
+        × (IsSome result → length journal.new.items + entries ≤ journal.new.capacity) }
     ensures receipts { (receipts.new.items ≡ receipts.old.items)
         × (vec_len receipts.new ≡ vec_len receipts.old) }
     ensures receipts_room { (vec_capacity receipts.old ≤ vec_capacity receipts.new)
@@ -111,11 +131,11 @@ pub(crate) fn make_ready(
     ensures blanks { IsNone result → vec_len blanks.old ≤ vec_len blanks.new }
     ensures blanks_left { IsSome result → more + more ≤ vec_len blanks.new + 2 }
 {
-    if widen(journal, entries).is_err()
+    if journal.widen(entries).is_err()
         || widen(receipts, more).is_err()
         || fill(alloc, blanks, more + more).is_err()
     {
         return None;
     }
-    Ready::of(alloc, call, blanks).ok()
+    ready.keep(alloc, journal, blanks).ok()
 }

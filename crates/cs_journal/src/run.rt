@@ -7,7 +7,7 @@ ghost use Rattle.cs_journal.specs.Journals.{IsLegal};
 ghost use Rattle.cs_journal.specs.Runs.{Fits, PassOf, first_state, fresh_pass, fresh_run, with_pass};
 
 use crate::counts::Counts;
-use crate::entry::Entry;
+use crate::journal::Journal;
 use crate::pass::Pass;
 use cs_names::limits::RUN_ATTACHES;
 use cs_overlay::Overlay;
@@ -28,13 +28,13 @@ pub struct Run<L: TreeRead + Drop> {
     pub(crate) users: Arc<Users>,
     pub(crate) tree: Overlay<L>,
     pub(crate) opens: Opens,
-    pub(crate) journal: Vec<Entry>,
+    pub(crate) journal: Journal,
     pub(crate) passes: Vec<Counts>,
 }
 
 impl<L: TreeRead + Drop> Model for Run<L> {
     ghost use Rattle.std.specs.Arc.{arc_value};
-    ghost use Rattle.std.specs.Prelude.{◌+◌, ◌≤◌, length, vec_capacity, vec_len};
+    ghost use Rattle.std.specs.Prelude.{◌+◌, ◌≤◌, length};
     ghost use Rattle.cs_journal.specs.Holding.{IsHeld};
     ghost use Rattle.cs_journal.specs.Runs.{RunOf, run_code};
 
@@ -51,7 +51,7 @@ impl<L: TreeRead + Drop> Model for Run<L> {
 
     ghost invariant = { λ r. IsHeld (L.TreeRead.tree (arc_value r.lower)) r.tree
         (arc_value r.users) r.opens.items r.journal.items r.passes.items
-        × (vec_len r.journal + length r.opens.items ≤ vec_capacity r.journal) };
+        × (length r.journal.items + length r.opens.items ≤ r.journal.capacity) };
 }
 
 impl<L: TreeRead + Drop> Run<L> {
@@ -67,7 +67,7 @@ impl<L: TreeRead + Drop> Run<L> {
             users,
             tree,
             opens: Opens::new(alloc),
-            journal: Vec::new(alloc),
+            journal: Journal::new(alloc),
             passes: Vec::new(alloc),
         })
     }

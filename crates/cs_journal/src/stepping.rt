@@ -10,7 +10,8 @@ ghost use Rattle.cs_run.specs.Laws.{FitsCall};
 use crate::counts::Counts;
 use crate::entering::enter;
 use crate::pass::Pass;
-use crate::room::{charge_of, make_ready};
+use crate::ready::Ready;
+use crate::room::{charge_of, make_room};
 use crate::run::Run;
 use cs_names::RuleId;
 use cs_names::limits::JOURNAL_ENTRIES;
@@ -45,10 +46,13 @@ impl<L: TreeRead + Drop> Run<L> {
             return Answer::Denied(RuleId::L1);
         }
         let more = pass.reserved + charge;
+        let Ok(ready) = Ready::of(alloc, call) else {
+            return Answer::Short;
+        };
         let (journal, receipts) = (&mut self.journal, &mut pass.receipts);
         let blanks = &mut pass.blanks;
-        let Some((ready, entry, receipt)) = make_ready(
-            alloc, call, journal, receipts, blanks, entries, more,
+        let Some((entry, receipt)) = make_room(
+            alloc, &ready, journal, receipts, blanks, entries, more,
         ) else {
             return Answer::Short;
         };

@@ -1,10 +1,11 @@
 -- Names that a message can show.
-use Rattle.std.proofs.Common.{◌≡◌, ℕ, ◌+◌, ◌≤◌, ◌<◌, ◌^◌, Bool, true, false, ◌||◌, List, [], ◌∷◌, ◌++◌, length, refl, arith, lit≤, lit<, zero, suc}
+use Rattle.std.proofs.Common.{◌≡◌, ℕ, ◌+◌, ◌≤◌, ◌<◌, ◌^◌, true, false, ◌||◌, List, [], ◌∷◌, ◌++◌, length, refl, arith, lit≤, lit<, zero, suc}
 use Rattle.std.specs.Prelude.{◌==◌, nat_eq}
 use Rattle.std.specs.Int.{w16, to_le_bytes}
 use Rattle.std.specs.List.{list_any}
 use Rattle.std.specs.Cmp.Lexicographic.{pointwise}
 use Rattle.std.specs.Str.{IsUtf8, IsAscii}
+use Rattle.std.proofs.lemmas.Bool.{or_parts}
 use Rattle.std.proofs.lemmas.Str.{is_utf8-from_IsUtf8, IsUtf8-from_ascii}
 use Rattle.std.proofs.lemmas.List.{length-append}
 use Rattle.cs_names.specs.Legal.{IsLegalName, IsUserName}
@@ -16,22 +17,18 @@ pub text_of : (bytes : List ℕ) → IsUtf8 bytes → list_any (λ b. b == 0) by
 unfolding is_text
 text_of bytes valid none = rw (is_utf8-from_IsUtf8 bytes valid, none) refl
 
-either_false : (a b : Bool) → (a || b) ≡ false → (a ≡ false) × (b ≡ false)
-either_false true b e = absurd (cc)
-either_false false b e = (refl, e)
-
 no_nul : (bytes : List ℕ) → list_any (λ c. c == 47 || c == 0) bytes ≡ false → list_any (λ c. c == 0) bytes ≡ false
 no_nul [] e = refl
 no_nul (c ∷ bytes) e =
-    let both = either_false (c == 47 || c == 0) (list_any (λ x. x == 47 || x == 0) bytes) e in
-    rw ((either_false (c == 47) (c == 0) both.0).1, no_nul bytes both.1) refl
+    let both = or_parts (c == 47 || c == 0) (list_any (λ x. x == 47 || x == 0) bytes) e in
+    rw ((or_parts (c == 47) (c == 0) both.0).1, no_nul bytes both.1) refl
 
 pub shown-user : (bytes : List ℕ) → IsUserName bytes → IsShown 64 bytes
 shown-user bytes name = record { short = name.short; is_text = text_of bytes name.text name.allowed }
 
 pub shown-name : (bytes : List ℕ) → IsLegalName bytes → IsShown 255 bytes
 shown-name bytes name =
-    let slashes = either_false (list_any (λ c. c == 47 || c == 0) bytes) (pointwise nat_eq bytes (46 ∷ [])) ((either_false (list_any (λ c. c == 47 || c == 0) bytes || pointwise nat_eq bytes (46 ∷ [])) (pointwise nat_eq bytes (46 ∷ 46 ∷ [])) name.allowed).0) in
+    let slashes = or_parts (list_any (λ c. c == 47 || c == 0) bytes) (pointwise nat_eq bytes (46 ∷ [])) ((or_parts (list_any (λ c. c == 47 || c == 0) bytes || pointwise nat_eq bytes (46 ∷ [])) (pointwise nat_eq bytes (46 ∷ 46 ∷ [])) name.allowed).0) in
     record { short = name.short; is_text = text_of bytes name.text (no_nul bytes slashes.0) }
 
 slash_ascii : IsAscii (47 ∷ [])
@@ -60,16 +57,14 @@ stat_length v =
       length-append (to_le_bytes w16 (length muid)) muid,
     )
 
-boxed_length : (v : Value stat_shape) → length (spelled (Boxed stat_shape) v) ≡ 4 + length (spelled stat_shape v)
-unfolding spelled
-boxed_length v = omega (
-  arith,
-  length-append (to_le_bytes w16 (length (entry (spelled stat_shape v)))) (entry (spelled stat_shape v)),
-  length-append (to_le_bytes w16 (length (spelled stat_shape v))) (spelled stat_shape v),
-)
-
 entry_length : (v : Value stat_shape) → length (entry (spelled stat_shape v)) ≡ 2 + length (spelled stat_shape v)
 entry_length v = omega (arith, length-append (to_le_bytes w16 (length (spelled stat_shape v))) (spelled stat_shape v))
+
+boxed_length : (v : Value stat_shape) → length (spelled (Boxed stat_shape) v) ≡ 4 + length (spelled stat_shape v)
+unfolding spelled
+boxed_length v =
+    let bytes = entry (spelled stat_shape v) in
+    omega (arith, length-append (to_le_bytes w16 (length bytes)) bytes, entry_length v)
 
 -- an entry has 49 bytes beside those of its texts
 pub stat_entry-length : (v : Value stat_shape) → length (stat_entry v) ≡ 49 + (length v.1.1.1.1.1.1.1.0 + (length v.1.1.1.1.1.1.1.1.0 + (length v.1.1.1.1.1.1.1.1.1.0 + length v.1.1.1.1.1.1.1.1.1.1)))

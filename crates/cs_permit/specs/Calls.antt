@@ -23,8 +23,8 @@ pub record RulesView : Type 0 where
   pub opens : List OpenFile
   pub users : List Row
 
-abbrev pub state : Tree → List OpenFile → List Row → RulesView
-state t opens us = record { tree = t; opens = opens; users = us }
+abbrev pub rules_view : Tree → List OpenFile → List Row → RulesView
+rules_view t opens us = record { tree = t; opens = opens; users = us }
 
 -- the rules of each call; a close has none
 abbrev pub rules_of : RulesView → Call → List Check
@@ -40,5 +40,5 @@ rules_of s (Stat c) = stat_rules s.tree c
 rules_of s (Wstat c) = wstat_rules s.tree s.users c
 
 -- the first rule of the call that fails
-unfoldable pub first : RulesView → Call → Option RuleId
-first s call = first_failing (rules_of s call)
+unfoldable pub failing_rule : RulesView → Call → Option RuleId
+failing_rule s call = first_failing (rules_of s call)

@@ -1,4 +1,4 @@
--- What a wstat changes. A field of its stat that is not to be touched (a number of all ones, an empty text), or that has the present value, is no change.
+-- What a wstat changes: no field of all ones, no empty text, and none that has the present value.
 use Rattle.std.specs.Prelude.{◌≡◌, ◌⊎◌, ℕ, ◌==◌, not, ◌&&◌, ◌||◌, Bool, false, List, [], Option, None, Some, is_some, if◌then◌else◌}
 use Rattle.std.specs.Option.{option_map_or}
 use Rattle.cs_tree_model.specs.declared.record.MetadataBuf.{MetadataBuf}
@@ -18,7 +18,7 @@ ones_4 = 0xFFFFFFFF
 abbrev pub ones_8 : ℕ
 ones_8 = 0xFFFFFFFFFFFFFFFF
 
--- the new value of a number, from what stands for "don't touch", the present value, and the one that is sent
+-- the new value of a number, from what stands for "don't touch", the present one, and the one sent
 abbrev pub new_number : ℕ → ℕ → ℕ → Option ℕ
 new_number ones present sent = if sent == ones || sent == present then None else Some sent
 

@@ -53,7 +53,7 @@ given_bits = DMDIR + DMAPPEND + DMEXCL + DMTMP + 0o777
 abbrev pub is_append_or_exclusive : ℕ → Bool
 is_append_or_exclusive mode = has_bit mode DMAPPEND || has_bit mode DMEXCL
 
--- a bit outside those, or a directory with DMAPPEND or DMEXCL, or a directory with an open's mode whose whole byte isn't 0
+-- a bit outside those, or a directory with DMAPPEND, DMEXCL or an open's mode that isn't wholly 0
 abbrev pub are_bad_permissions : ℕ → ℕ → Bool
 are_bad_permissions perm mode =
     has_bit_outside given_bits perm

@@ -4,7 +4,7 @@ use Rattle.cs_wire.specs.declared.message.Qid.{Qid}
 use Rattle.cs_wire.specs.declared.message.Stat.{Stat}
 
 -- its fields
-pub record StatSent : Type 0 where
+pub record SentFields : Type 0 where
   pub kind : ℕ
   pub dev : ℕ
   pub qid : Qid
@@ -18,7 +18,7 @@ pub record StatSent : Type 0 where
   pub muid : List ℕ
 
 -- what a stat says
-abbrev pub sent_of : Stat → StatSent
+abbrev pub sent_of : Stat → SentFields
 sent_of s = record {
   kind = s.kind;
   dev = s.dev;

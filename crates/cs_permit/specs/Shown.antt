@@ -1,4 +1,4 @@
--- What a client is shown of a file: its qid, its name, what a stat tells of it, and its entry in a read of its directory.
+-- What a client is shown of a file: qid, name, stat, and entry in a read of its directory.
 use Rattle.std.specs.Prelude.{ℕ, ◌/◌, List, [], ◌∷◌, Option, unwrap_or, option_and_then}
 use Rattle.std.specs.Option.{option_map, option_map_or}
 use Rattle.cs_tree_model.specs.declared.record.MetadataBuf.{MetadataBuf}

@@ -21,7 +21,8 @@ is_unknown fids fid = is_none (get fids fid)
 
 -- the mode of the fid's open, if it is open
 abbrev pub open_mode : FidMap → ℕ → Option ℕ
-open_mode fids fid = option_map (λ opened. opened.state.mode) (option_and_then as_opened (get fids fid))
+open_mode fids fid =
+    option_map (λ opened. opened.state.mode) (option_and_then as_opened (get fids fid))
 
 -- the fid is open
 abbrev pub is_open : FidMap → ℕ → Bool

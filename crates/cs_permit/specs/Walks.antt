@@ -17,9 +17,10 @@ is_up x = same_name x (46 ∷ 46 ∷ [])
 
 -- where a name leads from a directory: `..` to its parent, another legal name to its entry
 abbrev pub next : Tree → ℕ → List ℕ → Option ℕ
-next t n x = if is_up x then parent_numbered t n else (if is_ok (name_in x) then number_in t n x else None)
+next t n x =
+    if is_up x then parent_numbered t n else (if is_ok (name_in x) then number_in t n x else None)
 
--- one element of a walk: each, `..` too, needs a directory, and search right in it, and then the name
+-- one element of a walk: each, `..` too, needs a directory, search right in it, and the name
 abbrev pub element_rules : Tree → List Row → List ℕ → ℕ → List ℕ → List Check
 element_rules t us u n x =
     -- not a directory

@@ -67,7 +67,7 @@ unfoldable pub mode_rules : List Row → WstatCall → MetadataBuf → List Chec
 mode_rules us c file =
     -- bad mode
     (Q11, if_new (new_mode c file) (is_bad_mode file))
-    -- not owner or leader: mode or mtime changes; the user neither owns the file nor leads its group
+    -- not owner or leader: a new mode or mtime; the user neither owns the file nor leads its group
     ∷ (Q12, changes_attributes c file && not (is_owner_or_leader us c.user file))
     ∷ []
 
@@ -76,13 +76,15 @@ unfoldable pub group_rules : List Row → WstatCall → MetadataBuf → List Che
 group_rules us c file =
     -- unknown group: a new gid that isn't known
     (Q13, if_new (new_group c file) (λ group. not (is_known us group)))
-    -- no right to the group: a new gid; the user is neither an owner who is a member of the new group, nor leader of both groups
+    -- no right to the group: a new gid; the user is neither an owner who is a member of the new
+    -- group, nor leader of both groups
     ∷ (Q14, if_new (new_group c file) (λ group. not (may_give us c.user file group)))
     ∷ []
 
 -- the fields that can be changed
 abbrev pub field_rules : Tree → List Row → WstatCall → MetadataBuf → List Check
-field_rules t us c file = name_rules t us c ++ length_rules us c file ++ mode_rules us c file ++ group_rules us c file
+field_rules t us c file =
+    name_rules t us c ++ length_rules us c file ++ mode_rules us c file ++ group_rules us c file
 
 -- a wstat
 abbrev pub wstat_rules : Tree → List Row → WstatCall → List Check

@@ -2,7 +2,7 @@
 ghost use Rattle.std.specs.Prelude.{◌≡◌, if◌then◌else◌};
 ghost use Rattle.cs_tree_model.specs.Record.{lent};
 ghost use Rattle.cs_permit.specs.Attaches.{attach_rules};
-ghost use Rattle.cs_permit.specs.Calls.{first, state};
+ghost use Rattle.cs_permit.specs.Calls.{failing_rule, rules_view};
 ghost use Rattle.cs_permit.specs.Creates.{create_rules};
 ghost use Rattle.cs_permit.specs.Opens.{is_open, open_rules};
 ghost use Rattle.cs_permit.specs.Refusals.{first_failing};
@@ -174,14 +174,14 @@ fn first_of_stat<T: TreeRead>(call: &StatCall, tree: &T) -> Option<RuleId>
 }
 
 /// The first rule of the run that the call fails, if any. It takes no memory.
-#[tactic(auto, unfolding(crate::specs::Calls::first))]
+#[tactic(auto, unfolding(crate::specs::Calls::failing_rule))]
 pub fn first_failing<T: TreeRead>(
     call: &Call,
     tree: &T,
     opens: &[OpenFile],
     users: &Users,
 ) -> Option<RuleId>
-    ensures { result ≡ first (state (T.tree tree.now) opens.now users.now) call.now }
+    ensures { result ≡ failing_rule (rules_view (T.tree tree.now) opens.now users.now) call.now }
 {
     match call {
         Call::Attach(call) => first_of_attach(call, users),

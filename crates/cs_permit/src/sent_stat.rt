@@ -13,9 +13,9 @@ pub struct SentStat {
 }
 
 impl Model for SentStat {
-    ghost use Rattle.cs_permit.specs.Sent.{StatSent, sent_of};
+    ghost use Rattle.cs_permit.specs.Sent.{SentFields, sent_of};
 
-    ghost Value = { StatSent };
+    ghost Value = { SentFields };
 
     ghost view = { λ s. sent_of s.stat };
 }

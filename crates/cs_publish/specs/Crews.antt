@@ -1,5 +1,5 @@
 -- What workers publish.
-use Rattle.std.specs.Prelude.{◌≡◌, ℕ, ◌&&◌, Bool, true, nat_le, List, [], length, replicate}
+use Rattle.std.specs.Prelude.{ℕ, ◌&&◌, Bool, true, nat_le, List, [], length, replicate}
 use Rattle.cs_names.specs.declared.limits.TheConstants.{WORKERS}
 use Rattle.cs_plan.specs.Scenes.{Scene}
 use Rattle.cs_registry.specs.Registries.{Registry}

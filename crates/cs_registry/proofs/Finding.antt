@@ -1,7 +1,9 @@
 -- What a find answers, case by case.
-use Rattle.std.proofs.Common.{◌≡◌, ◌∙◌, ◌<◌, ◌≤◌, ℕ, zero, suc, true, false, List, [], ◌∷◌, length, Option, None, Some, is_some, refl, sym, ap, subst, arith}
+use Rattle.std.proofs.Common.{◌≡◌, ◌∙◌, ◌<◌, ◌≤◌, ℕ, zero, suc, true, false, List, [], ◌∷◌, length, Option, None, Some, is_some, refl, sym, ap, arith}
 use Rattle.std.specs.Prelude.{Result, Ok, Err, IfErr, IfOk, map, slice_get, slice_index_or, unwrap_or}
+use Rattle.std.proofs.Math.ListN.{get_or-map}
 use Rattle.std.proofs.lemmas.Bool.Decides.{nat_tests}
+use Rattle.std.proofs.lemmas.Option.{unwrap_or-slice_get}
 use Rattle.cs_names.specs.declared.limits.TheConstants.{RUNS}
 use Rattle.cs_plan.specs.Scenes.{IsPublished, Scene, state_at}
 use Rattle.cs_tree_model.specs.Tree.{Tree}
@@ -70,9 +72,7 @@ module _ {H : Type 0} (is_fresh : ℕ → Tree → List Row → H → Type 0) (r
 
 -- a state is published where there is one
 pub published_is : {A : Type 0} (states : List (Option A)) (n : ℕ) (o : Option A) → o ≡ unwrap_or (slice_get states n) None → slice_index_or (map is_some states) n false ≡ is_some o
-published_is [] n o is = ap is_some (sym is)
-published_is (s ∷ states) zero o is = ap is_some (sym is)
-published_is (s ∷ states) (suc n) o is = published_is states n o is
+published_is states n o is = get_or-map is_some states n None ∙ ap is_some (sym (is ∙ unwrap_or-slice_get states n None))
 
 stored : {A : Type 0} (states : List (Option A)) (n : ℕ) (x : A) → Some x ≡ unwrap_or (slice_get states n) None → slice_get states n ≡ Some (Some x)
 stored [] n x is = cc
@@ -90,12 +90,3 @@ module _ {H A : Type 0} {admits : ℕ → Tree → Type 0} {scene : Scene} {tree
 
   pub state_is : state_at scene n ≡ Some (tree_of x)
   state_is = is_state.state
-
--- ---- a registry under another name
-
-module _ {H : Type 0} {is_fresh : ℕ → Tree → List Row → H → Type 0} {key : Key} {answer : Result ℕ FindFault} {old now : Registry H} (same : old ≡ now) where
-  pub finds_from : {new : Registry H} → Finds is_fresh old key answer new → Finds is_fresh now key answer new
-  finds_from {new = new} finds = subst (λ r. Finds is_fresh r key answer new) same finds
-
-  pub finds_within : Finds is_fresh old key answer old → Finds is_fresh now key answer now
-  finds_within finds = subst (λ r. Finds is_fresh r key answer r) same finds

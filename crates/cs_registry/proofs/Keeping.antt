@@ -1,31 +1,32 @@
 -- What is stored for a registry, as it changes.
-use Rattle.std.proofs.Common.{◌≡◌, ◌∙◌, ℕ, zero, suc, ◌+◌, ◌-◌, ◌<◌, ◌≤◌, true, false, not, List, [], ◌∷◌, length, Option, None, Some, is_some, refl, sym, ap, subst, arith, add-one, ◌⊎◌, inl, inr, get_or}
-use Rattle.std.specs.Prelude.{count_by, map, filter, replicate, slice_get, slice_set, slice_index_or}
-use Rattle.std.proofs.lemmas.List.{length-replicate, length-set, map-set}
-use Rattle.std.proofs.lemmas.List.Sums.{length-filter}
-use Rattle.std.proofs.lemmas.Option.{slice_get_read, slice_get_within}
+use Rattle.std.proofs.Common.{◌≡◌, ◌∙◌, ℕ, zero, suc, ◌+◌, ◌-◌, ◌<◌, ◌≤◌, Bool, true, false, cond, not, List, [], ◌∷◌, length, Option, None, Some, is_some, refl, sym, ap, subst, arith, ◌⊎◌, inl, inr, get_or}
+use Rattle.std.specs.Prelude.{count_by, map, replicate, slice_get, slice_set, slice_index_or}
+use Rattle.std.proofs.Math.ListN.{get_or-map}
+use Rattle.std.proofs.lemmas.List.{length-map, length-replicate, length-set, map-set}
+use Rattle.std.proofs.lemmas.List.Elements.{All-replicate}
+use Rattle.std.proofs.lemmas.List.Folds.{sum_by-replicate}
+use Rattle.std.proofs.lemmas.List.Sums.{sum_by-set}
+use Rattle.std.proofs.lemmas.Option.{get_or_from_slice_get, none-some, slice_get_cases, slice_get_read, slice_get_within}
 use Rattle.cs_plan.specs.Scenes.{Scene, Published, IsPublished, state_at}
+use Rattle.cs_plan.proofs.Picking.{all_at}
 use Rattle.cs_tree_model.specs.Tree.{Tree}
-use Rattle.cs_registry.specs.Runs.{Runs}
 use Rattle.cs_users.specs.Rows.{Row}
 use Rattle.cs_registry.specs.Publishing.{with_published}
 use Rattle.cs_registry.specs.Registries.{AdmitsAll, IsKept, Registry, empty}
+use Rattle.cs_registry.specs.Runs.{Runs}
 
 -- ---- no state
 
 no_state : {A : Type 0} (n k : ℕ) (x : A) → slice_get (replicate n None) k ≡ Some (Some x) → ⊥
-no_state zero k x h = cc
-no_state (suc n) zero x h = cc
-no_state (suc n) (suc k) x h = no_state n k x h
+no_state n k x there = none-some x (sym (all_at (λ o. o ≡ None) (replicate n None) k (Some x) there (All-replicate (λ o. o ≡ None) n None refl)))
 
 module _ (A : Type 0) where
   pub none_there : (n : ℕ) → map (is_some {T = A}) (replicate n None) ≡ replicate n false
   none_there zero = refl
   none_there (suc n) = ap (λ xs. false ∷ xs) (none_there n)
 
-none_passes : (n : ℕ) → length (filter not (replicate n false)) ≡ n
-none_passes zero = refl
-none_passes (suc n) = ap suc (none_passes n)
+none_counted : (n : ℕ) → count_by not (replicate n false) ≡ n
+none_counted n = omega (arith, sum_by-replicate (λ b. cond (not b) 1 0) n false)
 
 module _ {H A : Type 0} (scene : Scene) (states : List (Option A)) (runs : Runs H) (n : ℕ) (is : n ≡ length scene.plan) (blank : states ≡ replicate n None) (none : runs ≡ []) where
   -- a registry in which nothing is published
@@ -34,7 +35,7 @@ module _ {H A : Type 0} (scene : Scene) (states : List (Option A)) (runs : Runs 
     each = ap length blank ∙ (length-replicate n None ∙ is);
     made = λ k x h. absurd (no_state n k x (ap (λ xs. slice_get xs k) (sym blank) ∙ h));
     admitted = all;
-    left = sym (none_passes n) ∙ (length-filter not (replicate n false) ∙ ap (count_by not) (sym (none_there A n) ∙ ap (map is_some) (sym blank)));
+    left = sym (none_counted n) ∙ ap (count_by not) (sym (none_there A n) ∙ ap (map is_some) (sym blank));
     few = (let count : length runs ≡ 0 = ap length none in omega arith);
   }
 
@@ -49,19 +50,17 @@ module _ {H A : Type 0} (scene : Scene) (states : List (Option A)) (runs : Runs 
 
 -- ---- one state more
 
+-- one less is missing
+pub one_less : (published : List Bool) (n : ℕ) → n < length published → slice_index_or published n false ≡ false → count_by not (slice_set published n true) + 1 ≡ count_by not published
+one_less published n inside blank =
+    let one : ◌≡◌ {A = ℕ} (cond (not (slice_index_or published n false)) 1 0) 1 = ap (λ b. cond (not b) 1 0) blank in
+    omega (arith, sum_by-set (λ b. cond (not b) 1 0) published n true false inside)
+
+-- a blank state isn't published
+pub blank_now : {A : Type 0} (states : List (Option A)) (n : ℕ) → slice_get states n ≡ Some None → slice_index_or (map is_some states) n false ≡ false
+blank_now states n none = get_or-map is_some states n None ∙ ap is_some (get_or_from_slice_get states n None None none)
+
 module _ {A : Type 0} (x : A) where
-  there_now : (states : List (Option A)) (n : ℕ) → slice_get states n ≡ Some None → length (filter not (map is_some (slice_set states n (Some x)))) + 1 ≡ length (filter not (map is_some states))
-  there_now [] n h = cc
-  there_now (s ∷ states) zero h =
-      let none : s ≡ None = cc in
-      add-one _ ∙ ap (λ (o : Option A). length (filter not (is_some o ∷ map is_some states))) (sym none)
-  there_now (None ∷ states) (suc n) h = omega (arith, there_now states n h)
-  there_now (Some y ∷ states) (suc n) h = there_now states n h
-
-  -- one state less is missing
-  pub one_less : (states : List (Option A)) (n : ℕ) → slice_get states n ≡ Some None → count_by not (map is_some (slice_set states n (Some x))) + 1 ≡ count_by not (map is_some states)
-  one_less states n h = ap (λ k. k + 1) (sym (length-filter not (map is_some (slice_set states n (Some x))))) ∙ (there_now states n h ∙ length-filter not (map is_some states))
-
   -- each state is the one of its place, or the new one at its own
   set_there : (states : List (Option A)) (n k : ℕ) (y : A) → slice_get (slice_set states n (Some x)) k ≡ Some (Some y) → ((k ≡ n) × (y ≡ x)) ⊎ (slice_get states k ≡ Some (Some y))
   set_there [] n k y h = inr h
@@ -71,6 +70,9 @@ module _ {A : Type 0} (x : A) where
   set_there (s ∷ states) (suc n) (suc k) y h = elim (set_there states n k y h) [ inl p ↦ inl (ap suc p.0, p.1) | inr q ↦ inr q ]
 
   module _ {H : Type 0} (states : List (Option A)) (n : ℕ) (none : slice_get states n ≡ Some None) (runs : Runs H) where
+    less : count_by not (map is_some (slice_set states n (Some x))) + 1 ≡ count_by not (map is_some states)
+    less = ap (λ published. count_by not published + 1) (map-set is_some states n (Some x)) ∙ one_less (map is_some states) n (omega (arith, length-map states is_some, slice_get_within states n None none)) (blank_now states n none)
+
     pub published_kept : (admits : ℕ → Tree → Type 0) (scene : Scene) (tree_of : A → Tree) (missing : ℕ) → IsKept admits scene tree_of states missing runs
         → IsPublished (record { number = n; scene = scene; tree = tree_of x }) → IsKept admits scene tree_of (slice_set states n (Some x)) (missing - 1) runs
     published_kept admits scene tree_of missing kept is = record {
@@ -80,12 +82,12 @@ module _ {A : Type 0} (x : A) where
         | inr q ↦ kept.made k y q
       ];
       admitted = kept.admitted;
-      left = omega (arith, one_less states n none, kept.left);
+      left = omega (arith, less, kept.left);
       few = kept.few;
     }
 
     pub some_missing : (missing : ℕ) → missing ≡ count_by not (map is_some states) → 1 ≤ missing
-    some_missing missing left = omega (arith, one_less states n none)
+    some_missing missing left = omega (arith, less)
 
     pub is_published_now : (scene : Scene) (users : List Row) (now : Registry H) → record { scene = scene; users = users; published = map is_some states; runs = runs } ≡ now
         → ◌≡◌ {A = Registry H} (record { scene = scene; users = users; published = map is_some (slice_set states n (Some x)); runs = runs }) (with_published now n)
@@ -96,20 +98,6 @@ module _ {A : Type 0} (x : A) where
       runs = (v i).runs;
     }
 
-is_none : {A : Type 0} (o : Option A) → is_some o ≡ false → o ≡ None
-is_none None h = refl
-is_none (Some x) h = cc
-
--- the place that was read is blank
-pub blank_at : {A : Type 0} (states : List (Option A)) (n : ℕ) (o : Option A) → n < length states → o ≡ get_or states n o → is_some o ≡ false → slice_get states n ≡ Some None
-blank_at states n o inside read blank = slice_get_read states _ n o refl inside read ∙ ap Some (is_none o blank)
-
--- a blank state isn't published
-pub blank_now : {A : Type 0} (states : List (Option A)) (n : ℕ) → slice_get states n ≡ Some None → slice_index_or (map is_some states) n false ≡ false
-blank_now [] n h = cc
-blank_now (s ∷ states) zero h = let none : s ≡ None = cc in ap is_some none
-blank_now (s ∷ states) (suc n) h = blank_now states n h
-
 -- the runs change, and are as many
 pub runs_kept : {H A : Type 0} {admits : ℕ → Tree → Type 0} {scene : Scene} {tree_of : A → Tree} {states : List (Option A)} {missing : ℕ} (old new : Runs H)
     → length new ≡ length old → IsKept admits scene tree_of states missing old → IsKept admits scene tree_of states missing new
@@ -117,13 +105,15 @@ runs_kept old new same kept = record { each = kept.each; made = kept.made; admit
 
 -- a state's number is one of the plan
 pub state_within : (scene : Scene) (number : ℕ) (tree : Tree) → state_at scene number ≡ Some tree → number < length scene.plan
-state_within scene number tree is = by (slice_get scene.plan number) refl
-  where
-    by : (o : Option _) → slice_get scene.plan number ≡ o → number < length scene.plan
-    by (Some recipe) there = slice_get_within scene.plan number recipe there
-    by None none = (let no = rw none at is in cc)
+state_within scene number tree is = elim (slice_get_cases scene.plan number).1 [ inl p ↦ p.1 | inr p ↦ (let no = rw p.1 at is in cc) ]
 
--- so it has a place
-pub has_place : {H A : Type 0} {admits : ℕ → Tree → Type 0} {scene : Scene} {tree_of : A → Tree} {states : List (Option A)} {missing : ℕ} {runs : Runs H}
-    → IsKept admits scene tree_of states missing runs → (state : Published) → IsPublished state → state.scene ≡ scene → state.number < length states
-has_place kept state is own = omega (arith, state_within state.scene state.number state.tree is.state, ap (λ (s : Scene). length s.plan) own, kept.each)
+module _ {H A : Type 0} {admits : ℕ → Tree → Type 0} {scene : Scene} {tree_of : A → Tree} {states : List (Option A)} {missing : ℕ} {runs : Runs H}
+    (kept : IsKept admits scene tree_of states missing runs) (state : Published) (is : IsPublished state) (own : state.scene ≡ scene) (n : ℕ) (number : n ≡ state.number) where
+  -- so it has a place
+  pub has_place : n < length states
+  has_place = omega (arith, number, state_within state.scene state.number state.tree is.state, ap (λ (s : Scene). length s.plan) own, kept.each)
+
+  -- which is blank, as it was read
+  pub blank_at : (o : Option A) → o ≡ get_or states n o → is_some o ≡ false → slice_get states n ≡ Some None
+  blank_at None read blank = slice_get_read states _ n None refl has_place read
+  blank_at (Some x) read blank = cc

@@ -1,22 +1,25 @@
 -- What a find that was granted leaves.
-use Rattle.std.proofs.Common.{◌≡◌, ◌≢◌, ◌∙◌, ◌+◌, ◌<◌, ℕ, zero, suc, Bool, true, false, not, cond, List, [], ◌∷◌, ◌++◌, length, Option, None, Some, refl, sym, ap, subst, arith, length-append}
+use Rattle.std.proofs.Common.{◌≡◌, ◌≢◌, ◌∙◌, ◌+◌, ℕ, zero, suc, Bool, true, false, List, [], ◌∷◌, ◌++◌, length, Option, None, Some, refl, sym, ap, subst, arith}
 use Rattle.std.specs.Prelude.{Result, IfOk, IfSome, IsSomeAnd, nat_lt, position, slice_get, slice_set}
-use Rattle.std.specs.List.{AllByRecursion, position_or_len}
+use Rattle.std.specs.List.{position_or_len}
 use Rattle.std.specs.Map.{keys_of}
-use Rattle.std.proofs.lemmas.Bool.Decides.{nat_tests}
 use Rattle.std.specs.Option.{option_map, option_map_or}
+use Rattle.std.proofs.Math.Seq.{get_or-append_seam, map-set_same}
+use Rattle.std.proofs.lemmas.Bool.Decides.{nat_tests}
+use Rattle.std.proofs.lemmas.List.{length_push, map-append}
+use Rattle.std.proofs.lemmas.List.Folds.{position_or_len_push}
+use Rattle.std.proofs.lemmas.Map.Entries.{length-keys_of}
+use Rattle.std.proofs.lemmas.Option.{get_or_from_slice_get, none-some, same_Some, slice_get_read}
 use Rattle.indexmap.proofs.MapLemmas.{Missing-position}
 use Rattle.cs_tree_model.specs.Tree.{Tree}
 use Rattle.cs_users.specs.Rows.{Row}
 use Rattle.cs_permit.specs.declared.fault.FindFault.{FindFault}
-use Rattle.cs_registry.specs.declared.found.Found.{Found}
 use Rattle.cs_registry.specs.Keys.{Key, same_key, same_key-laws}
 use Rattle.cs_registry.specs.Registries.{Registry, is_published}
 use Rattle.cs_registry.specs.Runs.{has_no_room, place_of, room_ends, with_run}
 use Rattle.cs_registry.specs.Finds.{Finds, IsFound, IsNew, found}
+use Rattle.cs_registry.specs.declared.found.Found.{Found}
 use Rattle.cs_registry.proofs.Finding.{when_found, when_full, when_new, when_unpublished}
-
--- ---- a list that changes at one place, or at its end
 
 pub get_set_other : {X : Type 0} (xs : List X) (place other : ℕ) (x : X) → other ≢ place → slice_get (slice_set xs place x) other ≡ slice_get xs other
 get_set_other [] place other x apart = refl
@@ -31,9 +34,7 @@ get_set_own (z ∷ zs) zero x y there = refl
 get_set_own (z ∷ zs) (suc place) x y there = get_set_own zs place x y there
 
 keys_set : {K X : Type 0} (es : List (K × X)) (place : ℕ) (k : K) (x w : X) → slice_get es place ≡ Some (k, x) → keys_of (slice_set es place (k, w)) ≡ keys_of es
-keys_set [] place k x w there = refl
-keys_set (e ∷ es) zero k x w there = let same : e ≡ (k, x) = cc in ap (λ (p : _). p.0 ∷ keys_of es) (sym same)
-keys_set (e ∷ es) (suc place) k x w there = ap (λ ks. e.0 ∷ ks) (keys_set es place k x w there)
+keys_set es place k x w there = map-set_same (λ e. e.0) es place (k, w) (k, x) (sym (ap (λ e. e.0) (get_or_from_slice_get es place (k, x) (k, x) there)))
 
 get_pushed_other : {X : Type 0} (xs : List X) (other : ℕ) (x : X) → other ≢ length xs → slice_get (xs ++ x ∷ []) other ≡ slice_get xs other
 get_pushed_other [] zero x apart = absurd (apart refl)
@@ -42,48 +43,23 @@ get_pushed_other (y ∷ ys) zero x apart = refl
 get_pushed_other (y ∷ ys) (suc other) x apart = get_pushed_other ys other x (λ e. apart (ap suc e))
 
 get_pushed_own : {X : Type 0} (xs : List X) (x : X) → slice_get (xs ++ x ∷ []) (length xs) ≡ Some x
-get_pushed_own [] x = refl
-get_pushed_own (y ∷ ys) x = get_pushed_own ys x
+get_pushed_own xs x = slice_get_read (xs ++ x ∷ []) (length xs + 1) (length xs) x (sym (length_push xs x)) (omega arith) (sym (get_or-append_seam xs x [] x))
 
--- ---- the place of a key
-
-len_last : {K : Type 0} (t : K → Bool) (ks : List K) (k : K) → AllByRecursion (λ j. t j ≡ false) ks → t k ≡ true → position_or_len t (ks ++ k ∷ []) ≡ length ks
-len_last t [] k absent own = ap (λ b. cond (not b) (1 + position_or_len t []) 0) own
-len_last t (j ∷ ks) k absent own =
-    let rest : position_or_len t (ks ++ k ∷ []) ≡ length ks = len_last t ks k absent.1 own in
-    ap (λ b. cond (not b) (1 + position_or_len t (ks ++ k ∷ [])) 0) absent.0 ∙ omega arith
-
-position_last : {K : Type 0} (t : K → Bool) (ks : List K) (k : K) → AllByRecursion (λ j. t j ≡ false) ks → t k ≡ true → position t (ks ++ k ∷ []) ≡ Some (length ks)
-position_last t ks k absent own =
-    let inside : length ks < length (ks ++ k ∷ []) = omega (arith, length-append ks (k ∷ [])) in
-    let within : nat_lt (length ks) (length (ks ++ k ∷ [])) ≡ true = grind (arith, nat_tests) in
-    ap (λ n. cond (nat_lt n (length (ks ++ k ∷ []))) (Some n) None) (len_last t ks k absent own) ∙ ap (λ b. cond b (Some (length ks)) None) within
-
-keys_pushed : {K X : Type 0} (es : List (K × X)) (e : K × X) → keys_of (es ++ e ∷ []) ≡ keys_of es ++ e.0 ∷ []
-keys_pushed [] e = refl
-keys_pushed (x ∷ es) e = ap (λ ks. x.0 ∷ ks) (keys_pushed es e)
-
-length_keys : {K X : Type 0} (es : List (K × X)) → length (keys_of es) ≡ length es
-length_keys [] = refl
-length_keys (e ∷ es) = ap suc (length_keys es)
-
-no_place : (place : ℕ) → Some place ≡ None → ⊥
-no_place place h = cc
-
-some_same : (place before : ℕ) → Some place ≡ Some before → place ≡ before
-some_same place before h = cc
+-- the last one, of a key that had no place
+placed_last : {K X : Type 0} (t : K → Bool) (es : List (K × X)) (e : K × X) → position t (keys_of es) ≡ None → t e.0 ≡ true → position t (keys_of (es ++ e ∷ [])) ≡ Some (length es)
+placed_last t es e none own =
+    let ks = keys_of es in
+    let absent : position_or_len t ks ≡ length es = (Missing-position t es none).or_len in
+    let each : length ks ≡ length es = length-keys_of es in
+    let last : position_or_len t (ks ++ e.0 ∷ []) ≡ length es = grind (arith, nat_tests, position_or_len_push t ks e.0) in
+    let inside : nat_lt (length es) (length (ks ++ e.0 ∷ [])) ≡ true = grind (arith, nat_tests, length_push ks e.0) in
+    ap (position t) (map-append (λ x. x.0) es (e ∷ [])) ∙ rw (last, inside) refl
 
 module _ {H : Type 0} (is_fresh : ℕ → Tree → List Row → H → Type 0) (old : Registry H) (key : Key) where
-  -- the last run, of a key that had none
-  placed_last : (run : Found H) → place_of key old.runs ≡ None → place_of key (old.runs ++ (key, run) ∷ []) ≡ Some (length old.runs)
-  placed_last run none =
-      ap (position (same_key key)) (keys_pushed old.runs (key, run))
-      ∙ (position_last (same_key key) (keys_of old.runs) key (Missing-position (same_key key) old.runs none).absent (same_key-laws.refl key) ∙ ap Some (length_keys old.runs))
-
   new_run : (held : H) → IsNew is_fresh old key.number held → place_of key old.runs ≡ None → IsFound is_fresh old key (length old.runs) (record old { runs = with_run old.runs key held })
   new_run held new none = record {
-    here = placed_last (record { finds = 1; held = held }) none;
-    same = λ before there. absurd (no_place before (sym there ∙ none));
+    here = placed_last (same_key key) old.runs (key, _) none (same_key-laws.refl key);
+    same = λ before there. absurd (none-some before (sym none ∙ there));
     fresh = λ _. subst (λ (o : Option (Key × Found H)). IsSomeAnd (option_map (λ e. e.1.held) o) (IsNew is_fresh old key.number)) (sym (get_pushed_own old.runs _)) new;
     others = λ other apart. get_pushed_other old.runs other _ apart;
   }
@@ -91,14 +67,14 @@ module _ {H : Type 0} (is_fresh : ℕ → Tree → List Row → H → Type 0) (o
   old_run : (place : ℕ) (o : Option (Key × Found H)) → slice_get old.runs place ≡ o → place_of key old.runs ≡ Some place → IsFound is_fresh old key place (record old { runs = option_map_or (λ e. slice_set old.runs place (e.0, record e.1 { finds = e.1.finds + 1 })) o old.runs })
   old_run place None there here = record {
     here = here;
-    same = λ before was. (some_same place before (sym here ∙ was), refl);
-    fresh = λ none. absurd (no_place place (sym here ∙ none));
+    same = λ before was. (same_Some place before (sym here ∙ was), refl);
+    fresh = λ none. absurd (none-some place (sym none ∙ here));
     others = λ other apart. refl;
   }
   old_run place (Some e) there here = record {
     here = ap (λ ks. position (same_key key) ks) (keys_set old.runs place e.0 e.1 _ there) ∙ here;
-    same = λ before was. (some_same place before (sym here ∙ was), ap (option_map (λ (run : Key × Found H). run.1.held)) (get_set_own old.runs place _ e there) ∙ sym (ap (option_map (λ (run : Key × Found H). run.1.held)) there));
-    fresh = λ none. absurd (no_place place (sym here ∙ none));
+    same = λ before was. (same_Some place before (sym here ∙ was), ap (option_map (λ (run : Key × Found H). run.1.held)) (get_set_own old.runs place _ e there) ∙ sym (ap (option_map (λ (run : Key × Found H). run.1.held)) there));
+    fresh = λ none. absurd (none-some place (sym none ∙ here));
     others = λ other apart. get_set_other old.runs place other _ apart;
   }
 

@@ -1,8 +1,9 @@
 -- Where an open stands among opens whose numbers ascend, and what numbers a call leaves.
-use Rattle.std.proofs.Common.{◌≡◌, ◌≢◌, ℕ, zero, suc, ◌+◌, ◌<◌, ◌≤◌, ◌&&◌, ◌==◌, Bool, true, false, List, [], ◌∷◌, length, get_or, Option, Some, None, Ok, Err, refl, sym, ap, arith, drop}
+use Rattle.std.proofs.Common.{◌≡◌, ◌≢◌, ℕ, suc, ◌+◌, ◌<◌, ◌≤◌, ◌&&◌, ◌==◌, Bool, true, false, List, [], ◌∷◌, length, get_or, Option, Some, None, Ok, Err, refl, sym, ap, arith, drop}
 use Rattle.std.proofs.lemmas.Bool.Decides.{nat_tests}
 use Rattle.std.proofs.lemmas.Cmp.{ranked}
 use Rattle.std.proofs.lemmas.List.Elements.{All-append, All-drop, All-push, All-take, All-weaker}
+use Rattle.std.proofs.lemmas.List.Sums.{position_or_len_is}
 use Rattle.std.specs.List.{All, position, position_or_len, remove}
 use Rattle.std.specs.List.Sorted.{IsBinarySearchResult, IsNonDecreasingBy}
 use Rattle.std.specs.Option.{option_map_or}
@@ -20,31 +21,19 @@ use Rattle.cs_run.specs.declared.answer.Outcome.{Outcome}
 use Rattle.cs_run.specs.declared.answer.Outcome.TheVariants as out
 use Rattle.cs_run.specs.declared.turn.Turn.{Turn}
 
--- the first element that passes stands after those that don't
-runs_to : {X : Type 0} (p : X → Bool) (xs : List X) (i : ℕ) → i < length xs → ((d : X) → p (get_or xs i d) ≡ true) → ((k : ℕ) (d : X) → k < i → p (get_or xs k d) ≡ false) → position_or_len p xs ≡ i
-runs_to p [] i within here before = absurd (omega arith)
-runs_to p (x ∷ xs) zero within here before = rw (here x) refl
-runs_to p (x ∷ xs) (suc i) within here before =
-    let rest : position_or_len p xs ≡ i = runs_to p xs i (omega arith) here (λ k d below. before (suc k) d (omega arith)) in
-    rw (before zero x (omega arith)) (omega arith)
-
--- no element that passes stands in the list
-runs_out : {X : Type 0} (p : X → Bool) (xs : List X) → ((k : ℕ) (d : X) → k < length xs → p (get_or xs k d) ≡ false) → position_or_len p xs ≡ length xs
-runs_out p [] none = refl
-runs_out p (x ∷ xs) none =
-    let rest : position_or_len p xs ≡ length xs = runs_out p xs (λ k d below. none (suc k) d (omega arith)) in
-    rw (none zero x (omega arith)) (omega arith)
-
+-- an element that passes, after such as don't, is the first
 position_at : {X : Type 0} (p : X → Bool) (xs : List X) (i : ℕ) → i < length xs → ((d : X) → p (get_or xs i d) ≡ true) → ((k : ℕ) (d : X) → k < i → p (get_or xs k d) ≡ false) → position p xs ≡ Some i
-position_at p xs i within here before =
-    let at : position_or_len p xs ≡ i = runs_to p xs i within here before in
-    let test : nat_lt i (length xs) ≡ true = grind (arith, nat_tests) in
+position_at p [] i within here before = absurd (omega arith)
+position_at p (x ∷ xs) i within here before =
+    let at : position_or_len p (x ∷ xs) ≡ i = position_or_len_is p (x ∷ xs) i x (omega arith) (λ k less. before k x less) (λ _. here x) in
+    let test : nat_lt i (length (x ∷ xs)) ≡ true = grind (arith, nat_tests) in
     rw (at, test) refl
 
 position_none : {X : Type 0} (p : X → Bool) (xs : List X) → ((k : ℕ) (d : X) → k < length xs → p (get_or xs k d) ≡ false) → position p xs ≡ None
-position_none p xs none =
-    let at : position_or_len p xs ≡ length xs = runs_out p xs none in
-    let test : nat_lt (length xs) (length xs) ≡ false = grind (arith, nat_tests) in
+position_none p [] none = refl
+position_none p (x ∷ xs) none =
+    let at : position_or_len p (x ∷ xs) ≡ length (x ∷ xs) = position_or_len_is p (x ∷ xs) (length (x ∷ xs)) x (omega arith) (λ k less. none k x less) (λ less. absurd (omega arith)) in
+    let test : nat_lt (length (x ∷ xs)) (length (x ∷ xs)) ≡ false = grind (arith, nat_tests) in
     rw (at, test) refl
 
 other_number : (n m : ℕ) (b : Bool) → n ≢ m → ((n == m) && b) ≡ false
@@ -116,5 +105,4 @@ granted_below s w call false none below =
 -- the numbers of the opens that a call leaves are below that of the next call's open
 pub stays_below : (s : RulesView) (w : Turn) (call : Call) (o : Outcome) → AreBelow w.place s.opens → AreBelow (w.place + 1) (applied s w call o).opens
 stays_below s w call out.Granted below = granted_below s w call (opens_one call) refl below
-stays_below s w call (out.Denied rule) below = more_below w.place _ (released_if_below w.place (closes call) w.pass s.opens below)
-stays_below s w call out.Short below = more_below w.place _ (released_if_below w.place (closes call) w.pass s.opens below)
+stays_below s w call o below = more_below w.place _ (released_if_below w.place (closes call) w.pass s.opens below)

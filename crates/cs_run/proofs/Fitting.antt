@@ -1,5 +1,5 @@
 -- A read gives no more bytes than it asks for, and a walk no more qids than it has names.
-use Rattle.std.proofs.Common.{◌≡◌, ◌≤◌, ℕ, suc, Bool, true, false, if◌then◌else◌, List, [], ◌∷◌, length, take, drop, Option, Some, None, Result, Ok, Err, refl, arith, unwrap_or}
+use Rattle.std.proofs.Common.{◌≡◌, ◌≤◌, ℕ, suc, Bool, true, false, if◌then◌else◌, List, [], ◌∷◌, length, take, drop, Option, Some, None, Result, Ok, Err, sym, subst, arith, unwrap_or}
 use Rattle.std.proofs.lemmas.List.{length-take}
 use Rattle.std.specs.Option.{option_map}
 use Rattle.cs_names.specs.declared.rule_id.RuleId.{RuleId}
@@ -8,16 +8,14 @@ use Rattle.cs_permit.specs.Reads.{name_before}
 use Rattle.cs_permit.specs.Rules.{is_directory, on_file}
 use Rattle.cs_permit.specs.Walks.{element}
 use Rattle.cs_permit.specs.declared.call.Call.{Call}
-use Rattle.cs_permit.specs.declared.call.Call.TheVariants.{Attach, Walk, Open, Create, Read, Write, Close, Remove, Stat, Wstat}
+use Rattle.cs_permit.specs.declared.call.Call.TheVariants.{Read, Walk}
 use Rattle.cs_permit.specs.declared.call.ReadCall.{ReadCall}
 use Rattle.cs_run.proofs.Most.{fullest}
-use Rattle.cs_run.specs.Effects.{effect_of}
-use Rattle.cs_run.specs.Laws.{FitsCall, bytes_in, qids_in}
-use Rattle.cs_run.specs.Outcomes.{applied}
+use Rattle.cs_run.specs.Effects.{Left}
+use Rattle.cs_run.specs.Laws.{FitsCall}
+use Rattle.cs_run.specs.Outcomes.{IsOutcomeOf, applied, outcome}
 use Rattle.cs_run.specs.Pages.{bytes_given, entries_given, given}
 use Rattle.cs_run.specs.Walks.{Way, go_on, way}
-use Rattle.cs_run.specs.declared.answer.Answer.{Answer}
-use Rattle.cs_run.specs.declared.answer.Answer.TheVariants as a
 use Rattle.cs_run.specs.declared.answer.Outcome.{Outcome}
 use Rattle.cs_run.specs.declared.answer.Outcome.TheVariants as o
 use Rattle.cs_run.specs.declared.turn.Turn.{Turn}
@@ -25,12 +23,9 @@ use Rattle.cs_tree_model.specs.Nexts.{names_after}
 use Rattle.cs_tree_model.specs.Tree.{Tree, content_numbered}
 use Rattle.cs_users.specs.Rows.{Row}
 
-take_fits : (n : ℕ) (bytes : List ℕ) → length (take n bytes) ≤ n
-take_fits n bytes = omega (arith, length-take n bytes)
-
 bytes_fit : (count offset : ℕ) (o : Option (List ℕ)) → length (unwrap_or (option_map (λ bytes. take count (drop offset bytes)) o) []) ≤ count
 bytes_fit count offset None = omega arith
-bytes_fit count offset (Some bytes) = take_fits count (drop offset bytes)
+bytes_fit count offset (Some bytes) = omega (arith, length-take count (drop offset bytes))
 
 read_fits : (t : Tree) (c : ReadCall) → length (given t c).bytes ≤ c.count
 read_fits t c = by (on_file t c.number is_directory)
@@ -47,32 +42,13 @@ walk_fits : (t : Tree) (us : List Row) (u : List ℕ) (n : ℕ) (names : List (L
 walk_fits t us u n [] = omega arith
 walk_fits t us u n (x ∷ xs) = further_fits t n (λ m. way t us u m xs) (length xs) (λ m. walk_fits t us u m xs) (element t us u n x)
 
--- an answer without bytes and qids fits every call
-empty_fits : (call : Call) (answer : Answer) → bytes_in answer ≡ 0 → qids_in answer ≡ 0 → FitsCall call answer
-empty_fits (Attach c) answer b q = tt
-empty_fits (Walk c) answer b q = omega arith
-empty_fits (Open c) answer b q = tt
-empty_fits (Create c) answer b q = tt
-empty_fits (Read c) answer b q = omega arith
-empty_fits (Write c) answer b q = tt
-empty_fits (Close c) answer b q = tt
-empty_fits (Remove c) answer b q = tt
-empty_fits (Stat c) answer b q = tt
-empty_fits (Wstat c) answer b q = tt
-
-granted_fits : (s : RulesView) (w : Turn) (call : Call) → FitsCall call (effect_of s w call).answer
-granted_fits s w (Attach c) = tt
-granted_fits s w (Walk c) = walk_fits s.tree s.users c.user c.number c.names
-granted_fits s w (Open c) = tt
-granted_fits s w (Create c) = tt
-granted_fits s w (Read c) = read_fits s.tree c
-granted_fits s w (Write c) = tt
-granted_fits s w (Close c) = tt
-granted_fits s w (Remove c) = tt
-granted_fits s w (Stat c) = tt
-granted_fits s w (Wstat c) = tt
-
 pub fits : (s : RulesView) (w : Turn) (call : Call) (end : Outcome) → FitsCall call (applied s w call end).answer
-fits s w call o.Granted = granted_fits s w call
-fits s w call (o.Denied rule) = empty_fits call (a.Denied rule) refl refl
-fits s w call o.Short = empty_fits call a.Short refl refl
+fits s w (Walk c) o.Granted = walk_fits s.tree s.users c.user c.number c.names
+fits s w (Walk c) end = omega arith
+fits s w (Read c) o.Granted = read_fits s.tree c
+fits s w (Read c) end = omega arith
+fits s w call end = tt
+
+-- so the answer of a call fits it, however it ends
+pub outcome_fits : (s : RulesView) (w : Turn) (call : Call) (how : Outcome) (leaves : Left) → IsOutcomeOf s w call how leaves → FitsCall call leaves.answer
+outcome_fits s w call how leaves is = subst (λ (l : Left). FitsCall call l.answer) (sym is.leaves_is) (fits s w call (outcome s w call is.mark))

@@ -1,10 +1,11 @@
 -- Where opens that lie in blocks stand among all.
-use Rattle.std.proofs.Common.{◌≡◌, ◌≢◌, ◌∙◌, ℕ, zero, suc, ◌+◌, ◌-◌, ◌<◌, ◌≤◌, ◌==◌, Bool, true, false, List, [], ◌∷◌, ◌++◌, length, get_or, take, set, Some, None, refl, sym, ap, arith, append_assoc, length-append}
+use Rattle.std.proofs.Common.{◌≡◌, ◌≢◌, ◌∙◌, ℕ, zero, suc, ◌+◌, ◌-◌, ◌<◌, ◌≤◌, ◌==◌, Bool, true, false, List, [], ◌∷◌, ◌++◌, length, get_or, take, drop, set, Some, None, refl, sym, ap, arith, append_assoc, length-append}
+use Rattle.std.proofs.Math.Seq.{take-suc}
 use Rattle.std.proofs.lemmas.Bool.Decides.{nat_tests}
-use Rattle.std.proofs.lemmas.List.{append-nil, get_or_default, length-set}
+use Rattle.std.proofs.lemmas.List.{append-nil, get_or_default, length-set, take-append-drop, take-take, take_all}
 use Rattle.std.proofs.lemmas.List.Folds.{list_any-append}
 use Rattle.std.proofs.lemmas.List.Quantifiers.{all_pairs_push, all_pairs_remove}
-use Rattle.std.proofs.lemmas.List.Concat.{get_or-flat_map}
+use Rattle.std.proofs.lemmas.List.Concat.{flat_map-append, get_or-flat_map}
 use Rattle.std.proofs.lemmas.Grind.{get_or-set_at}
 use Rattle.std.proofs.lemmas.List.Edits.{length-remove, remove-append_left, remove-append_right}
 use Rattle.std.proofs.lemmas.Option.{slice_get-get_or, slice_get_read}
@@ -19,38 +20,20 @@ use Rattle.cs_run.proofs.Ascending.{of_another, own_open, unnumbered}
 use Rattle.cs_run.specs.Opens.{AreBelow, IsAscending, is_open}
 
 -- one block more
-pub before_next : (blocks : List Block) (i : ℕ) (b : Block) → i < length blocks → before blocks (suc i) ≡ before blocks i + length (get_or blocks i b).items
-before_next [] i b within = absurd (omega arith)
-before_next (x ∷ blocks) zero b within = omega (arith, length-append x.items [])
-before_next (x ∷ blocks) (suc i) b within =
-    let rest : before blocks (suc i) ≡ before blocks i + length (get_or blocks i b).items = before_next blocks i b (omega arith) in
-    let more : length (x.items ++ joined (take (suc i) blocks)) ≡ length x.items + before blocks (suc i) = length-append x.items _ in
-    let less : length (x.items ++ joined (take i blocks)) ≡ length x.items + before blocks i = length-append x.items _ in
-    omega arith
+before_next : (blocks : List Block) (i : ℕ) (b : Block) → i < length blocks → before blocks (suc i) ≡ before blocks i + length (get_or blocks i b).items
+before_next blocks i b within =
+    rw (take-suc blocks i b within, flat_map-append (λ (x : Block). x.items) (take i blocks), append-nil (get_or blocks i b).items) (length-append (joined (take i blocks)) _)
 
 -- the blocks after the first ones have opens after theirs
-pub before_rises : (blocks : List Block) (i j : ℕ) → i ≤ j → before blocks i ≤ before blocks j
-before_rises [] zero zero le = omega arith
-before_rises [] zero (suc j) le = omega arith
-before_rises [] (suc i) zero le = absurd (omega arith)
-before_rises [] (suc i) (suc j) le = omega arith
-before_rises (x ∷ blocks) zero j le = omega arith
-before_rises (x ∷ blocks) (suc i) zero le = absurd (omega arith)
-before_rises (x ∷ blocks) (suc i) (suc j) le =
-    let rest : before blocks i ≤ before blocks j = before_rises blocks i j (omega arith) in
-    let more : length (x.items ++ joined (take j blocks)) ≡ length x.items + before blocks j = length-append x.items _ in
-    let less : length (x.items ++ joined (take i blocks)) ≡ length x.items + before blocks i = length-append x.items _ in
-    omega arith
+before_rises : (blocks : List Block) (i j : ℕ) → i ≤ j → before blocks i ≤ before blocks j
+before_rises blocks i j le =
+    let parts = ap (λ xs. length (joined xs)) (sym (take-append-drop i (take j blocks)))
+    ∙ ap length (flat_map-append (λ (x : Block). x.items) (take i (take j blocks)) (drop i (take j blocks))) ∙ length-append (joined (take i (take j blocks))) _ in
+    let same = ap (λ xs. length (joined xs)) (take-take i j blocks le) in
+    omega (arith, parts, same)
 
-pub before_all : (blocks : List Block) (i : ℕ) → length blocks ≤ i → before blocks i ≡ length (joined blocks)
-before_all [] zero le = refl
-before_all [] (suc i) le = refl
-before_all (x ∷ blocks) zero le = absurd (omega arith)
-before_all (x ∷ blocks) (suc i) le =
-    let rest : before blocks i ≡ length (joined blocks) = before_all blocks i (omega arith) in
-    let more : length (x.items ++ joined (take i blocks)) ≡ length x.items + before blocks i = length-append x.items _ in
-    let all : length (x.items ++ joined blocks) ≡ length x.items + length (joined blocks) = length-append x.items _ in
-    omega arith
+before_all : (blocks : List Block) (i : ℕ) → length blocks ≤ i → before blocks i ≡ length (joined blocks)
+before_all blocks i le = ap (λ xs. length (joined xs)) (take_all i blocks le)
 
 some_last : (n : ℕ) (xs : List OpenFile) → option_map_or (λ o. nat_lt o.number n) (slice_get xs (length xs - 1)) false ≡ true → 0 < length xs
 some_last n [] e = absurd cc
@@ -231,11 +214,6 @@ pub joined_drop : (blocks : List Block) (i : ℕ) (b : Block) → i < length blo
 joined_drop [] i b within is = absurd (omega arith)
 joined_drop (x ∷ blocks) zero b within is = rw (nothing x.items is) refl
 joined_drop (x ∷ blocks) (suc i) b within is = ap (λ xs. x.items ++ xs) (joined_drop blocks i b (omega arith) is)
-
--- an empty block more
-pub joined_empty : (blocks : List Block) (new : Block) → new.items ≡ [] → joined (blocks ++ new ∷ []) ≡ joined blocks
-joined_empty [] new is = rw is refl
-joined_empty (x ∷ blocks) new is = ap (λ xs. x.items ++ xs) (joined_empty blocks new is)
 
 -- an open more in the last block
 pub joined_push : (blocks : List Block) (last : ℕ) (b new : Block) (o : OpenFile) → last + 1 ≡ length blocks → new.items ≡ (get_or blocks last b).items ++ o ∷ [] → joined (set blocks last new) ≡ joined blocks ++ o ∷ []

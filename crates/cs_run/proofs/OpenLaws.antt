@@ -2,7 +2,7 @@
 use Rattle.std.proofs.Common.{◌≡◌, true, false, refl}
 use Rattle.cs_permit.specs.Calls.{RulesView}
 use Rattle.cs_permit.specs.declared.call.Call.{Call}
-use Rattle.cs_permit.specs.declared.call.Call.TheVariants.{Attach, Walk, Open, Create, Read, Write, Close, Remove, Stat, Wstat}
+use Rattle.cs_permit.specs.declared.call.Call.TheVariants.{Create, Open}
 use Rattle.cs_run.specs.Effects.{effect_of, new_open, open_effect, create_effect, write_effect, close_effect, remove_effect, wstat_effect}
 use Rattle.cs_run.specs.Laws.{OpensOne, opens_one}
 use Rattle.cs_run.specs.Opens.{released_if}
@@ -13,24 +13,10 @@ pub one_more : (s : RulesView) (w : Turn) (call : Call) → opens_one call ≡ t
 unfolding open_effect create_effect
 one_more s w (Open c) e = record { one = new_open w c.number c.mode; more = refl; number = refl; pass = refl }
 one_more s w (Create c) e = record { one = new_open w s.tree.next c.mode; more = refl; number = refl; pass = refl }
-one_more s w (Attach c) e = absurd cc
-one_more s w (Walk c) e = absurd cc
-one_more s w (Read c) e = absurd cc
-one_more s w (Write c) e = absurd cc
-one_more s w (Close c) e = absurd cc
-one_more s w (Remove c) e = absurd cc
-one_more s w (Stat c) e = absurd cc
-one_more s w (Wstat c) e = absurd cc
+one_more s w call e = absurd cc
 
 pub as_left : (s : RulesView) (w : Turn) (call : Call) → opens_one call ≡ false → (effect_of s w call).opens ≡ released_if (closes call) w.pass s.opens
 unfolding write_effect close_effect remove_effect wstat_effect
 as_left s w (Open c) e = absurd cc
 as_left s w (Create c) e = absurd cc
-as_left s w (Attach c) e = refl
-as_left s w (Walk c) e = refl
-as_left s w (Read c) e = refl
-as_left s w (Write c) e = refl
-as_left s w (Close c) e = refl
-as_left s w (Remove c) e = refl
-as_left s w (Stat c) e = refl
-as_left s w (Wstat c) e = refl
+as_left s w call e = refl

@@ -1,6 +1,6 @@
 -- What a tree says of its numbers.
-use Rattle.std.proofs.Common.{◌≡◌, ◌≢◌, ℕ, Bool, true, false, List, [], ◌∷◌, ◌++◌, ◌&&◌, Option, None, Some, refl, sym, ap, ◌∙◌}
-use Rattle.std.proofs.lemmas.Bool.{false≢true}
+use Rattle.std.proofs.Common.{◌≡◌, ◌≢◌, ℕ, true, false, List, [], ◌∷◌, ◌++◌, Option, None, Some, refl, sym, ap, ◌∙◌}
+use Rattle.std.proofs.lemmas.Bool.{and_parts, false≢true}
 use Rattle.std.specs.Option.{is_some, option_map, option_and_then}
 use Rattle.cs_permit.specs.declared.call.OpenFile.{OpenFile}
 use Rattle.cs_permit.specs.Modes.{removes_on_close}
@@ -59,13 +59,9 @@ pub some_mapped : {A B : Type 0} (f : A → B) (o : Option A) → is_some (optio
 some_mapped f None = refl
 some_mapped f (Some a) = refl
 
-both_first : (a b : Bool) → a && b ≡ true → a ≡ true
-both_first true b e = refl
-both_first false b e = absurd (false≢true e)
-
 -- the file that an open removes has bytes
 pub removed_has_bytes : (t : Tree) (o : OpenFile) → removes t (Some o) ≡ true → is_some (content_numbered t o.file) ≡ true
-removed_has_bytes t o e = both_first (is_some (content_numbered t o.file)) (removes_on_close o.mode) e
+removed_has_bytes t o e = (and_parts (is_some (content_numbered t o.file)) (removes_on_close o.mode) e).0
 
 -- a file that is there and isn't a directory has bytes
 pub file_has_bytes : (t : Tree) (n : ℕ) (f : MetadataBuf) → file_at t n ≡ Some f → is_directory f ≡ false → is_some (content_numbered t n) ≡ true

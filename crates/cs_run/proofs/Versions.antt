@@ -1,7 +1,7 @@
 -- How much a change raises the versions of a tree.
 use Rattle.std.proofs.Common.{◌≡◌, ◌≢◌, ◌+◌, ◌<◌, ◌≤◌, ℕ, List, [], ◌∷◌, ◌++◌, Option, None, Some, refl, sym, ap, ◌∙◌, subst, ⊎_elim, length, arith, ◌^◌, IfSome, Bool, true, false, if◌then◌else◌}
 use Rattle.std.proofs.lemmas.Bool.{false≢true}
-use Rattle.std.proofs.lemmas.List.{length-append}
+use Rattle.std.proofs.lemmas.List.{append-nil, length-append}
 use Rattle.std.specs.FinMap.{FinMap, get, insert, remove, entries, entries_sorted, get-entries}
 use Rattle.std.specs.List.{find}
 use Rattle.std.specs.Option.{option_map, option_map_or, is_some}
@@ -20,7 +20,7 @@ use Rattle.cs_tree_model.specs.Laws.Numbered.{next_changed, next_removed, next_w
 use Rattle.cs_permit.specs.Calls.{RulesView}
 use Rattle.cs_permit.specs.Writes.{write_start}
 use Rattle.cs_permit.specs.declared.call.Call.{Call}
-use Rattle.cs_permit.specs.declared.call.Call.TheVariants.{Attach, Walk, Open, Create, Read, Write, Close, Remove, Stat, Wstat}
+use Rattle.cs_permit.specs.declared.call.Call.TheVariants.{Close, Create, Open, Remove, Write, Wstat}
 use Rattle.cs_permit.specs.declared.call.OpenFile.{OpenFile}
 use Rattle.cs_permit.specs.declared.call.WstatCall.{WstatCall}
 use Rattle.cs_run.specs.Effects.{change_asked, changed_by, changes_some, closed_tree, effect_of, emptying, empties, new_file, removes, stamp, writes, open_effect, create_effect, write_effect, close_effect, remove_effect, wstat_effect}
@@ -28,7 +28,7 @@ use Rattle.cs_run.specs.Laws.{AllVersBelow, RaisesByOne}
 use Rattle.cs_run.specs.Opens.{open_numbered}
 use Rattle.cs_run.specs.Outcomes.{applied}
 use Rattle.cs_run.specs.declared.answer.Outcome.{Outcome}
-use Rattle.cs_run.specs.declared.answer.Outcome.TheVariants.{Granted, Denied, Short}
+use Rattle.cs_run.specs.declared.answer.Outcome.TheVariants.{Granted}
 use Rattle.cs_run.specs.declared.turn.Turn.{Turn}
 
 abbrev Below : ℕ → FinMap path_cmp Record → Type 0
@@ -81,9 +81,6 @@ with_below_other k m q u f one ne h = by (get m u) refl
     by (Some w) e = (let b : w.vers < k = (h u w e).1 ne in let v : (f w).vers ≡ w.vers + 1 = one w in
         insert_below (k + 1) m u (f w) (all_below k q m h) (omega arith))
 
-stamp_raises : (s : Stamp) (r : Record) → (stamped s r).vers ≡ r.vers + 1
-stamp_raises s r = refl
-
 sized_raises : (n : Option ℕ) (s : Stamp) (r : Record) → (sized n s r).vers ≡ r.vers + 1
 sized_raises None s r = refl
 sized_raises (Some n) s r = refl
@@ -92,12 +89,8 @@ sized_raises (Some n) s r = refl
 snoc_longer : (p : Path) (y : NameBytes) → p ≢ p ++ y ∷ []
 snoc_longer p y same = (let e : length p ≡ length p + 1 = ap length same ∙ length-append p (y ∷ []) in absurd (omega arith))
 
-append_nil : (p : Path) → p ++ [] ≡ p
-append_nil [] = refl
-append_nil (x ∷ p) = ap (λ q. x ∷ q) (append_nil p)
-
 moved_itself : (old new : Path) → replace_prefix old new old ≡ new
-moved_itself old new = ap (λ o. option_map_or (λ rest. new ++ rest) o old) (after_itself old) ∙ append_nil new
+moved_itself old new = ap (λ o. option_map_or (λ rest. new ++ rest) o old) (after_itself old) ∙ append-nil new
 
 moved_below_but : (k : ℕ) (m : FinMap path_cmp Record) (q new : Path) → BelowBut k q m → BelowBut k new (move_paths (replace_prefix q new) m)
 moved_below_but k m q new h p r is =
@@ -118,10 +111,10 @@ module _ (k : ℕ) (t : Tree) (h : AllVersBelow k t) where
     where
       by : (p : Path) (o : Option Record) → AllVersBelow (k + 1) (option_map_or (λ r. record { files = insert (stamp_at p s t.files) (p ++ x ∷ []) (new_record t.next r.group w s); next = t.next + 1 }) o t)
       by p None = more k t.files h
-      by p (Some r) = insert_below (k + 1) (stamp_at p s t.files) (p ++ x ∷ []) (new_record t.next r.group w s) (with_below k t.files p (stamped s) (stamp_raises s) h) (omega arith)
+      by p (Some r) = insert_below (k + 1) (stamp_at p s t.files) (p ++ x ∷ []) (new_record t.next r.group w s) (with_below k t.files p (stamped s) (λ r. refl) h) (omega arith)
 
   pub removed_below : (n : ℕ) (s : Stamp) → AllVersBelow (k + 1) (removed n s t)
-  removed_below n s = at_number_below n (λ p. take_out p s) (λ p. with_below k (remove t.files p) (parent_path p) (stamped s) (stamp_raises s) (remove_below k t.files p h))
+  removed_below n s = at_number_below n (λ p. take_out p s) (λ p. with_below k (remove t.files p) (parent_path p) (stamped s) (λ r. refl) (remove_below k t.files p h))
 
   pub written_below : (n start : ℕ) (w : List ℕ) (s : Stamp) → AllVersBelow (k + 1) (written_to n start w s t)
   written_below n start w s = at_number_below n (λ p. change_at p (stamped_write start w s)) (λ p. with_below k t.files p (stamped_write start w s) (λ r. refl) h)
@@ -131,7 +124,7 @@ module _ (k : ℕ) (t : Tree) (h : AllVersBelow k t) where
     where
       by : (p : Path) (o : Option NameBytes) → BelowBut k p (change_at p (changed_record c s) t).files → AllVersBelow (k + 1) (option_map_or (λ y. rename p y s (change_at p (changed_record c s) t)) o (change_at p (changed_record c s) t))
       by p None below = all_below k p (change_at p (changed_record c s) t).files below
-      by p (Some y) below = with_below_other k (move_paths (replace_prefix p (parent_path p ++ y ∷ [])) (change_at p (changed_record c s) t).files) (parent_path p ++ y ∷ []) (parent_path p) (stamped s) (stamp_raises s)
+      by p (Some y) below = with_below_other k (move_paths (replace_prefix p (parent_path p ++ y ∷ [])) (change_at p (changed_record c s) t).files) (parent_path p ++ y ∷ []) (parent_path p) (stamped s) (λ r. refl)
           (snoc_longer (parent_path p) y) (moved_below_but k (change_at p (changed_record c s) t).files p (parent_path p ++ y ∷ []) below)
 
 -- where versions are below k, each can grow by one that is below 2 ^ 32
@@ -187,21 +180,17 @@ asked_raises t w c (Some x) = choose (changes_some x) t (changed c.number x (sta
 
 pub effect_raises : (s : RulesView) (w : Turn) (call : Call) → RaisesByOne s.tree (effect_of s w call).tree
 unfolding open_effect create_effect write_effect close_effect remove_effect wstat_effect
-effect_raises s w (Attach c) = same s.tree
-effect_raises s w (Walk c) = same s.tree
 effect_raises s w (Open c) = choose (empties s.tree c) s.tree (changed c.number emptying (stamp w c.user) s.tree) (changed_raises s.tree c.number emptying (stamp w c.user))
 effect_raises s w (Create c) = record {
   versions = λ k h. added_below k s.tree h c.number c.name (new_file s.tree c) (stamp w c.user);
   next = added_next s.tree c.number c.name (new_file s.tree c) (stamp w c.user);
 }
-effect_raises s w (Read c) = same s.tree
 effect_raises s w (Write c) = choose (writes s.tree c) s.tree (written_to c.number (write_start s.tree c) c.bytes (stamp w c.user) s.tree) (written_raises s.tree c.number (write_start s.tree c) c.bytes (stamp w c.user))
 effect_raises s w (Close c) = closed_raises s.tree w c.user (open_numbered c.open_number w.pass s.opens)
 effect_raises s w (Remove c) = removed_raises s.tree c.number (stamp w c.user)
-effect_raises s w (Stat c) = same s.tree
 effect_raises s w (Wstat c) = asked_raises s.tree w c (change_asked s.tree c)
+effect_raises s w call = same s.tree
 
 pub step_raises : (s : RulesView) (w : Turn) (call : Call) (o : Outcome) → RaisesByOne s.tree (applied s w call o).tree
 step_raises s w call Granted = effect_raises s w call
-step_raises s w call (Denied rule) = same s.tree
-step_raises s w call Short = same s.tree
+step_raises s w call o = same s.tree

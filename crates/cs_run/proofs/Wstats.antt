@@ -1,6 +1,8 @@
 -- What the rules of a wstat say of the change that it asks for, where none fails.
 use Rattle.std.proofs.Common.{◌≡◌, ◌≢◌, ◌<◌, ◌≤◌, ◌^◌, ◌==◌, ◌||◌, ℕ, Bool, true, false, not, List, [], Option, None, Some, IsSome, IfSome, refl, sym, ap, ◌∙◌, subst, arith, bit_and}
-use Rattle.std.proofs.lemmas.Bool.{eqb-true, false≢true, ltb-false}
+use Rattle.std.proofs.lemmas.Bool.{false≢true, ltb-false, or_parts}
+use Rattle.std.proofs.lemmas.Bool.Decides.{nat_tests}
+use Rattle.std.proofs.lemmas.Option.{IfSome_then}
 use Rattle.std.specs.Option.{is_some, option_map, option_map_or, option_and_then}
 use Rattle.cs_names.specs.declared.limits.TheConstants.{FILE_BYTES}
 use Rattle.cs_permit.specs.Changes.{if_new, new_length, new_mode, new_name}
@@ -25,26 +27,15 @@ passes : {A : Type 0} (o : Option A) (test : A → Bool) → if_new o test ≡ f
 passes None test e = tt
 passes (Some a) test e = e
 
-weaker : {A : Type 0} (o : Option A) (P Q : A → Type 0) → ((a : A) → P a → Q a) → IfSome o P → IfSome o Q
-weaker None P Q f h = tt
-weaker (Some a) P Q f h = f a h
-
 some_then : {A : Type 0} (o : Option A) (Q : Type 0) → IfSome o (λ _. Q) → IsSome o → Q
 some_then None Q h some = absurd (false≢true some)
 some_then (Some a) Q h some = h
 
 middle : (a b c : Bool) → a || b || c ≡ false → b ≡ false
-middle false false c e = refl
-middle false true c e = e
-middle true false c e = refl
-middle true true c e = e
+middle a b c e = (or_parts a b (or_parts (a || b) c e).0).1
 
 same_by : (a b : ℕ) → not (a == b) ≡ false → a ≡ b
-same_by a b e = by (a == b) refl e
-  where
-    by : (o : Bool) → (a == b) ≡ o → not o ≡ false → a ≡ b
-    by true same none = eqb-true a b same
-    by false same none = absurd (false≢true (sym none))
+same_by a b e = grind (arith, nat_tests)
 
 -- the file that is changed, and the rules of its fields that pass
 record Granted (t : Tree) (us : List Row) (c : WstatCall) (x : Change) : Type 0 where
@@ -74,14 +65,14 @@ module _ (t : Tree) (us : List Row) (c : WstatCall) (x : Change) (pass : AllPass
   length_has_room =
       let g = granted in
       subst (λ (y : Change). IfSome y.length (λ n. n < 2 ^ 63)) g.same
-      (weaker (new_length c g.file) _ _ (λ n e. (let few : n ≤ FILE_BYTES = ltb-false FILE_BYTES n e in omega arith)) (passes (new_length c g.file) _ g.pass.1.1.1.1.1.1.0))
+      (IfSome_then (new_length c g.file) (passes (new_length c g.file) _ g.pass.1.1.1.1.1.1.0) (λ n e. (let few : n ≤ FILE_BYTES = ltb-false FILE_BYTES n e in omega arith)))
 
   pub mode_keeps_kind : KeepsKind x (record_numbered t c.number)
   unfolding name_rules length_rules mode_rules group_rules
   mode_keeps_kind =
       let g = granted in
       subst (λ (y : Change). KeepsKind y (record_numbered t c.number)) g.same
-      (weaker (new_mode c g.file) _ _ (λ mode e. by g mode (same_by _ _ (middle _ _ _ e)) (record_numbered t c.number) g.there) (passes (new_mode c g.file) (is_bad_mode g.file) g.pass.1.1.1.1.1.1.1.0))
+      (IfSome_then (new_mode c g.file) (passes (new_mode c g.file) (is_bad_mode g.file) g.pass.1.1.1.1.1.1.1.0) (λ mode e. by g mode (same_by _ _ (middle _ _ _ e)) (record_numbered t c.number) g.there))
     where
       by : (g : Granted t us c x) (mode : ℕ) → bit_and mode DMDIR ≡ bit_and g.file.mode DMDIR → (o : Option Record) → option_map metadata_of o ≡ Some g.file → IfSome o (λ r. is_directory_mode mode ≡ is_directory_mode r.mode)
       by g mode e None s = tt
@@ -100,11 +91,10 @@ module _ (t : Tree) (us : List Row) (c : WstatCall) (x : Change) (pass : AllPass
   name_is_free =
       let g = granted in
       subst (λ (y : Change). IfSome y.name (λ y. IfSome (parent_numbered t c.number) (λ d. number_in t d y ≡ None))) g.same
-      (weaker (new_name t c) _ _ (λ y e. by y (parent_numbered t c.number) e) (passes (new_name t c) (λ y. is_some (number_beside t c.number y)) g.pass.1.1.1.0))
+      (IfSome_then (new_name t c) (passes (new_name t c) (λ y. is_some (number_beside t c.number y)) g.pass.1.1.1.0) (λ y e. by y (parent_numbered t c.number) e))
     where
       none : (o : Option ℕ) → is_some o ≡ false → o ≡ None
-      none None e = refl
-      none (Some n) e = absurd (false≢true (sym e))
+      none o e = grind arith
 
       by : (y : NameBytes) (o : Option ℕ) → is_some (option_and_then (λ d. number_in t d y) o) ≡ false → IfSome o (λ d. number_in t d y ≡ None)
       by y None e = tt

@@ -19,19 +19,24 @@ before blocks i = length (joined (take i blocks))
 
 -- how many more opens the last block has room for
 abbrev pub last_room : List Block → ℕ
-last_room blocks = option_map_or (λ b. vec_capacity b - vec_len b) (slice_get blocks (length blocks - 1)) 0
+last_room blocks =
+    option_map_or (λ b. vec_capacity b - vec_len b) (slice_get blocks (length blocks - 1)) 0
 
 -- no block but the last is empty
 abbrev pub AreFilled : List Block → Type 0
-AreFilled blocks = (k : ℕ) (b : Block) → k + 1 < length blocks → 0 < length (slice_index_or blocks k b).items
+AreFilled blocks =
+    (k : ℕ) (b : Block) → k + 1 < length blocks → 0 < length (slice_index_or blocks k b).items
 
 -- nor is any other but that one
 abbrev pub FilledBut : ℕ → List Block → Type 0
-FilledBut i blocks = (k : ℕ) (b : Block) → k + 1 < length blocks → k ≢ i → 0 < length (slice_index_or blocks k b).items
+FilledBut i blocks =
+    (k : ℕ) (b : Block) → k + 1 < length blocks → k ≢ i
+    → 0 < length (slice_index_or blocks k b).items
 
 -- the last open of the block has a number below this one
 abbrev pub ends_below : ℕ → Block → Bool
-ends_below n b = option_map_or (λ o. nat_lt o.number n) (slice_get b.items (length b.items - 1)) false
+ends_below n b =
+    option_map_or (λ o. nat_lt o.number n) (slice_get b.items (length b.items - 1)) false
 
 -- an open stands at that place of that block
 pub record Stands (blocks : List Block) (i at : ℕ) : Type 0 where

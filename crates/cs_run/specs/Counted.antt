@@ -1,6 +1,6 @@
 -- A run without a journal, which counts its calls.
 use Rattle.std.specs.Prelude.{ℕ, ◌||◌, Bool, List, nat_le}
-use Rattle.cs_permit.specs.Calls.{RulesView, state}
+use Rattle.cs_permit.specs.Calls.{RulesView, rules_view}
 use Rattle.cs_permit.specs.declared.call.OpenFile.{OpenFile}
 use Rattle.cs_tree_model.specs.Tree.{Tree}
 use Rattle.cs_tree_model.specs.declared.read.TreeRead.{Ghosts}
@@ -17,11 +17,16 @@ pub record Counted : Type 0 where
 
 -- what contracts see of a run whose store is seen as a tree
 abbrev pub run_of : {T : Type 0} {store : Ghosts T} → CountedRun T store → Counted
-run_of {T} {store} run = record { tree = store.tree run.tree; opens = run.opens.items; users = run.users; count = run.count }
+run_of {T} {store} run = record {
+  tree = store.tree run.tree;
+  opens = run.opens.items;
+  users = run.users;
+  count = run.count;
+}
 
 -- what the rules look at
 abbrev pub state_of : Counted → RulesView
-state_of run = state run.tree run.opens run.users
+state_of run = rules_view run.tree run.opens run.users
 
 -- the turn of its next call
 abbrev pub turn_of : Counted → ℕ → ℕ → Turn

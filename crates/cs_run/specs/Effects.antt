@@ -80,7 +80,8 @@ mode_at t n = option_map_or (λ file. file.mode) (file_at t n) 0
 abbrev pub all_but : ℕ → ℕ
 all_but mask = bit_xor 0xFFFFFFFF mask
 
--- of a directory perm & (~0777 | (dir & 0777)), of a file perm & (~0666 | (dir & 0666)): the directory's mode is a mask, and the high bits are kept
+-- perm & (~0777 | (dir & 0777)) of a directory, and the same with 0666 of a file: the directory's
+-- mode is a mask, and the high bits are kept
 abbrev pub created_mode : ℕ → ℕ → ℕ
 created_mode perm dir =
     if is_directory_mode perm
@@ -109,7 +110,8 @@ writes t c = not (length c.bytes == 0) && is_some (content_numbered t c.number)
 
 -- the tree with the bytes of a write
 abbrev pub written_tree : Tree → Turn → WriteCall → Tree
-written_tree t w c = if writes t c then written_to c.number (write_start t c) c.bytes (stamp w c.user) t else t
+written_tree t w c =
+    if writes t c then written_to c.number (write_start t c) c.bytes (stamp w c.user) t else t
 
 -- a write tells how many bytes it has
 unfoldable pub write_effect : Tree → List OpenFile → Turn → WriteCall → Left
@@ -117,7 +119,8 @@ write_effect t os w c = left (written_tree t w c) os (a.Written (length c.bytes)
 
 -- ---- close and remove
 
--- the file of an open is to be removed: it is still there, and the open's mode says so; no directory is opened so
+-- the file of an open is to be removed: it is still there, and the open's mode says so; no
+-- directory is opened so
 abbrev pub removes : Tree → Option OpenFile → Bool
 removes t None = false
 removes t (Some o) = is_some (content_numbered t o.file) && removes_on_close o.mode
@@ -130,11 +133,13 @@ closed_tree t w user (Some o) = if removes t (Some o) then removed o.file (stamp
 -- a close ends its open, if that stands, and may remove its file
 unfoldable pub close_effect : Tree → List OpenFile → Turn → CloseCall → Left
 close_effect t os w c =
-    left (closed_tree t w c.user (open_numbered c.open_number w.pass os)) (released c.open_number w.pass os) a.Closed
+    left (closed_tree t w c.user (open_numbered c.open_number w.pass os))
+    (released c.open_number w.pass os) a.Closed
 
 -- a remove takes out the file, and ends the open of its fid, if that is open
 unfoldable pub remove_effect : Tree → List OpenFile → Turn → RemoveCall → Left
-remove_effect t os w c = left (removed c.number (stamp w c.user) t) (released_if c.open_number w.pass os) a.Removed
+remove_effect t os w c =
+    left (removed c.number (stamp w c.user) t) (released_if c.open_number w.pass os) a.Removed
 
 -- ---- wstat
 
@@ -154,7 +159,8 @@ change_asked t c = option_map (change_of t c) (file_at t c.number)
 
 -- a change names a field
 abbrev pub changes_some : Change → Bool
-changes_some x = is_some x.name || is_some x.length || is_some x.mode || is_some x.group || is_some x.mtime
+changes_some x =
+    is_some x.name || is_some x.length || is_some x.mode || is_some x.group || is_some x.mtime
 
 -- the tree after a change, if that names a field
 abbrev pub changed_by : Tree → Turn → WstatCall → Change → Tree

@@ -23,11 +23,13 @@ is_open number pass o = o.number == number && o.pass == pass
 
 -- the open of that number and pass, if it stands
 abbrev pub open_numbered : ℕ → ℕ → List OpenFile → Option OpenFile
-open_numbered number pass opens = option_and_then (slice_get opens) (position (is_open number pass) opens)
+open_numbered number pass opens =
+    option_and_then (slice_get opens) (position (is_open number pass) opens)
 
 -- the opens without that one
 abbrev pub released : ℕ → ℕ → List OpenFile → List OpenFile
-released number pass opens = option_map_or (remove opens) (position (is_open number pass) opens) opens
+released number pass opens =
+    option_map_or (remove opens) (position (is_open number pass) opens) opens
 
 -- the opens without that one, if one is named
 abbrev pub released_if : Option ℕ → ℕ → List OpenFile → List OpenFile

@@ -4,7 +4,7 @@ use Rattle.std.specs.Option.{option_map_or}
 use Rattle.cs_names.specs.declared.rule_id.RuleId.{RuleId}
 use Rattle.cs_permit.specs.declared.call.Call.{Call}
 use Rattle.cs_permit.specs.declared.call.Call.TheVariants.{Attach, Walk, Open, Create, Read, Write, Close, Remove, Stat, Wstat}
-use Rattle.cs_permit.specs.Calls.{RulesView, first}
+use Rattle.cs_permit.specs.Calls.{RulesView, failing_rule}
 use Rattle.cs_run.specs.declared.answer.Answer.TheVariants as a
 use Rattle.cs_run.specs.declared.answer.Outcome.{Outcome}
 use Rattle.cs_run.specs.declared.answer.Outcome.TheVariants as o
@@ -43,14 +43,16 @@ outcome_by (Some rule) short = o.Denied rule
 outcome_by None true = o.Short
 outcome_by None false = o.Granted
 
--- the outcome of a call: denied by the first rule that fails; else short where it takes memory that is refused; else granted
+-- denied by the first rule that fails; else short if it takes memory that is refused; else granted
 unfoldable pub outcome : RulesView → Turn → Call → CallMark → Outcome
-outcome s w call mark = outcome_by (first s call) (is_refused mark && takes_memory s w call)
+outcome s w call mark = outcome_by (failing_rule s call) (is_refused mark && takes_memory s w call)
 
--- what a call leaves by its outcome: a grant its effect, another nothing but that the open of a close or a remove is released
+-- what a call leaves by its outcome: a grant its effect, another nothing but that the open of a
+-- close or a remove is released
 abbrev pub applied : RulesView → Turn → Call → Outcome → Left
 applied s w call o.Granted = effect_of s w call
-applied s w call (o.Denied rule) = left s.tree (released_if (closes call) w.pass s.opens) (a.Denied rule)
+applied s w call (o.Denied rule) =
+    left s.tree (released_if (closes call) w.pass s.opens) (a.Denied rule)
 applied s w call o.Short = left s.tree (released_if (closes call) w.pass s.opens) a.Short
 
 -- the step: what a call leaves where memory refuses that growth
@@ -58,7 +60,8 @@ abbrev pub stepped : RulesView → Turn → Call → CallMark → Left
 stepped s w call mark = applied s w call (outcome s w call mark)
 
 -- a call ends so and leaves that, where memory refuses one growth or none
-pub record IsOutcomeOf (s : RulesView) (w : Turn) (call : Call) (how : Outcome) (leaves : Left) : Type 0 where
+pub record IsOutcomeOf (s : RulesView) (w : Turn) (call : Call) (how : Outcome) (leaves : Left)
+    : Type 0 where
   pub mark : CallMark
   pub ends : how ≡ outcome s w call mark
   pub leaves_is : leaves ≡ stepped s w call mark

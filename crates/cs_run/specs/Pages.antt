@@ -27,7 +27,7 @@ no_more last = record { bytes = []; last = last }
 abbrev pub onto : List ℕ → Page → Page
 onto bytes page = record page { bytes = bytes ++ page.bytes }
 
--- of these names of a directory, which come after the last one, as many whole entries as fit into the room
+-- as many whole entries as fit into the room, of these names of a directory after the last one
 abbrev pub page : Tree → ℕ → ℕ → Option NameBytes → List NameBytes → Page
 page t d room last [] = no_more last
 page t d room last (x ∷ xs) =
@@ -39,7 +39,8 @@ page t d room last (x ∷ xs) =
 abbrev pub page_after : Tree → ℕ → ℕ → Option NameBytes → Page
 page_after t d room last = page t d room last (names_after t d last)
 
--- a page has the whole entries of a front of the names, which fit; the entry of the next name, if any, doesn't fit behind them
+-- a page has the whole entries of a front of the names, which fit; the entry of the next name, if
+-- any, doesn't fit behind them
 pub record IsFullest (t : Tree) (d room : ℕ) (names : List NameBytes) (p : Page) : Type 0 where
   pub front : List NameBytes
   pub rest : List NameBytes
@@ -59,7 +60,9 @@ end_after start count = min (start + count) 0xFFFFFFFFFFFFFFFF
 
 -- where a directory's next read goes on; a read that gives no entry leaves the place as it was
 abbrev pub place_after : ReadCall → Page → Option Place
-place_after c p = if length p.bytes == 0 then None else Some (record { end = end_after c.offset (length p.bytes); last = p.last })
+place_after c p =
+    if length p.bytes == 0 then None
+    else Some (record { end = end_after c.offset (length p.bytes); last = p.last })
 
 -- the whole entries of a directory that fit, after the last name given
 abbrev pub entries_given : Tree → ReadCall → Given
@@ -69,7 +72,8 @@ entries_given t c =
 
 -- at most so many bytes of a file, from the offset on
 abbrev pub bytes_given : Tree → ReadCall → Given
-bytes_given t c = record { bytes = unwrap_or (bytes_at t c.number c.offset c.count) []; place = None }
+bytes_given t c =
+    record { bytes = unwrap_or (bytes_at t c.number c.offset c.count) []; place = None }
 
 -- what a read gives
 abbrev pub given : Tree → ReadCall → Given

@@ -34,7 +34,8 @@ way_asked t us c = way t us c.user c.number c.names
 
 -- ---- what it means that a walk is the longest
 
--- each name leads on from where the one before it led; these are the qids of the files, and the last of these has that number
+-- each name leads on from where the one before it led; these are the qids of the files, and the
+-- last of these has that number
 abbrev pub LeadOn : Tree → List Row → List ℕ → ℕ → List (List ℕ) → List Qid → ℕ → Type 0
 LeadOn t us u n [] qids last = (qids ≡ []) × (last ≡ n)
 LeadOn t us u n (x ∷ xs) [] last = ⊥
@@ -44,10 +45,12 @@ LeadOn t us u n (x ∷ xs) (qid ∷ qids) last =
 -- no name is left, or that rule stops the next one
 abbrev pub Stops : Tree → List Row → List ℕ → ℕ → List (List ℕ) → Option RuleId → Type 0
 Stops t us u n [] stopped = stopped ≡ None
-Stops t us u n (x ∷ xs) stopped = (rule : RuleId) × (stopped ≡ Some rule) × (element t us u n x ≡ Err rule)
+Stops t us u n (x ∷ xs) stopped =
+    (rule : RuleId) × (stopped ≡ Some rule) × (element t us u n x ≡ Err rule)
 
 -- a front of the names leads on, and the rest begins with a name that is stopped, or is empty
-pub record IsLongest (t : Tree) (us : List Row) (u : List ℕ) (n : ℕ) (names : List (List ℕ)) (w : Way) : Type 0 where
+pub record IsLongest (t : Tree) (us : List Row) (u : List ℕ) (n : ℕ) (names : List (List ℕ))
+    (w : Way) : Type 0 where
   pub front : List (List ℕ)
   pub rest : List (List ℕ)
   pub whole : names ≡ front ++ rest

@@ -1,6 +1,6 @@
 //! A call of a run: by the rules, and if there is memory.
 ghost use Rattle.std.specs.Prelude.{◌≡◌, ◌<◌, ◌^◌, ℕ, IfOk, List, OnErr, true};
-ghost use Rattle.cs_permit.specs.Calls.{first, rules_of, state};
+ghost use Rattle.cs_permit.specs.Calls.{failing_rule, rules_of, rules_view};
 ghost use Rattle.cs_permit.specs.Opens.{open_rules};
 ghost use Rattle.cs_permit.specs.Refusals.{AllPass};
 ghost use Rattle.cs_permit.specs.Rules.{is_exclusive, on_file};
@@ -39,14 +39,14 @@ fn grant<T: TreeStore>(
     turn: Turn,
 ) -> Result<Answer, AllocError>
     requires granted { AllPass
-        (rules_of (state (T.tree tree.old) opens.old.items users.now) call.now) }
+        (rules_of (rules_view (T.tree tree.old) opens.old.items users.now) call.now) }
     requires vers { (n : ℕ) → CanStamp (T.tree tree.old) n }
     requires next { (T.tree tree.old).next < 2 ^ 64 }
     requires above { AreBelow turn.place opens.old.items }
     ensures ok { IfOk result (λ answer. left (T.tree tree.new) opens.new.items answer
-        ≡ effect_of (state (T.tree tree.old) opens.old.items users.now) turn call.now) }
+        ≡ effect_of (rules_view (T.tree tree.old) opens.old.items users.now) turn call.now) }
     ensures memory { OnErr result
-        (takes_memory (state (T.tree tree.old) opens.old.items users.now) turn call.now ≡ true) }
+        (takes_memory (rules_view (T.tree tree.old) opens.old.items users.now) turn call.now ≡ true) }
     ensures err { OnErr result ((T.tree tree.new ≡ T.tree tree.old)
         × (opens.new.items ≡ released_if (closes call.now) turn.pass opens.old.items)) }
 {
@@ -107,8 +107,8 @@ fn asked_by_open<'a, T: TreeRead>(call: &OpenCall, tree: &T, opens: &'a Opens) -
 
 /// Opens of which the call's rules say what they say of all.
 fn asked_of<'a, T: TreeRead>(call: &Call, tree: &T, opens: &'a Opens) -> &'a [OpenFile]
-    ensures { (users : List Row) → first (state (T.tree tree.now) result.now users) call.now
-        ≡ first (state (T.tree tree.now) opens.now.items users) call.now }
+    ensures { (users : List Row) → failing_rule (rules_view (T.tree tree.now) result.now users) call.now
+        ≡ failing_rule (rules_view (T.tree tree.now) opens.now.items users) call.now }
 {
     match call {
         Call::Open(call) => asked_by_open(call, tree, opens),
@@ -131,9 +131,8 @@ fn act_by_rules<T: TreeStore>(
     requires vers { (n : ℕ) → CanStamp (T.tree tree.old) n }
     requires next { (T.tree tree.old).next < 2 ^ 64 }
     requires above { AreBelow turn.place opens.old.items }
-    ensures step { IsOutcomeOf (state (T.tree tree.old) opens.old.items users.now) turn call.now
+    ensures { IsOutcomeOf (rules_view (T.tree tree.old) opens.old.items users.now) turn call.now
         result.0 (left (T.tree tree.new) opens.new.items result.1) }
-    ensures fits { FitsCall call.now result.1 }
 {
     if let Some(rule) = first_failing(call, tree, asked_of(call, tree, opens), users) {
         opens.release_if(closes(call), turn.pass);
@@ -162,7 +161,7 @@ pub fn act<T: TreeStore>(
     requires vers { (n : ℕ) → CanStamp (T.tree tree.old) n }
     requires next { (T.tree tree.old).next < 2 ^ 64 }
     requires above { AreBelow turn.place opens.old.items }
-    ensures step { IsOutcomeOf (state (T.tree tree.old) opens.old.items users.now) turn call.now
+    ensures step { IsOutcomeOf (rules_view (T.tree tree.old) opens.old.items users.now) turn call.now
         result.0 (left (T.tree tree.new) opens.new.items result.1) }
     ensures fits { FitsCall call.now result.1 }
 {

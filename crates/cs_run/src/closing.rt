@@ -1,18 +1,29 @@
 //! Closes (clunk(5)).
-ghost use Rattle.std.specs.Prelude.{◌≡◌, IfOk, OnOk, OnErr, Some, true, ℕ};
+ghost use Rattle.std.specs.Prelude.{◌≡◌, IfOk, OnOk, OnErr, Some, is_some, true, ℕ};
 ghost use Rattle.cs_run.specs.Effects.{close_effect, closed_tree, left, removes};
 ghost use Rattle.cs_run.specs.Opens.{open_numbered, released};
 ghost use Rattle.cs_tree_model.specs.Stores.{CanStamp};
-ghost use Rattle.cs_tree_model.specs.Tree.{IsTree};
+ghost use Rattle.cs_tree_model.specs.Tree.{IsTree, content_numbered};
 
 use crate::answer::Answer;
 use crate::opens::Opens;
 use crate::turn::{Turn, stamp_of};
-use crate::writing::has_bytes;
 use cs_permit::mode::removes_on_close;
+use cs_permit::rules::is_directory;
 use cs_permit::{CloseCall, OpenFile};
 use cs_tree_model::{TreeRead, TreeStore};
 use std::alloc::{AllocError, Global};
+
+/// Whether a file of that number has bytes: it is there, and isn't a directory.
+fn has_bytes<T: TreeRead>(tree: &T, number: u64) -> bool
+    ensures value { result ≡ is_some (content_numbered (T.tree tree.now) number) }
+    ensures is_tree { IsTree (T.tree tree.now) }
+{
+    match tree.record(number) {
+        Some(file) => !is_directory(&file),
+        None => false,
+    }
+}
 
 /// Whether the file of an open is to be removed now: where the open's mode says so, and the file is
 /// still there.

@@ -3,7 +3,7 @@ ghost use Rattle.std.specs.Prelude.{◌≡◌, ◌+◌, IfOk, OnErr, min, true};
 ghost use Rattle.cs_run.specs.Outcomes.{has_some};
 ghost use Rattle.cs_permit.specs.Rules.{is_directory, on_file};
 ghost use Rattle.std.specs.Option.{option_copied};
-ghost use Rattle.cs_run.specs.Pages.{bytes_given, end_after, entries_given, given, page_of, place_after};
+ghost use Rattle.cs_run.specs.Pages.{end_after, entries_given, given, page_of, place_after};
 ghost use Rattle.cs_tree_model.specs.Tree.{IsTree};
 
 use crate::answer::Data;
@@ -58,17 +58,6 @@ fn read_entries<T: TreeRead>(alloc: Global, call: &ReadCall, tree: &T) -> Result
     Ok(Data::new(page.bytes, place))
 }
 
-/// Reads bytes of a file.
-fn read_bytes<T: TreeRead>(alloc: Global, call: &ReadCall, tree: &T) -> Result<Data, AllocError>
-    ensures value { IfOk result (λ read. read ≡ bytes_given (T.tree tree.now) call.now) }
-    ensures memory { OnErr result (has_some (bytes_given (T.tree tree.now) call.now).bytes ≡ true) }
-{
-    match tree.read_at(alloc, call.number, call.offset, call.count as usize)? {
-        Some(bytes) => Ok(Data::new(bytes, None)),
-        None => Ok(Data::new(Vec::new(alloc), None)),
-    }
-}
-
 fn is_of_directory<T: TreeRead>(tree: &T, number: u64) -> bool
     ensures value { result ≡ on_file (T.tree tree.now) number is_directory }
     ensures is_tree { IsTree (T.tree tree.now) }
@@ -79,13 +68,15 @@ fn is_of_directory<T: TreeRead>(tree: &T, number: u64) -> bool
     }
 }
 
-/// Reads bytes of a file, or whole entries of a directory. Only bytes that are given take memory.
+/// Reads bytes of a file, or whole entries of a directory. Only bytes that are given take memory. A
+/// tree gives no bytes of a directory, so that a file is looked up once.
 pub fn read<T: TreeRead>(alloc: Global, call: &ReadCall, tree: &T) -> Result<Data, AllocError>
     ensures value { IfOk result (λ read. read ≡ given (T.tree tree.now) call.now) }
     ensures memory { OnErr result (has_some (given (T.tree tree.now) call.now).bytes ≡ true) }
 {
-    if is_of_directory(tree, call.number) {
-        return read_entries(alloc, call, tree);
+    match tree.read_at(alloc, call.number, call.offset, call.count as usize)? {
+        Some(bytes) => Ok(Data::new(bytes, None)),
+        None if is_of_directory(tree, call.number) => read_entries(alloc, call, tree),
+        None => Ok(Data::new(Vec::new(alloc), None)),
     }
-    read_bytes(alloc, call, tree)
 }

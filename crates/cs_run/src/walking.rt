@@ -1,7 +1,7 @@
 //! Walks (walk(5)).
 ghost use Rattle.std.specs.Option.{option_map};
 ghost use Rattle.std.specs.Prelude.{◌≡◌, ◌<◌, List, None, length, IfErr, IfOk, IsErrOf, OnErr, map, string_bytes};
-ghost use Rattle.cs_permit.specs.Calls.{state};
+ghost use Rattle.cs_permit.specs.Calls.{rules_view};
 ghost use Rattle.cs_permit.specs.Refusals.{first_failing};
 ghost use Rattle.cs_permit.specs.Rules.{file_at};
 ghost use Rattle.cs_permit.specs.Walks.{walk_rules};
@@ -135,7 +135,7 @@ pub fn act_walk<T: TreeRead>(
     users: &Users,
 ) -> (Outcome, Answer)
     ensures { (opens : List OpenFile) (turn : Turn)
-        → IsOutcomeOf (state (T.tree tree.now) opens users.now) turn (c.Walk call.now)
+        → IsOutcomeOf (rules_view (T.tree tree.now) opens users.now) turn (c.Walk call.now)
         result.0 (left (T.tree tree.now) opens result.1) }
 {
     match walk_allowed(alloc, call, tree, users) {

@@ -3,6 +3,7 @@
 mod answers;
 mod asks;
 mod audits;
+mod blocks;
 mod copies;
 mod directories;
 mod files;

@@ -13,12 +13,9 @@ use Rattle.cs_shared.specs.Serving.{HasTree}
 use Rattle.cs_shared.specs.Answers.{IsAnswerOf}
 use Rattle.cs_server.specs.declared.kept.GivenPass.{GivenPass}
 use Rattle.cs_server.specs.Asking.{KeptCalls}
-use Rattle.cs_server.specs.Kept.{AreInside, FoundRuns, given_by}
+use Rattle.cs_server.specs.Kept.{AreInside, given_by}
 
 module _ (serves : HasTree) (runs : List Key) (passes : List GivenPass) (run place : ℕ) (given : GivenPass) (low : place < length passes) (at : given ≡ get_or passes place given) where
-  old : FoundRuns
-  old = record { runs = runs; passes = passes }
-
   there : slice_get passes place ≡ Some given
   there = slice_get-get_or passes place given low ∙ ap Some (sym at)
 

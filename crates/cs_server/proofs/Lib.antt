@@ -1,3 +1,2 @@
 pub mod Calling
 pub mod Ending
-pub mod Fitting

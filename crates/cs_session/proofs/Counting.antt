@@ -14,8 +14,7 @@ keeps_reads_then a b c p q = record { reads = q.reads ∙ p.reads; failed = q.fa
 
 counted_write_keeps : (done : Transfer) (bytes : ℕ) (c : Counts) → KeepsReads c (counted_write done bytes c)
 counted_write_keeps (Bytes count) bytes c = record { reads = refl; failed = refl; interrupted = refl; ends = refl }
-counted_write_keeps Interrupted bytes c = record { reads = refl; failed = refl; interrupted = refl; ends = refl }
-counted_write_keeps Failed bytes c = record { reads = refl; failed = refl; interrupted = refl; ends = refl }
+counted_write_keeps other bytes c = record { reads = refl; failed = refl; interrupted = refl; ends = refl }
 
 -- a write makes no read
 pub keeps_reads_more : (a b c : Counts) (done : Transfer) (bytes : ℕ) → KeepsReads a b → c ≡ counted_write done bytes b → KeepsReads a c

@@ -5,8 +5,4 @@ pub mod Known
 pub mod Listening
 pub mod Maps
 pub mod Marking
-pub mod Sizing
-pub mod Trailing
 pub mod Turns
-pub mod Unread
-pub mod Handling

@@ -9,7 +9,7 @@ use Rattle.cs_wire.specs.Held.{Held, left, size_of, taken, written}
 use Rattle.cs_names.specs.declared.limits.TheConstants.{MESSAGE_BYTES}
 use Rattle.cs_wire.proofs.OneCut.{short}
 use Rattle.cs_session.specs.declared.serving.ServeFault.{ServeFault}
-use Rattle.cs_session.specs.declared.serving.ServeFault.TheVariants.{ReadFault, WriteFault, FrameFault, Memory}
+use Rattle.cs_session.specs.declared.serving.ServeFault.TheVariants.{WriteFault, FrameFault, Memory}
 use Rattle.cs_session.specs.Questions.{Question, PortAnswer}
 use Rattle.cs_session.specs.Sessions.{Sess}
 use Rattle.cs_session.specs.Serving.{AnswersFront, Handles, Converses, StopsAt, EndsAt}
@@ -44,8 +44,7 @@ stops_ends (FrameFault Undersize) came left unsent rest h = h
 stops_ends (FrameFault Oversize) came left unsent rest h = h
 stops_ends (FrameFault Cut) came left unsent rest h = absurd h.0
 stops_ends WriteFault came left unsent rest h = tt
-stops_ends ReadFault came left unsent rest h = absurd h
-stops_ends Memory came left unsent rest h = absurd h
+stops_ends fault came left unsent rest h = absurd h
 
 module _ {P : Type 0} (gives : P → Question → PortAnswer → P → Type 0) where
   -- so far, with every whole message answered and every reply written

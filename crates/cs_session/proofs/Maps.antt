@@ -1,11 +1,11 @@
 -- A number of a table, taken anew.
-use Rattle.std.proofs.Common.{◌≡◌, ◌≢◌, ◌∙◌, ℕ, ◌-◌, ◌<◌, arith, rules, Bool, true, false, cond, Option, None, Some, refl, sym, ap}
+use Rattle.std.proofs.Common.{◌≡◌, ◌≢◌, ◌∙◌, ℕ, ◌-◌, ◌<◌, arith, Bool, true, false, cond, Option, None, Some, refl, sym, ap}
 use Rattle.std.specs.Prelude.{IfOk, Ok, is_some, option_and_then}
 use Rattle.std.specs.Option.{ok_or}
 use Rattle.cs_fids.specs.declared.fault.FidFault.TheVariants.{Unknown}
 use Rattle.std.specs.Ordering.{nat_cmp, eq_by_cmp}
 use Rattle.std.specs.Cmp.{nat_cmp_total, eq_by_cmp_equiv}
-use Rattle.std.specs.FinMap.{contains_key, empty, empty_of_len, get, gets, insert, len, remove, get-insert, len-remove, same_map, nat_cmp-IsAntisymmetric}
+use Rattle.std.specs.FinMap.{contains_key, empty_of_len, get, get-empty, insert, len, remove, get-insert, len-remove, same_map, nat_cmp-IsAntisymmetric}
 use Rattle.cs_fids.specs.declared.entry.Entry.{Entry}
 use Rattle.cs_fids.specs.declared.entry.Entry.TheVariants as entry
 use Rattle.cs_fids.specs.declared.fid.Walked.{Walked}
@@ -31,15 +31,9 @@ insert_again m fid a b =
     ∙ cond_twice (eq_by_cmp nat_cmp q fid) (Some b) (Some a) (get m q)
     ∙ sym (get-insert nat_cmp_total m fid b q))
 
-abbrev empty_fids : FidMap
-empty_fids = empty
-
-nothing_there : (fid : ℕ) → get empty_fids fid ≡ None
-nothing_there fid = search (rules, gets)
-
 not_empty : (m : FidMap) (fid : ℕ) (e : Entry) → get m fid ≡ Some e → len m ≢ 0
 not_empty m fid e there none =
-    let is : get m fid ≡ None = ap (λ (x : FidMap). get x fid) (empty_of_len m none) ∙ nothing_there fid in
+    let is : get m fid ≡ None = ap (λ (x : FidMap). get x fid) (empty_of_len m none) ∙ get-empty nat_cmp fid in
     absurd (cc)
 
 held : (o : Option Entry) (e : Entry) → ok_or o Unknown ≡ Ok e → o ≡ Some e

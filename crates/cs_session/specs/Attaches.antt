@@ -45,7 +45,7 @@ find_after session message (Found (Ok run)) = (
       (Some (record { fid = message.fid; run = run; call = record { user = message.uname } })) session,
 )
 find_after session message (Found (Err fault)) = (find_refusal fault, session)
-find_after session message told = (r.Memory, session)
+find_after session message given = (r.Memory, session)
 
 -- ---- enter
 
@@ -71,10 +71,10 @@ attach_settled fids fid run user pass answer = (refusal answer, fids)
 
 -- the run awaits its attach no more
 abbrev pub attach_after : Sess → Option Awaited → PortAnswer → Reply × Sess
-attach_after session None told = (r.Memory, session)
+attach_after session None given = (r.Memory, session)
 attach_after session (Some awaited) (Entered (Ok pass)) =
     leaves (with_pending None session)
     (attach_settled session.fids awaited.fid awaited.run (user_in awaited.call.user) pass.0 pass.1)
 attach_after session (Some awaited) (Entered (Err fault)) =
     (pass_refusal fault, with_pending None session)
-attach_after session (Some awaited) told = (r.Memory, with_pending None session)
+attach_after session (Some awaited) given = (r.Memory, with_pending None session)

@@ -22,7 +22,7 @@ use Rattle.cs_session.specs.Questions.{Question, Ask}
 abbrev pub after_session : Bool → Option ℕ → List Check → List Check
 after_session awaits msize rules = (S5, awaits) ∷ (S1, is_none msize) ∷ rules
 
--- the first rule that fails, told; then want of memory, told; then the question, and S5 where there
+-- the error of the first rule that fails; then want of memory; then the question, and S5 if there
 -- is none to ask
 abbrev pub decide : Option RuleId → Bool → Option Question → Result Question Reply
 decide (Some rule) refused q = Err (r.Error rule)
@@ -53,7 +53,7 @@ walked_at fids fid = option_and_then as_walked (get fids fid)
 abbrev pub opened_at : FidMap → ℕ → Option (FidOf Opened)
 opened_at fids fid = option_and_then as_opened (get fids fid)
 
--- what a denial or want of memory is told as; no run gives an answer of another kind in its place
+-- the reply to a denial or to want of memory; no run gives an answer of another kind in its place
 abbrev pub refusal : Answer → Reply
 refusal (a.Denied rule) = r.Error rule
 refusal answer = r.Memory

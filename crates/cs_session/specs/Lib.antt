@@ -8,10 +8,8 @@ pub mod Attaches
 pub mod Walks
 pub mod Opens
 pub mod Reads
-pub mod Writes
 pub mod Stats
 pub mod Removes
-pub mod Closes
 pub mod Versions
 pub mod TableSteps
 pub mod Calls
@@ -21,6 +19,5 @@ pub mod Trails
 pub mod Sizes
 pub mod Receipts
 pub mod Streams
-pub mod Transfers
 pub mod Overs
 pub mod Serving

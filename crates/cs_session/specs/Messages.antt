@@ -51,9 +51,7 @@ goes_on message step reply = false
 abbrev pub closes_first : Message → Bool
 closes_first (m.Version msize version) = true
 closes_first m.HangUp = true
-closes_first (m.Attach message) = false
-closes_first (m.Call message) = false
-closes_first (m.Clunk fid) = false
+closes_first message = false
 
 -- the one where the test holds, else the other
 abbrev pub Either : Bool → Type 0 → Type 0 → Type 0
@@ -66,11 +64,11 @@ module _ {P : Type 0} (gives : P → Question → PortAnswer → P → Type 0) (
   abbrev pub Answers : List TableMark → Sess → P → Reply → Sess → P → Type 0
   Answers [] session port reply session' port' = ⊥
   Answers (mark ∷ marks) session port reply session' port' =
-      (said : Reply) × (mid : Sess) × (there : P)
-      × Takes gives now session port (next_step message session) mark said mid there
-      × Either (goes_on message (next_step message session) said)
+      (step_reply : Reply) × (mid : Sess) × (there : P)
+      × Takes gives now session port (next_step message session) mark step_reply mid there
+      × Either (goes_on message (next_step message session) step_reply)
       (Answers marks mid there reply session' port')
-      ((marks ≡ []) × (reply ≡ said) × (session' ≡ mid) × (port' ≡ there))
+      ((marks ≡ []) × (reply ≡ step_reply) × (session' ≡ mid) × (port' ≡ there))
 
   -- with some marks, one a step
   pub record IsAnswered (session : Sess) (port : P) (reply : Reply) (session' : Sess)

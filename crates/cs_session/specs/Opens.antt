@@ -1,5 +1,5 @@
 -- An open and a create: the fid is open then (open(5)).
-use Rattle.std.specs.Prelude.{ℕ, Bool, List, Option, None, Some, Result, option_and_then, option_map}
+use Rattle.std.specs.Prelude.{ℕ, List, Option, None, Some, option_and_then, option_map}
 use Rattle.std.specs.FinMap.{insert}
 use Rattle.cs_fids.specs.declared.entry.Entry.TheVariants as entry
 use Rattle.cs_fids.specs.declared.fid.Walked.{Walked}
@@ -7,7 +7,6 @@ use Rattle.cs_fids.specs.FidOf.{FidOf}
 use Rattle.cs_fids.specs.Fids.{moved_to, opened}
 use Rattle.cs_fids.specs.Tables.{FidMap}
 use Rattle.cs_permit.specs.declared.call.Call.TheVariants as c
-use Rattle.cs_permit.specs.Table.{create_table_rules, open_table_rules}
 use Rattle.cs_run.specs.declared.answer.Answer.{Answer}
 use Rattle.cs_run.specs.declared.answer.Answer.TheVariants as a
 use Rattle.cs_session.specs.declared.message.CreateMessage.{CreateMessage}
@@ -15,7 +14,7 @@ use Rattle.cs_session.specs.declared.message.OpenMessage.{OpenMessage}
 use Rattle.cs_session.specs.declared.reply.Reply.{Reply}
 use Rattle.cs_session.specs.declared.reply.Reply.TheVariants as r
 use Rattle.cs_session.specs.Names.{file_in}
-use Rattle.cs_session.specs.Decisions.{request_decision, refusal, walked_at}
+use Rattle.cs_session.specs.Decisions.{refusal, walked_at}
 use Rattle.cs_session.specs.Questions.{Question, Ask}
 
 abbrev pub open_question : ℕ → FidMap → OpenMessage → Option Question
@@ -23,11 +22,6 @@ open_question now fids message =
     option_map (λ f. Ask now f.run f.pass
     (c.Open (record { number = f.number; user = f.user; mode = message.mode })))
     (walked_at fids message.fid)
-
-abbrev pub open_decision : ℕ → Bool → Option ℕ → FidMap → OpenMessage → Bool → Result Question Reply
-open_decision now awaits msize fids message refused =
-    request_decision awaits msize (open_table_rules fids message.fid message.mode) refused
-    (open_question now fids message)
 
 -- the fid stands for the file that was opened, or made, and is open
 abbrev pub open_left : FidMap → ℕ → Option (FidOf Walked) → ℕ → ℕ → ℕ → FidMap
@@ -57,13 +51,6 @@ create_named now fids message name =
 abbrev pub create_question : ℕ → FidMap → CreateMessage → Option Question
 create_question now fids message =
     option_and_then (create_named now fids message) (file_in message.name)
-
-abbrev pub create_decision : ℕ → Bool → Option ℕ → FidMap → CreateMessage → Bool
-    → Result Question Reply
-create_decision now awaits msize fids message refused =
-    request_decision awaits msize
-    (create_table_rules fids message.fid message.name message.perm message.mode) refused
-    (create_question now fids message)
 
 abbrev pub create_after : FidMap → ℕ → ℕ → Answer → Reply × FidMap
 create_after fids fid mode (a.Opened qid open_number number) =

@@ -1,4 +1,4 @@
--- What a connection asks of its port, and what it is told.
+-- What a connection asks of its port, and what it is given.
 use Rattle.std.specs.Prelude.{ℕ, List, Result}
 use Rattle.cs_permit.specs.declared.call.AttachCall.{AttachCall}
 use Rattle.cs_permit.specs.declared.call.Call.{Call}

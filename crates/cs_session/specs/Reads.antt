@@ -1,5 +1,5 @@
--- A read: its count is cut to what a reply of the session holds (read(5)).
-use Rattle.std.specs.Prelude.{ℕ, ◌-◌, min, Bool, ◌&&◌, false, Option, None, Some, Result, is_some, unwrap_or, option_map}
+-- A read and a write (read(5)).
+use Rattle.std.specs.Prelude.{ℕ, ◌-◌, min, Bool, false, Option, None, Some, is_some, unwrap_or, option_map}
 use Rattle.std.specs.FinMap.{insert}
 use Rattle.std.specs.Option.{option_map_or}
 use Rattle.cs_fids.specs.declared.entry.Entry.TheVariants as entry
@@ -9,15 +9,17 @@ use Rattle.cs_fids.specs.FidOf.{FidOf}
 use Rattle.cs_fids.specs.Fids.{with_place}
 use Rattle.cs_fids.specs.Tables.{FidMap}
 use Rattle.cs_permit.specs.declared.call.Call.TheVariants as c
-use Rattle.cs_permit.specs.Table.{read_table_rules}
 use Rattle.cs_run.specs.declared.answer.Answer.{Answer}
 use Rattle.cs_run.specs.declared.answer.Answer.TheVariants as a
 use Rattle.cs_session.specs.declared.message.ReadMessage.{ReadMessage}
+use Rattle.cs_session.specs.declared.message.WriteMessage.{WriteMessage}
 use Rattle.cs_session.specs.declared.reading.TheConstants.{READ_OVERHEAD}
 use Rattle.cs_session.specs.declared.reply.Reply.{Reply}
 use Rattle.cs_session.specs.declared.reply.Reply.TheVariants as r
-use Rattle.cs_session.specs.Decisions.{request_decision, opened_at, refusal}
+use Rattle.cs_session.specs.Decisions.{opened_at, refusal}
 use Rattle.cs_session.specs.Questions.{Question, Ask}
+
+-- ---- read: its count is cut to what a reply of the session holds
 
 -- at most as many bytes as an Rread of that message size holds
 abbrev pub cut : Option ℕ → ℕ → ℕ
@@ -37,11 +39,6 @@ read_question now msize fids message =
 abbrev pub copies_name : FidMap → ℕ → Bool
 copies_name fids fid = option_map_or (λ f. is_some f.state.place.last) (opened_at fids fid) false
 
-abbrev pub read_decision : ℕ → Bool → Option ℕ → FidMap → ReadMessage → Bool → Result Question Reply
-read_decision now awaits msize fids message refused =
-    request_decision awaits msize (read_table_rules fids message.fid)
-    (refused && copies_name fids message.fid) (read_question now msize fids message)
-
 -- the fid's next read of a directory goes on there, if anywhere else than before
 abbrev pub read_left : FidMap → ℕ → Option (FidOf Opened) → Option Place → FidMap
 read_left fids fid None place = fids
@@ -51,3 +48,19 @@ read_left fids fid (Some f) (Some place) = insert fids fid (entry.Opened (with_p
 abbrev pub read_after : FidMap → ℕ → Answer → Reply × FidMap
 read_after fids fid (a.Data d) = (r.Read d.bytes, read_left fids fid (opened_at fids fid) d.place)
 read_after fids fid answer = (refusal answer, fids)
+
+-- ---- write
+
+abbrev pub write_question : ℕ → FidMap → WriteMessage → Option Question
+write_question now fids message =
+    option_map (λ f. Ask now f.run f.pass
+    (c.Write (record {
+      number = f.number;
+      user = f.user;
+      offset = message.offset;
+      bytes = message.bytes;
+    }))) (opened_at fids message.fid)
+
+abbrev pub write_reply : Answer → Reply
+write_reply (a.Written count) = r.Write count
+write_reply answer = refusal answer

@@ -131,11 +131,10 @@ version_named false = codes "unknown"
 abbrev pub error_reply : ℕ → List ℕ → Spelled replies
 error_reply tag text = record { kind = rk.Error; tag = tag; fields = text }
 
--- a find and the end of a connection aren't told on the wire
+-- a find and the end of a connection have no reply of their own on the wire
 abbrev pub wire_of : ℕ → Reply → Spelled replies
 wire_of tag (r.Version msize spoken) =
     record { kind = rk.Version; tag = tag; fields = (msize, version_named spoken) }
-wire_of tag r.Found = error_reply tag (text_of S5)
 wire_of tag (r.Attach qid) = record { kind = rk.Attach; tag = tag; fields = qid_of qid }
 wire_of tag (r.Walk way) = record { kind = rk.Walk; tag = tag; fields = map qid_of way.qids }
 wire_of tag (r.Open qid) = record { kind = rk.Open; tag = tag; fields = (qid_of qid, 0) }
@@ -147,14 +146,14 @@ wire_of tag r.Remove = record { kind = rk.Remove; tag = tag; fields = tt }
 wire_of tag (r.Stat stat) = record { kind = rk.Stat; tag = tag; fields = stat }
 wire_of tag r.Wstat = record { kind = rk.Wstat; tag = tag; fields = tt }
 wire_of tag r.Flush = record { kind = rk.Flush; tag = tag; fields = tt }
-wire_of tag r.Closed = error_reply tag (text_of S5)
 wire_of tag (r.Error rule) = error_reply tag (text_of rule)
 wire_of tag r.Memory = error_reply tag (codes "out of memory")
+wire_of tag other = error_reply tag (text_of S5)
 
 -- the bytes of a message were answered, with the message's tag
 pub record IsReplied {P : Type 0} (gives : P → Question → PortAnswer → P → Type 0) (now : ℕ)
-    (bytes : List ℕ) (session : Sess) (port : P) (told : Spelled replies) (session' : Sess)
+    (bytes : List ℕ) (session : Sess) (port : P) (wire_reply : Spelled replies) (session' : Sess)
     (port' : P) : Type 0 where
   pub reply : Reply
   pub received : IsReceived gives now bytes session port reply session' port'
-  pub told_is : told ≡ wire_of (tag_in bytes) reply
+  pub wire_reply_is : wire_reply ≡ wire_of (tag_in bytes) reply

@@ -74,9 +74,9 @@ module _ {P : Type 0} (gives : P → Question → PortAnswer → P → Type 0) w
   -- a message was answered, and the bytes of its reply come behind these
   pub record Adds (now : ℕ) (message : List ℕ) (session : Sess) (port : P) (old new : List ℕ)
       (session' : Sess) (port' : P) : Type 0 where
-    pub told : Spelled replies
-    pub replied : IsReplied gives now message session port told session' port'
-    pub adds : new ≡ old ++ spelling told
+    pub wire_reply : Spelled replies
+    pub replied : IsReplied gives now message session port wire_reply session' port'
+    pub adds : new ≡ old ++ spelling wire_reply
 
   -- each message was answered from where the one before led
   abbrev pub Exchanges : Sess → P → List Exchange → Sess → P → Type 0
@@ -87,11 +87,11 @@ module _ {P : Type 0} (gives : P → Question → PortAnswer → P → Type 0) w
       × Exchanges mid there others session' port'
 
   -- the whole messages in front of what came were answered with these bytes, and this is left of it
-  pub record AnswersFront (session : Sess) (port : P) (came left told : List ℕ) (session' : Sess)
+  pub record AnswersFront (session : Sess) (port : P) (came left to_send : List ℕ) (session' : Sess)
       (port' : P) : Type 0 where
     pub exchanges : List Exchange
     pub begins : Begins came (messages_of exchanges) left
-    pub told_is : told ≡ replies_of exchanges
+    pub to_send_is : to_send ≡ replies_of exchanges
     pub run : Exchanges session port exchanges session' port'
 
   -- likewise, with the replies written to a stream

@@ -1,17 +1,15 @@
 -- A stat and a wstat (stat(5)).
-use Rattle.std.specs.Prelude.{ℕ, Bool, false, [], ◌∷◌, Option, Result, option_map}
+use Rattle.std.specs.Prelude.{ℕ, Option, option_map}
 use Rattle.std.specs.FinMap.{get}
-use Rattle.cs_names.specs.declared.rule_id.RuleId.TheVariants.{H1, Q1}
 use Rattle.cs_fids.specs.Entries.{number_of, pass_of, run_of, user_of}
 use Rattle.cs_fids.specs.Tables.{FidMap}
 use Rattle.cs_permit.specs.declared.call.Call.TheVariants as c
-use Rattle.cs_permit.specs.Table.{is_unknown}
 use Rattle.cs_run.specs.declared.answer.Answer.{Answer}
 use Rattle.cs_run.specs.declared.answer.Answer.TheVariants as a
 use Rattle.cs_session.specs.declared.message.WstatMessage.{WstatMessage}
 use Rattle.cs_session.specs.declared.reply.Reply.{Reply}
 use Rattle.cs_session.specs.declared.reply.Reply.TheVariants as r
-use Rattle.cs_session.specs.Decisions.{request_decision, refusal}
+use Rattle.cs_session.specs.Decisions.{refusal}
 use Rattle.cs_session.specs.Questions.{Question, Ask}
 
 -- ---- stat: it asks for no user, and copies nothing
@@ -20,11 +18,6 @@ abbrev pub stat_question : ℕ → FidMap → ℕ → Option Question
 stat_question now fids fid =
     option_map (λ e. Ask now (run_of e) (pass_of e) (c.Stat (record { number = number_of e })))
     (get fids fid)
-
-abbrev pub stat_decision : ℕ → Bool → Option ℕ → FidMap → ℕ → Result Question Reply
-stat_decision now awaits msize fids fid =
-    request_decision awaits msize ((H1, is_unknown fids fid) ∷ []) false
-    (stat_question now fids fid)
 
 abbrev pub stat_reply : Answer → Reply
 stat_reply (a.Stat stat) = r.Stat stat
@@ -37,12 +30,6 @@ wstat_question now fids message =
     option_map (λ e. Ask now (run_of e) (pass_of e)
     (c.Wstat (record { number = number_of e; user = user_of e; stat = message.stat })))
     (get fids message.fid)
-
-abbrev pub wstat_decision : ℕ → Bool → Option ℕ → FidMap → WstatMessage → Bool
-    → Result Question Reply
-wstat_decision now awaits msize fids message refused =
-    request_decision awaits msize ((Q1, is_unknown fids message.fid) ∷ []) refused
-    (wstat_question now fids message)
 
 abbrev pub wstat_reply : Answer → Reply
 wstat_reply a.Changed = r.Wstat

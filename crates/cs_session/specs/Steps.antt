@@ -1,6 +1,7 @@
 -- The steps of a connection. A step answers by itself, or asks one question and goes on from the
 -- answer.
 use Rattle.std.specs.Prelude.{◌≡◌, ℕ, Bool, is_some, Result, Ok, Err}
+use Rattle.std.specs.FinMap.{remove}
 use Rattle.cs_session.specs.declared.message.AttachMessage.{AttachMessage}
 use Rattle.cs_session.specs.declared.message.CallMessage.{CallMessage}
 use Rattle.cs_session.specs.declared.message.TableStep.{TableStep}
@@ -8,7 +9,7 @@ use Rattle.cs_session.specs.declared.reply.Reply.{Reply}
 use Rattle.cs_session.specs.declared.reply.Reply.TheVariants as r
 use Rattle.cs_session.specs.Attaches.{attach_after, attach_decision, find_after, find_decision}
 use Rattle.cs_session.specs.Calls.{call_after, call_decision}
-use Rattle.cs_session.specs.Closes.{close_after, close_decision}
+use Rattle.cs_session.specs.Removes.{close_decision, close_reply}
 use Rattle.cs_session.specs.Marks.{TableMark, refuses_table}
 use Rattle.cs_session.specs.Questions.{Question, PortAnswer, Got}
 use Rattle.cs_session.specs.Sessions.{Sess, leaves}
@@ -51,14 +52,15 @@ front_by now session (Table change) refused = done (table_stepped session change
 abbrev pub front : ℕ → Sess → Step → TableMark → Front
 front now session step mark = front_by now session step (refuses_table mark)
 
--- what comes of what a step is told
+-- what comes of what the port gives; a close frees the fid whatever the answer is
 abbrev pub after : Sess → Step → PortAnswer → Reply × Sess
-after session (FindStep message) told = find_after session message told
-after session AttachStep told = attach_after session session.pending told
+after session (FindStep message) given = find_after session message given
+after session AttachStep given = attach_after session session.pending given
 after session (CallStep message) (Got answer) =
     leaves session (call_after session.fids message answer)
-after session (CloseStep fid) (Got answer) = leaves session (close_after session.fids fid answer)
-after session step told = (r.Memory, session)
+after session (CloseStep fid) (Got answer) =
+    leaves session (close_reply answer, remove session.fids fid)
+after session step given = (r.Memory, session)
 
 -- ---- a step with a port
 
@@ -67,8 +69,8 @@ module _ {P : Type 0} (gives : P → Question → PortAnswer → P → Type 0) w
   Goes (Done reply session') session port step reply' session'' port' =
       (reply' ≡ reply) × (session'' ≡ session') × (port' ≡ port)
   Goes (Asks question) session port step reply session' port' =
-      (told : PortAnswer) × gives port question told port'
-      × ((reply, session') ≡ after session step told)
+      (given : PortAnswer) × gives port question given port'
+      × ((reply, session') ≡ after session step given)
 
   -- where memory refuses that growth the step has this reply, and leads there
   abbrev pub Takes : ℕ → Sess → P → Step → TableMark → Reply → Sess → P → Type 0

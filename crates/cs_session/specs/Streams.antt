@@ -11,14 +11,12 @@ abbrev pub ReadGives : Option (List ℕ) → Option (List ℕ) → Transfer → 
 ReadGives old new (Bytes count) buf =
     (count ≤ length buf) × Consumes old new (take count buf)
     × (count ≡ 0 → 0 < length buf → IsAtEnd new)
-ReadGives old new Interrupted buf = Keeps old new
-ReadGives old new Failed buf = Keeps old new
+ReadGives old new other buf = Keeps old new
 
 -- a write took the first of the bytes
 abbrev pub WriteGives : Option (List ℕ) → Option (List ℕ) → Transfer → List ℕ → Type 0
 WriteGives old new (Bytes count) buf = (count ≤ length buf) × Appends old new (take count buf)
-WriteGives old new Interrupted buf = Keeps old new
-WriteGives old new Failed buf = Keeps old new
+WriteGives old new other buf = Keeps old new
 
 -- known bytes grow by some of these, from the front
 pub record AppendsFront (old new : Option (List ℕ)) (bytes : List ℕ) : Type 0 where

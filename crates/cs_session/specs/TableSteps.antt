@@ -20,9 +20,8 @@ clunk_reply (Some (entry.Opened x)) = r.Error S5
 clunk_reply (Some (entry.Walked x)) = r.Clunk
 
 abbrev pub clunk_left : FidMap → ℕ → Option Entry → FidMap
-clunk_left fids fid None = fids
-clunk_left fids fid (Some (entry.Opened x)) = fids
 clunk_left fids fid (Some (entry.Walked x)) = remove fids fid
+clunk_left fids fid other = fids
 
 abbrev pub clunked : Sess → ℕ → Reply × Sess
 clunked session fid = (

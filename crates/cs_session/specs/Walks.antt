@@ -1,5 +1,5 @@
 -- A walk: from a fid that isn't open to a new one, or to itself (walk(5)).
-use Rattle.std.specs.Prelude.{ℕ, Bool, Option, None, Some, Result, is_some, if◌then◌else◌, option_map}
+use Rattle.std.specs.Prelude.{ℕ, Option, None, Some, is_some, if◌then◌else◌, option_map}
 use Rattle.std.specs.FinMap.{insert}
 use Rattle.cs_fids.specs.declared.entry.Entry.TheVariants as entry
 use Rattle.cs_fids.specs.declared.fid.Walked.{Walked}
@@ -7,14 +7,13 @@ use Rattle.cs_fids.specs.FidOf.{FidOf}
 use Rattle.cs_fids.specs.Fids.{moved_to}
 use Rattle.cs_fids.specs.Tables.{FidMap}
 use Rattle.cs_permit.specs.declared.call.Call.TheVariants as c
-use Rattle.cs_permit.specs.Table.{walk_table_rules}
 use Rattle.cs_run.specs.declared.answer.Answer.{Answer}
 use Rattle.cs_run.specs.declared.answer.Answer.TheVariants as a
 use Rattle.cs_run.specs.Walks.{Way}
 use Rattle.cs_session.specs.declared.message.WalkMessage.{WalkMessage}
 use Rattle.cs_session.specs.declared.reply.Reply.{Reply}
 use Rattle.cs_session.specs.declared.reply.Reply.TheVariants as r
-use Rattle.cs_session.specs.Decisions.{request_decision, refusal, walked_at}
+use Rattle.cs_session.specs.Decisions.{refusal, walked_at}
 use Rattle.cs_session.specs.Questions.{Question, Ask}
 
 abbrev pub walk_question : ℕ → FidMap → WalkMessage → Option Question
@@ -22,11 +21,6 @@ walk_question now fids message =
     option_map (λ f. Ask now f.run f.pass
     (c.Walk (record { number = f.number; user = f.user; names = message.names })))
     (walked_at fids message.fid)
-
-abbrev pub walk_decision : ℕ → Bool → Option ℕ → FidMap → WalkMessage → Bool → Result Question Reply
-walk_decision now awaits msize fids message refused =
-    request_decision awaits msize (walk_table_rules fids message.fid message.newfid) refused
-    (walk_question now fids message)
 
 -- the new fid stands for the last file; a walk that a rule stopped makes and moves no fid
 abbrev pub walk_left : FidMap → ℕ → Option (FidOf Walked) → Way → FidMap

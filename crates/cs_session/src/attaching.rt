@@ -66,7 +66,7 @@ pub(crate) fn decide_find<'a>(
     }
 }
 
-/// What is told where no run was found.
+/// The reply if no run was found.
 pub(crate) fn find_refusal(fault: FindFault) -> Reply
     ensures value { result ≡ find_refusal fault }
     ensures plain { IsPlain result }
@@ -78,7 +78,7 @@ pub(crate) fn find_refusal(fault: FindFault) -> Reply
     }
 }
 
-/// What is told where a run gave no pass.
+/// The reply if a run gave no pass.
 pub(crate) fn pass_refusal(fault: PassFault) -> Reply
     ensures value { result ≡ pass_refusal fault }
     ensures plain { IsPlain result }

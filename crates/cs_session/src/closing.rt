@@ -2,7 +2,7 @@
 ghost use Rattle.std.specs.Prelude.{◌≡◌, ◌<◌, false, IfErr, IsOk, OnErr, OnOk};
 ghost use Rattle.std.specs.FinMap.{len, remove};
 ghost use Rattle.cs_fids.specs.Tables.{fid_at, opened_in};
-ghost use Rattle.cs_session.specs.Closes.{close_decision, close_reply};
+ghost use Rattle.cs_session.specs.Removes.{close_decision, close_reply};
 ghost use Rattle.cs_session.specs.Decisions.{Decides, question_of};
 ghost use Rattle.cs_session.specs.Sizes.{IsPlain};
 

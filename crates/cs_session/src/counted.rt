@@ -1,7 +1,6 @@
 //! Streams over readers and writers, with their calls counted.
 ghost use Rattle.std.specs.Prelude.{◌≡◌, None};
-ghost use Rattle.cs_session.specs.Overs.{inner_of, counts_of, reader_of, writer_of, ends_counts};
-ghost use Rattle.cs_session.specs.Transfers.{transfer_of};
+ghost use Rattle.cs_session.specs.Overs.{inner_of, counts_of, reader_of, writer_of, ends_counts, transfer_of};
 
 use crate::stream::{Counts, Stream, Transfer};
 use std::io::{self, ErrorKind, Read, Write};

@@ -12,7 +12,7 @@ use crate::port::Port;
 
 /// A message is its steps, one after the other, each with its mark, and the last one's reply.
 pub fn message_is_steps<P: Port>(_port: &P)
-    ensures { (now : ℕ) (message : Message) (marks : List TableMark) (s s' : Sess) (p p' : P)
-        (reply : Reply) → Answers P.gives now message marks s p reply s' p'
-        → IsTrail P.gives now s p marks reply s' p' }
+    ensures { (now : ℕ) (message : Message) (marks : List TableMark) (s t : Sess) (p q : P)
+        (reply : Reply) → Answers P.gives now message marks s p reply t q
+        → IsTrail P.gives now s p marks reply t q }
 {}

@@ -1,14 +1,17 @@
 //! Opens and creates (open(5)).
 ghost use Rattle.std.specs.Prelude.{◌≡◌, false, IfErr, IsOk};
+ghost use Rattle.cs_session.specs.declared.message.CallMessage.TheVariants as call;
+ghost use Rattle.cs_session.specs.Calls.{call_decision};
 ghost use Rattle.cs_session.specs.Decisions.{Decides, question_of, walked_at};
 ghost use Rattle.cs_session.specs.Sizes.{IsPlain};
-ghost use Rattle.cs_session.specs.Opens.{create_after, create_decision, open_after, open_decision, open_left};
+ghost use Rattle.cs_session.specs.Opens.{create_after, open_after, open_left};
 
 use crate::message::{CreateMessage, OpenMessage};
 use crate::question::{RunQuestion, first_of, refusal};
 use crate::reply::Reply;
 use cs_fids::{Entry, FidTable};
 use cs_names::{Name, RuleId};
+use cs_permit::mode::is_bad_open_mode;
 use cs_permit::{Call, CreateCall, OpenCall, Request};
 use cs_run::Answer;
 
@@ -20,21 +23,25 @@ pub(crate) fn decide_open(
     now: u32,
     message: OpenMessage,
 ) -> Result<RunQuestion, Reply>
-    ensures decided { Decides question_of (open_decision now awaits msize fids.now.fids message)
-        result }
+    ensures decided { Decides question_of
+        (call_decision now awaits msize fids.now.fids (call.Open message)) result }
     ensures plain { IfErr result IsPlain }
     ensures idle { IsOk result → awaits ≡ false }
 {
-    let request = Request::Open {
-        fid: message.fid,
-        mode: message.mode,
-    };
-    if let Some(rule) = first_of(awaits, msize, &request, fids) {
-        return Err(Reply::Error(rule));
-    }
-    let Some(Entry::Walked(fid)) = fids.look(message.fid) else {
+    if awaits {
         return Err(Reply::Error(RuleId::S5));
+    }
+    if msize.is_none() {
+        return Err(Reply::Error(RuleId::S1));
+    }
+    let fid = match fids.look(message.fid) {
+        Some(Entry::Walked(fid)) => fid,
+        Some(Entry::Opened(_)) => return Err(Reply::Error(RuleId::O2)),
+        None => return Err(Reply::Error(RuleId::O1)),
     };
+    if is_bad_open_mode(message.mode) {
+        return Err(Reply::Error(RuleId::O3));
+    }
     let Ok(user) = fid.user().try_clone() else {
         return Err(Reply::Memory);
     };
@@ -54,8 +61,8 @@ pub(crate) fn decide_create(
     now: u32,
     message: CreateMessage,
 ) -> Result<RunQuestion, Reply>
-    ensures decided { Decides question_of (create_decision now awaits msize fids.now.fids message)
-        result }
+    ensures decided { Decides question_of
+        (call_decision now awaits msize fids.now.fids (call.Create message)) result }
     ensures plain { IfErr result IsPlain }
     ensures idle { IsOk result → awaits ≡ false }
 {

@@ -66,7 +66,7 @@ pub(crate) fn first_of(
     first_of_table(request, fids)
 }
 
-/// What a denial or want of memory is told as.
+/// The reply to a denial or to want of memory.
 pub(crate) fn refusal(answer: Answer) -> Reply
     ensures value { result ≡ refusal answer }
     ensures plain { IsPlain result }

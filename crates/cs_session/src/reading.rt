@@ -1,17 +1,20 @@
 //! Reads (read(5)).
 ghost use Rattle.std.specs.Prelude.{◌≡◌, ℕ, ◌≤◌, false, is_some, true, IfErr, IfOk, IsOk, OnErr, Option};
 ghost use Rattle.cs_run.specs.Laws.{FitsCall, bytes_in};
+ghost use Rattle.cs_session.specs.declared.message.CallMessage.TheVariants as call;
+ghost use Rattle.cs_session.specs.Calls.{call_decision};
 ghost use Rattle.cs_session.specs.Decisions.{Decides, question_of, opened_at};
 ghost use Rattle.cs_run.specs.declared.answer.Answer.{Answer};
 ghost use Rattle.cs_session.specs.Sizes.{IsPlain, ReplyFits};
-ghost use Rattle.cs_session.specs.Reads.{cut, read_after, read_decision, read_left};
+ghost use Rattle.cs_session.specs.Reads.{cut, read_after, read_left};
 
 use crate::message::ReadMessage;
-use crate::question::{RunQuestion, first_of, refusal};
+use crate::question::{RunQuestion, refusal};
 use crate::reply::Reply;
 use cs_fids::{Entry, FidTable, Place};
 use cs_names::{Bytes, RuleId};
-use cs_permit::{Call, ReadCall, Request};
+use cs_permit::mode::covers_read;
+use cs_permit::{Call, ReadCall};
 use cs_run::Answer;
 use std::alloc::AllocError;
 
@@ -48,21 +51,28 @@ pub(crate) fn decide_read(
     now: u32,
     message: ReadMessage,
 ) -> Result<RunQuestion, Reply>
-    ensures decided { Decides question_of (read_decision now awaits msize fids.now.fids message)
-        result }
+    ensures decided { Decides question_of
+        (call_decision now awaits msize fids.now.fids (call.Read message)) result }
     ensures plain { IfErr result IsPlain }
     ensures fits { IfOk result
         (λ a. (answer : Answer) → FitsCall a.call answer
         → bytes_in answer ≤ cut msize message.count) }
     ensures idle { IsOk result → awaits ≡ false }
 {
-    let request = Request::Read { fid: message.fid };
-    if let Some(rule) = first_of(awaits, msize, &request, fids) {
-        return Err(Reply::Error(rule));
-    }
-    let Some(Entry::Opened(fid)) = fids.look(message.fid) else {
+    if awaits {
         return Err(Reply::Error(RuleId::S5));
+    }
+    if msize.is_none() {
+        return Err(Reply::Error(RuleId::S1));
+    }
+    let fid = match fids.look(message.fid) {
+        Some(Entry::Opened(fid)) => fid,
+        Some(Entry::Walked(_)) => return Err(Reply::Error(RuleId::G2)),
+        None => return Err(Reply::Error(RuleId::G1)),
     };
+    if !covers_read(fid.mode()) {
+        return Err(Reply::Error(RuleId::G2));
+    }
     let Ok(place) = copied(fid.place()) else {
         return Err(Reply::Memory);
     };

@@ -243,7 +243,7 @@ fn body_of(reply: Reply) -> RBody
     }
 }
 
-/// What want of memory is told as.
+/// The text of want of memory.
 fn memory_text() -> &'static str
     ensures value { result.now ≡ codes "out of memory" }
     ensures shown { IsShown 48 result.now }
@@ -276,8 +276,8 @@ impl Session {
     }
 
     /// Answers one message, of 7 bytes at least, at that moment. The reply carries the message's
-    /// tag, and has at most as many bytes as the session's message size; the first rule that fails,
-    /// or want of memory, is told by an Rerror (error(5)).
+    /// tag, and has at most as many bytes as the session's message size; it is an Rerror for the
+    /// first rule that fails, and for want of memory (error(5)).
     pub fn reply<P: Port>(
         &mut self,
         alloc: Global,

@@ -1,8 +1,10 @@
 //! Removes (remove(5)).
 ghost use Rattle.std.specs.Prelude.{◌≡◌, false, IfErr, IsOk, OnErr, OnOk};
 ghost use Rattle.std.specs.FinMap.{remove};
+ghost use Rattle.cs_session.specs.declared.message.CallMessage.TheVariants as call;
+ghost use Rattle.cs_session.specs.Calls.{call_decision};
 ghost use Rattle.cs_session.specs.Decisions.{Decides, question_of};
-ghost use Rattle.cs_session.specs.Removes.{removal, remove_decision, remove_reply};
+ghost use Rattle.cs_session.specs.Removes.{removal, remove_reply};
 ghost use Rattle.cs_session.specs.Sizes.{IsPlain};
 
 use crate::question::{RunQuestion, first_of, refusal};
@@ -37,8 +39,8 @@ pub(crate) fn decide_remove(
     now: u32,
     fid: u32,
 ) -> Result<RunQuestion, Reply>
-    ensures decided { Decides question_of (λ _. remove_decision now awaits msize fids.old.fids fid)
-        result }
+    ensures decided { Decides question_of
+        (call_decision now awaits msize fids.old.fids (call.Remove fid)) result }
     ensures plain { IfErr result IsPlain }
     ensures idle { IsOk result → awaits ≡ false }
     ensures taken { OnOk result (fids.new.fids ≡ remove fids.old.fids fid) }

@@ -1,15 +1,17 @@
 //! Stats and wstats (stat(5)).
 ghost use Rattle.std.specs.Prelude.{◌≡◌, false, IfErr, IsOk};
+ghost use Rattle.cs_session.specs.declared.message.CallMessage.TheVariants as call;
+ghost use Rattle.cs_session.specs.Calls.{call_decision};
 ghost use Rattle.cs_session.specs.Decisions.{Decides, question_of};
 ghost use Rattle.cs_session.specs.Sizes.{IsPlain};
-ghost use Rattle.cs_session.specs.Stats.{stat_decision, stat_reply, wstat_decision, wstat_reply};
+ghost use Rattle.cs_session.specs.Stats.{stat_reply, wstat_reply};
 
 use crate::message::WstatMessage;
-use crate::question::{RunQuestion, first_of, refusal};
+use crate::question::{RunQuestion, refusal};
 use crate::reply::Reply;
 use cs_fids::FidTable;
 use cs_names::RuleId;
-use cs_permit::{Call, Request, StatCall, WstatCall};
+use cs_permit::{Call, StatCall, WstatCall};
 use cs_run::Answer;
 
 /// What a stat asks. It takes no memory.
@@ -20,16 +22,19 @@ pub(crate) fn decide_stat(
     now: u32,
     fid: u32,
 ) -> Result<RunQuestion, Reply>
-    ensures decided { Decides question_of (λ _. stat_decision now awaits msize fids.now.fids fid)
-        result }
+    ensures decided { Decides question_of
+        (call_decision now awaits msize fids.now.fids (call.Stat fid)) result }
     ensures plain { IfErr result IsPlain }
     ensures idle { IsOk result → awaits ≡ false }
 {
-    if let Some(rule) = first_of(awaits, msize, &Request::Stat { fid }, fids) {
-        return Err(Reply::Error(rule));
+    if awaits {
+        return Err(Reply::Error(RuleId::S5));
+    }
+    if msize.is_none() {
+        return Err(Reply::Error(RuleId::S1));
     }
     let Some(entry) = fids.look(fid) else {
-        return Err(Reply::Error(RuleId::S5));
+        return Err(Reply::Error(RuleId::H1));
     };
     let call = Call::Stat(StatCall {
         number: entry.number(),
@@ -45,17 +50,19 @@ pub(crate) fn decide_wstat(
     now: u32,
     message: WstatMessage,
 ) -> Result<RunQuestion, Reply>
-    ensures decided { Decides question_of (wstat_decision now awaits msize fids.now.fids message)
-        result }
+    ensures decided { Decides question_of
+        (call_decision now awaits msize fids.now.fids (call.Wstat message)) result }
     ensures plain { IfErr result IsPlain }
     ensures idle { IsOk result → awaits ≡ false }
 {
-    let request = Request::Wstat { fid: message.fid };
-    if let Some(rule) = first_of(awaits, msize, &request, fids) {
-        return Err(Reply::Error(rule));
+    if awaits {
+        return Err(Reply::Error(RuleId::S5));
+    }
+    if msize.is_none() {
+        return Err(Reply::Error(RuleId::S1));
     }
     let Some(entry) = fids.look(message.fid) else {
-        return Err(Reply::Error(RuleId::S5));
+        return Err(Reply::Error(RuleId::Q1));
     };
     let Ok(user) = entry.user().try_clone() else {
         return Err(Reply::Memory);

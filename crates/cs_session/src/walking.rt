@@ -2,11 +2,13 @@
 ghost use Rattle.std.specs.Prelude.{◌≡◌, ◌≢◌, ℕ, ◌<◌, ◌≤◌, false, length, IfErr, IfOk, IsOk, None, Option, Some};
 ghost use Rattle.std.specs.FinMap.{get};
 ghost use Rattle.cs_run.specs.Laws.{FitsCall, qids_in};
+ghost use Rattle.cs_session.specs.declared.message.CallMessage.TheVariants as call;
+ghost use Rattle.cs_session.specs.Calls.{call_decision};
 ghost use Rattle.cs_session.specs.Decisions.{Decides, question_of, walked_at};
 ghost use Rattle.cs_names.specs.declared.limits.TheConstants.{WALK_NAMES};
 ghost use Rattle.cs_run.specs.declared.answer.Answer.{Answer};
 ghost use Rattle.cs_session.specs.Sizes.{IsPlain, ReplyFits};
-ghost use Rattle.cs_session.specs.Walks.{walk_after, walk_decision, walk_left};
+ghost use Rattle.cs_session.specs.Walks.{walk_after, walk_left};
 
 use crate::message::WalkMessage;
 use crate::question::{RunQuestion, first_of, refusal};
@@ -25,7 +27,7 @@ pub(crate) fn decide_walk(
     message: WalkMessage,
 ) -> Result<(RunQuestion, Fid<Walked>), Reply>
     ensures decided { Decides (λ a. question_of a.0)
-        (walk_decision now awaits msize fids.old.fids message) result }
+        (call_decision now awaits msize fids.old.fids (call.Walk message)) result }
     ensures plain { IfErr result IsPlain }
     ensures fits { IfOk result
         (λ a. (answer : Answer) → FitsCall a.0.call answer

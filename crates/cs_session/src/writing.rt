@@ -1,15 +1,18 @@
 //! Writes (read(5)).
 ghost use Rattle.std.specs.Prelude.{◌≡◌, false, IfErr, IsOk};
+ghost use Rattle.cs_session.specs.declared.message.CallMessage.TheVariants as call;
+ghost use Rattle.cs_session.specs.Calls.{call_decision};
 ghost use Rattle.cs_session.specs.Decisions.{Decides, question_of};
 ghost use Rattle.cs_session.specs.Sizes.{IsPlain};
-ghost use Rattle.cs_session.specs.Writes.{write_decision, write_reply};
+ghost use Rattle.cs_session.specs.Reads.{write_reply};
 
 use crate::message::WriteMessage;
-use crate::question::{RunQuestion, first_of, refusal};
+use crate::question::{RunQuestion, refusal};
 use crate::reply::Reply;
 use cs_fids::{Entry, FidTable};
 use cs_names::RuleId;
-use cs_permit::{Call, Request, WriteCall};
+use cs_permit::mode::covers_write;
+use cs_permit::{Call, WriteCall};
 use cs_run::Answer;
 
 /// What a write asks.
@@ -20,18 +23,25 @@ pub(crate) fn decide_write(
     now: u32,
     message: WriteMessage,
 ) -> Result<RunQuestion, Reply>
-    ensures decided { Decides question_of (write_decision now awaits msize fids.now.fids message)
-        result }
+    ensures decided { Decides question_of
+        (call_decision now awaits msize fids.now.fids (call.Write message)) result }
     ensures plain { IfErr result IsPlain }
     ensures idle { IsOk result → awaits ≡ false }
 {
-    let request = Request::Write { fid: message.fid };
-    if let Some(rule) = first_of(awaits, msize, &request, fids) {
-        return Err(Reply::Error(rule));
-    }
-    let Some(Entry::Opened(fid)) = fids.look(message.fid) else {
+    if awaits {
         return Err(Reply::Error(RuleId::S5));
+    }
+    if msize.is_none() {
+        return Err(Reply::Error(RuleId::S1));
+    }
+    let fid = match fids.look(message.fid) {
+        Some(Entry::Opened(fid)) => fid,
+        Some(Entry::Walked(_)) => return Err(Reply::Error(RuleId::E2)),
+        None => return Err(Reply::Error(RuleId::E1)),
     };
+    if !covers_write(fid.mode()) {
+        return Err(Reply::Error(RuleId::E2));
+    }
     let Ok(user) = fid.user().try_clone() else {
         return Err(Reply::Memory);
     };

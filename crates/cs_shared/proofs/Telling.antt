@@ -14,47 +14,38 @@ use Rattle.cs_tree_model.specs.Tree.{Tree}
 use Rattle.cs_shared.specs.Serving.{HasTree}
 use Rattle.cs_shared.specs.Answers.{IsServedRun, IsStepOfServedRun}
 
--- a step keeps the tree that the run began with
-pub step_keeps : (run : RunOf) (pass : PassOf) (now : ℕ) (call : Call) (mark : StepMark) → (step run pass now call mark).run.fresh ≡ run.fresh
-unfolding step
-step_keeps run pass now call mark = by (is_full (state_of run) pass.number call) (refuses_entry mark && not (is_some (ended (state_of run).opens pass.number call)))
-  where
-    by : (full short : Bool) → (if full then without_entry run pass (Denied L1) else (if short then without_entry run pass Short else entering run pass (entry_of run pass now call mark))).run.fresh ≡ run.fresh
-    by true short = refl
-    by false true = refl
-    by false false = refl
+module _ (run : RunOf) (pass : PassOf) (now : ℕ) (call : Call) (mark : StepMark) where
+  -- what holds of each end that a step may have holds of the step
+  of_each_end : (P : Stepped → Type 0) → P (without_entry run pass (Denied L1)) → P (without_entry run pass Short) → P (entering run pass (entry_of run pass now call mark)) → P (step run pass now call mark)
+  unfolding step
+  of_each_end P of_full of_short of_entering = by (is_full (state_of run) pass.number call) (refuses_entry mark && not (is_some (ended (state_of run).opens pass.number call)))
+    where
+      by : (full short : Bool) → P (if full then without_entry run pass (Denied L1) else (if short then without_entry run pass Short else entering run pass (entry_of run pass now call mark)))
+      by true short = of_full
+      by false true = of_short
+      by false false = of_entering
 
--- nor does the pass get another number
-pub step_numbers : (run : RunOf) (pass : PassOf) (now : ℕ) (call : Call) (mark : StepMark) → (step run pass now call mark).pass.number ≡ pass.number
-unfolding step
-step_numbers run pass now call mark = by (is_full (state_of run) pass.number call) (refuses_entry mark && not (is_some (ended (state_of run).opens pass.number call)))
-  where
-    by : (full short : Bool) → (if full then without_entry run pass (Denied L1) else (if short then without_entry run pass Short else entering run pass (entry_of run pass now call mark))).pass.number ≡ pass.number
-    by true short = refl
-    by false true = refl
-    by false false = refl
+  -- a step keeps the tree that the run began with
+  pub step_keeps : (step run pass now call mark).run.fresh ≡ run.fresh
+  step_keeps = of_each_end (λ s. s.run.fresh ≡ run.fresh) refl refl refl
 
--- so the server has it still under the number
-pub served_after : (serves : HasTree) (number : ℕ) (run run' : RunOf) (pass pass' : PassOf) (now : ℕ) (call : Call) (answer : Answer)
-    → serves number run.fresh → (mark : StepMark) × (record { answer = answer; run = run'; pass = pass' } ≡ step run pass now call mark) → serves number run'.fresh
-served_after serves number run run' pass pass' now call answer served stepped =
-    let P : Tree → Type 0 = λ t. serves number t in
-    subst P (sym (ap (λ (s : Stepped). s.run.fresh) stepped.1 ∙ step_keeps run pass now call stepped.0)) served
+  -- nor does the pass get another number
+  pub step_numbers : (step run pass now call mark).pass.number ≡ pass.number
+  step_numbers = of_each_end (λ s. s.pass.number ≡ pass.number) refl refl refl
 
--- an answer to a call on the run under the lock is one of a step
-pub told : (serves : HasTree) (number : ℕ) (run run' : RunOf) (pass pass' : PassOf) (now : ℕ) (call : Call) (answer : Answer)
-    → serves number run.fresh → IsLegal (first_state run) run.journal → Fits run pass
-    → (mark : StepMark) × (record { answer = answer; run = run'; pass = pass' } ≡ step run pass now call mark)
-    → IsLegal (first_state run') run'.journal → Fits run' pass'
-    → IsStepOfServedRun serves number pass now call answer pass'
-told serves number run run' pass pass' now call answer served legal fits stepped legal' fits' =
-    let after : IsServedRun serves number run' pass' = record { served = served_after serves number run run' pass pass' now call answer served stepped; legal = legal'; fits = fits' } in
-    let P : Stepped → Type 0 = λ s. IsServedRun serves number s.run pass' in
-    record {
-      run = run;
-      mark = stepped.0;
-      before = record { served = served; legal = legal; fits = fits };
-      answer_is = ap (λ (s : Stepped). s.answer) stepped.1;
-      pass_is = ap (λ (s : Stepped). s.pass) stepped.1;
-      after = subst P stepped.1 after;
-    }
+module _ (serves : HasTree) (number : ℕ) (run run' : RunOf) (pass pass' : PassOf) (now : ℕ) (call : Call) (answer : Answer)
+    (served : serves number run.fresh) (stepped : (mark : StepMark) × (record { answer = answer; run = run'; pass = pass' } ≡ step run pass now call mark)) where
+  -- so the server has it still under the number
+  pub served_after : serves number run'.fresh
+  served_after = subst (λ (t : Tree). serves number t) (sym (ap (λ (s : Stepped). s.run.fresh) stepped.1 ∙ step_keeps run pass now call stepped.0)) served
+
+  -- an answer to a call on the run under the lock is one of a step
+  pub told : IsLegal (first_state run) run.journal → Fits run pass → IsLegal (first_state run') run'.journal → Fits run' pass' → IsStepOfServedRun serves number pass now call answer pass'
+  told legal fits legal' fits' = record {
+    run = run;
+    mark = stepped.0;
+    before = record { served = served; legal = legal; fits = fits };
+    answer_is = ap (λ (s : Stepped). s.answer) stepped.1;
+    pass_is = ap (λ (s : Stepped). s.pass) stepped.1;
+    after = subst (λ (s : Stepped). IsServedRun serves number s.run pass') stepped.1 (record { served = served_after; legal = legal'; fits = fits' });
+  }

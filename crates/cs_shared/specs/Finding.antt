@@ -1,26 +1,24 @@
 -- What the registry's lock keeps, and what is found under it.
-use Rattle.std.specs.Prelude.{◌≡◌, ℕ, slice_get, List, Some, Result, Ok, Err}
+use Rattle.std.specs.Prelude.{◌≡◌, ℕ, All, List, Some, Result, Ok, Err}
 use Rattle.cs_plan.specs.Scenes.{Scene}
 use Rattle.cs_registry.specs.Finds.{Finds}
 use Rattle.cs_registry.specs.Keys.{Key}
 use Rattle.cs_registry.specs.Registries.{Registry}
-use Rattle.cs_registry.specs.Runs.{Runs, held_at}
+use Rattle.cs_registry.specs.Runs.{held_at}
 use Rattle.cs_permit.specs.declared.fault.FindFault.{FindFault}
 use Rattle.cs_permit.specs.declared.fault.FindFault.TheVariants.{Memory}
 use Rattle.cs_registry.specs.declared.found.Found.{Found}
 use Rattle.cs_tree_model.specs.Tree.{Tree}
 use Rattle.cs_users.specs.Rows.{Row}
 
--- Of a shared run contracts see the number of its state. Each run carries the number of its key.
-abbrev pub AreNumbered : Runs ℕ → Type 0
-AreNumbered runs =
-    (place : ℕ) (key : Key) (found : Found ℕ) → slice_get runs place ≡ Some (key, found)
-    → found.held ≡ key.number
+-- Of a shared run contracts see the number of its state. It carries the number of its key.
+abbrev pub IsNumbered : Key × Found ℕ → Type 0
+IsNumbered run = run.1.held ≡ run.0.number
 
--- it is of the server's scene, and its runs carry the numbers of their keys
+-- a registry is of the server's scene, and its runs carry the numbers of their keys
 pub record IsOfServer (is_scene : Scene → Type 0) (registry : Registry ℕ) : Type 0 where
   pub scene : is_scene registry.scene
-  pub numbered : AreNumbered registry.runs
+  pub numbered : All IsNumbered registry.runs
 
 -- a shared run is fresh: of that number
 abbrev pub is_fresh : ℕ → Tree → List Row → ℕ → Type 0

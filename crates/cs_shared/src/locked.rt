@@ -4,6 +4,7 @@ ghost use Rattle.std.specs.Fn.{FnOnceReturnsAt};
 ghost use Rattle.cs_journal.specs.Journals.{IsLegal};
 ghost use Rattle.cs_journal.specs.Runs.{first_state, fresh_pass};
 ghost use Rattle.cs_permit.specs.declared.call.Call.TheVariants as called;
+ghost use Rattle.cs_run.specs.Laws.{FitsCall};
 ghost use Rattle.cs_shared.specs.Locks.{LockedAttaches, LockedCalls};
 ghost use Rattle.cs_shared.specs.Answers.{IsStepOfServedRun, IsAnswerOf};
 
@@ -62,6 +63,7 @@ impl<S: Served> Locked<S> {
     ) -> Answer
         ensures calls { LockedCalls self.old number pass.old now call result self.new pass.new }
         ensures told { IsAnswerOf S.serves number pass.old now call result pass.new }
+        ensures fits { FitsCall call result }
     {
         if self.number != number || !self.run.fits(pass) {
             return Answer::Denied(RuleId::S5);

@@ -1,11 +1,11 @@
 //! What the registry's lock keeps.
-ghost use Rattle.std.specs.Prelude.{◌≡◌, ◌≢◌, ◌≤◌, Err, IfOk, length};
+ghost use Rattle.std.specs.Prelude.{◌≡◌, ◌≢◌, ◌≤◌, All, Err, IfOk, length};
 ghost use Rattle.std.specs.Arc.{arc_value};
 ghost use Rattle.std.specs.List.Sorted.{IsPermutation, IsSorted};
 ghost use Rattle.std.specs.Map.{keys_of};
 ghost use Rattle.cs_registry.specs.Publishing.{Publishes};
 ghost use Rattle.cs_registry.specs.Registries.{empty, missing_of, with_users};
-ghost use Rattle.cs_shared.specs.Finding.{AreNumbered, FindsShared};
+ghost use Rattle.cs_shared.specs.Finding.{FindsShared, IsNumbered};
 ghost use Rattle.cs_shared.specs.Naming.{key_cmp};
 ghost use Rattle.cs_shared.specs.Serving.{IsOnly, ServesAll};
 
@@ -121,7 +121,7 @@ fn named_runs<S: Served>(
     alloc: Global,
     states: &States<SharedRun<S>>,
 ) -> Result<Vec<NamedRun<S>>, AllocError>
-    requires { AreNumbered states.now.runs }
+    requires { All IsNumbered states.now.runs }
     ensures { IfOk result (λ runs. runs.items ≡ keys_of states.now.runs) }
 {
     let mut runs = Vec::new(alloc);

@@ -1,5 +1,5 @@
 //! A registry that threads share.
-ghost use Rattle.std.specs.Prelude.{◌≡◌, ◌≢◌, ◌≤◌, Err, IfOk, length};
+ghost use Rattle.std.specs.Prelude.{◌≡◌, ◌≢◌, ◌↔◌, ◌≤◌, Err, IfOk, length};
 ghost use Rattle.std.specs.Arc.{arc_value};
 ghost use Rattle.std.specs.List.Sorted.{IsSorted};
 ghost use Rattle.cs_shared.specs.Naming.{key_cmp};
@@ -79,10 +79,8 @@ impl<S: Served> SharedRegistry<S> {
         alloc: Global,
         state: Published,
     ) -> Result<(), PublishFault>
-        ensures stranger { IsOnly S.is_scene self.now → result ≡ Err PublishFault.Stranger
-            → ¬ IsStateOf self.now state }
-        ensures own { IsOnly S.is_scene self.now → result ≢ Err PublishFault.Stranger
-            → IsStateOf self.now state }
+        ensures { IsOnly S.is_scene self.now
+            → (IsStateOf self.now state ↔ (result ≢ Err PublishFault.Stranger)) }
     {
         self.inside.lock(rt).publish(alloc, state)
     }

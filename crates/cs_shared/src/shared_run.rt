@@ -6,6 +6,7 @@ ghost use Rattle.cs_journal.specs.Bounds.{CanGrow};
 ghost use Rattle.cs_journal.specs.Journals.{IsLegal};
 ghost use Rattle.cs_journal.specs.Runs.{RunOf, first_state, fresh_pass};
 ghost use Rattle.cs_permit.specs.declared.call.Call.TheVariants as called;
+ghost use Rattle.cs_run.specs.Laws.{FitsCall};
 ghost use Rattle.cs_shared.specs.Answers.{IsStepOfServedRun, IsAnswerOf};
 
 use crate::locked::Locked;
@@ -98,7 +99,8 @@ impl<S: Served> SharedRun<S> {
         now: u32,
         call: Call,
     ) -> Answer
-        ensures { IsAnswerOf S.serves self.now pass.old now call result pass.new }
+        ensures told { IsAnswerOf S.serves self.now pass.old now call result pass.new }
+        ensures fits { FitsCall call result }
     {
         self.run.lock(rt).call(alloc, self.number, pass, now, call)
     }

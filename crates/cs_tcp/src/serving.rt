@@ -114,14 +114,8 @@ fn serve_each<
 >(rt: &'s R, alloc: Global, site: &'s Site<S>, serving: Serving, input: I, log: Log<'s, E>) -> bool
     requires { IsOnly S.is_scene site.now.server }
 {
-    let Serving {
-        workers,
-        connections,
-        again,
-        ready,
-        client,
-        ..
-    } = serving;
+    let (workers, connections) = (serving.workers, serving.connections);
+    let (again, ready, client) = (serving.again, serving.ready, serving.client);
     thread::scope(
         thread::scope_env(),
         rt,

@@ -1,7 +1,6 @@
 -- Two groups of connections whose finds name runs of their own don't notice each other.
-use Rattle.std.proofs.Common.{◌≡◌, ◌≢◌, ◌∙◌, ℕ, ◌<◌, ◌==◌, Bool, true, false, not, cond, ◌&&◌, ◌||◌, List, [], ◌∷◌, length, length-set, Option, None, Some, Err, refl, sym, ap, subst, arith}
+use Rattle.std.proofs.Common.{◌≡◌, ◌≢◌, ◌∙◌, ℕ, ◌<◌, ◌==◌, Bool, true, false, not, cond, ◌&&◌, List, [], ◌∷◌, length, length-set, Option, None, Some, Err, refl, sym, ap, subst, arith}
 use Rattle.std.specs.Prelude.{is_none, nat_le, nat_lt, slice_index_or, slice_set, option_and_then}
-use Rattle.std.specs.List.{list_any}
 use Rattle.std.specs.Option.{option_map, option_map_or}
 use Rattle.std.proofs.lemmas.Bool.{eqb-true, eqb-false}
 use Rattle.std.proofs.lemmas.Bool.Decides.{nat_tests}
@@ -38,8 +37,9 @@ use Rattle.cs_world.specs.declared.step.Step.TheVariants as t
 use Rattle.cs_world.specs.Asking.{answered, found_by}
 use Rattle.cs_world.specs.Groups.{NoneMeetsLimit, first_replies, first_steps, is_first, key_found, key_of, meets_limit, needs_room}
 use Rattle.cs_world.specs.Lists.{steps_of}
+use Rattle.cs_world.specs.ConnectionSteps.{session_step}
 use Rattle.cs_world.specs.Marks.{WorldMark, RunMark, below, in_run, refuses_keeping, refuses_state, refuses_table, refuses_users}
-use Rattle.cs_world.specs.Projections.{of_front}
+use Rattle.cs_world.specs.Questions.{question_of_front}
 use Rattle.cs_world.specs.Runs.{attached, called}
 use Rattle.cs_world.specs.Steps.{by_registry, from_front, step_of}
 use Rattle.cs_world.specs.Worlds.{World, connection, new_world, with_both}
@@ -80,10 +80,6 @@ few_by true true true e is also = absurd (cc)
 few_by true true false e is also = refl
 few_by true false full e is also = absurd (cc)
 few_by false new full e is also = absurd (cc)
-
-or_false : (b : Bool) → (b || false) ≡ false → b ≡ false
-or_false true e = absurd (cc)
-or_false false e = refl
 
 module _ (mine : ℕ → Bool) (ours : Key → Bool) where
   -- ---- worlds
@@ -139,7 +135,7 @@ module _ (mine : ℕ → Bool) (ours : Key → Bool) where
             let other : n ≢ conn = λ same. (let e : mine n ≡ mine conn = ap mine same in absurd (cc)) in
             subst (Within (their ours w')) (sym (index_set_other w.connections conn n (moved to s') (blank None) other)) (more_within (their ours w.registry) (their ours w') still (connection w n) (a.theirs n m))
 
-    module _ (now : ℕ) (x : c.Step) (refused : Bool) (m : RunMark) (own : (k : Key) → key_found x ≡ Some k → ours k ≡ true) (few : list_any (needs_room w.registry) (of_front (λ question. question ∷ []) (front_by now (connection w conn) x refused)) ≡ false) where
+    module _ (now : ℕ) (x : c.Step) (refused : Bool) (m : RunMark) (own : (k : Key) → key_found x ≡ Some k → ours k ≡ true) (few : option_map_or (needs_room w.registry) (question_of_front (front_by now (connection w conn) x refused)) false ≡ false) where
       find_asks : (state name : List ℕ) (o : Option Key) → key_in state name ≡ o → key_found x ≡ o → NeedsNone w.registry o
           → Both ours f w.registry v.registry a.runs (found_by w.registry m o) (found_by v.registry m o)
       find_asks state name None is_key e below = both_same ours f w.registry v.registry a.runs fault.Unpublished
@@ -151,7 +147,7 @@ module _ (mine : ℕ → Bool) (ours : Key → Bool) where
       finds state name e = ap (λ (s : Sess). front_by now s x refused) (a.own conn is) ∙ front_moved f now (connection v conn) x refused ∙ ap (moved_front f) e
 
       below_limit : (state name : List ℕ) → front_by now (connection v conn) x refused ≡ Asks (Find state name) → NeedsNone w.registry (key_in state name)
-      below_limit state name e = or_false (needs_room w.registry (Find state name)) (ap (λ (F : Front). list_any (needs_room w.registry) (of_front (λ question. question ∷ []) F)) (sym (finds state name e)) ∙ few)
+      below_limit state name e = ap (λ (F : Front). option_map_or (needs_room w.registry) (question_of_front F) false) (sym (finds state name e)) ∙ few
 
       asks_both : (question : Question) → front_by now (connection v conn) x refused ≡ Asks question → Both ours f w.registry v.registry a.runs (answered w.registry (moved_question f question) m) (answered v.registry question m)
       asks_both (Find state name) e = find_asks state name (key_in state name) refl (find_named now (connection v conn) x refused state name e) (below_limit state name e)
@@ -306,17 +302,17 @@ module _ (mine : ℕ → Bool) (ours : Key → Bool) where
       };
     }
 
-    turn_both : (conn now : ℕ) (x : c.Step) (mark : WorldMark) → mine conn ≡ true → ((k : Key) → key_found x ≡ Some k → ours k ≡ mine conn)
+    on_both : (conn now : ℕ) (x : c.Step) (mark : WorldMark) → mine conn ≡ true → ((k : Key) → key_found x ≡ Some k → ours k ≡ mine conn)
         → (b : Bool) → nat_lt conn CONNECTIONS ≡ b
-        → list_any (needs_room w.registry) (cond b (of_front (λ question. question ∷ []) (front_by now (connection w conn) x (refuses_table mark))) []) ≡ false
+        → option_map_or (needs_room w.registry) (cond b (question_of_front (front_by now (connection w conn) x (refuses_table mark))) None) false ≡ false
         → Alike (cond {A = Reply × World} b (from_front w conn x (below mark) (front_by now (connection w conn) x (refuses_table mark))) (Connection (Error S5), w)) (cond {A = Reply × World} b (from_front v conn x (below mark) (front_by now (connection v conn) x (refuses_table mark))) (Connection (Error S5), v))
-    turn_both conn now x mark is own true low few = own_front f w v a conn is (grind (arith, nat_tests)) now x (refuses_table mark) (below mark) (λ k e. own k e ∙ is) few
-    turn_both conn now x mark is own false low few = stays_alike (Connection (Error S5))
+    on_both conn now x mark is own true low few = own_front f w v a conn is (grind (arith, nat_tests)) now x (refuses_table mark) (below mark) (λ k e. own k e ∙ is) few
+    on_both conn now x mark is own false low few = stays_alike (Connection (Error S5))
 
-    turn_other : (conn now : ℕ) (x : c.Step) (mark : WorldMark) → mine conn ≡ false → ((k : Key) → key_found x ≡ Some k → ours k ≡ mine conn) → (b : Bool) → nat_lt conn CONNECTIONS ≡ b
+    on_other : (conn now : ℕ) (x : c.Step) (mark : WorldMark) → mine conn ≡ false → ((k : Key) → key_found x ≡ Some k → ours k ≡ mine conn) → (b : Bool) → nat_lt conn CONNECTIONS ≡ b
         → Agree f (cond {A = Reply × World} b (from_front w conn x (below mark) (front_by now (connection w conn) x (refuses_table mark))) (Connection (Error S5), w)).1 v
-    turn_other conn now x mark is own true low = other_front f w v a conn is (grind (arith, nat_tests)) now x (refuses_table mark) (below mark) (λ k e. own k e ∙ is)
-    turn_other conn now x mark is own false low = a
+    on_other conn now x mark is own true low = other_front f w v a conn is (grind (arith, nat_tests)) now x (refuses_table mark) (below mark) (λ k e. own k e ∙ is)
+    on_other conn now x mark is own false low = a
 
     -- a step finds a run of its own group
     abbrev Owned : Step → Type 0
@@ -325,20 +321,12 @@ module _ (mine : ℕ → Bool) (ours : Key → Bool) where
     step_both : (x : Step) (mark : WorldMark) → is_first mine x ≡ true → Owned x → meets_limit w x mark ≡ false → Alike (step_of w x mark) (step_of v x mark)
     step_both (t.Publish number) mark is own few = publish_both number mark
     step_both (t.Reload users) mark is own few = reload_both users (refuses_users mark)
-    step_both (t.Find conn message) mark is own few = turn_both conn 0 (c.FindStep message) mark is own (nat_lt conn CONNECTIONS) refl few
-    step_both (t.Attach conn now) mark is own few = turn_both conn now c.AttachStep mark is own (nat_lt conn CONNECTIONS) refl few
-    step_both (t.Call conn now message) mark is own few = turn_both conn now (c.CallStep message) mark is own (nat_lt conn CONNECTIONS) refl few
-    step_both (t.Close conn now fid) mark is own few = turn_both conn now (c.CloseStep fid) mark is own (nat_lt conn CONNECTIONS) refl few
-    step_both (t.Table conn change) mark is own few = turn_both conn 0 (c.Table change) mark is own (nat_lt conn CONNECTIONS) refl few
+    step_both (t.On conn now x) mark is own few = on_both conn now (session_step x) mark is own (nat_lt conn CONNECTIONS) refl few
 
     step_other : (x : Step) (mark : WorldMark) → is_first mine x ≡ false → Owned x → Agree f (step_of w x mark).1 v
     step_other (t.Publish number) mark is own = absurd (cc)
     step_other (t.Reload users) mark is own = absurd (cc)
-    step_other (t.Find conn message) mark is own = turn_other conn 0 (c.FindStep message) mark is own (nat_lt conn CONNECTIONS) refl
-    step_other (t.Attach conn now) mark is own = turn_other conn now c.AttachStep mark is own (nat_lt conn CONNECTIONS) refl
-    step_other (t.Call conn now message) mark is own = turn_other conn now (c.CallStep message) mark is own (nat_lt conn CONNECTIONS) refl
-    step_other (t.Close conn now fid) mark is own = turn_other conn now (c.CloseStep fid) mark is own (nat_lt conn CONNECTIONS) refl
-    step_other (t.Table conn change) mark is own = turn_other conn 0 (c.Table change) mark is own (nat_lt conn CONNECTIONS) refl
+    step_other (t.On conn now x) mark is own = on_other conn now (session_step x) mark is own (nat_lt conn CONNECTIONS) refl
 
   -- ---- lists of steps
 

@@ -1,9 +1,8 @@
 -- The moment at which a run began: before it nothing is put to the run, and from then on the run is there.
 use Rattle.std.proofs.Common.{◌≡◌, ◌∙◌, ℕ, ◌+◌, Bool, true, false, not, cond, List, [], ◌∷◌, ◌++◌, Option, None, Some, Result, Err, refl, ap}
-use Rattle.std.specs.Prelude.{is_some, nat_lt}
+use Rattle.std.specs.Prelude.{is_some, map}
 use Rattle.std.specs.Option.{option_map_or, option_or}
 use Rattle.cs_journal.specs.Runs.{RunOf}
-use Rattle.cs_names.specs.declared.limits.TheConstants.{CONNECTIONS}
 use Rattle.cs_names.specs.declared.rule_id.RuleId.TheVariants.{S5}
 use Rattle.cs_permit.specs.declared.fault.FindFault.{FindFault}
 use Rattle.cs_permit.specs.declared.fault.FindFault.TheVariants.{Unpublished, Full}
@@ -15,24 +14,24 @@ use Rattle.cs_registry.specs.Registries.{Registry, is_published}
 use Rattle.cs_registry.specs.Runs.{Runs, change, has_no_room, held_at, place_of, with_run}
 use Rattle.cs_run.specs.declared.answer.Answer.TheVariants.{Denied}
 use Rattle.cs_permit.specs.declared.fault.PassFault.TheVariants.{Foreign}
-use Rattle.cs_session.specs.declared.reply.Reply.TheVariants.{Error}
 use Rattle.cs_session.specs.Questions.{Question, Find, Enter, Ask, PortAnswer, Entered, Got}
 use Rattle.cs_session.specs.Steps.{Front, Done, Asks, front_by}
 use Rattle.cs_session.specs.Steps as c
 use Rattle.cs_users.specs.Rows.{Row}
-use Rattle.cs_world.specs.declared.reply.Reply.{Reply}
-use Rattle.cs_world.specs.declared.reply.Reply.TheVariants.{Connection}
+use Rattle.cs_world.specs.declared.run_call.RunCall.{RunCall}
 use Rattle.cs_world.specs.declared.step.Step.{Step}
 use Rattle.cs_world.specs.declared.step.Step.TheVariants as t
 use Rattle.cs_world.specs.Asking.{answered, found_by, given_run, with_run_at}
 use Rattle.cs_world.specs.Isolation.{users_made_with}
 use Rattle.cs_world.specs.Lists.{steps_of}
+use Rattle.cs_world.specs.ConnectionSteps.{session_step}
 use Rattle.cs_world.specs.Marks.{WorldMark, RunMark, below, in_run, refuses_table}
-use Rattle.cs_world.specs.Projections.{answers_of, of_front, of_turn, projection_of, put_to, run_with_key, answers_there}
+use Rattle.cs_world.specs.Projections.{answers_of, projection_of, put_to, run_with_key, answers_there}
+use Rattle.cs_world.specs.Questions.{question_of_step}
 use Rattle.cs_world.specs.Runs.{attached, called}
 use Rattle.cs_world.specs.Steps.{from_front, on_connection, step_of}
-use Rattle.cs_world.specs.Turning.{StepOn, connection_step}
 use Rattle.cs_world.specs.Worlds.{World, connection}
+use Rattle.cs_world.proofs.Ending.{on_ends}
 use Rattle.cs_world.proofs.Alone.{MadeWith}
 use Rattle.cs_world.proofs.Keyed as keyed
 use Rattle.cs_world.proofs.Reached.{publish_keeps, reload_keeps}
@@ -86,22 +85,13 @@ module _ (key : Key) where
     fronted conn x m (Done reply s) = there
     fronted conn x m (Asks q) = asked w.registry there q m
 
-    turned_by : (conn now : ℕ) (x : c.Step) (mark : WorldMark) (b : Bool)
-        → has_run (cond {A = Reply × World} b (from_front w conn x (below mark) (front_by now (connection w conn) x (refuses_table mark))) (Connection (Error S5), w)).1.registry ≡ true
-    turned_by conn now x mark true = fronted conn x (below mark) (front_by now (connection w conn) x (refuses_table mark))
-    turned_by conn now x mark false = there
-
-    turned : (conn now : ℕ) (x : c.Step) (mark : WorldMark) → has_run (on_connection w conn now x mark).1.registry ≡ true
-    turned conn now x mark = turned_by conn now x mark (nat_lt conn CONNECTIONS)
+    connected : (conn now : ℕ) (x : c.Step) (mark : WorldMark) → has_run (on_connection w conn now x mark).1.registry ≡ true
+    connected conn now x mark = on_ends w conn now x mark (λ q y. has_run y.1.registry ≡ true) (λ low. fronted conn x (below mark) (front_by now (connection w conn) x (refuses_table mark))) (λ high. there)
 
     stays : (x : Step) (mark : WorldMark) → has_run (step_of w x mark).1.registry ≡ true
     stays (t.Publish number) mark = ap (λ (runs : Runs RunOf). is_some (place_of key runs)) (publish_keeps w.registry number mark) ∙ there
     stays (t.Reload users) mark = ap (λ (runs : Runs RunOf). is_some (place_of key runs)) (reload_keeps w.registry users mark) ∙ there
-    stays (t.Find conn message) mark = turned conn 0 (c.FindStep message) mark
-    stays (t.Attach conn now) mark = turned conn now c.AttachStep mark
-    stays (t.Call conn now message) mark = turned conn now (c.CallStep message) mark
-    stays (t.Close conn now fid) mark = turned conn now (c.CloseStep fid) mark
-    stays (t.Table conn change) mark = turned conn 0 (c.Table change) mark
+    stays (t.On conn now x) mark = connected conn now (session_step x) mark
 
   all_stay : (w : World) → has_run w.registry ≡ true → (xs : List (Step × WorldMark)) → has_run (steps_of w xs).1.registry ≡ true
   all_stay w there [] = there
@@ -148,14 +138,9 @@ module _ (key : Key) where
 
   -- ---- a run that never began
 
-  no_turn : {A : Type 0} (w : World) (of : Question → List A) (none : (q : Question) → of q ≡ []) (mark : WorldMark) (f : Front) (b : Bool) → cond b (of_front of f) [] ≡ []
-  no_turn w of none mark f false = refl
-  no_turn w of none mark (Done reply s) true = refl
-  no_turn w of none mark (Asks q) true = none q
-
-  no_step : {A : Type 0} (w : World) (of : Question → List A) (none : (q : Question) → of q ≡ []) (mark : WorldMark) (o : Option StepOn) → option_map_or (of_turn w of mark) o [] ≡ []
-  no_step w of none mark None = refl
-  no_step w of none mark (Some turn) = no_turn w of none mark (front_by turn.now (connection w turn.conn) turn.step (refuses_table mark)) (nat_lt turn.conn CONNECTIONS)
+  nothing : {A : Type 0} (of : Question → List A) (none : (q : Question) → of q ≡ []) (asked : Option Question) → option_map_or of asked [] ≡ []
+  nothing of none None = refl
+  nothing of none (Some q) = none q
 
   module _ (r : Registry RunOf) (none : place_of key r.runs ≡ None) (mark : RunMark) where
     none_put : (q : Question) → put_to r key q mark ≡ []
@@ -164,9 +149,7 @@ module _ (key : Key) where
     none_put (Ask now place pass call) = rw none refl
 
     none_told : (q : Question) → answers_there r key q mark ≡ []
-    none_told (Find state name) = refl
-    none_told (Enter now place call) = rw none refl
-    none_told (Ask now place pass call) = rw none refl
+    none_told q = ap (λ (l : List (RunCall × RunMark)). map (λ (put : RunCall × RunMark). (answered r q mark).0) l) (none_put q)
 
   -- nothing was put to it, and it isn't there in the end
   pub record Never (w : World) (xs : List (Step × WorldMark)) : Type 0 where
@@ -184,7 +167,7 @@ module _ (key : Key) where
       by false e is rest =
           let later = rest (none_if (place_of key (step_of w x.0 x.1).1.registry.runs) e) is in
           record {
-            puts = λ i. no_step w (λ q. put_to w.registry key q (below x.1)) (none_put w.registry none (below x.1)) x.1 (connection_step x.0) i ++ later.puts i;
-            answers = λ i. no_step w (λ q. answers_there w.registry key q (below x.1)) (none_told w.registry none (below x.1)) x.1 (connection_step x.0) i ++ later.answers i;
+            puts = λ i. nothing (λ q. put_to w.registry key q (below x.1)) (none_put w.registry none (below x.1)) (question_of_step w x.0 x.1) i ++ later.puts i;
+            answers = λ i. nothing (λ q. answers_there w.registry key q (below x.1)) (none_told w.registry none (below x.1)) (question_of_step w x.0 x.1) i ++ later.answers i;
             gone = later.gone;
           }

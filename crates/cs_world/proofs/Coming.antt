@@ -1,5 +1,5 @@
 -- What a step of a connection comes to in a reachable world.
-use Rattle.std.proofs.Common.{◌≡◌, ℕ, ◌<◌, Bool, true, false, cond, Option, None, Some, refl, sym, subst, arith}
+use Rattle.std.proofs.Common.{◌≡◌, ℕ, ◌<◌, Bool, true, false, Option, None, Some, refl, sym, subst, arith}
 use Rattle.std.specs.Prelude.{IsSome, IsSomeAnd, nat_le, nat_lt}
 use Rattle.std.proofs.lemmas.Bool.Decides.{nat_tests}
 use Rattle.cs_fids.specs.Entries.{pass_of, run_of}
@@ -7,23 +7,20 @@ use Rattle.cs_journal.specs.Calls.{is_full}
 use Rattle.cs_journal.specs.Runs.{RunOf, state_of, with_pass}
 use Rattle.cs_run.specs.Outcomes.{closes}
 use Rattle.cs_names.specs.declared.limits.TheConstants.{CONNECTIONS, RUN_ATTACHES}
-use Rattle.cs_names.specs.declared.rule_id.RuleId.TheVariants.{S5}
 use Rattle.cs_permit.specs.declared.call.Call.{Call}
 use Rattle.cs_permit.specs.declared.call.Call.TheVariants as call
 use Rattle.cs_permit.specs.TreeNames.{tree_name_in}
 use Rattle.cs_registry.specs.Runs.{held_at}
-use Rattle.cs_session.specs.declared.reply.Reply.TheVariants.{Error}
 use Rattle.cs_session.specs.Questions.{Question, Enter, Ask}
 use Rattle.cs_session.specs.Sessions.{Awaited}
 use Rattle.cs_session.specs.Steps.{Front, Done, Asks, Step, FindStep, AttachStep, CallStep, CloseStep, Table, front_by}
-use Rattle.cs_world.specs.declared.reply.Reply.{Reply}
-use Rattle.cs_world.specs.declared.reply.Reply.TheVariants.{Connection}
 use Rattle.cs_world.specs.Asking.{answered}
-use Rattle.cs_world.specs.Comes.{ConnectionStepComesTo, Nobody, OwnAnswer, AsksRegistry, NoPass, AttachEnds, CallEnds}
+use Rattle.cs_world.specs.Comes.{ConnectionStepComesTo, Nobody, OwnReply, AsksRegistry, AttachShort, AttachOnRun, CallOnRun}
 use Rattle.cs_world.specs.Marks.{WorldMark, RunMark, below, in_run, refuses_pass, refuses_table}
 use Rattle.cs_world.specs.Reachable.{IsReachable}
 use Rattle.cs_world.specs.Steps.{from_front, on_connection, continued_from}
 use Rattle.cs_world.specs.Worlds.{World, connection}
+use Rattle.cs_world.proofs.Ending.{on_ends}
 use Rattle.cs_world.proofs.Asked.{can_be_asked}
 use Rattle.cs_world.proofs.Invariant.{enter_by, find_by}
 use Rattle.cs_world.proofs.Judging.{judged}
@@ -45,10 +42,10 @@ module _ (w : World) (ok : IsReachable w) (conn : ℕ) (inside : conn < CONNECTI
   enters_by : (p : Awaited) (mark : RunMark) → front_by now (connection w conn) x refused ≡ Asks (Enter now p.run p.call) → (run : RunOf) → held_at w.registry.runs p.run ≡ Some run → run.passes < RUN_ATTACHES → (short : Bool) → refuses_pass mark ≡ short → Its (Enter now p.run p.call) mark
   enters_by p mark e run there low true short =
       let room : nat_le RUN_ATTACHES run.passes ≡ false = grind (arith, nat_tests) in
-      rw (there, room, short) (NoPass p.run p.call run e there refl)
+      rw (there, room, short) (AttachShort p.run p.call run e there refl)
   enters_by p mark e run there low false short =
       let room : nat_le RUN_ATTACHES run.passes ≡ false = grind (arith, nat_tests) in
-      rw (there, room, short) (AttachEnds p.run p.call run _ _ e there low (judged (with_pass run) now run.passes (call.Attach p.call) (in_run mark)) refl)
+      rw (there, room, short) (AttachOnRun p.run p.call run _ _ e there low (judged (with_pass run) now run.passes (call.Attach p.call) (in_run mark)) refl)
 
   enters : (p : Awaited) (mark : RunMark) → front_by now (connection w conn) x refused ≡ Asks (Enter now p.run p.call) → Its (Enter now p.run p.call) mark
   enters p mark e =
@@ -64,7 +61,7 @@ module _ (w : World) (ok : IsReachable w) (conn : ℕ) (inside : conn < CONNECTI
       let there : held_at w.registry.runs place ≡ Some run = its.1 in
       let low : pass < run.passes = its.2.0 in
       let known : nat_lt pass run.passes ≡ true = grind (arith, nat_tests) in
-      rw (there, known) (CallEnds place pass asked run _ _ e there low (judged run now pass asked (in_run mark)) refl)
+      rw (there, known) (CallOnRun place pass asked run _ _ e there low (judged run now pass asked (in_run mark)) refl)
 
 module _ (w : World) (ok : IsReachable w) (conn : ℕ) (inside : conn < CONNECTIONS) (now : ℕ) where
   by_question : (x : Step) (refused : Bool) (q : Question) (mark : RunMark) → front_by now (connection w conn) x refused ≡ Asks q → Its w ok conn inside now x refused q mark
@@ -83,15 +80,10 @@ module _ (w : World) (ok : IsReachable w) (conn : ℕ) (inside : conn < CONNECTI
   by_question (Table change) refused q mark e = absurd (cc)
 
   by_front : (x : Step) (refused : Bool) (mark : RunMark) (f : Front) → front_by now (connection w conn) x refused ≡ f → ConnectionStepComesTo w conn now x refused (from_front w conn x mark f).0 (from_front w conn x mark f).1
-  by_front x refused mark (Done reply s) e = OwnAnswer reply s e refl refl
+  by_front x refused mark (Done reply s) e = OwnReply reply s e refl refl
   by_front x refused mark (Asks q) e = by_question x refused q mark e
 
 module _ (w : World) (ok : IsReachable w) (conn now : ℕ) (x : Step) (mark : WorldMark) where
-  by_number : (b : Bool) → nat_lt conn CONNECTIONS ≡ b
-      → ConnectionStepComesTo w conn now x (refuses_table mark) (cond {A = Reply × World} b (from_front w conn x (below mark) (front_by now (connection w conn) x (refuses_table mark))) (Connection (Error S5), w)).0 (cond {A = Reply × World} b (from_front w conn x (below mark) (front_by now (connection w conn) x (refuses_table mark))) (Connection (Error S5), w)).1
-  by_number true is = by_front w ok conn (grind (arith, nat_tests)) now x (refuses_table mark) (below mark) (front_by now (connection w conn) x (refuses_table mark)) refl
-  by_number false is = Nobody (grind (arith, nat_tests)) refl refl
-
   -- each step of a connection comes to one of these
   pub comes : ConnectionStepComesTo w conn now x (refuses_table mark) (on_connection w conn now x mark).0 (on_connection w conn now x mark).1
-  comes = by_number (nat_lt conn CONNECTIONS) refl
+  comes = on_ends w conn now x mark (λ q y. ConnectionStepComesTo w conn now x (refuses_table mark) y.0 y.1) (λ low. by_front w ok conn low now x (refuses_table mark) (below mark) (front_by now (connection w conn) x (refuses_table mark)) refl) (λ high. Nobody high refl refl)

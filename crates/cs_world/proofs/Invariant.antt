@@ -1,18 +1,15 @@
 -- Runs, passes and fids of reachable worlds are there, and every step keeps that.
-use Rattle.std.proofs.Common.{◌≡◌, ◌∙◌, ℕ, zero, suc, ◌<◌, Bool, true, false, cond, List, [], ◌∷◌, length, length-set, Option, None, Some, refl, sym, ap, subst, arith, rules}
-use Rattle.std.specs.Prelude.{is_some, nat_lt, option_map, slice_index_or, slice_set}
+use Rattle.std.proofs.Common.{◌≡◌, ◌∙◌, ℕ, zero, suc, ◌<◌, Bool, true, false, List, [], ◌∷◌, length, length-set, Option, None, Some, refl, sym, ap, subst, rules}
+use Rattle.std.specs.Prelude.{is_some, option_map, slice_index_or, slice_set}
 use Rattle.std.specs.FinMap.{empty, get, gets}
-use Rattle.std.proofs.lemmas.Bool.Decides.{nat_tests}
 use Rattle.std.proofs.lemmas.List.{length-replicate}
 use Rattle.cs_fids.specs.declared.entry.Entry.{Entry}
 use Rattle.cs_fids.specs.declared.entry.Entry.TheVariants as entry
 use Rattle.cs_fids.specs.Entries.{pass_of, run_of}
 use Rattle.cs_names.specs.declared.limits.TheConstants.{CONNECTIONS}
-use Rattle.cs_names.specs.declared.rule_id.RuleId.TheVariants.{S5}
 use Rattle.cs_plan.specs.Scenes.{Scene}
 use Rattle.cs_run.specs.declared.answer.Answer.{Answer}
 use Rattle.cs_session.specs.declared.reply.Reply.{Reply as Said}
-use Rattle.cs_session.specs.declared.reply.Reply.TheVariants.{Error}
 use Rattle.cs_permit.specs.Table.{attach_table_rules}
 use Rattle.cs_permit.specs.TreeNames.{tree_name_in}
 use Rattle.cs_session.specs.Attaches.{attach_decision, find_question}
@@ -24,9 +21,6 @@ use Rattle.cs_session.specs.TableSteps.{table_stepped}
 use Rattle.cs_session.specs.Steps.{Front, Done, Asks, Step, FindStep, AttachStep, CallStep, CloseStep, Table, after, front_by, front_of}
 use Rattle.cs_users.specs.Rows.{Row}
 use Rattle.cs_world.specs.declared.reply.Reply.{Reply}
-use Rattle.cs_world.specs.declared.reply.Reply.TheVariants.{Connection}
-use Rattle.cs_world.specs.declared.reply.Reply.TheVariants.{NotReloaded, Published, Reloaded, Unpublished}
-use Rattle.cs_world.specs.declared.reply.StateFault.TheVariants as f
 use Rattle.cs_world.specs.declared.step.Step as t
 use Rattle.cs_world.specs.declared.step.Step.TheVariants as s
 use Rattle.cs_journal.specs.Runs.{RunOf}
@@ -35,10 +29,12 @@ use Rattle.cs_registry.specs.Registries.{Registry, with_users}
 use Rattle.cs_fids.specs.Tables.{FidMap}
 use Rattle.cs_registry.specs.Naming.{key_in}
 use Rattle.cs_world.specs.Asking.{answered}
-use Rattle.cs_world.specs.Marks.{WorldMark, RunMark, below, refuses_table, refuses_users}
+use Rattle.cs_world.specs.ConnectionSteps.{session_step}
+use Rattle.cs_world.specs.Marks.{WorldMark, RunMark, below, refuses_table}
 use Rattle.cs_world.specs.Reachable.{Gave, HasAllThatIsNamed}
 use Rattle.cs_world.specs.Steps.{by_registry, from_front, on_connection, step_of}
 use Rattle.cs_world.specs.Worlds.{World, connection, new_world}
+use Rattle.cs_world.proofs.Ending.{on_ends, publish_ends, reload_ends}
 use Rattle.cs_world.proofs.Answering.{stays}
 use Rattle.cs_world.proofs.Keeps.{attaches, calls, finds}
 use Rattle.cs_world.proofs.Placing.{index_replicate}
@@ -122,12 +118,8 @@ module _ (w : World) (ok : HasAllThatIsNamed w) (conn : ℕ) where
   by_front inside now x refused mark (Done reply s') e = moved w ok conn inside s' w.registry (done_moves now x refused reply s' e)
   by_front inside now x refused mark (Asks q) e = moved w ok conn inside _ _ (asks_moves now x refused q mark e)
 
-  by_number : (now : ℕ) (x : Step) (mark : WorldMark) (b : Bool) → nat_lt conn CONNECTIONS ≡ b → HasAllThatIsNamed (cond {A = Reply × World} b (from_front w conn x (below mark) (front_by now (connection w conn) x (refuses_table mark))) (Connection (Error S5), w)).1
-  by_number now x mark true is = by_front (grind (arith, nat_tests)) now x (refuses_table mark) (below mark) (front_by now (connection w conn) x (refuses_table mark)) refl
-  by_number now x mark false is = ok
-
   pub connection_keeps : (now : ℕ) (x : Step) (mark : WorldMark) → HasAllThatIsNamed (on_connection w conn now x mark).1
-  connection_keeps now x mark = by_number now x mark (nat_lt conn CONNECTIONS) refl
+  connection_keeps now x mark = on_ends w conn now x mark (λ q y. HasAllThatIsNamed y.1) (λ low. by_front low now x (refuses_table mark) (below mark) (front_by now (connection w conn) x (refuses_table mark)) refl) (λ high. ok)
 
 -- ---- a publish
 
@@ -155,13 +147,6 @@ module _ (w : World) (ok : HasAllThatIsNamed w) where
     fids = ok.fids;
   }
 
-  publish_by : (number : ℕ) (a b c d : Bool) → HasAllThatIsNamed (by_registry w (cond {A = Reply × Registry RunOf} a (Unpublished f.NoSuchState, w.registry) (cond b (Unpublished f.Memory, w.registry) (cond c (Unpublished f.Twice, w.registry) (cond d (Unpublished f.Memory, w.registry) (Published, with_published w.registry number)))))).1
-  publish_by number true b c d = ok
-  publish_by number false true c d = ok
-  publish_by number false false true d = ok
-  publish_by number false false false true = ok
-  publish_by number false false false false = more_published number
-
   other_users : (users : List Row) → HasAllThatIsNamed (record w { registry = with_users w.registry users })
   other_users users = record {
     all = ok.all;
@@ -178,19 +163,11 @@ module _ (w : World) (ok : HasAllThatIsNamed w) where
     fids = ok.fids;
   }
 
-  reload_by : (users : List Row) (refused : Bool) → HasAllThatIsNamed (by_registry w (cond {A = Reply × Registry RunOf} refused (NotReloaded, w.registry) (Reloaded, with_users w.registry users))).1
-  reload_by users true = ok
-  reload_by users false = other_users users
-
   -- each step keeps it
   pub step_keeps : (x : t.Step) (mark : WorldMark) → HasAllThatIsNamed (step_of w x mark).1
-  step_keeps (s.Publish number) mark = publish_by number _ _ _ _
-  step_keeps (s.Reload users) mark = reload_by users (refuses_users mark)
-  step_keeps (s.Find conn message) mark = connection_keeps w ok conn 0 (FindStep message) mark
-  step_keeps (s.Attach conn now) mark = connection_keeps w ok conn now AttachStep mark
-  step_keeps (s.Call conn now message) mark = connection_keeps w ok conn now (CallStep message) mark
-  step_keeps (s.Close conn now fid) mark = connection_keeps w ok conn now (CloseStep fid) mark
-  step_keeps (s.Table conn change) mark = connection_keeps w ok conn 0 (Table change) mark
+  step_keeps (s.Publish number) mark = publish_ends w.registry (λ (y : Reply × Registry RunOf). HasAllThatIsNamed (by_registry w y).1) number mark (λ fault. ok) (more_published number)
+  step_keeps (s.Reload users) mark = reload_ends w.registry (λ (y : Reply × Registry RunOf). HasAllThatIsNamed (by_registry w y).1) users mark ok (other_users users)
+  step_keeps (s.On conn now x) mark = connection_keeps w ok conn now (session_step x) mark
 
 -- ---- a new world
 

@@ -9,7 +9,7 @@ use Rattle.cs_registry.specs.Runs.{held_at}
 use Rattle.cs_session.specs.Questions.{PortAnswer}
 use Rattle.cs_tree_model.specs.Tree.{Tree}
 use Rattle.cs_users.specs.Rows.{Row}
-use Rattle.cs_world.specs.declared.heard.Heard.{Heard}
+use Rattle.cs_world.specs.declared.run_call.RunCall.{RunCall}
 use Rattle.cs_world.specs.declared.reply.Reply.{Reply}
 use Rattle.cs_world.specs.declared.step.Step.{Step}
 use Rattle.cs_world.specs.Isolation.{AreSame, HaveSameUsers, IsAlone, IsIsolated, NoneReachesAnother, run_after, users_made_with}
@@ -31,7 +31,7 @@ module _ (scene : Scene) (users : List Row) (key : Key) where
   abbrev start : List Row → Option RunOf
   start own = option_map (λ tree. fresh_run tree own) (state_at scene key.number)
 
-  abbrev puts : List (Step × WorldMark) → List (Heard × RunMark)
+  abbrev puts : List (Step × WorldMark) → List (RunCall × RunMark)
   puts marked = projection_of w marked key
 
   ends : (marked : List (Step × WorldMark)) (own : List Row) → users_made_with w marked key ≡ Some own → (o : Option RunOf) → start own ≡ o
@@ -81,7 +81,7 @@ module _ (scene : Scene) (users : List Row) (key : Key) where
       let its = its_from marked run found in
       record {
         users = has_users marked run found;
-        fresh = its.fresh;
+        first_run = its.fresh;
         begins = ap start (own_users marked run its) ∙ its.begins;
         answers = its.answers;
         ends = its.ends;
@@ -93,7 +93,7 @@ module _ (scene : Scene) (users : List Row) (key : Key) where
   untold : (marked : List (Step × WorldMark)) (o : Option (List Row)) → users_made_with w marked key ≡ o → puts marked ≡ [] → answers_of w marked key ≡ []
   untold marked None stood none = (never key w marked refl stood).answers
   untold marked (Some own) stood none =
-      ap (λ (x : List PortAnswer × Option RunOf). x.0) (ends marked own stood (start own) refl) ∙ ap (λ (l : List (Heard × RunMark)). (from (start own) l).0) none
+      ap (λ (x : List PortAnswer × Option RunOf). x.0) (ends marked own stood (start own) refl) ∙ ap (λ (l : List (RunCall × RunMark)). (from (start own) l).0) none
       ∙ ap (λ (x : List PortAnswer × Option RunOf). x.0) (sym (from_none (start own)))
 
   module _ (xs ys : List (Step × WorldMark)) (have : HaveSameUsers w xs ys key) (alike : puts xs ≡ puts ys) where

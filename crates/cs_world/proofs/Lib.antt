@@ -7,6 +7,7 @@ pub mod Apart
 pub mod Asked
 pub mod Began
 pub mod Coming
+pub mod Ending
 pub mod Finding
 pub mod Grouping
 pub mod Growing

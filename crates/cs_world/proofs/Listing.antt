@@ -16,7 +16,7 @@ use Rattle.cs_wire.specs.Messages.{Message as Spelled, replies}
 use Rattle.cs_world.specs.declared.reply.Reply.{Reply}
 use Rattle.cs_world.specs.declared.reply.Reply.TheVariants.{Connection}
 use Rattle.cs_world.specs.Asking.{IsGiven}
-use Rattle.cs_world.specs.Lists.{AreOwnSteps, IsStepList, IsRepliedBySteps, IsByOwnSteps, ByItself, BySteps, reply_first, step_on, steps_of, steps_on}
+use Rattle.cs_world.specs.Lists.{AreOwnSteps, IsStepList, IsRepliedBySteps, IsByOwnSteps, ByItself, BySteps, reply_before, step_on, steps_of, steps_on}
 use Rattle.cs_world.specs.Marks.{WorldMark}
 use Rattle.cs_world.specs.Reachable.{IsReachable}
 use Rattle.cs_world.specs.Steps.{IsStep, on_connection, step_of}
@@ -42,7 +42,7 @@ one_more : (message : Message) (conn now : ℕ) (w next after : World) (x : Step
 one_more message conn now w next after x mark said reply is own goes rest = record {
   marked = (x, mark) ∷ rest.marked;
   earlier = Connection said ∷ rest.earlier;
-  leads = ap (reply_first (Connection said)) rest.leads ∙ ap (λ (y : Reply × World). reply_first y.0 (steps_of y.1 (steps_on conn now rest.marked))) is;
+  leads = ap (reply_before (Connection said)) rest.leads ∙ ap (λ (y : Reply × World). reply_before y.0 (steps_of y.1 (steps_on conn now rest.marked))) is;
   own = (
     own,
     (
@@ -65,10 +65,10 @@ last_one message conn now w next after x mark said reply is own goes same there 
 
 module _ (message : Message) (conn now : ℕ) (low : conn < CONNECTIONS) (s' : Sess) (r' : Registry RunOf) where
   -- what answers a message on a session, as steps of the world
-  turns_by : (marks : List c.TableMark) (reply : Said) (w : World) → conn < length w.connections → (s : Sess) → connection w conn ≡ s → (p : Registry RunOf) → w.registry ≡ p → Answers IsGiven now message marks s p reply s' r' → IsByOwnSteps w conn now message reply (with_both w conn s' r')
-  turns_by [] reply w inside s its p registry a = absurd a
-  turns_by (mark ∷ marks) reply w inside s its p registry (said, mid, there, t, e) =
-      by (goes_on message x said) refl e (λ more. turns_by marks reply next (omega (arith, inside, length-set w.connections conn mid)) mid (index_set_same w.connections conn mid (blank None) inside) there refl more)
+  own_steps_by : (marks : List c.TableMark) (reply : Said) (w : World) → conn < length w.connections → (s : Sess) → connection w conn ≡ s → (p : Registry RunOf) → w.registry ≡ p → Answers IsGiven now message marks s p reply s' r' → IsByOwnSteps w conn now message reply (with_both w conn s' r')
+  own_steps_by [] reply w inside s its p registry a = absurd a
+  own_steps_by (mark ∷ marks) reply w inside s its p registry (said, mid, there, t, e) =
+      by (goes_on message x said) refl e (λ more. own_steps_by marks reply next (omega (arith, inside, length-set w.connections conn mid)) mid (index_set_same w.connections conn mid (blank None) inside) there refl more)
     where
       x : Step
       x = next_step message s
@@ -98,7 +98,7 @@ module _ (message : Message) (conn now : ℕ) (low : conn < CONNECTIONS) (s' : S
 module _ (w : World) (conn now : ℕ) (low : conn < CONNECTIONS) (inside : conn < length w.connections) (s' : Sess) (r' : Registry RunOf) where
   -- so is a message that was read
   pub answered_by_steps : (message : Message) (reply : Said) → IsAnswered IsGiven now message (connection w conn) w.registry reply s' r' → IsByOwnSteps w conn now message reply (with_both w conn s' r')
-  answered_by_steps message reply a = turns_by message conn now low s' r' a.marks reply w inside (connection w conn) refl w.registry refl a.answers
+  answered_by_steps message reply a = own_steps_by message conn now low s' r' a.marks reply w inside (connection w conn) refl w.registry refl a.answers
 
   stays : (same : s' ≡ connection w conn) (there : r' ≡ w.registry) → with_both w conn s' r' ≡ w
   stays same there = (λ i. with_both w conn (same i) (there i)) ∙ ap (λ (c : List Sess). record { registry = w.registry; connections = c }) (set_own w.connections conn (blank None) inside)
@@ -112,7 +112,7 @@ module _ (w : World) (conn now : ℕ) (low : conn < CONNECTIONS) (inside : conn 
 
   -- and one of bytes
   pub told_by_steps : (bytes : List ℕ) (told : Spelled replies) → IsReplied IsGiven now bytes (connection w conn) w.registry told s' r' → IsRepliedBySteps w conn now bytes told (with_both w conn s' r')
-  told_by_steps bytes told r = received bytes told r.reply r.told_is r.received.mark r.received.received
+  told_by_steps bytes told r = received bytes told r.reply r.wire_reply_is r.received.mark r.received.received
 
 -- ---- reachable worlds
 
@@ -126,7 +126,7 @@ steps_keep w ok (x ∷ xs) = steps_keep (step_of w x.0 x.1).1 (reaches w ok x.0 
 -- one after the other they are one
 pub lists_follow : (w : World) (xs ys : List (t.Step × WorldMark)) → steps_of w (xs ++ ys) ≡ ((steps_of w xs).0 ++ (steps_of (steps_of w xs).1 ys).0, (steps_of (steps_of w xs).1 ys).1)
 lists_follow w [] ys = refl
-lists_follow w (x ∷ xs) ys = ap (reply_first (step_of w x.0 x.1).0) (lists_follow (step_of w x.0 x.1).1 xs ys)
+lists_follow w (x ∷ xs) ys = ap (reply_before (step_of w x.0 x.1).0) (lists_follow (step_of w x.0 x.1).1 xs ys)
 
 -- no step
 pub no_steps : (w : World) → IsStepList w [] [] w
@@ -137,7 +137,7 @@ pub one_before : (w : World) (x : t.Step) (reply : Reply) (next : World) → IsS
 one_before w x reply next s steps rest w' r = record {
   marked = (x, s.0) ∷ r.marked;
   steps_are = ap (λ (xs : List t.Step). x ∷ xs) r.steps_are;
-  leads = ap (reply_first reply) r.leads ∙ ap (λ (y : Reply × World). reply_first y.0 (steps_of y.1 r.marked)) s.1;
+  leads = ap (reply_before reply) r.leads ∙ ap (λ (y : Reply × World). reply_before y.0 (steps_of y.1 r.marked)) s.1;
 }
 
 -- ---- where calls lead from a reachable world
@@ -148,12 +148,12 @@ by_step w w' x reply s ok = subst IsReachable (sym (ap (λ (y : Reply × World).
 pub by_run : (w w' : World) (steps : List t.Step) (said : List Reply) → IsStepList w steps said w' → IsReachable w → IsReachable w'
 by_run w w' steps said r ok = subst IsReachable (sym (ap (λ (y : List Reply × World). y.1) r.leads)) (steps_keep w ok r.marked)
 
-by_turns : (w : World) (conn now : ℕ) (message : Message) (reply : Said) (w' : World) → IsByOwnSteps w conn now message reply w' → IsReachable w → IsReachable w'
-by_turns w conn now message reply w' t ok = subst IsReachable (sym (ap (λ (y : List Reply × World). y.1) t.leads)) (steps_keep w ok (steps_on conn now t.marked))
+by_own_steps : (w : World) (conn now : ℕ) (message : Message) (reply : Said) (w' : World) → IsByOwnSteps w conn now message reply w' → IsReachable w → IsReachable w'
+by_own_steps w conn now message reply w' t ok = subst IsReachable (sym (ap (λ (y : List Reply × World). y.1) t.leads)) (steps_keep w ok (steps_on conn now t.marked))
 
 by_told : (w : World) (conn now : ℕ) (bytes : List ℕ) (told : Spelled replies) (w' : World) → IsRepliedBySteps w conn now bytes told w' → IsReachable w → IsReachable w'
 by_told w conn now bytes told w' (ByItself reply is same) ok = subst IsReachable (sym same) ok
-by_told w conn now bytes told w' (BySteps message asks reply spelled some is t) ok = by_turns w conn now asks reply w' t ok
+by_told w conn now bytes told w' (BySteps message asks reply spelled some is t) ok = by_own_steps w conn now asks reply w' t ok
 
 module _ (w : World) (conn now : ℕ) (low : conn < CONNECTIONS) (s s' : Sess) (its : connection w conn ≡ s) (r' : Registry RunOf) where
   pub by_message : (bytes : List ℕ) (told : Spelled replies) → IsReplied IsGiven now bytes s w.registry told s' r' → IsReachable w → IsReachable (with_both w conn s' r')
@@ -164,4 +164,4 @@ module _ (w : World) (conn now : ℕ) (low : conn < CONNECTIONS) (s s' : Sess) (
   pub by_answer : (message : Message) (reply : Said) → IsAnswered IsGiven now message s w.registry reply s' r' → IsReachable w → IsReachable (with_both w conn s' r')
   by_answer message reply a ok =
       let own : IsAnswered IsGiven now message (connection w conn) w.registry reply s' r' = rw its a in
-      by_turns w conn now message reply (with_both w conn s' r') (answered_by_steps w conn now low (omega (arith, ok.there.all)) s' r' message reply own) ok
+      by_own_steps w conn now message reply (with_both w conn s' r') (answered_by_steps w conn now low (omega (arith, ok.there.all)) s' r' message reply own) ok

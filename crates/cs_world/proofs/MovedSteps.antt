@@ -29,8 +29,7 @@ use Rattle.cs_session.specs.declared.reply.Reply.{Reply}
 use Rattle.cs_session.specs.declared.reply.Reply.TheVariants as r
 use Rattle.cs_session.specs.Attaches.{attach_after, attach_decision, attach_settled}
 use Rattle.cs_session.specs.Calls.{call_after}
-use Rattle.cs_session.specs.Removes.{remove_reply}
-use Rattle.cs_session.specs.Closes.{close_question, close_reply}
+use Rattle.cs_session.specs.Removes.{close_question, close_reply, remove_reply}
 use Rattle.cs_session.specs.Decisions.{after_session, decide, opened_at, walked_at}
 use Rattle.cs_session.specs.Names.{file_in, user_in}
 use Rattle.cs_session.specs.Opens.{create_after, create_named, open_after, open_left}

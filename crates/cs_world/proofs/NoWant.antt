@@ -8,14 +8,14 @@ use Rattle.cs_fids.specs.declared.entry.Entry.TheVariants as entry
 use Rattle.cs_fids.specs.Entries.{pass_of, run_of}
 use Rattle.cs_fids.specs.Tables.{least_open}
 use Rattle.cs_journal.specs.Calls.{is_full}
-use Rattle.cs_journal.specs.Journals.{seen}
+use Rattle.cs_journal.specs.Journals.{rules_view_of}
 use Rattle.cs_journal.specs.Marks.{Ample}
 use Rattle.cs_journal.specs.Runs.{RunOf, state_of, with_pass}
 use Rattle.cs_journal.specs.Steps.{step}
 use Rattle.cs_names.specs.declared.limits.TheConstants.{CONNECTIONS, RUN_ATTACHES}
 use Rattle.cs_names.specs.declared.rule_id.RuleId.{RuleId}
 use Rattle.cs_names.specs.declared.rule_id.RuleId.TheVariants.{H2, S4, S5}
-use Rattle.cs_permit.specs.Calls.{RulesView, first}
+use Rattle.cs_permit.specs.Calls.{RulesView, failing_rule}
 use Rattle.cs_permit.specs.declared.call.Call.{Call}
 use Rattle.cs_permit.specs.declared.call.Call.TheVariants as c
 use Rattle.cs_permit.specs.TreeNames.{tree_name_in}
@@ -45,17 +45,15 @@ use Rattle.cs_permit.specs.declared.fault.PassFault.TheVariants as pass
 use Rattle.cs_session.specs.declared.reply.Reply.{Reply as Said}
 use Rattle.cs_session.specs.declared.reply.Reply.TheVariants as r
 use Rattle.cs_session.specs.Attaches.{attach_after, attach_decision, attach_settled, find_question}
-use Rattle.cs_session.specs.Removes.{remove_question}
+use Rattle.cs_session.specs.Removes.{close_question, remove_question}
 use Rattle.cs_session.specs.Stats.{stat_question, wstat_question}
-use Rattle.cs_session.specs.Writes.{write_question}
-use Rattle.cs_session.specs.Closes.{close_question}
+use Rattle.cs_session.specs.Reads.{read_question, write_question}
 use Rattle.cs_session.specs.Decisions.{decide, opened_at, walked_at}
 use Rattle.cs_session.specs.Names.{file_in, user_in}
 use Rattle.cs_session.specs.Opens.{create_named, create_question, open_question}
 use Rattle.cs_session.specs.Questions.{Question, Enter, Ask, PortAnswer, Entered, Got}
 use Rattle.cs_session.specs.Sessions.{Awaited, Sess, entry_at}
 use Rattle.cs_session.specs.Steps.{Step as Taken, FindStep, AttachStep, CallStep, CloseStep, Table, after, front_by, front_of}
-use Rattle.cs_session.specs.Reads.{read_question}
 use Rattle.cs_session.specs.TableSteps.{clunk_reply, table_stepped, after_change}
 use Rattle.cs_session.specs.Walks.{walk_question}
 use Rattle.cs_world.specs.declared.reply.Reply.{Reply}
@@ -65,6 +63,7 @@ use Rattle.cs_world.specs.declared.step.Step.{Step}
 use Rattle.cs_world.specs.declared.step.Step.TheVariants as s
 use Rattle.cs_world.specs.Ample.{ample, tells_want, session_tells_want}
 use Rattle.cs_world.specs.Asking.{answered, call_answer, attach_answer, find_answer, found_by, given_run}
+use Rattle.cs_world.specs.ConnectionSteps.{session_step}
 use Rattle.cs_world.specs.Marks.{InRun}
 use Rattle.cs_world.specs.Reachable.{IsReachable}
 use Rattle.cs_world.specs.Runs.{attached, called, run_step}
@@ -75,14 +74,14 @@ use Rattle.cs_world.specs.Worlds.{World, connection}
 
 -- it is denied, or granted: what is so of both is so of its answer
 module _ (run : RunOf) (now number : ℕ) (call : Call) (P : Answer → Type 0) (denied : (rule : RuleId) → P (a.Denied rule)) (granted : (st : RulesView) (w : Turn) → P (effect_of st w call).answer) where
-  run_by : (full : Bool) (fails : Option RuleId) → is_full (state_of run) number call ≡ full → first (seen (state_of run)) call ≡ fails → P (run_step run now number call Ample).0
+  run_by : (full : Bool) (fails : Option RuleId) → is_full (state_of run) number call ≡ full → failing_rule (rules_view_of (state_of run)) call ≡ fails → P (run_step run now number call Ample).0
   unfolding step outcome
   run_by true fails f e = rw f (denied _)
   run_by false (Some rule) f e = rw (f, e) (denied rule)
   run_by false None f e = rw (f, e) (granted _ _)
 
   pub run_answers : P (run_step run now number call Ample).0
-  run_answers = run_by (is_full (state_of run) number call) (first (seen (state_of run)) call) refl refl
+  run_answers = run_by (is_full (state_of run) number call) (failing_rule (rules_view_of (state_of run)) call) refl refl
 
   called_by : (known : Bool) → nat_lt number run.passes ≡ known → P (called run now number call Ample).0
   called_by false e = rw e (denied S5)
@@ -227,15 +226,15 @@ module _ (w : World) (conn : ℕ) where
 
   -- ---- each step
 
-  turn_goes : AllGiven → (now : ℕ) (x : Taken) → tells_want (from_front w conn x (InRun Ample) (front_by now here x false)).0 ≡ false
-  turn_goes given now (FindStep x) = goes (FindStep x) _ (find_question x) (λ p e. made_of (FindStep x) _ (tree_name_in x.aname) p e (λ (name : List ℕ × List ℕ). find_asked given x (key_in name.0 name.1)))
-  turn_goes given now AttachStep = attach_goes now here.pending refl
-  turn_goes given now (CallStep x) = call_goes now x
-  turn_goes given now (CloseStep fid) = close_goes now fid
-  turn_goes given now (Table x) = table_by x (is_some here.pending) refl
+  on_goes : AllGiven → (now : ℕ) (x : Taken) → tells_want (from_front w conn x (InRun Ample) (front_by now here x false)).0 ≡ false
+  on_goes given now (FindStep x) = goes (FindStep x) _ (find_question x) (λ p e. made_of (FindStep x) _ (tree_name_in x.aname) p e (λ (name : List ℕ × List ℕ). find_asked given x (key_in name.0 name.1)))
+  on_goes given now AttachStep = attach_goes now here.pending refl
+  on_goes given now (CallStep x) = call_goes now x
+  on_goes given now (CloseStep fid) = close_goes now fid
+  on_goes given now (Table x) = table_by x (is_some here.pending) refl
 
   on_by : AllGiven → (now : ℕ) (x : Taken) (b : Bool) → tells_want (cond {A = Reply × World} b (from_front w conn x (InRun Ample) (front_by now here x false)) (Connection (r.Error S5), w)).0 ≡ false
-  on_by given now x true = turn_goes given now x
+  on_by given now x true = on_goes given now x
   on_by given now x false = refl
 
 module _ (w : World) (number : ℕ) where
@@ -265,8 +264,4 @@ module _ (w : World) (ok : IsReachable w) where
   pub no_want : (x : Step) → tells_want (step_of w x ample).0 ≡ false
   no_want (s.Publish number) = publish_by w number _ _
   no_want (s.Reload users) = refl
-  no_want (s.Find conn message) = on_by w conn all_given 0 (FindStep message) (nat_lt conn CONNECTIONS)
-  no_want (s.Attach conn now) = on_by w conn all_given now AttachStep (nat_lt conn CONNECTIONS)
-  no_want (s.Call conn now message) = on_by w conn all_given now (CallStep message) (nat_lt conn CONNECTIONS)
-  no_want (s.Close conn now fid) = on_by w conn all_given now (CloseStep fid) (nat_lt conn CONNECTIONS)
-  no_want (s.Table conn change) = on_by w conn all_given 0 (Table change) (nat_lt conn CONNECTIONS)
+  no_want (s.On conn now x) = on_by w conn all_given now (session_step x) (nat_lt conn CONNECTIONS)

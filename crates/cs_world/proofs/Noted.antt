@@ -7,20 +7,21 @@ use Rattle.cs_session.specs.declared.reply.Reply.{Reply as Said}
 use Rattle.cs_session.specs.Marks as c
 use Rattle.cs_session.specs.Sessions.{Sess}
 use Rattle.cs_session.specs.Steps.{Step, Front, Done, Asks, Goes, IsTaken, front}
-use Rattle.cs_world.specs.declared.heard.Heard.{Heard}
+use Rattle.cs_world.specs.declared.run_call.RunCall.{RunCall}
 use Rattle.cs_world.specs.declared.reply.Reply.{Reply}
 use Rattle.cs_world.specs.declared.reply.Reply.TheVariants.{Connection}
 use Rattle.cs_world.specs.declared.watched.WatchedRuns.{WatchedRuns}
-use Rattle.cs_world.specs.Marks.{WorldMark, Below, RunMark, below}
-use Rattle.cs_world.specs.Projections.{calls_of, of_turn, put_to}
+use Rattle.cs_world.specs.Marks.{WorldMark, Below, RunMark}
+use Rattle.cs_world.specs.Projections.{calls_of, puts_of}
+use Rattle.cs_world.specs.Questions.{question_on}
 use Rattle.cs_world.specs.Steps.{on_connection, replied, continued_from}
 use Rattle.cs_world.specs.Watching.{IsWatched}
 use Rattle.cs_world.specs.Worlds.{World, connection, with_both}
 use Rattle.cs_world.proofs.Stepping.{mark_of, same_table, still}
 
 module _ (w : World) (old : WatchedRuns) (runs : old.runs ≡ w.registry) (conn now : ℕ) (x : Step) (inside : nat_lt conn CONNECTIONS ≡ true) (reply : Said) (s' : Sess) (new : WatchedRuns) where
-  abbrev Puts : WorldMark → List (Heard × RunMark)
-  Puts mark = of_turn w (λ question. put_to w.registry old.key question (below mark)) mark (record { conn = conn; now = now; step = x })
+  abbrev Puts : WorldMark → List (RunCall × RunMark)
+  Puts mark = puts_of w old.key mark (question_on w conn now x mark)
 
   -- with some mark it is the step, and its calls are noted
   pub record IsNoted : Type 0 where
@@ -28,14 +29,14 @@ module _ (w : World) (old : WatchedRuns) (runs : old.runs ≡ w.registry) (conn 
     pub steps : ◌≡◌ {A = Reply × World} (Connection reply, with_both w conn s' new.runs) (on_connection w conn now x mark)
     pub key : new.key ≡ old.key
     pub noted : new.is_short ≡ false → (old.is_short ≡ false)
-        × (new.heard.items ≡ old.heard.items ++ calls_of (Puts mark))
+        × (new.calls.items ≡ old.calls.items ++ calls_of (Puts mark))
 
   by_front : (f : Front) (mark : c.TableMark) → front now (connection w conn) x mark ≡ f → Goes IsWatched f (connection w conn) old x reply s' new → IsNoted
   by_front (Done said t) mark e (a, b, d) = record {
     mark = mark_of mark;
     steps = rw (inside, same_table mark, e) (λ i. (Connection (a i), with_both w conn (b i) ((ap (λ (y : WatchedRuns). y.runs) d ∙ runs) i)));
     key = ap (λ (y : WatchedRuns). y.key) d;
-    noted = λ ample. (ap (λ (y : WatchedRuns). y.is_short) (sym d) ∙ ample, rw (inside, same_table mark, e) (ap (λ (y : WatchedRuns). y.heard.items) d ∙ sym (append-nil old.heard.items)));
+    noted = λ ample. (ap (λ (y : WatchedRuns). y.is_short) (sym d) ∙ ample, rw (inside, same_table mark, e) (ap (λ (y : WatchedRuns). y.calls.items) d ∙ sym (append-nil old.calls.items)));
   }
   by_front (Asks q) mark e (answer, its, goes) =
       let asks = still now (connection w conn) x (c.refuses_table mark) q e in

@@ -30,7 +30,7 @@ use Rattle.cs_session.specs.Questions.{Question, Find, Enter, Ask, PortAnswer, E
 use Rattle.cs_session.specs.Questions as q
 use Rattle.cs_session.specs.Sessions.{Awaited, Sess, blank, entry_at}
 use Rattle.cs_world.specs.Asking.{answered, with_run_at}
-use Rattle.cs_world.specs.Ends.{EndsAs}
+use Rattle.cs_world.specs.Ends.{CallComesTo}
 use Rattle.cs_world.specs.Marks.{RunMark, in_run, refuses_pass}
 use Rattle.cs_world.specs.Reachable.{HasAllThatIsNamed, HasOpen, OpensStand}
 use Rattle.cs_world.specs.Runs.{attached, run_step}
@@ -180,7 +180,7 @@ module _ (w : World) (there : HasAllThatIsNamed w) (ok : OpensStand w) (conn now
   pass : ℕ
   pass = pass_of its.held
 
-  module _ (run : RunOf) (held : held_at w.registry.runs (run_of its.held) ≡ Some run) (answer : Answer) (run' : RunOf) (end : EndsAs run now (pass_of its.held) its.call answer run') where
+  module _ (run : RunOf) (held : held_at w.registry.runs (run_of its.held) ≡ Some run) (answer : Answer) (run' : RunOf) (end : CallComesTo run now (pass_of its.held) its.call answer run') where
     -- an open that stood stands, but for the one that ends
     stands_still : (c fid : ℕ) (f : FidOf Opened) → entry_at (connection w c) fid ≡ Some (entry.Opened f) → (c ≡ conn → freed ≡ Some fid → ⊥) → HasOpen (with_run_at w.registry (run_of its.held) run') f.run f.pass f.state.open_number
     stands_still c fid f is keeps =

@@ -8,7 +8,7 @@ use Rattle.std.proofs.lemmas.Bool.Decides.{nat_tests}
 use Rattle.std.proofs.lemmas.List.Quantifiers.{position-Some}
 use Rattle.std.proofs.lemmas.List.Sums.{fails_before_first}
 use Rattle.std.proofs.lemmas.Option.{slice_get-get_or, get_or_from_slice_get}
-use Rattle.cs_journal.specs.Journals.{seen, start, turn_in}
+use Rattle.cs_journal.specs.Journals.{rules_view_of, start, turn_in}
 use Rattle.cs_journal.specs.Runs.{RunOf, state_of}
 use Rattle.cs_journal.proofs.Journals.{below-replay}
 use Rattle.cs_permit.specs.Calls.{RulesView}
@@ -30,7 +30,7 @@ use Rattle.cs_run.specs.Effects.{close_effect, create_effect, effect_of, open_ef
 use Rattle.cs_run.specs.Laws.{opens_one}
 use Rattle.cs_run.specs.Opens.{AreBelow, is_open, open_numbered, released_if}
 use Rattle.cs_run.specs.Outcomes.{applied, closes}
-use Rattle.cs_world.specs.Ends.{EndsAs, Full, NoEntry, Denied, Short, Granted}
+use Rattle.cs_world.specs.Ends.{CallComesTo, Full, ShortBefore, Denied, Short, Granted}
 use Rattle.cs_world.proofs.Placing.{get_end, get_kept}
 
 none : OpenFile
@@ -137,12 +137,12 @@ module _ (s : RulesView) (w : Turn) (asked : Call) (number pass : ℕ) (differs 
 
 module _ (run : RunOf) (now own : ℕ) (asked : Call) (answer : Answer) (run' : RunOf) where
   -- an open stands still that the call doesn't end
-  pub stays : EndsAs run now own asked answer run' → (number pass : ℕ) → (closes asked ≡ Some number → ⊥) → IsSome (open_numbered number pass (state_of run).opens) → IsSome (open_numbered number pass (state_of run').opens)
+  pub stays : CallComesTo run now own asked answer run' → (number pass : ℕ) → (closes asked ≡ Some number → ⊥) → IsSome (open_numbered number pass (state_of run).opens) → IsSome (open_numbered number pass (state_of run').opens)
   stays (Full f is same) number pass differs h = subst (λ r. IsSome (open_numbered number pass (state_of r).opens)) (sym same) h
-  stays (NoEntry f none is same) number pass differs h = subst (λ r. IsSome (open_numbered number pass (state_of r).opens)) (sym same) h
-  stays (Denied rule f fails m) number pass differs h = rw m.opens (applied_stands (seen (state_of run)) (turn_in (state_of run) own now) asked number pass differs h (o.Denied rule))
-  stays (Short f fails takes m) number pass differs h = rw m.opens (applied_stands (seen (state_of run)) (turn_in (state_of run) own now) asked number pass differs h o.Short)
-  stays (Granted f fails m) number pass differs h = rw m.opens (applied_stands (seen (state_of run)) (turn_in (state_of run) own now) asked number pass differs h o.Granted)
+  stays (ShortBefore f none is same) number pass differs h = subst (λ r. IsSome (open_numbered number pass (state_of r).opens)) (sym same) h
+  stays (Denied rule f fails m) number pass differs h = rw m.opens (applied_stands (rules_view_of (state_of run)) (turn_in (state_of run) own now) asked number pass differs h (o.Denied rule))
+  stays (Short f fails takes m) number pass differs h = rw m.opens (applied_stands (rules_view_of (state_of run)) (turn_in (state_of run) own now) asked number pass differs h o.Short)
+  stays (Granted f fails m) number pass differs h = rw m.opens (applied_stands (rules_view_of (state_of run)) (turn_in (state_of run) own now) asked number pass differs h o.Granted)
 
 -- ---- a new open
 
@@ -183,13 +183,13 @@ is_its o number pass n p = rw (eq-eqb o.number number n, eq-eqb o.pass pass p) r
 
 module _ (run : RunOf) (now own : ℕ) (asked : Call) (answer : Answer) (run' : RunOf) (qid : Qid) (n number : ℕ) (told : answer ≡ a.Opened qid n number) where
   -- the open that an answer tells is new, and stands
-  pub opens : EndsAs run now own asked answer run' → (n ≡ (state_of run).entries) × IsSome (open_numbered n own (state_of run').opens)
+  pub opens : CallComesTo run now own asked answer run' → (n ≡ (state_of run).entries) × IsSome (open_numbered n own (state_of run').opens)
   opens (Full f is same) = absurd (cc)
-  opens (NoEntry f none is same) = absurd (cc)
+  opens (ShortBefore f none is same) = absurd (cc)
   opens (Denied rule f fails m) = absurd (let is = m.answer_is in cc)
   opens (Short f fails takes m) = absurd (let is = m.answer_is in cc)
   opens (Granted f fails m) =
-      let s : RulesView = seen (state_of run) in
+      let s : RulesView = rules_view_of (state_of run) in
       let w : Turn = turn_in (state_of run) own now in
       let its = opened_by s w asked qid n number (sym m.answer_is ∙ told) in
       let made = one_more s w asked its.0 in

@@ -1,36 +1,33 @@
 -- A new world is reachable, and each step leads from reachable worlds to reached ones.
-use Rattle.std.proofs.Common.{◌≡◌, ◌∙◌, ℕ, ◌<◌, Bool, true, false, cond, List, length, None, Some, refl, sym, ap, subst, arith, rules}
-use Rattle.std.specs.Prelude.{nat_lt, replicate}
+use Rattle.std.proofs.Common.{◌≡◌, ◌∙◌, ℕ, ◌<◌, Bool, List, length, None, Some, refl, sym, ap, subst, arith, rules}
+use Rattle.std.specs.Prelude.{replicate}
 use Rattle.std.specs.FinMap.{empty, get, gets}
-use Rattle.std.proofs.lemmas.Bool.Decides.{nat_tests}
 use Rattle.cs_fids.specs.declared.entry.Entry.TheVariants as entry
 use Rattle.cs_fids.specs.declared.fid.Opened.{Opened}
 use Rattle.cs_fids.specs.FidOf.{FidOf}
 use Rattle.cs_fids.specs.Tables.{FidMap}
 use Rattle.cs_journal.specs.Runs.{RunOf}
 use Rattle.cs_names.specs.declared.limits.TheConstants.{CONNECTIONS}
-use Rattle.cs_names.specs.declared.rule_id.RuleId.TheVariants.{S5}
 use Rattle.cs_permit.specs.TreeNames.{tree_name_in}
 use Rattle.cs_plan.specs.Scenes.{Scene}
 use Rattle.cs_registry.specs.Registries.{Registry, with_users}
 use Rattle.cs_registry.specs.Registries as registries
 use Rattle.cs_registry.specs.Publishing.{with_published}
 use Rattle.cs_session.specs.declared.reply.Reply.{Reply as Said}
-use Rattle.cs_session.specs.declared.reply.Reply.TheVariants.{Error}
 use Rattle.cs_session.specs.Questions.{Question, Got}
 use Rattle.cs_session.specs.Sessions.{Sess, blank, entry_at}
 use Rattle.cs_session.specs.Steps.{Front, Done, Asks, Step, FindStep, AttachStep, CallStep, CloseStep, Table, after, front_by}
 use Rattle.cs_session.specs.TableSteps.{table_stepped}
 use Rattle.cs_users.specs.Rows.{Row}
 use Rattle.cs_world.specs.declared.reply.Reply.{Reply}
-use Rattle.cs_world.specs.declared.reply.Reply.TheVariants.{Connection, NotReloaded, Published, Reloaded, Unpublished}
-use Rattle.cs_world.specs.declared.reply.StateFault.TheVariants as f
 use Rattle.cs_world.specs.declared.step.Step as t
 use Rattle.cs_world.specs.declared.step.Step.TheVariants as s
-use Rattle.cs_world.specs.Marks.{WorldMark, RunMark, below, refuses_table, refuses_users}
+use Rattle.cs_world.specs.ConnectionSteps.{session_step}
+use Rattle.cs_world.specs.Marks.{WorldMark, RunMark, below, refuses_table}
 use Rattle.cs_world.specs.Reachable.{IsReachable, OpensStand}
 use Rattle.cs_world.specs.Steps.{by_registry, from_front, on_connection, step_of}
 use Rattle.cs_world.specs.Worlds.{World, connection, new_world}
+use Rattle.cs_world.proofs.Ending.{on_ends, publish_ends, reload_ends}
 use Rattle.cs_world.proofs.Invariant.{enter_by, find_by, new_is, step_keeps}
 use Rattle.cs_world.proofs.OpenFids.{KeepsOpens, attach_has, attached_open, called_keeps, find_has, found_open, kept, unopened}
 use Rattle.cs_world.proofs.Placing.{index_replicate}
@@ -83,32 +80,19 @@ module _ (w : World) (ok : IsReachable w) (conn : ℕ) (inside : conn < CONNECTI
   by_front now x refused mark (Asks q) e = asks_opens now x refused q mark e
 
 module _ (w : World) (ok : IsReachable w) where
-  by_number : (conn now : ℕ) (x : Step) (mark : WorldMark) (b : Bool) → nat_lt conn CONNECTIONS ≡ b → OpensStand (cond {A = Reply × World} b (from_front w conn x (below mark) (front_by now (connection w conn) x (refuses_table mark))) (Connection (Error S5), w)).1
-  by_number conn now x mark true is = by_front w ok conn (grind (arith, nat_tests)) now x (refuses_table mark) (below mark) (front_by now (connection w conn) x (refuses_table mark)) refl
-  by_number conn now x mark false is = ok.opens
-
   connection_opens : (conn now : ℕ) (x : Step) (mark : WorldMark) → OpensStand (on_connection w conn now x mark).1
-  connection_opens conn now x mark = by_number conn now x mark (nat_lt conn CONNECTIONS) refl
+  connection_opens conn now x mark = on_ends w conn now x mark (λ q y. OpensStand y.1) (λ low. by_front w ok conn low now x (refuses_table mark) (below mark) (front_by now (connection w conn) x (refuses_table mark)) refl) (λ high. ok.opens)
 
-  publish_by : (number : ℕ) (a b c d : Bool) → OpensStand (by_registry w (cond {A = Reply × Registry RunOf} a (Unpublished f.NoSuchState, w.registry) (cond b (Unpublished f.Memory, w.registry) (cond c (Unpublished f.Twice, w.registry) (cond d (Unpublished f.Memory, w.registry) (Published, with_published w.registry number)))))).1
-  publish_by number true b c d = ok.opens
-  publish_by number false true c d = ok.opens
-  publish_by number false false true d = ok.opens
-  publish_by number false false false true = ok.opens
-  publish_by number false false false false = record { stand = ok.opens.stand; own = ok.opens.own }
+  more_published : (number : ℕ) → OpensStand (record w { registry = with_published w.registry number })
+  more_published number = record { stand = ok.opens.stand; own = ok.opens.own }
 
-  reload_by : (users : List Row) (refused : Bool) → OpensStand (by_registry w (cond {A = Reply × Registry RunOf} refused (NotReloaded, w.registry) (Reloaded, with_users w.registry users))).1
-  reload_by users true = ok.opens
-  reload_by users false = record { stand = ok.opens.stand; own = ok.opens.own }
+  other_users : (users : List Row) → OpensStand (record w { registry = with_users w.registry users })
+  other_users users = record { stand = ok.opens.stand; own = ok.opens.own }
 
   opens_by : (x : t.Step) (mark : WorldMark) → OpensStand (step_of w x mark).1
-  opens_by (s.Publish number) mark = publish_by number _ _ _ _
-  opens_by (s.Reload users) mark = reload_by users (refuses_users mark)
-  opens_by (s.Find conn message) mark = connection_opens conn 0 (FindStep message) mark
-  opens_by (s.Attach conn now) mark = connection_opens conn now AttachStep mark
-  opens_by (s.Call conn now message) mark = connection_opens conn now (CallStep message) mark
-  opens_by (s.Close conn now fid) mark = connection_opens conn now (CloseStep fid) mark
-  opens_by (s.Table conn change) mark = connection_opens conn 0 (Table change) mark
+  opens_by (s.Publish number) mark = publish_ends w.registry (λ (y : Reply × Registry RunOf). OpensStand (by_registry w y).1) number mark (λ fault. ok.opens) (more_published number)
+  opens_by (s.Reload users) mark = reload_ends w.registry (λ (y : Reply × Registry RunOf). OpensStand (by_registry w y).1) users mark ok.opens (other_users users)
+  opens_by (s.On conn now x) mark = connection_opens conn now (session_step x) mark
 
   -- each step
   pub reaches : (x : t.Step) (mark : WorldMark) → IsReachable (step_of w x mark).1

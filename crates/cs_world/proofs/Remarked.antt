@@ -4,7 +4,7 @@ use Rattle.cs_world.specs.declared.reply.Reply.{Reply}
 use Rattle.cs_world.specs.declared.step.Step.{Step}
 use Rattle.cs_world.specs.Ample.{ample, tells_want}
 use Rattle.cs_world.specs.Isolation.{RefusesOnlyWhereTold}
-use Rattle.cs_world.specs.Lists.{IsStepList, reply_first, steps_of}
+use Rattle.cs_world.specs.Lists.{IsStepList, reply_before, steps_of}
 use Rattle.cs_world.specs.Marks.{WorldMark}
 use Rattle.cs_world.specs.Steps.{step_of}
 use Rattle.cs_world.specs.Worlds.{World}
@@ -44,7 +44,7 @@ same_steps : (w : World) (xs : List (Step × WorldMark)) → steps_of w (remarke
 same_steps w [] = refl
 same_steps w (x ∷ xs) =
     let next : World = (step_of w x.0 x.1).1 in
-    ap (λ (y : Reply × World). reply_first y.0 (steps_of y.1 (remarked next xs))) (same_step w x.0 x.1) ∙ ap (reply_first (step_of w x.0 x.1).0) (same_steps next xs)
+    ap (λ (y : Reply × World). reply_before y.0 (steps_of y.1 (remarked next xs))) (same_step w x.0 x.1) ∙ ap (reply_before (step_of w x.0 x.1).0) (same_steps next xs)
 
 all_told : (w : World) (xs : List (Step × WorldMark)) → RefusesOnlyWhereTold w (remarked w xs)
 all_told w [] = tt

@@ -15,7 +15,7 @@ use Rattle.cs_registry.specs.Keys.{Key}
 use Rattle.cs_registry.specs.Registries.{Registry}
 use Rattle.cs_registry.specs.Runs.{held_at}
 use Rattle.cs_session.specs.Sessions.{Awaited, Sess, blank, entry_at}
-use Rattle.cs_world.specs.Reachable.{Gave, HasAllThatIsNamed, RunIsReachable, awaits, waiting}
+use Rattle.cs_world.specs.Reachable.{Gave, HasAllThatIsNamed, IsRunOfReachable, awaits, waiting}
 use Rattle.cs_world.specs.Reaching.{IsMade}
 use Rattle.cs_world.specs.Worlds.{World, connection, with_both}
 use Rattle.cs_world.proofs.Judging.{IsSound}
@@ -135,7 +135,7 @@ module _ (w : World) (ok : HasAllThatIsNamed w) (conn : ℕ) (inside : conn < CO
   at_most_one true = omega arith
   at_most_one false = omega arith
 
-  run_by : (place : ℕ) (key : Key) (run' : Found RunOf) → Came w conn s' r' place key run' → RunIsReachable next place key run'
+  run_by : (place : ℕ) (key : Key) (run' : Found RunOf) → Came w conn s' r' place key run' → IsRunOfReachable next place key run'
   run_by place key run' (Stood run there fresh room more few) =
       let was = ok.runs place key run there in
       record {

@@ -100,14 +100,8 @@ fid_in (m.Stat fid) = fid
 fid_in (m.Wstat x) = x.fid
 
 pub freed_by : CallMessage → Option ℕ
-freed_by (m.Walk x) = None
-freed_by (m.Open x) = None
-freed_by (m.Create x) = None
-freed_by (m.Read x) = None
-freed_by (m.Write x) = None
 freed_by (m.Remove fid) = Some fid
-freed_by (m.Stat fid) = None
-freed_by (m.Wstat x) = None
+freed_by other = None
 
 abbrev open_in : Entry → Option ℕ
 open_in x = option_map (λ (f : FidOf Opened). f.state.open_number) (as_opened x)

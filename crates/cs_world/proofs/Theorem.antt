@@ -6,7 +6,6 @@ use Rattle.cs_plan.specs.Plans.{IsAllowedIn, set_in}
 use Rattle.cs_plan.specs.Scenes.{IsPlan, Scene, micros_of, order_in, state_at}
 use Rattle.cs_plan.specs.declared.recipe.Recipe.{Recipe}
 use Rattle.cs_plan.proofs.Picking.{all_at}
-use Rattle.cs_session.specs.Steps as c
 use Rattle.cs_tree_model.specs.Tree.{Tree}
 use Rattle.cs_world.specs.declared.reply.Reply.{Reply}
 use Rattle.cs_world.specs.declared.step.Step.{Step}
@@ -14,6 +13,7 @@ use Rattle.cs_world.specs.declared.step.Step.TheVariants as s
 use Rattle.cs_world.specs.Ample.{ample, tells_want}
 use Rattle.cs_world.specs.Isolation.{RefusesOnlyWhereTold}
 use Rattle.cs_world.specs.Lists.{IsStepList, steps_of}
+use Rattle.cs_world.specs.ConnectionSteps.{session_step}
 use Rattle.cs_world.specs.Marks.{WorldMark}
 use Rattle.cs_world.specs.Reachable.{IsReachable}
 use Rattle.cs_world.specs.Steps.{IsStep, step_of}
@@ -29,11 +29,7 @@ module _ (w : World) (ok : IsReachable w) where
   comes_to : (x : Step) (mark : WorldMark) → StepComesTo w x mark (step_of w x mark).0 (step_of w x mark).1
   comes_to (s.Publish number) mark = refl
   comes_to (s.Reload users) mark = refl
-  comes_to (s.Find conn message) mark = comes w ok conn 0 (c.FindStep message) mark
-  comes_to (s.Attach conn now) mark = comes w ok conn now c.AttachStep mark
-  comes_to (s.Call conn now message) mark = comes w ok conn now (c.CallStep message) mark
-  comes_to (s.Close conn now fid) mark = comes w ok conn now (c.CloseStep fid) mark
-  comes_to (s.Table conn change) mark = comes w ok conn 0 (c.Table change) mark
+  comes_to (s.On conn now x) mark = comes w ok conn now (session_step x) mark
 
   wants : (x : Step) (mark : WorldMark) → (tells_want (step_of w x mark).0 ≡ false → mark ≡ ample) → (tells_want (step_of w x mark).0 ≡ false) ↔ (mark ≡ ample)
   wants x mark told = (told, λ is. subst (λ (m : WorldMark). tells_want (step_of w x m).0 ≡ false) (sym is) (no_want w ok x))

@@ -1,15 +1,15 @@
 -- The users of a run stay those with which it was made.
-use Rattle.std.proofs.Common.{◌≡◌, ◌∙◌, ℕ, Bool, true, false, List, [], ◌∷◌, refl}
+use Rattle.std.proofs.Common.{◌≡◌, ◌∙◌, ℕ, Bool, true, false, List, [], ◌∷◌, Option, None, Some, refl}
 use Rattle.std.specs.Prelude.{nat_le, nat_lt}
 use Rattle.cs_journal.specs.Marks.{StepMark}
 use Rattle.cs_journal.specs.Runs.{RunOf, with_pass}
 use Rattle.cs_names.specs.declared.limits.TheConstants.{RUN_ATTACHES}
 use Rattle.cs_permit.specs.declared.call.AttachCall.{AttachCall}
 use Rattle.cs_permit.specs.declared.call.Call.{Call}
-use Rattle.cs_permit.specs.declared.call.Call.TheVariants.{Attach, Walk, Open, Create, Read, Write, Close, Remove, Stat, Wstat}
-use Rattle.cs_world.specs.declared.heard.Heard.{Heard}
+use Rattle.cs_permit.specs.declared.call.Call.TheVariants.{Attach}
+use Rattle.cs_world.specs.declared.run_call.RunCall.{RunCall}
 use Rattle.cs_world.specs.Marks.{RunMark, in_run, refuses_pass}
-use Rattle.cs_world.specs.Projections.{alone, call_alone}
+use Rattle.cs_world.specs.Projections.{alone, alone_by, attach_in, call_alone}
 use Rattle.cs_world.specs.Runs.{attached, called, run_step}
 use Rattle.cs_world.proofs.Judging.{judged, keeps_users}
 
@@ -30,19 +30,11 @@ module _ (run : RunOf) (now : ℕ) where
   attached_by call mark false true f e = rw (f, e) refl
   attached_by call mark false false f e = rw (f, e) (step_users (with_pass run) now run.passes (Attach call) (in_run mark))
 
-  served_users : (pass : ℕ) (call : Call) (mark : RunMark) → (call_alone run now pass call mark).1.users ≡ run.users
-  served_users pass (Attach c) mark = attached_by c mark (nat_le RUN_ATTACHES run.passes) (refuses_pass mark) refl refl
-  served_users pass (Walk c) mark = called_users run now pass (Walk c) (in_run mark)
-  served_users pass (Open c) mark = called_users run now pass (Open c) (in_run mark)
-  served_users pass (Create c) mark = called_users run now pass (Create c) (in_run mark)
-  served_users pass (Read c) mark = called_users run now pass (Read c) (in_run mark)
-  served_users pass (Write c) mark = called_users run now pass (Write c) (in_run mark)
-  served_users pass (Close c) mark = called_users run now pass (Close c) (in_run mark)
-  served_users pass (Remove c) mark = called_users run now pass (Remove c) (in_run mark)
-  served_users pass (Stat c) mark = called_users run now pass (Stat c) (in_run mark)
-  served_users pass (Wstat c) mark = called_users run now pass (Wstat c) (in_run mark)
+  served_by : (pass : ℕ) (call : Call) (mark : RunMark) (o : Option AttachCall) → (alone_by run now pass call mark o).1.users ≡ run.users
+  served_by pass call mark (Some attach) = attached_by attach mark (nat_le RUN_ATTACHES run.passes) (refuses_pass mark) refl refl
+  served_by pass call mark None = called_users run now pass call (in_run mark)
 
 -- whatever calls it was given
-pub alone_users : (run : RunOf) (xs : List (Heard × RunMark)) → (alone run xs).1.users ≡ run.users
+pub alone_users : (run : RunOf) (xs : List (RunCall × RunMark)) → (alone run xs).1.users ≡ run.users
 alone_users run [] = refl
-alone_users run (x ∷ xs) = alone_users (call_alone run x.0.now x.0.pass x.0.call x.1).1 xs ∙ served_users run x.0.now x.0.pass x.0.call x.1
+alone_users run (x ∷ xs) = alone_users (call_alone run x.0.now x.0.pass x.0.call x.1).1 xs ∙ served_by run x.0.now x.0.pass x.0.call x.1 (attach_in x.0.call)

@@ -29,7 +29,7 @@ given_run registry number mark =
     else option_map (λ tree. fresh_run tree registry.users) (state_at registry.scene number)
 
 abbrev pub find_answer : Result ℕ FindFault × Registry RunOf → PortAnswer × Registry RunOf
-find_answer outcome = (Found outcome.0, outcome.1)
+find_answer pair = (Found pair.0, pair.1)
 
 abbrev pub found_by : Registry RunOf → RunMark → Option Key → PortAnswer × Registry RunOf
 found_by registry mark None = (Found (Err Unpublished), registry)
@@ -43,10 +43,10 @@ with_run_at registry place run = record registry { runs = with_held registry.run
 
 abbrev pub attach_answer : Registry RunOf → ℕ → Result (ℕ × Answer) PassFault × RunOf
     → PortAnswer × Registry RunOf
-attach_answer registry place outcome = (Entered outcome.0, with_run_at registry place outcome.1)
+attach_answer registry place pair = (Entered pair.0, with_run_at registry place pair.1)
 
 abbrev pub call_answer : Registry RunOf → ℕ → Answer × RunOf → PortAnswer × Registry RunOf
-call_answer registry place outcome = (Got outcome.0, with_run_at registry place outcome.1)
+call_answer registry place pair = (Got pair.0, with_run_at registry place pair.1)
 
 -- the answer to a question where memory refuses that growth, and the registry then
 abbrev pub answered : Registry RunOf → Question → RunMark → PortAnswer × Registry RunOf

@@ -2,17 +2,17 @@
 use Rattle.std.specs.Prelude.{Option, ◌≡◌, ℕ, true, false, [], ◌∷◌, ◌++◌, None, Some}
 use Rattle.cs_names.specs.declared.rule_id.RuleId.{RuleId}
 use Rattle.cs_names.specs.declared.rule_id.RuleId.TheVariants.{L1}
-use Rattle.cs_permit.specs.Calls.{first}
+use Rattle.cs_permit.specs.Calls.{failing_rule}
 use Rattle.cs_permit.specs.declared.call.Call.{Call}
 use Rattle.cs_run.specs.declared.answer.Answer.{Answer}
-use Rattle.cs_run.specs.declared.answer.Answer.TheVariants as a
+use Rattle.cs_run.specs.declared.answer.Answer.TheVariants as answers
 use Rattle.cs_run.specs.declared.answer.Outcome.{Outcome}
-use Rattle.cs_run.specs.declared.answer.Outcome.TheVariants as o
+use Rattle.cs_run.specs.declared.answer.Outcome.TheVariants as outcomes
 use Rattle.cs_run.specs.Effects.{Left, effect_of, left}
 use Rattle.cs_run.specs.Opens.{released_if}
 use Rattle.cs_run.specs.Outcomes.{closes, takes_memory}
 use Rattle.cs_journal.specs.Calls.{ended, is_full}
-use Rattle.cs_journal.specs.Journals.{seen, turn_in}
+use Rattle.cs_journal.specs.Journals.{rules_view_of, turn_in}
 use Rattle.cs_journal.specs.Runs.{RunOf, state_of}
 
 -- a call was made: the journal has one entry more, the last, with how it ended; and the answer, the
@@ -29,8 +29,8 @@ pub record HasEntry (run : RunOf) (now pass : ℕ) (call : Call) (outcome : Outc
   pub passes : run'.passes ≡ run.passes
 
 -- the first rule that the call fails in the run, if any
-abbrev pub failing_rule : RunOf → Call → Option RuleId
-failing_rule run call = first (seen (state_of run)) call
+abbrev pub failing_rule_of : RunOf → Call → Option RuleId
+failing_rule_of run call = failing_rule (rules_view_of (state_of run)) call
 
 -- what a call that isn't granted leaves: the tree, and the opens but for the one that a close or a
 -- remove ends
@@ -39,28 +39,29 @@ not_granted run pass call answer =
     left (state_of run).tree (released_if (closes call) pass (state_of run).opens) answer
 
 -- one of five ends; that memory was refused `want` of the theorem says
-pub data EndsAs (run : RunOf) (now pass : ℕ) (call : Call) (answer : Answer) (run' : RunOf)
+pub data CallComesTo (run : RunOf) (now pass : ℕ) (call : Call) (answer : Answer) (run' : RunOf)
     : Type 0 where
   -- no room in the journal: nothing changes
-  Full : is_full (state_of run) pass call ≡ true → answer ≡ a.Denied L1 → run' ≡ run
-      → EndsAs run now pass call answer run'
+  Full : is_full (state_of run) pass call ≡ true → answer ≡ answers.Denied L1 → run' ≡ run
+      → CallComesTo run now pass call answer run'
   -- the entry isn't reserved, and the call is answered short: nothing changes
-  NoEntry : is_full (state_of run) pass call ≡ false
-      → ended (state_of run).opens pass call ≡ None → answer ≡ a.Short → run' ≡ run
-      → EndsAs run now pass call answer run'
+  ShortBefore : is_full (state_of run) pass call ≡ false
+      → ended (state_of run).opens pass call ≡ None → answer ≡ answers.Short → run' ≡ run
+      → CallComesTo run now pass call answer run'
   -- a rule fails, and this is the first
   Denied : (rule : RuleId) → is_full (state_of run) pass call ≡ false
-      → failing_rule run call ≡ Some rule
-      → HasEntry run now pass call (o.Denied rule)
-      (not_granted run pass call (a.Denied rule)) answer run'
-      → EndsAs run now pass call answer run'
+      → failing_rule_of run call ≡ Some rule
+      → HasEntry run now pass call (outcomes.Denied rule)
+      (not_granted run pass call (answers.Denied rule)) answer run'
+      → CallComesTo run now pass call answer run'
   -- no rule fails, and the call takes memory
-  Short : is_full (state_of run) pass call ≡ false → failing_rule run call ≡ None
-      → takes_memory (seen (state_of run)) (turn_in (state_of run) pass now) call ≡ true
-      → HasEntry run now pass call o.Short (not_granted run pass call a.Short) answer run'
-      → EndsAs run now pass call answer run'
+  Short : is_full (state_of run) pass call ≡ false → failing_rule_of run call ≡ None
+      → takes_memory (rules_view_of (state_of run)) (turn_in (state_of run) pass now) call ≡ true
+      → HasEntry run now pass call outcomes.Short
+      (not_granted run pass call answers.Short) answer run'
+      → CallComesTo run now pass call answer run'
   -- no rule fails, and the effect is that of the call
-  Granted : is_full (state_of run) pass call ≡ false → failing_rule run call ≡ None
-      → HasEntry run now pass call o.Granted
-      (effect_of (seen (state_of run)) (turn_in (state_of run) pass now) call) answer run'
-      → EndsAs run now pass call answer run'
+  Granted : is_full (state_of run) pass call ≡ false → failing_rule_of run call ≡ None
+      → HasEntry run now pass call outcomes.Granted
+      (effect_of (rules_view_of (state_of run)) (turn_in (state_of run) pass now) call) answer run'
+      → CallComesTo run now pass call answer run'

@@ -1,5 +1,6 @@
 -- Two groups of connections, and the steps of the first without those of the second.
-use Rattle.std.specs.Prelude.{◌≡◌, ℕ, ◌&&◌, not, nat_le, Bool, true, false, List, [], ◌∷◌, Option, None, filter, is_none, length, option_and_then, if◌then◌else◌}
+use Rattle.std.specs.Prelude.{◌≡◌, ℕ, ◌&&◌, not, nat_le, Bool, true, false, List, [], ◌∷◌, Option}
+use Rattle.std.specs.Prelude.{None, filter, is_none, length, option_and_then, if◌then◌else◌}
 use Rattle.std.specs.List.{list_any}
 use Rattle.std.specs.Option.{option_map_or}
 use Rattle.cs_names.specs.declared.limits.TheConstants.{RUNS}
@@ -10,21 +11,23 @@ use Rattle.cs_registry.specs.Naming.{key_in}
 use Rattle.cs_registry.specs.Registries.{Registry, is_published}
 use Rattle.cs_registry.specs.Runs.{place_of}
 use Rattle.cs_session.specs.declared.message.AttachMessage.{AttachMessage}
-use Rattle.cs_session.specs.Questions.{Question, Find, Enter, Ask}
-use Rattle.cs_session.specs.Steps as c
+use Rattle.cs_session.specs.Questions.{Question, Find}
+use Rattle.cs_session.specs.Steps.{Step as SessionStep, FindStep}
 use Rattle.cs_world.specs.declared.reply.Reply.{Reply}
 use Rattle.cs_world.specs.declared.step.Step.{Step}
+use Rattle.cs_world.specs.declared.step.Step.TheVariants.{On}
 use Rattle.cs_world.specs.Marks.{WorldMark}
-use Rattle.cs_world.specs.Projections.{of_step}
+use Rattle.cs_world.specs.ConnectionSteps.{session_step}
+use Rattle.cs_world.specs.Questions.{question_of_step}
 use Rattle.cs_world.specs.Steps.{step_of}
-use Rattle.cs_world.specs.Turning.{connection_step}
 use Rattle.cs_world.specs.Worlds.{World}
 
 -- ---- the steps of a group
 
 -- a step of a connection of the first group, a publish, or a reload
 abbrev pub is_first : (ℕ → Bool) → Step → Bool
-is_first first step = option_map_or (λ turn. first turn.conn) (connection_step step) true
+is_first first (On conn now step) = first conn
+is_first first other = true
 
 -- the steps of the first group, and their replies among those of all steps
 abbrev pub first_steps : (ℕ → Bool) → List (Step × WorldMark) → List (Step × WorldMark)
@@ -32,11 +35,11 @@ first_steps first marked = filter (λ one. is_first first one.0) marked
 
 abbrev pub first_replies : (ℕ → Bool) → List (Step × WorldMark) → List Reply → List Reply
 first_replies first [] replies = []
-first_replies first (marked ∷ others) [] = []
-first_replies first (marked ∷ others) (reply ∷ replies) =
-    if is_first first marked.0
-    then reply ∷ first_replies first others replies
-    else first_replies first others replies
+first_replies first (one ∷ rest) [] = []
+first_replies first (one ∷ rest) (reply ∷ replies) =
+    if is_first first one.0
+    then reply ∷ first_replies first rest replies
+    else first_replies first rest replies
 
 -- ---- the runs of a group
 
@@ -45,16 +48,14 @@ abbrev pub key_named : AttachMessage → Option Key
 key_named message =
     option_and_then (λ name. key_in name.0 name.1) (tree_name_in message.aname)
 
-abbrev pub key_found : c.Step → Option Key
-key_found (c.FindStep message) = key_named message
-key_found c.AttachStep = None
-key_found (c.CallStep message) = None
-key_found (c.CloseStep fid) = None
-key_found (c.Table change) = None
+abbrev pub key_found : SessionStep → Option Key
+key_found (FindStep message) = key_named message
+key_found other = None
 
 -- the key that a step names, if it is a find
 abbrev pub key_of : Step → Option Key
-key_of step = option_and_then (λ turn. key_found turn.step) (connection_step step)
+key_of (On conn now step) = key_found (session_step step)
+key_of other = None
 
 -- a find of the group names the key
 abbrev pub finds_key : (Step → Bool) → Key → Step × WorldMark → Bool
@@ -78,16 +79,15 @@ needs_room registry (Find state name) =
     (λ key. is_published registry key.number && is_none (place_of key registry.runs)
     && nat_le RUNS (length registry.runs))
     (key_in state name) false
-needs_room registry (Enter now place call) = false
-needs_room registry (Ask now place pass call) = false
+needs_room registry other = false
 
 -- a step asks such a question
 abbrev pub meets_limit : World → Step → WorldMark → Bool
 meets_limit world step mark =
-    list_any (needs_room world.registry) (of_step world (λ question. question ∷ []) step mark)
+    option_map_or (needs_room world.registry) (question_of_step world step mark) false
 
 abbrev pub NoneMeetsLimit : World → List (Step × WorldMark) → Type 0
 NoneMeetsLimit world [] = Unit {0}
-NoneMeetsLimit world (marked ∷ others) =
-    (meets_limit world marked.0 marked.1 ≡ false)
-    × NoneMeetsLimit (step_of world marked.0 marked.1).1 others
+NoneMeetsLimit world (one ∷ rest) =
+    (meets_limit world one.0 one.1 ≡ false)
+    × NoneMeetsLimit (step_of world one.0 one.1).1 rest

@@ -1,5 +1,6 @@
 -- Runs don't reach one another.
-use Rattle.std.specs.Prelude.{◌≡◌, ℕ, Bool, false, List, [], ◌∷◌, Option, None, Some, is_some, option_map, if◌then◌else◌}
+use Rattle.std.specs.Prelude.{◌≡◌, ℕ, Bool, false, List, [], ◌∷◌, Option, None, Some, is_some}
+use Rattle.std.specs.Prelude.{option_map, if◌then◌else◌}
 use Rattle.cs_journal.specs.Runs.{RunOf, fresh_run}
 use Rattle.cs_plan.specs.Scenes.{state_at}
 use Rattle.cs_registry.specs.Keys.{Key}
@@ -23,10 +24,10 @@ run_after world marked key = run_with_key (steps_of world marked).1.registry key
 -- no find of it was granted. Of steps from a world in which it has no run
 abbrev pub users_made_with : World → List (Step × WorldMark) → Key → Option (List Row)
 users_made_with world [] key = None
-users_made_with world (marked ∷ others) key =
-    if is_some (place_of key (step_of world marked.0 marked.1).1.registry.runs)
+users_made_with world (one ∷ rest) key =
+    if is_some (place_of key (step_of world one.0 one.1).1.registry.runs)
     then Some world.registry.users
-    else users_made_with (step_of world marked.0 marked.1).1 others key
+    else users_made_with (step_of world one.0 one.1).1 rest key
 
 -- each run that was found has the users that stood at its first granted find
 abbrev pub HaveUsersMadeWith : World → List (Step × WorldMark) → Type 0
@@ -36,15 +37,15 @@ HaveUsersMadeWith world marked = (key : Key) (run : RunOf) → run_after world m
 -- ---- a run is what reached it
 
 -- the run has the users that stood at its first granted find; and it is the fresh run of its state,
--- with these, after the calls alone that reached it, which are told what they are told there
+-- with these, after the calls alone that reached it, which are answered as they are there
 pub record IsAlone (world : World) (marked : List (Step × WorldMark)) (key : Key) (run : RunOf)
     : Type 0 where
   pub users : users_made_with world marked key ≡ Some run.users
-  pub fresh : RunOf
+  pub first_run : RunOf
   pub begins : option_map (λ tree. fresh_run tree run.users)
-      (state_at world.registry.scene key.number) ≡ Some fresh
-  pub answers : answers_of world marked key ≡ (alone fresh (projection_of world marked key)).0
-  pub ends : run ≡ (alone fresh (projection_of world marked key)).1
+      (state_at world.registry.scene key.number) ≡ Some first_run
+  pub answers : answers_of world marked key ≡ (alone first_run (projection_of world marked key)).0
+  pub ends : run ≡ (alone first_run (projection_of world marked key)).1
 
 -- ---- the same calls leave the same run
 
@@ -54,7 +55,7 @@ abbrev pub HaveSameUsers : World → List (Step × WorldMark) → List (Step × 
 HaveSameUsers world ones others key = (run other : RunOf) → run_after world ones key ≡ Some run
     → run_after world others key ≡ Some other → run.users ≡ other.users
 
--- what both lists put to the run of the key is told the same there, and where both found it, it is
+-- what both lists put to the run of the key is answered the same, and where both found it, it is
 -- the same run
 pub record AreSame (world : World) (ones others : List (Step × WorldMark)) (key : Key)
     : Type 0 where
@@ -74,7 +75,7 @@ pub record NoneReachesAnother (world : World) (marked : List (Step × WorldMark)
       → projection_of world marked key ≡ projection_of world others key
       → AreSame world marked others key
   -- of two groups of connections that find no run in common, where no find meets the limit of runs,
-  -- the first is told what it is told without the second
+  -- the first has the replies that it has without the second
   pub apart : (first : ℕ → Bool) → AreApart first marked → NoneMeetsLimit world marked
       → (steps_of world (first_steps first marked)).0
       ≡ first_replies first marked (steps_of world marked).0
@@ -84,12 +85,12 @@ pub record NoneReachesAnother (world : World) (marked : List (Step × WorldMark)
 -- memory refuses a growth only in steps whose replies tell it
 abbrev pub RefusesOnlyWhereTold : World → List (Step × WorldMark) → Type 0
 RefusesOnlyWhereTold world [] = Unit {0}
-RefusesOnlyWhereTold world (marked ∷ others) =
-    (tells_want (step_of world marked.0 marked.1).0 ≡ false → marked.1 ≡ ample)
-    × RefusesOnlyWhereTold (step_of world marked.0 marked.1).1 others
+RefusesOnlyWhereTold world (one ∷ rest) =
+    (tells_want (step_of world one.0 one.1).0 ≡ false → one.1 ≡ ample)
+    × RefusesOnlyWhereTold (step_of world one.0 one.1).1 rest
 
--- the steps have these replies and lead there, each with a mark, which is told of; and no run
--- reaches another
+-- the steps have these replies and lead there, each with a mark; memory refuses a growth only where
+-- the reply tells it; and no run reaches another
 pub record IsIsolated (world : World) (steps : List Step) (replies : List Reply) (after : World)
     : Type 0 where
   pub taken : IsStepList world steps replies after

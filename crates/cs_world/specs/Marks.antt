@@ -20,52 +20,34 @@ pub data WorldMark : Type 0 where
 
 abbrev pub refuses_users : WorldMark → Bool
 refuses_users NoUsers = true
-refuses_users NoState = false
-refuses_users NoKeeping = false
-refuses_users NoTable = false
-refuses_users (Below mark) = false
+refuses_users other = false
 
 abbrev pub refuses_state : WorldMark → Bool
-refuses_state NoUsers = false
 refuses_state NoState = true
-refuses_state NoKeeping = false
-refuses_state NoTable = false
-refuses_state (Below mark) = false
+refuses_state other = false
 
 abbrev pub refuses_keeping : WorldMark → Bool
-refuses_keeping NoUsers = false
-refuses_keeping NoState = false
 refuses_keeping NoKeeping = true
-refuses_keeping NoTable = false
-refuses_keeping (Below mark) = false
+refuses_keeping other = false
 
 abbrev pub refuses_table : WorldMark → Bool
-refuses_table NoUsers = false
-refuses_table NoState = false
-refuses_table NoKeeping = false
 refuses_table NoTable = true
-refuses_table (Below mark) = false
+refuses_table other = false
 
 -- what is left of it for the runs
 abbrev pub below : WorldMark → RunMark
-below NoUsers = InRun Ample
-below NoState = InRun Ample
-below NoKeeping = InRun Ample
-below NoTable = InRun Ample
 below (Below mark) = mark
+below other = InRun Ample
 
 abbrev pub refuses_run : RunMark → Bool
 refuses_run NoRun = true
-refuses_run NoPass = false
-refuses_run (InRun mark) = false
+refuses_run other = false
 
 abbrev pub refuses_pass : RunMark → Bool
-refuses_pass NoRun = false
 refuses_pass NoPass = true
-refuses_pass (InRun mark) = false
+refuses_pass other = false
 
 -- what is left of it for a call in a run
 abbrev pub in_run : RunMark → StepMark
-in_run NoRun = Ample
-in_run NoPass = Ample
 in_run (InRun mark) = mark
+in_run other = Ample

@@ -1,9 +1,10 @@
 -- What of a list of steps reaches one run, and that run alone.
-use Rattle.std.specs.Prelude.{ℕ, ◌==◌, nat_lt, Bool, true, false, List, [], ◌∷◌, ◌++◌, map, Option, option_and_then, Ok, Err, if◌then◌else◌}
+use Rattle.std.specs.Prelude.{ℕ, ◌==◌, Bool, true, false, List, [], ◌∷◌, ◌++◌, map, Option}
+use Rattle.std.specs.Prelude.{None, Some, option_and_then, Ok, Err, if◌then◌else◌}
 use Rattle.std.specs.Option.{option_map_or}
 use Rattle.cs_journal.specs.Marks.{Ample}
 use Rattle.cs_journal.specs.Runs.{RunOf}
-use Rattle.cs_names.specs.declared.limits.TheConstants.{CONNECTIONS}
+use Rattle.cs_permit.specs.declared.call.AttachCall.{AttachCall}
 use Rattle.cs_permit.specs.declared.call.Call.{Call}
 use Rattle.cs_permit.specs.declared.call.Call.TheVariants.{Attach}
 use Rattle.cs_permit.specs.declared.fault.FindFault.TheVariants as not_found
@@ -14,16 +15,15 @@ use Rattle.cs_registry.specs.Runs.{held_at, place_of}
 use Rattle.cs_run.specs.declared.answer.Answer.{Answer}
 use Rattle.cs_run.specs.declared.answer.Answer.TheVariants.{Short}
 use Rattle.cs_session.specs.Questions.{Question, Find, Enter, Ask, PortAnswer, Found, Entered, Got}
-use Rattle.cs_session.specs.Steps.{Front, Done, Asks, front_by}
-use Rattle.cs_world.specs.declared.heard.Heard.{Heard}
+use Rattle.cs_world.specs.declared.run_call.RunCall.{RunCall}
 use Rattle.cs_world.specs.declared.step.Step.{Step}
 use Rattle.cs_world.specs.Ample.{all_ample}
 use Rattle.cs_world.specs.Asking.{answered}
-use Rattle.cs_world.specs.Marks.{WorldMark, RunMark, InRun, below, in_run, refuses_table}
+use Rattle.cs_world.specs.Marks.{WorldMark, RunMark, InRun, below, in_run}
+use Rattle.cs_world.specs.Questions.{question_of_step}
 use Rattle.cs_world.specs.Runs.{attached, called}
 use Rattle.cs_world.specs.Steps.{step_of}
-use Rattle.cs_world.specs.Turning.{StepOn, connection_step}
-use Rattle.cs_world.specs.Worlds.{World, connection}
+use Rattle.cs_world.specs.Worlds.{World}
 
 -- the run of that key, if it was found
 abbrev pub run_with_key : Registry RunOf → Key → Option RunOf
@@ -48,7 +48,7 @@ answer_tells_want answer = false
 abbrev pub port_tells_want : PortAnswer → Bool
 port_tells_want (Found (Err not_found.Memory)) = true
 port_tells_want (Entered (Err no_pass.Memory)) = true
-port_tells_want (Entered (Ok pass)) = answer_tells_want pass.1
+port_tells_want (Entered (Ok entered)) = answer_tells_want entered.1
 port_tells_want (Got answer) = answer_tells_want answer
 port_tells_want answer = false
 
@@ -58,7 +58,7 @@ wanted answer mark = if port_tells_want answer then mark else InRun Ample
 
 -- what a question puts to the run of a key: an attach, or another call, with the growth that it
 -- wanted and memory refused, if any
-abbrev pub put_to : Registry RunOf → Key → Question → RunMark → List (Heard × RunMark)
+abbrev pub put_to : Registry RunOf → Key → Question → RunMark → List (RunCall × RunMark)
 put_to registry key (Find state name) mark = []
 put_to registry key (Enter now place call) mark =
     if stands_at registry key place
@@ -75,73 +75,67 @@ put_to registry key (Ask now place pass call) mark =
     ) ∷ []
     else []
 
--- and what it is answered there
+-- and what that is answered
 abbrev pub answers_there : Registry RunOf → Key → Question → RunMark → List PortAnswer
-answers_there registry key (Find state name) mark = []
-answers_there registry key (Enter now place call) mark =
-    if stands_at registry key place
-    then (answered registry (Enter now place call) mark).0 ∷ []
-    else []
-answers_there registry key (Ask now place pass call) mark =
-    if stands_at registry key place
-    then (answered registry (Ask now place pass call) mark).0 ∷ []
-    else []
+answers_there registry key question mark =
+    map (λ put. (answered registry question mark).0) (put_to registry key question mark)
 
--- what passes the connection's own rules is a question; of these are the questions of some kind
-abbrev pub of_front : {A : Type 0} → (Question → List A) → Front → List A
-of_front of (Done reply session) = []
-of_front of (Asks question) = of question
+-- what a step puts to it, by the question that it asks, if it asks one
+abbrev pub puts_of : World → Key → WorldMark → Option Question → List (RunCall × RunMark)
+puts_of world key mark asked =
+    option_map_or (λ question. put_to world.registry key question (below mark)) asked []
 
-abbrev pub of_turn : {A : Type 0} → World → (Question → List A) → WorldMark → StepOn → List A
-of_turn world of mark turn =
-    if nat_lt turn.conn CONNECTIONS
-    then of_front of
-    (front_by turn.now (connection world turn.conn) turn.step (refuses_table mark))
-    else []
-
-abbrev pub of_step : {A : Type 0} → World → (Question → List A) → Step → WorldMark → List A
-of_step world of step mark = option_map_or (of_turn world of mark) (connection_step step) []
+-- and what that is answered
+abbrev pub answers_by : World → Key → WorldMark → Option Question → List PortAnswer
+answers_by world key mark asked =
+    option_map_or (λ question. answers_there world.registry key question (below mark)) asked []
 
 -- the calls of a list of steps that reach the run of a key, each with the growth that it wanted and
 -- memory refused, if any
-abbrev pub projection_of : World → List (Step × WorldMark) → Key → List (Heard × RunMark)
+abbrev pub projection_of : World → List (Step × WorldMark) → Key → List (RunCall × RunMark)
 projection_of world [] key = []
-projection_of world (marked ∷ others) key =
-    of_step world (λ question. put_to world.registry key question (below marked.1))
-    marked.0 marked.1
-    ++ projection_of (step_of world marked.0 marked.1).1 others key
+projection_of world (one ∷ rest) key =
+    puts_of world key one.1 (question_of_step world one.0 one.1)
+    ++ projection_of (step_of world one.0 one.1).1 rest key
 
 -- these calls, whatever of them memory refused
-abbrev pub calls_of : List (Heard × RunMark) → List Heard
+abbrev pub calls_of : List (RunCall × RunMark) → List RunCall
 calls_of puts = map (λ put. put.0) puts
 
 -- the calls that steps put to the run of a key where memory refuses nothing
-abbrev pub calls_put : World → List Step → Key → List Heard
+abbrev pub calls_put : World → List Step → Key → List RunCall
 calls_put world steps key = calls_of (projection_of world (all_ample steps) key)
 
 -- what the calls of a list are answered
 abbrev pub answers_of : World → List (Step × WorldMark) → Key → List PortAnswer
 answers_of world [] key = []
-answers_of world (marked ∷ others) key =
-    of_step world (λ question. answers_there world.registry key question (below marked.1))
-    marked.0 marked.1
-    ++ answers_of (step_of world marked.0 marked.1).1 others key
+answers_of world (one ∷ rest) key =
+    answers_by world key one.1 (question_of_step world one.0 one.1)
+    ++ answers_of (step_of world one.0 one.1).1 rest key
 
 -- ---- that run alone
 
-abbrev pub answer_first : PortAnswer × RunOf → List PortAnswer × RunOf → List PortAnswer × RunOf
-answer_first one rest = (one.0 ∷ rest.0, rest.1)
+abbrev pub answer_before : PortAnswer × RunOf → List PortAnswer × RunOf → List PortAnswer × RunOf
+answer_before one rest = (one.0 ∷ rest.0, rest.1)
+
+-- the attach that a call is, if it is one
+abbrev pub attach_in : Call → Option AttachCall
+attach_in (Attach attach) = Some attach
+attach_in other = None
 
 -- a call on a run: an attach gets a pass, and any other has one
-abbrev pub call_alone : RunOf → ℕ → ℕ → Call → RunMark → PortAnswer × RunOf
-call_alone run now pass (Attach call) mark =
-    (Entered (attached run now call mark).0, (attached run now call mark).1)
-call_alone run now pass call mark =
+abbrev pub alone_by : RunOf → ℕ → ℕ → Call → RunMark → Option AttachCall → PortAnswer × RunOf
+alone_by run now pass call mark (Some attach) =
+    (Entered (attached run now attach mark).0, (attached run now attach mark).1)
+alone_by run now pass call mark None =
     (Got (called run now pass call (in_run mark)).0, (called run now pass call (in_run mark)).1)
 
+abbrev pub call_alone : RunOf → ℕ → ℕ → Call → RunMark → PortAnswer × RunOf
+call_alone run now pass call mark = alone_by run now pass call mark (attach_in call)
+
 -- the answers of a run to calls, and the run then
-abbrev pub alone : RunOf → List (Heard × RunMark) → List PortAnswer × RunOf
+abbrev pub alone : RunOf → List (RunCall × RunMark) → List PortAnswer × RunOf
 alone run [] = ([], run)
-alone run (marked ∷ others) =
-    answer_first (call_alone run marked.0.now marked.0.pass marked.0.call marked.1)
-    (alone (call_alone run marked.0.now marked.0.pass marked.0.call marked.1).1 others)
+alone run (one ∷ rest) =
+    answer_before (call_alone run one.0.now one.0.pass one.0.call one.1)
+    (alone (call_alone run one.0.now one.0.pass one.0.call one.1).1 rest)

@@ -1,5 +1,6 @@
 -- What is true of every world that steps lead to.
-use Rattle.std.specs.Prelude.{◌≡◌, ℕ, ◌+◌, ◌<◌, ◌≤◌, ◌==◌, Bool, true, false, filter, List, length, IsSome, IsSomeAnd, Some, slice_get}
+use Rattle.std.specs.Prelude.{◌≡◌, ℕ, ◌+◌, ◌<◌, ◌≤◌, ◌==◌, Bool, true, false, filter, List, length}
+use Rattle.std.specs.Prelude.{IsSome, IsSomeAnd, Some, slice_get}
 use Rattle.std.specs.Option.{option_map_or}
 use Rattle.cs_fids.specs.declared.entry.Entry.{Entry}
 use Rattle.cs_fids.specs.declared.entry.Entry.TheVariants as entry
@@ -19,7 +20,7 @@ use Rattle.cs_registry.specs.Registries.{Registry, is_published}
 use Rattle.cs_registry.specs.Runs.{held_at}
 use Rattle.cs_session.specs.Questions.{Question, Find, Enter, Ask}
 use Rattle.cs_session.specs.Sessions.{Awaited, Sess, entry_at}
-use Rattle.cs_session.specs.Steps as c
+use Rattle.cs_session.specs.Steps.{Step as SessionStep, Asks, front_by}
 use Rattle.cs_world.specs.Worlds.{World, connection}
 
 -- the run at a place awaits the connection's attach
@@ -37,21 +38,23 @@ Gave registry place pass = IsSomeAnd (held_at registry.runs place) (λ run. pass
 -- a run with its key: no more passes than finds, counting those that are still to come, and no more
 -- finds than a run has in its life; room in its journal, which is legal; and it began as the state
 -- of its number, which is published
-pub record RunIsReachable (world : World) (place : ℕ) (key : Key) (run : Found RunOf) : Type 0 where
-  pub attaches : run.held.passes + waiting place world.connections ≤ run.finds
-  pub few : run.finds ≤ RUN_ATTACHES
-  pub room : HasRoom (state_of run.held)
-  pub legal : IsLegal (first_state run.held) run.held.journal
+pub record IsRunOfReachable (world : World) (place : ℕ) (key : Key) (found : Found RunOf)
+    : Type 0 where
+  pub attaches : found.held.passes + waiting place world.connections ≤ found.finds
+  pub few : found.finds ≤ RUN_ATTACHES
+  pub room : HasRoom (state_of found.held)
+  pub legal : IsLegal (first_state found.held) found.held.journal
   pub published : is_published world.registry key.number ≡ true
-  pub fresh : state_at world.registry.scene key.number ≡ Some run.held.fresh
+  pub fresh : state_at world.registry.scene key.number ≡ Some found.held.fresh
 
 -- of each number of the plan it is kept whether its state is published; each run is so; a run that
 -- awaits an attach is there; and each fid has a run that is there, and a pass that it gave
 pub record HasAllThatIsNamed (world : World) : Type 0 where
   pub all : length world.connections ≡ CONNECTIONS
   pub states : length world.registry.published ≡ length world.registry.scene.plan
-  pub runs : (place : ℕ) (key : Key) (run : Found RunOf)
-      → slice_get world.registry.runs place ≡ Some (key, run) → RunIsReachable world place key run
+  pub runs : (place : ℕ) (key : Key) (found : Found RunOf)
+      → slice_get world.registry.runs place ≡ Some (key, found)
+      → IsRunOfReachable world place key found
   pub awaited : (conn : ℕ) (attach : Awaited) → (connection world conn).pending ≡ Some attach
       → IsSome (held_at world.registry.runs attach.run)
   pub fids : (conn fid : ℕ) (held : Entry) → entry_at (connection world conn) fid ≡ Some held
@@ -90,6 +93,7 @@ CanBeAsked registry (Ask now place pass call) =
 
 -- so can all that a connection asks
 abbrev pub AsksWhatCanBeAsked : World → ℕ → Type 0
-AsksWhatCanBeAsked world conn = (now : ℕ) (step : c.Step) (refused : Bool) (question : Question)
-    → c.front_by now (connection world conn) step refused ≡ c.Asks question
+AsksWhatCanBeAsked world conn =
+    (now : ℕ) (step : SessionStep) (refused : Bool) (question : Question)
+    → front_by now (connection world conn) step refused ≡ Asks question
     → CanBeAsked world.registry question

@@ -8,13 +8,13 @@ use Rattle.cs_session.specs.declared.reply.Reply.{Reply as SessionReply}
 use Rattle.cs_session.specs.declared.reply.Reply.TheVariants.{Error}
 use Rattle.cs_session.specs.Questions.{PortAnswer}
 use Rattle.cs_session.specs.Sessions.{Sess}
-use Rattle.cs_session.specs.Steps.{Front, Done, Asks, front_by, after}
-use Rattle.cs_session.specs.Steps as c
+use Rattle.cs_session.specs.Steps.{Step as SessionStep, Front, Done, Asks, front_by, after}
 use Rattle.cs_world.specs.declared.reply.Reply.{Reply}
 use Rattle.cs_world.specs.declared.reply.Reply.TheVariants.{Connection}
 use Rattle.cs_world.specs.declared.step.Step.{Step}
-use Rattle.cs_world.specs.declared.step.Step.TheVariants.{Publish, Reload, Find, Attach, Call, Close, Table}
+use Rattle.cs_world.specs.declared.step.Step.TheVariants.{Publish, Reload, On}
 use Rattle.cs_world.specs.Asking.{answered}
+use Rattle.cs_world.specs.ConnectionSteps.{session_step}
 use Rattle.cs_world.specs.Marks.{WorldMark, RunMark, below, refuses_table}
 use Rattle.cs_world.specs.Publishing.{published}
 use Rattle.cs_world.specs.Reloading.{reloaded}
@@ -24,23 +24,23 @@ use Rattle.cs_world.specs.Worlds.{World, connection, with_both}
 -- ---- a step of a connection
 
 abbrev pub replied : World → ℕ → Registry RunOf → SessionReply × Sess → Reply × World
-replied world conn registry outcome =
-    (Connection outcome.0, with_both world conn outcome.1 registry)
+replied world conn registry pair =
+    (Connection pair.0, with_both world conn pair.1 registry)
 
--- the connection goes on from what it is told
-abbrev pub continued_from : World → ℕ → c.Step → PortAnswer × Registry RunOf → Reply × World
+-- the connection goes on from the answer
+abbrev pub continued_from : World → ℕ → SessionStep → PortAnswer × Registry RunOf → Reply × World
 continued_from world conn step answer =
     replied world conn answer.1 (after (connection world conn) step answer.0)
 
 -- it answers by itself, or asks the runs
-abbrev pub from_front : World → ℕ → c.Step → RunMark → Front → Reply × World
+abbrev pub from_front : World → ℕ → SessionStep → RunMark → Front → Reply × World
 from_front world conn step mark (Done reply session) =
     replied world conn world.registry (reply, session)
 from_front world conn step mark (Asks question) =
     continued_from world conn step (answered world.registry question mark)
 
 -- out of turn where no connection has the number
-abbrev pub on_connection : World → ℕ → ℕ → c.Step → WorldMark → Reply × World
+abbrev pub on_connection : World → ℕ → ℕ → SessionStep → WorldMark → Reply × World
 on_connection world conn now step mark =
     if nat_lt conn CONNECTIONS
     then from_front world conn step (below mark)
@@ -50,17 +50,12 @@ on_connection world conn now step mark =
 -- ---- a step
 
 abbrev pub by_registry : World → Reply × Registry RunOf → Reply × World
-by_registry world outcome = (outcome.0, record world { registry = outcome.1 })
+by_registry world pair = (pair.0, record world { registry = pair.1 })
 
--- a find and a change of the table have no moment
 abbrev pub step_of : World → Step → WorldMark → Reply × World
 step_of world (Publish number) mark = by_registry world (published world.registry number mark)
 step_of world (Reload users) mark = by_registry world (reloaded world.registry users mark)
-step_of world (Find conn message) mark = on_connection world conn 0 (c.FindStep message) mark
-step_of world (Attach conn now) mark = on_connection world conn now c.AttachStep mark
-step_of world (Call conn now message) mark = on_connection world conn now (c.CallStep message) mark
-step_of world (Close conn now fid) mark = on_connection world conn now (c.CloseStep fid) mark
-step_of world (Table conn change) mark = on_connection world conn 0 (c.Table change) mark
+step_of world (On conn now step) mark = on_connection world conn now (session_step step) mark
 
 -- with some mark
 abbrev pub IsStep : World → Step → Reply → World → Type 0

@@ -6,38 +6,29 @@ use Rattle.cs_plan.specs.Plans.{IsAllowedIn}
 use Rattle.cs_plan.specs.Scenes.{Scene, micros_of, order_in, set_at}
 use Rattle.cs_registry.specs.declared.found.Found.{Found}
 use Rattle.cs_registry.specs.Keys.{Key}
-use Rattle.cs_session.specs.Steps as c
 use Rattle.cs_tree_model.specs.Tree.{Tree}
 use Rattle.cs_world.specs.declared.reply.Reply.{Reply}
 use Rattle.cs_world.specs.declared.step.Step.{Step}
-use Rattle.cs_world.specs.declared.step.Step.TheVariants.{Publish, Reload, Find, Attach, Call, Close, Table}
+use Rattle.cs_world.specs.declared.step.Step.TheVariants.{Publish, Reload, On}
 use Rattle.cs_world.specs.Ample.{ample, tells_want}
 use Rattle.cs_world.specs.Comes.{ConnectionStepComesTo}
+use Rattle.cs_world.specs.ConnectionSteps.{session_step}
 use Rattle.cs_world.specs.Lists.{IsStepList}
 use Rattle.cs_world.specs.Marks.{WorldMark, refuses_table}
 use Rattle.cs_world.specs.Publishing.{published}
-use Rattle.cs_world.specs.Reaching.{step_touches}
+use Rattle.cs_world.specs.Reaching.{run_asked_or_found_by}
 use Rattle.cs_world.specs.Reloading.{reloaded}
 use Rattle.cs_world.specs.Steps.{by_registry}
 use Rattle.cs_world.specs.Worlds.{World}
 
--- a publish and a reload are the registry's; any other step comes to what its connection comes to.
--- A find and a change of the table have no moment
+-- a publish and a reload are the registry's; any other step comes to what its connection comes to
 abbrev pub StepComesTo : World → Step → WorldMark → Reply → World → Type 0
 StepComesTo world (Publish number) mark reply after =
     (reply, after) ≡ by_registry world (published world.registry number mark)
 StepComesTo world (Reload users) mark reply after =
     (reply, after) ≡ by_registry world (reloaded world.registry users mark)
-StepComesTo world (Find conn message) mark reply after =
-    ConnectionStepComesTo world conn 0 (c.FindStep message) (refuses_table mark) reply after
-StepComesTo world (Attach conn now) mark reply after =
-    ConnectionStepComesTo world conn now c.AttachStep (refuses_table mark) reply after
-StepComesTo world (Call conn now message) mark reply after =
-    ConnectionStepComesTo world conn now (c.CallStep message) (refuses_table mark) reply after
-StepComesTo world (Close conn now fid) mark reply after =
-    ConnectionStepComesTo world conn now (c.CloseStep fid) (refuses_table mark) reply after
-StepComesTo world (Table conn change) mark reply after =
-    ConnectionStepComesTo world conn 0 (c.Table change) (refuses_table mark) reply after
+StepComesTo world (On conn now step) mark reply after =
+    ConnectionStepComesTo world conn now (session_step step) (refuses_table mark) reply after
 
 -- a step, in which memory refuses the growth of its mark, has that reply and leads there
 pub record StepIsJudged (world : World) (step : Step) (mark : WorldMark) (reply : Reply)
@@ -46,7 +37,7 @@ pub record StepIsJudged (world : World) (step : Step) (mark : WorldMark) (reply 
   -- the reply tells want of memory exactly where a growth was refused
   pub want : (tells_want reply ≡ false) ↔ (mark ≡ ample)
   -- no run changes but the one that it reaches or finds, and the scene stays
-  pub others : (place : ℕ) → step_touches world step mark ≢ Some place
+  pub others : (place : ℕ) → run_asked_or_found_by world step mark ≢ Some place
       → place < length world.registry.runs
       → slice_get after.registry.runs place ≡ slice_get world.registry.runs place
   pub scene : after.registry.scene ≡ world.registry.scene
@@ -55,10 +46,10 @@ pub record StepIsJudged (world : World) (step : Step) (mark : WorldMark) (reply 
 abbrev pub StepsAreJudged : World → List (Step × WorldMark) → List Reply → World → Type 0
 StepsAreJudged world [] [] after = after ≡ world
 StepsAreJudged world [] (reply ∷ replies) after = ⊥
-StepsAreJudged world (marked ∷ others) [] after = ⊥
-StepsAreJudged world (marked ∷ others) (reply ∷ replies) after =
-    (next : World) × StepIsJudged world marked.0 marked.1 reply next
-    × StepsAreJudged next others replies after
+StepsAreJudged world (one ∷ rest) [] after = ⊥
+StepsAreJudged world (one ∷ rest) (reply ∷ replies) after =
+    (next : World) × StepIsJudged world one.0 one.1 reply next
+    × StepsAreJudged next rest replies after
 
 -- of a list that was taken: its steps, in order, each with a mark
 pub record ListIsJudged (world : World) (steps : List Step) (replies : List Reply) (after : World)
@@ -77,6 +68,6 @@ pub record IsCrashState (scene : Scene) (number : ℕ) (tree : Tree) : Type 0 wh
 
 -- each run that is there began as the state of its number, which a crash may leave
 abbrev pub AllBegan : World → Type 0
-AllBegan world = (place : ℕ) (key : Key) (run : Found RunOf)
-    → slice_get world.registry.runs place ≡ Some (key, run)
-    → IsCrashState world.registry.scene key.number run.held.fresh
+AllBegan world = (place : ℕ) (key : Key) (found : Found RunOf)
+    → slice_get world.registry.runs place ≡ Some (key, found)
+    → IsCrashState world.registry.scene key.number found.held.fresh

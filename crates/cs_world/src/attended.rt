@@ -34,9 +34,9 @@ impl Model for AttendedRun {
 
     ghost coded = { run_code };
 
-    ghost view = { λ r. r.run };
+    ghost view = { λ attended. attended.run };
 
-    ghost invariant = { λ r. AreOf r.run r.passes.items };
+    ghost invariant = { λ attended. AreOf attended.run attended.passes.items };
 }
 
 impl Held for AttendedRun {

@@ -6,18 +6,18 @@ ghost use Rattle.cs_journal.specs.Runs.{RunOf};
 ghost use Rattle.cs_names.specs.declared.limits.TheConstants.{CONNECTIONS};
 ghost use Rattle.cs_permit.specs.declared.call.Call.{Call};
 ghost use Rattle.cs_plan.specs.Scenes.{IsPlan, Scene, order_in};
-ghost use Rattle.cs_session.specs.Steps as c;
+ghost use Rattle.cs_session.specs.Steps.{Step as SessionStep};
 ghost use Rattle.cs_users.specs.Rows.{Row};
 ghost use Rattle.cs_world.specs.declared.step.Step.{Step};
 ghost use Rattle.cs_world.specs.declared.step.Step.TheVariants.{Publish, Reload};
 ghost use Rattle.cs_world.specs.Ample.{ample, tells_want};
-ghost use Rattle.cs_world.specs.Comes.{ConnectionStepIsJudged};
+ghost use Rattle.cs_world.specs.Comes.{ConnectionStepComes};
 ghost use Rattle.cs_world.specs.Isolation.{HaveUsersMadeWith, NoneReachesAnother};
-ghost use Rattle.cs_world.specs.Ends.{EndsAs};
+ghost use Rattle.cs_world.specs.Ends.{CallComesTo};
 ghost use Rattle.cs_world.specs.Lists.{follow_on, steps_of};
 ghost use Rattle.cs_world.specs.Marks.{WorldMark};
 ghost use Rattle.cs_world.specs.Reachable.{AsksWhatCanBeAsked, IsReachable};
-ghost use Rattle.cs_world.specs.Reaching.{ChangesWhatItReaches, KeepsRuns, MakesState};
+ghost use Rattle.cs_world.specs.Reaching.{ChangesWhatItAsks, KeepsRuns, NewRunIsState};
 ghost use Rattle.cs_world.specs.Replies.{AreAnsweredBySteps, AreRepliedBySteps};
 ghost use Rattle.cs_world.specs.Runs.{run_step};
 ghost use Rattle.cs_world.specs.Steps.{on_connection, step_of};
@@ -31,7 +31,7 @@ ghost use Rattle.cs_world.specs.Worlds.{World, new_world};
 /// changes the tree.
 pub fn calls_are_judged()
     ensures { (run : RunOf) (now pass : ℕ) (call : Call) (mark : StepMark) →
-        EndsAs run now pass call (run_step run now pass call mark).0
+        CallComesTo run now pass call (run_step run now pass call mark).0
         (run_step run now pass call mark).1 }
 {}
 
@@ -39,8 +39,8 @@ pub fn calls_are_judged()
 /// run that it neither reaches nor finds it changes nothing, nor key nor count of finds; a publish
 /// and a reload change no run and no connection. No step changes the scene.
 pub fn only_what_is_reached_changes()
-    ensures step { (world : World) (conn now : ℕ) (step : c.Step) (mark : WorldMark) →
-        ChangesWhatItReaches world conn now step mark }
+    ensures step { (world : World) (conn now : ℕ) (step : SessionStep) (mark : WorldMark) →
+        ChangesWhatItAsks world conn now step mark }
     ensures publish { (world : World) (number : ℕ) (mark : WorldMark) →
         KeepsRuns world (step_of world (Publish number) mark).1 }
     ensures reload { (world : World) (users : List Row) (mark : WorldMark) →
@@ -52,8 +52,8 @@ pub fn only_what_is_reached_changes()
 /// A run that a step made is new, over the tree that is the state of its number, and that state is
 /// published.
 pub fn new_runs_are_states()
-    ensures { (world : World) (conn now : ℕ) (step : c.Step) (mark : WorldMark) →
-        MakesState world (on_connection world conn now step mark).1 }
+    ensures { (world : World) (conn now : ℕ) (step : SessionStep) (mark : WorldMark) →
+        NewRunIsState world (on_connection world conn now step mark).1 }
 {}
 
 /// A new world is reachable, and each step leads from a reachable world to a reachable one. In a
@@ -79,13 +79,13 @@ pub fn reachable_worlds()
 /// connection goes on from the answer.
 pub fn steps_are_judged()
     ensures { (world : World) → IsReachable world →
-        (conn now : ℕ) (step : c.Step) (mark : WorldMark) →
-        ConnectionStepIsJudged world conn now step mark }
+        (conn now : ℕ) (step : SessionStep) (mark : WorldMark) →
+        ConnectionStepComes world conn now step mark }
 {}
 
-/// What a message is told, and a hang-up, is the reply of the last of some steps of the world, all
-/// of that connection at that moment, taken one after the other; or no step was taken. Lists of
-/// steps, one after the other, are one list.
+/// The reply to a message, and to a hang-up, is that of the last of some steps of the world, all of
+/// that connection at that moment, taken one after the other; or no step was taken. Lists of steps,
+/// one after the other, are one list.
 pub fn messages_are_steps()
     ensures message { (world : World) (conn now : ℕ) → conn < CONNECTIONS →
         conn < length world.connections → AreRepliedBySteps world conn now }

@@ -3,8 +3,8 @@ ghost use Rattle.std.specs.Option.{ForSome};
 ghost use Rattle.std.specs.Prelude.{◌≡◌, ◌≢◌, ◌<◌, ◌≤◌, length, None, slice_set, ℕ, Option};
 ghost use Rattle.cs_names.specs.declared.limits.TheConstants.{CONNECTIONS};
 ghost use Rattle.cs_names.specs.declared.rule_id.RuleId.TheVariants.{S5};
-ghost use Rattle.cs_session.specs.declared.message.Message.TheVariants as m;
-ghost use Rattle.cs_session.specs.declared.reply.Reply.TheVariants as r;
+ghost use Rattle.cs_session.specs.declared.message.Message.TheVariants as message;
+ghost use Rattle.cs_session.specs.declared.reply.Reply.TheVariants as reply;
 ghost use Rattle.cs_session.specs.Ready.{IsAgreed};
 ghost use Rattle.cs_session.specs.Receipts.{tag_in, wire_of};
 ghost use Rattle.cs_session.specs.Sessions.{blank};
@@ -25,7 +25,7 @@ use std::borrow::CowStr;
 /// What a message is answered that comes while a run awaits its attach.
 fn out_of_turn(bytes: &[u8]) -> RMessage
     requires { 7 ≤ length bytes.now }
-    ensures value { r_view result ≡ wire_of (tag_in bytes.now) (r.Error S5) }
+    ensures value { r_view result ≡ wire_of (tag_in bytes.now) (reply.Error S5) }
     ensures fits { (msize : Option ℕ) → ForSome msize IsAgreed →
         FitsWithin (room_of msize) (r_view result) }
 {
@@ -49,7 +49,7 @@ impl World {
         ensures replied { (connection self.old conn).pending ≡ None →
             IsRepliedOn self.old conn now bytes.now (r_view result) self.new }
         ensures out_of_turn { (connection self.old conn).pending ≢ None →
-            (r_view result ≡ wire_of (tag_in bytes.now) (r.Error S5)) × (self.new ≡ self.old) }
+            (r_view result ≡ wire_of (tag_in bytes.now) (reply.Error S5)) × (self.new ≡ self.old) }
         ensures others { self.new.connections
             ≡ slice_set self.old.connections conn (connection self.new conn) }
         ensures reachable { IsReachable self.old → IsReachable self.new }
@@ -70,11 +70,12 @@ impl World {
     pub fn hang_up(&mut self, alloc: Global, conn: u32, now: u32) -> Reply
         requires connection { conn < CONNECTIONS }
         ensures closed { (connection self.old conn).pending ≡ None →
-            (result ≡ r.Closed) × IsAnsweredOn self.old conn now m.HangUp r.Closed self.new }
+            (result ≡ reply.Closed)
+            × IsAnsweredOn self.old conn now message.HangUp reply.Closed self.new }
         ensures ended { (connection self.old conn).pending ≡ None →
             connection self.new conn ≡ blank None }
         ensures out_of_turn { (connection self.old conn).pending ≢ None →
-            (result ≡ r.Error S5) × (self.new ≡ self.old) }
+            (result ≡ reply.Error S5) × (self.new ≡ self.old) }
         ensures others { self.new.connections
             ≡ slice_set self.old.connections conn (connection self.new conn) }
         ensures reachable { IsReachable self.old → IsReachable self.new }

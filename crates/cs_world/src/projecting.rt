@@ -2,18 +2,16 @@
 ghost use Rattle.std.specs.Prelude.{◌≡◌, IfOk, length};
 ghost use Rattle.std.specs.Arc.{arc_value};
 ghost use Rattle.cs_names.specs.declared.limits.TheConstants.{CONNECTIONS};
-ghost use Rattle.cs_world.specs.Marks.{WorldMark};
-ghost use Rattle.cs_world.specs.Noting.{IsStart, Notes, puts_in, world_in};
-ghost use Rattle.cs_world.specs.Projections.{calls_put, of_step, of_turn};
-ghost use Rattle.cs_world.specs.Steps.{on_connection, step_of};
-ghost use Rattle.cs_world.specs.Turns.{step_in};
+ghost use Rattle.cs_world.specs.declared.step.Step.TheVariants.{On};
+ghost use Rattle.cs_world.specs.Noting.{IsStart, NotesStep, world_in};
+ghost use Rattle.cs_world.specs.Projections.{calls_put};
 ghost use Rattle.cs_world.specs.Worlds.{new_world};
 
-use crate::heard::Heard;
 use crate::reply::Reply;
+use crate::run_call::RunCall;
 use crate::runs::Runs;
-use crate::step::Step;
-use crate::taking::{ConnectionStep, take};
+use crate::step::{ConnectionStep, Step};
+use crate::taking::take;
 use crate::watched::WatchedRuns;
 use crate::world::{World, blanks};
 use cs_names::{RuleId, RunName};
@@ -46,7 +44,7 @@ impl WatchedWorld {
             watched: WatchedRuns {
                 runs: Runs { states },
                 key,
-                heard: Vec::new(alloc),
+                calls: Vec::new(alloc),
                 is_short: false,
             },
             sessions: blanks(alloc)?,
@@ -57,35 +55,25 @@ impl WatchedWorld {
     fn step(&mut self, alloc: Global, step: Step) -> Reply
         requires all { length self.old.sessions.items ≡ CONNECTIONS }
         ensures all { length self.new.sessions.items ≡ CONNECTIONS }
-        ensures notes { (mark : WorldMark) × Notes self.old self.new result
-            (step_of (world_in self.old) step mark)
-            (of_step (world_in self.old) (puts_in self.old mark) step mark) }
+        ensures notes { NotesStep self.old step result self.new }
     {
-        let (conn, now, turn) = match step {
-            Step::Publish(number) => return self.watched.runs.publish(alloc, number),
-            Step::Reload(users) => return self.watched.runs.reload(alloc, users),
-            Step::Find { conn, message } => (conn, 0, ConnectionStep::Find(message)),
-            Step::Attach { conn, now } => (conn, now, ConnectionStep::Attach),
-            Step::Call { conn, now, message } => (conn, now, ConnectionStep::Call(message)),
-            Step::Close { conn, now, fid } => (conn, now, ConnectionStep::Close(fid)),
-            Step::Table { conn, change } => (conn, 0, ConnectionStep::Table(change)),
-        };
-        self.take(alloc, conn, now, turn)
+        match step {
+            Step::Publish(number) => self.watched.runs.publish(alloc, number),
+            Step::Reload(users) => self.watched.runs.reload(alloc, users),
+            Step::On { conn, now, step } => self.take(alloc, conn, now, step),
+        }
     }
 
     /// Takes a step of a connection.
-    fn take(&mut self, alloc: Global, conn: u32, now: u32, turn: ConnectionStep) -> Reply
+    fn take(&mut self, alloc: Global, conn: u32, now: u32, step: ConnectionStep) -> Reply
         requires all { length self.old.sessions.items ≡ CONNECTIONS }
         ensures all { length self.new.sessions.items ≡ CONNECTIONS }
-        ensures notes { (mark : WorldMark) × Notes self.old self.new result
-            (on_connection (world_in self.old) conn now (step_in turn) mark)
-            (of_turn (world_in self.old) (puts_in self.old mark) mark
-            (record { conn = conn; now = now; step = step_in turn })) }
+        ensures notes { NotesStep self.old (On conn now step) result self.new }
     {
         let Some(session) = self.sessions.get_mut(conn as usize) else {
             return Reply::Connection(cs_session::Reply::Error(RuleId::S5));
         };
-        Reply::Connection(take(alloc, session, &mut self.watched, now, turn))
+        Reply::Connection(take(alloc, session, &mut self.watched, now, step))
     }
 }
 
@@ -111,8 +99,8 @@ impl World {
         steps: &[Step],
         number: u32,
         name: &RunName,
-    ) -> Result<Vec<Heard>, AllocError>
-        ensures { IfOk result (λ heard. heard.items
+    ) -> Result<Vec<RunCall>, AllocError>
+        ensures { IfOk result (λ calls. calls.items
             ≡ calls_put (new_world self.now.registry.scene self.now.registry.users) steps.now
             (record { number = number; name = name.now })) }
     {
@@ -126,6 +114,6 @@ impl World {
         if world.watched.is_short {
             return Err(AllocError);
         }
-        Ok(world.watched.heard)
+        Ok(world.watched.calls)
     }
 }

@@ -27,7 +27,7 @@ impl Model for Runs {
 
     ghost coded = { Prim.hlevel (codes, run_code) };
 
-    ghost view = { λ r. r.states };
+    ghost view = { λ runs. runs.states };
 }
 
 impl Runs {
@@ -68,7 +68,7 @@ impl Runs {
 impl Port for Runs {
     ghost use Rattle.cs_world.specs.Asking.{IsGiven};
 
-    ghost gives = { λ old question told new. IsGiven old question told new };
+    ghost gives = { λ old question answer new. IsGiven old question answer new };
 
     fn find(&mut self, alloc: Global, name: &TreeName) -> Result<u32, FindFault> {
         let Some(key) = RunKey::named(name) else {

@@ -5,40 +5,49 @@ use cs_session::{AttachMessage, CallMessage, TableStep};
 use cs_users::Users;
 use std::alloc::{AllocError, Global};
 
-/// A step: of what publishes states or loads users, or of a connection, by its number. Moments are
-/// seconds since 1970.
+/// What a connection does.
+#[derive(Debug, Drop)]
+pub enum ConnectionStep {
+    /// The run of an attach is found, which then awaits it (attach(5)).
+    Find(AttachMessage),
+    /// The user of that find is attached to its run (attach(5)).
+    Attach,
+    /// A call on a fid's run.
+    Call(CallMessage),
+    /// The open fid of that number is closed (clunk(5)).
+    Close(u32),
+    /// The connection's own table is changed.
+    Table(TableStep),
+}
+
+impl ConnectionStep {
+    /// The same step again.
+    fn try_clone(&self, alloc: Global) -> Result<ConnectionStep, AllocError>
+        ensures { IfOk result (λ copy. copy ≡ self.now) }
+    {
+        Ok(match self {
+            ConnectionStep::Find(message) => ConnectionStep::Find(message.try_clone()?),
+            ConnectionStep::Attach => ConnectionStep::Attach,
+            ConnectionStep::Call(message) => ConnectionStep::Call(message.try_clone(alloc)?),
+            ConnectionStep::Close(fid) => ConnectionStep::Close(*fid),
+            ConnectionStep::Table(change) => ConnectionStep::Table(change.try_clone()?),
+        })
+    }
+}
+
+/// A step: of what publishes states or loads users, or of a connection.
 #[derive(Debug, Drop)]
 pub enum Step {
     /// The state of that number is made and published.
     Publish(u32),
     /// Another list of users is loaded: the runs that are made from then on have it.
     Reload(Users),
-    /// The run of an attach is found, which then awaits it (attach(5)).
-    Find {
-        conn: u32,
-        message: AttachMessage,
-    },
-    /// The user of that find is attached to its run (attach(5)).
-    Attach {
+    /// What the connection of that number does at that moment, in seconds since 1970. The moment of
+    /// a find, and of a change of the table, counts for nothing.
+    On {
         conn: u32,
         now: u32,
-    },
-    /// A call on a fid's run.
-    Call {
-        conn: u32,
-        now: u32,
-        message: CallMessage,
-    },
-    /// An open fid is closed (clunk(5)).
-    Close {
-        conn: u32,
-        now: u32,
-        fid: u32,
-    },
-    /// The connection's own table is changed.
-    Table {
-        conn: u32,
-        change: TableStep,
+        step: ConnectionStep,
     },
 }
 
@@ -50,27 +59,10 @@ impl Step {
         Ok(match self {
             Step::Publish(number) => Step::Publish(*number),
             Step::Reload(users) => Step::Reload(users.try_clone(alloc)?),
-            Step::Find { conn, message } => Step::Find {
-                conn: *conn,
-                message: message.try_clone()?,
-            },
-            Step::Attach { conn, now } => Step::Attach {
+            Step::On { conn, now, step } => Step::On {
                 conn: *conn,
                 now: *now,
-            },
-            Step::Call { conn, now, message } => Step::Call {
-                conn: *conn,
-                now: *now,
-                message: message.try_clone(alloc)?,
-            },
-            Step::Close { conn, now, fid } => Step::Close {
-                conn: *conn,
-                now: *now,
-                fid: *fid,
-            },
-            Step::Table { conn, change } => Step::Table {
-                conn: *conn,
-                change: change.try_clone()?,
+                step: step.try_clone(alloc)?,
             },
         })
     }

@@ -1,19 +1,10 @@
 //! Steps of a connection over the runs.
 ghost use Rattle.cs_session.specs.Steps.{IsTaken};
-ghost use Rattle.cs_world.specs.Turns.{step_in};
+ghost use Rattle.cs_world.specs.ConnectionSteps.{session_step};
 
-use cs_session::{AttachMessage, CallMessage, Port, Reply, Session, TableStep};
+use crate::step::ConnectionStep;
+use cs_session::{Port, Reply, Session};
 use std::alloc::Global;
-
-/// A step of a connection.
-#[derive(Drop)]
-pub(crate) enum ConnectionStep {
-    Find(AttachMessage),
-    Attach,
-    Call(CallMessage),
-    Close(u32),
-    Table(TableStep),
-}
 
 /// Takes a step of a connection at that moment, over the runs that are its port.
 pub(crate) fn take<P: Port>(
@@ -21,11 +12,12 @@ pub(crate) fn take<P: Port>(
     session: &mut Session,
     runs: &mut P,
     now: u32,
-    turn: ConnectionStep,
+    step: ConnectionStep,
 ) -> Reply
-    ensures { IsTaken P.gives now session.old runs.old (step_in turn) result session.new runs.new }
+    ensures { IsTaken P.gives now session.old runs.old (session_step step) result session.new
+        runs.new }
 {
-    match turn {
+    match step {
         ConnectionStep::Find(message) => session.find_step(alloc, runs, now, message),
         ConnectionStep::Attach => session.attach_step(alloc, runs, now),
         ConnectionStep::Call(message) => session.call_step(alloc, runs, now, message),

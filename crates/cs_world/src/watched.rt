@@ -2,9 +2,9 @@
 ghost use Rattle.std.specs.Prelude.{◌≡◌, false, IfOk};
 ghost use Rattle.cs_permit.specs.declared.call.Call.TheVariants.{Attach};
 ghost use Rattle.cs_world.specs.Projections.{stands_at};
-ghost use Rattle.cs_world.specs.Watching.{Hears, HearsAttach, HearsCall};
+ghost use Rattle.cs_world.specs.Watching.{NotesAttach, NotesCall, NotesOne};
 
-use crate::heard::Heard;
+use crate::run_call::RunCall;
 use crate::runs::Runs;
 use cs_names::Text;
 use cs_permit::{AttachCall, Call, TreeName};
@@ -19,7 +19,7 @@ use std::alloc::{AllocError, Global};
 pub(crate) struct WatchedRuns {
     pub(crate) runs: Runs,
     pub(crate) key: RunKey,
-    pub(crate) heard: Vec<Heard>,
+    pub(crate) calls: Vec<RunCall>,
     pub(crate) is_short: bool,
 }
 
@@ -35,16 +35,16 @@ impl WatchedRuns {
     }
 
     /// Notes a call that reached the run.
-    fn hear(&mut self, pass: u32, now: u32, call: Result<Call, AllocError>)
+    fn note(&mut self, pass: u32, now: u32, call: Result<Call, AllocError>)
         ensures runs { self.new.runs ≡ self.old.runs }
         ensures key { self.new.key ≡ self.old.key }
-        ensures heard { self.new.is_short ≡ false →
-            Hears self.old.heard.items self.old.is_short pass now call self.new.heard.items }
+        ensures noted { self.new.is_short ≡ false →
+            NotesOne self.old.calls.items self.old.is_short pass now call self.new.calls.items }
     {
         match call {
             Ok(call) => {
-                let heard = Heard { pass, now, call };
-                if self.heard.push(heard).is_err() {
+                let note = RunCall { pass, now, call };
+                if self.calls.push(note).is_err() {
                     self.is_short = true;
                 }
             }
@@ -53,21 +53,21 @@ impl WatchedRuns {
     }
 
     /// Notes a call, if it reaches the run.
-    fn hear_call(&mut self, alloc: Global, reaches: bool, pass: u32, now: u32, call: &Call)
+    fn note_call(&mut self, alloc: Global, reaches: bool, pass: u32, now: u32, call: &Call)
         ensures runs { self.new.runs ≡ self.old.runs }
         ensures key { self.new.key ≡ self.old.key }
-        ensures heard { self.new.is_short ≡ false →
-            HearsCall self.old.heard.items self.old.is_short reaches pass now call.now
-            self.new.heard.items }
+        ensures noted { self.new.is_short ≡ false →
+            NotesCall self.old.calls.items self.old.is_short reaches pass now call.now
+            self.new.calls.items }
     {
         if reaches {
-            self.hear(pass, now, call.try_clone(alloc));
+            self.note(pass, now, call.try_clone(alloc));
         }
     }
 
     /// Notes an attach that got a pass, if it reaches the run. One that got none is taken for want
     /// of memory.
-    fn hear_attach(
+    fn note_attach(
         &mut self,
         reaches: bool,
         now: u32,
@@ -76,13 +76,13 @@ impl WatchedRuns {
     )
         ensures runs { self.new.runs ≡ self.old.runs }
         ensures key { self.new.key ≡ self.old.key }
-        ensures heard { self.new.is_short ≡ false →
-            HearsAttach self.old.heard.items self.old.is_short reaches now call entered.now
-            self.new.heard.items }
+        ensures noted { self.new.is_short ≡ false →
+            NotesAttach self.old.calls.items self.old.is_short reaches now call entered.now
+            self.new.calls.items }
     {
         if reaches {
             match entered {
-                Ok((pass, _)) => self.hear(*pass, now, call),
+                Ok((pass, _)) => self.note(*pass, now, call),
                 Err(_) => self.is_short = true,
             }
         }
@@ -92,7 +92,7 @@ impl WatchedRuns {
 impl Port for WatchedRuns {
     ghost use Rattle.cs_world.specs.Watching.{IsWatched};
 
-    ghost gives = { λ old question told new. IsWatched old question told new };
+    ghost gives = { λ old question answer new. IsWatched old question answer new };
 
     fn find(&mut self, alloc: Global, name: &TreeName) -> Result<u32, FindFault> {
         self.runs.find(alloc, name)
@@ -108,13 +108,13 @@ impl Port for WatchedRuns {
         let reaches = self.stands_at(run);
         let call = attach_of(&user);
         let entered = self.runs.attach(alloc, now, run, user);
-        self.hear_attach(reaches, now, call, &entered);
+        self.note_attach(reaches, now, call, &entered);
         entered
     }
 
     fn call(&mut self, alloc: Global, now: u32, run: u32, pass: u32, call: Call) -> Answer {
         let reaches = self.stands_at(run);
-        self.hear_call(alloc, reaches, pass, now, &call);
+        self.note_call(alloc, reaches, pass, now, &call);
         self.runs.call(alloc, now, run, pass, call)
     }
 }

@@ -77,20 +77,28 @@ fn takes_bytes(tree: &PlainTree, number: u64) -> bool
     }
 }
 
+/// Adds the names of so many directories, each in the one before.
+fn push_names(alloc: Global, names: &mut Vec<Name>, count: u64) -> Option<()> {
+    for depth in 1..count.saturating_add(1) {
+        names.push(name(alloc, depth)?).ok()?;
+    }
+    Some(())
+}
+
 impl ByTree {
     fn of(alloc: Global, kind: Kind, repeats: u64) -> Option<ByTree> {
         let mut names = Vec::new(alloc);
         if let Kind::Walks(count) = kind {
-            for depth in 1..count.saturating_add(1) {
-                names.push(name(alloc, depth)?).ok()?;
-            }
+            push_names(alloc, &mut names, count)?;
         }
+        let user = user(alloc)?;
+        let bytes = vec![in alloc; 9u8; BLOCK].ok()?;
         Some(ByTree {
             tree: tree(alloc)?,
             kind,
             names,
-            user: user(alloc)?,
-            bytes: vec![in alloc; 9u8; BLOCK].ok()?,
+            user,
+            bytes,
             repeats,
         })
     }
@@ -146,9 +154,11 @@ impl Work for ByTree {
 }
 
 fn by_call(alloc: Global, kind: Kind, repeats: u64) -> Option<ByCall> {
+    let call = kind.call(alloc)?;
+    let users = users(alloc)?;
     Some(ByCall {
-        run: CountedRun::new(alloc, tree(alloc)?, users(alloc)?),
-        call: kind.call(alloc)?,
+        run: CountedRun::new(alloc, tree(alloc)?, users),
+        call,
         repeats,
     })
 }

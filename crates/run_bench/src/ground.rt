@@ -62,8 +62,9 @@ impl Ground {
 
     /// A run over it that keeps no journal.
     pub fn plain(&self, alloc: Global) -> Option<CountedRun<Overlay<PlainTree>>> {
+        let users = users(alloc)?;
         let tree = Overlay::over(alloc, self.lower.clone().ok()?);
-        Some(CountedRun::new(alloc, tree, users(alloc)?))
+        Some(CountedRun::new(alloc, tree, users))
     }
 }
 

@@ -76,19 +76,32 @@ fn take_turns(
     let Some(ground) = Ground::level(alloc) else {
         return Ok(None);
     };
-    let Some(mut plain) = ground.plain(alloc) else {
-        return Ok(None);
-    };
+    match ground.plain(alloc) {
+        Some(mut plain) => take_each(rt, &ground, &mut plain, kind, count, runs),
+        None => Ok(None),
+    }
+}
+
+/// The same over that ground. What is let go at each way out is a side at most.
+fn take_each(
+    rt: &(impl Clock + AllocGlobal),
+    ground: &Ground,
+    plain: &mut CountedRun<Overlay<PlainTree>>,
+    kind: Kind,
+    count: u64,
+    runs: u64,
+) -> io::Result<Option<(Total, Total)>> {
+    let alloc = rt.alloc();
     let mut totals = (Total::new(), Total::new());
     for run in 0..runs {
-        let Some(side) = Side::fresh(alloc, &ground) else {
+        let Some(side) = Side::fresh(alloc, ground) else {
             return Ok(None);
         };
         if run == 1 {
             totals = (Total::new(), Total::new());
         }
         totals.0.time(rt, &mut Stepping { side, kind, count })?;
-        let run = &mut plain;
+        let run = &mut *plain;
         totals.1.time(rt, &mut Alone { run, kind, count })?;
     }
     Ok(Some(totals))

@@ -1,6 +1,6 @@
 //! Messages beside many open fids, and the end of a connection that has them.
 
-use crate::messages::{ask, spelled, walk};
+use crate::messages::{ask, push, walk};
 use crate::sides::ToWorld;
 use cs_bench::{Row, Work, compare};
 use cs_session::Reply;
@@ -31,21 +31,27 @@ fn open(alloc: Global, side: &mut ToWorld, fid: u32) -> Option<()> {
     ask(alloc, &mut side.world, open, &mut side.out)
 }
 
+fn open_each(alloc: Global, side: &mut ToWorld, fids: u32) -> Option<()> {
+    for fid in FIRST..FIRST.saturating_add(fids) {
+        open(alloc, side, fid)?;
+    }
+    Some(())
+}
+
+/// Opens the fids, and puts the messages that are timed in the place of the first ones.
+fn prepare(alloc: Global, side: &mut ToWorld, fids: u32) -> Option<()> {
+    open_each(alloc, side, fids)?;
+    side.messages.clear();
+    push(alloc, &mut side.messages, walk(alloc, 2, 4, None))?;
+    let open = TBody::Open { fid: 4, mode: 0 };
+    push(alloc, &mut side.messages, Some(open))?;
+    push(alloc, &mut side.messages, Some(TBody::Clunk { fid: 4 }))
+}
+
 /// A walk to the file, an open and a clunk of it, in a world with so many open fids beside.
 fn crowd(alloc: Global, fids: u32, repeats: u64) -> Option<ToWorld> {
     let mut side = ToWorld::of(alloc, 0, repeats)?;
-    for fid in FIRST..FIRST.saturating_add(fids) {
-        open(alloc, &mut side, fid)?;
-    }
-    let mut messages = Vec::new(alloc);
-    for body in [
-        walk(alloc, 2, 4, None)?,
-        TBody::Open { fid: 4, mode: 0 },
-        TBody::Clunk { fid: 4 },
-    ] {
-        messages.push(spelled(alloc, body)?).ok()?;
-    }
-    side.messages = messages;
+    prepare(alloc, &mut side, fids)?;
     Some(side)
 }
 

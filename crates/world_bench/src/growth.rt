@@ -49,6 +49,14 @@ fn find_runs(alloc: Global, side: &mut ToWorld, states: u32, runs: u32) -> u32 {
     found
 }
 
+/// Begins the other sessions, and attaches on them: to how many runs.
+fn begin_and_find(alloc: Global, side: &mut ToWorld, states: u32, runs: u32) -> u32 {
+    match begin_others(alloc, side) {
+        Some(()) => find_runs(alloc, side, states, runs),
+        None => 0,
+    }
+}
+
 /// A world of one state; one of all states of a trace; one of these with many runs.
 #[derive(Drop)]
 struct Worlds {
@@ -64,17 +72,19 @@ fn make_worlds(rt: &(impl Print + AllocGlobal), timed: bool) -> Option<Worlds> {
     } else {
         (18, 63, 1)
     };
-    let small = ToWorld::of(alloc, 0, repeats)?;
-    let states = ToWorld::of(alloc, creats, repeats)?;
+    let small = ToWorld::of(alloc, 0, repeats);
+    let states = ToWorld::of(alloc, creats, repeats);
     let mut runs = ToWorld::of(alloc, creats, repeats)?;
-    begin_others(alloc, &mut runs)?;
-    let found = find_runs(alloc, &mut runs, creats, count);
+    let found = begin_and_find(alloc, &mut runs, creats, count);
     let _told = println!(rt; "runs beside: {found}");
-    Some(Worlds {
-        small,
-        states,
-        runs,
-    })
+    match (small, states) {
+        (Some(small), Some(states)) => Some(Worlds {
+            small,
+            states,
+            runs,
+        }),
+        _ => None,
+    }
 }
 
 /// Does a work among many states or runs, beside the same among one of each.

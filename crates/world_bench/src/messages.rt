@@ -72,20 +72,26 @@ pub fn attach(alloc: Global, fid: u32, aname: &str) -> Option<TBody> {
     })
 }
 
+/// Adds a message's bytes.
+pub fn push(alloc: Global, all: &mut Vec<Vec<u8>>, body: Option<TBody>) -> Option<()> {
+    let bytes = spelled(alloc, body?)?;
+    all.push(bytes).ok()
+}
+
+/// Nothing is let go at its ways out.
+fn push_opening(alloc: Global, all: &mut Vec<Vec<u8>>) -> Option<()> {
+    push(alloc, all, version(alloc))?;
+    push(alloc, all, attach(alloc, 0, "0/x"))?;
+    push(alloc, all, walk(alloc, 0, 1, None))?;
+    push(alloc, all, walk(alloc, 0, 2, Some("f")))?;
+    push(alloc, all, walk(alloc, 2, 3, None))?;
+    push(alloc, all, Some(TBody::Open { fid: 3, mode: 2 }))
+}
+
 /// The messages that begin a session, with fids on the root (0 and 1) and on the file (2, and 3,
 /// which is open).
 pub fn opening(alloc: Global) -> Option<Vec<Vec<u8>>> {
     let mut all = Vec::new(alloc);
-    let bodies = [
-        version(alloc)?,
-        attach(alloc, 0, "0/x")?,
-        walk(alloc, 0, 1, None)?,
-        walk(alloc, 0, 2, Some("f"))?,
-        walk(alloc, 2, 3, None)?,
-        TBody::Open { fid: 3, mode: 2 },
-    ];
-    for body in bodies {
-        all.push(spelled(alloc, body)?).ok()?;
-    }
+    push_opening(alloc, &mut all)?;
     Some(all)
 }

@@ -26,13 +26,19 @@ pub struct ToSession {
     repeats: u64,
 }
 
+fn world(alloc: Global, creats: u32) -> Option<World> {
+    let users = users(alloc)?;
+    world_of(alloc, scene(alloc, creats)?, users).ok()
+}
+
 impl ToWorld {
     /// A world of a state for each of so many creats and holes, in which the connection 0 has begun
     /// a session.
     pub fn of(alloc: Global, creats: u32, repeats: u64) -> Option<ToWorld> {
+        let messages = opening(alloc)?;
         let mut side = ToWorld {
-            world: world_of(alloc, scene(alloc, creats)?, users(alloc)?).ok()?,
-            messages: opening(alloc)?,
+            world: world(alloc, creats)?,
+            messages,
             out: Vec::new(alloc),
             repeats,
         };
@@ -59,12 +65,18 @@ impl Work for ToWorld {
     }
 }
 
+fn alone(alloc: Global) -> Option<Alone> {
+    let users = users(alloc)?;
+    Alone::new(alloc, scene(alloc, 0)?, users)
+}
+
 impl ToSession {
     /// A session that has begun over a fresh run, and what is to be sent.
     pub fn of(alloc: Global, messages: Vec<Vec<u8>>, repeats: u64) -> Option<ToSession> {
+        let first = opening(alloc)?;
         let mut side = ToSession {
-            alone: Alone::new(alloc, scene(alloc, 0)?, users(alloc)?)?,
-            messages: opening(alloc)?,
+            alone: alone(alloc)?,
+            messages: first,
             out: Vec::new(alloc),
             repeats,
         };

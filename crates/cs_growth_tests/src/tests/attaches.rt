@@ -5,60 +5,77 @@ use cs_fids::NOFID;
 use cs_hoard::Hoard;
 use cs_names::Text;
 use cs_session::{AttachMessage, Reply, TableStep};
-use cs_world::{Step, World};
+use cs_world::{ConnectionStep, Step, World};
 use std::alloc::Global;
 use std::process::Abort;
 
-fn begin(alloc: Global) -> Option<Step> {
-    let change = TableStep::Version {
-        msize: 8192,
-        version: Text::keep(alloc, "9P2000").ok()?,
-    };
-    Some(Step::Table { conn: 0, change })
+/// A step of connection 0.
+fn taken(step: ConnectionStep) -> Step {
+    Step::On {
+        conn: 0,
+        now: 7,
+        step,
+    }
 }
 
-fn find(alloc: Global) -> Option<Step> {
+fn text(rt: &impl Abort, alloc: Global, text: &str) -> Text {
+    Text::keep(alloc, text).expect(rt, "memory")
+}
+
+fn begin(rt: &impl Abort, alloc: Global) -> Step {
+    let change = TableStep::Version {
+        msize: 8192,
+        version: text(rt, alloc, "9P2000"),
+    };
+    taken(ConnectionStep::Table(change))
+}
+
+fn find(rt: &impl Abort, alloc: Global) -> Step {
     let message = AttachMessage {
         fid: 0,
         afid: NOFID,
-        uname: Text::keep(alloc, "ann").ok()?,
-        aname: Text::keep(alloc, "0/x").ok()?,
+        uname: text(rt, alloc, "ann"),
+        aname: text(rt, alloc, "0/x"),
     };
-    Some(Step::Find { conn: 0, message })
+    taken(ConnectionStep::Find(message))
 }
 
-fn finds(alloc: Global, world: &mut World) -> Option<bool> {
-    let reply = world.step(alloc, find(alloc)?);
-    Some(matches!(reply, cs_world::Reply::Connection(Reply::Found)))
+fn finds(rt: &impl Abort, alloc: Global, world: &mut World) -> bool {
+    let reply = world.step(alloc, find(rt, alloc));
+    matches!(reply, cs_world::Reply::Connection(Reply::Found))
 }
 
 /// Attaches to the run that was found, with no byte left: whether that is refused for want of memory.
-fn is_refused(alloc: Global, hoard: &mut Hoard, world: &mut World) -> Option<bool> {
-    hoard.close(alloc, 0).ok()?;
-    let reply = world.step(alloc, Step::Attach { conn: 0, now: 7 });
+fn is_refused(rt: &impl Abort, alloc: Global, hoard: &mut Hoard, world: &mut World) -> bool {
+    hoard.close(alloc, 0).expect(rt, "memory");
+    let reply = world.step(alloc, taken(ConnectionStep::Attach));
     hoard.open(alloc);
-    Some(reply.tells_want())
+    reply.tells_want()
 }
 
-/// How many of 64 attaches were found and refused, and what the next find is told.
-fn spend(alloc: Global, hoard: &mut Hoard) -> Option<String> {
-    let mut world = start_world(alloc)?;
-    world.step(alloc, begin(alloc)?);
+/// How many of 64 attaches were found and refused.
+fn refusals(rt: &impl Abort, alloc: Global, hoard: &mut Hoard, world: &mut World) -> u32 {
     let mut refused = 0u32;
     for _ in 0..64u32 {
-        if finds(alloc, &mut world)? && is_refused(alloc, hoard, &mut world)? {
+        if finds(rt, alloc, world) && is_refused(rt, alloc, hoard, world) {
             refused = refused.saturating_add(1);
         }
     }
-    let last = world.step(alloc, find(alloc)?);
-    let mut told = String::new(alloc);
-    write!(told, "{refused} {last:?}").ok()?;
-    Some(told)
+    refused
+}
+
+/// The same, and what the next find is told.
+fn spend(rt: &impl Abort, alloc: Global, hoard: &mut Hoard) -> String {
+    let mut world = start_world(alloc).expect(rt, "a world");
+    world.step(alloc, begin(rt, alloc));
+    let refused = refusals(rt, alloc, hoard, &mut world);
+    let last = world.step(alloc, find(rt, alloc));
+    format!(in alloc; "{refused} {last:?}").expect(rt, "memory")
 }
 
 #[test]
 fn an_attach_that_is_refused_is_among_the_64_of_its_run(rt: HostRuntime) {
     let mut hoard = Hoard::new(rt.alloc()).expect(&rt, "memory");
-    let told = spend(rt.alloc(), &mut hoard).expect(&rt, "replies");
-    assert_eq!(rt; told.as_str(), "64 Connection(Error(A5))");
+    let told = spend(&rt, rt.alloc(), &mut hoard);
+    assert!(rt; told.as_str() == "64 Connection(Error(A5))", "{told}");
 }

@@ -83,16 +83,16 @@ pub const SHARED: &str = r#"0 version 8192 9P2000 => Rversion tag 1 msize 8192 v
 const ALL: [&str; 5] = [FIRST, CREATES, REMOVES, WSTATS, SHARED];
 
 /// A dialogue with the replies that it has in a new world.
-fn told(alloc: Global, dialogue: &str) -> Option<String> {
-    let mut world = start_world(alloc)?;
+fn told(rt: &impl Abort, alloc: Global, dialogue: &str) -> String {
+    let mut world = start_world(alloc).expect(rt, "a world");
     let mut text = String::new(alloc);
-    push_dialogue(alloc, &mut world, &mut text, dialogue)?;
-    Some(text)
+    push_dialogue(alloc, &mut world, &mut text, dialogue).expect(rt, "a dialogue");
+    text
 }
 
 fn expect_told(rt: &(impl Abort + AllocGlobal), dialogue: &str) {
-    let told = told(rt.alloc(), dialogue).expect(rt, "a dialogue");
-    assert_eq!(rt; told.as_str(), dialogue);
+    let told = told(rt, rt.alloc(), dialogue);
+    assert!(rt; told.as_str() == dialogue, "{told}");
 }
 
 #[test]

@@ -55,39 +55,36 @@ const ENDINGS: [Ending; 3] = [
 ];
 
 /// Has that dialogue.
-fn begin(alloc: Global, world: &mut World) -> Option<()> {
+fn begin(rt: &impl Abort, alloc: Global, world: &mut World) {
     let mut told = String::new(alloc);
-    push_dialogue(alloc, world, &mut told, BEFORE)?;
-    if told.as_str() == BEFORE {
-        return Some(());
-    }
-    None
+    push_dialogue(alloc, world, &mut told, BEFORE).expect(rt, "a dialogue");
+    assert!(rt; told.as_str() == BEFORE, "{told}");
 }
 
 /// A dialogue with its replies, where the first line is asked with so many bytes left.
-fn told(alloc: Global, hoard: &mut Hoard, dialogue: &str, bytes: usize) -> Option<String> {
-    let mut world = start_world(alloc)?;
-    begin(alloc, &mut world)?;
-    let (first, rest) = dialogue.split_once('\n')?;
-    let (words, _) = first.split_once(" => ")?;
-    let asked = asked_by(alloc, first)?;
-    hoard.close(alloc, bytes).ok()?;
+fn told(rt: &impl Abort, alloc: Global, hoard: &mut Hoard, dialogue: &str, bytes: usize) -> String {
+    let mut world = start_world(alloc).expect(rt, "a world");
+    begin(rt, alloc, &mut world);
+    let (first, rest) = dialogue.split_once('\n').expect(rt, "a line");
+    let (words, _) = first.split_once(" => ").expect(rt, "a reply");
+    let asked = asked_by(alloc, first).expect(rt, "a message");
+    hoard.close(alloc, bytes).expect(rt, "memory");
     let ended = ask(alloc, &mut world, &asked);
     hoard.open(alloc);
     let mut text = String::new(alloc);
-    push_line(&mut text, words, &ended?)?;
-    push_dialogue(alloc, &mut world, &mut text, rest)?;
-    Some(text)
+    push_line(&mut text, words, &ended.expect(rt, "a reply")).expect(rt, "memory");
+    push_dialogue(alloc, &mut world, &mut text, rest).expect(rt, "a dialogue");
+    text
 }
 
 /// How often the removal is refused, with no byte left and then 16 more each time.
 fn refusals(rt: &(impl Abort + AllocGlobal), hoard: &mut Hoard, ending: &Ending) -> usize {
     for count in 0..1000usize {
-        let told = told(rt.alloc(), hoard, ending.0, count * 16).expect(rt, "a dialogue");
+        let told = told(rt, rt.alloc(), hoard, ending.0, count * 16);
         if told.as_str() == ending.1 {
             return count;
         }
-        assert_eq!(rt; told.as_str(), ending.0);
+        assert!(rt; told.as_str() == ending.0, "{told}");
     }
     assert!(rt; false, "it is always refused");
     0

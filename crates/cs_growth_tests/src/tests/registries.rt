@@ -121,6 +121,7 @@ impl Subject for Kept {
     type Answer = u32;
 
     fn start(alloc: Global, row: &Row<Call>) -> Option<Kept> {
+        let name = RunName::read(alloc, b"x").ok()?;
         let (scene, users) = of_world(alloc)?;
         let mut states = States::new(alloc, scene, users).ok()?;
         if let Call::Find | Call::FindKey = row.1 {
@@ -130,7 +131,7 @@ impl Subject for Kept {
             states,
             given: of_world(alloc),
             users: start_users(alloc),
-            name: RunName::read(alloc, b"x").ok()?,
+            name,
         })
     }
 

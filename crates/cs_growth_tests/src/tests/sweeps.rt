@@ -174,7 +174,7 @@ fn expect_refused(rt: &(impl Abort + AllocGlobal), dialogue: &'static str, wante
         let row = Row { dialogue, place };
         push_unmet(rt, &mut hoard, &mut unmet, &row);
     }
-    assert_eq!(rt; unmet.as_str(), wanted);
+    assert!(rt; unmet.as_str() == wanted, "{unmet}");
 }
 
 #[test]

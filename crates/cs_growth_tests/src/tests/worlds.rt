@@ -9,7 +9,7 @@ use cs_plan::Scene;
 use cs_session::{AttachMessage, CallMessage, TableStep, WalkMessage};
 use cs_users::Users;
 use cs_wire::{RBody, RMessage};
-use cs_world::{Heard, Reply, Step, World};
+use cs_world::{ConnectionStep, Reply, RunCall, Step, World};
 use std::alloc::Global;
 use std::sync::Arc;
 
@@ -36,26 +36,26 @@ fn text(alloc: Global, text: &str) -> Option<Text> {
     Text::keep(alloc, text).ok()
 }
 
+fn taken(conn: u32, step: ConnectionStep) -> Step {
+    Step::On { conn, now: 7, step }
+}
+
 fn begin(alloc: Global, conn: u32) -> Option<Step> {
-    Some(Step::Table {
-        conn,
-        change: TableStep::Version {
-            msize: 8192,
-            version: text(alloc, "9P2000")?,
-        },
-    })
+    let change = TableStep::Version {
+        msize: 8192,
+        version: text(alloc, "9P2000")?,
+    };
+    Some(taken(conn, ConnectionStep::Table(change)))
 }
 
 fn find(alloc: Global) -> Option<Step> {
-    Some(Step::Find {
-        conn: 0,
-        message: AttachMessage {
-            fid: 0,
-            afid: NOFID,
-            uname: text(alloc, "ann")?,
-            aname: text(alloc, "0/x")?,
-        },
-    })
+    let message = AttachMessage {
+        fid: 0,
+        afid: NOFID,
+        uname: text(alloc, "ann")?,
+        aname: text(alloc, "0/x")?,
+    };
+    Some(taken(0, ConnectionStep::Find(message)))
 }
 
 fn walk(alloc: Global) -> Option<Step> {
@@ -66,14 +66,14 @@ fn walk(alloc: Global) -> Option<Step> {
         newfid: 1,
         names: Texts::new(names),
     });
-    Some(Step::Call {
-        conn: 0,
-        now: 7,
-        message,
-    })
+    Some(taken(0, ConnectionStep::Call(message)))
 }
 
-const ATTACH: Step = Step::Attach { conn: 0, now: 7 };
+const ATTACH: Step = Step::On {
+    conn: 0,
+    now: 7,
+    step: ConnectionStep::Attach,
+};
 
 /// The steps before the one of a word.
 fn before(alloc: Global, word: Word) -> Option<Vec<Step>> {
@@ -132,7 +132,7 @@ enum Told {
     Replies(Vec<Reply>),
     Message(RMessage),
     Closed(cs_session::Reply),
-    Heard(Vec<Heard>),
+    Calls(Vec<RunCall>),
 }
 
 /// A world, what its next call is given, and a run's name.
@@ -198,7 +198,7 @@ impl Kept {
 
     fn project(&self, alloc: Global, steps: &[Step]) -> Option<End<Told>> {
         match self.world.project(alloc, steps, 0, &self.name) {
-            Ok(heard) => Some(End::Done(Told::Heard(heard))),
+            Ok(calls) => Some(End::Done(Told::Calls(calls))),
             Err(_) => Some(End::Short),
         }
     }
@@ -230,13 +230,14 @@ impl Subject for Kept {
     type Answer = Told;
 
     fn start(alloc: Global, row: &Row<Word>) -> Option<Kept> {
+        let name = RunName::read(alloc, b"x").ok()?;
         let (scene, users) = of_world(alloc)?;
         let mut world = World::new(alloc, scene, users).ok()?;
         world.run(alloc, before(alloc, row.1)?).ok()?;
         Some(Kept {
             world,
             given: give(alloc, row.1),
-            name: RunName::read(alloc, b"x").ok()?,
+            name,
             keeps_connection: !matches!(row.1, Word::Attach),
         })
     }
@@ -261,7 +262,7 @@ impl Subject for Kept {
             Told::Replies(replies) => write!(said, "{replies:?}").ok(),
             Told::Message(reply) => write!(said, "{reply}").ok(),
             Told::Closed(reply) => write!(said, "{reply:?}").ok(),
-            Told::Heard(heard) => write!(said, "{heard:?}").ok(),
+            Told::Calls(calls) => write!(said, "{calls:?}").ok(),
         }
     }
 

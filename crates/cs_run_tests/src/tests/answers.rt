@@ -3,51 +3,53 @@
 use cs_fids::Place;
 use cs_run::{Answer, Data, Walk};
 use cs_wire::Stat;
+use std::process::Abort;
 
 /// Adds how far a walk came: the qids as `number.version`, and the rule that stopped it, if any.
-fn push_walk(text: &mut String, walk: &Walk) -> Option<()> {
-    write!(text, "at {}:", walk.last()).ok()?;
+fn push_walk(rt: &impl Abort, text: &mut String, walk: &Walk) {
+    write!(text, "at {}:", walk.last()).expect(rt, "memory");
     for qid in walk.qids() {
-        write!(text, " {}.{}", qid.path, qid.vers).ok()?;
+        write!(text, " {}.{}", qid.path, qid.vers).expect(rt, "memory");
     }
     match walk.stopped() {
-        Some(rule) => write!(text, " stopped by {}", rule.text()).ok(),
-        None => Some(()),
+        Some(rule) => write!(text, " stopped by {}", rule.text()).expect(rt, "memory"),
+        None => {},
     }
 }
 
 /// Adds what a stat tells: name, mode, version, length, mtime, owner, group and muid.
-fn push_stat(text: &mut String, stat: &Stat) -> Option<()> {
+fn push_stat(rt: &impl Abort, text: &mut String, stat: &Stat) {
     write!(
         text,
         "{} {:o} version {}",
         stat.name, stat.mode, stat.qid.vers
     )
-    .ok()?;
-    write!(text, " length {} at {}", stat.length, stat.mtime).ok()?;
-    write!(text, " of {} {} by {}", stat.uid, stat.gid, stat.muid).ok()
+    .expect(rt, "memory");
+    write!(text, " length {} at {}", stat.length, stat.mtime).expect(rt, "memory");
+    write!(text, " of {} {} by {}", stat.uid, stat.gid, stat.muid).expect(rt, "memory")
 }
 
 /// Adds what a read gives: bytes of a file between quotes, or how many bytes of entries, and keeps
 /// the new place.
-fn push_given(text: &mut String, data: Data, place: &mut Place) -> Option<()> {
+fn push_given(rt: &impl Abort, text: &mut String, data: Data, place: &mut Place) {
     let (bytes, next) = data.into_parts();
     let Some(next) = next else {
-        return write!(text, "'{}'", std::str::from_utf8(&bytes).ok()?).ok();
+        let bytes = std::str::from_utf8(&bytes).expect(rt, "a text");
+        write!(text, "'{bytes}'").expect(rt, "memory");
+        return;
     };
-    let last = next.last.as_ref()?;
-    write!(text, "{} bytes to {} at {last}", bytes.len(), next.end).ok()?;
+    let last = next.last.as_ref().expect(rt, "a value");
+    write!(text, "{} bytes to {} at {last}", bytes.len(), next.end).expect(rt, "memory");
     *place = next;
-    Some(())
 }
 
 /// Adds the answer, and keeps the new place of a read of a directory.
-pub fn push_answer(text: &mut String, answer: Answer, place: &mut Place) -> Option<()> {
+pub fn push_answer(rt: &impl Abort, text: &mut String, answer: Answer, place: &mut Place) {
     match answer {
         Answer::Attached(qid) => {
-            write!(text, "root {:x} {}.{}", qid.kind, qid.path, qid.vers).ok()
+            write!(text, "root {:x} {}.{}", qid.kind, qid.path, qid.vers).expect(rt, "memory")
         }
-        Answer::Walked(walk) => push_walk(text, &walk),
+        Answer::Walked(walk) => push_walk(rt, text, &walk),
         Answer::Opened {
             qid,
             open_number,
@@ -57,14 +59,14 @@ pub fn push_answer(text: &mut String, answer: Answer, place: &mut Place) -> Opti
             "open {open_number} of {number}: {}.{}",
             qid.path, qid.vers
         )
-        .ok(),
-        Answer::Data(data) => push_given(text, data, place),
-        Answer::Written(count) => write!(text, "wrote {count}").ok(),
-        Answer::Closed => text.push_str("closed").ok(),
-        Answer::Removed => text.push_str("removed").ok(),
-        Answer::Stat(stat) => push_stat(text, &stat.into_stat()),
-        Answer::Changed => text.push_str("changed").ok(),
-        Answer::Denied(rule) => text.push_str(rule.text()).ok(),
-        Answer::Short => text.push_str("short of memory").ok(),
+        .expect(rt, "memory"),
+        Answer::Data(data) => push_given(rt, text, data, place),
+        Answer::Written(count) => write!(text, "wrote {count}").expect(rt, "memory"),
+        Answer::Closed => text.push_str("closed").expect(rt, "memory"),
+        Answer::Removed => text.push_str("removed").expect(rt, "memory"),
+        Answer::Stat(stat) => push_stat(rt, text, &stat.into_stat()),
+        Answer::Changed => text.push_str("changed").expect(rt, "memory"),
+        Answer::Denied(rule) => text.push_str(rule.text()).expect(rt, "memory"),
+        Answer::Short => text.push_str("short of memory").expect(rt, "memory"),
     }
 }

@@ -8,6 +8,7 @@ use cs_permit::{
 };
 use cs_wire::{Qid, Stat};
 use std::alloc::Global;
+use std::process::Abort;
 
 /// The first word, and those behind it.
 pub fn cut(words: &str) -> (&str, &str) {
@@ -39,111 +40,130 @@ fn perm_of(word: &str) -> Option<u32> {
     Some(bit | u32::from_str_radix(digits, 8).ok()?)
 }
 
-fn attach(alloc: Global, user: UserName) -> Option<Call> {
-    let user = Text::keep(alloc, user.as_str()).ok()?;
-    Some(Call::Attach(AttachCall { user }))
+fn attach(rt: &impl Abort, alloc: Global, user: UserName) -> Call {
+    let user = Text::keep(alloc, user.as_str()).expect(rt, "memory");
+    Call::Attach(AttachCall { user })
 }
 
 /// Names, with slashes between them.
-fn names_of(alloc: Global, text: &str) -> Option<Texts> {
+fn names_of(rt: &impl Abort, alloc: Global, text: &str) -> Texts {
     let mut names = Vec::new(alloc);
     if text.is_empty() {
-        return Some(Texts::new(names));
+        return Texts::new(names);
     }
     for name in text.split('/') {
-        names.push(String::from_str(alloc, name).ok()?).ok()?;
+        names
+            .push(String::from_str(alloc, name).expect(rt, "memory"))
+            .expect(rt, "memory");
     }
-    Some(Texts::new(names))
+    Texts::new(names)
 }
 
 /// From a file, by these names.
-fn walk(alloc: Global, user: UserName, words: &str) -> Option<Call> {
+fn walk(rt: &impl Abort, alloc: Global, user: UserName, words: &str) -> Call {
     let (file, names) = cut(words);
-    let number = number(file)?;
-    let names = names_of(alloc, names)?;
-    Some(Call::Walk(WalkCall {
+    let number = number(file).expect(rt, "a value");
+    let names = names_of(rt, alloc, names);
+    Call::Walk(WalkCall {
         number,
         user,
         names,
-    }))
+    })
 }
 
 /// The file and the mode.
-fn open(user: UserName, words: &str) -> Option<Call> {
+fn open(rt: &impl Abort, user: UserName, words: &str) -> Call {
     let (file, mode) = cut(words);
-    let (number, mode) = (number(file)?, mode_of(mode)?);
-    Some(Call::Open(OpenCall { number, user, mode }))
+    let (number, mode) = (
+        number(file).expect(rt, "a value"),
+        mode_of(mode).expect(rt, "a value"),
+    );
+    Call::Open(OpenCall { number, user, mode })
 }
 
 /// The directory, the name, the permissions and the mode.
-fn create(alloc: Global, user: UserName, words: &str) -> Option<Call> {
+fn create(rt: &impl Abort, alloc: Global, user: UserName, words: &str) -> Call {
     let (file, words) = cut(words);
     let (name, words) = cut(words);
     let (perm, mode) = cut(words);
-    let (number, perm, mode) = (number(file)?, perm_of(perm)?, mode_of(mode)?);
-    let name = Name::read(alloc, name.as_bytes()).ok()?;
-    Some(Call::Create(CreateCall {
+    let (number, perm, mode) = (
+        number(file).expect(rt, "a value"),
+        perm_of(perm).expect(rt, "a value"),
+        mode_of(mode).expect(rt, "a value"),
+    );
+    let name = Name::read(alloc, name.as_bytes()).expect(rt, "a value");
+    Call::Create(CreateCall {
         number,
         user,
         name,
         perm,
         mode,
-    }))
+    })
 }
 
 /// The file, the offset and the count; it goes on from a place.
-fn read(words: &str, place: &Place) -> Option<Call> {
+fn read(rt: &impl Abort, words: &str, place: &Place) -> Call {
     let (file, words) = cut(words);
     let (offset, count) = cut(words);
-    let (number, offset, count) = (number(file)?, number(offset)?, short(count)?);
-    let place = place.try_clone().ok()?;
-    Some(Call::Read(ReadCall {
+    let (number, offset, count) = (
+        number(file).expect(rt, "a value"),
+        number(offset).expect(rt, "a value"),
+        short(count).expect(rt, "a value"),
+    );
+    let place = place.try_clone().expect(rt, "memory");
+    Call::Read(ReadCall {
         number,
         offset,
         count,
         place,
-    }))
+    })
 }
 
 /// The file, the offset and the bytes.
-fn write(alloc: Global, user: UserName, words: &str) -> Option<Call> {
+fn write(rt: &impl Abort, alloc: Global, user: UserName, words: &str) -> Call {
     let (file, words) = cut(words);
     let (offset, text) = cut(words);
-    let (number, offset) = (number(file)?, number(offset)?);
-    let bytes = Bytes::keep(alloc, text.as_bytes()).ok()?;
-    Some(Call::Write(WriteCall {
+    let (number, offset) = (
+        number(file).expect(rt, "a value"),
+        number(offset).expect(rt, "a value"),
+    );
+    let bytes = Bytes::keep(alloc, text.as_bytes()).expect(rt, "memory");
+    Call::Write(WriteCall {
         number,
         user,
         offset,
         bytes,
-    }))
+    })
 }
 
 /// The number of the open.
-fn close(user: UserName, words: &str) -> Option<Call> {
-    let open_number = short(words)?;
-    Some(Call::Close(CloseCall { open_number, user }))
+fn close(rt: &impl Abort, user: UserName, words: &str) -> Call {
+    let open_number = short(words).expect(rt, "a value");
+    Call::Close(CloseCall { open_number, user })
 }
 
 /// The file, of a fid that isn't open.
-fn remove(user: UserName, words: &str) -> Option<Call> {
-    let number = number(words)?;
-    Some(Call::Remove(RemoveCall {
+fn remove(rt: &impl Abort, user: UserName, words: &str) -> Call {
+    let number = number(words).expect(rt, "a value");
+    Call::Remove(RemoveCall {
         number,
         user,
         open_number: None,
-    }))
+    })
 }
 
 /// The file, of a fid that is open, and the number of the open.
-fn remove_open(user: UserName, words: &str) -> Option<Call> {
+fn remove_open(rt: &impl Abort, user: UserName, words: &str) -> Call {
     let (file, open_number) = cut(words);
-    let (number, open_number) = (number(file)?, short(open_number)?);
-    Some(Call::Remove(RemoveCall {
+    let (number, open_number) = (
+        number(file).expect(rt, "a value"),
+        short(open_number).expect(rt, "a value"),
+    );
+    Call::Remove(RemoveCall {
         number,
         user,
         open_number: Some(open_number),
-    }))
+    })
 }
 
 /// What `name=g,mode=600` says of a field, such as `mode=`.
@@ -156,8 +176,8 @@ fn change_in<'a>(changes: &'a str, field: &str) -> Option<&'a str> {
     None
 }
 
-fn text_in(alloc: Global, changes: &str, field: &str) -> Option<String> {
-    String::from_str(alloc, change_in(changes, field).unwrap_or("")).ok()
+fn text_in(rt: &impl Abort, alloc: Global, changes: &str, field: &str) -> String {
+    String::from_str(alloc, change_in(changes, field).unwrap_or("")).expect(rt, "memory")
 }
 
 fn length_in(changes: &str) -> Option<u64> {
@@ -189,10 +209,13 @@ const ANY_QID: Qid = Qid {
 };
 
 /// A stat that says "don't touch" of every field but those of the changes.
-fn stat_of(alloc: Global, changes: &str) -> Option<Stat> {
-    let (mode, mtime) = (mode_in(changes)?, mtime_in(changes)?);
-    let length = length_in(changes)?;
-    Some(Stat {
+fn stat_of(rt: &impl Abort, alloc: Global, changes: &str) -> Stat {
+    let (mode, mtime) = (
+        mode_in(changes).expect(rt, "a value"),
+        mtime_in(changes).expect(rt, "a value"),
+    );
+    let length = length_in(changes).expect(rt, "a value");
+    Stat {
         kind: u16::MAX,
         dev: u32::MAX,
         qid: ANY_QID,
@@ -200,39 +223,39 @@ fn stat_of(alloc: Global, changes: &str) -> Option<Stat> {
         atime: u32::MAX,
         mtime,
         length,
-        name: text_in(alloc, changes, "name=")?,
-        uid: text_in(alloc, changes, "uid=")?,
-        gid: text_in(alloc, changes, "gid=")?,
+        name: text_in(rt, alloc, changes, "name="),
+        uid: text_in(rt, alloc, changes, "uid="),
+        gid: text_in(rt, alloc, changes, "gid="),
         muid: String::new(alloc),
-    })
+    }
 }
 
 /// The file and the changes.
-fn wstat(alloc: Global, user: UserName, words: &str) -> Option<Call> {
+fn wstat(rt: &impl Abort, alloc: Global, user: UserName, words: &str) -> Call {
     let (file, changes) = cut(words);
-    let number = number(file)?;
-    let stat = SentStat::new(stat_of(alloc, changes)?);
-    Some(Call::Wstat(WstatCall { number, user, stat }))
+    let number = number(file).expect(rt, "a value");
+    let stat = SentStat::new(stat_of(rt, alloc, changes));
+    Call::Wstat(WstatCall { number, user, stat })
 }
 
 /// The call that words ask for, of that user: a word, and what its function takes. A read goes on
 /// from that place. Numbers are those of files, and of a close that of the open.
-pub fn call_of(alloc: Global, user: &str, words: &str, place: &Place) -> Option<Call> {
+pub fn call_of(rt: &impl Abort, alloc: Global, user: &str, words: &str, place: &Place) -> Call {
     let (word, words) = cut(words);
-    let user = UserName::read(alloc, user.as_bytes()).ok()?;
+    let user = UserName::read(alloc, user.as_bytes()).expect(rt, "a value");
     match word {
-        "attach" => attach(alloc, user),
-        "walk" => walk(alloc, user, words),
-        "open" => open(user, words),
-        "create" => create(alloc, user, words),
-        "read" => read(words, place),
-        "write" => write(alloc, user, words),
-        "close" => close(user, words),
-        "remove" => remove(user, words),
-        "remove_open" => remove_open(user, words),
-        "stat" => Some(Call::Stat(StatCall {
-            number: number(words)?,
-        })),
-        _ => wstat(alloc, user, words),
+        "attach" => attach(rt, alloc, user),
+        "walk" => walk(rt, alloc, user, words),
+        "open" => open(rt, user, words),
+        "create" => create(rt, alloc, user, words),
+        "read" => read(rt, words, place),
+        "write" => write(rt, alloc, user, words),
+        "close" => close(rt, user, words),
+        "remove" => remove(rt, user, words),
+        "remove_open" => remove_open(rt, user, words),
+        "stat" => Call::Stat(StatCall {
+            number: number(words).expect(rt, "a value"),
+        }),
+        _ => wstat(rt, alloc, user, words),
     }
 }

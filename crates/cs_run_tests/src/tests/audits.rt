@@ -17,58 +17,55 @@ struct Users {
 }
 
 /// Adds a line with what was answered.
-fn push_answer(told: &mut String, answer: &Answer) -> Option<()> {
-    write!(told, "{answer:?}\n").ok()
+fn push_answer(rt: &impl Abort, told: &mut String, answer: &Answer) {
+    write!(told, "{answer:?}\n").expect(rt, "memory")
 }
 
 impl Users {
     /// Makes a call under the pass at a place.
-    fn call(&mut self, alloc: Global, place: usize, call: &str) -> Option<()> {
-        let pass = self.passes.get_mut(place)?;
-        if !self.run.fits(pass) {
-            return None;
-        }
-        let answer = self.run.step(alloc, pass, 1000, call_of(alloc, call)?);
-        push_answer(&mut self.told, &answer)
+    fn call(&mut self, rt: &impl Abort, alloc: Global, place: usize, call: &str) {
+        let pass = self.passes.get_mut(place).expect(rt, "a value");
+        assert!(rt; self.run.fits(pass));
+        let answer = self.run.step(alloc, pass, 1000, call_of(rt, alloc, call));
+        push_answer(rt, &mut self.told, &answer)
     }
 
     /// Attaches a user under a new pass.
-    fn attach(&mut self, alloc: Global, user: &str) -> Option<()> {
-        let mut pass = self.run.new_pass(alloc).ok()?;
-        if !self.run.fits(&pass) {
-            return None;
-        }
-        let answer = self.run.step(alloc, &mut pass, 1000, attach(alloc, user)?);
-        push_answer(&mut self.told, &answer)?;
-        self.passes.push(pass).ok()
+    fn attach(&mut self, rt: &impl Abort, alloc: Global, user: &str) {
+        let mut pass = self.run.new_pass(alloc).expect(rt, "memory");
+        assert!(rt; self.run.fits(&pass));
+        let answer = self
+            .run
+            .step(alloc, &mut pass, 1000, attach(rt, alloc, user));
+        push_answer(rt, &mut self.told, &answer);
+        self.passes.push(pass).expect(rt, "memory")
     }
 
     /// A run to which ann was attached, and then bob.
-    fn attached(alloc: Global) -> Option<Users> {
+    fn attached(rt: &impl Abort, alloc: Global) -> Users {
         let mut users = Users {
-            run: run(alloc)?,
+            run: run(rt, alloc),
             passes: Vec::new(alloc),
             told: String::new(alloc),
         };
-        users.attach(alloc, "ann")?;
-        users.attach(alloc, "bob")?;
-        Some(users)
+        users.attach(rt, alloc, "ann");
+        users.attach(rt, alloc, "bob");
+        users
     }
 
     /// Makes calls, a line each: by whom, and what.
-    fn make(&mut self, alloc: Global, calls: &str) -> Option<()> {
+    fn make(&mut self, rt: &impl Abort, alloc: Global, calls: &str) {
         for line in calls.lines() {
             let (user, call) = cut(line);
-            self.call(alloc, if user == "ann" { 0 } else { 1 }, call)?;
+            self.call(rt, alloc, if user == "ann" { 0 } else { 1 }, call);
         }
-        Some(())
     }
 }
 
 /// A run to which ann was attached, and then bob, and on which these calls were made.
 fn after(rt: &(impl Abort + AllocGlobal), calls: &str) -> Users {
-    let mut users = Users::attached(rt.alloc()).expect(rt, "a run");
-    users.make(rt.alloc(), calls).expect(rt, "calls");
+    let mut users = Users::attached(rt, rt.alloc());
+    users.make(rt, rt.alloc(), calls);
     users
 }
 
@@ -91,11 +88,10 @@ fn an_audit_tells_the_first_entry_without_its_own_receipt(rt: HostRuntime) {
 }
 
 /// Adds passes behind others.
-fn push_passes(passes: &mut Vec<Pass>, more: Vec<Pass>) -> Option<()> {
+fn push_passes(rt: &impl Abort, passes: &mut Vec<Pass>, more: Vec<Pass>) {
     for pass in more {
-        passes.push(pass).ok()?;
+        passes.push(pass).expect(rt, "memory");
     }
-    Some(())
 }
 
 /// A run with as many entries as the passes of two others have receipts.
@@ -104,18 +100,24 @@ const SEVEN: &str = "ann stat\nann stat\nann stat\nann stat\nann stat";
 #[test]
 fn an_audit_takes_the_first_pass_of_a_number(rt: HostRuntime) {
     let mut passes = after(&rt, "ann walk").passes;
-    push_passes(&mut passes, after(&rt, X).passes).expect(&rt, "memory");
+    push_passes(&rt, &mut passes, after(&rt, X).passes);
     let seven = after(&rt, SEVEN);
     assert!(rt; seven.run.audit(passes.as_slice()) == Err(AuditFault::Changed(2)));
 }
 
 /// What the journal says that was answered, a line each, up to its end.
-fn told_again(alloc: Global, run: &Run<PlainTree>) -> Option<String> {
+fn told_again(rt: &impl Abort, alloc: Global, run: &Run<PlainTree>) -> String {
     let mut told = String::new(alloc);
     for place in 0..run.entries() {
-        push_answer(&mut told, &run.answer_at(alloc, place).ok()??)?;
+        push_answer(
+            rt,
+            &mut told,
+            &run.answer_at(alloc, place)
+                .expect(rt, "memory")
+                .expect(rt, "a value"),
+        );
     }
-    Some(told)
+    told
 }
 
 /// Calls of every kind that is kept in a way of its own, some of them denied.
@@ -134,8 +136,8 @@ ann close 4";
 #[test]
 fn a_journal_tells_each_answer_again(rt: HostRuntime) {
     let users = after(&rt, CALLS);
-    let told = told_again(rt.alloc(), &users.run).expect(&rt, "memory");
-    assert_eq!(rt; told.as_str(), users.told.as_str());
+    let told = told_again(&rt, rt.alloc(), &users.run);
+    assert!(rt; told.as_str() == users.told.as_str(), "{told}");
     let past = users.run.answer_at(rt.alloc(), users.run.entries());
     assert!(rt; matches!(past, Ok(None)));
 }
@@ -149,7 +151,7 @@ fn last_receipt(passes: &[Pass], place: usize) -> Option<&Receipt> {
 fn a_receipt_tells_its_entry(rt: HostRuntime) {
     let users = after(&rt, X);
     let receipt = last_receipt(users.passes.as_slice(), 1).expect(&rt, "a receipt");
-    assert_eq!(rt; receipt.place(), 3);
+    assert!(rt; receipt.place() == 3);
     assert!(rt; matches!(receipt.outcome(), Outcome::Granted));
-    assert!(rt; receipt.asks(&stat()));
+    assert!(rt; receipt.is_for(&stat()));
 }

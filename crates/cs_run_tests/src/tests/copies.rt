@@ -23,27 +23,27 @@ wstat 4 name=g,mode=600
 ";
 
 /// A place behind an entry of a directory, so that a read has a name to copy.
-fn place(alloc: Global) -> Option<Place> {
-    let last = Some(Name::read(alloc, b"d").ok()?);
-    Some(Place { end: 61, last })
+fn place(rt: &impl Abort, alloc: Global) -> Place {
+    let last = Some(Name::read(alloc, b"d").expect(rt, "a value"));
+    Place { end: 61, last }
 }
 
-fn shown(alloc: Global, call: &Call) -> Option<String> {
+fn shown(rt: &impl Abort, alloc: Global, call: &Call) -> String {
     let mut text = String::new(alloc);
-    write!(text, "{call:?}").ok()?;
-    Some(text)
+    write!(text, "{call:?}").expect(rt, "memory");
+    text
 }
 
 /// A call of ann, and its copy, each with all that it says.
-fn with_copy(alloc: Global, words: &str) -> Option<(String, String)> {
-    let call = call_of(alloc, "ann", words, &place(alloc)?)?;
-    let copy = call.try_clone(alloc).ok()?;
-    Some((shown(alloc, &call)?, shown(alloc, &copy)?))
+fn with_copy(rt: &impl Abort, alloc: Global, words: &str) -> (String, String) {
+    let call = call_of(rt, alloc, "ann", words, &place(rt, alloc));
+    let copy = call.try_clone(alloc).expect(rt, "memory");
+    (shown(rt, alloc, &call), shown(rt, alloc, &copy))
 }
 
 fn expect_copy(rt: &(impl Abort + AllocGlobal), words: &str) {
-    let (call, copy) = with_copy(rt.alloc(), words).expect(rt, "memory");
-    assert_eq!(rt; copy.as_str(), call.as_str());
+    let (call, copy) = with_copy(rt, rt.alloc(), words);
+    assert!(rt; copy.as_str() == call.as_str(), "{copy}");
 }
 
 #[test]

@@ -25,28 +25,27 @@ fn word(answer: &Answer) -> &'static str {
 }
 
 /// Makes a call, and adds it with an arrow, its answer, and the counts then.
-fn push_line(alloc: Global, side: &mut Side, text: &mut String, asked: &str) -> Option<()> {
-    let call = call_of(alloc, asked)?;
+fn push_line(rt: &impl Abort, alloc: Global, side: &mut Side, text: &mut String, asked: &str) {
+    let call = call_of(rt, alloc, asked);
     let answer = side.step(alloc, call);
-    write!(text, "{asked} => {}", word(&answer)).ok()?;
-    side.push_counts(text)?;
-    text.push_str("\n").ok()
+    write!(text, "{asked} => {}", word(&answer)).expect(rt, "memory");
+    side.push_counts(rt, text);
+    text.push_str("\n").expect(rt, "memory")
 }
 
-fn push_lines(alloc: Global, side: &mut Side, text: &mut String, lines: &str) -> Option<()> {
+fn push_lines(rt: &impl Abort, alloc: Global, side: &mut Side, text: &mut String, lines: &str) {
     for line in lines.lines() {
-        let (asked, _) = line.split_once(" => ")?;
-        push_line(alloc, side, text, asked)?;
+        let (asked, _) = line.split_once(" => ").expect(rt, "a value");
+        push_line(rt, alloc, side, text, asked);
     }
-    Some(())
 }
 
 /// Makes calls, and looks at each for its answer, and how many entries there are then, receipts,
 /// and places for closes.
 fn expect(rt: &(impl Abort + AllocGlobal), side: &mut Side, lines: &str) {
     let mut text = String::new(rt.alloc());
-    push_lines(rt.alloc(), side, &mut text, lines).expect(rt, "answers");
-    assert_eq!(rt; text.as_str(), lines);
+    push_lines(rt, rt.alloc(), side, &mut text, lines);
+    assert!(rt; text.as_str() == lines, "{text}");
 }
 
 /// Makes so many stats, which are granted.
@@ -59,7 +58,7 @@ fn expect_stats(rt: &(impl Abort + AllocGlobal), side: &mut Side, count: u32) {
 
 #[test]
 fn an_open_reserves_the_entry_of_its_close(rt: HostRuntime) {
-    let mut side = Side::new(rt.alloc()).expect(&rt, "a run");
+    let mut side = Side::new(&rt, rt.alloc());
     expect(
         &rt,
         &mut side,
@@ -85,7 +84,7 @@ stat => L1 journal full 65536 65536 0
 
 #[test]
 fn every_call_makes_an_entry(rt: HostRuntime) {
-    let mut side = Side::new(rt.alloc()).expect(&rt, "a run");
+    let mut side = Side::new(&rt, rt.alloc());
     expect(
         &rt,
         &mut side,
@@ -104,17 +103,16 @@ close 2 => closed 9 9 0
 }
 
 /// Makes these calls, a line each.
-fn make_calls(alloc: Global, side: &mut Side, calls: &str) -> Option<()> {
+fn make_calls(rt: &impl Abort, alloc: Global, side: &mut Side, calls: &str) {
     for words in calls.lines() {
-        let _answer = side.step(alloc, call_of(alloc, words)?);
+        let _answer = side.step(alloc, call_of(rt, alloc, words));
     }
-    Some(())
 }
 
 /// A run on which these calls were made.
 fn after(rt: &(impl Abort + AllocGlobal), calls: &str) -> Side {
-    let mut side = Side::new(rt.alloc()).expect(rt, "a run");
-    make_calls(rt.alloc(), &mut side, calls).expect(rt, "calls");
+    let mut side = Side::new(rt, rt.alloc());
+    make_calls(rt, rt.alloc(), &mut side, calls);
     side
 }
 
@@ -144,17 +142,17 @@ fn a_pass_fits_where_its_last_receipt_is_the_last_entry(rt: HostRuntime) {
 
 #[test]
 fn a_run_gives_64_passes(rt: HostRuntime) {
-    let mut run = run(rt.alloc()).expect(&rt, "a run");
+    let mut run = run(&rt, rt.alloc());
     for number in 0..64 {
         let pass = run.new_pass(rt.alloc()).expect(&rt, "a pass");
         assert!(rt; pass.number() == number);
     }
     assert!(rt; run.new_pass(rt.alloc()).err() == Some(PassFault::Room));
-    assert_eq!(rt; run.entries(), 0);
+    assert!(rt; run.entries() == 0);
 }
 
 #[test]
 fn an_entry_and_a_receipt_have_32_bytes(rt: HostRuntime) {
-    assert_eq!(rt; size_of::<Entry>(), 32);
-    assert_eq!(rt; size_of::<Receipt>(), 32);
+    assert!(rt; size_of::<Entry>() == 32);
+    assert!(rt; size_of::<Receipt>() == 32);
 }

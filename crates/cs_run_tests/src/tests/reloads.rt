@@ -48,94 +48,100 @@ impl Held for Own {
     }
 }
 
-fn scene(alloc: Global) -> Option<Arc<Scene>> {
-    let trace = read_trace(alloc, TRACE).ok()?;
-    let scene = Scene::of(alloc, trace, false, Vec::new(alloc)).ok()?;
-    Arc::new(alloc, scene).ok()
+fn scene(rt: &impl Abort, alloc: Global) -> Arc<Scene> {
+    let trace = read_trace(alloc, TRACE).expect(rt, "a value");
+    let scene = Scene::of(alloc, trace, false, Vec::new(alloc)).expect(rt, "memory");
+    Arc::new(alloc, scene).expect(rt, "memory")
 }
 
 /// A registry whose one state is published.
-fn registry(alloc: Global) -> Option<States<Own>> {
-    let users = Arc::new(alloc, Users::read(alloc, USERS).ok()?).ok()?;
-    let mut states = States::new(alloc, scene(alloc)?, users).ok()?;
-    let state = Scene::make(alloc, states.scene(), 0).ok()?;
-    states.publish(alloc, state).ok()?;
-    Some(states)
+fn registry(rt: &impl Abort, alloc: Global) -> States<Own> {
+    let users = Arc::new(alloc, Users::read(alloc, USERS).expect(rt, "a value")).expect(
+        rt, "a value",
+    );
+    let mut states = States::new(alloc, scene(rt, alloc), users).expect(rt, "memory");
+    let state = Scene::make(alloc, states.scene(), 0).expect(rt, "memory");
+    states.publish(alloc, state).expect(rt, "memory");
+    states
 }
 
 /// Makes a call at second 1000.
 fn step(
+    rt: &impl Abort,
     alloc: Global,
     run: &mut Run<Built>,
     pass: &mut Pass,
     user: &str,
     words: &str,
-) -> Option<Answer> {
-    let call = call_of(alloc, user, words, &Place::start())?;
-    if !run.fits(pass) {
-        return None;
-    }
-    Some(run.step(alloc, pass, 1000, call))
+) -> Answer {
+    let call = call_of(rt, alloc, user, words, &Place::start());
+    assert!(rt; run.fits(pass));
+    run.step(alloc, pass, 1000, call)
 }
 
 /// Attaches a user, who makes a call if there is one: the last answer.
-fn visit(alloc: Global, run: &mut Run<Built>, user: &str, words: &str) -> Option<Answer> {
-    let mut pass = run.new_pass(alloc).ok()?;
-    let attached = step(alloc, run, &mut pass, user, "attach")?;
+fn visit(rt: &impl Abort, alloc: Global, run: &mut Run<Built>, user: &str, words: &str) -> Answer {
+    let mut pass = run.new_pass(alloc).expect(rt, "memory");
+    let attached = step(rt, alloc, run, &mut pass, user, "attach");
     if words.is_empty() {
-        return Some(attached);
+        return attached;
     }
-    step(alloc, run, &mut pass, user, words)
+    step(rt, alloc, run, &mut pass, user, words)
 }
 
 /// Finds the run of that name, for a visit.
 fn find_and_visit(
+    rt: &impl Abort,
     alloc: Global,
     states: &mut States<Own>,
     name: &str,
     visitor: &str,
-) -> Option<Answer> {
+) -> Answer {
     let (user, words) = cut(visitor);
-    let name = RunName::read(alloc, name.as_bytes()).ok()?;
-    let place = states.find(alloc, 0, &name).ok()?;
-    if place >= states.run_count() {
-        return None;
-    }
-    visit(alloc, &mut states.at_mut(place).run, user, words)
+    let name = RunName::read(alloc, name.as_bytes()).expect(rt, "a value");
+    let place = states.find(alloc, 0, &name).expect(rt, "memory");
+    assert!(rt; place < states.run_count());
+    visit(rt, alloc, &mut states.at_mut(place).run, user, words)
 }
 
 /// Adds a line with what was answered.
-fn push_line(alloc: Global, states: &mut States<Own>, text: &mut String, line: &str) -> Option<()> {
-    let (asked, _) = line.split_once(" => ")?;
+fn push_line(
+    rt: &impl Abort,
+    alloc: Global,
+    states: &mut States<Own>,
+    text: &mut String,
+    line: &str,
+) {
+    let (asked, _) = line.split_once(" => ").expect(rt, "a value");
     let (name, visitor) = cut(asked);
-    let answer = find_and_visit(alloc, states, name, visitor)?;
-    write!(text, "{asked} => ").ok()?;
-    push_answer(text, answer, &mut Place::start())?;
-    text.push_str("\n").ok()
+    let answer = find_and_visit(rt, alloc, states, name, visitor);
+    write!(text, "{asked} => ").expect(rt, "memory");
+    push_answer(rt, text, answer, &mut Place::start());
+    text.push_str("\n").expect(rt, "memory")
 }
 
 fn push_lines(
+    rt: &impl Abort,
     alloc: Global,
     states: &mut States<Own>,
     text: &mut String,
     lines: &str,
-) -> Option<()> {
+) {
     for line in lines.lines() {
-        push_line(alloc, states, text, line)?;
+        push_line(rt, alloc, states, text, line);
     }
-    Some(())
 }
 
 /// Makes visits, a line each: of which run, by whom, a call if there is one, and what was answered.
 fn expect(rt: &(impl Abort + AllocGlobal), states: &mut States<Own>, lines: &str) {
     let mut text = String::new(rt.alloc());
-    push_lines(rt.alloc(), states, &mut text, lines).expect(rt, "answers");
-    assert_eq!(rt; text.as_str(), lines);
+    push_lines(rt, rt.alloc(), states, &mut text, lines);
+    assert!(rt; text.as_str() == lines, "{text}");
 }
 
 #[test]
 fn a_run_keeps_the_users_with_which_it_was_made(rt: HostRuntime) {
-    let mut states = registry(rt.alloc()).expect(&rt, "a registry");
+    let mut states = registry(&rt, rt.alloc());
     expect(
         &rt,
         &mut states,
@@ -162,7 +168,7 @@ y ann open 1 1 => open 5 of 1: 1.0
 
 #[test]
 fn a_list_that_is_shared_already_is_loaded(rt: HostRuntime) {
-    let mut states = registry(rt.alloc()).expect(&rt, "a registry");
+    let mut states = registry(&rt, rt.alloc());
     let users = Users::read(rt.alloc(), ANN_AND_DAN).expect(&rt, "users");
     states.reload_shared(Arc::new(rt.alloc(), users).expect(&rt, "memory"));
     expect(

@@ -2,72 +2,79 @@
 ghost use Rattle.std.specs.Prelude.{◌≡◌};
 
 use super::asks::cut;
+use cs_fids::Place;
 use cs_journal::{Pass, Run, can_grow};
 use cs_names::{Bytes, Path, Text, Texts, UserName};
-use cs_permit::{AttachCall, Call, CloseCall, OpenCall, RemoveCall, StatCall, WalkCall, WriteCall};
+use cs_permit::{
+    AttachCall, Call, CloseCall, OpenCall, ReadCall, RemoveCall, StatCall, WalkCall, WriteCall,
+};
 use cs_run::Answer;
 use cs_tree::PlainTree;
 use cs_tree_model::{Content, DMDIR, Record};
 use cs_users::Users;
 use std::alloc::Global;
 use std::marker::Model;
+use std::process::Abort;
 use std::sync::Arc;
 
 /// The number of the file.
 const FILE: u64 = 1;
 
-fn user(alloc: Global) -> Option<UserName> {
-    UserName::read(alloc, b"ann").ok()
+fn user(rt: &impl Abort, alloc: Global) -> UserName {
+    UserName::read(alloc, b"ann").expect(rt, "a value")
 }
 
-fn record(alloc: Global, number: u64, mode: u32, content: Content) -> Option<Record> {
-    Some(Record {
+fn record(rt: &impl Abort, alloc: Global, number: u64, mode: u32, content: Content) -> Record {
+    Record {
         number,
         vers: 0,
-        owner: user(alloc)?,
-        group: user(alloc)?,
+        owner: user(rt, alloc),
+        group: user(rt, alloc),
         mode,
         atime: 0,
         mtime: 0,
-        muid: user(alloc)?,
+        muid: user(rt, alloc),
         content,
-    })
+    }
 }
 
-fn root(alloc: Global) -> Option<Record> {
-    record(alloc, 0, DMDIR | 0o755, Content::directory())
+fn root(rt: &impl Abort, alloc: Global) -> Record {
+    record(rt, alloc, 0, DMDIR | 0o755, Content::directory())
 }
 
-fn file(alloc: Global) -> Option<Record> {
-    let bytes = Vec::from_slice(alloc, b"hello").ok()?;
-    record(alloc, FILE, 0o644, Content::file(bytes))
+fn file(rt: &impl Abort, alloc: Global) -> Record {
+    let bytes = Vec::from_slice(alloc, b"hello").expect(rt, "memory");
+    record(rt, alloc, FILE, 0o644, Content::file(bytes))
 }
 
 fn push_record(
+    rt: &impl Abort,
     alloc: Global,
     records: &mut Vec<(Path, Record)>,
     path: &str,
     record: Record,
-) -> Option<()> {
-    let path = Path::read(alloc, path).ok()?;
-    records.push((path, record)).ok()
+) {
+    let path = Path::read(alloc, path).expect(rt, "a value");
+    records.push((path, record)).expect(rt, "memory")
 }
 
-fn tree(alloc: Global) -> Option<PlainTree> {
+fn tree(rt: &impl Abort, alloc: Global) -> PlainTree {
     let mut records = Vec::new(alloc);
-    push_record(alloc, &mut records, "/", root(alloc)?)?;
-    push_record(alloc, &mut records, "/f", file(alloc)?)?;
-    PlainTree::try_from_records(alloc, records).ok()
+    push_record(rt, alloc, &mut records, "/", root(rt, alloc));
+    push_record(rt, alloc, &mut records, "/f", file(rt, alloc));
+    PlainTree::try_from_records(alloc, records).expect(rt, "a value")
 }
 
 /// A run over the root and the file `f`, which ann owns.
-pub fn run(alloc: Global) -> Option<Run<PlainTree>> {
-    let users = Arc::new(alloc, Users::read(alloc, b"1:ann::\n2:bob::\n").ok()?).ok()?;
-    let lower = Arc::new(alloc, tree(alloc)?).ok()?;
-    if !can_grow(&*lower) {
-        return None;
-    }
-    Run::fresh(alloc, lower, users).ok()
+pub fn run(rt: &impl Abort, alloc: Global) -> Run<PlainTree> {
+    let users = Arc::new(
+        alloc,
+        Users::read(alloc, b"1:ann::\n2:bob::\n").expect(rt, "a value"),
+    )
+    .expect(rt, "a value");
+    let lower = Arc::new(alloc, tree(rt, alloc)).expect(rt, "memory");
+    assert!(rt; can_grow(&*lower));
+    Run::fresh(alloc, lower, users).expect(rt, "memory")
 }
 
 /// A run, and a pass of it that fits.
@@ -91,15 +98,21 @@ impl Model for Side {
 }
 
 impl Side {
-    pub fn new(alloc: Global) -> Option<Side> {
-        let mut run = run(alloc)?;
-        let pass = run.new_pass(alloc).ok()?;
-        Some(Side { run, pass })
+    pub fn new(rt: &impl Abort, alloc: Global) -> Side {
+        let mut run = run(rt, alloc);
+        let pass = run.new_pass(alloc).expect(rt, "memory");
+        Side { run, pass }
     }
 
     /// Makes a call at second 1000.
     pub fn step(&mut self, alloc: Global, call: Call) -> Answer {
         self.run.step(alloc, &mut self.pass, 1000, call)
+    }
+
+    /// What the call of the entry at the place was answered.
+    pub fn answer_at(&self, rt: &impl Abort, alloc: Global, place: usize) -> Answer {
+        let answer = self.run.answer_at(alloc, place).expect(rt, "memory");
+        answer.expect(rt, "an entry")
     }
 
     /// Whether the pass of the other side fits the run of this one.
@@ -108,65 +121,81 @@ impl Side {
     }
 
     /// Adds how many entries there are, receipts, and places for closes.
-    pub fn push_counts(&self, text: &mut String) -> Option<()> {
+    pub fn push_counts(&self, rt: &impl Abort, text: &mut String) {
         let entries = self.run.entries();
         let (receipts, reserved) = (self.pass.receipts().len(), self.pass.reserved());
-        write!(text, " {entries} {receipts} {reserved}").ok()
+        write!(text, " {entries} {receipts} {reserved}").expect(rt, "memory")
     }
 }
 
-pub fn attach(alloc: Global, user: &str) -> Option<Call> {
-    let user = Text::keep(alloc, user).ok()?;
-    Some(Call::Attach(AttachCall { user }))
+pub fn attach(rt: &impl Abort, alloc: Global, user: &str) -> Call {
+    let user = Text::keep(alloc, user).expect(rt, "memory");
+    Call::Attach(AttachCall { user })
 }
 
-fn walk(alloc: Global) -> Option<Call> {
-    let user = user(alloc)?;
+fn walk(rt: &impl Abort, alloc: Global) -> Call {
+    let user = user(rt, alloc);
     let mut names = Vec::new(alloc);
-    names.push(String::from_str(alloc, "f").ok()?).ok()?;
-    Some(Call::Walk(WalkCall {
+    names
+        .push(String::from_str(alloc, "f").expect(rt, "memory"))
+        .expect(rt, "memory");
+    Call::Walk(WalkCall {
         number: 0,
         user,
         names: Texts::new(names),
-    }))
+    })
 }
 
-fn open(alloc: Global, mode: &str) -> Option<Call> {
-    let mode = mode.parse::<u8>().ok()?;
-    Some(Call::Open(OpenCall {
+fn open(rt: &impl Abort, alloc: Global, mode: &str) -> Call {
+    let mode = mode.parse::<u8>().expect(rt, "a value");
+    Call::Open(OpenCall {
         number: FILE,
-        user: user(alloc)?,
+        user: user(rt, alloc),
         mode,
-    }))
+    })
 }
 
 /// The offset and the bytes.
-fn write(alloc: Global, words: &str) -> Option<Call> {
-    let (offset, text) = words.split_once(' ')?;
-    let offset = offset.parse::<u64>().ok()?;
-    let user = user(alloc)?;
-    let bytes = Bytes::keep(alloc, text.as_bytes()).ok()?;
-    Some(Call::Write(WriteCall {
+fn write(rt: &impl Abort, alloc: Global, words: &str) -> Call {
+    let (offset, text) = words.split_once(' ').expect(rt, "a value");
+    let offset = offset.parse::<u64>().expect(rt, "a value");
+    write_of(rt, alloc, offset, text.as_bytes())
+}
+
+pub fn write_of(rt: &impl Abort, alloc: Global, offset: u64, bytes: &[u8]) -> Call {
+    let user = user(rt, alloc);
+    let bytes = Bytes::keep(alloc, bytes).expect(rt, "memory");
+    Call::Write(WriteCall {
         number: FILE,
         user,
         offset,
         bytes,
-    }))
+    })
 }
 
-fn close(alloc: Global, open_number: &str) -> Option<Call> {
-    let open_number = open_number.parse::<u32>().ok()?;
-    let user = user(alloc)?;
-    Some(Call::Close(CloseCall { open_number, user }))
+fn close(rt: &impl Abort, alloc: Global, open_number: &str) -> Call {
+    let open_number = open_number.parse::<u32>().expect(rt, "a value");
+    let user = user(rt, alloc);
+    Call::Close(CloseCall { open_number, user })
 }
 
-fn remove(alloc: Global, open_number: &str) -> Option<Call> {
-    let open_number = open_number.parse::<u32>().ok()?;
-    Some(Call::Remove(RemoveCall {
+fn remove(rt: &impl Abort, alloc: Global, open_number: &str) -> Call {
+    let open_number = open_number.parse::<u32>().expect(rt, "a value");
+    Call::Remove(RemoveCall {
         number: FILE,
-        user: user(alloc)?,
+        user: user(rt, alloc),
         open_number: Some(open_number),
-    }))
+    })
+}
+
+/// A read of so many bytes.
+pub fn read_of(offset: u64, count: u32) -> Call {
+    Call::Read(ReadCall {
+        number: FILE,
+        offset,
+        count,
+        place: Place::start(),
+    })
 }
 
 pub fn stat() -> Call {
@@ -175,15 +204,15 @@ pub fn stat() -> Call {
 
 /// The call that words ask for: `attach`, `walk` or `stat`; `open` with its mode, `write` with its
 /// offset and bytes, `close` or `remove` with the number of the open.
-pub fn call_of(alloc: Global, words: &str) -> Option<Call> {
+pub fn call_of(rt: &impl Abort, alloc: Global, words: &str) -> Call {
     let (word, words) = cut(words);
     match word {
-        "attach" => attach(alloc, "ann"),
-        "walk" => walk(alloc),
-        "open" => open(alloc, words),
-        "write" => write(alloc, words),
-        "close" => close(alloc, words),
-        "remove" => remove(alloc, words),
-        _ => Some(stat()),
+        "attach" => attach(rt, alloc, "ann"),
+        "walk" => walk(rt, alloc),
+        "open" => open(rt, alloc, words),
+        "write" => write(rt, alloc, words),
+        "close" => close(rt, alloc, words),
+        "remove" => remove(rt, alloc, words),
+        _ => stat(),
     }
 }

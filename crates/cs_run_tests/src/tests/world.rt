@@ -34,43 +34,43 @@ const START: [Row; 7] = [
     Row(6, "/p", b"ann", b"staff", DMDIR | 0o750, None),
 ];
 
-fn content(alloc: Global, bytes: Option<&[u8]>) -> Option<Content> {
+fn content(rt: &impl Abort, alloc: Global, bytes: Option<&[u8]>) -> Content {
     match bytes {
-        None => Some(Content::directory()),
-        Some(bytes) => Some(Content::file(Vec::from_slice(alloc, bytes).ok()?)),
+        None => Content::directory(),
+        Some(bytes) => Content::file(Vec::from_slice(alloc, bytes).expect(rt, "memory")),
     }
 }
 
-fn user(alloc: Global, name: &[u8]) -> Option<UserName> {
-    UserName::read(alloc, name).ok()
+fn user(rt: &impl Abort, alloc: Global, name: &[u8]) -> UserName {
+    UserName::read(alloc, name).expect(rt, "a value")
 }
 
-fn record(alloc: Global, row: &Row) -> Option<Record> {
-    Some(Record {
+fn record(rt: &impl Abort, alloc: Global, row: &Row) -> Record {
+    Record {
         number: row.0,
         vers: 0,
-        owner: user(alloc, row.2)?,
-        group: user(alloc, row.3)?,
+        owner: user(rt, alloc, row.2),
+        group: user(rt, alloc, row.3),
         mode: row.4,
         atime: 0,
         mtime: 0,
-        muid: user(alloc, row.2)?,
-        content: content(alloc, row.5)?,
-    })
+        muid: user(rt, alloc, row.2),
+        content: content(rt, alloc, row.5),
+    }
 }
 
-fn push_record(alloc: Global, records: &mut Vec<(Path, Record)>, row: &Row) -> Option<()> {
-    let path = Path::read(alloc, row.1).ok()?;
-    let record = record(alloc, row)?;
-    records.push((path, record)).ok()
+fn push_record(rt: &impl Abort, alloc: Global, records: &mut Vec<(Path, Record)>, row: &Row) {
+    let path = Path::read(alloc, row.1).expect(rt, "a value");
+    let record = record(rt, alloc, row);
+    records.push((path, record)).expect(rt, "memory")
 }
 
-fn start_tree(alloc: Global) -> Option<PlainTree> {
+fn start_tree(rt: &impl Abort, alloc: Global) -> PlainTree {
     let mut records = Vec::new(alloc);
     for row in &START {
-        push_record(alloc, &mut records, row)?;
+        push_record(rt, alloc, &mut records, row);
     }
-    PlainTree::try_from_records(alloc, records).ok()
+    PlainTree::try_from_records(alloc, records).expect(rt, "a value")
 }
 
 /// A run, and the place of a fid's reads of a directory.
@@ -81,49 +81,46 @@ pub struct World {
 }
 
 impl World {
-    fn start(alloc: Global) -> Option<World> {
-        let tree = start_tree(alloc)?;
-        let users = Users::read(alloc, USERS.as_bytes()).ok()?;
-        Some(World {
+    fn start(rt: &impl Abort, alloc: Global) -> World {
+        let tree = start_tree(rt, alloc);
+        let users = Users::read(alloc, USERS.as_bytes()).expect(rt, "a value");
+        World {
             run: CountedRun::new(alloc, tree, users),
             place: Place::start(),
-        })
+        }
     }
 
     /// Makes a call at second 1000, in the turn of its number.
-    fn step(&mut self, alloc: Global, pass: u32, call: &Call) -> Option<Answer> {
-        if self.run.is_full() {
-            return None;
-        }
+    fn step(&mut self, rt: &impl Abort, alloc: Global, pass: u32, call: &Call) -> Answer {
+        assert!(rt; !self.run.is_full());
         let (_outcome, answer) = self.run.step(alloc, 1000, pass, call);
-        Some(answer)
+        answer
     }
 
     /// Makes a call, and adds the answer in words. The place of a read is kept for the next one.
-    fn ask(&mut self, alloc: Global, text: &mut String, line: &str) -> Option<()> {
-        let (pass, words) = line.split_once(' ')?;
-        let (user, words) = words.split_once(' ')?;
-        let call = call_of(alloc, user, words, &self.place)?;
-        let answer = self.step(alloc, pass.parse::<u32>().ok()?, &call)?;
-        push_answer(text, answer, &mut self.place)
+    fn ask(&mut self, rt: &impl Abort, alloc: Global, text: &mut String, line: &str) {
+        let (pass, words) = line.split_once(' ').expect(rt, "a value");
+        let (user, words) = words.split_once(' ').expect(rt, "a value");
+        let call = call_of(rt, alloc, user, words, &self.place);
+        let answer = self.step(rt, alloc, pass.parse::<u32>().expect(rt, "a value"), &call);
+        push_answer(rt, text, answer, &mut self.place)
     }
 
     /// Adds a line with the answer that its call had.
-    fn push_line(&mut self, alloc: Global, text: &mut String, line: &str) -> Option<()> {
-        let (asked, _) = line.split_once(" => ")?;
-        text.push_str(asked).ok()?;
-        text.push_str(" => ").ok()?;
-        self.ask(alloc, text, asked)?;
-        text.push_str("\n").ok()
+    fn push_line(&mut self, rt: &impl Abort, alloc: Global, text: &mut String, line: &str) {
+        let (asked, _) = line.split_once(" => ").expect(rt, "a value");
+        text.push_str(asked).expect(rt, "memory");
+        text.push_str(" => ").expect(rt, "memory");
+        self.ask(rt, alloc, text, asked);
+        text.push_str("\n").expect(rt, "memory")
     }
 }
 
-fn push_lines(alloc: Global, text: &mut String, lines: &str) -> Option<()> {
-    let mut world = World::start(alloc)?;
+fn push_lines(rt: &impl Abort, alloc: Global, text: &mut String, lines: &str) {
+    let mut world = World::start(rt, alloc);
     for line in lines.lines() {
-        world.push_line(alloc, text, line)?;
+        world.push_line(rt, alloc, text, line);
     }
-    Some(())
 }
 
 /// Makes calls one after the other in a new run, and looks for their answers. Each line has the
@@ -131,6 +128,6 @@ fn push_lines(alloc: Global, text: &mut String, lines: &str) -> Option<()> {
 /// from 0.
 pub fn run(rt: &(impl Abort + AllocGlobal), lines: &str) {
     let mut text = String::new(rt.alloc());
-    push_lines(rt.alloc(), &mut text, lines).expect(rt, "answers");
-    assert_eq!(rt; text.as_str(), lines);
+    push_lines(rt, rt.alloc(), &mut text, lines);
+    assert!(rt; text.as_str() == lines, "{text}");
 }

@@ -14,10 +14,11 @@ use std::thread;
 
 /// The passes of the first connections, so many.
 fn passes_of(
+    rt: &impl Abort,
     alloc: Global,
     connections: Vec<Connection<AnyScene>>,
     count: u32,
-) -> Option<GivenPasses> {
+) -> GivenPasses {
     let mut passes = GivenPasses::new(alloc);
     let mut left = count;
     for connection in connections {
@@ -25,22 +26,25 @@ fn passes_of(
             break;
         }
         left -= 1;
-        passes.keep(alloc, connection).ok()?;
+        passes.keep(alloc, connection).expect(rt, "memory");
     }
-    Some(passes)
+    passes
 }
 
 /// What the audit of the run `0/x` by these passes comes to.
-fn audit_of<R: Wait>(
+fn audit_of<R: Wait + Abort>(
     rt: &R,
     alloc: Global,
     server: &Server<AnyScene>,
     passes: &GivenPasses,
-) -> Option<Result<(), AuditFault>> {
-    let name = RunName::read(alloc, b"x").ok()?;
+) -> Result<(), AuditFault> {
+    let name = RunName::read(alloc, b"x").expect(rt, "a value");
     let key = RunKey::new(0, &name);
-    let run = server.registry().find(rt, alloc, 0, &name).ok()?;
-    Some(run.inspect(rt, |run| run.audit(passes.of(&key))))
+    let run = server
+        .registry()
+        .find(rt, alloc, 0, &name)
+        .expect(rt, "memory");
+    run.inspect(rt, |run| run.audit(passes.of(&key)))
 }
 
 /// Serves three streams, of which the first and the last attach to `0/x`, and looks for the audit by the
@@ -52,9 +56,9 @@ fn expect_audit<R: thread::Threads + Wait + Sync + Abort>(
     wanted: Result<(), AuditFault>,
 ) {
     let server = server_of(rt, alloc);
-    let connections = served_at_once(rt, alloc, &server).expect(rt, "connections");
-    let passes = passes_of(alloc, connections, count).expect(rt, "memory");
-    let audit = audit_of(rt, alloc, &server, &passes).expect(rt, "an audit");
+    let connections = served_at_once(rt, alloc, &server);
+    let passes = passes_of(rt, alloc, connections, count);
+    let audit = audit_of(rt, alloc, &server, &passes);
     assert!(rt; audit == wanted);
 }
 
@@ -81,7 +85,7 @@ struct Ended {
 impl Ended {
     /// Serves a connection that sends these requests, and keeps the passes that it gives back.
     fn serve<R: Wait + Abort>(&mut self, rt: &R, alloc: Global, requests: &[&[u8]]) {
-        let connection = served(rt, alloc, &self.server, requests).expect(rt, "memory");
+        let connection = served(rt, alloc, &self.server, requests);
         assert!(rt; self.passes.keep(alloc, connection).is_ok());
     }
 
@@ -102,8 +106,8 @@ fn a_run_put_in_the_place_of_a_servers_own_is_seen(rt: HostRuntime) {
     let alloc = rt.alloc();
     let own = Ended::of(&rt, alloc, &BOB_STATS);
     let audit = audit_of(&rt, alloc, &own.server, &own.passes);
-    assert!(rt; audit == Some(Ok(())));
+    assert!(rt; audit == Ok(()));
     let other = Ended::of(&rt, alloc, &BOB_WALKS);
     let audit = audit_of(&rt, alloc, &other.server, &own.passes);
-    assert!(rt; audit == Some(Err(AuditFault::Changed(3))));
+    assert!(rt; audit == Err(AuditFault::Changed(3)));
 }

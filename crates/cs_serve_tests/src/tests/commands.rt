@@ -17,51 +17,46 @@ pub fn inputs_of<'a>(users: &'a [u8], trace: &'a [u8]) -> Inputs<'a> {
 }
 
 /// A status, what was printed, and, after a line of `--`, what was told on standard error.
-pub fn outcome(alloc: Global, status: u8, out: &[u8], err: &[u8]) -> Option<String> {
-    let out = std::str::from_utf8(out).ok()?;
-    let err = std::str::from_utf8(err).ok()?;
-    format!(in alloc; "status {status}\n{out}--\n{err}").ok()
+pub fn outcome(rt: &impl Abort, alloc: Global, status: u8, out: &[u8], err: &[u8]) -> String {
+    let out = std::str::from_utf8(out).expect(rt, "a value");
+    let err = std::str::from_utf8(err).expect(rt, "a value");
+    format!(in alloc; "status {status}\n{out}--\n{err}").expect(rt, "memory")
 }
 
 /// What `script` comes to.
-pub fn scripted<R: Read>(alloc: Global, inputs: &Inputs, input: &mut R) -> Option<String> {
+pub fn scripted<R: Read>(rt: &impl Abort, alloc: Global, inputs: &Inputs, input: &mut R) -> String {
     let mut out: Vec<u8> = Vec::new(alloc);
     let mut err: Vec<u8> = Vec::new(alloc);
     let status = script_of(alloc, inputs, input, &mut out, &mut err);
-    outcome(alloc, status, &out, &err)
+    outcome(rt, alloc, status, &out, &err)
 }
 
 /// What `list` comes to.
-pub fn listed(alloc: Global, inputs: &Inputs) -> Option<String> {
+pub fn listed(rt: &impl Abort, alloc: Global, inputs: &Inputs) -> String {
     let mut out: Vec<u8> = Vec::new(alloc);
     let mut err: Vec<u8> = Vec::new(alloc);
     let status = list_of(alloc, inputs, &mut out, &mut err);
-    outcome(alloc, status, &out, &err)
+    outcome(rt, alloc, status, &out, &err)
 }
 
 /// Looks for the status 0, and for what is printed and told.
-pub fn expect_printed(
-    rt: &(impl Abort + AllocGlobal),
-    outcome: Option<String>,
-    out: &str,
-    err: &str,
-) {
+pub fn expect_printed(rt: &(impl Abort + AllocGlobal), outcome: String, out: &str, err: &str) {
     let wanted = format!(in rt.alloc(); "status 0\n{out}--\n{err}").expect(rt, "memory");
-    assert_eq!(rt; outcome.expect(rt, "text").as_str(), wanted.as_str());
+    assert!(rt; outcome.as_str() == wanted.as_str(), "{outcome}");
 }
 
 /// Looks for a fault, which is told in one line, for no output, and for the status 1.
-pub fn expect_fault(rt: &(impl Abort + AllocGlobal), outcome: Option<String>, fault: &str) {
+pub fn expect_fault(rt: &(impl Abort + AllocGlobal), outcome: String, fault: &str) {
     let wanted = format!(in rt.alloc(); "status 1\n--\ncrashfs: {fault}\n").expect(rt, "memory");
-    assert_eq!(rt; outcome.expect(rt, "text").as_str(), wanted.as_str());
+    assert!(rt; outcome.as_str() == wanted.as_str(), "{outcome}");
 }
 
 /// What is given, and the fault that is told of it.
 pub struct Faulty(pub &'static str, pub &'static str);
 
 /// A header, and these two texts.
-pub fn trace_of(alloc: Global, front: &str, back: &str) -> Option<String> {
-    format!(in alloc; "{HEADER}{front}{back}").ok()
+pub fn trace_of(rt: &impl Abort, alloc: Global, front: &str, back: &str) -> String {
+    format!(in alloc; "{HEADER}{front}{back}").expect(rt, "memory")
 }
 
 /// A reader whose reads fail.

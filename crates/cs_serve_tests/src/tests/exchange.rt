@@ -1,18 +1,17 @@
 //! Exchanges byte for byte.
 use crate::tests::commands::{expect_printed, inputs_of, scripted};
 use crate::tests::fixture::{TRACE, USERS};
-use std::alloc::AllocError;
 use std::process::Abort;
 
 /// A message and its reply.
 struct Pair(&'static str, &'static str);
 
-fn push_message(script: &mut String, pair: &Pair) -> Result<(), AllocError> {
-    write!(script, "0 0 {}\n", pair.0)
+fn push_message(rt: &impl Abort, script: &mut String, pair: &Pair) {
+    write!(script, "0 0 {}\n", pair.0).expect(rt, "memory");
 }
 
-fn push_reply(replies: &mut String, pair: &Pair) -> Result<(), AllocError> {
-    write!(replies, "0 {}\n", pair.1)
+fn push_reply(rt: &impl Abort, replies: &mut String, pair: &Pair) {
+    write!(replies, "0 {}\n", pair.1).expect(rt, "memory");
 }
 
 /// Sends messages one after the other by a script, and looks for their replies.
@@ -20,11 +19,11 @@ fn exchange(rt: &(impl Abort + AllocGlobal), pairs: &[Pair]) {
     let mut script = String::new(rt.alloc());
     let mut replies = String::new(rt.alloc());
     for pair in pairs {
-        push_message(&mut script, pair).expect(rt, "memory");
-        push_reply(&mut replies, pair).expect(rt, "memory");
+        push_message(rt, &mut script, pair);
+        push_reply(rt, &mut replies, pair);
     }
     let inputs = inputs_of(USERS, TRACE.as_bytes());
-    let printed = scripted(rt.alloc(), &inputs, &mut script.as_bytes());
+    let printed = scripted(rt, rt.alloc(), &inputs, &mut script.as_bytes());
     expect_printed(rt, printed, replies.as_str(), "");
 }
 

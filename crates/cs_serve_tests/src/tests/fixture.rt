@@ -25,87 +25,90 @@ pub const TRACE: &str = r#"{"trace":1,"owner":"cat","group":"staff","mode":"775"
 pub const HEADER: &str = r#"{"trace":1,"owner":"cat","group":"staff","mode":"775"}
 "#;
 
-fn scene_of(alloc: Global, trace: &str) -> Option<Scene> {
-    let trace = read_trace(alloc, trace).ok()?;
-    Scene::of(alloc, trace, false, Vec::new(alloc)).ok()
+fn scene_of(rt: &impl Abort, alloc: Global, trace: &str) -> Scene {
+    let trace = read_trace(alloc, trace).expect(rt, "a value");
+    Scene::of(alloc, trace, false, Vec::new(alloc)).expect(rt, "memory")
 }
 
 /// A world of the states of a trace's prefixes, with no session.
-pub fn world_over(alloc: Global, trace: &str) -> Option<World> {
-    let scene = scene_of(alloc, trace)?;
-    let users = Users::read(alloc, USERS).ok()?;
-    world_of(alloc, scene, users).ok()
+pub fn world_over(rt: &impl Abort, alloc: Global, trace: &str) -> World {
+    let scene = scene_of(rt, alloc, trace);
+    let users = Users::read(alloc, USERS).expect(rt, "a value");
+    world_of(alloc, scene, users).expect(rt, "memory")
 }
 
-fn push_closed(alloc: Global, world: &mut World, text: &mut String, conn: u32) -> Option<()> {
-    if conn >= 64 {
-        return None;
-    }
+fn push_closed(rt: &impl Abort, alloc: Global, world: &mut World, text: &mut String, conn: u32) {
+    assert!(rt; conn < 64);
     let closed = world.hang_up(alloc, conn, 7);
-    write!(text, "{closed:?}").ok()
+    write!(text, "{closed:?}").expect(rt, "memory")
 }
 
 fn push_answered(
+    rt: &impl Abort,
     alloc: Global,
     world: &mut World,
     text: &mut String,
     conn: u32,
     asked: &str,
-) -> Option<()> {
-    let message = message_of(alloc, asked)?;
-    if conn >= 64 || message.len() < 7 {
-        return None;
-    }
+) {
+    let message = message_of(alloc, asked).expect(rt, "a message");
+    assert!(rt; conn < 64 && message.len() >= 7);
     let reply = world.message(alloc, conn, 7, &message);
-    push_reply(text, asked, &reply)
+    push_reply(rt, text, asked, &reply)
 }
 
 /// Does what a line asks, which is a connection's number, and a message in words or `hangup`; adds
 /// the reply.
-pub fn push_answer(alloc: Global, world: &mut World, text: &mut String, line: &str) -> Option<()> {
-    let (conn, asked) = line.split_once(' ')?;
-    let conn = conn.parse::<u32>().ok()?;
+pub fn push_answer(
+    rt: &impl Abort,
+    alloc: Global,
+    world: &mut World,
+    text: &mut String,
+    line: &str,
+) {
+    let (conn, asked) = line.split_once(' ').expect(rt, "a value");
+    let conn = conn.parse::<u32>().expect(rt, "a value");
     if asked == "hangup" {
-        return push_closed(alloc, world, text, conn);
+        return push_closed(rt, alloc, world, text, conn);
     }
-    push_answered(alloc, world, text, conn, asked)
+    push_answered(rt, alloc, world, text, conn, asked)
 }
 
 /// Adds a line of a dialogue with the reply that its message had.
-fn push_line(alloc: Global, world: &mut World, text: &mut String, line: &str) -> Option<()> {
-    let (asked, _) = line.split_once(" => ")?;
-    text.push_str(asked).ok()?;
-    text.push_str(" => ").ok()?;
-    push_answer(alloc, world, text, asked)
+fn push_line(rt: &impl Abort, alloc: Global, world: &mut World, text: &mut String, line: &str) {
+    let (asked, _) = line.split_once(" => ").expect(rt, "a value");
+    text.push_str(asked).expect(rt, "memory");
+    text.push_str(" => ").expect(rt, "memory");
+    push_answer(rt, alloc, world, text, asked)
 }
 
 /// Adds a dialogue with the replies that its messages had. It may have empty lines.
 fn push_dialogue(
+    rt: &impl Abort,
     alloc: Global,
     world: &mut World,
     text: &mut String,
     dialogue: &str,
-) -> Option<()> {
+) {
     for line in dialogue.lines() {
         if !line.is_empty() {
-            push_line(alloc, world, text, line)?;
+            push_line(rt, alloc, world, text, line);
         }
-        text.push_str("\n").ok()?;
+        text.push_str("\n").expect(rt, "memory");
     }
-    Some(())
 }
 
 /// Has a dialogue with a world, and looks for its replies. Each line has what is asked, an arrow,
 /// and the reply.
 pub fn expect_in(rt: &(impl Abort + AllocGlobal), world: &mut World, dialogue: &str) {
     let mut told = String::new(rt.alloc());
-    push_dialogue(rt.alloc(), world, &mut told, dialogue).expect(rt, "a dialogue");
-    assert_eq!(rt; told.as_str(), dialogue);
+    push_dialogue(rt, rt.alloc(), world, &mut told, dialogue);
+    assert!(rt; told.as_str() == dialogue, "{told}");
 }
 
 /// Has a dialogue with a world over a trace, with no session.
 pub fn expect_over(rt: &(impl Abort + AllocGlobal), trace: &str, dialogue: &str) {
-    let mut world = world_over(rt.alloc(), trace).expect(rt, "a world");
+    let mut world = world_over(rt, rt.alloc(), trace);
     expect_in(rt, &mut world, dialogue);
 }
 
@@ -120,7 +123,7 @@ pub fn join(rt: &(impl Abort + AllocGlobal), world: &mut World, conn: u32, user:
 /// Has a dialogue with a world over the start tree. Its connections are those of these users, each
 /// attached as the fid 0.
 pub fn expect(rt: &(impl Abort + AllocGlobal), users: &[&str], dialogue: &str) {
-    let mut world = world_over(rt.alloc(), TRACE).expect(rt, "a world");
+    let mut world = world_over(rt, rt.alloc(), TRACE);
     let mut conn = 0u32;
     for user in users {
         join(rt, &mut world, conn, user);

@@ -50,54 +50,55 @@ stat 0
 ";
 
 /// What a connection sends by a line.
-fn sent(alloc: Global, client: &Client, line: &str) -> Option<String> {
+fn sent(rt: &impl Abort, alloc: Global, client: &Client, line: &str) -> String {
     let Client(conn, user, run) = client;
     if line == "attach 0" {
-        return format!(in alloc; "{conn} {line} {user} {run}").ok();
+        return format!(in alloc; "{conn} {line} {user} {run}").expect(rt, "memory");
     }
-    format!(in alloc; "{conn} {line}").ok()
+    format!(in alloc; "{conn} {line}").expect(rt, "memory")
 }
 
 /// A connection does what the line says, and adds its reply.
 fn take_turn(
+    rt: &impl Abort,
     alloc: Global,
     world: &mut World,
     client: &Client,
     line: &str,
     told: &mut String,
-) -> Option<()> {
-    let line = sent(alloc, client, line)?;
-    push_answer(alloc, world, told, line.as_str())?;
-    told.push_str("\n").ok()
+) {
+    let line = sent(rt, alloc, client, line);
+    push_answer(rt, alloc, world, told, line.as_str());
+    told.push_str("\n").expect(rt, "memory")
 }
 
 /// Each connection does what the line says. The replies to the connections 0 and 1 are added.
 fn take_turns(
+    rt: &impl Abort,
     alloc: Global,
     world: &mut World,
     clients: &[Client],
     line: &str,
     told: &mut String,
-) -> Option<()> {
+) {
     let mut unheard = String::new(alloc);
     for client in clients {
         if client.0 == "0" || client.0 == "1" {
-            take_turn(alloc, world, client, line, told)?;
+            take_turn(rt, alloc, world, client, line, told);
         } else {
-            take_turn(alloc, world, client, line, &mut unheard)?;
+            take_turn(rt, alloc, world, client, line, &mut unheard);
         }
     }
-    Some(())
 }
 
 /// What the connections 0 and 1 are told, a line each time, where these do all lines, in turn.
 fn told(rt: &(impl Abort + AllocGlobal), clients: &[Client]) -> String {
-    let mut world = world_over(rt.alloc(), TRACE).expect(rt, "a world");
+    let mut world = world_over(rt, rt.alloc(), TRACE);
     let mut told = String::new(rt.alloc());
     for line in LINES.lines() {
-        take_turns(rt.alloc(), &mut world, clients, line, &mut told).expect(rt, "replies");
+        take_turns(rt, rt.alloc(), &mut world, clients, line, &mut told);
     }
-    assert_eq!(rt; told.lines().count(), 72);
+    assert!(rt; told.lines().count() == 72);
     told
 }
 
@@ -123,7 +124,7 @@ const AMONG: [Client; 4] = [
 #[test]
 fn a_group_is_told_the_same_without_the_other(rt: HostRuntime) {
     let alone = told(&rt, &ALONE);
-    assert_eq!(rt; told(&rt, &BESIDE).as_str(), alone.as_str());
+    assert!(rt; told(&rt, &BESIDE).as_str() == alone.as_str());
 }
 
 #[test]

@@ -16,12 +16,12 @@ fn expect_stats(rt: &(impl Abort + AllocGlobal), world: &mut World, count: u32, 
             granted = granted.wrapping_add(1);
         }
     }
-    assert_eq!(rt; granted, wanted);
+    assert!(rt; granted == wanted);
 }
 
 /// A world over the start tree, in which ann has `/f` open as the fid 1 on connection 0.
 fn opened(rt: &(impl Abort + AllocGlobal)) -> World {
-    let mut world = world_over(rt.alloc(), TRACE).expect(rt, "a world");
+    let mut world = world_over(rt, rt.alloc(), TRACE);
     join(rt, &mut world, 0, "ann");
     expect_in(
         rt,
@@ -93,13 +93,13 @@ fn expect_refused(rt: &(impl Abort + AllocGlobal), world: &mut World) {
 0 attach 0 zed 0/x => Rerror tag 1 ename "A6 unknown user"
 "#,
     );
-    assert_eq!(rt; world.run_count(), 1);
+    assert!(rt; world.run_count() == 1);
 }
 
 #[test]
 fn refused_attaches_are_among_the_64_of_a_run(rt: HostRuntime) {
-    let mut world = world_over(rt.alloc(), TRACE).expect(&rt, "a world");
-    assert_eq!(rt; world.run_count(), 0);
+    let mut world = world_over(&rt, rt.alloc(), TRACE);
+    assert!(rt; world.run_count() == 0);
     expect_in(
         &rt,
         &mut world,
@@ -118,5 +118,5 @@ fn refused_attaches_are_among_the_64_of_a_run(rt: HostRuntime) {
 0 attach 0 ann 0/y => Rattach tag 1 qid (80 0 0)
 "#,
     );
-    assert_eq!(rt; world.run_count(), 2);
+    assert!(rt; world.run_count() == 2);
 }

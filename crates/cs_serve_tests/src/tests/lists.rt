@@ -4,7 +4,7 @@ use crate::tests::commands::{
 };
 use crate::tests::fixture::HEADER;
 use cs_serve::{Inputs, list_of};
-use std::alloc::{AllocError, Global};
+use std::alloc::Global;
 use std::process::Abort;
 
 /// A file is written under another name, waited for, and renamed.
@@ -84,51 +84,56 @@ fn with_holes<'a>(trace: &'a str, picks: &'a str) -> Inputs<'a> {
 fn expect_listed(rt: &(impl Abort + AllocGlobal), trace: &str, picks: &str, wanted: [&str; 2]) {
     let [front, back] = wanted;
     let wanted = format!(in rt.alloc(); "{front}{back}").expect(rt, "memory");
-    let printed = listed(rt.alloc(), &with_holes(trace, picks));
+    let printed = listed(rt, rt.alloc(), &with_holes(trace, picks));
     expect_printed(rt, printed, wanted.as_str(), "");
 }
 
-fn push_creat(trace: &mut String, number: u32) -> Result<(), AllocError> {
-    write!(trace, "{{\"op\":\"creat\",\"path\":\"/{number}\"")?;
-    trace.push_str(",\"owner\":\"ann\",\"group\":\"staff\",\"mode\":\"644\"}\n")
+fn push_creat(rt: &impl Abort, trace: &mut String, number: u32) {
+    write!(trace, "{{\"op\":\"creat\",\"path\":\"/{number}\"").expect(rt, "memory");
+    trace
+        .push_str(",\"owner\":\"ann\",\"group\":\"staff\",\"mode\":\"644\"}\n")
+        .expect(rt, "memory");
 }
 
 /// A header and so many files that are made.
-fn creats(alloc: Global, count: u32) -> Result<String, AllocError> {
-    let mut trace = String::from_str(alloc, HEADER)?;
+fn creats(rt: &impl Abort, alloc: Global, count: u32) -> String {
+    let mut trace = String::from_str(alloc, HEADER).expect(rt, "memory");
     for number in 0..count {
-        push_creat(&mut trace, number)?;
+        push_creat(rt, &mut trace, number);
     }
-    Ok(trace)
+    trace
 }
 
-fn push_times(text: &mut String, part: &str, count: u32) -> Result<(), AllocError> {
+fn push_times(rt: &impl Abort, text: &mut String, part: &str, count: u32) {
     for _ in 0..count {
-        text.push_str(part)?;
+        text.push_str(part).expect(rt, "memory");
     }
-    Ok(())
 }
 
 /// A file of 5,000 bytes 0x61 that is made, waited for and renamed.
-fn push_renamed(trace: &mut String) -> Result<(), AllocError> {
-    trace.push_str(HEADER)?;
-    trace.push_str(r#"{"op":"creat","path":"/t","owner":"ann","group":"staff","mode":"644"}"#)?;
-    trace.push_str("\n")?;
-    trace.push_str(r#"{"op":"write","path":"/t","offset":0,"bytes":""#)?;
-    push_times(trace, "61", 5000)?;
-    trace.push_str("\"}\n")?;
-    trace.push_str(RENAMED)
+fn push_renamed(rt: &impl Abort, trace: &mut String) {
+    trace.push_str(HEADER).expect(rt, "memory");
+    trace
+        .push_str(r#"{"op":"creat","path":"/t","owner":"ann","group":"staff","mode":"644"}"#)
+        .expect(rt, "memory");
+    trace.push_str("\n").expect(rt, "memory");
+    trace
+        .push_str(r#"{"op":"write","path":"/t","offset":0,"bytes":""#)
+        .expect(rt, "memory");
+    push_times(rt, trace, "61", 5000);
+    trace.push_str("\"}\n").expect(rt, "memory");
+    trace.push_str(RENAMED).expect(rt, "memory");
 }
 
 pub fn renamed(rt: &(impl Abort + AllocGlobal)) -> String {
     let mut trace = String::new(rt.alloc());
-    push_renamed(&mut trace).expect(rt, "memory");
+    push_renamed(rt, &mut trace);
     trace
 }
 
 #[test]
 fn lists_the_states_of_a_file_that_is_renamed(rt: HostRuntime) {
-    let one = listed(rt.alloc(), &inputs_of(&[], HEADER.as_bytes()));
+    let one = listed(&rt, rt.alloc(), &inputs_of(&[], HEADER.as_bytes()));
     expect_printed(&rt, one, "state 0 prefix 0 says 0\n", "");
     let trace = renamed(&rt);
     expect_listed(&rt, trace.as_str(), "", [RENAMED_LIST, ""]);
@@ -137,7 +142,7 @@ fn lists_the_states_of_a_file_that_is_renamed(rt: HostRuntime) {
 
 #[test]
 fn lists_a_hole_only_where_its_last_place_stays(rt: HostRuntime) {
-    let trace = trace_of(rt.alloc(), MOVED_TWICE, SAY).expect(&rt, "memory");
+    let trace = trace_of(&rt, rt.alloc(), MOVED_TWICE, SAY);
     expect_listed(&rt, trace.as_str(), "", [MOVED_LIST, HOLES_LIST]);
     let synced = format!(in rt.alloc(); "{HEADER}{MOVED_TWICE}{SYNC}{SAY}").expect(&rt, "memory");
     expect_listed(&rt, synced.as_str(), "", [MOVED_LIST, ""]);
@@ -145,7 +150,7 @@ fn lists_a_hole_only_where_its_last_place_stays(rt: HostRuntime) {
 
 /// Looks for a fault of a trace with holes.
 fn expect_refused(rt: &(impl Abort + AllocGlobal), trace: &str, picks: &str, fault: &str) {
-    expect_fault(rt, listed(rt.alloc(), &with_holes(trace, picks)), fault);
+    expect_fault(rt, listed(rt, rt.alloc(), &with_holes(trace, picks)), fault);
 }
 
 #[test]
@@ -157,15 +162,15 @@ fn tells_each_fault_of_a_plan(rt: HostRuntime) {
     expect_refused(&rt, trace.as_str(), "\n \n", "picks line 2: Syntax");
     expect_refused(&rt, "", "x", "trace line 1: Syntax");
     let mut many = String::from_str(rt.alloc(), HEADER).expect(&rt, "memory");
-    push_times(&mut many, SAY, 1025).expect(&rt, "memory");
-    let refused = listed(rt.alloc(), &inputs_of(&[], many.as_bytes()));
+    push_times(&rt, &mut many, SAY, 1025);
+    let refused = listed(&rt, rt.alloc(), &inputs_of(&[], many.as_bytes()));
     expect_fault(&rt, refused, "too many micro-operations");
 }
 
 #[test]
 fn lists_up_to_16_384_states(rt: HostRuntime) {
-    let most = creats(rt.alloc(), 180).expect(&rt, "memory");
-    let printed = listed(rt.alloc(), &with_holes(most.as_str(), "")).expect(&rt, "text");
+    let most = creats(&rt, rt.alloc(), 180);
+    let printed = listed(&rt, rt.alloc(), &with_holes(most.as_str(), ""));
     assert!(rt;
         printed
             .as_str()
@@ -176,7 +181,7 @@ fn lists_up_to_16_384_states(rt: HostRuntime) {
             .as_str()
             .ends_with("\nstate 16290 hole 178 180 says 0\n--\n")
     );
-    let more = creats(rt.alloc(), 181).expect(&rt, "memory");
+    let more = creats(&rt, rt.alloc(), 181);
     expect_refused(&rt, more.as_str(), "", "plan too large");
 }
 
@@ -186,7 +191,7 @@ fn expect_broken(rt: &(impl Abort + AllocGlobal), left: usize, flushes: bool) {
     let mut err: Vec<u8> = Vec::new(rt.alloc());
     let inputs = inputs_of(&[], HEADER.as_bytes());
     let status = list_of(rt.alloc(), &inputs, &mut out, &mut err);
-    assert_eq!(rt; status, 1);
+    assert!(rt; status == 1);
     assert!(rt; err.as_slice() == b"crashfs: output failed\n".as_slice());
 }
 

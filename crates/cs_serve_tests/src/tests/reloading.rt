@@ -9,67 +9,71 @@ use std::process::Abort;
 
 /// Adds a line of a script: what is asked by a connection's number and a message in words, or a line
 /// that is no connection's.
-fn push_line(alloc: Global, script: &mut String, asked: &str) -> Option<()> {
-    let (conn, words) = asked.split_once(' ')?;
+fn push_line(rt: &impl Abort, alloc: Global, script: &mut String, asked: &str) {
+    let (conn, words) = asked.split_once(' ').expect(rt, "a value");
     if conn == "reload" {
-        return write!(script, "{asked}\n").ok();
+        write!(script, "{asked}\n").expect(rt, "memory");
+        return;
     }
-    let message = hex::encode(alloc, message_of(alloc, words)?).ok()?;
-    write!(script, "{conn} 7 {message}\n").ok()
+    let message = message_of(alloc, words).expect(rt, "a message");
+    let message = hex::encode(alloc, message).expect(rt, "memory");
+    write!(script, "{conn} 7 {message}\n").expect(rt, "memory")
 }
 
 /// The script of a dialogue, whose lines have what is asked, an arrow, and what is printed.
-fn script_in(alloc: Global, dialogue: &str) -> Option<String> {
+fn script_in(rt: &impl Abort, alloc: Global, dialogue: &str) -> String {
     let mut script = String::new(alloc);
     for line in dialogue.lines() {
-        let (asked, _) = line.split_once(" => ")?;
-        push_line(alloc, &mut script, asked)?;
+        let (asked, _) = line.split_once(" => ").expect(rt, "a value");
+        push_line(rt, alloc, &mut script, asked);
     }
-    Some(script)
+    script
 }
 
 /// Adds what was printed, with a reply's bytes as text.
-fn push_printed(alloc: Global, text: &mut String, printed: &str) -> Option<()> {
+fn push_printed(rt: &impl Abort, alloc: Global, text: &mut String, printed: &str) {
     let (conn, digits) = printed.split_once(' ').unwrap_or((printed, ""));
     if conn.parse::<u32>().is_err() {
-        return text.push_str(printed).ok();
+        text.push_str(printed).expect(rt, "memory");
+        return;
     }
-    let reply = decode_r(alloc, hex::decode(alloc, digits).ok()?.as_slice()).ok()?;
-    write!(text, "{conn} {reply}").ok()
+    let bytes = hex::decode(alloc, digits).expect(rt, "digits");
+    let reply = decode_r(alloc, bytes.as_slice()).expect(rt, "a reply");
+    write!(text, "{conn} {reply}").expect(rt, "memory")
 }
 
 /// The dialogue with what was printed in the place of what is looked for.
-fn dialogue_with(alloc: Global, dialogue: &str, printed: &str) -> Option<String> {
+fn dialogue_with(rt: &impl Abort, alloc: Global, dialogue: &str, printed: &str) -> String {
     let mut text = String::new(alloc);
     let mut printed = printed.lines();
     for line in dialogue.lines() {
-        let (asked, _) = line.split_once(" => ")?;
-        write!(text, "{asked} => ").ok()?;
-        push_printed(alloc, &mut text, printed.next()?)?;
-        text.push_str("\n").ok()?;
+        let (asked, _) = line.split_once(" => ").expect(rt, "a value");
+        write!(text, "{asked} => ").expect(rt, "memory");
+        push_printed(rt, alloc, &mut text, printed.next().expect(rt, "a value"));
+        text.push_str("\n").expect(rt, "memory");
     }
-    Some(text)
+    text
 }
 
 /// What a script over the start tree prints.
-fn printed_by(alloc: Global, script: &str) -> Option<String> {
+fn printed_by(rt: &impl Abort, alloc: Global, script: &str) -> String {
     let mut out: Vec<u8> = Vec::new(alloc);
     let mut err: Vec<u8> = Vec::new(alloc);
     let inputs = inputs_of(USERS, TRACE.as_bytes());
     let status = script_of(alloc, &inputs, &mut script.as_bytes(), &mut out, &mut err);
     if status != 0 {
-        return outcome(alloc, status, &out, &err);
+        return outcome(rt, alloc, status, &out, &err);
     }
-    String::from_utf8(out).ok()
+    String::from_utf8(out).expect(rt, "a value")
 }
 
 /// Runs the script of a dialogue, and looks for what it prints.
 fn expect(rt: &(impl Abort + AllocGlobal), dialogue: &str) {
-    let script = script_in(rt.alloc(), dialogue).expect(rt, "a script");
-    let printed = printed_by(rt.alloc(), script.as_str()).expect(rt, "text");
-    let told = dialogue_with(rt.alloc(), dialogue, printed.as_str()).expect(rt, "lines");
-    assert_eq!(rt; told.as_str(), dialogue);
-    assert_eq!(rt; printed.as_str().lines().count(), dialogue.lines().count());
+    let script = script_in(rt, rt.alloc(), dialogue);
+    let printed = printed_by(rt, rt.alloc(), script.as_str());
+    let told = dialogue_with(rt, rt.alloc(), dialogue, printed.as_str());
+    assert!(rt; told.as_str() == dialogue, "{told}");
+    assert!(rt; printed.as_str().lines().count() == dialogue.lines().count());
 }
 
 /// The users file that is taken has ann and dan, and that which is refused a line of three fields.
@@ -125,7 +129,7 @@ const SCRIPT_FAULTS: [Faulty; 7] = [
 
 fn expect_script_fault(rt: &(impl Abort + AllocGlobal), faulty: &Faulty) {
     let inputs = inputs_of(USERS, HEADER.as_bytes());
-    let printed = scripted(rt.alloc(), &inputs, &mut faulty.0.as_bytes());
+    let printed = scripted(rt, rt.alloc(), &inputs, &mut faulty.0.as_bytes());
     expect_fault(rt, printed, faulty.1);
 }
 
@@ -143,6 +147,7 @@ fn a_reload_is_told_on_standard_output_alone(rt: HostRuntime) {
         ..inputs_of(USERS, HEADER.as_bytes())
     };
     let printed = scripted(
+        &rt,
         rt.alloc(),
         &inputs,
         &mut "reload 0a\nreload 61\n".as_bytes(),

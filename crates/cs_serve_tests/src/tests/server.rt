@@ -119,63 +119,63 @@ impl<'a> Write for Client<'a> {
     }
 }
 
-fn scene(alloc: Global) -> Option<Arc<Scene>> {
-    let trace = read_trace(alloc, TRACE).ok()?;
-    let scene = Scene::of(alloc, trace, false, Vec::new(alloc)).ok()?;
-    Arc::new(alloc, scene).ok()
+fn scene(rt: &impl Abort, alloc: Global) -> Arc<Scene> {
+    let trace = read_trace(alloc, TRACE).expect(rt, "a value");
+    let scene = Scene::of(alloc, trace, false, Vec::new(alloc)).expect(rt, "memory");
+    Arc::new(alloc, scene).expect(rt, "memory")
 }
 
-fn users(alloc: Global) -> Option<Arc<Users>> {
-    Arc::new(alloc, Users::read(alloc, USERS).ok()?).ok()
+fn users(rt: &impl Abort, alloc: Global) -> Arc<Users> {
+    Arc::new(alloc, Users::read(alloc, USERS).expect(rt, "a value")).expect(rt, "a value")
 }
 
-fn registry(alloc: Global) -> Option<SharedRegistry<AnyScene>> {
-    SharedRegistry::<AnyScene>::new(alloc, scene(alloc)?, users(alloc)?).ok()
+fn registry(rt: &impl Abort, alloc: Global) -> SharedRegistry<AnyScene> {
+    SharedRegistry::<AnyScene>::new(alloc, scene(rt, alloc), users(rt, alloc)).expect(rt, "memory")
 }
 
 /// A server whose one state is published.
 pub fn server_of<R: Wait + Abort>(rt: &R, alloc: Global) -> Server<AnyScene> {
-    let registry = registry(alloc).expect(rt, "a registry");
+    let registry = registry(rt, alloc);
     let state = Scene::make(alloc, registry.scene(), 0).expect(rt, "a state");
     assert!(rt; registry.publish(rt, alloc, state).is_ok());
     Server::new(registry)
 }
 
-fn push_run<R: Wait>(rt: &R, text: &mut String, run: &NamedRun<AnyScene>) -> Option<()> {
+fn push_run<R: Wait + Abort>(rt: &R, text: &mut String, run: &NamedRun<AnyScene>) {
     let entries = run.run().inspect(rt, |run| run.entries());
     let number = run.run().number();
-    write!(text, "{number}/{} {entries}\n", run.name()).ok()
+    write!(text, "{number}/{} {entries}\n", run.name()).expect(rt, "memory")
 }
 
 /// The runs' keys with their entries, a line each.
-fn runs_of<R: Wait>(rt: &R, alloc: Global, server: &Server<AnyScene>) -> Option<String> {
-    let runs = server.registry().runs(rt, alloc).ok()?;
+fn runs_of<R: Wait + Abort>(rt: &R, alloc: Global, server: &Server<AnyScene>) -> String {
+    let runs = server.registry().runs(rt, alloc).expect(rt, "memory");
     let mut text = String::new(alloc);
     for run in &runs {
-        push_run(rt, &mut text, run)?;
+        push_run(rt, &mut text, run);
     }
-    Some(text)
+    text
 }
 
 /// Adds how a connection ended, and of each of its passes the run's key and how many receipts it
 /// has.
-fn push_connection(text: &mut String, connection: &Connection<AnyScene>) -> Option<()> {
+fn push_connection(rt: &impl Abort, text: &mut String, connection: &Connection<AnyScene>) {
     let kept = connection.kept();
-    write!(text, "{:?}", connection.result()).ok()?;
+    write!(text, "{:?}", connection.result()).expect(rt, "memory");
     for place in 0..kept.passes().len() {
         let key = kept.key_at(place);
         let receipts = kept.passes()[place].pass.receipts().len();
-        write!(text, " {}/{} {receipts}", key.number(), key.name()).ok()?;
+        write!(text, " {}/{} {receipts}", key.number(), key.name()).expect(rt, "memory");
     }
-    text.push_str("\n").ok()
+    text.push_str("\n").expect(rt, "memory")
 }
 
-fn told_of(alloc: Global, connections: &[Connection<AnyScene>]) -> Option<String> {
+fn told_of(rt: &impl Abort, alloc: Global, connections: &[Connection<AnyScene>]) -> String {
     let mut text = String::new(alloc);
     for connection in connections {
-        push_connection(&mut text, connection)?;
+        push_connection(rt, &mut text, connection);
     }
-    Some(text)
+    text
 }
 
 const ANN: [&[u8]; 3] = [VERSION, ANN_TO_X, STAT];
@@ -186,18 +186,24 @@ const BOB: [&[u8]; 3] = [VERSION, BOB_TO_X, STAT];
 const NOBODY: [&[u8]; 2] = [VERSION, b"\x05\0\0\0"];
 
 /// What serving three streams comes to, of which two wait for one another.
-pub fn served_at_once<R: thread::Threads + Wait + Sync>(
+pub fn served_at_once<R: thread::Threads + Wait + Sync + Abort>(
     rt: &R,
     alloc: Global,
     server: &Server<AnyScene>,
-) -> Option<Vec<Connection<AnyScene>>> {
+) -> Vec<Connection<AnyScene>> {
     let (ann, bob) = (AtomicU32::new(0), AtomicU32::new(0));
     let ready = AtomicU32::new(1);
     let mut streams = Vec::new(alloc);
-    streams.push(Client::new(&ANN, &ann, &bob)).ok()?;
-    streams.push(Client::new(&NOBODY, &ready, &ready)).ok()?;
-    streams.push(Client::new(&BOB, &bob, &ann)).ok()?;
-    serve_streams(rt, alloc, server, streams, Standing).ok()
+    streams
+        .push(Client::new(&ANN, &ann, &bob))
+        .expect(rt, "memory");
+    streams
+        .push(Client::new(&NOBODY, &ready, &ready))
+        .expect(rt, "memory");
+    streams
+        .push(Client::new(&BOB, &bob, &ann))
+        .expect(rt, "memory");
+    serve_streams(rt, alloc, server, streams, Standing).expect(rt, "memory")
 }
 
 const SERVED: &str = "\
@@ -209,31 +215,31 @@ Ok(()) 0/x 2
 #[test]
 fn streams_are_served_at_once_and_told_in_their_order(rt: HostRuntime) {
     let server = server_of(&rt, rt.alloc());
-    let connections = served_at_once(&rt, rt.alloc(), &server).expect(&rt, "connections");
-    let told = told_of(rt.alloc(), &connections).expect(&rt, "memory");
-    assert_eq!(rt; told.as_str(), SERVED);
-    let runs = runs_of(&rt, rt.alloc(), &server).expect(&rt, "memory");
-    assert_eq!(rt; runs.as_str(), "0/x 4\n");
+    let connections = served_at_once(&rt, rt.alloc(), &server);
+    let told = told_of(&rt, rt.alloc(), &connections);
+    assert!(rt; told.as_str() == SERVED, "{told}");
+    let runs = runs_of(&rt, rt.alloc(), &server);
+    assert!(rt; runs.as_str() == "0/x 4\n", "{runs}");
 }
 
-fn joined(alloc: Global, requests: &[&[u8]]) -> Option<Vec<u8>> {
+fn joined(rt: &impl Abort, alloc: Global, requests: &[&[u8]]) -> Vec<u8> {
     let mut bytes = Vec::new(alloc);
     for request in requests {
-        bytes.extend_from_slice(request).ok()?;
+        bytes.extend_from_slice(request).expect(rt, "memory");
     }
-    Some(bytes)
+    bytes
 }
 
 /// Serves a connection that sends these requests, to its end.
-pub fn served<R: Wait>(
+pub fn served<R: Wait + Abort>(
     rt: &R,
     alloc: Global,
     server: &Server<AnyScene>,
     requests: &[&[u8]],
-) -> Option<Connection<AnyScene>> {
-    let bytes = joined(alloc, requests)?;
+) -> Connection<AnyScene> {
+    let bytes = joined(rt, alloc, requests);
     let mut stream = TwoEnded::new(bytes.as_slice(), Vec::new(alloc));
-    Some(serve_connection(rt, alloc, server, &mut stream, &mut Standing))
+    serve_connection(rt, alloc, server, &mut stream, &mut Standing)
 }
 
 /// Looks for the last reply to these requests, on a connection that ends well.
@@ -244,7 +250,7 @@ fn expect_last<R: Wait + Abort>(
     requests: &[&[u8]],
     last: &[u8],
 ) {
-    let bytes = joined(alloc, requests).expect(rt, "memory");
+    let bytes = joined(rt, alloc, requests);
     let mut stream = TwoEnded::new(bytes.as_slice(), Vec::new(alloc));
     let connection = serve_connection(rt, alloc, server, &mut stream, &mut Standing);
     assert!(rt; connection.result().is_ok());
@@ -282,8 +288,8 @@ fn what_is_written_on_a_connection_is_read_on_others_of_its_run(rt: HostRuntime)
         &BOB_READS,
         b"\x10\0\0\0u\x04\0\x05\0\0\0hello",
     );
-    let runs = runs_of(&rt, alloc, &server).expect(&rt, "memory");
-    assert_eq!(rt; runs.as_str().lines().count(), 2);
+    let runs = runs_of(&rt, alloc, &server);
+    assert!(rt; runs.as_str().lines().count() == 2);
 }
 
 const ANN_WRITES_AND_LOOKS: [&[u8]; 6] = [VERSION, ANN_TO_A, WALK, OPEN_TO_WRITE, WRITE, STAT_F];
@@ -327,19 +333,22 @@ fn stat_elsewhere<R: Wait>(
 }
 
 /// The run `0/a`.
-fn run_of_a<R: Wait>(
+fn run_of_a<R: Wait + Abort>(
     rt: &R,
     alloc: Global,
     server: &Server<AnyScene>,
-) -> Option<SharedRun<AnyScene>> {
-    let name = RunName::read(alloc, b"a").ok()?;
-    server.registry().find(rt, alloc, 0, &name).ok()
+) -> SharedRun<AnyScene> {
+    let name = RunName::read(alloc, b"a").expect(rt, "a value");
+    server
+        .registry()
+        .find(rt, alloc, 0, &name)
+        .expect(rt, "memory")
 }
 
 #[test]
 fn a_connection_is_answered_while_another_run_is_locked(rt: HostRuntime) {
     let server = server_of(&rt, rt.alloc());
-    let a = run_of_a(&rt, rt.alloc(), &server).expect(&rt, "a run");
+    let a = run_of_a(&rt, rt.alloc(), &server);
     let (looking, replied) = (AtomicU32::new(0), AtomicU32::new(0));
     let looked = thread::join(
         &rt,
@@ -403,13 +412,13 @@ fn a_port_keeps_the_places_of_runs_and_passes(rt: HostRuntime) {
     assert!(rt; find(alloc, &mut port, "0", "a") == Ok(0));
     assert!(rt; find(alloc, &mut port, "0", "b") == Ok(1));
     assert!(rt; attach(alloc, &mut port, 1, "bob") == Ok(0));
-    assert_eq!(rt; stat(alloc, &mut port, 1, 0), "stat");
-    assert_eq!(rt; stat(alloc, &mut port, 0, 0), "S5 out of turn");
-    assert_eq!(rt; stat(alloc, &mut port, 1, 1), "S5 out of turn");
-    assert_eq!(rt; stat(alloc, &mut port, 2, 0), "S5 out of turn");
-    assert_eq!(rt; port.into_kept().passes().len(), 1);
-    let runs = runs_of(&rt, alloc, &server).expect(&rt, "memory");
-    assert_eq!(rt; runs.as_str().lines().count(), 2);
+    assert!(rt; stat(alloc, &mut port, 1, 0) == "stat");
+    assert!(rt; stat(alloc, &mut port, 0, 0) == "S5 out of turn");
+    assert!(rt; stat(alloc, &mut port, 1, 1) == "S5 out of turn");
+    assert!(rt; stat(alloc, &mut port, 2, 0) == "S5 out of turn");
+    assert!(rt; port.into_kept().passes().len() == 1);
+    let runs = runs_of(&rt, alloc, &server);
+    assert!(rt; runs.as_str().lines().count() == 2);
 }
 
 #[test]

@@ -1,7 +1,7 @@
 //! Sessions, attaches and the table of fids.
 use crate::tests::fixture::{HEADER, TRACE, expect, expect_in, expect_over, join, world_over};
 use cs_world::World;
-use std::alloc::{AllocError, Global};
+use std::alloc::Global;
 use std::process::Abort;
 
 #[test]
@@ -102,7 +102,7 @@ fn walk_each(rt: &(impl Abort + AllocGlobal), world: &mut World) {
 
 #[test]
 fn holds_64_attaches_and_4096_fids(rt: HostRuntime) {
-    let mut world = world_over(rt.alloc(), TRACE).expect(&rt, "a world");
+    let mut world = world_over(&rt, rt.alloc(), TRACE);
     join(&rt, &mut world, 63, "bob");
     attach_each(&rt, &mut world);
     expect_in(
@@ -127,21 +127,23 @@ fn holds_64_attaches_and_4096_fids(rt: HostRuntime) {
 }
 
 /// A trace whose file `/f` has 2,000 bytes.
-fn trace_of_2000(alloc: Global) -> Result<String, AllocError> {
-    let mut trace = String::from_str(alloc, HEADER)?;
-    trace.push_str(
-        r#"{"start":"file","path":"/f","owner":"ann","group":"ann","mode":"644","bytes":""#,
-    )?;
+fn trace_of_2000(rt: &impl Abort, alloc: Global) -> String {
+    let mut trace = String::from_str(alloc, HEADER).expect(rt, "memory");
+    trace
+        .push_str(
+            r#"{"start":"file","path":"/f","owner":"ann","group":"ann","mode":"644","bytes":""#,
+        )
+        .expect(rt, "memory");
     for _ in 0..2_000 {
-        trace.push_str("66")?;
+        trace.push_str("66").expect(rt, "memory");
     }
-    trace.push_str("\"}\n")?;
-    Ok(trace)
+    trace.push_str("\"}\n").expect(rt, "memory");
+    trace
 }
 
 #[test]
 fn cuts_a_read_to_the_message_size(rt: HostRuntime) {
-    let trace = trace_of_2000(rt.alloc()).expect(&rt, "memory");
+    let trace = trace_of_2000(&rt, rt.alloc());
     expect_over(
         &rt,
         trace.as_str(),

@@ -1,7 +1,8 @@
 //! Crash states, and runs of them.
 use crate::tests::fixture::{TRACE, expect_in, expect_over, join, world_over};
 use crate::tests::lists::renamed;
-use std::alloc::{AllocError, Global};
+use std::alloc::Global;
+use std::process::Abort;
 
 /// The vectors' start tree, and then: `/f` loses its last three bytes, and is removed.
 const CUT: &str = r#"{"op":"truncate","path":"/f","length":2}
@@ -59,9 +60,9 @@ fn what_is_written_in_a_run_is_read_in_that_run_alone(rt: HostRuntime) {
 
 #[test]
 fn refused_attach_leaves_its_run(rt: HostRuntime) {
-    let mut world = world_over(rt.alloc(), TRACE).expect(&rt, "a world");
+    let mut world = world_over(&rt, rt.alloc(), TRACE);
     join(&rt, &mut world, 0, "ann");
-    assert_eq!(rt; world.run_count(), 1);
+    assert!(rt; world.run_count() == 1);
     expect_in(
         &rt,
         &mut world,
@@ -69,14 +70,14 @@ fn refused_attach_leaves_its_run(rt: HostRuntime) {
 0 attach 1 zed 0/y => Rerror tag 1 ename "A6 unknown user"
 "#,
     );
-    assert_eq!(rt; world.run_count(), 2);
+    assert!(rt; world.run_count() == 2);
 }
 
 /// In two runs of a state in which `/a` has 5,000 letters, one of them cuts it to 1 byte, grows it again
 /// and removes it.
-fn cut_and_grown(alloc: Global) -> Result<String, AllocError> {
-    let zeros = "\0".repeat(alloc, 4_999)?;
-    let letters = "a".repeat(alloc, 5_000)?;
+fn cut_and_grown(rt: &impl Abort, alloc: Global) -> String {
+    let zeros = "\0".repeat(alloc, 4_999).expect(rt, "a value");
+    let letters = "a".repeat(alloc, 5_000).expect(rt, "a value");
     format!(in alloc;
         "0 version 8192 9P2000 => Rversion tag 1 msize 8192 version \"9P2000\"
 0 attach 0 ann 5/x => Rattach tag 1 qid (80 0 0)
@@ -100,11 +101,12 @@ fn cut_and_grown(alloc: Global) -> Result<String, AllocError> {
 0 list 14 0 61 => Rread 61 a
 "
     )
+    .expect(rt, "memory")
 }
 
 #[test]
 fn a_length_is_cut_and_grown_in_one_run_alone(rt: HostRuntime) {
     let trace = renamed(&rt);
-    let dialogue = cut_and_grown(rt.alloc()).expect(&rt, "memory");
+    let dialogue = cut_and_grown(&rt, rt.alloc());
     expect_over(&rt, trace.as_str(), dialogue.as_str());
 }

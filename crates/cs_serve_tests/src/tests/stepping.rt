@@ -4,75 +4,87 @@ use cs_session::{
     AttachMessage, CallMessage, OpenMessage, ReadMessage, TableStep, WalkMessage, WriteMessage,
 };
 use cs_users::Users;
-use cs_world::Step;
+use cs_world::{ConnectionStep, Step};
 use std::alloc::Global;
+use std::process::Abort;
 
-fn number(word: &str) -> Option<u32> {
-    word.parse::<u32>().ok()
+fn number(rt: &impl Abort, word: &str) -> u32 {
+    word.parse::<u32>().expect(rt, "a value")
 }
 
-fn begin(alloc: Global, conn: &str) -> Option<Step> {
-    let conn = number(conn)?;
-    let version = Text::keep(alloc, "9P2000").ok()?;
+fn begin(rt: &impl Abort, alloc: Global, conn: &str) -> Step {
+    let conn = number(rt, conn);
+    let version = Text::keep(alloc, "9P2000").expect(rt, "memory");
     let change = TableStep::Version {
         msize: 8192,
         version,
     };
-    Some(Step::Table { conn, change })
+    Step::On {
+        conn,
+        now: 7,
+        step: ConnectionStep::Table(change),
+    }
 }
 
 /// A connection, a fid, a user, and a tree.
-fn find(alloc: Global, words: &str) -> Option<Step> {
-    let (conn, words) = words.split_once(' ')?;
-    let (fid, words) = words.split_once(' ')?;
-    let (user, tree) = words.split_once(' ')?;
-    let (conn, fid) = (number(conn)?, number(fid)?);
+fn find(rt: &impl Abort, alloc: Global, words: &str) -> Step {
+    let (conn, words) = words.split_once(' ').expect(rt, "a value");
+    let (fid, words) = words.split_once(' ').expect(rt, "a value");
+    let (user, tree) = words.split_once(' ').expect(rt, "a value");
+    let (conn, fid) = (number(rt, conn), number(rt, fid));
     let message = AttachMessage {
         fid,
         afid: u32::MAX,
-        uname: Text::keep(alloc, user).ok()?,
-        aname: Text::keep(alloc, tree).ok()?,
+        uname: Text::keep(alloc, user).expect(rt, "memory"),
+        aname: Text::keep(alloc, tree).expect(rt, "memory"),
     };
-    Some(Step::Find { conn, message })
+    Step::On {
+        conn,
+        now: 7,
+        step: ConnectionStep::Find(message),
+    }
 }
 
 /// A connection and a moment.
-fn attach(words: &str) -> Option<Step> {
-    let (conn, now) = words.split_once(' ')?;
-    Some(Step::Attach {
-        conn: number(conn)?,
-        now: number(now)?,
-    })
+fn attach(rt: &impl Abort, words: &str) -> Step {
+    let (conn, now) = words.split_once(' ').expect(rt, "a value");
+    Step::On {
+        conn: number(rt, conn),
+        now: number(rt, now),
+        step: ConnectionStep::Attach,
+    }
 }
 
 /// A connection and a fid.
-fn close(words: &str) -> Option<Step> {
-    let (conn, fid) = words.split_once(' ')?;
-    Some(Step::Close {
-        conn: number(conn)?,
+fn close(rt: &impl Abort, words: &str) -> Step {
+    let (conn, fid) = words.split_once(' ').expect(rt, "a value");
+    Step::On {
+        conn: number(rt, conn),
         now: 7,
-        fid: number(fid)?,
-    })
+        step: ConnectionStep::Close(number(rt, fid)),
+    }
 }
 
 /// A walk to `/f` as the fid 1.
-fn walk(alloc: Global) -> Option<CallMessage> {
+fn walk(rt: &impl Abort, alloc: Global) -> CallMessage {
     let mut names = Vec::new(alloc);
-    names.push(String::from_str(alloc, "f").ok()?).ok()?;
-    Some(CallMessage::Walk(WalkMessage {
+    names
+        .push(String::from_str(alloc, "f").expect(rt, "memory"))
+        .expect(rt, "memory");
+    CallMessage::Walk(WalkMessage {
         fid: 0,
         newfid: 1,
         names: Texts::new(names),
-    }))
+    })
 }
 
 /// A write of `HI` at the beginning of `/f`.
-fn write(alloc: Global) -> Option<CallMessage> {
-    Some(CallMessage::Write(WriteMessage {
+fn write(rt: &impl Abort, alloc: Global) -> CallMessage {
+    CallMessage::Write(WriteMessage {
         fid: 1,
         offset: 0,
-        bytes: Bytes::keep(alloc, b"HI").ok()?,
-    }))
+        bytes: Bytes::keep(alloc, b"HI").expect(rt, "memory"),
+    })
 }
 
 /// A read of ten bytes from the beginning of `/f`.
@@ -82,37 +94,37 @@ const READ: ReadMessage = ReadMessage {
     count: 10,
 };
 
-fn message_of(alloc: Global, word: &str) -> Option<CallMessage> {
+fn message_of(rt: &impl Abort, alloc: Global, word: &str) -> CallMessage {
     match word {
-        "walk" => walk(alloc),
-        "open" => Some(CallMessage::Open(OpenMessage { fid: 1, mode: 2 })),
-        "write" => write(alloc),
-        "read" => Some(CallMessage::Read(READ)),
-        "stat" => Some(CallMessage::Stat(0)),
-        _ => None,
+        "walk" => walk(rt, alloc),
+        "open" => CallMessage::Open(OpenMessage { fid: 1, mode: 2 }),
+        "write" => write(rt, alloc),
+        "read" => CallMessage::Read(READ),
+        "stat" => CallMessage::Stat(0),
+        _ => panic!(rt; "a word of no message"),
     }
 }
 
-fn call(alloc: Global, word: &str, conn: &str) -> Option<Step> {
-    Some(Step::Call {
-        conn: number(conn)?,
+fn call(rt: &impl Abort, alloc: Global, word: &str, conn: &str) -> Step {
+    Step::On {
+        conn: number(rt, conn),
         now: 7,
-        message: message_of(alloc, word)?,
-    })
+        step: ConnectionStep::Call(message_of(rt, alloc, word)),
+    }
 }
 
 /// The step that words ask for: `publish` and a state; `reload` and a line of a users file; `version`,
 /// `walk`, `open`, `write`, `read` or `stat` and a connection; `find`, `attach` or `close` and what these
 /// take.
-pub fn step_of(alloc: Global, line: &str) -> Option<Step> {
-    let (word, words) = line.split_once(' ')?;
+pub fn step_of(rt: &impl Abort, alloc: Global, line: &str) -> Step {
+    let (word, words) = line.split_once(' ').expect(rt, "a value");
     match word {
-        "publish" => Some(Step::Publish(number(words)?)),
-        "reload" => Some(Step::Reload(Users::read(alloc, words.as_bytes()).ok()?)),
-        "version" => begin(alloc, words),
-        "find" => find(alloc, words),
-        "attach" => attach(words),
-        "close" => close(words),
-        _ => call(alloc, word, words),
+        "publish" => Step::Publish(number(rt, words)),
+        "reload" => Step::Reload(Users::read(alloc, words.as_bytes()).expect(rt, "a value")),
+        "version" => begin(rt, alloc, words),
+        "find" => find(rt, alloc, words),
+        "attach" => attach(rt, words),
+        "close" => close(rt, words),
+        _ => call(rt, alloc, word, words),
     }
 }

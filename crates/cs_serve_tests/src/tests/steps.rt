@@ -19,67 +19,66 @@ const TRACE: &str = r#"{"trace":1,"owner":"cat","group":"staff","mode":"775"}
 /// A Tversion of 8,192 bytes.
 const VERSION: &[u8] = b"\x13\0\0\0\x64\xff\xff\0\x20\0\0\x06\09P2000";
 
-fn scene(alloc: Global) -> Option<Arc<Scene>> {
-    let trace = read_trace(alloc, TRACE).ok()?;
-    let scene = Scene::of(alloc, trace, false, Vec::new(alloc)).ok()?;
-    Arc::new(alloc, scene).ok()
+fn scene(rt: &impl Abort, alloc: Global) -> Arc<Scene> {
+    let trace = read_trace(alloc, TRACE).expect(rt, "a value");
+    let scene = Scene::of(alloc, trace, false, Vec::new(alloc)).expect(rt, "memory");
+    Arc::new(alloc, scene).expect(rt, "memory")
 }
 
-fn users(alloc: Global) -> Option<Arc<Users>> {
-    Arc::new(alloc, Users::read(alloc, USERS).ok()?).ok()
+fn users(rt: &impl Abort, alloc: Global) -> Arc<Users> {
+    Arc::new(alloc, Users::read(alloc, USERS).expect(rt, "a value")).expect(rt, "a value")
 }
 
 /// A world of the trace's states, of which none is published.
 fn new_world(rt: &(impl Abort + AllocGlobal)) -> World {
-    let scene = scene(rt.alloc()).expect(rt, "a scene");
-    let users = users(rt.alloc()).expect(rt, "users");
+    let scene = scene(rt, rt.alloc());
+    let users = users(rt, rt.alloc());
     World::new(rt.alloc(), scene, users).expect(rt, "memory")
 }
 
 /// Answers the Tversion on connection 0, with its reply as text.
-fn push_answered(alloc: Global, world: &mut World, text: &mut String) -> Option<()> {
+fn push_answered(rt: &impl Abort, alloc: Global, world: &mut World, text: &mut String) {
     let reply = world.message(alloc, 0, 7, VERSION);
-    write!(text, "{reply}").ok()
+    write!(text, "{reply}").expect(rt, "memory")
 }
 
 /// Hangs connection 0 up, with the reply as text.
-fn push_closed(alloc: Global, world: &mut World, text: &mut String) -> Option<()> {
+fn push_closed(rt: &impl Abort, alloc: Global, world: &mut World, text: &mut String) {
     let reply = world.hang_up(alloc, 0, 7);
-    write!(text, "{reply:?}").ok()
+    write!(text, "{reply:?}").expect(rt, "memory")
 }
 
-fn push_taken(alloc: Global, world: &mut World, text: &mut String, asked: &str) -> Option<()> {
-    let reply = world.step(alloc, step_of(alloc, asked)?);
-    write!(text, "{reply:?}").ok()
+fn push_taken(rt: &impl Abort, alloc: Global, world: &mut World, text: &mut String, asked: &str) {
+    let reply = world.step(alloc, step_of(rt, alloc, asked));
+    write!(text, "{reply:?}").expect(rt, "memory")
 }
 
 /// Does what is asked: a step in words, `message` or `hangup`. Adds it with an arrow and the reply.
-fn push_line(alloc: Global, world: &mut World, text: &mut String, asked: &str) -> Option<()> {
-    text.push_str(asked).ok()?;
-    text.push_str(" => ").ok()?;
+fn push_line(rt: &impl Abort, alloc: Global, world: &mut World, text: &mut String, asked: &str) {
+    text.push_str(asked).expect(rt, "memory");
+    text.push_str(" => ").expect(rt, "memory");
     match asked {
-        "message" => push_answered(alloc, world, text),
-        "hangup" => push_closed(alloc, world, text),
-        _ => push_taken(alloc, world, text, asked),
+        "message" => push_answered(rt, alloc, world, text),
+        "hangup" => push_closed(rt, alloc, world, text),
+        _ => push_taken(rt, alloc, world, text, asked),
     }
 }
 
-fn push_lines(alloc: Global, world: &mut World, text: &mut String, lines: &str) -> Option<()> {
+fn push_lines(rt: &impl Abort, alloc: Global, world: &mut World, text: &mut String, lines: &str) {
     for line in lines.lines() {
         if let Some((asked, _)) = line.split_once(" => ") {
-            push_line(alloc, world, text, asked)?;
+            push_line(rt, alloc, world, text, asked);
         }
-        text.push_str("\n").ok()?;
+        text.push_str("\n").expect(rt, "memory");
     }
-    Some(())
 }
 
 /// Takes steps in a world, and looks for their replies. Each line has a step, an arrow, and the
 /// reply.
 fn expect_in(rt: &(impl Abort + AllocGlobal), world: &mut World, lines: &str) {
     let mut told = String::new(rt.alloc());
-    push_lines(rt.alloc(), world, &mut told, lines).expect(rt, "replies");
-    assert_eq!(rt; told.as_str(), lines);
+    push_lines(rt, rt.alloc(), world, &mut told, lines);
+    assert!(rt; told.as_str() == lines, "{told}");
 }
 
 /// The same in a new world.
@@ -102,22 +101,22 @@ attach 0 9
 find 64 0 ann 0/x
 ";
 
-fn steps_of(alloc: Global, lines: &str) -> Option<Vec<Step>> {
+fn steps_of(rt: &impl Abort, alloc: Global, lines: &str) -> Vec<Step> {
     let mut steps = Vec::new(alloc);
     for line in lines.lines() {
-        steps.push(step_of(alloc, line)?).ok()?;
+        steps.push(step_of(rt, alloc, line)).expect(rt, "memory");
     }
-    Some(steps)
+    steps
 }
 
 /// The replies to steps that are taken at once, a line each.
-fn replies_to(alloc: Global, world: &mut World, steps: Vec<Step>) -> Option<String> {
-    let replies = world.run(alloc, steps).ok()?;
+fn replies_to(rt: &impl Abort, alloc: Global, world: &mut World, steps: Vec<Step>) -> String {
+    let replies = world.run(alloc, steps).expect(rt, "memory");
     let mut text = String::new(alloc);
     for reply in &replies {
-        write!(text, "{reply:?}\n").ok()?;
+        write!(text, "{reply:?}\n").expect(rt, "memory");
     }
-    Some(text)
+    text
 }
 
 const TWO_USERS_REPLIES: &str = "\
@@ -135,37 +134,37 @@ Connection(Error(S5))
 #[test]
 fn two_users_attach_to_one_run(rt: HostRuntime) {
     let mut world = new_world(&rt);
-    let steps = steps_of(rt.alloc(), TWO_USERS).expect(&rt, "steps");
-    let replies = replies_to(rt.alloc(), &mut world, steps).expect(&rt, "replies");
-    assert_eq!(rt; replies.as_str(), TWO_USERS_REPLIES);
-    assert_eq!(rt; world.run_count(), 1);
+    let steps = steps_of(&rt, rt.alloc(), TWO_USERS);
+    let replies = replies_to(&rt, rt.alloc(), &mut world, steps);
+    assert!(rt; replies.as_str() == TWO_USERS_REPLIES, "{replies}");
+    assert!(rt; world.run_count() == 1);
 }
 
 /// What of these steps reaches a run of state 0, a line each.
-fn projected(alloc: Global, world: &World, lines: &str, run: &[u8]) -> Option<String> {
-    let steps = steps_of(alloc, lines)?;
-    let name = RunName::read(alloc, run).ok()?;
-    let heard = world.project(alloc, &steps, 0, &name).ok()?;
+fn projected(rt: &impl Abort, alloc: Global, world: &World, lines: &str, run: &[u8]) -> String {
+    let steps = steps_of(rt, alloc, lines);
+    let name = RunName::read(alloc, run).expect(rt, "a value");
+    let calls = world.project(alloc, &steps, 0, &name).expect(rt, "memory");
     let mut text = String::new(alloc);
-    for call in &heard {
-        write!(text, "{call:?}\n").ok()?;
+    for call in &calls {
+        write!(text, "{call:?}\n").expect(rt, "memory");
     }
-    Some(text)
+    text
 }
 
 #[test]
 fn projection_on_a_run_has_what_reached_it(rt: HostRuntime) {
     let world = new_world(&rt);
-    let heard = projected(rt.alloc(), &world, TWO_USERS, b"x").expect(&rt, "calls");
+    let calls = projected(&rt, rt.alloc(), &world, TWO_USERS, b"x");
     assert_eq!(rt;
-        heard.as_str(),
-        r#"Heard { pass: 0, now: 7, call: Attach(AttachCall { user: Text { text: "ann" } }) }
-Heard { pass: 1, now: 8, call: Attach(AttachCall { user: Text { text: "bob" } }) }
+        calls.as_str(),
+        r#"RunCall { pass: 0, now: 7, call: Attach(AttachCall { user: Text { text: "ann" } }) }
+RunCall { pass: 1, now: 8, call: Attach(AttachCall { user: Text { text: "bob" } }) }
 "#
     );
-    let other = projected(rt.alloc(), &world, TWO_USERS, b"y").expect(&rt, "calls");
-    assert_eq!(rt; other.as_str(), "");
-    assert_eq!(rt; world.run_count(), 0);
+    let other = projected(&rt, rt.alloc(), &world, TWO_USERS, b"y");
+    assert!(rt; other.as_str() == "", "{other}");
+    assert!(rt; world.run_count() == 0);
 }
 
 /// A list of one user is loaded, who is attached to a new run and walks there.
@@ -181,9 +180,9 @@ walk 0
 #[test]
 fn projection_takes_the_list_that_stands_at_the_find(rt: HostRuntime) {
     let world = new_world(&rt);
-    let heard = projected(rt.alloc(), &world, OTHER_USERS, b"x").expect(&rt, "calls");
+    let calls = projected(&rt, rt.alloc(), &world, OTHER_USERS, b"x");
     // with the list of the start the attach is A6, and no walk reaches the run
-    assert_eq!(rt; heard.lines().count(), 2);
+    assert!(rt; calls.lines().count() == 2);
 }
 
 #[test]
@@ -270,7 +269,7 @@ find 0 0 ann 0/x => Connection(Found)
 attach 0 7 => Connection(Attach(Qid { kind: 128, vers: 0, path: 0 }))
 ",
     );
-    assert_eq!(rt; world.scene().plan().len(), 1);
+    assert!(rt; world.scene().plan().len() == 1);
 }
 
 /// Attaches ann to the run `0/x` as this fid.
@@ -304,7 +303,7 @@ find 0 64 zed 0/y => Connection(Found)
 attach 0 7 => Connection(Error(A6))
 ",
     );
-    assert_eq!(rt; world.run_count(), 2);
+    assert!(rt; world.run_count() == 2);
 }
 
 #[test]

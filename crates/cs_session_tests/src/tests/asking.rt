@@ -8,31 +8,34 @@ use cs_session::{
 };
 use cs_wire::{Qid, Stat};
 use std::alloc::Global;
+use std::process::Abort;
 
 /// An attach of ann to the run `a` of state 0.
-pub fn attaching(alloc: Global, fid: u32) -> Option<AttachMessage> {
-    Some(AttachMessage {
+pub fn attaching(rt: &impl Abort, alloc: Global, fid: u32) -> AttachMessage {
+    AttachMessage {
         fid,
         afid: NOFID,
-        uname: Text::keep(alloc, "ann").ok()?,
-        aname: Text::keep(alloc, "0/a").ok()?,
-    })
+        uname: Text::keep(alloc, "ann").expect(rt, "memory"),
+        aname: Text::keep(alloc, "0/a").expect(rt, "memory"),
+    }
 }
 
-fn version(alloc: Global, msize: u32) -> Option<Message> {
-    let version = Text::keep(alloc, "9P2000.L").ok()?;
-    Some(Message::Version { msize, version })
+fn version(rt: &impl Abort, alloc: Global, msize: u32) -> Message {
+    let version = Text::keep(alloc, "9P2000.L").expect(rt, "memory");
+    Message::Version { msize, version }
 }
 
 /// A walk of one name.
-fn walking(alloc: Global, fid: u32) -> Option<CallMessage> {
+fn walking(rt: &impl Abort, alloc: Global, fid: u32) -> CallMessage {
     let mut names = Vec::new(alloc);
-    names.push(String::from_str(alloc, "a").ok()?).ok()?;
-    Some(CallMessage::Walk(WalkMessage {
+    names
+        .push(String::from_str(alloc, "a").expect(rt, "memory"))
+        .expect(rt, "memory");
+    CallMessage::Walk(WalkMessage {
         fid,
         newfid: 2,
         names: Texts::new(names),
-    }))
+    })
 }
 
 /// A walk of no name.
@@ -45,14 +48,14 @@ fn cloning(alloc: Global, fid: u32) -> CallMessage {
 }
 
 /// A create of a file that is opened to be written.
-fn creating(alloc: Global, fid: u32) -> Option<CallMessage> {
-    let name = Text::keep(alloc, "c").ok()?;
-    Some(CallMessage::Create(CreateMessage {
+fn creating(rt: &impl Abort, alloc: Global, fid: u32) -> CallMessage {
+    let name = Text::keep(alloc, "c").expect(rt, "memory");
+    CallMessage::Create(CreateMessage {
         fid,
         name,
         perm: 0o644,
         mode: 1,
-    }))
+    })
 }
 
 fn reading(fid: u32) -> CallMessage {
@@ -63,13 +66,13 @@ fn reading(fid: u32) -> CallMessage {
     })
 }
 
-fn writing(alloc: Global, fid: u32) -> Option<CallMessage> {
-    let bytes = Bytes::keep(alloc, b"abc").ok()?;
-    Some(CallMessage::Write(WriteMessage {
+fn writing(rt: &impl Abort, alloc: Global, fid: u32) -> CallMessage {
+    let bytes = Bytes::keep(alloc, b"abc").expect(rt, "memory");
+    CallMessage::Write(WriteMessage {
         fid,
         offset: 0,
         bytes,
-    }))
+    })
 }
 
 const KEPT_QID: Qid = Qid {
@@ -79,7 +82,7 @@ const KEPT_QID: Qid = Qid {
 };
 
 /// A wstat that changes the name alone.
-fn renaming(alloc: Global, fid: u32) -> Option<CallMessage> {
+fn renaming(rt: &impl Abort, alloc: Global, fid: u32) -> CallMessage {
     let stat = Stat {
         kind: u16::MAX,
         dev: u32::MAX,
@@ -88,40 +91,40 @@ fn renaming(alloc: Global, fid: u32) -> Option<CallMessage> {
         atime: u32::MAX,
         mtime: u32::MAX,
         length: u64::MAX,
-        name: String::from_str(alloc, "b").ok()?,
+        name: String::from_str(alloc, "b").expect(rt, "memory"),
         uid: String::new(alloc),
         gid: String::new(alloc),
         muid: String::new(alloc),
     };
-    Some(CallMessage::Wstat(WstatMessage {
+    CallMessage::Wstat(WstatMessage {
         fid,
         stat: SentStat::new(stat),
-    }))
+    })
 }
 
-fn call_of(alloc: Global, word: &str, fid: u32) -> Option<CallMessage> {
+fn call_of(rt: &impl Abort, alloc: Global, word: &str, fid: u32) -> CallMessage {
     match word {
-        "walk" => walking(alloc, fid),
-        "clone" => Some(cloning(alloc, fid)),
-        "open" => Some(CallMessage::Open(OpenMessage { fid, mode: 2 })),
-        "create" => creating(alloc, fid),
-        "read" => Some(reading(fid)),
-        "write" => writing(alloc, fid),
-        "remove" => Some(CallMessage::Remove(fid)),
-        "stat" => Some(CallMessage::Stat(fid)),
-        "wstat" => renaming(alloc, fid),
-        _ => None,
+        "walk" => walking(rt, alloc, fid),
+        "clone" => cloning(alloc, fid),
+        "open" => CallMessage::Open(OpenMessage { fid, mode: 2 }),
+        "create" => creating(rt, alloc, fid),
+        "read" => reading(fid),
+        "write" => writing(rt, alloc, fid),
+        "remove" => CallMessage::Remove(fid),
+        "stat" => CallMessage::Stat(fid),
+        "wstat" => renaming(rt, alloc, fid),
+        _ => panic!(rt; "a word of no call"),
     }
 }
 
 /// The message that words ask for: `version` and a message size, or another word and a fid.
-pub fn message_of(alloc: Global, words: &str) -> Option<Message> {
-    let (word, number) = words.split_once(' ')?;
-    let number = number.parse::<u32>().ok()?;
+pub fn message_of(rt: &impl Abort, alloc: Global, words: &str) -> Message {
+    let (word, number) = words.split_once(' ').expect(rt, "a value");
+    let number = number.parse::<u32>().expect(rt, "a value");
     match word {
-        "version" => version(alloc, number),
-        "attach" => Some(Message::Attach(attaching(alloc, number)?)),
-        "clunk" => Some(Message::Clunk(number)),
-        _ => Some(Message::Call(call_of(alloc, word, number)?)),
+        "version" => version(rt, alloc, number),
+        "attach" => Message::Attach(attaching(rt, alloc, number)),
+        "clunk" => Message::Clunk(number),
+        _ => Message::Call(call_of(rt, alloc, word, number)),
     }
 }

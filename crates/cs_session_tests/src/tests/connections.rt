@@ -116,37 +116,38 @@ fn ask(alloc: Global, session: &mut Session, port: &mut Fake, message: Message) 
 
 /// Adds what is asked, an arrow, and the reply.
 fn push_line(
+    rt: &impl Abort,
     alloc: Global,
     session: &mut Session,
     port: &mut Fake,
     text: &mut String,
     asked: &str,
-) -> Option<()> {
-    let message = message_of(alloc, asked)?;
+) {
+    let message = message_of(rt, alloc, asked);
     let reply = ask(alloc, session, port, message);
-    write!(text, "{asked} => {reply:?}\n").ok()
+    write!(text, "{asked} => {reply:?}\n").expect(rt, "memory")
 }
 
 fn push_lines(
+    rt: &impl Abort,
     alloc: Global,
     session: &mut Session,
     port: &mut Fake,
     text: &mut String,
     lines: &str,
-) -> Option<()> {
+) {
     for line in lines.lines() {
-        let (asked, _) = line.split_once(" => ")?;
-        push_line(alloc, session, port, text, asked)?;
+        let (asked, _) = line.split_once(" => ").expect(rt, "a value");
+        push_line(rt, alloc, session, port, text, asked);
     }
-    Some(())
 }
 
 /// Sends messages, and looks for their replies. Each line has a message in words, an arrow, and the
 /// reply.
 fn expect(rt: &(impl Abort + AllocGlobal), session: &mut Session, port: &mut Fake, lines: &str) {
     let mut told = String::new(rt.alloc());
-    push_lines(rt.alloc(), session, port, &mut told, lines).expect(rt, "replies");
-    assert_eq!(rt; told.as_str(), lines);
+    push_lines(rt, rt.alloc(), session, port, &mut told, lines);
+    assert!(rt; told.as_str() == lines, "{told}");
 }
 
 #[test]
@@ -288,7 +289,7 @@ clunk 6 => Clunk
 fn expect_reply(rt: &(impl Abort + AllocGlobal), reply: Reply, wanted: &str) {
     let mut text = String::new(rt.alloc());
     write!(text, "{reply:?}").expect(rt, "memory");
-    assert_eq!(rt; text.as_str(), wanted);
+    assert!(rt; text.as_str() == wanted, "{text}");
 }
 
 /// Begins a session, and has a run found for an attach as the fid 4.
@@ -304,7 +305,7 @@ attach 1 => Attach(Qid { kind: 0, vers: 4, path: 3 })
 open 1 => Open(Qid { kind: 0, vers: 4, path: 3 })
 ",
     );
-    let message = attaching(rt.alloc(), 4).expect(rt, "memory");
+    let message = attaching(rt, rt.alloc(), 4);
     expect_reply(rt, session.find_step(rt.alloc(), port, 1, message), "Found");
     session
 }

@@ -20,46 +20,46 @@ stat 1
 wstat 1
 ";
 
-fn shown<T: Debug>(alloc: Global, value: &T) -> Option<String> {
+fn shown<T: Debug>(rt: &impl Abort, alloc: Global, value: &T) -> String {
     let mut text = String::new(alloc);
-    write!(text, "{value:?}").ok()?;
-    Some(text)
+    write!(text, "{value:?}").expect(rt, "memory");
+    text
 }
 
 /// What a message says that words ask for, and what its copy says.
-fn call_and_copy(alloc: Global, words: &str) -> Option<(String, String)> {
-    let Message::Call(message) = message_of(alloc, words)? else {
-        return None;
+fn call_and_copy(rt: &impl Abort, alloc: Global, words: &str) -> (String, String) {
+    let Message::Call(message) = message_of(rt, alloc, words) else {
+        panic!(rt; "no call");
     };
-    let copy = message.try_clone(alloc).ok()?;
-    Some((shown(alloc, &message)?, shown(alloc, &copy)?))
+    let copy = message.try_clone(alloc).expect(rt, "memory");
+    (shown(rt, alloc, &message), shown(rt, alloc, &copy))
 }
 
 /// The same of an attach.
-fn attach_and_copy(alloc: Global) -> Option<(String, String)> {
-    let message = attaching(alloc, 1)?;
-    let copy = message.try_clone().ok()?;
-    Some((shown(alloc, &message)?, shown(alloc, &copy)?))
+fn attach_and_copy(rt: &impl Abort, alloc: Global) -> (String, String) {
+    let message = attaching(rt, alloc, 1);
+    let copy = message.try_clone().expect(rt, "memory");
+    (shown(rt, alloc, &message), shown(rt, alloc, &copy))
 }
 
 /// The same of a change of the table.
-fn change_and_copy(alloc: Global, change: &TableStep) -> Option<(String, String)> {
-    let copy = change.try_clone().ok()?;
-    Some((shown(alloc, change)?, shown(alloc, &copy)?))
+fn change_and_copy(rt: &impl Abort, alloc: Global, change: &TableStep) -> (String, String) {
+    let copy = change.try_clone().expect(rt, "memory");
+    (shown(rt, alloc, change), shown(rt, alloc, &copy))
 }
 
-/// They are there, and say the same.
-fn expect_same(rt: &impl Abort, both: Option<(String, String)>) {
-    let (said, copy) = both.expect(rt, "memory");
-    assert_eq!(rt; copy.as_str(), said.as_str());
+/// They say the same.
+fn expect_same(rt: &impl Abort, both: (String, String)) {
+    let (said, copy) = both;
+    assert!(rt; copy.as_str() == said.as_str(), "{copy}");
 }
 
 #[test]
 fn a_copy_of_each_message_says_the_same(rt: HostRuntime) {
     for words in CALLS.lines() {
-        expect_same(&rt, call_and_copy(rt.alloc(), words));
+        expect_same(&rt, call_and_copy(&rt, rt.alloc(), words));
     }
-    expect_same(&rt, attach_and_copy(rt.alloc()));
+    expect_same(&rt, attach_and_copy(&rt, rt.alloc()));
 }
 
 #[test]
@@ -70,7 +70,7 @@ fn a_copy_of_each_change_of_a_table_says_the_same(rt: HostRuntime) {
         msize: 8192,
         version,
     };
-    expect_same(&rt, change_and_copy(alloc, &begin));
-    expect_same(&rt, change_and_copy(alloc, &TableStep::Clunk(3)));
-    expect_same(&rt, change_and_copy(alloc, &TableStep::HangUp));
+    expect_same(&rt, change_and_copy(&rt, alloc, &begin));
+    expect_same(&rt, change_and_copy(&rt, alloc, &TableStep::Clunk(3)));
+    expect_same(&rt, change_and_copy(&rt, alloc, &TableStep::HangUp));
 }

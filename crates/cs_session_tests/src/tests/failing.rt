@@ -101,8 +101,14 @@ const WELL: Plan = Plan {
 /// What serving comes to, what was written, and how many files are open then.
 struct Served(Result<(), ServeFault>, Vec<u8>, usize);
 
-fn serve(alloc: Global, bytes: &'static [u8], reads: Plan, writes: Plan) -> Option<Served> {
-    let mut port = Alone::new(alloc)?;
+fn serve(
+    rt: &impl Abort,
+    alloc: Global,
+    bytes: &'static [u8],
+    reads: Plan,
+    writes: Plan,
+) -> Served {
+    let mut port = Alone::new(rt, alloc);
     let source = Source { plan: reads, bytes };
     let sink = Sink {
         plan: writes,
@@ -110,7 +116,7 @@ fn serve(alloc: Global, bytes: &'static [u8], reads: Plan, writes: Plan) -> Opti
     };
     let mut stream = TwoEnded::new(source, sink);
     let end = serve_stream(alloc, &mut stream, &mut port, &mut Standing);
-    Some(Served(end, stream.into_writer().taken, port.opens()))
+    Served(end, stream.into_writer().taken, port.opens())
 }
 
 const CUT: Result<(), ServeFault> = Err(ServeFault::FrameFault(FrameFault::Cut));
@@ -135,15 +141,14 @@ fn whole_before(place: usize) -> (usize, bool) {
 /// Serves the exchange up to that place.
 fn expect_cut(rt: &(impl Abort + AllocGlobal), place: usize) {
     let (front, _) = REQUESTS.split_at(place.min(REQUESTS.len()));
-    let served = serve(rt.alloc(), front, WELL, WELL);
-    let Served(end, written, opens) = served.expect(rt, "memory");
+    let Served(end, written, opens) = serve(rt, rt.alloc(), front, WELL, WELL);
     let (replies, is_end) = whole_before(place);
     assert!(rt; end == if is_end { Ok(()) } else { CUT }, "at {place}");
     assert!(rt;
         Some(written.as_slice()) == REPLIES.get(..replies),
         "at {place}"
     );
-    assert_eq!(rt; opens, 0, "at {place}");
+    assert!(rt; opens == 0, "at {place}");
 }
 
 #[test]
@@ -170,13 +175,11 @@ fn expect_end(
     writes: Plan,
     wanted: Result<(), ServeFault>,
 ) {
-    let Served(end, written, opens) = serve(rt.alloc(), REQUESTS, reads, writes).expect(
-        rt, "memory",
-    );
+    let Served(end, written, opens) = serve(rt, rt.alloc(), REQUESTS, reads, writes);
     assert!(rt; end == wanted);
     assert!(rt; REPLIES.starts_with(&written));
     assert!(rt; wanted != Ok(()) || written.len() == REPLIES.len());
-    assert_eq!(rt; opens, 0);
+    assert!(rt; opens == 0);
 }
 
 /// So many reads go well, and then one fails, or many are interrupted.

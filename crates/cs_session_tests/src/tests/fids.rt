@@ -35,7 +35,7 @@ fn number_at(table: &FidTable, fid: u32) -> Option<u64> {
 fn moves_a_fid_and_opens_it(rt: HostRuntime) {
     let walked = fid_of(&rt, 1).try_clone().expect(&rt, "memory").moved_to(7);
     assert!(rt; walked.run() == 2 && walked.pass() == 5 && walked.number() == 7);
-    assert_eq!(rt; walked.user().as_str(), "ann");
+    assert!(rt; walked.user().as_str() == "ann");
     let opened = walked.open(0x41, 12);
     assert!(rt; opened.mode() == 0x41 && opened.open_number() == 12 && opened.number() == 7);
 }
@@ -43,7 +43,7 @@ fn moves_a_fid_and_opens_it(rt: HostRuntime) {
 /// Looks at the run, the pass, the file and the user of an entry.
 fn expect_entry(rt: &impl Abort, entry: &Entry, number: u64) {
     assert!(rt; entry.run() == 2 && entry.pass() == 5 && entry.number() == number);
-    assert_eq!(rt; entry.user().as_str(), "ann");
+    assert!(rt; entry.user().as_str() == "ann");
 }
 
 #[test]
@@ -91,7 +91,7 @@ fn refuses_to_take_or_open_what_was_not_walked_to(rt: HostRuntime) {
     expect_not_walked(&rt, &mut table, 0, FidFault::Unknown);
     expect_not_walked(&rt, &mut table, NOFID, FidFault::Unknown);
     expect_not_walked(&rt, &mut table, 2, FidFault::AlreadyOpen);
-    assert_eq!(rt; table.take_walked(1).expect(&rt, "a fid").number(), 10);
+    assert!(rt; table.take_walked(1).expect(&rt, "a fid").number() == 10);
 }
 
 /// Looks for the fault where a fid is lent as an open one, or its read goes on.
@@ -109,7 +109,7 @@ fn refuses_to_read_on_where_no_fid_is_open(rt: HostRuntime) {
 
 /// Takes a fid of this file, and a second time in vain.
 fn expect_taken(rt: &impl Abort, table: &mut FidTable, fid: u32, number: u64) {
-    assert_eq!(rt; table.take_any(fid).expect(rt, "a fid").number(), number);
+    assert!(rt; table.take_any(fid).expect(rt, "a fid").number() == number);
     assert!(rt; table.take_any(fid).is_err());
 }
 
@@ -191,10 +191,7 @@ fn takes_no_more_than_4_096_fids(rt: HostRuntime) {
     }
     assert!(rt; table.len() == 4_096 && !table.has_room());
     assert!(rt; table.reserve() == Err(FidFault::TableFull));
-    assert_eq!(rt;
-        table.take_walked(2_000).expect(&rt, "a fid").number(),
-        2_000
-    );
+    assert!(rt; table.take_walked(2_000).expect(&rt, "a fid").number() == 2_000);
     assert!(rt; number_at(&table, 2_000).is_none());
     assert!(rt; number_at(&table, 4_095) == Some(4_095));
 }
@@ -215,6 +212,6 @@ const SAID: [Said; 6] = [
 fn says_why_a_call_was_refused(rt: HostRuntime) {
     for said in &SAID {
         let text = said.0.to_string(rt.alloc()).expect(&rt, "memory");
-        assert_eq!(rt; text.as_str(), said.1);
+        assert!(rt; text.as_str() == said.1, "{text}");
     }
 }

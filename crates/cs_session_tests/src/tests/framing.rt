@@ -19,34 +19,32 @@ const EXCHANGE: &[u8] =
     b"\x13\0\0\0d\xff\xff\0 \0\0\x06\09P2000\x19\0\0\0h\x01\0\0\0\0\0\xff\xff\xff\xff\x03\0ann\x03\00/x\x14\0\0\0n\x01\0\0\0\0\0\x01\0\0\0\x01\0\x01\0f\x0c\0\0\0p\x01\0\x01\0\0\0\0\x17\0\0\0t\x01\0\x01\0\0\0\0\0\0\0\0\0\0\0@\0\0\0\x0b\0\0\0|\x01\0\x01\0\0\0\x0b\0\0\0x\x01\0\x01\0\0\0";
 
 /// Takes the whole messages, which are those of the exchange from the first that isn't taken yet.
-fn take_all(framer: &mut Framer, taken: &mut usize) -> Option<()> {
+fn take_all(rt: &impl Abort, framer: &mut Framer, taken: &mut usize) {
     for _ in 0..=MESSAGES.len() {
-        let Some(message) = framer.next().ok()? else {
-            return Some(());
+        let Some(message) = framer.next().expect(rt, "memory") else {
+            return;
         };
-        if message != *MESSAGES.get(*taken)? {
-            return None;
-        }
+        assert!(rt; message == *MESSAGES.get(*taken).expect(rt, "a value"));
         *taken = taken.wrapping_add(1);
     }
-    None
+    panic!(rt; "more messages than there are");
 }
 
 /// Feeds a piece, and takes what is whole.
 fn expect_piece(rt: &impl Abort, framer: &mut Framer, piece: &[u8], taken: &mut usize) {
     framer.feed(piece).expect(rt, "memory");
-    take_all(framer, taken).expect(rt, "messages");
+    take_all(rt, framer, taken);
 }
 
 /// All messages were taken, and no byte is left.
 fn expect_end(rt: &impl Abort, framer: &Framer, taken: usize) {
-    assert_eq!(rt; taken, MESSAGES.len());
+    assert!(rt; taken == MESSAGES.len());
     assert!(rt; framer.end().is_ok());
 }
 
 #[test]
 fn pieces_of_one_byte_give_the_same_messages(rt: HostRuntime) {
-    assert_eq!(rt; EXCHANGE.len(), 121);
+    assert!(rt; EXCHANGE.len() == 121);
     let mut framer = Framer::new(rt.alloc());
     let mut taken = 0;
     for piece in EXCHANGE.chunks(1) {
@@ -90,8 +88,8 @@ fn three_bytes_more_stay_buffered(rt: HostRuntime) {
     expect_next(&rt, &mut framer, MESSAGES[0]);
     expect_none(&rt, &mut framer);
     let (bytes, place) = framer.buffered();
-    assert_eq!(rt; bytes.len(), 22);
-    assert_eq!(rt; place, 19);
+    assert!(rt; bytes.len() == 22);
+    assert!(rt; place == 19);
     assert!(rt; framer.end() == Err(FrameFault::Cut));
 }
 
@@ -102,7 +100,7 @@ fn expect_fault(rt: &(impl Abort + AllocGlobal), size: &[u8], fault: FrameFault)
     assert!(rt; framer.next() == Err(fault));
     framer.feed(MESSAGES[0]).expect(rt, "memory");
     assert!(rt; framer.next() == Err(fault));
-    assert_eq!(rt; framer.buffered().1, 0);
+    assert!(rt; framer.buffered().1 == 0);
 }
 
 #[test]
@@ -120,7 +118,7 @@ fn a_message_of_65536_bytes_is_whole(rt: HostRuntime) {
     expect_none(&rt, &mut framer);
     framer.feed(b"x").expect(&rt, "memory");
     let message = framer.next().expect(&rt, "no fault");
-    assert_eq!(rt; message.expect(&rt, "it is whole").len(), 65_536);
+    assert!(rt; message.expect(&rt, "it is whole").len() == 65_536);
 }
 
 #[test]
@@ -132,7 +130,7 @@ fn what_is_written_to_the_room_comes_as_if_it_was_fed(rt: HostRuntime) {
     framer.took(19);
     expect_next(&rt, &mut framer, MESSAGES[0]);
     framer.reserve(45).expect(&rt, "memory");
-    assert_eq!(rt; framer.buffered().1, 19);
+    assert!(rt; framer.buffered().1 == 19);
     framer.reserve(46).expect(&rt, "memory");
-    assert_eq!(rt; framer.buffered().1, 0);
+    assert!(rt; framer.buffered().1 == 0);
 }

@@ -10,6 +10,7 @@ use cs_tree::PlainTree;
 use cs_tree_model::{Content, DMDIR, Record};
 use cs_users::Users;
 use std::alloc::Global;
+use std::process::Abort;
 use std::sync::Arc;
 
 /// The requests of the first exchange: version, attach, walk, open, read, stat, clunk.
@@ -34,38 +35,45 @@ pub const WHOLE: [Whole; 8] = [
     Whole(121, 178),
 ];
 
-fn record(alloc: Global, number: u64, owner: &[u8], mode: u32, content: Content) -> Option<Record> {
-    Some(Record {
+fn record(
+    rt: &impl Abort,
+    alloc: Global,
+    number: u64,
+    owner: &[u8],
+    mode: u32,
+    content: Content,
+) -> Record {
+    Record {
         number,
         vers: 0,
-        owner: UserName::read(alloc, owner).ok()?,
-        group: UserName::read(alloc, b"staff").ok()?,
+        owner: UserName::read(alloc, owner).expect(rt, "a value"),
+        group: UserName::read(alloc, b"staff").expect(rt, "a value"),
         mode,
         atime: 0,
         mtime: 0,
-        muid: UserName::read(alloc, owner).ok()?,
+        muid: UserName::read(alloc, owner).expect(rt, "a value"),
         content,
-    })
+    }
 }
 
 /// The root and `/f`, which has the number 4.
-fn tree(alloc: Global) -> Option<PlainTree> {
-    let root = record(alloc, 0, b"cat", DMDIR | 0o775, Content::directory())?;
-    let bytes = Vec::from_slice(alloc, b"hello").ok()?;
-    let file = record(alloc, 4, b"ann", 0o664, Content::file(bytes))?;
+fn tree(rt: &impl Abort, alloc: Global) -> PlainTree {
+    let root = record(rt, alloc, 0, b"cat", DMDIR | 0o775, Content::directory());
+    let bytes = Vec::from_slice(alloc, b"hello").expect(rt, "memory");
+    let file = record(rt, alloc, 4, b"ann", 0o664, Content::file(bytes));
     let mut records = Vec::new(alloc);
-    records.push((Path::root(alloc), root)).ok()?;
-    records.push((Path::read(alloc, "/f").ok()?, file)).ok()?;
-    PlainTree::try_from_records(alloc, records).ok()
+    records.push((Path::root(alloc), root)).expect(rt, "memory");
+    records
+        .push((Path::read(alloc, "/f").expect(rt, "a value"), file))
+        .expect(rt, "a value");
+    PlainTree::try_from_records(alloc, records).expect(rt, "a value")
 }
 
-fn run(alloc: Global) -> Option<Run<PlainTree>> {
-    let users = Users::read(alloc, b"1:ann::\n3:cat::\n4:staff:ann:ann\n").ok()?;
-    let lower = Arc::new(alloc, tree(alloc)?).ok()?;
-    if !can_grow(&*lower) {
-        return None;
-    }
-    Run::fresh(alloc, lower, Arc::new(alloc, users).ok()?).ok()
+fn run(rt: &impl Abort, alloc: Global) -> Run<PlainTree> {
+    let users = Users::read(alloc, b"1:ann::\n3:cat::\n4:staff:ann:ann\n").expect(rt, "a value");
+    let lower = Arc::new(alloc, tree(rt, alloc)).expect(rt, "memory");
+    assert!(rt; can_grow(&*lower));
+    Run::fresh(alloc, lower, Arc::new(alloc, users).expect(rt, "memory")).expect(rt, "memory")
 }
 
 /// One run, and the passes that it gave.
@@ -76,11 +84,11 @@ pub struct Alone {
 }
 
 impl Alone {
-    pub fn new(alloc: Global) -> Option<Alone> {
-        Some(Alone {
-            run: run(alloc)?,
+    pub fn new(rt: &impl Abort, alloc: Global) -> Alone {
+        Alone {
+            run: run(rt, alloc),
             passes: Vec::new(alloc),
-        })
+        }
     }
 
     /// How many files are open.

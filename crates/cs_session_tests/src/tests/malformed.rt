@@ -42,26 +42,30 @@ const FAULTS: [Faulty; 7] = [
 const VERSION: &[u8] = b"\x13\x00\x00\x00d\x01\x00\x00\x04\x00\x00\x06\x009P2000";
 
 /// The reply as text.
-fn told(alloc: Global, session: &mut Session, port: &mut Alone, bytes: &[u8]) -> Option<String> {
-    if session.awaits() || bytes.len() < 7 {
-        return None;
-    }
+fn told(
+    rt: &impl Abort,
+    alloc: Global,
+    session: &mut Session,
+    port: &mut Alone,
+    bytes: &[u8],
+) -> String {
+    assert!(rt; !session.awaits() && bytes.len() >= 7);
     let reply = session.reply(alloc, port, 7, bytes);
     let mut told = String::new(alloc);
-    write!(told, "{reply}").ok()?;
-    Some(told)
+    write!(told, "{reply}").expect(rt, "memory");
+    told
 }
 
 /// What bytes are answered in a session of 1,024 bytes.
-fn told_after(alloc: Global, bytes: &[u8]) -> Option<String> {
-    let mut port = Alone::new(alloc)?;
+fn told_after(rt: &impl Abort, alloc: Global, bytes: &[u8]) -> String {
+    let mut port = Alone::new(rt, alloc);
     let mut session = Session::new(alloc);
-    told(alloc, &mut session, &mut port, VERSION)?;
-    told(alloc, &mut session, &mut port, bytes)
+    told(rt, alloc, &mut session, &mut port, VERSION);
+    told(rt, alloc, &mut session, &mut port, bytes)
 }
 
 fn expect_malformed(rt: &(impl Abort + AllocGlobal), bytes: &[u8]) {
-    let told = told_after(rt.alloc(), bytes).expect(rt, "a reply");
+    let told = told_after(rt, rt.alloc(), bytes);
     assert!(rt; told.ends_with(" ename \"S2 malformed message\""));
 }
 
@@ -80,28 +84,33 @@ fn a_malformed_message_is_told_in_a_session(rt: HostRuntime) {
 }
 
 /// A write of so many bytes, which has 23 bytes more.
-fn write(alloc: Global, count: u16) -> Option<Vec<u8>> {
+fn write(rt: &impl Abort, alloc: Global, count: u16) -> Vec<u8> {
     let size = u32::from(count).saturating_add(23);
     let mut bytes = Vec::new(alloc);
-    bytes.extend_from_slice(&size.to_le_bytes()).ok()?;
+    bytes
+        .extend_from_slice(&size.to_le_bytes())
+        .expect(rt, "memory");
     bytes
         .extend_from_slice(b"v\x01\0\x01\0\0\0\0\0\0\0\0\0\0\0")
-        .ok()?;
+        .expect(rt, "memory");
     bytes
         .extend_from_slice(&u32::from(count).to_le_bytes())
-        .ok()?;
+        .expect(rt, "memory");
     for _ in 0..count {
-        bytes.push(b'a').ok()?;
+        bytes.push(b'a').expect(rt, "memory");
     }
-    Some(bytes)
+    bytes
 }
 
 #[test]
 fn a_message_past_its_sessions_size_is_malformed(rt: HostRuntime) {
-    let bytes = write(rt.alloc(), 1_002).expect(&rt, "memory");
-    assert_eq!(rt; bytes.len(), 1_025);
+    let bytes = write(&rt, rt.alloc(), 1_002);
+    assert!(rt; bytes.len() == 1_025);
     expect_malformed(&rt, &bytes);
-    let bytes = write(rt.alloc(), 1_001).expect(&rt, "memory");
-    let told = told_after(rt.alloc(), &bytes).expect(&rt, "a reply");
-    assert_eq!(rt; told.as_str(), "Rerror tag 1 ename \"E1 unknown fid\"");
+    let bytes = write(&rt, rt.alloc(), 1_001);
+    let told = told_after(&rt, rt.alloc(), &bytes);
+    assert!(rt;
+        told.as_str() == "Rerror tag 1 ename \"E1 unknown fid\"",
+        "{told}"
+    );
 }

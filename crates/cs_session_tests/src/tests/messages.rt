@@ -67,14 +67,14 @@ fn expect_request_written(rt: &(impl Abort + AllocGlobal), message: &TMessage, b
     let mut out = Vec::new(rt.alloc());
     encode_t(message, &mut out).expect(rt, "memory");
     assert!(rt; out.as_slice() == bytes);
-    assert_eq!(rt; message.spelled_length(), bytes.len());
+    assert!(rt; message.spelled_length() == bytes.len());
 }
 
 fn expect_request(rt: &(impl Abort + AllocGlobal), spelled: &Spelled) {
     let message = decode(rt.alloc(), spelled.0).expect(rt, "a message");
     let mut shown = String::new(rt.alloc());
     write!(shown, "{message}").expect(rt, "memory");
-    assert_eq!(rt; shown.as_str(), spelled.1);
+    assert!(rt; shown.as_str() == spelled.1, "{shown}");
     expect_request_written(rt, &message, spelled.0);
 }
 
@@ -138,14 +138,14 @@ fn expect_reply_written(rt: &(impl Abort + AllocGlobal), message: &RMessage, byt
     let mut out = Vec::new(rt.alloc());
     encode(message, &mut out).expect(rt, "memory");
     assert!(rt; out.as_slice() == bytes);
-    assert_eq!(rt; message.spelled_length(), bytes.len());
+    assert!(rt; message.spelled_length() == bytes.len());
 }
 
 fn expect_reply(rt: &(impl Abort + AllocGlobal), spelled: &Spelled) {
     let message = decode_r(rt.alloc(), spelled.0).expect(rt, "a reply");
     let mut shown = String::new(rt.alloc());
     write!(shown, "{message}").expect(rt, "memory");
-    assert_eq!(rt; shown.as_str(), spelled.1);
+    assert!(rt; shown.as_str() == spelled.1, "{shown}");
     expect_reply_written(rt, &message, spelled.0);
 }
 
@@ -182,7 +182,7 @@ const FAULTS: [Faulty; 9] = [
 
 fn expect_fault(rt: &(impl Abort + AllocGlobal), faulty: &Faulty) {
     let fault = decode(rt.alloc(), faulty.0).err().expect(rt, "a fault");
-    assert_eq!(rt; fault, faulty.1);
+    assert!(rt; fault == faulty.1);
 }
 
 #[test]
@@ -225,7 +225,7 @@ const REPLY_FAULTS: [Faulty; 10] = [
 
 fn expect_reply_fault(rt: &(impl Abort + AllocGlobal), faulty: &Faulty) {
     let fault = decode_r(rt.alloc(), faulty.0).err().expect(rt, "a fault");
-    assert_eq!(rt; fault, faulty.1);
+    assert!(rt; fault == faulty.1);
 }
 
 #[test]
@@ -311,7 +311,7 @@ fn expect_entry(rt: &(impl Abort + AllocGlobal), stat: &Stat, bytes: &[u8]) {
     let mut out = Vec::new(rt.alloc());
     stat.encode_entry(&mut out).expect(rt, "memory");
     assert!(rt; out.as_slice() == bytes);
-    assert_eq!(rt; stat.entry_length(), 61);
+    assert!(rt; stat.entry_length() == 61);
 }
 
 #[test]
@@ -344,9 +344,9 @@ fn a_stat_that_was_read_is_taken_apart(rt: HostRuntime) {
     let TBody::Wstat { fid, stat } = request.body else {
         panic!(rt; "the message is Twstat");
     };
-    assert_eq!(rt; fid, 1);
+    assert!(rt; fid == 1);
     let (mode, name, gid) = taken_apart(stat);
-    assert_eq!(rt; mode, 4294967295);
-    assert_eq!(rt; name.as_str(), "g");
-    assert_eq!(rt; gid.as_str(), "");
+    assert!(rt; mode == 4294967295);
+    assert!(rt; name.as_str() == "g", "{name}");
+    assert!(rt; gid.as_str() == "", "{gid}");
 }

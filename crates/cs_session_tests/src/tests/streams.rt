@@ -225,7 +225,7 @@ fn expect_narrow(
     let mut port = Fake::new(rt.alloc());
     let served = serve_stream(rt.alloc(), &mut stream, &mut port, &mut Standing);
     assert!(rt; served == wanted);
-    assert_eq!(rt; stream.counts().idle_writes, idle_writes);
+    assert!(rt; stream.counts().idle_writes == idle_writes);
     assert!(rt; stream.into_writer().taken.as_slice() == written);
 }
 
@@ -295,5 +295,5 @@ fn counts_the_calls_of_a_stream(rt: HostRuntime) {
     assert!(rt; stream.read(&mut [0; 4]) == Transfer::Bytes(0));
     let counts = stream.counts();
     assert!(rt; counts.writes == 1 && counts.reads == 1 && counts.ends == 1);
-    assert_eq!(rt; stream.into_inner().position(), 3);
+    assert!(rt; stream.into_inner().position() == 3);
 }

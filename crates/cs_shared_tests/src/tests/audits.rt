@@ -18,67 +18,72 @@ struct Pair {
 }
 
 /// The call that a word asks for.
-fn call_of(alloc: Global, user: &str, word: &str) -> Option<Call> {
+fn call_of(rt: &impl Abort, alloc: Global, user: &str, word: &str) -> Call {
     match word {
-        "walk" => walk(alloc, user),
-        "open" => open(alloc, user, 2),
-        "write" => write(alloc, user, "HI"),
-        "read" => Some(read()),
-        _ => Some(stat()),
+        "walk" => walk(rt, alloc, user),
+        "open" => open(rt, alloc, user, 2),
+        "write" => write(rt, alloc, user, "HI"),
+        "read" => read(),
+        _ => stat(),
     }
 }
 
 impl Pair {
     /// The run of that name, to which ann is attached, and then bob.
-    fn of<R: Wait>(
+    fn of<R: Wait + Abort>(
         rt: &R,
         alloc: Global,
         registry: &SharedRegistry<AnyScene>,
         name: &str,
-    ) -> Option<Pair> {
-        let run = find(rt, alloc, registry, name)?;
+    ) -> Pair {
+        let run = find(rt, alloc, registry, name);
         let mut passes = Vec::new(alloc);
-        passes.push(attach(rt, alloc, &run, "ann")?).ok()?;
-        passes.push(attach(rt, alloc, &run, "bob")?).ok()?;
+        passes
+            .push(attach(rt, alloc, &run, "ann"))
+            .expect(rt, "memory");
+        passes
+            .push(attach(rt, alloc, &run, "bob"))
+            .expect(rt, "memory");
         let told = String::new(alloc);
-        Some(Pair { run, passes, told })
+        Pair { run, passes, told }
     }
 
-    fn call<R: Wait>(&mut self, rt: &R, alloc: Global, user: &str, word: &str) -> Option<Answer> {
-        let pass = self.passes.get_mut(if user == "ann" { 0 } else { 1 })?;
-        let call = call_of(alloc, user, word)?;
-        Some(self.run.call(rt, alloc, pass, 2, call))
+    fn call<R: Wait + Abort>(&mut self, rt: &R, alloc: Global, user: &str, word: &str) -> Answer {
+        let pass = self
+            .passes
+            .get_mut(if user == "ann" { 0 } else { 1 })
+            .expect(rt, "a value");
+        let call = call_of(rt, alloc, user, word);
+        self.run.call(rt, alloc, pass, 2, call)
     }
 
     /// Makes calls, a line each: by whom, and which.
-    fn make<R: Wait>(&mut self, rt: &R, alloc: Global, calls: &str) -> Option<()> {
+    fn make<R: Wait + Abort>(&mut self, rt: &R, alloc: Global, calls: &str) {
         for line in calls.lines() {
-            let (user, word) = line.split_once(' ')?;
-            let answer = self.call(rt, alloc, user, word)?;
-            write!(self.told, "{answer:?}\n").ok()?;
+            let (user, word) = line.split_once(' ').expect(rt, "a value");
+            let answer = self.call(rt, alloc, user, word);
+            write!(self.told, "{answer:?}\n").expect(rt, "memory");
         }
-        Some(())
     }
 
     fn audit<R: Wait>(&self, rt: &R, passes: &[Pass]) -> Result<(), AuditFault> {
         self.run.inspect(rt, |run| run.audit(passes))
     }
 
-    /// What the journal tells of the call at a place; None past its end.
-    fn answer_at<R: Wait>(&self, rt: &R, alloc: Global, place: usize) -> Option<Answer> {
-        self.run
-            .inspect(rt, |run| run.answer_at(alloc, place))
-            .ok()?
+    /// What the journal tells of the call at a place.
+    fn answer_at<R: Wait + Abort>(&self, rt: &R, alloc: Global, place: usize) -> Answer {
+        let answer = self.run.inspect(rt, |run| run.answer_at(alloc, place));
+        answer.expect(rt, "memory").expect(rt, "an answer")
     }
 
     /// What the journal tells of the calls behind the attaches, a line each.
-    fn told_again<R: Wait>(&self, rt: &R, alloc: Global) -> Option<String> {
+    fn told_again<R: Wait + Abort>(&self, rt: &R, alloc: Global) -> String {
         let mut told = String::new(alloc);
         for place in 2..4 {
-            let answer = self.answer_at(rt, alloc, place)?;
-            write!(told, "{answer:?}\n").ok()?;
+            let answer = self.answer_at(rt, alloc, place);
+            write!(told, "{answer:?}\n").expect(rt, "memory");
         }
-        Some(told)
+        told
     }
 }
 
@@ -90,15 +95,15 @@ fn after<R: Wait + Abort>(
     name: &str,
     calls: &str,
 ) -> Pair {
-    let mut pair = Pair::of(rt, alloc, registry, name).expect(rt, "a run");
-    pair.make(rt, alloc, calls).expect(rt, "calls");
+    let mut pair = Pair::of(rt, alloc, registry, name);
+    pair.make(rt, alloc, calls);
     pair
 }
 
 #[test]
 fn an_audit_of_a_shared_run_tells_the_first_entry_without_its_own_receipt(rt: HostRuntime) {
     let alloc = rt.alloc();
-    let registry = published(&rt, alloc).expect(&rt, "a registry");
+    let registry = published(&rt, alloc);
     let mut x = after(&rt, alloc, &registry, "x", "ann stat\nbob stat");
     assert!(rt; x.audit(&rt, x.passes.as_slice()) == Ok(()));
     let y = after(&rt, alloc, &registry, "y", "ann stat\nbob walk");
@@ -112,27 +117,28 @@ fn an_audit_of_a_shared_run_tells_the_first_entry_without_its_own_receipt(rt: Ho
 #[test]
 fn no_answer_is_invented_under_the_lock(rt: HostRuntime) {
     let alloc = rt.alloc();
-    let registry = published(&rt, alloc).expect(&rt, "a registry");
+    let registry = published(&rt, alloc);
     let x = after(&rt, alloc, &registry, "x", "ann stat\nbob stat");
-    let told = x.told_again(&rt, alloc).expect(&rt, "two answers");
-    assert_eq!(rt; told.as_str(), x.told.as_str());
-    assert!(rt; x.answer_at(&rt, alloc, 4).is_none());
+    let told = x.told_again(&rt, alloc);
+    assert!(rt; told.as_str() == x.told.as_str(), "{told}");
+    let past = x.run.inspect(&rt, |run| run.answer_at(alloc, 4));
+    assert!(rt; past.expect(&rt, "memory").is_none());
 }
 
 /// Whether bob reads this.
-fn bob_reads<R: Wait>(rt: &R, alloc: Global, pair: &mut Pair, text: &str) -> Option<bool> {
-    match pair.call(rt, alloc, "bob", "read")? {
-        Answer::Data(data) => Some(data.bytes() == text.as_bytes()),
-        _ => None,
+fn bob_reads<R: Wait + Abort>(rt: &R, alloc: Global, pair: &mut Pair, text: &str) -> bool {
+    match pair.call(rt, alloc, "bob", "read") {
+        Answer::Data(data) => data.bytes() == text.as_bytes(),
+        _ => false,
     }
 }
 
 #[test]
 fn a_run_does_not_restart_under_the_lock(rt: HostRuntime) {
     let alloc = rt.alloc();
-    let registry = published(&rt, alloc).expect(&rt, "a registry");
+    let registry = published(&rt, alloc);
     let calls = "ann open\nann write\nbob open";
     let mut x = after(&rt, alloc, &registry, "x", calls);
-    assert_eq!(rt; bob_reads(&rt, alloc, &mut x, "HIllo"), Some(true));
+    assert!(rt; bob_reads(&rt, alloc, &mut x, "HIllo"));
     assert!(rt; x.audit(&rt, x.passes.as_slice()) == Ok(()));
 }

@@ -17,50 +17,48 @@ const ANNS: u32 = 32_766;
 const BOBS: u32 = 32_765;
 
 /// Makes so many stats: the pass, where all are granted.
-fn stats<R: Wait>(
+fn stats<R: Wait + Abort>(
     rt: &R,
     alloc: Global,
     run: &SharedRun<AnyScene>,
     mut pass: Pass,
     count: u32,
-) -> Option<Pass> {
+) -> Pass {
     for _ in 0..count {
         let answer = run.call(rt, alloc, &mut pass, 2, stat());
-        if !matches!(answer, Answer::Stat(_)) {
-            return None;
-        }
+        assert!(rt; matches!(answer, Answer::Stat(_)));
     }
-    Some(pass)
+    pass
 }
 
 /// Makes a walk, and an open of the file: the number of the open.
-fn walk_and_open<R: Wait>(
+fn walk_and_open<R: Wait + Abort>(
     rt: &R,
     alloc: Global,
     run: &SharedRun<AnyScene>,
     pass: &mut Pass,
-) -> Option<u32> {
-    let walked = run.call(rt, alloc, pass, 2, walk(alloc, "ann")?);
-    let opened = run.call(rt, alloc, pass, 2, open(alloc, "ann", 2)?);
+) -> u32 {
+    let walked = run.call(rt, alloc, pass, 2, walk(rt, alloc, "ann"));
+    let opened = run.call(rt, alloc, pass, 2, open(rt, alloc, "ann", 2));
     match (walked, opened) {
-        (Answer::Walked(_), Answer::Opened { open_number, .. }) => Some(open_number),
-        _ => None,
+        (Answer::Walked(_), Answer::Opened { open_number, .. }) => open_number,
+        _ => panic!(rt; "a walk or an open is denied"),
     }
 }
 
-fn close(alloc: Global, open_number: u32) -> Option<Call> {
-    let user = UserName::read(alloc, b"ann").ok()?;
-    Some(Call::Close(CloseCall { open_number, user }))
+fn close(rt: &impl Abort, alloc: Global, open_number: u32) -> Call {
+    let user = UserName::read(alloc, b"ann").expect(rt, "a value");
+    Call::Close(CloseCall { open_number, user })
 }
 
 /// A run to which ann was attached and bob, with what ann opened: four entries.
-fn begun<R: Wait>(rt: &R, alloc: Global) -> Option<(SharedRun<AnyScene>, Pass, Pass, u32)> {
-    let registry = published(rt, alloc)?;
-    let run = find(rt, alloc, &registry, "x")?;
-    let mut ann = attach(rt, alloc, &run, "ann")?;
-    let bob = attach(rt, alloc, &run, "bob")?;
-    let open_number = walk_and_open(rt, alloc, &run, &mut ann)?;
-    Some((run, ann, bob, open_number))
+fn begun<R: Wait + Abort>(rt: &R, alloc: Global) -> (SharedRun<AnyScene>, Pass, Pass, u32) {
+    let registry = published(rt, alloc);
+    let run = find(rt, alloc, &registry, "x");
+    let mut ann = attach(rt, alloc, &run, "ann");
+    let bob = attach(rt, alloc, &run, "bob");
+    let open_number = walk_and_open(rt, alloc, &run, &mut ann);
+    (run, ann, bob, open_number)
 }
 
 /// Looks that the journal has room for the close of an open alone.
@@ -72,17 +70,15 @@ fn expect_full<R: Wait + Abort>(rt: &R, alloc: Global, run: &SharedRun<AnyScene>
 #[test]
 fn two_threads_fill_a_journal_up_to_a_close(rt: HostRuntime) {
     let alloc = rt.alloc();
-    let (run, ann, bob, open_number) = begun(&rt, alloc).expect(&rt, "a run");
-    let (ann, bob) = thread::join(
+    let (run, ann, bob, open_number) = begun(&rt, alloc);
+    let (mut ann, mut bob) = thread::join(
         &rt,
         || stats(&rt, alloc, &run, ann, ANNS),
         || stats(&rt, alloc, &run, bob, BOBS),
     );
-    let mut ann = ann.expect(&rt, "all granted to ann");
-    let mut bob = bob.expect(&rt, "all granted to bob");
     expect_full(&rt, alloc, &run, &mut ann);
     expect_full(&rt, alloc, &run, &mut bob);
-    let close = close(alloc, open_number).expect(&rt, "memory");
+    let close = close(&rt, alloc, open_number);
     let closed = run.call(&rt, alloc, &mut ann, 4, close);
     assert!(rt; matches!(closed, Answer::Closed));
     let passes = [ann, bob];

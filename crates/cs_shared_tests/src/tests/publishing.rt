@@ -1,5 +1,5 @@
 //! Workers over a file that is written, waited for and moved, whose plan has twelve states.
-ghost use Rattle.std.specs.Prelude.{◌≡◌, IfSome};
+ghost use Rattle.std.specs.Prelude.{◌≡◌};
 ghost use Rattle.std.specs.Arc.{arc_value};
 ghost use Rattle.cs_shared.specs.Serving.{IsOnly, ServesAll};
 
@@ -100,35 +100,40 @@ impl Gate for Asked {
     }
 }
 
-fn text_of(alloc: Global) -> Result<String, AllocError> {
+fn text_of(rt: &impl Abort, alloc: Global) -> String {
     let mut text = String::new(alloc);
-    text.push_str(HEADER)?;
-    text.push_str(CREAT)?;
-    text.push_str("{\"op\":\"write\",\"path\":\"/t\",\"offset\":0,\"bytes\":\"")?;
+    text.push_str(HEADER).expect(rt, "memory");
+    text.push_str(CREAT).expect(rt, "memory");
+    text.push_str("{\"op\":\"write\",\"path\":\"/t\",\"offset\":0,\"bytes\":\"")
+        .expect(rt, "memory");
     for _ in 0..5000 {
-        text.push_str("61")?;
+        text.push_str("61").expect(rt, "memory");
     }
-    text.push_str("\"}\n")?;
-    text.push_str(MOVED)?;
-    Ok(text)
+    text.push_str("\"}\n").expect(rt, "memory");
+    text.push_str(MOVED).expect(rt, "memory");
+    text
 }
 
-fn scene_of(alloc: Global, text: &str) -> Option<Arc<Scene>> {
-    let trace = read_trace(alloc, text).ok()?;
-    let scene = Scene::of(alloc, trace, true, Vec::new(alloc)).ok()?;
-    Arc::new(alloc, scene).ok()
+fn scene_of(rt: &impl Abort, alloc: Global, text: &str) -> Arc<Scene> {
+    let trace = read_trace(alloc, text).expect(rt, "a value");
+    let scene = Scene::of(alloc, trace, true, Vec::new(alloc)).expect(rt, "memory");
+    Arc::new(alloc, scene).expect(rt, "memory")
 }
 
-fn users_of(alloc: Global) -> Option<Arc<Users>> {
-    Arc::new(alloc, Users::read(alloc, b"1:ann::\n").ok()?).ok()
+fn users_of(rt: &impl Abort, alloc: Global) -> Arc<Users> {
+    Arc::new(
+        alloc,
+        Users::read(alloc, b"1:ann::\n").expect(rt, "a value"),
+    )
+    .expect(rt, "a value")
 }
 
-fn moved(alloc: Global) -> Option<Arc<Scene>> {
-    scene_of(alloc, text_of(alloc).ok()?.as_str())
+fn moved(rt: &impl Abort, alloc: Global) -> Arc<Scene> {
+    scene_of(rt, alloc, text_of(rt, alloc).as_str())
 }
 
-fn state_of(alloc: Global, scene: Option<Arc<Scene>>) -> Option<Published> {
-    Scene::make(alloc, &scene?, 0).ok()
+fn state_of(rt: &impl Abort, alloc: Global, scene: &Arc<Scene>) -> Published {
+    Scene::make(alloc, scene, 0).expect(rt, "a state")
 }
 
 /// How many states are missing, and how many runs there are, once so many workers have published; the
@@ -139,8 +144,8 @@ fn publish<R: Threads + Wait + Sync + Abort, G: Gate>(
     workers: u32,
     gate: &G,
 ) -> Result<(u32, u32), PublishAllFault> {
-    let scene = moved(alloc).expect(rt, "the scene");
-    let users = users_of(alloc).expect(rt, "the users");
+    let scene = moved(rt, alloc);
+    let users = users_of(rt, alloc);
     let states = publish_all::<Nothing, _, _>(rt, alloc, scene, users, workers, gate)?;
     Ok((states.missing(), states.run_count()))
 }
@@ -166,12 +171,12 @@ fn there_are_1_to_64_workers(rt: HostRuntime) {
 }
 
 /// A registry of the scene.
-fn registry_of<S: Served>(alloc: Global, scene: Arc<Scene>) -> Option<SharedRegistry<S>>
+fn registry_of<S: Served, R: Abort>(rt: &R, alloc: Global, scene: Arc<Scene>) -> SharedRegistry<S>
     requires here { S.is_scene (arc_value scene) }
     requires serves { ServesAll S.serves (arc_value scene) }
-    ensures { IfSome result (λ registry. registry ≡ arc_value scene) }
+    ensures { result ≡ arc_value scene }
 {
-    SharedRegistry::<S>::new(alloc, scene, users_of(alloc)?).ok()
+    SharedRegistry::<S>::new(alloc, scene, users_of(rt, alloc)).expect(rt, "memory")
 }
 
 /// So many workers publish into the registry, and this comes of it.
@@ -193,10 +198,10 @@ fn is_refused<S: Served, R: Wait + Abort>(
     rt: &R,
     alloc: Global,
     registry: &SharedRegistry<S>,
-    scene: Option<Arc<Scene>>,
+    scene: Arc<Scene>,
     fault: PublishFault,
 ) {
-    let state = state_of(alloc, scene).expect(rt, "state 0");
+    let state = state_of(rt, alloc, &scene);
     assert!(rt; registry.publish(rt, alloc, state) == Err(fault));
 }
 
@@ -207,21 +212,21 @@ fn counts<S: Served, R: Threads + Wait + Sync + Abort>(rt: &R, alloc: Global, sc
     requires only { IsOnly S.is_scene (arc_value scene) }
     requires serves { ServesAll S.serves (arc_value scene) }
 {
-    let registry = registry_of::<S>(alloc, scene).expect(rt, "the registry");
+    let registry = registry_of::<S, R>(rt, alloc, scene);
     let refused = Err(PublishAllFault::Workers);
     publishes(rt, alloc, &registry, 65, &NoGate, refused);
     assert!(rt; registry.missing(rt) == 12);
     publishes(rt, alloc, &registry, 2, &NoGate, Ok(12));
     assert!(rt; registry.missing(rt) == 0);
-    is_refused(rt, alloc, &registry, moved(alloc), PublishFault::Twice);
-    let other = scene_of(alloc, HEADER);
+    is_refused(rt, alloc, &registry, moved(rt, alloc), PublishFault::Twice);
+    let other = scene_of(rt, alloc, HEADER);
     is_refused(rt, alloc, &registry, other, PublishFault::Stranger);
     publishes(rt, alloc, &registry, 1, &NoGate, Ok(0));
 }
 
 #[test]
 fn what_stood_already_is_not_counted(rt: HostRuntime) {
-    let scene = moved(rt.alloc()).expect(&rt, "the scene");
+    let scene = moved(&rt, rt.alloc());
     counts::<Brand, HostRuntime>(&rt, rt.alloc(), scene);
 }
 
@@ -236,7 +241,7 @@ fn asks<S: Served, R: Threads + Wait + Sync + Abort>(
     requires only { IsOnly S.is_scene (arc_value scene) }
     requires serves { ServesAll S.serves (arc_value scene) }
 {
-    let registry = registry_of::<S>(alloc, scene).expect(rt, "the registry");
+    let registry = registry_of::<S, R>(rt, alloc, scene);
     publishes(rt, alloc, &registry, 2, gate, Ok(12));
 }
 
@@ -247,7 +252,7 @@ fn a_gate_is_asked_once_for_each_state(rt: HostRuntime) {
     assert!(rt; publish(&rt, alloc, 2, &gate).is_ok());
     assert!(rt; gate.of_all_once());
     let gate = Asked::new();
-    let scene = moved(alloc).expect(&rt, "the scene");
+    let scene = moved(&rt, alloc);
     asks::<Brand, HostRuntime>(&rt, alloc, scene, &gate);
     assert!(rt; gate.of_all_once());
 }

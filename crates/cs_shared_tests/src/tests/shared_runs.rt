@@ -7,44 +7,42 @@ use cs_permit::{Call, StatCall};
 use cs_registry::FindFault;
 use cs_run::Answer;
 use cs_shared::{AnyScene, NamedRun, SharedRegistry, SharedRun};
-use std::alloc::{AllocError, Global};
+use std::alloc::Global;
 use std::process::Abort;
 use std::sync::Wait;
 use std::sync::atomic::{AtomicBool, Ordering};
 use std::thread;
 
 /// Whether the user opens the file and reads this.
-fn reads<R: Wait>(
+fn reads<R: Wait + Abort>(
     rt: &R,
     alloc: Global,
     run: &SharedRun<AnyScene>,
     user: &str,
     text: &str,
-) -> Option<bool> {
-    let mut pass = attach(rt, alloc, run, user)?;
-    let opened = run.call(rt, alloc, &mut pass, 2, open(alloc, user, 0)?);
+) -> bool {
+    let mut pass = attach(rt, alloc, run, user);
+    let opened = run.call(rt, alloc, &mut pass, 2, open(rt, alloc, user, 0));
     match (opened, run.call(rt, alloc, &mut pass, 2, read())) {
-        (Answer::Opened { .. }, Answer::Data(data)) => Some(data.bytes() == text.as_bytes()),
-        _ => None,
+        (Answer::Opened { .. }, Answer::Data(data)) => data.bytes() == text.as_bytes(),
+        _ => false,
     }
 }
 
 /// Attaches a user, who opens the file and writes this at its beginning.
-fn writes<R: Wait>(
+fn writes<R: Wait + Abort>(
     rt: &R,
     alloc: Global,
     run: &SharedRun<AnyScene>,
     user: &str,
     text: &str,
-) -> Option<Pass> {
-    let mut pass = attach(rt, alloc, run, user)?;
-    let opened = run.call(rt, alloc, &mut pass, 2, open(alloc, user, 1)?);
-    let written = run.call(rt, alloc, &mut pass, 2, write(alloc, user, text)?);
+) -> Pass {
+    let mut pass = attach(rt, alloc, run, user);
+    let opened = run.call(rt, alloc, &mut pass, 2, open(rt, alloc, user, 1));
+    let written = run.call(rt, alloc, &mut pass, 2, write(rt, alloc, user, text));
     match (opened, written) {
-        (Answer::Opened { .. }, Answer::Written(count)) if count as usize == text.len() => {
-            Some(pass)
-        }
-        _ => None,
+        (Answer::Opened { .. }, Answer::Written(count)) if count as usize == text.len() => { pass }
+        _ => panic!(rt; "another answer"),
     }
 }
 
@@ -58,42 +56,32 @@ fn expect_unpublished<R: Wait + Abort>(rt: &R, alloc: Global, registry: &SharedR
 #[test]
 fn a_run_is_found_once_its_state_is_published(rt: HostRuntime) {
     let alloc = rt.alloc();
-    let (registry, state) = registry_of(alloc).expect(&rt, "the registry");
+    let (registry, state) = registry_of(&rt, alloc);
     assert!(rt; registry.missing(&rt) == 1);
     expect_unpublished(&rt, alloc, &registry);
     assert!(rt; registry.publish(&rt, alloc, state).is_ok());
-    assert!(rt; find(&rt, alloc, &registry, "a").is_some());
-}
-
-/// A run of that name of the registry.
-fn run_of<R: Wait + Abort>(
-    rt: &R,
-    alloc: Global,
-    registry: &SharedRegistry<AnyScene>,
-    name: &str,
-) -> SharedRun<AnyScene> {
-    find(rt, alloc, registry, name).expect(rt, "a run")
+    let _run = find(&rt, alloc, &registry, "a");
 }
 
 #[test]
 fn what_is_written_in_a_run_is_read_there_and_nowhere_else(rt: HostRuntime) {
     let alloc = rt.alloc();
-    let registry = published(&rt, alloc).expect(&rt, "the registry");
-    let a = run_of(&rt, alloc, &registry, "a");
-    assert!(rt; writes(&rt, alloc, &a, "ann", "HI").is_some());
-    let b = run_of(&rt, alloc, &registry, "b");
-    assert!(rt; reads(&rt, alloc, &b, "bob", "hello") == Some(true));
-    let again = run_of(&rt, alloc, &registry, "a");
-    assert!(rt; reads(&rt, alloc, &again, "cat", "HIllo") == Some(true));
+    let registry = published(&rt, alloc);
+    let a = find(&rt, alloc, &registry, "a");
+    let _ann = writes(&rt, alloc, &a, "ann", "HI");
+    let b = find(&rt, alloc, &registry, "b");
+    assert!(rt; reads(&rt, alloc, &b, "bob", "hello"));
+    let again = find(&rt, alloc, &registry, "a");
+    assert!(rt; reads(&rt, alloc, &again, "cat", "HIllo"));
 }
 
 #[test]
 fn a_pass_calls_its_own_run_alone(rt: HostRuntime) {
     let alloc = rt.alloc();
-    let registry = published(&rt, alloc).expect(&rt, "the registry");
-    let a = run_of(&rt, alloc, &registry, "a");
-    let b = run_of(&rt, alloc, &registry, "b");
-    let mut ann = writes(&rt, alloc, &a, "ann", "HI").expect(&rt, "ann");
+    let registry = published(&rt, alloc);
+    let a = find(&rt, alloc, &registry, "a");
+    let b = find(&rt, alloc, &registry, "b");
+    let mut ann = writes(&rt, alloc, &a, "ann", "HI");
     let stat = Call::Stat(StatCall { number: F });
     let told = b.call(&rt, alloc, &mut ann, 3, stat);
     assert!(rt; matches!(told, Answer::Denied(RuleId::S5)));
@@ -101,49 +89,43 @@ fn a_pass_calls_its_own_run_alone(rt: HostRuntime) {
 }
 
 /// Adds each run's state and name.
-fn push_runs(text: &mut String, runs: &[NamedRun<AnyScene>]) -> Result<(), AllocError> {
+fn push_runs(rt: &impl Abort, text: &mut String, runs: &[NamedRun<AnyScene>]) {
     for run in runs {
-        write!(text, "{} {}, ", run.run().number(), run.name())?;
+        write!(text, "{} {}, ", run.run().number(), run.name()).expect(rt, "memory");
     }
-    Ok(())
 }
 
 #[test]
 fn runs_are_told_by_their_names(rt: HostRuntime) {
     let alloc = rt.alloc();
-    let registry = published(&rt, alloc).expect(&rt, "the registry");
-    assert!(rt; find(&rt, alloc, &registry, "b").is_some());
-    assert!(rt; find(&rt, alloc, &registry, "a").is_some());
+    let registry = published(&rt, alloc);
+    let _run = find(&rt, alloc, &registry, "b");
+    let _run = find(&rt, alloc, &registry, "a");
     let runs = registry.runs(&rt, alloc).expect(&rt, "memory");
     let mut text = String::new(alloc);
-    push_runs(&mut text, &runs).expect(&rt, "memory");
+    push_runs(&rt, &mut text, &runs);
     assert!(rt; text.as_str() == "0 a, 0 b, ");
 }
 
 /// How many entries each run has.
-fn push_entries<R: Wait>(
-    rt: &R,
-    text: &mut String,
-    runs: &[NamedRun<AnyScene>],
-) -> Result<(), AllocError> {
+fn push_entries<R: Wait + Abort>(rt: &R, text: &mut String, runs: &[NamedRun<AnyScene>]) {
     for run in runs {
         let entries = run.run().inspect(rt, |run| run.entries());
-        write!(text, "{entries}, ")?;
+        write!(text, "{entries}, ").expect(rt, "memory");
     }
-    Ok(())
 }
 
 #[test]
 fn each_run_is_told_by_its_own_handle(rt: HostRuntime) {
     let alloc = rt.alloc();
-    let registry = published(&rt, alloc).expect(&rt, "the registry");
-    let a = run_of(&rt, alloc, &registry, "a");
-    let b = run_of(&rt, alloc, &registry, "b");
-    assert!(rt; writes(&rt, alloc, &a, "ann", "HI").is_some());
-    assert!(rt; attach(&rt, alloc, &b, "bob").is_some());
+    let registry = published(&rt, alloc);
+    let a = find(&rt, alloc, &registry, "a");
+    let b = find(&rt, alloc, &registry, "b");
+    let _ann = writes(&rt, alloc, &a, "ann", "HI");
+    let _bob = attach(&rt, alloc, &b, "bob");
     let runs = registry.runs(&rt, alloc).expect(&rt, "memory");
     let mut text = String::new(alloc);
-    push_entries(&rt, &mut text, &runs).expect(&rt, "memory");
+    push_entries(&rt, &mut text, &runs);
     assert!(rt; text.as_str() == "3, 1, ");
 }
 
@@ -179,10 +161,10 @@ fn ask<R: Wait>(
 #[test]
 fn a_run_is_called_while_another_is_locked(rt: HostRuntime) {
     let alloc = rt.alloc();
-    let registry = published(&rt, alloc).expect(&rt, "the registry");
-    let a = run_of(&rt, alloc, &registry, "a");
-    let b = run_of(&rt, alloc, &registry, "b");
-    let bob = attach(&rt, alloc, &b, "bob").expect(&rt, "bob");
+    let registry = published(&rt, alloc);
+    let a = find(&rt, alloc, &registry, "a");
+    let b = find(&rt, alloc, &registry, "b");
+    let bob = attach(&rt, alloc, &b, "bob");
     let (looking, answered) = (AtomicBool::new(false), AtomicBool::new(false));
     let looked = thread::join(
         &rt,

@@ -10,6 +10,7 @@ use cs_shared::{AnyScene, SharedRegistry, SharedRun};
 use cs_trace::read_trace;
 use cs_users::Users;
 use std::alloc::Global;
+use std::process::Abort;
 use std::sync::atomic::{AtomicBool, Ordering};
 use std::sync::{Arc, Wait};
 use std::thread;
@@ -26,65 +27,67 @@ pub const F: u64 = 1;
 const TURNS: u32 = 10_000_000;
 
 /// A registry of a scene, and its one state.
-pub fn registry_of(alloc: Global) -> Option<(SharedRegistry<AnyScene>, Published)> {
-    let trace = read_trace(alloc, TRACE).ok()?;
-    let scene = Scene::of(alloc, trace, false, Vec::new(alloc)).ok()?;
-    let scene = Arc::new(alloc, scene).ok()?;
-    let state = Scene::make(alloc, &scene, 0).ok()?;
-    let users = Arc::new(alloc, Users::read(alloc, USERS).ok()?).ok()?;
-    let registry = SharedRegistry::<AnyScene>::new(alloc, scene, users).ok()?;
-    Some((registry, state))
+pub fn registry_of(rt: &impl Abort, alloc: Global) -> (SharedRegistry<AnyScene>, Published) {
+    let trace = read_trace(alloc, TRACE).expect(rt, "a value");
+    let scene = Scene::of(alloc, trace, false, Vec::new(alloc)).expect(rt, "memory");
+    let scene = Arc::new(alloc, scene).expect(rt, "memory");
+    let state = Scene::make(alloc, &scene, 0).expect(rt, "memory");
+    let users = Arc::new(alloc, Users::read(alloc, USERS).expect(rt, "a value")).expect(
+        rt, "a value",
+    );
+    let registry = SharedRegistry::<AnyScene>::new(alloc, scene, users).expect(rt, "memory");
+    (registry, state)
 }
 
 /// The run of that name.
-pub fn find<R: Wait>(
+pub fn find<R: Wait + Abort>(
     rt: &R,
     alloc: Global,
     registry: &SharedRegistry<AnyScene>,
     name: &str,
-) -> Option<SharedRun<AnyScene>> {
-    let name = RunName::read(alloc, name.as_bytes()).ok()?;
-    registry.find(rt, alloc, 0, &name).ok()
+) -> SharedRun<AnyScene> {
+    let name = RunName::read(alloc, name.as_bytes()).expect(rt, "a value");
+    registry.find(rt, alloc, 0, &name).expect(rt, "memory")
 }
 
 /// The pass of a user who is attached.
-pub fn attach<R: Wait>(
+pub fn attach<R: Wait + Abort>(
     rt: &R,
     alloc: Global,
     run: &SharedRun<AnyScene>,
     user: &str,
-) -> Option<Pass> {
-    match run.attach(rt, alloc, 1, Text::keep(alloc, user).ok()?) {
-        Ok((pass, Answer::Attached(_))) => Some(pass),
-        _ => None,
+) -> Pass {
+    match run.attach(rt, alloc, 1, Text::keep(alloc, user).expect(rt, "memory")) {
+        Ok((pass, Answer::Attached(_))) => pass,
+        _ => panic!(rt; "another answer"),
     }
 }
 
 /// A registry whose one state is published.
-pub fn published<R: Wait>(rt: &R, alloc: Global) -> Option<SharedRegistry<AnyScene>> {
-    let (registry, state) = registry_of(alloc)?;
-    registry.publish(rt, alloc, state).ok()?;
-    Some(registry)
+pub fn published<R: Wait + Abort>(rt: &R, alloc: Global) -> SharedRegistry<AnyScene> {
+    let (registry, state) = registry_of(rt, alloc);
+    registry.publish(rt, alloc, state).expect(rt, "memory");
+    registry
 }
 
-pub fn open(alloc: Global, user: &str, mode: u8) -> Option<Call> {
-    let user = UserName::read(alloc, user.as_bytes()).ok()?;
-    Some(Call::Open(OpenCall {
+pub fn open(rt: &impl Abort, alloc: Global, user: &str, mode: u8) -> Call {
+    let user = UserName::read(alloc, user.as_bytes()).expect(rt, "a value");
+    Call::Open(OpenCall {
         number: F,
         user,
         mode,
-    }))
+    })
 }
 
-pub fn write(alloc: Global, user: &str, text: &str) -> Option<Call> {
-    let user = UserName::read(alloc, user.as_bytes()).ok()?;
-    let bytes = Bytes::keep(alloc, text.as_bytes()).ok()?;
-    Some(Call::Write(WriteCall {
+pub fn write(rt: &impl Abort, alloc: Global, user: &str, text: &str) -> Call {
+    let user = UserName::read(alloc, user.as_bytes()).expect(rt, "a value");
+    let bytes = Bytes::keep(alloc, text.as_bytes()).expect(rt, "memory");
+    Call::Write(WriteCall {
         number: F,
         user,
         offset: 0,
         bytes,
-    }))
+    })
 }
 
 /// Of the root.
@@ -93,13 +96,13 @@ pub fn stat() -> Call {
 }
 
 /// Of no names, from the root.
-pub fn walk(alloc: Global, user: &str) -> Option<Call> {
-    let user = UserName::read(alloc, user.as_bytes()).ok()?;
-    Some(Call::Walk(WalkCall {
+pub fn walk(rt: &impl Abort, alloc: Global, user: &str) -> Call {
+    let user = UserName::read(alloc, user.as_bytes()).expect(rt, "a value");
+    Call::Walk(WalkCall {
         number: 0,
         user,
         names: Texts::new(Vec::new(alloc)),
-    }))
+    })
 }
 
 /// Of the first bytes of the file.

@@ -2,13 +2,13 @@
 use crate::tests::scenes::{HEADER, creats, fault_of, scene_of, whole_file, written_and_moved};
 use cs_plan::{MakeFault, Places, Recipe, Scene, SceneFault};
 use cs_trace::Trace;
-use std::alloc::{AllocError, Global};
+use std::alloc::Global;
 use std::process::Abort;
 
 /// Looks at what is printed of a scene.
 pub fn is_listed(rt: &impl Abort, alloc: Global, scene: &Scene, wanted: &str) {
     let list = scene.listing().to_string(alloc).expect(rt, "memory");
-    assert_eq!(rt; list.as_str(), wanted);
+    assert!(rt; list.as_str() == wanted, "{list}");
 }
 
 const TWELVE_STATES: &str = "\
@@ -36,11 +36,11 @@ state 12 pick 3 says 0
 fn a_file_that_is_written_and_moved_has_twelve_states(rt: HostRuntime) {
     let scene = whole_file(&rt, rt.alloc(), &[&[3]]);
     is_listed(&rt, rt.alloc(), &scene, TWELVE_STATES);
-    assert_eq!(rt; scene.plan().len(), 13);
+    assert!(rt; scene.plan().len() == 13);
     assert!(rt; matches!(scene.plan().recipe(11), Some(Recipe::Hole(2, 4))));
     assert!(rt; scene.plan().recipe(13).is_none());
-    assert_eq!(rt; scene.order().len(), scene.micros().ops().len());
-    assert_eq!(rt; scene.trace().operations().len(), 4);
+    assert!(rt; scene.order().len() == scene.micros().ops().len());
+    assert!(rt; scene.trace().operations().len() == 4);
 }
 
 /// Picks of which this one, counted from 0, is the first that is not allowed.
@@ -80,12 +80,12 @@ fn is_refused(rt: &impl Abort, alloc: Global, trace: &str, row: &Refused) {
 /// A fault as the program tells it.
 fn is_told(rt: &impl Abort, alloc: Global, fault: SceneFault, wanted: &str) {
     let told = fault.to_string(alloc).expect(rt, "memory");
-    assert_eq!(rt; told.as_str(), wanted);
+    assert!(rt; told.as_str() == wanted, "{told}");
 }
 
 #[test]
 fn a_pick_that_lacks_what_it_needs_is_not_allowed(rt: HostRuntime) {
-    let trace = written_and_moved(rt.alloc()).expect(&rt, "memory");
+    let trace = written_and_moved(&rt, rt.alloc());
     for row in &REFUSED {
         is_refused(&rt, rt.alloc(), trace.as_str(), row);
     }
@@ -125,9 +125,9 @@ state 9 pick 0,3 says 1
 fn a_hole_is_listed_where_its_last_place_stays(rt: HostRuntime) {
     let scene = scene_of(&rt, rt.alloc(), &TWO_MOVES, true, &[&[], &[0, 3]]);
     is_listed(&rt, rt.alloc(), &scene, THREE_HOLES);
-    assert_eq!(rt; scene.says(4), Some(1));
-    assert_eq!(rt; scene.says(8), Some(0));
-    assert_eq!(rt; scene.says(10), None);
+    assert!(rt; scene.says(4) == Some(1));
+    assert!(rt; scene.says(8) == Some(0));
+    assert!(rt; scene.says(10).is_none());
 }
 
 /// The same with a sync before it is told of.
@@ -143,7 +143,7 @@ const SYNCED_MOVES: [&str; 6] = [
 #[test]
 fn what_a_sync_waits_for_has_no_hole(rt: HostRuntime) {
     let scene = scene_of(&rt, rt.alloc(), &SYNCED_MOVES, true, &[]);
-    assert_eq!(rt; scene.plan().len(), 5);
+    assert!(rt; scene.plan().len() == 5);
 }
 
 #[test]
@@ -153,19 +153,19 @@ fn a_trace_without_operations_has_one_state(rt: HostRuntime) {
 }
 
 /// As many picks of no place.
-fn empty_picks(alloc: Global, count: u32) -> Result<Vec<Places>, AllocError> {
+fn empty_picks(rt: &impl Abort, alloc: Global, count: u32) -> Vec<Places> {
     let mut picks = Vec::new(alloc);
     for _ in 0..count {
-        picks.push(Places::of(Vec::new(alloc)))?;
+        picks.push(Places::of(Vec::new(alloc))).expect(rt, "memory");
     }
-    Ok(picks)
+    picks
 }
 
 /// The plan has so many states, with holes and so many picks of no place; with none it is too large.
 fn has_states(rt: &impl Abort, alloc: Global, trace: Trace, picks: u32, wanted: Option<usize>) {
-    let picks = empty_picks(alloc, picks).expect(rt, "memory");
+    let picks = empty_picks(rt, alloc, picks);
     match Scene::of(alloc, trace, true, picks) {
-        Ok(scene) => assert_eq!(rt; Some(scene.plan().len()), wanted),
+        Ok(scene) => assert!(rt; Some(scene.plan().len()) == wanted),
         Err(fault) => assert!(rt; fault == SceneFault::PlanTooLarge && wanted.is_none()),
     }
 }
@@ -180,16 +180,16 @@ fn a_plan_has_16384_states_and_no_more(rt: HostRuntime) {
 }
 
 /// A pick of no place, and one of 1,024 equal ones.
-fn long_picks(alloc: Global) -> Result<Vec<Places>, AllocError> {
-    let mut picks = empty_picks(alloc, 1)?;
-    let places = [0u32].repeat(alloc, 1_024)?;
-    picks.push(Places::of(places))?;
-    Ok(picks)
+fn long_picks(rt: &impl Abort, alloc: Global) -> Vec<Places> {
+    let mut picks = empty_picks(rt, alloc, 1);
+    let places = [0u32].repeat(alloc, 1_024).expect(rt, "memory");
+    picks.push(Places::of(places)).expect(rt, "memory");
+    picks
 }
 
 /// Why a trace with these picks and holes has no scene.
 fn is_fault(rt: &impl Abort, alloc: Global, trace: Trace, wanted: SceneFault) {
-    let picks = long_picks(alloc).expect(rt, "memory");
+    let picks = long_picks(rt, alloc);
     assert!(rt; Scene::of(alloc, trace, true, picks).err() == Some(wanted));
 }
 
@@ -221,7 +221,7 @@ fn faults_are_told_as_the_program_tells_them(rt: HostRuntime) {
     let missing = MakeFault::NoSuchState
         .to_string(alloc)
         .expect(&rt, "memory");
-    assert_eq!(rt; missing.as_str(), "no such state");
+    assert!(rt; missing.as_str() == "no such state", "{missing}");
     let line = scene_of(&rt, alloc, &[HEADER, CREAT_T], false, &[]);
-    assert_eq!(rt; line.plan().recipes().len(), 2);
+    assert!(rt; line.plan().recipes().len() == 2);
 }

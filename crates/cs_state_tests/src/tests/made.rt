@@ -4,14 +4,14 @@ use cs_names::Path;
 use cs_plan::{MakeFault, Published, Scene, SceneFault};
 use cs_state::Built;
 use cs_tree_model::{TreeRead, number_of_path};
-use std::alloc::{AllocError, Global};
+use std::alloc::Global;
 use std::process::Abort;
 use std::sync::Arc;
 
 fn made(rt: &impl Abort, alloc: Global, scene: &Arc<Scene>, number: u32) -> Published {
     let state = Scene::make(alloc, scene, number).expect(rt, "a state");
-    assert_eq!(rt; state.number(), number);
-    assert_eq!(rt; state.scene().plan().len(), scene.plan().len());
+    assert!(rt; state.number() == number);
+    assert!(rt; state.scene().plan().len() == scene.plan().len());
     state
 }
 
@@ -46,7 +46,7 @@ fn has_bytes(
 /// So many files stand in the state of that number, the root among them.
 fn has_files(rt: &impl Abort, alloc: Global, scene: &Arc<Scene>, number: u32, count: usize) {
     let state = made(rt, alloc, scene, number);
-    assert_eq!(rt; state.into_store().count(), count);
+    assert!(rt; state.into_store().count() == count);
 }
 
 fn shared(rt: &impl Abort, alloc: Global, scene: Scene) -> Arc<Scene> {
@@ -54,10 +54,10 @@ fn shared(rt: &impl Abort, alloc: Global, scene: Scene) -> Arc<Scene> {
 }
 
 /// A block of zeros, and 904 bytes `a`.
-fn torn(alloc: Global) -> Result<Vec<u8>, AllocError> {
-    let mut bytes = [0u8].repeat(alloc, 4_096)?;
-    bytes.resize(5_000, b'a')?;
-    Ok(bytes)
+fn torn(rt: &impl Abort, alloc: Global) -> Vec<u8> {
+    let mut bytes = [0u8].repeat(alloc, 4_096).expect(rt, "memory");
+    bytes.resize(5_000, b'a').expect(rt, "memory");
+    bytes
 }
 
 #[test]
@@ -68,7 +68,7 @@ fn a_file_that_is_written_and_moved_is_whole_torn_or_gone(rt: HostRuntime) {
     has_files(&rt, alloc, &scene, 2, 2);
     has_bytes(&rt, alloc, &scene, 5, "/a", &[b'a'; 5_000]);
     has_files(&rt, alloc, &scene, 5, 2);
-    let torn = torn(alloc).expect(&rt, "memory");
+    let torn = torn(&rt, alloc);
     has_bytes(&rt, alloc, &scene, 11, "/t", &torn);
     has_files(&rt, alloc, &scene, 9, 1);
     has_files(&rt, alloc, &scene, 12, 1);
@@ -133,8 +133,8 @@ const PLACES: [Place; 6] = [
 /// The file is the only one but the root.
 fn stands_alone(rt: &impl Abort, alloc: Global, scene: &Arc<Scene>, place: &Place) {
     let state = made(rt, alloc, scene, place.number);
-    assert_eq!(rt; number_at(rt, alloc, state.store(), place.path), Some(1));
-    assert_eq!(rt; state.store().count(), 2);
+    assert!(rt; number_at(rt, alloc, state.store(), place.path) == Some(1));
+    assert!(rt; state.store().count() == 2);
 }
 
 #[test]
@@ -211,17 +211,17 @@ const SHORT: [Bytes; 7] = [
 ];
 
 /// `hello`, and zeros up to this length.
-fn grown(alloc: Global, length: usize) -> Result<Vec<u8>, AllocError> {
-    let mut bytes = Vec::from_slice(alloc, b"hello")?;
-    bytes.resize(length, 0)?;
-    Ok(bytes)
+fn grown(rt: &impl Abort, alloc: Global, length: usize) -> Vec<u8> {
+    let mut bytes = Vec::from_slice(alloc, b"hello").expect(rt, "memory");
+    bytes.resize(length, 0).expect(rt, "memory");
+    bytes
 }
 
 /// The same, and these bytes behind it.
-fn grown_before(alloc: Global, length: usize, last: &[u8]) -> Result<Vec<u8>, AllocError> {
-    let mut bytes = grown(alloc, length)?;
-    bytes.extend_from_slice(last)?;
-    Ok(bytes)
+fn grown_before(rt: &impl Abort, alloc: Global, length: usize, last: &[u8]) -> Vec<u8> {
+    let mut bytes = grown(rt, alloc, length);
+    bytes.extend_from_slice(last).expect(rt, "memory");
+    bytes
 }
 
 /// Picks of one place each are not allowed.
@@ -232,7 +232,7 @@ fn is_no_pick(rt: &impl Abort, alloc: Global, place: u32) {
 
 /// The bytes of `/f` in a state where it is 4,097 bytes long: `hello`, zeros, and these.
 fn has_grown(rt: &impl Abort, alloc: Global, scene: &Arc<Scene>, number: u32, last: &[u8; 2]) {
-    let wanted = grown_before(alloc, 4_095, last).expect(rt, "memory");
+    let wanted = grown_before(rt, alloc, 4_095, last);
     has_bytes(rt, alloc, scene, number, "/f", &wanted);
 }
 
@@ -240,7 +240,7 @@ fn has_grown(rt: &impl Abort, alloc: Global, scene: &Arc<Scene>, number: u32, la
 fn a_file_that_grows_is_cut_written_and_moved(rt: HostRuntime) {
     let alloc = rt.alloc();
     let scene = scene_of(&rt, alloc, &ONE_FILE, false, &[&[2], &[1, 4]]);
-    assert_eq!(rt; scene.plan().len(), 9);
+    assert!(rt; scene.plan().len() == 9);
     is_no_pick(&rt, alloc, 3);
     is_no_pick(&rt, alloc, 4);
     let scene = shared(&rt, alloc, scene);
@@ -255,10 +255,30 @@ fn a_file_that_grows_is_cut_written_and_moved(rt: HostRuntime) {
 /// The file at the number 4 is ann's, of staff.
 fn is_of_ann(rt: &impl Abort, tree: &Built) {
     let record = tree.record(4).expect(rt, "a file");
-    assert_eq!(rt; record.owner.as_str(), "ann");
-    assert_eq!(rt; record.group.as_str(), "staff");
-    assert_eq!(rt; record.mode, 0o664);
+    assert!(rt; record.owner.as_str() == "ann" && record.group.as_str() == "staff");
+    assert!(rt; record.mode == 0o664);
 }
+
+/// A path, and the number that stands there.
+struct At {
+    path: &'static str,
+    number: Option<u64>,
+}
+
+const AFTER_THE_MOVE: [At; 3] = [
+    At {
+        path: "/n",
+        number: Some(4),
+    },
+    At {
+        path: "/p",
+        number: Some(5),
+    },
+    At {
+        path: "/f",
+        number: None,
+    },
+];
 
 #[test]
 fn a_file_that_is_moved_keeps_its_owner_and_takes_the_next_number(rt: HostRuntime) {
@@ -266,11 +286,11 @@ fn a_file_that_is_moved_keeps_its_owner_and_takes_the_next_number(rt: HostRuntim
     let scene = shared(&rt, alloc, scene_of(&rt, alloc, &ONE_FILE, false, &[]));
     let state = made(&rt, alloc, &scene, 6);
     let tree = state.store();
-    assert_eq!(rt; number_at(&rt, alloc, tree, "/n"), Some(4));
-    assert_eq!(rt; number_at(&rt, alloc, tree, "/p"), Some(5));
-    assert_eq!(rt; number_at(&rt, alloc, tree, "/f"), None);
+    for at in &AFTER_THE_MOVE {
+        assert!(rt; number_at(&rt, alloc, tree, at.path) == at.number);
+    }
     is_of_ann(&rt, tree);
-    assert_eq!(rt; tree.count(), 6);
+    assert!(rt; tree.count() == 6);
 }
 
 /// A file of the largest size, with one byte behind zeros, is cut to five bytes.

@@ -60,7 +60,7 @@ fn rights_that_are_set_need_those_before_them(rt: HostRuntime) {
 fn rights_are_waited_for_with_their_file(rt: HostRuntime) {
     let all = [BLOCKS, MADE_A, CLOSED, GIVEN, WAITED_FOR, MOVED];
     let scene = scene_of(&rt, rt.alloc(), &all, true, &[]);
-    assert_eq!(rt; scene.plan().len(), 7);
+    assert!(rt; scene.plan().len() == 7);
 }
 
 const ROOT: &str = "0 / 0 cat staff 775 0 0 cat d\n";
@@ -75,7 +75,7 @@ struct Left {
 fn leaves(rt: &impl Abort, alloc: Global, operations: &[&str], left: &Left) {
     let tree = state_of(rt, alloc, BLOCKS, operations, left.places);
     let shown = lines(rt, alloc, &tree);
-    assert_eq!(rt; shown.as_str().strip_prefix(ROOT), Some(left.lines));
+    assert!(rt; shown.as_str().strip_prefix(ROOT) == Some(left.lines));
 }
 
 const GIVEN_AWAY: [Left; 5] = [
@@ -142,7 +142,10 @@ const GIVEN_ROOT: &str = r#"{"op":"chown","path":"/","owner":"ann","group":"ann"
 fn the_root_may_be_given_away(rt: HostRuntime) {
     let tree = state_of(&rt, rt.alloc(), BLOCKS, &[GIVEN_ROOT], &[0]);
     let shown = lines(&rt, rt.alloc(), &tree);
-    assert_eq!(&rt; shown.as_str(), "0 / 0 ann ann 775 0 0 ann d\n");
+    assert!(&rt;
+        shown.as_str() == "0 / 0 ann ann 775 0 0 ann d\n",
+        "{shown}"
+    );
 }
 
 const FOUR_STATES: &str = "\
@@ -163,14 +166,14 @@ fn entries_of_one_directory_may_come_in_any_order(rt: HostRuntime) {
     let tree = state_of(&rt, alloc, BLOCKS, &[MADE_A, MADE_B], &[1]);
     let shown = lines(&rt, alloc, &tree);
     let second = "1 /b 0 ann staff 644 0 0 ann 0:\n";
-    assert_eq!(rt; shown.as_str().strip_prefix(ROOT), Some(second));
+    assert!(rt; shown.as_str().strip_prefix(ROOT) == Some(second));
 }
 
 #[test]
 fn entries_may_be_kept_in_order(rt: HostRuntime) {
     let alloc = rt.alloc();
     let scene = scene_of(&rt, alloc, &[ORDERED, MADE_A, MADE_B], true, &[]);
-    assert_eq!(rt; scene.plan().len(), 3);
+    assert!(rt; scene.plan().len() == 3);
     let fault = fault_of(&rt, alloc, &[ORDERED, MADE_A, MADE_B], &[&[1]]);
     assert!(rt; fault == Some(SceneFault::PickNotAllowed(0)));
 }
@@ -182,7 +185,7 @@ fn a_scene_of_the_other_profile_is_another(rt: HostRuntime) {
     let scene = scene_of(&rt, alloc, &[BLOCKS, MADE_A], true, &[]);
     let kept = scene_of(&rt, alloc, &[ORDERED, MADE_A], true, &[]);
     let again = scene_of(&rt, alloc, &[BLOCKS, MADE_A], true, &[]);
-    assert_eq!(rt; scene.plan().len(), kept.plan().len());
+    assert!(rt; scene.plan().len() == kept.plan().len());
     assert!(rt; !scene.has_content_of(&kept));
     assert!(rt; scene.has_content_of(&again));
 }
@@ -205,9 +208,9 @@ const STORE: &str =
 fn a_table_may_be_told_of_before_its_readers_may_read_it(rt: HostRuntime) {
     let alloc = rt.alloc();
     let scene = scene_of(&rt, alloc, &[BLOCKS, STORE], true, &[]);
-    assert_eq!(rt; scene.plan().len(), 21);
+    assert!(rt; scene.plan().len() == 21);
     assert!(rt; matches!(scene.plan().recipe(20), Some(Recipe::Hole(4, 8))));
-    assert_eq!(rt; scene.says(20), Some(1));
+    assert!(rt; scene.says(20) == Some(1));
     let kept = scene_of(&rt, alloc, &[ORDERED, STORE], true, &[]);
-    assert_eq!(rt; kept.plan().len(), 19);
+    assert!(rt; kept.plan().len() == 19);
 }

@@ -5,7 +5,7 @@ ghost use Rattle.std.specs.Arc.{arc_value};
 use cs_plan::Scene;
 use cs_same::{Parts, are_same_states, are_seen_same, first_same};
 use cs_trace::read_trace;
-use std::alloc::{AllocError, Global};
+use std::alloc::Global;
 use std::process::Abort;
 use std::sync::Arc;
 
@@ -61,52 +61,56 @@ const BACK: &str = r#"{"trace":2,"profile":"blocks","owner":"kv","group":"kv","m
 const BACK_FIRSTS: [u32; 18] = [0, 0, 2, 0, 4, 5, 0, 7, 0, 9, 10, 11, 0, 13, 14, 15, 0, 0];
 
 /// The first state with the tree of this one, by comparing whole trees.
-fn first_by_trees(alloc: Global, scene: &Arc<Scene>, number: u32) -> Result<u32, AllocError>
+fn first_by_trees(rt: &impl Abort, alloc: Global, scene: &Arc<Scene>, number: u32) -> u32
     requires { number < length (arc_value scene.now).plan }
 {
     for other in 0..number {
-        if are_same_states(alloc, scene, other, number)? {
-            return Ok(other);
+        if are_same_states(alloc, scene, other, number).expect(rt, "memory") {
+            return other;
         }
     }
-    Ok(number)
+    number
 }
 
 /// Whether the state is seen to have the tree of another, if that is there.
-fn is_seen(alloc: Global, scene: &Arc<Scene>, other: u32, number: u32) -> Result<bool, AllocError>
+fn is_seen(rt: &impl Abort, alloc: Global, scene: &Arc<Scene>, other: u32, number: u32) -> bool
     requires { number < length (arc_value scene.now).plan }
 {
     if other as usize >= scene.plan().len() {
-        return Ok(false);
+        return false;
     }
-    let parts = Parts::of(alloc, scene)?;
-    are_seen_same(alloc, scene, &parts, other, number)
+    let parts = Parts::of(alloc, scene).expect(rt, "memory");
+    are_seen_same(alloc, scene, &parts, other, number).expect(rt, "memory")
 }
 
 /// Adds so many zeros, as a trace spells them.
-fn push_zeros(text: &mut String, count: u32) -> Result<(), AllocError> {
+fn push_zeros(rt: &impl Abort, text: &mut String, count: u32) {
     for _ in 0..count {
-        text.push_str("00")?;
+        text.push_str("00").expect(rt, "memory");
     }
-    Ok(())
+}
+
+const IDLE_HEAD: &str = r#"{"trace":1,"owner":"kv","group":"kv","mode":"750"}
+{"start":"file","path":"/data","owner":"kv","group":"kv","mode":"640","bytes":""#;
+
+/// Adds a write of a zero into each of so many blocks.
+fn push_idle_writes(rt: &impl Abort, text: &mut String, blocks: u32) {
+    for block in 0..blocks {
+        let offset = u64::from(block) * 4096;
+        let written = "{\"op\":\"write\",\"path\":\"/data\",\"bytes\":\"00\",\"offset\":";
+        write!(text, "{written}{offset}}}\n").expect(rt, "memory");
+    }
 }
 
 /// A trace of a file of so many blocks of zeros, into each of which a zero is written.
-fn idle_text(alloc: Global, blocks: u32) -> Result<String, AllocError> {
-    let mut text = String::new(alloc);
-    text.push_str("{\"trace\":1,\"owner\":\"kv\",\"group\":\"kv\",\"mode\":\"750\"}\n")?;
-    text.push_str("{\"start\":\"file\",\"path\":\"/data\",\"owner\":\"kv\",\"group\":\"kv\",")?;
-    text.push_str("\"mode\":\"640\",\"bytes\":\"")?;
+fn idle_text(rt: &impl Abort, alloc: Global, blocks: u32) -> String {
+    let mut text = String::from_str(alloc, IDLE_HEAD).expect(rt, "memory");
     for _ in 0..blocks {
-        push_zeros(&mut text, 4096)?;
+        push_zeros(rt, &mut text, 4096);
     }
-    text.push_str("\"}\n")?;
-    for block in 0..blocks {
-        let offset = u64::from(block) * 4096;
-        text.push_str("{\"op\":\"write\",\"path\":\"/data\",\"bytes\":\"00\",\"offset\":")?;
-        text.push_str(&format!(in alloc; "{offset}}}\n")?)?;
-    }
-    Ok(text)
+    text.push_str("\"}\n").expect(rt, "memory");
+    push_idle_writes(rt, &mut text, blocks);
+    text
 }
 
 /// The states of a trace, with holes if they are asked for.
@@ -120,20 +124,14 @@ fn states_of(rt: &impl Abort, alloc: Global, text: &str, holes: bool) -> Arc<Sce
 fn expect_first(rt: &impl Abort, alloc: Global, scene: &Arc<Scene>, number: u32, first: u32)
     requires { number < length (arc_value scene.now).plan }
 {
-    assert!(rt;
-        is_seen(alloc, scene, first, number) == Ok(true),
-        "{number}"
-    );
-    assert!(rt;
-        first_by_trees(alloc, scene, number) == Ok(first),
-        "{number}"
-    );
+    assert!(rt; is_seen(rt, alloc, scene, first, number));
+    assert!(rt; first_by_trees(rt, alloc, scene, number) == first);
 }
 
 /// Each state has the first of its number, by the digests, without the trees and by whole trees.
 fn expect_firsts(rt: &impl Abort, alloc: Global, scene: &Arc<Scene>, firsts: &[u32]) {
     let found = first_same(alloc, scene).expect(rt, "memory");
-    assert_eq!(rt; found.as_slice(), firsts);
+    assert!(rt; found.as_slice() == firsts);
     for number in 0..scene.plan().len() as u32 {
         let first = firsts.get(number as usize).copied().unwrap_or(number);
         expect_first(rt, alloc, scene, number, first);
@@ -157,7 +155,7 @@ const ALL_EQUAL: [u32; 37] = [0; 37];
 
 #[test]
 fn writes_of_what_stands_there_leave_equal_states(rt: HostRuntime) {
-    let text = idle_text(rt.alloc(), 8).expect(&rt, "memory");
+    let text = idle_text(&rt, rt.alloc(), 8);
     let scene = states_of(&rt, rt.alloc(), &text, true);
     expect_firsts(&rt, rt.alloc(), &scene, &ALL_EQUAL);
 }

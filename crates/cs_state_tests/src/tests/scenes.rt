@@ -1,7 +1,7 @@
 //! Scenes of short traces.
 use cs_plan::{Places, Scene, SceneFault};
 use cs_trace::{Trace, read_trace};
-use std::alloc::{AllocError, Global};
+use std::alloc::Global;
 use std::process::Abort;
 
 pub const HEADER: &str = r#"{"trace":1,"owner":"cat","group":"staff","mode":"775"}"#;
@@ -12,16 +12,16 @@ pub fn trace_of(rt: &impl Abort, alloc: Global, lines: &[&str]) -> Trace {
     read_trace(alloc, text.as_str()).expect(rt, "a trace")
 }
 
-fn places_of(alloc: Global, pick: &[u32]) -> Result<Places, AllocError> {
-    Ok(Places::of(Vec::from_slice(alloc, pick)?))
+fn places_of(rt: &impl Abort, alloc: Global, pick: &[u32]) -> Places {
+    Places::of(Vec::from_slice(alloc, pick).expect(rt, "memory"))
 }
 
-fn picks_of(alloc: Global, picks: &[&[u32]]) -> Result<Vec<Places>, AllocError> {
+fn picks_of(rt: &impl Abort, alloc: Global, picks: &[&[u32]]) -> Vec<Places> {
     let mut all = Vec::new(alloc);
     for pick in picks {
-        all.push(places_of(alloc, pick)?)?;
+        all.push(places_of(rt, alloc, pick)).expect(rt, "memory");
     }
-    Ok(all)
+    all
 }
 
 /// The scene of the trace that has these lines, or why there is none.
@@ -32,7 +32,7 @@ fn made_of(
     holes: bool,
     picks: &[&[u32]],
 ) -> Result<Scene, SceneFault> {
-    let picks = picks_of(alloc, picks).expect(rt, "memory");
+    let picks = picks_of(rt, alloc, picks);
     Scene::of(alloc, trace_of(rt, alloc, lines), holes, picks)
 }
 
@@ -60,7 +60,7 @@ pub fn fault_of(
 /// A file `/t` is made and 5,000 bytes of `a` are written, waited for and moved to `/a`: five
 /// micro-operations.
 pub fn whole_file(rt: &impl Abort, alloc: Global, picks: &[&[u32]]) -> Scene {
-    let text = written_and_moved(alloc).expect(rt, "memory");
+    let text = written_and_moved(rt, alloc);
     scene_of(rt, alloc, &[text.as_str()], true, picks)
 }
 
@@ -74,21 +74,24 @@ const MOVED: &str = r#""}
 "#;
 
 /// Its trace.
-pub fn written_and_moved(alloc: Global) -> Result<String, AllocError> {
-    let bytes = "61".repeat(alloc, 5_000)?;
-    [MADE, bytes.as_str(), MOVED].concat(alloc)
+pub fn written_and_moved(rt: &impl Abort, alloc: Global) -> String {
+    let bytes = "61".repeat(alloc, 5_000).expect(rt, "memory");
+    [MADE, bytes.as_str(), MOVED]
+        .concat(alloc)
+        .expect(rt, "memory")
 }
 
-fn push_creat(text: &mut String, file: u32) -> Result<(), AllocError> {
-    write!(text, "\n{{\"op\":\"creat\",\"path\":\"/f{file}\",")?;
-    text.push_str("\"owner\":\"ann\",\"group\":\"ann\",\"mode\":\"644\"}")
+fn push_creat(rt: &impl Abort, text: &mut String, file: u32) {
+    write!(text, "\n{{\"op\":\"creat\",\"path\":\"/f{file}\",").expect(rt, "memory");
+    let rights = "\"owner\":\"ann\",\"group\":\"ann\",\"mode\":\"644\"}";
+    text.push_str(rights).expect(rt, "memory");
 }
 
 /// Files that don't meet are made in the root.
 pub fn creats(rt: &impl Abort, alloc: Global, count: u32) -> Trace {
     let mut text = String::from_str(alloc, HEADER).expect(rt, "memory");
     for file in 0..count {
-        push_creat(&mut text, file).expect(rt, "memory");
+        push_creat(rt, &mut text, file);
     }
     read_trace(alloc, text.as_str()).expect(rt, "a trace")
 }

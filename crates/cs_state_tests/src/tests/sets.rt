@@ -36,13 +36,13 @@ fn needs_these(rt: &impl Abort, order: &Order, place: usize, wanted: &[usize])
     requires { place < length order.now }
 {
     for other in 0..order.len() {
-        assert_eq!(rt; order.needs(other, place), wanted.contains(&other));
+        assert!(rt; order.needs(other, place) == wanted.contains(&other));
     }
 }
 
 /// For each micro-operation those that it needs are these.
 fn needs_just(rt: &impl Abort, order: &Order, wanted: &[&[usize]]) {
-    assert_eq!(rt; order.len(), wanted.len());
+    assert!(rt; order.len() == wanted.len());
     for place in 0..order.len() {
         needs_these(rt, order, place, wanted[place]);
     }
@@ -151,7 +151,7 @@ fn leaves(rt: &impl Abort, alloc: Global, ops: &[MicroOp], left: &Left) {
 /// The set leaves 4,097 bytes: `hello`, zeros, and these.
 fn leaves_grown(rt: &impl Abort, alloc: Global, ops: &[MicroOp], places: &[u32], last: &[u8; 2]) {
     let bytes = bytes_left(rt, alloc, ops, places);
-    assert_eq!(rt; bytes.len(), 4_097);
+    assert!(rt; bytes.len() == 4_097);
     assert!(rt; bytes.starts_with(b"hello") && bytes.ends_with(last));
     assert!(rt; bytes.iter().skip(5).take(4_090).all(|byte| *byte == 0));
 }

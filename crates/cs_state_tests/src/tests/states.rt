@@ -10,7 +10,7 @@ use cs_state::{Atlas, StateTree};
 use cs_trace::{Trace, read_trace};
 use cs_tree::PlainTree;
 use cs_tree_model::{Kind, Metadata, TreeRead, number_of_path, path_of};
-use std::alloc::{AllocError, Global};
+use std::alloc::Global;
 use std::process::Abort;
 
 /// The start tree of the first exchange.
@@ -32,9 +32,9 @@ const ONE_FILE: [&str; 4] = [
 ];
 
 /// So many of a byte, with a dot for a zero.
-fn show_run(text: &mut String, byte: u8, count: usize) -> Result<(), AllocError> {
+fn show_run(rt: &impl Abort, text: &mut String, byte: u8, count: usize) {
     let letter = if byte == 0 { '.' } else { char::from(byte) };
-    write!(text, " {count}{letter}")
+    write!(text, " {count}{letter}").expect(rt, "memory");
 }
 
 /// How many of the bytes at the front are the same.
@@ -48,67 +48,80 @@ fn run_length(bytes: &[u8], first: u8) -> usize
 }
 
 /// The bytes as runs of one byte.
-fn show_runs(text: &mut String, bytes: &[u8]) -> Result<(), AllocError> {
+fn show_runs(rt: &impl Abort, text: &mut String, bytes: &[u8]) {
     let mut rest = bytes;
     for _ in 0..bytes.len() {
         let Some(first) = rest.first() else {
             break;
         };
         let count = run_length(rest, *first);
-        show_run(text, *first, count)?;
+        show_run(rt, text, *first, count);
         rest = &rest[count..];
     }
-    Ok(())
 }
 
-fn show_file<T: TreeRead>(text: &mut String, alloc: Global, tree: &T, number: u64) -> Option<()> {
-    let bytes = tree.read_at(alloc, number, 0, 100_000).ok()??;
-    show_runs(text, &bytes).ok()
+fn show_file<T: TreeRead>(
+    rt: &impl Abort,
+    alloc: Global,
+    text: &mut String,
+    tree: &T,
+    number: u64,
+) {
+    let bytes = tree.read_at(alloc, number, 0, 100_000).expect(rt, "memory");
+    show_runs(rt, text, &bytes.expect(rt, "bytes"));
 }
 
-fn show_owners(text: &mut String, file: &Metadata<'_>) -> Result<(), AllocError> {
+fn show_owners(rt: &impl Abort, text: &mut String, file: &Metadata<'_>) {
     let (vers, owner, group) = (file.vers, file.owner, file.group);
-    write!(text, " {vers} {owner} {group} {:o}", file.mode & 0o777)
+    write!(text, " {vers} {owner} {group} {:o}", file.mode & 0o777).expect(rt, "memory");
 }
 
-fn show_times(text: &mut String, file: &Metadata<'_>) -> Result<(), AllocError> {
+fn show_times(rt: &impl Abort, text: &mut String, file: &Metadata<'_>) {
     let (atime, mtime, muid) = (file.atime, file.mtime, file.muid);
-    write!(text, " {atime} {mtime} {muid}")
+    write!(text, " {atime} {mtime} {muid}").expect(rt, "memory");
 }
 
 /// The length of a file and its bytes; of a directory a letter.
 fn show_content<T: TreeRead>(
-    text: &mut String,
+    rt: &impl Abort,
     alloc: Global,
+    text: &mut String,
     tree: &T,
     file: &Metadata<'_>,
-) -> Option<()> {
+) {
     match file.kind {
-        Kind::Directory => text.push_str(" d").ok(),
+        Kind::Directory => text.push_str(" d").expect(rt, "memory"),
         Kind::File { length } => {
-            write!(text, " {length}:").ok()?;
-            show_file(text, alloc, tree, file.number)
+            write!(text, " {length}:").expect(rt, "memory");
+            show_file(rt, alloc, text, tree, file.number);
         }
     }
 }
 
 /// A line of what stands at a number: number, path, version, owner, group, permissions, times, who changed
 /// it last, and what is in it.
-fn show_line<T: TreeRead>(text: &mut String, alloc: Global, tree: &T, number: u64) -> Option<()> {
-    let file = tree.record(number)?;
-    let path = path_of(alloc, tree, number).ok()??;
-    write!(text, "{number} {path}").ok()?;
-    show_owners(text, &file).ok()?;
-    show_times(text, &file).ok()?;
-    show_content(text, alloc, tree, &file)?;
-    text.push('\n').ok()
+fn show_line<T: TreeRead>(
+    rt: &impl Abort,
+    alloc: Global,
+    text: &mut String,
+    tree: &T,
+    number: u64,
+) {
+    let file = tree.record(number).expect(rt, "a file");
+    let path = path_of(alloc, tree, number).expect(rt, "memory");
+    let path = path.expect(rt, "a path");
+    write!(text, "{number} {path}").expect(rt, "memory");
+    show_owners(rt, text, &file);
+    show_times(rt, text, &file);
+    show_content(rt, alloc, text, tree, &file);
+    text.push('\n').expect(rt, "memory");
 }
 
 /// The lines of all numbers.
 pub fn lines<T: TreeRead>(rt: &impl Abort, alloc: Global, tree: &T) -> String {
     let mut text = String::new(alloc);
     for number in 0..=tree.last_number() {
-        show_line(&mut text, alloc, tree, number).expect(rt, "a file");
+        show_line(rt, alloc, &mut text, tree, number);
     }
     text
 }
@@ -118,7 +131,7 @@ fn line_at(rt: &impl Abort, alloc: Global, tree: &StateTree, path: &str) -> Stri
     let path = Path::read(alloc, path).expect(rt, "a path");
     let mut text = String::new(alloc);
     if let Some(number) = number_of_path(tree, path.names()) {
-        show_line(&mut text, alloc, tree, number).expect(rt, "a file");
+        show_line(rt, alloc, &mut text, tree, number);
     }
     text
 }
@@ -167,7 +180,7 @@ pub fn state_of(
     let wanted = lines(rt, alloc, &plain(rt, alloc, &trace, places));
     let tree = built(rt, alloc, &atlas_of(rt, alloc, trace), places);
     let shown = lines(rt, alloc, &tree);
-    assert_eq!(rt; shown.as_str(), wanted.as_str());
+    assert!(rt; shown.as_str() == wanted.as_str(), "{shown}");
     tree
 }
 
@@ -182,9 +195,9 @@ struct State {
 /// Looks at a state of these operations on the start tree.
 fn has_line(rt: &impl Abort, alloc: Global, operations: &[&str], state: &State) {
     let tree = state_of(rt, alloc, START, operations, state.places);
-    assert_eq!(rt; tree.count(), state.count);
+    assert!(rt; tree.count() == state.count);
     let line = line_at(rt, alloc, &tree, state.path);
-    assert_eq!(rt; line.as_str(), state.line);
+    assert!(rt; line.as_str() == state.line, "{line}");
 }
 
 const WRITTEN: [State; 5] = [
@@ -241,7 +254,7 @@ fn a_moved_file_has_the_number_of_its_new_path(rt: HostRuntime) {
     let all = [0, 1, 2, 3, 4, 5];
     let tree = state_of(&rt, rt.alloc(), START, &ONE_FILE, &all);
     let shown = lines(&rt, rt.alloc(), &tree);
-    assert_eq!(&rt; shown.as_str(), MOVED);
+    assert!(&rt; shown.as_str() == MOVED, "{shown}");
 }
 
 const MADE_T: &str = r#"{"op":"creat","path":"/t","owner":"ann","group":"bob","mode":"640"}
@@ -290,7 +303,7 @@ fn has_lines(rt: &impl Abort, alloc: Global, operations: &str, state: &Whole) {
     let tree = state_of(rt, alloc, HEADER, &[operations], state.places);
     let shown = lines(rt, alloc, &tree);
     assert!(rt; shown.as_str().starts_with(ROOT));
-    assert_eq!(rt; shown.len(), ROOT.len().wrapping_add(state.lines.len()));
+    assert!(rt; shown.len() == ROOT.len().wrapping_add(state.lines.len()));
     assert!(rt; shown.as_str().ends_with(state.lines), "{shown}");
 }
 

@@ -43,9 +43,9 @@ fn three_clients_are_served_one_after_another_until_the_input_ends(rt: HostRunti
             &port,
         ),
         || {
-            let look = || looks_for_g(&rt, alloc, &port).is_some();
+            let look = || !looks_for_g(&rt, alloc, &port).is_empty();
             let at_once = thread::join(&rt, look, look);
-            let after = looks_for_g(&rt, alloc, &port).is_some();
+            let after = !looks_for_g(&rt, alloc, &port).is_empty();
             ends.store(true, Ordering::SeqCst);
             (at_once, after)
         },

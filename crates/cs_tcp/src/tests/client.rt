@@ -4,6 +4,7 @@ use super::fixture::comes;
 use std::alloc::Global;
 use std::io::{self, Read, Write};
 use std::net::{Ipv4Addr, Net, Shutdown, TcpStream};
+use std::process::Abort;
 use std::sync::atomic::{AtomicBool, AtomicU64, Ordering};
 use std::thread;
 use std::time::Duration;
@@ -32,6 +33,9 @@ const WRITE: &[u8] = b"\x19\0\0\0v\x01\0\x01\0\0\0\0\0\0\0\0\0\0\0\x02\0\0\0HI";
 
 const CLUNK: &[u8] = b"\x0b\0\0\0x\x01\0\x01\0\0\0";
 
+/// The type of an Rattach.
+const ATTACHED: u8 = b'i';
+
 /// How long a client waits for a reply.
 const PATIENCE_SECONDS: u64 = 30;
 
@@ -39,16 +43,14 @@ const PATIENCE_SECONDS: u64 = 30;
 const ATTACHES: u32 = 100_000;
 
 /// A connection to the port, once it is there.
-fn connect<R: Net<Stream = TcpStream>>(rt: &R, port: &AtomicU64) -> Option<TcpStream> {
-    if !comes(|| port.load(Ordering::SeqCst) != 0) {
-        return None;
-    }
-    let port = u16::try_from(port.load(Ordering::SeqCst)).ok()?;
-    let stream = TcpStream::connect(rt, (Ipv4Addr::LOCALHOST, port)).ok()?;
+fn connect<R: Net<Stream = TcpStream> + Abort>(rt: &R, port: &AtomicU64) -> TcpStream {
+    assert!(rt; comes(|| port.load(Ordering::SeqCst) != 0));
+    let port = u16::try_from(port.load(Ordering::SeqCst)).expect(rt, "a port");
+    let stream = TcpStream::connect(rt, (Ipv4Addr::LOCALHOST, port)).expect(rt, "a stream");
     stream
         .set_read_timeout(Some(Duration::from_secs(PATIENCE_SECONDS)))
-        .ok()?;
-    Some(stream)
+        .expect(rt, "memory");
+    stream
 }
 
 /// Sends a message, and reads its reply, from its type on.
@@ -64,144 +66,136 @@ fn ask(alloc: Global, stream: &mut TcpStream, message: &[u8]) -> io::Result<Vec<
 }
 
 /// The reply to a message, if it is the reply that is wanted.
-fn granted(alloc: Global, stream: &mut TcpStream, message: &[u8]) -> Option<Vec<u8>> {
-    let reply = ask(alloc, stream, message).ok()?;
-    let wanted = message.get(4)?.checked_add(1)?;
-    if *reply.first()? == wanted {
-        Some(reply)
-    } else {
-        None
-    }
+fn granted(rt: &impl Abort, alloc: Global, stream: &mut TcpStream, message: &[u8]) -> Vec<u8> {
+    let reply = ask(alloc, stream, message).expect(rt, "a reply");
+    let asked = *message.get(4).expect(rt, "a type");
+    assert!(rt; reply.first().copied() == asked.checked_add(1));
+    reply
 }
 
 /// A connection on which a session began.
-pub fn session<R: Net<Stream = TcpStream>>(
+pub fn session<R: Net<Stream = TcpStream> + Abort>(
     rt: &R,
     alloc: Global,
     port: &AtomicU64,
-) -> Option<TcpStream> {
-    let mut stream = connect(rt, port)?;
-    granted(alloc, &mut stream, VERSION)?;
-    Some(stream)
+) -> TcpStream {
+    let mut stream = connect(rt, port);
+    granted(rt, alloc, &mut stream, VERSION);
+    stream
 }
 
 /// Asks these, and adds the type of each reply.
 pub fn add_types(
+    rt: &impl Abort,
     alloc: Global,
     stream: &mut TcpStream,
     messages: &[&[u8]],
     types: &mut Vec<u8>,
-) -> Option<()> {
+) {
     for message in messages {
-        let reply = ask(alloc, stream, message).ok()?;
-        types.push(*reply.first()?).ok()?;
+        let reply = ask(alloc, stream, message).expect(rt, "a reply");
+        types
+            .push(*reply.first().expect(rt, "a byte"))
+            .expect(rt, "memory");
     }
-    Some(())
 }
 
 /// Begins a session, attaches, and opens `f`.
-fn open(alloc: Global, stream: &mut TcpStream, attach: &[u8], open: &[u8]) -> Option<()> {
-    granted(alloc, stream, VERSION)?;
-    granted(alloc, stream, attach)?;
-    granted(alloc, stream, WALK)?;
-    granted(alloc, stream, open)?;
-    Some(())
+fn open(rt: &impl Abort, alloc: Global, stream: &mut TcpStream, attach: &[u8], open: &[u8]) {
+    granted(rt, alloc, stream, VERSION);
+    granted(rt, alloc, stream, attach);
+    granted(rt, alloc, stream, WALK);
+    granted(rt, alloc, stream, open);
 }
 
 /// Ann opens `f`, writes into it once bob has opened it too, and says so: whether all was granted.
-pub fn ann_writes<R: Net<Stream = TcpStream>>(
+pub fn ann_writes<R: Net<Stream = TcpStream> + Abort>(
     rt: &R,
     alloc: Global,
     port: &AtomicU64,
     opened: &AtomicBool,
     written: &AtomicBool,
-) -> Option<()> {
-    let mut stream = connect(rt, port)?;
-    open(alloc, &mut stream, ATTACH_ANN, OPEN_TO_WRITE)?;
-    if !comes(|| opened.load(Ordering::SeqCst)) {
-        return None;
-    }
-    granted(alloc, &mut stream, WRITE)?;
+) {
+    let mut stream = connect(rt, port);
+    open(rt, alloc, &mut stream, ATTACH_ANN, OPEN_TO_WRITE);
+    assert!(rt; comes(|| opened.load(Ordering::SeqCst)));
+    granted(rt, alloc, &mut stream, WRITE);
     written.store(true, Ordering::SeqCst);
-    granted(alloc, &mut stream, CLUNK)?;
-    Some(())
+    granted(rt, alloc, &mut stream, CLUNK);
 }
 
 /// Bob opens `f`, says so, and reads it once ann has written: the reply.
-pub fn bob_reads<R: Net<Stream = TcpStream>>(
+pub fn bob_reads<R: Net<Stream = TcpStream> + Abort>(
     rt: &R,
     alloc: Global,
     port: &AtomicU64,
     opened: &AtomicBool,
     written: &AtomicBool,
-) -> Option<Vec<u8>> {
-    let mut stream = connect(rt, port)?;
-    open(alloc, &mut stream, ATTACH_BOB, OPEN_TO_READ)?;
+) -> Vec<u8> {
+    let mut stream = connect(rt, port);
+    open(rt, alloc, &mut stream, ATTACH_BOB, OPEN_TO_READ);
     opened.store(true, Ordering::SeqCst);
-    if !comes(|| written.load(Ordering::SeqCst)) {
-        return None;
-    }
-    let reply = granted(alloc, &mut stream, READ)?;
-    granted(alloc, &mut stream, CLUNK)?;
-    Some(reply)
+    assert!(rt; comes(|| written.load(Ordering::SeqCst)));
+    let reply = granted(rt, alloc, &mut stream, READ);
+    granted(rt, alloc, &mut stream, CLUNK);
+    reply
 }
 
 /// Attaches ann, and looks for `g` in state 0: the reply.
-pub fn looks_for_g<R: Net<Stream = TcpStream>>(
+pub fn looks_for_g<R: Net<Stream = TcpStream> + Abort>(
     rt: &R,
     alloc: Global,
     port: &AtomicU64,
-) -> Option<Vec<u8>> {
-    let mut stream = connect(rt, port)?;
-    granted(alloc, &mut stream, VERSION)?;
-    granted(alloc, &mut stream, ATTACH_ANN)?;
-    ask(alloc, &mut stream, WALK_TO_G).ok()
+) -> Vec<u8> {
+    let mut stream = connect(rt, port);
+    granted(rt, alloc, &mut stream, VERSION);
+    granted(rt, alloc, &mut stream, ATTACH_ANN);
+    ask(alloc, &mut stream, WALK_TO_G).expect(rt, "a reply")
 }
 
 /// Begins a session, attaches ann, and asks this: the type of each reply, and the last reply.
-pub fn asks<R: Net<Stream = TcpStream>>(
+pub fn asks<R: Net<Stream = TcpStream> + Abort>(
     rt: &R,
     alloc: Global,
     port: &AtomicU64,
     messages: &[&[u8]],
-) -> Option<(Vec<u8>, Vec<u8>)> {
-    let mut stream = connect(rt, port)?;
-    granted(alloc, &mut stream, VERSION)?;
-    granted(alloc, &mut stream, ATTACH_ANN)?;
+) -> (Vec<u8>, Vec<u8>) {
+    let mut stream = connect(rt, port);
+    granted(rt, alloc, &mut stream, VERSION);
+    granted(rt, alloc, &mut stream, ATTACH_ANN);
     let (mut types, mut last) = (Vec::new(alloc), Vec::new(alloc));
     for message in messages {
-        last = ask(alloc, &mut stream, message).ok()?;
-        types.push(*last.first()?).ok()?;
+        last = ask(alloc, &mut stream, message).expect(rt, "a reply");
+        types
+            .push(*last.first().expect(rt, "a byte"))
+            .expect(rt, "memory");
     }
-    Some((types, last))
+    (types, last)
 }
 
 /// Sends three bytes of a message and no more, and waits for the end.
-pub fn hang_up_early<R: Net<Stream = TcpStream>>(rt: &R, port: &AtomicU64) -> Option<()> {
-    let mut stream = connect(rt, port)?;
-    stream.write_all(&VERSION[..3]).ok()?;
-    stream.shutdown(Shutdown::Write).ok()?;
+pub fn hang_up_early<R: Net<Stream = TcpStream> + Abort>(rt: &R, port: &AtomicU64) {
+    let mut stream = connect(rt, port);
+    stream.write_all(&VERSION[..3]).expect(rt, "a write");
+    stream.shutdown(Shutdown::Write).expect(rt, "a shutdown");
     let mut none = [0u8; 1];
-    if stream.read(&mut none).ok()? == 0 {
-        Some(())
-    } else {
-        None
-    }
+    assert!(rt; stream.read(&mut none).expect(rt, "the end") == 0);
 }
 
 /// Attaches ann, as soon as the state is published.
-pub fn attached_at_last<R: Net<Stream = TcpStream>>(
+pub fn attached_at_last<R: Net<Stream = TcpStream> + Abort>(
     rt: &R,
     alloc: Global,
     port: &AtomicU64,
-) -> Option<()> {
-    let mut stream = connect(rt, port)?;
-    granted(alloc, &mut stream, VERSION)?;
+) {
+    let mut stream = connect(rt, port);
+    granted(rt, alloc, &mut stream, VERSION);
     for _ in 0..ATTACHES {
-        if granted(alloc, &mut stream, ATTACH_ANN).is_some() {
-            return Some(());
+        let reply = ask(alloc, &mut stream, ATTACH_ANN).expect(rt, "a reply");
+        if reply.first().copied() == Some(ATTACHED) {
+            return;
         }
         thread::yield_now();
     }
-    None
+    panic!(rt; "the state is not published");
 }

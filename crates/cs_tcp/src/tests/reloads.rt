@@ -65,44 +65,44 @@ const LATER: [Later; 5] = [
 ];
 
 /// Writes the file, or removes it.
-fn change_file<R: Files>(rt: &R, bytes: Option<&[u8]>) -> Option<()> {
+fn change_file<R: Files + Abort>(rt: &R, bytes: Option<&[u8]>) {
     match bytes {
-        Some(bytes) => fs::write(rt, FILE, bytes).ok(),
-        None => fs::remove_file(rt, FILE).ok(),
+        Some(bytes) => fs::write(rt, FILE, bytes).expect(rt, "a file"),
+        None => fs::remove_file(rt, FILE).expect(rt, "a file"),
     }
 }
 
 /// The file changes, and the next client asks.
-fn ask_later<R: Net<Stream = TcpStream> + Files>(
+fn ask_later<R: Net<Stream = TcpStream> + Files + Abort>(
     rt: &R,
     alloc: Global,
     port: &AtomicU64,
     later: &Later,
     types: &mut Vec<u8>,
-) -> Option<()> {
-    change_file(rt, later.file)?;
-    let mut client = session(rt, alloc, port)?;
-    add_types(alloc, &mut client, later.asked, types)
+) {
+    change_file(rt, later.file);
+    let mut client = session(rt, alloc, port);
+    add_types(rt, alloc, &mut client, later.asked, types)
 }
 
 /// What bob is answered while the file changes, and the clients beside him, by the types of the replies.
-fn answers<R: Net<Stream = TcpStream> + Files>(
+fn answers<R: Net<Stream = TcpStream> + Files + Abort>(
     rt: &R,
     alloc: Global,
     port: &AtomicU64,
-) -> Option<Vec<u8>> {
+) -> Vec<u8> {
     let mut types = Vec::new(alloc);
-    let mut bob = session(rt, alloc, port)?;
-    add_types(alloc, &mut bob, &[ATTACH_BOB], &mut types)?;
+    let mut bob = session(rt, alloc, port);
+    add_types(rt, alloc, &mut bob, &[ATTACH_BOB], &mut types);
     for later in &LATER {
-        ask_later(rt, alloc, port, later, &mut types)?;
+        ask_later(rt, alloc, port, later, &mut types);
     }
-    add_types(alloc, &mut bob, &[WALK, OPEN_TO_READ, READ], &mut types)?;
-    Some(types)
+    add_types(rt, alloc, &mut bob, &[WALK, OPEN_TO_READ, READ], &mut types);
+    types
 }
 
 /// What the command told, and what the clients were answered, while the file changes.
-fn reloaded<R>(rt: &R, alloc: Global, again: bool) -> (Told, Option<Vec<u8>>)
+fn reloaded<R>(rt: &R, alloc: Global, again: bool) -> (Told, Vec<u8>)
 where
     R: Net<Listener = TcpListener, Stream = TcpStream>
         + Threads
@@ -110,7 +110,8 @@ where
         + Clock
         + ReadsFiles
         + Files
-        + Sync,
+        + Sync
+        + Abort,
 {
     let (port, ends) = (AtomicU64::new(0), AtomicBool::new(false));
     let serving = Serving {
@@ -153,8 +154,8 @@ where
         + Abort,
 {
     let (told, types) = reloaded(rt, alloc, again);
-    assert!(rt; types.expect(rt, "the clients").as_slice() == b"ikkiokqiiiikoqu".as_slice());
-    assert_eq!(rt; told.status, 0);
+    assert!(rt; types.as_slice() == b"ikkiokqiiiikoqu".as_slice());
+    assert!(rt; told.status == 0);
     let err = std::str::from_utf8(told.err.as_slice()).expect(rt, "a text");
     for row in &OFTEN {
         assert_eq!(rt; err.matches(row.0).count(), row.1, "{}", row.0);

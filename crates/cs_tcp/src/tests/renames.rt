@@ -69,12 +69,11 @@ where
         client: Client::Linux,
         ..LOOPBACK
     };
-    let (told, answers) = thread::join(
+    let (told, (types, last)) = thread::join(
         rt,
         || served(rt, alloc, trace, linux, &port),
         || asks(rt, alloc, &port, messages),
     );
-    let (types, last) = answers.expect(rt, "replies");
     Answered { told, types, last }
 }
 

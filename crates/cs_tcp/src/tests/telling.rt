@@ -72,20 +72,23 @@ impl Write for Pieces {
 }
 
 /// A server with state 0 published.
-fn server<R: Wait>(rt: &R, alloc: Global) -> Option<Server<AnyScene>> {
-    let scene = scene_in(alloc)?;
-    let server = server_of::<AnyScene>(alloc, scene, &inputs_of(TRACE, true)).ok()?;
+fn server<R: Wait + Abort>(rt: &R, alloc: Global) -> Server<AnyScene> {
+    let scene = scene_in(alloc).expect(rt, "a value");
+    let server = server_of::<AnyScene>(alloc, scene, &inputs_of(TRACE, true)).expect(rt, "memory");
     let registry = server.registry();
-    let state = Scene::make(alloc, registry.scene(), 0).ok()?;
-    registry.publish(rt, alloc, state).ok()?;
-    Some(server)
+    let state = Scene::make(alloc, registry.scene(), 0).expect(rt, "memory");
+    registry.publish(rt, alloc, state).expect(rt, "memory");
+    server
 }
 
 /// Whether a client whose bytes come in pieces of so many is served to its end.
-fn is_served<'a, R: Wait>(rt: &'a R, alloc: Global, most: usize, log: Log<'a, Vec<u8>>) -> bool {
-    let Some(server) = server(rt, alloc) else {
-        return false;
-    };
+fn is_served<'a, R: Wait + Abort>(
+    rt: &'a R,
+    alloc: Global,
+    most: usize,
+    log: Log<'a, Vec<u8>>,
+) -> bool {
+    let server = server(rt, alloc);
     let client = Pieces {
         left: REQUESTS,
         most,
@@ -96,21 +99,19 @@ fn is_served<'a, R: Wait>(rt: &'a R, alloc: Global, most: usize, log: Log<'a, Ve
 }
 
 /// What is told of such a client, if it was served.
-fn told_in_pieces<R: Wait>(rt: &R, alloc: Global, most: usize) -> Option<Vec<u8>> {
+fn told_in_pieces<R: Wait + Abort>(rt: &R, alloc: Global, most: usize) -> Vec<u8> {
     let err = Mutex::new(Vec::new(alloc));
     let log = Log {
         writer: &err,
         verbose: false,
         progress: false,
     };
-    if !is_served(rt, alloc, most, log) {
-        return None;
-    }
-    Some(err.into_inner())
+    assert!(rt; is_served(rt, alloc, most, log));
+    err.into_inner()
 }
 
 fn expect_told<R: Wait + Abort>(rt: &R, alloc: Global, most: usize) {
-    let told = told_in_pieces(rt, alloc, most).expect(rt, "a client that is served");
+    let told = told_in_pieces(rt, alloc, most);
     assert!(rt; told.as_slice() == TOLD.as_bytes(), "{most}");
 }
 
@@ -135,13 +136,13 @@ fn tell_before<R: Wait + Sync>(
 }
 
 /// What is told before these states are made, of which the first is published.
-fn progress_before<R: Wait + Sync>(
+fn progress_before<R: Wait + Sync + Abort>(
     rt: &R,
     alloc: Global,
     numbers: &[u32],
     progress: bool,
-) -> Option<Vec<u8>> {
-    let server = server(rt, alloc)?;
+) -> Vec<u8> {
+    let server = server(rt, alloc);
     let err = Mutex::new(Vec::new(alloc));
     let log = Log {
         writer: &err,
@@ -149,16 +150,16 @@ fn progress_before<R: Wait + Sync>(
         progress,
     };
     tell_before(rt, &server, log, numbers);
-    Some(err.into_inner())
+    err.into_inner()
 }
 
 const NUMBERS: [u32; 6] = [0, 1, 1_023, 1_024, 1_025, 2_048];
 
 #[test]
 fn progress_is_told_at_every_1024th_state(rt: HostRuntime) {
-    let told = progress_before(&rt, rt.alloc(), &NUMBERS, true).expect(&rt, "the server");
+    let told = progress_before(&rt, rt.alloc(), &NUMBERS, true);
     assert!(rt; told.as_slice() == b"published 1 of 2\npublished 1 of 2\n".as_slice());
-    let told = progress_before(&rt, rt.alloc(), &NUMBERS, false).expect(&rt, "the server");
+    let told = progress_before(&rt, rt.alloc(), &NUMBERS, false);
     assert!(rt; told.is_empty());
 }
 

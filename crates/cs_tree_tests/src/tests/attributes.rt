@@ -14,30 +14,36 @@ use std::alloc::Global;
 use std::process::Abort;
 
 /// The state of a set, if a crash may leave it.
-fn state_of(alloc: Global, trace: &Trace, micros: &Micros, places: &[u32]) -> Option<PlainTree>
+fn state_of(
+    rt: &impl Abort,
+    alloc: Global,
+    trace: &Trace,
+    micros: &Micros,
+    places: &[u32],
+) -> Option<PlainTree>
     requires broken { micros.now ≡ micros_in trace.now }
     requires legal { AreLegal (start_paths trace.now) (length micros.now.starts) micros.now.ops }
 {
-    let order = Order::of(alloc, micros).ok()?;
+    let order = Order::of(alloc, micros).expect(rt, "memory");
     rules_are_sentences(micros);
     if order.is_allowed(places) {
-        build(alloc, micros, trace, places).ok()
+        Some(build(alloc, micros, trace, places).expect(rt, "memory"))
     } else {
         None
     }
 }
 
 /// The state of a set of the trace that the header and the operations tell, if a crash may leave it.
-fn left_by(alloc: Global, pieces: &[&str], places: &[u32]) -> Option<PlainTree> {
-    let text = pieces.join(alloc, "\n").ok()?;
-    let trace = read_trace(alloc, text.as_str()).ok()?;
-    let micros = break_up(alloc, &trace).ok()?;
-    state_of(alloc, &trace, &micros, places)
+fn left_by(rt: &impl Abort, alloc: Global, pieces: &[&str], places: &[u32]) -> Option<PlainTree> {
+    let text = pieces.join(alloc, "\n").expect(rt, "memory");
+    let trace = read_trace(alloc, text.as_str()).expect(rt, "a trace");
+    let micros = break_up(alloc, &trace).expect(rt, "micro-operations");
+    state_of(rt, alloc, &trace, &micros, places)
 }
 
 /// Looks at the file or directory that the set leaves in the root.
 fn leaves(rt: &impl Abort, alloc: Global, pieces: &[&str], places: &[u32], line: &str) {
-    let tree = left_by(alloc, pieces, places).expect(rt, "an allowed set");
+    let tree = left_by(rt, alloc, pieces, places).expect(rt, "an allowed set");
     same_lines(rt, alloc, &tree, &["0 / 0 cat staff d775 0 0 cat", line]);
 }
 
@@ -71,13 +77,13 @@ fn a_file_may_come_to_its_name_before_its_owner(rt: HostRuntime) {
 
 #[test]
 fn what_is_set_of_one_file_comes_in_order(rt: HostRuntime) {
-    assert!(&rt; left_by(rt.alloc(), &[BLOCKS, GIVEN], &[0, 2]).is_none());
+    assert!(&rt; left_by(&rt, rt.alloc(), &[BLOCKS, GIVEN], &[0, 2]).is_none());
 }
 
 #[test]
 fn an_fsync_waits_for_what_was_set_of_a_file(rt: HostRuntime) {
     let pieces = [BLOCKS, GIVEN, r#"{"op":"fsync","path":"/a"}"#, MOVED];
-    assert!(&rt; left_by(rt.alloc(), &pieces, &[0, 1, 3]).is_none());
+    assert!(&rt; left_by(&rt, rt.alloc(), &pieces, &[0, 1, 3]).is_none());
 }
 
 /// A directory gets another mode.
@@ -96,7 +102,7 @@ fn an_fsync_of_the_parent_leaves_out_what_was_set_of_a_directory(rt: HostRuntime
 #[test]
 fn an_fsync_of_a_directory_waits_for_what_was_set_of_it(rt: HostRuntime) {
     let pieces = [BLOCKS, CLOSED, r#"{"op":"fsync","path":"/d"}"#, TOLD];
-    assert!(&rt; left_by(rt.alloc(), &pieces, &[0, 2]).is_none());
+    assert!(&rt; left_by(&rt, rt.alloc(), &pieces, &[0, 2]).is_none());
     let line = "1 /d 0 ann staff d700 0 0 ann";
     leaves(&rt, rt.alloc(), &pieces, &[0, 1, 2], line);
 }
@@ -108,5 +114,5 @@ const TWO: &str = r#"{"op":"creat","path":"/a","owner":"ann","group":"staff","mo
 fn entries_come_in_order_where_the_file_system_orders_them(rt: HostRuntime) {
     let line = "1 /b 0 ann staff -644 0 0 ann 0:";
     leaves(&rt, rt.alloc(), &[BLOCKS, TWO], &[1], line);
-    assert!(&rt; left_by(rt.alloc(), &[ORDERED, TWO], &[1]).is_none());
+    assert!(&rt; left_by(&rt, rt.alloc(), &[ORDERED, TWO], &[1]).is_none());
 }

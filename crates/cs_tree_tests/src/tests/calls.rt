@@ -1,5 +1,4 @@
-//! The changing calls of a store. Each is made only where the store may be asked for it; else, and
-//! for want of memory, the answer is None.
+//! The changing calls of a store. Each has to be one that the store may be asked for.
 
 use super::allowed::{
     can_leave, has_bytes, takes_changes, takes_entries, takes_length, takes_mode, takes_name,
@@ -37,121 +36,84 @@ pub enum Call {
     Change(u64, Fields),
 }
 
-fn name(alloc: Global, text: &str) -> Option<Name> {
-    Name::read(alloc, text.as_bytes()).ok()
+fn name(rt: &impl Abort, alloc: Global, text: &str) -> Name {
+    Name::read(alloc, text.as_bytes()).expect(rt, "a name")
 }
 
-fn user(alloc: Global, text: &str) -> Option<UserName> {
-    UserName::read(alloc, text.as_bytes()).ok()
+fn user(rt: &impl Abort, alloc: Global, text: &str) -> UserName {
+    UserName::read(alloc, text.as_bytes()).expect(rt, "a user's name")
 }
 
 fn add<T: TreeStore>(
-    tree: &mut T,
+    rt: &impl Abort,
     alloc: Global,
+    tree: &mut T,
     directory: u64,
     name: Name,
     new: New,
     stamp: Stamp,
-) -> Option<()> {
-    if !takes_entries(tree, directory) || tree.last_number() == u64::MAX {
-        return None;
-    }
-    if tree.find_number(directory, name.as_str()).is_some() {
-        return None;
-    }
+) {
+    assert!(rt; takes_entries(tree, directory) && tree.last_number() != u64::MAX);
+    assert!(rt; tree.find_number(directory, name.as_str()).is_none());
     let next = tree.last_number() + 1;
-    let number = tree.add(alloc, directory, name, new, stamp).ok()?;
-    if number == next { Some(()) } else { None }
+    let number = tree.add(alloc, directory, name, new, stamp);
+    assert!(rt; number.expect(rt, "memory") == next);
 }
 
-fn remove<T: TreeStore>(tree: &mut T, alloc: Global, number: u64, stamp: Stamp) -> Option<()> {
-    if number == 0 || !takes_changes(tree, number) {
-        return None;
-    }
-    if !can_leave(tree, number) || !is_empty(tree, number) {
-        return None;
-    }
-    tree.remove(alloc, number, stamp).ok()
+fn remove<T: TreeStore>(rt: &impl Abort, alloc: Global, tree: &mut T, number: u64, stamp: Stamp) {
+    assert!(rt; number != 0 && takes_changes(tree, number));
+    assert!(rt; can_leave(tree, number) && is_empty(tree, number));
+    tree.remove(alloc, number, stamp).expect(rt, "memory");
 }
 
 pub fn write<T: TreeStore>(
-    tree: &mut T,
+    rt: &impl Abort,
     alloc: Global,
+    tree: &mut T,
     number: u64,
     offset: u64,
     bytes: &[u8],
     stamp: Stamp,
-) -> Option<()> {
-    if !has_bytes(tree, number) || !takes_changes(tree, number) {
-        return None;
-    }
-    if bytes.is_empty() || bytes.len() > 1 << 20 || offset > 1 << 20 {
-        return None;
-    }
-    tree.write_at(alloc, number, offset, bytes, stamp).ok()
+) {
+    assert!(rt; has_bytes(tree, number) && takes_changes(tree, number));
+    assert!(rt; !bytes.is_empty() && bytes.len() <= 1 << 20 && offset <= 1 << 20);
+    tree.write_at(alloc, number, offset, bytes, stamp)
+        .expect(rt, "memory");
 }
 
 fn change<T: TreeStore>(
-    tree: &mut T,
+    rt: &impl Abort,
     alloc: Global,
+    tree: &mut T,
     number: u64,
     change: &Change,
     stamp: Stamp,
-) -> Option<()> {
-    if !takes_changes(tree, number) || !takes_length(tree, number, change.length) {
-        return None;
-    }
-    if !takes_mode(tree, number, change.mode) || !takes_name(tree, number, &change.name) {
-        return None;
-    }
-    tree.change(alloc, number, change, stamp).ok()
+) {
+    assert!(rt; takes_changes(tree, number) && takes_length(tree, number, change.length));
+    assert!(rt; takes_mode(tree, number, change.mode) && takes_name(tree, number, &change.name));
+    tree.change(alloc, number, change, stamp)
+        .expect(rt, "memory");
 }
 
-fn change_of(alloc: Global, fields: &Fields) -> Option<Change> {
+fn change_of(rt: &impl Abort, alloc: Global, fields: &Fields) -> Change {
     let file_name = match fields.name {
-        Some(text) => Some(name(alloc, text)?),
+        Some(text) => Some(name(rt, alloc, text)),
         None => None,
     };
     let group = match fields.group {
-        Some(text) => Some(user(alloc, text)?),
+        Some(text) => Some(user(rt, alloc, text)),
         None => None,
     };
-    Some(Change {
+    Change {
         name: file_name,
         length: fields.length,
         mode: fields.mode,
         group,
         mtime: fields.mtime,
-    })
-}
-
-/// Makes the call, at a moment and by a user.
-fn make<T: TreeStore>(tree: &mut T, alloc: Global, call: Call, now: u32, by: &str) -> Option<()> {
-    let stamp = Stamp {
-        now,
-        user: user(alloc, by)?,
-    };
-    match call {
-        Call::Add(directory, text, mode) => {
-            add(
-                tree,
-                alloc,
-                directory,
-                name(alloc, text)?,
-                New { mode },
-                stamp,
-            )
-        }
-        Call::Remove(number) => remove(tree, alloc, number, stamp),
-        Call::Write(number, offset, bytes) => write(tree, alloc, number, offset, bytes, stamp),
-        Call::Change(number, fields) => {
-            let fields = change_of(alloc, &fields)?;
-            change(tree, alloc, number, &fields, stamp)
-        }
     }
 }
 
-/// Makes a call that may be made.
+/// Makes a call that may be made, at a moment and by a user.
 pub fn must_make<T: TreeStore>(
     rt: &impl Abort,
     alloc: Global,
@@ -160,5 +122,20 @@ pub fn must_make<T: TreeStore>(
     now: u32,
     by: &str,
 ) {
-    make(tree, alloc, call, now, by).expect(rt, "a call that may be made");
+    let stamp = Stamp {
+        now,
+        user: user(rt, alloc, by),
+    };
+    match call {
+        Call::Add(directory, text, mode) => {
+            let name = name(rt, alloc, text);
+            add(rt, alloc, tree, directory, name, New { mode }, stamp);
+        }
+        Call::Remove(number) => remove(rt, alloc, tree, number, stamp),
+        Call::Write(number, offset, bytes) => write(rt, alloc, tree, number, offset, bytes, stamp),
+        Call::Change(number, fields) => {
+            let fields = change_of(rt, alloc, &fields);
+            change(rt, alloc, tree, number, &fields, stamp);
+        }
+    }
 }

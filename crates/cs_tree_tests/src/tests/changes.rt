@@ -12,17 +12,17 @@ use std::process::Abort;
 
 /// Looks for just these lines among those that are new.
 fn are_new(rt: &impl Abort, alloc: Global, before: &[String], after: &[String], wanted: &[&str]) {
-    let found = new_lines(alloc, before, after).expect(rt, "memory");
+    let found = new_lines(rt, alloc, before, after);
     let mut wanted = wanted.join(alloc, "\n").expect(rt, "memory");
     wanted.push('\n').expect(rt, "memory");
-    assert_eq!(rt; found.as_str(), wanted.as_str());
+    assert!(rt; found.as_str() == wanted.as_str(), "{found}");
 }
 
 /// Makes the call, and looks at the whole tree.
 fn take<T: TreeStore>(rt: &impl Abort, alloc: Global, tree: &mut T, step: &Step) {
-    let before = lines(alloc, tree).expect(rt, "memory");
+    let before = lines(rt, alloc, tree);
     must_make(rt, alloc, tree, step.call, step.now, step.user);
-    let after = lines(alloc, tree).expect(rt, "memory");
+    let after = lines(rt, alloc, tree);
     are_new(rt, alloc, &before, &after, step.changed);
 }
 
@@ -44,21 +44,20 @@ struct Left {
 fn work_on<T: TreeStore + Drop>(
     rt: &impl Abort,
     alloc: Global,
-    tree: Option<T>,
+    mut tree: T,
     steps: &[Step],
     left: Left,
 ) {
-    let mut tree = tree.expect(rt, "the start tree");
     work(rt, alloc, &mut tree, steps);
     has_numbers(rt, &tree, left.count, left.last);
 }
 
 /// Makes them on each kind of store.
 fn work_on_each(rt: &impl Abort, alloc: Global, steps: &[Step], left: Left) {
-    work_on(rt, alloc, start_tree(alloc), steps, left);
-    work_on(rt, alloc, over_plain(alloc), steps, left);
-    work_on(rt, alloc, over_frozen(alloc), steps, left);
-    work_on(rt, alloc, over_state(alloc), steps, left);
+    work_on(rt, alloc, start_tree(rt, alloc), steps, left);
+    work_on(rt, alloc, over_plain(rt, alloc), steps, left);
+    work_on(rt, alloc, over_frozen(rt, alloc), steps, left);
+    work_on(rt, alloc, over_state(rt, alloc), steps, left);
 }
 
 /// Looks for what stands at a path.
@@ -71,7 +70,7 @@ fn is_found<T: TreeRead>(
 ) {
     let path = Path::read(alloc, path).expect(rt, "a path");
     let _ = tree.count();
-    assert_eq!(rt; number_of_path(tree, path.names()), wanted);
+    assert!(rt; number_of_path(tree, path.names()) == wanted);
 }
 
 #[test]
@@ -90,24 +89,22 @@ fn a_write_changes_its_file_alone(rt: HostRuntime) {
 fn is_grown<T: TreeRead>(rt: &impl Abort, alloc: Global, tree: &T) {
     let bytes = tree.read_at(alloc, 4, 0, 6000).expect(rt, "memory");
     let bytes = bytes.expect(rt, "bytes");
-    assert_eq!(rt; bytes.len(), 5000);
-    assert!(rt; bytes.first().copied() == Some(b'h'));
+    assert!(rt; bytes.len() == 5000 && bytes.first().copied() == Some(b'h'));
     assert!(rt; bytes.iter().skip(1).all(|byte| *byte == 0));
 }
 
 /// Cuts `/f` and lets it grow.
-fn cut_and_grow<T: TreeStore + Drop>(rt: &impl Abort, alloc: Global, tree: Option<T>) {
-    let mut tree = tree.expect(rt, "the start tree");
+fn cut_and_grow<T: TreeStore + Drop>(rt: &impl Abort, alloc: Global, mut tree: T) {
     work(rt, alloc, &mut tree, &LENGTHS);
     is_grown(rt, alloc, &tree);
 }
 
 #[test]
 fn bytes_that_no_write_reached_are_zero(rt: HostRuntime) {
-    cut_and_grow(&rt, rt.alloc(), start_tree(rt.alloc()));
-    cut_and_grow(&rt, rt.alloc(), over_plain(rt.alloc()));
-    cut_and_grow(&rt, rt.alloc(), over_frozen(rt.alloc()));
-    cut_and_grow(&rt, rt.alloc(), over_state(rt.alloc()));
+    cut_and_grow(&rt, rt.alloc(), start_tree(&rt, rt.alloc()));
+    cut_and_grow(&rt, rt.alloc(), over_plain(&rt, rt.alloc()));
+    cut_and_grow(&rt, rt.alloc(), over_frozen(&rt, rt.alloc()));
+    cut_and_grow(&rt, rt.alloc(), over_state(&rt, rt.alloc()));
 }
 
 #[test]
@@ -134,8 +131,7 @@ fn rename_below<T: TreeStore>(rt: &impl Abort, alloc: Global, tree: &mut T) {
     is_found(rt, alloc, tree, "/e/s", None);
 }
 
-fn rename_directories<T: TreeStore + Drop>(rt: &impl Abort, alloc: Global, tree: Option<T>) {
-    let mut tree = tree.expect(rt, "the start tree");
+fn rename_directories<T: TreeStore + Drop>(rt: &impl Abort, alloc: Global, mut tree: T) {
     rename_one(rt, alloc, &mut tree);
     rename_below(rt, alloc, &mut tree);
     has_entries(rt, alloc, &tree, 0, "d 8, e 1, f 4, n 5, p 6, ");
@@ -143,8 +139,8 @@ fn rename_directories<T: TreeStore + Drop>(rt: &impl Abort, alloc: Global, tree:
 
 #[test]
 fn a_directory_takes_all_below_it_to_its_new_name(rt: HostRuntime) {
-    rename_directories(&rt, rt.alloc(), start_tree(rt.alloc()));
-    rename_directories(&rt, rt.alloc(), over_plain(rt.alloc()));
-    rename_directories(&rt, rt.alloc(), over_frozen(rt.alloc()));
-    rename_directories(&rt, rt.alloc(), over_state(rt.alloc()));
+    rename_directories(&rt, rt.alloc(), start_tree(&rt, rt.alloc()));
+    rename_directories(&rt, rt.alloc(), over_plain(&rt, rt.alloc()));
+    rename_directories(&rt, rt.alloc(), over_frozen(&rt, rt.alloc()));
+    rename_directories(&rt, rt.alloc(), over_state(&rt, rt.alloc()));
 }

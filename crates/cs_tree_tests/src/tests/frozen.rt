@@ -3,7 +3,7 @@
 use super::calls::{Call, must_make, write};
 use super::runs::{BEFORE, cut_over, over, run_and_look};
 use super::shown::{has_entries, has_numbers, same_lines};
-use super::start::{START, frozen, over_frozen, over_plain, records, start_lower};
+use super::start::{START, frozen, over_frozen, over_plain, records, shared, start_lower, tree_of};
 use cs_lower::Lower;
 use cs_names::UserName;
 use cs_overlay::Overlay;
@@ -18,7 +18,7 @@ type State = Arc<Lower<Overlay<PlainTree>>>;
 
 #[test]
 fn files_made_in_another_order_freeze_to_the_start_tree(rt: HostRuntime) {
-    let tree = over_frozen(rt.alloc()).expect(&rt, "the frozen tree");
+    let tree = over_frozen(&rt, rt.alloc());
     same_lines(&rt, rt.alloc(), &tree, &BEFORE);
     has_numbers(&rt, &tree, 7, 6);
 }
@@ -49,7 +49,7 @@ fn changed(rt: &impl Abort, alloc: Global, lower: &Arc<PlainTree>) -> State {
     for call in &CALLS {
         must_make(rt, alloc, &mut tree, *call, 10, "bob");
     }
-    frozen(alloc, tree).expect(rt, "memory")
+    frozen(rt, alloc, tree)
 }
 
 /// The entries of its directories; a file and no file have none.
@@ -62,7 +62,7 @@ fn has_all_entries<T: TreeRead>(rt: &impl Abort, alloc: Global, tree: &T) {
 
 #[test]
 fn a_frozen_tree_has_fresh_numbers_in_the_order_of_paths(rt: HostRuntime) {
-    let lower = start_lower(rt.alloc()).expect(&rt, "the start tree");
+    let lower = start_lower(&rt, rt.alloc());
     let state = changed(&rt, rt.alloc(), &lower);
     same_lines(&rt, rt.alloc(), &*state, &AFTER);
     has_numbers(&rt, &*state, 7, 6);
@@ -73,28 +73,29 @@ fn a_frozen_tree_has_fresh_numbers_in_the_order_of_paths(rt: HostRuntime) {
 
 #[test]
 fn a_run_over_a_frozen_tree_leaves_it(rt: HostRuntime) {
-    let tree = over_plain(rt.alloc()).expect(&rt, "the start tree");
-    let state = frozen(rt.alloc(), tree).expect(&rt, "memory");
+    let tree = over_plain(&rt, rt.alloc());
+    let state = frozen(&rt, rt.alloc(), tree);
     run_and_look(&rt, rt.alloc(), &state);
 }
 
 /// Bytes of 0x61 are written into `/a`.
-fn write_letters<L: TreeRead + Drop>(alloc: Global, tree: &mut Overlay<L>) -> Option<()> {
-    let user = UserName::read(alloc, b"ann").ok()?;
-    write(tree, alloc, 1, 0, &[b'a'; 5000], Stamp { now: 2, user })
+fn write_letters<L: TreeRead + Drop>(rt: &impl Abort, alloc: Global, tree: &mut Overlay<L>) {
+    let user = UserName::read(alloc, b"ann").expect(rt, "a user's name");
+    let stamp = Stamp { now: 2, user };
+    write(rt, alloc, tree, 1, 0, &[b'a'; 5000], stamp);
 }
 
 /// `/a` with 5,000 bytes of 0x61, frozen.
-fn with_letters(rt: &impl Abort, alloc: Global) -> Option<State> {
-    let plain = PlainTree::try_from_records(alloc, records(alloc, &START[..1])?).ok()?;
-    let mut tree = Overlay::over(alloc, Arc::new(alloc, plain).ok()?);
+fn with_letters(rt: &impl Abort, alloc: Global) -> State {
+    let plain = tree_of(rt, alloc, records(rt, alloc, &START[..1]));
+    let mut tree = Overlay::over(alloc, shared(rt, alloc, plain));
     must_make(rt, alloc, &mut tree, Call::Add(0, "a", 0o644), 1, "ann");
-    write_letters(alloc, &mut tree)?;
-    frozen(alloc, tree)
+    write_letters(rt, alloc, &mut tree);
+    frozen(rt, alloc, tree)
 }
 
 #[test]
 fn a_cut_over_a_frozen_file_grows_by_zeros(rt: HostRuntime) {
-    let state = with_letters(&rt, rt.alloc()).expect(&rt, "a frozen tree");
+    let state = with_letters(&rt, rt.alloc());
     cut_over(&rt, rt.alloc(), &state);
 }

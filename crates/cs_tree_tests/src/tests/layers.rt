@@ -3,7 +3,7 @@
 use super::calls::{Call, Fields, NONE, must_make};
 use super::runs::{BEFORE, over, run_and_look};
 use super::shown::{has_bytes_from, has_entries, has_numbers, same_lines};
-use super::start::{over_plain, start_lower};
+use super::start::{over_plain, shared, start_lower};
 use cs_overlay::Overlay;
 use cs_tree::PlainTree;
 use cs_tree_model::{TreeRead, TreeStore};
@@ -23,7 +23,7 @@ fn resized(length: u64) -> Call {
 
 #[test]
 fn nothing_changed_is_the_lower_tree(rt: HostRuntime) {
-    let lower = start_lower(rt.alloc()).expect(&rt, "the start tree");
+    let lower = start_lower(&rt, rt.alloc());
     let upper = over(&rt, rt.alloc(), &lower);
     same_lines(&rt, rt.alloc(), &upper, &BEFORE);
     same_lines(&rt, rt.alloc(), &*lower, &BEFORE);
@@ -47,7 +47,7 @@ fn remove_over<T: TreeStore>(rt: &impl Abort, alloc: Global, upper: &mut T) {
 
 #[test]
 fn the_lower_tree_reads_as_before(rt: HostRuntime) {
-    let lower = start_lower(rt.alloc()).expect(&rt, "the start tree");
+    let lower = start_lower(&rt, rt.alloc());
     let mut upper = over(&rt, rt.alloc(), &lower);
     let mut other = over(&rt, rt.alloc(), &lower);
     write_over(&rt, rt.alloc(), &mut upper);
@@ -58,7 +58,7 @@ fn the_lower_tree_reads_as_before(rt: HostRuntime) {
 
 #[test]
 fn a_run_over_a_plain_tree_leaves_it(rt: HostRuntime) {
-    let lower = start_lower(rt.alloc()).expect(&rt, "the start tree");
+    let lower = start_lower(&rt, rt.alloc());
     run_and_look(&rt, rt.alloc(), &lower);
 }
 
@@ -71,7 +71,7 @@ fn has_one_letter<T: TreeRead>(rt: &impl Abort, alloc: Global, tree: &T) {
 
 #[test]
 fn a_written_block_is_cut_too(rt: HostRuntime) {
-    let mut tree = over_plain(rt.alloc()).expect(&rt, "the start tree");
+    let mut tree = over_plain(&rt, rt.alloc());
     let write = Call::Write(4, 4094, b"abcd");
     must_make(&rt, rt.alloc(), &mut tree, write, 10, "bob");
     must_make(&rt, rt.alloc(), &mut tree, resized(4095), 11, "bob");
@@ -81,7 +81,7 @@ fn a_written_block_is_cut_too(rt: HostRuntime) {
 
 #[test]
 fn a_name_of_both_levels_is_listed_once(rt: HostRuntime) {
-    let mut tree = over_plain(rt.alloc()).expect(&rt, "the start tree");
+    let mut tree = over_plain(&rt, rt.alloc());
     must_make(&rt, rt.alloc(), &mut tree, Call::Remove(4), 10, "bob");
     has_entries(&rt, rt.alloc(), &tree, 0, "d 1, n 5, p 6, ");
     let add = Call::Add(0, "f", 0o600);
@@ -93,10 +93,10 @@ fn a_name_of_both_levels_is_listed_once(rt: HostRuntime) {
 
 /// A run over the start tree with `HI` in `/f`, and a new file `/d/g`.
 fn low_level(rt: &impl Abort, alloc: Global) -> Arc<Overlay<PlainTree>> {
-    let mut low = over_plain(alloc).expect(rt, "the start tree");
+    let mut low = over_plain(rt, alloc);
     must_make(rt, alloc, &mut low, WRITE, 10, "bob");
     must_make(rt, alloc, &mut low, Call::Add(1, "g", 0o644), 11, "bob");
-    Arc::new(alloc, low).expect(rt, "memory")
+    shared(rt, alloc, low)
 }
 
 /// Looks at `/f` and at the entries of `/d`.

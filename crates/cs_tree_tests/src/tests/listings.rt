@@ -14,8 +14,7 @@ const NAMES: [&str; 5] = ["da", "D", "\u{e9}", "d0", "~"];
 const ALL: &str = "D 8, d 1, d0 10, da 7, f 4, n 5, p 6, ~ 11, \u{e9} 9, ";
 
 /// Makes files in the root, and lists it.
-fn make_and_list<T: TreeStore + Drop>(rt: &impl Abort, alloc: Global, tree: Option<T>) {
-    let mut tree = tree.expect(rt, "the start tree");
+fn make_and_list<T: TreeStore + Drop>(rt: &impl Abort, alloc: Global, mut tree: T) {
     for name in &NAMES {
         let call = Call::Add(0, name, 0o644);
         must_make(rt, alloc, &mut tree, call, 1, "cat");
@@ -29,10 +28,10 @@ fn make_and_list<T: TreeStore + Drop>(rt: &impl Abort, alloc: Global, tree: Opti
 
 #[test]
 fn entries_come_in_byte_order_of_their_names(rt: HostRuntime) {
-    make_and_list(&rt, rt.alloc(), start_tree(rt.alloc()));
-    make_and_list(&rt, rt.alloc(), over_plain(rt.alloc()));
-    make_and_list(&rt, rt.alloc(), over_frozen(rt.alloc()));
-    make_and_list(&rt, rt.alloc(), over_state(rt.alloc()));
+    make_and_list(&rt, rt.alloc(), start_tree(&rt, rt.alloc()));
+    make_and_list(&rt, rt.alloc(), over_plain(&rt, rt.alloc()));
+    make_and_list(&rt, rt.alloc(), over_frozen(&rt, rt.alloc()));
+    make_and_list(&rt, rt.alloc(), over_state(&rt, rt.alloc()));
 }
 
 /// Last name, bound and answer of a step in the root's listing; no text stands for none.
@@ -46,20 +45,23 @@ fn name(alloc: Global, text: &str) -> Option<Name> {
     Name::read(alloc, text.as_bytes()).ok()
 }
 
-fn entry<T: TreeRead>(alloc: Global, tree: &T, last: &str, bound: &str) -> Option<String> {
+fn entry<T: TreeRead>(rt: &impl Abort, alloc: Global, tree: &T, last: &str, bound: &str) -> String {
     let (last, bound) = (name(alloc, last), name(alloc, bound));
     let mut text = String::new(alloc);
     if let Some(entry) = tree.entry_after(0, last.as_ref(), bound.as_ref()) {
         let (name, number) = (entry.name, entry.number);
-        write!(text, "{name} {number}").ok()?;
+        write!(text, "{name} {number}").expect(rt, "memory");
     }
-    Some(text)
+    text
 }
 
 fn gives<T: TreeRead>(rt: &impl Abort, alloc: Global, tree: &T, step: &Step) {
     let (last, bound) = (step.last, step.bound);
-    let found = entry(alloc, tree, last, bound).expect(rt, "memory");
-    assert_eq!(rt; found.as_str(), step.answer, "after {last}, before {bound}");
+    let found = entry(rt, alloc, tree, last, bound);
+    assert!(rt;
+        found.as_str() == step.answer,
+        "after {last}, before {bound}"
+    );
 }
 
 fn step_through<T: TreeRead>(rt: &impl Abort, alloc: Global, tree: &T, steps: &[Step]) {
@@ -145,8 +147,7 @@ const WITHOUT_F: [Step; 5] = [
 ];
 
 /// Lists the root of the start tree, and takes the last name that was given out of it.
-fn list_and_remove<T: TreeStore + Drop>(rt: &impl Abort, alloc: Global, tree: Option<T>) {
-    let mut tree = tree.expect(rt, "the start tree");
+fn list_and_remove<T: TreeStore + Drop>(rt: &impl Abort, alloc: Global, mut tree: T) {
     step_through(rt, alloc, &tree, &WHOLE);
     must_make(rt, alloc, &mut tree, Call::Remove(4), 1, "cat");
     step_through(rt, alloc, &tree, &WITHOUT_F);
@@ -154,8 +155,8 @@ fn list_and_remove<T: TreeStore + Drop>(rt: &impl Abort, alloc: Global, tree: Op
 
 #[test]
 fn a_listing_goes_on_behind_a_name_that_is_gone(rt: HostRuntime) {
-    list_and_remove(&rt, rt.alloc(), start_tree(rt.alloc()));
-    list_and_remove(&rt, rt.alloc(), over_plain(rt.alloc()));
-    list_and_remove(&rt, rt.alloc(), over_frozen(rt.alloc()));
-    list_and_remove(&rt, rt.alloc(), over_state(rt.alloc()));
+    list_and_remove(&rt, rt.alloc(), start_tree(&rt, rt.alloc()));
+    list_and_remove(&rt, rt.alloc(), over_plain(&rt, rt.alloc()));
+    list_and_remove(&rt, rt.alloc(), over_frozen(&rt, rt.alloc()));
+    list_and_remove(&rt, rt.alloc(), over_state(&rt, rt.alloc()));
 }

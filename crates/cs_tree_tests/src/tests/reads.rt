@@ -1,31 +1,27 @@
 //! What the start tree answers before any change.
 
-use super::start::{Row, START, record, records, start_tree};
+use super::shown::has_numbers;
+use super::start::{Row, START, record, records, start_tree, tree_of};
 use cs_names::{Name, Path};
 use cs_tree::PlainTree;
 use cs_tree_model::{Kind, Record, TreeRead, number_of_path, path_of};
-use std::alloc::{AllocError, Global};
+use std::alloc::Global;
 use std::process::Abort;
-
-fn read<T: TreeRead>(alloc: Global, tree: &T, number: u64, offset: u64) -> Option<Vec<u8>> {
-    tree.read_at(alloc, number, offset, 100).ok()?
-}
 
 /// The row's number leads to its path, and the path to the number.
 fn is_at_path(rt: &impl Abort, alloc: Global, tree: &PlainTree, row: &Row) {
     let path = Path::read(alloc, row.path).expect(rt, "a path");
-    assert_eq!(rt; number_of_path(tree, path.names()), Some(row.number));
+    assert!(rt; number_of_path(tree, path.names()) == Some(row.number));
     let name = tree.name_of(row.number).map(Name::as_str);
-    assert!(rt; name == path.names().last(), "name of {}", row.number);
+    assert!(rt; name == path.names().last());
     let found = path_of(alloc, tree, row.number).expect(rt, "memory");
-    assert!(rt; found == Some(path), "path of {}", row.number);
+    assert!(rt; found == Some(path));
 }
 
 #[test]
 fn numbers_are_found_by_path_and_paths_by_number(rt: HostRuntime) {
-    let tree = start_tree(rt.alloc()).expect(&rt, "the start tree");
-    assert_eq!(&rt; tree.count(), 7);
-    assert_eq!(&rt; tree.last_number(), 6);
+    let tree = start_tree(&rt, rt.alloc());
+    has_numbers(&rt, &tree, 7, 6);
     for row in &START {
         is_at_path(&rt, rt.alloc(), &tree, row);
     }
@@ -45,80 +41,136 @@ fn kind_of(row: &Row) -> Kind {
 /// The tree's record is the row's, never changed.
 fn has_record(rt: &impl Abort, tree: &PlainTree, row: &Row) {
     let found = tree.record(row.number).expect(rt, "a record");
-    assert_eq!(rt; found.number, row.number);
-    assert!(rt; found.vers == 0 && found.mode == row.mode);
-    assert!(rt;
-        found.owner.as_bytes() == row.owner,
-        "owner of {}",
-        row.path
-    );
-    assert!(rt;
-        found.group.as_bytes() == row.group,
-        "group of {}",
-        row.path
-    );
-    assert!(rt; found.kind == kind_of(row), "kind of {}", row.path);
+    assert!(rt; found.number == row.number && found.vers == 0 && found.mode == row.mode);
+    assert!(rt; found.owner.as_bytes() == row.owner);
+    assert!(rt; found.group.as_bytes() == row.group);
+    assert!(rt; found.kind == kind_of(row));
 }
 
 #[test]
 fn records_say_who_owns_them_and_how_long_they_are(rt: HostRuntime) {
-    let tree = start_tree(rt.alloc()).expect(&rt, "the start tree");
+    let tree = start_tree(&rt, rt.alloc());
     for row in &START {
         has_record(&rt, &tree, row);
     }
     assert!(&rt; tree.record(7).is_none());
 }
 
-/// `/f` has these bytes from an offset on.
-fn reads_on(rt: &impl Abort, alloc: Global, tree: &PlainTree, offset: u64, wanted: &[u8]) {
-    let found = read(alloc, tree, 4, offset).expect(rt, "bytes");
-    assert!(rt; found.as_slice() == wanted, "at {offset}");
+/// Where a read begins, how many bytes it asks for, and what it gives: none where no file is.
+#[derive(Drop)]
+struct Reading {
+    number: u64,
+    offset: u64,
+    count: usize,
+    bytes: Option<&'static [u8]>,
+}
+
+const HELLO: Reading = Reading {
+    number: 4,
+    offset: 0,
+    count: 100,
+    bytes: Some(b"hello"),
+};
+
+const READINGS: [Reading; 8] = [
+    HELLO,
+    Reading {
+        offset: 2,
+        bytes: Some(b"llo"),
+        ..HELLO
+    },
+    Reading {
+        offset: 5,
+        bytes: Some(b""),
+        ..HELLO
+    },
+    Reading {
+        offset: 6,
+        bytes: Some(b""),
+        ..HELLO
+    },
+    Reading {
+        offset: u64::MAX,
+        bytes: Some(b""),
+        ..HELLO
+    },
+    // a directory, and no file
+    Reading {
+        number: 0,
+        bytes: None,
+        ..HELLO
+    },
+    Reading {
+        number: 9,
+        bytes: None,
+        ..HELLO
+    },
+    Reading {
+        offset: 1,
+        count: 3,
+        bytes: Some(b"ell"),
+        ..HELLO
+    },
+];
+
+fn gives(rt: &impl Abort, alloc: Global, tree: &PlainTree, reading: &Reading) {
+    let found = tree.read_at(alloc, reading.number, reading.offset, reading.count);
+    match found.expect(rt, "memory") {
+        Some(found) => assert!(rt; Some(found.as_slice()) == reading.bytes),
+        None => assert!(rt; reading.bytes.is_none()),
+    }
 }
 
 #[test]
 fn reads_begin_at_the_offset_and_stop_at_the_end(rt: HostRuntime) {
-    let alloc = rt.alloc();
-    let tree = start_tree(alloc).expect(&rt, "the start tree");
-    reads_on(&rt, alloc, &tree, 0, b"hello");
-    reads_on(&rt, alloc, &tree, 2, b"llo");
-    reads_on(&rt, alloc, &tree, 5, b"");
-    reads_on(&rt, alloc, &tree, 6, b"");
-    reads_on(&rt, alloc, &tree, u64::MAX, b"");
-    assert!(&rt; read(alloc, &tree, 0, 0).is_none(), "a directory");
-    assert!(&rt; read(alloc, &tree, 9, 0).is_none(), "no file");
-    let three = tree.read_at(alloc, 4, 1, 3).expect(&rt, "memory");
-    assert!(&rt; three.expect(&rt, "bytes").as_slice() == b"ell".as_slice());
+    let tree = start_tree(&rt, rt.alloc());
+    for reading in &READINGS {
+        gives(&rt, rt.alloc(), &tree, reading);
+    }
 }
+
+/// A number, and that of its parent.
+struct Parent(u64, Option<u64>);
+
+const PARENTS: [Parent; 5] = [
+    Parent(3, Some(2)),
+    Parent(2, Some(1)),
+    Parent(1, Some(0)),
+    Parent(0, Some(0)),
+    Parent(7, None),
+];
+
+/// A directory, a file and no file.
+const WITHOUT_Q: [u64; 3] = [0, 4, 9];
 
 #[test]
 fn parents_lead_up_to_the_root(rt: HostRuntime) {
-    let tree = start_tree(rt.alloc()).expect(&rt, "the start tree");
-    assert_eq!(&rt; tree.parent_of(3), Some(2));
-    assert_eq!(&rt; tree.parent_of(2), Some(1));
-    assert_eq!(&rt; tree.parent_of(1), Some(0));
-    assert_eq!(&rt; tree.parent_of(0), Some(0));
-    assert_eq!(&rt; tree.parent_of(7), None);
-    assert_eq!(&rt; tree.find_number(0, "q"), None);
-    assert_eq!(&rt; tree.find_number(4, "q"), None);
-    assert_eq!(&rt; tree.find_number(9, "q"), None);
+    let tree = start_tree(&rt, rt.alloc());
+    for parent in &PARENTS {
+        assert!(rt; tree.parent_of(parent.0) == parent.1);
+    }
+    for number in &WITHOUT_Q {
+        assert!(rt; tree.find_number(*number, "q").is_none());
+    }
 }
 
-fn numbered(alloc: Global, number: u64) -> Result<String, AllocError> {
-    format!(in alloc; "n{number}")
+fn numbered(rt: &impl Abort, alloc: Global, number: u64) -> String {
+    format!(in alloc; "n{number}").expect(rt, "memory")
 }
 
 /// The path of a name in the root.
-fn path_in_root(alloc: Global, name: &str) -> Option<Path> {
+fn path_in_root(rt: &impl Abort, alloc: Global, name: &str) -> Path {
+    let name = Name::read(alloc, name.as_bytes()).expect(rt, "a name");
     let mut names = Vec::new(alloc);
-    names.push(Name::read(alloc, name.as_bytes()).ok()?).ok()?;
-    Path::from_names(alloc, &names).ok()
+    names.push(name).expect(rt, "memory");
+    Path::from_names(alloc, &names).expect(rt, "memory")
 }
 
 /// An empty file in the root, named by its number.
-fn numbered_file(alloc: Global, number: u64) -> Option<(Path, Record)> {
-    let name = numbered(alloc, number).ok()?;
-    let (_, file) = record(alloc, &Row { number, ..EMPTY })?;
-    Some((path_in_root(alloc, name.as_str())?, file))
+fn numbered_file(rt: &impl Abort, alloc: Global, number: u64) -> (Path, Record) {
+    let name = numbered(rt, alloc, number);
+    let (_, file) = record(rt, alloc, &Row { number, ..EMPTY });
+    (path_in_root(rt, alloc, name.as_str()), file)
 }
 
 const EMPTY: Row = Row {
@@ -131,25 +183,27 @@ const EMPTY: Row = Row {
 };
 
 /// A root with so many of them.
-fn wide_tree(alloc: Global, files: u64) -> Option<PlainTree> {
-    let mut records = records(alloc, &START[..1])?;
+fn wide_tree(rt: &impl Abort, alloc: Global, files: u64) -> PlainTree {
+    let mut records = records(rt, alloc, &START[..1]);
     for number in 1..=files {
-        records.push(numbered_file(alloc, number)?).ok()?;
+        records
+            .push(numbered_file(rt, alloc, number))
+            .expect(rt, "memory");
     }
-    PlainTree::try_from_records(alloc, records).ok()
+    tree_of(rt, alloc, records)
 }
 
 /// Looks a file up by its name.
 fn is_found(rt: &impl Abort, alloc: Global, tree: &PlainTree, number: u64, wanted: Option<u64>) {
-    let name = numbered(alloc, number).expect(rt, "a name");
-    assert_eq!(rt; tree.find_number(0, name.as_str()), wanted);
+    let name = numbered(rt, alloc, number);
+    assert!(rt; tree.find_number(0, name.as_str()) == wanted);
 }
 
 const SOME: [u64; 6] = [1, 2, 999, 2500, 4999, 5000];
 
 #[test]
 fn names_are_found_among_thousands(rt: HostRuntime) {
-    let tree = wide_tree(rt.alloc(), 5000).expect(&rt, "a tree");
+    let tree = wide_tree(&rt, rt.alloc(), 5000);
     for number in &SOME {
         is_found(&rt, rt.alloc(), &tree, *number, Some(*number));
     }

@@ -1,6 +1,7 @@
 //! Lists of records that make a tree, and lists that make none.
 
-use super::start::{Row, records};
+use super::shown::has_numbers;
+use super::start::{Row, records, tree_of};
 use cs_names::{Path, UserName};
 use cs_tree::{PlainTree, RecordsFault};
 use cs_tree_model::{Content, DMAPPEND, DMDIR, Record, TreeRead, number_of_path};
@@ -104,7 +105,7 @@ const NO_TREES: [&[Row]; 12] = [
 ];
 
 fn is_no_tree(rt: &impl Abort, alloc: Global, rows: &[Row]) {
-    let records = records(alloc, rows).expect(rt, "memory");
+    let records = records(rt, alloc, rows);
     let made = PlainTree::try_from_records(alloc, records);
     assert!(rt; made.err() == Some(RecordsFault::NoTree));
 }
@@ -126,33 +127,38 @@ const FAR: Row = Row {
 
 #[test]
 fn numbers_may_have_gaps(rt: HostRuntime) {
-    let records = records(rt.alloc(), &[ROOT, FILE, FAR]).expect(&rt, "memory");
-    let tree = PlainTree::try_from_records(rt.alloc(), records).expect(&rt, "a tree");
-    assert_eq!(&rt; tree.count(), 3);
-    assert_eq!(&rt; tree.last_number(), 1 << 40);
-    assert_eq!(&rt; tree.find_number(0, "g"), Some(1 << 40));
+    let records = records(&rt, rt.alloc(), &[ROOT, FILE, FAR]);
+    let tree = tree_of(&rt, rt.alloc(), records);
+    has_numbers(&rt, &tree, 3, 1 << 40);
+    assert!(rt; tree.find_number(0, "g") == Some(1 << 40));
+}
+
+fn user(rt: &impl Abort, alloc: Global, name: &[u8]) -> UserName {
+    UserName::read(alloc, name).expect(rt, "a user's name")
+}
+
+/// The tree of a root alone.
+fn tree_of_root(rt: &impl Abort, alloc: Global) -> PlainTree {
+    let root = Record {
+        number: 0,
+        vers: 0,
+        owner: user(rt, alloc, b"cat"),
+        group: user(rt, alloc, b"staff"),
+        mode: DMDIR | 0o775,
+        atime: 0,
+        mtime: 0,
+        muid: user(rt, alloc, b"cat"),
+        content: Content::directory(),
+    };
+    let mut records = Vec::new(alloc);
+    records.push((Path::root(alloc), root)).expect(rt, "memory");
+    PlainTree::from_records(alloc, records).expect(rt, "memory")
 }
 
 #[test]
 fn records_that_are_known_to_make_a_tree_are_taken(rt: HostRuntime) {
-    let root = Record {
-        number: 0,
-        vers: 0,
-        owner: UserName::read(rt.alloc(), b"cat").expect(&rt, "a user's name"),
-        group: UserName::read(rt.alloc(), b"staff").expect(&rt, "a group's name"),
-        mode: DMDIR | 0o775,
-        atime: 0,
-        mtime: 0,
-        muid: UserName::read(rt.alloc(), b"cat").expect(&rt, "a user's name"),
-        content: Content::directory(),
-    };
-    let path = Path::root(rt.alloc());
-    let mut records = Vec::new(rt.alloc());
-    records.push((path, root)).expect(&rt, "memory");
-    let tree = PlainTree::from_records(rt.alloc(), records).expect(&rt, "memory");
-    assert_eq!(&rt; tree.count(), 1);
-    assert_eq!(&rt;
-        number_of_path(&tree, Path::root(rt.alloc()).names()),
-        Some(0)
-    );
+    let tree = tree_of_root(&rt, rt.alloc());
+    has_numbers(&rt, &tree, 1, 0);
+    let root = Path::root(rt.alloc());
+    assert!(rt; number_of_path(&tree, root.names()) == Some(0));
 }

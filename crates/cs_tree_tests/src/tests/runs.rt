@@ -23,18 +23,21 @@ pub const BEFORE: [&str; 7] = [
 ];
 
 /// A run in which `/f` begins with `HI`, and one that was made after it.
-fn two_runs<L: TreeRead + Drop>(alloc: Global, state: &Arc<L>) -> Option<(Overlay<L>, Overlay<L>)> {
+fn two_runs<L: TreeRead + Drop>(
+    rt: &impl Abort,
+    alloc: Global,
+    state: &Arc<L>,
+) -> (Overlay<L>, Overlay<L>) {
     let lower: &L = &**state;
-    if !has_bytes(lower, 4) || !takes_changes(lower, 4) {
-        return None;
-    }
-    let user = UserName::read(alloc, b"bob").ok()?;
-    lower_stays(alloc, state, 4, 0, b"HI", Stamp { now: 10, user }).ok()
+    assert!(rt; has_bytes(lower, 4) && takes_changes(lower, 4));
+    let user = UserName::read(alloc, b"bob").expect(rt, "a user's name");
+    let runs = lower_stays(alloc, state, 4, 0, b"HI", Stamp { now: 10, user });
+    runs.expect(rt, "memory")
 }
 
 /// A run over the start tree writes into `/f`; the next run and the tree itself don't show it.
 pub fn run_and_look<L: TreeRead + Drop>(rt: &impl Abort, alloc: Global, state: &Arc<L>) {
-    let (first, second) = two_runs(alloc, state).expect(rt, "two runs");
+    let (first, second) = two_runs(rt, alloc, state);
     has_bytes_from(rt, alloc, &first, 4, 0, b"HIllo");
     same_lines(rt, alloc, &second, &BEFORE);
     same_lines(rt, alloc, &**state, &BEFORE);
@@ -60,10 +63,10 @@ struct Shape {
 
 fn has_shape<T: TreeRead>(rt: &impl Abort, alloc: Global, tree: &T, wanted: Shape) {
     let file = tree.record(1).expect(rt, "a file");
-    assert_eq!(rt; file.vers, wanted.vers);
+    assert!(rt; file.vers == wanted.vers);
     let found = tree.read_at(alloc, 1, 0, 10_000).expect(rt, "memory");
     let found = found.expect(rt, "bytes");
-    assert_eq!(rt; found.len(), wanted.letters.wrapping_add(wanted.zeros));
+    assert!(rt; found.len() == wanted.letters.wrapping_add(wanted.zeros));
     assert!(rt; found.iter().take(wanted.letters).all(|byte| *byte == b'a'));
     assert!(rt; found.iter().skip(wanted.letters).all(|byte| *byte == 0));
 }

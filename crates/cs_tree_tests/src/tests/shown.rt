@@ -1,7 +1,7 @@
 //! A tree as lines of text, one for each number that was ever given.
 
 use cs_tree_model::{DMAPPEND, DMDIR, Kind, Metadata, TreeRead, path_of};
-use std::alloc::{AllocError, Global};
+use std::alloc::Global;
 use std::process::Abort;
 
 /// How many bytes of a file are shown.
@@ -17,80 +17,86 @@ fn kind_of(mode: u32) -> char {
     }
 }
 
-fn show_owners(text: &mut String, file: &Metadata<'_>) -> Result<(), AllocError> {
+fn show_owners(rt: &impl Abort, text: &mut String, file: &Metadata<'_>) {
     let (vers, owner, group) = (file.vers, file.owner, file.group);
-    write!(text, " {vers} {owner} {group}")
+    write!(text, " {vers} {owner} {group}").expect(rt, "memory");
 }
 
-fn show_mode(text: &mut String, mode: u32) -> Result<(), AllocError> {
+fn show_mode(rt: &impl Abort, text: &mut String, mode: u32) {
     let (kind, bits) = (kind_of(mode), mode & 0o777);
-    write!(text, " {kind}{bits:03o}")
+    write!(text, " {kind}{bits:03o}").expect(rt, "memory");
 }
 
-fn show_times(text: &mut String, file: &Metadata<'_>) -> Result<(), AllocError> {
+fn show_times(rt: &impl Abort, text: &mut String, file: &Metadata<'_>) {
     let (atime, mtime, muid) = (file.atime, file.mtime, file.muid);
-    write!(text, " {atime} {mtime} {muid}")
+    write!(text, " {atime} {mtime} {muid}").expect(rt, "memory");
 }
 
 /// The bytes, with a dot for a zero.
-fn show_bytes(text: &mut String, bytes: &[u8]) -> Result<(), AllocError> {
+fn show_bytes(rt: &impl Abort, text: &mut String, bytes: &[u8]) {
     for byte in bytes {
-        text.push(if *byte == 0 { '.' } else { char::from(*byte) })?;
+        let letter = if *byte == 0 { '.' } else { char::from(*byte) };
+        text.push(letter).expect(rt, "memory");
     }
-    Ok(())
 }
 
 /// The length of a file and its first bytes; of a directory nothing.
 fn show_content<T: TreeRead>(
-    text: &mut String,
+    rt: &impl Abort,
     alloc: Global,
+    text: &mut String,
     tree: &T,
     file: &Metadata<'_>,
-) -> Option<()> {
-    let Kind::File { length } = file.kind else {
-        return Some(());
-    };
-    write!(text, " {length}:").ok()?;
-    let bytes = tree.read_at(alloc, file.number, 0, SHOWN).ok()??;
-    show_bytes(text, &bytes).ok()
+) {
+    if let Kind::File { length } = file.kind {
+        write!(text, " {length}:").expect(rt, "memory");
+        let bytes = tree
+            .read_at(alloc, file.number, 0, SHOWN)
+            .expect(rt, "memory");
+        show_bytes(rt, text, &bytes.expect(rt, "bytes"));
+    }
 }
 
 /// Path, version, owner, group, mode, atime, mtime and muid of a file, and its bytes.
 fn show<T: TreeRead>(
-    text: &mut String,
+    rt: &impl Abort,
     alloc: Global,
+    text: &mut String,
     tree: &T,
     file: &Metadata<'_>,
-) -> Option<()> {
-    let path = path_of(alloc, tree, file.number).ok()??;
-    write!(text, "{} {path}", file.number).ok()?;
-    show_owners(text, file).ok()?;
-    show_mode(text, file.mode).ok()?;
-    show_times(text, file).ok()?;
-    show_content(text, alloc, tree, file)
+) {
+    let path = path_of(alloc, tree, file.number).expect(rt, "memory");
+    let path = path.expect(rt, "a path");
+    write!(text, "{} {path}", file.number).expect(rt, "memory");
+    show_owners(rt, text, file);
+    show_mode(rt, text, file.mode);
+    show_times(rt, text, file);
+    show_content(rt, alloc, text, tree, file);
 }
 
-fn line<T: TreeRead>(alloc: Global, tree: &T, number: u64) -> Option<String> {
+fn line<T: TreeRead>(rt: &impl Abort, alloc: Global, tree: &T, number: u64) -> String {
     let mut text = String::new(alloc);
     match tree.record(number) {
-        Some(file) => show(&mut text, alloc, tree, &file)?,
-        None => write!(text, "{number} gone").ok()?,
+        Some(file) => show(rt, alloc, &mut text, tree, &file),
+        None => write!(text, "{number} gone").expect(rt, "memory"),
     }
-    Some(text)
+    text
 }
 
 /// The lines of all numbers.
-pub fn lines<T: TreeRead>(alloc: Global, tree: &T) -> Option<Vec<String>> {
+pub fn lines<T: TreeRead>(rt: &impl Abort, alloc: Global, tree: &T) -> Vec<String> {
     let mut lines = Vec::new(alloc);
     for number in 0..=tree.last_number() {
-        lines.push(line(alloc, tree, number)?).ok()?;
+        lines
+            .push(line(rt, alloc, tree, number))
+            .expect(rt, "memory");
     }
-    Some(lines)
+    lines
 }
 
-fn push_line(text: &mut String, line: &str) -> Result<(), AllocError> {
-    text.push_str(line)?;
-    text.push('\n')
+fn push_line(rt: &impl Abort, text: &mut String, line: &str) {
+    text.push_str(line).expect(rt, "memory");
+    text.push('\n').expect(rt, "memory");
 }
 
 /// Whether the line is the one at that place.
@@ -102,18 +108,18 @@ fn is_at(lines: &[String], place: usize, line: &str) -> bool {
 }
 
 /// Those lines that were not there before, each with a line feed.
-pub fn new_lines(alloc: Global, before: &[String], after: &[String]) -> Option<String> {
+pub fn new_lines(rt: &impl Abort, alloc: Global, before: &[String], after: &[String]) -> String {
     let mut text = String::new(alloc);
     for (place, line) in after.iter().enumerate() {
         if !is_at(before, place, line.as_str()) {
-            push_line(&mut text, line.as_str()).ok()?;
+            push_line(rt, &mut text, line.as_str());
         }
     }
-    Some(text)
+    text
 }
 
 /// The entries of a directory, each asked for by the name before.
-fn listed<T: TreeRead>(alloc: Global, tree: &T, directory: u64) -> Option<String> {
+fn listed<T: TreeRead>(rt: &impl Abort, alloc: Global, tree: &T, directory: u64) -> String {
     let mut text = String::new(alloc);
     let mut last = None;
     for _ in 0..tree.count() {
@@ -122,9 +128,9 @@ fn listed<T: TreeRead>(alloc: Global, tree: &T, directory: u64) -> Option<String
         };
         last = Some(entry.name);
         let (name, number) = (entry.name, entry.number);
-        write!(text, "{name} {number}, ").ok()?;
+        write!(text, "{name} {number}, ").expect(rt, "memory");
     }
-    Some(text)
+    text
 }
 
 /// Looks at the entries of a directory.
@@ -135,22 +141,21 @@ pub fn has_entries<T: TreeRead>(
     directory: u64,
     wanted: &str,
 ) {
-    let found = listed(alloc, tree, directory).expect(rt, "memory");
-    assert_eq!(rt; found.as_str(), wanted, "of {directory}");
+    let found = listed(rt, alloc, tree, directory);
+    assert!(rt; found.as_str() == wanted, "{found}");
 }
 
 /// Looks at the lines of all numbers.
 pub fn same_lines<T: TreeRead>(rt: &impl Abort, alloc: Global, tree: &T, wanted: &[&str]) {
-    let found = lines(alloc, tree).expect(rt, "memory");
+    let found = lines(rt, alloc, tree);
     let found = found.join(alloc, "\n").expect(rt, "memory");
     let wanted = wanted.join(alloc, "\n").expect(rt, "memory");
-    assert_eq!(rt; found.as_str(), wanted.as_str());
+    assert!(rt; found.as_str() == wanted.as_str(), "{found}");
 }
 
 /// Looks at how many files there are, and the last number.
 pub fn has_numbers<T: TreeRead>(rt: &impl Abort, tree: &T, count: usize, last: u64) {
-    assert_eq!(rt; tree.count(), count);
-    assert_eq!(rt; tree.last_number(), last);
+    assert!(rt; tree.count() == count && tree.last_number() == last);
 }
 
 /// Looks at the bytes of a file from an offset on.

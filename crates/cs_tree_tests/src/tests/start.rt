@@ -6,6 +6,7 @@ use cs_overlay::Overlay;
 use cs_tree::PlainTree;
 use cs_tree_model::{Content, DMDIR, Record, TreeRead};
 use std::alloc::Global;
+use std::process::Abort;
 use std::sync::Arc;
 
 /// A record that nothing has changed yet. A directory has no bytes.
@@ -78,30 +79,37 @@ pub const START: [Row; 7] = [
     },
 ];
 
-fn content(alloc: Global, bytes: Option<&[u8]>) -> Option<Content> {
+fn content(rt: &impl Abort, alloc: Global, bytes: Option<&[u8]>) -> Content {
     match bytes {
-        None => Some(Content::directory()),
-        Some(bytes) => Some(Content::file(Vec::from_slice(alloc, bytes).ok()?)),
+        None => Content::directory(),
+        Some(bytes) => Content::file(Vec::from_slice(alloc, bytes).expect(rt, "memory")),
     }
 }
 
+fn user(rt: &impl Abort, alloc: Global, name: &[u8]) -> UserName {
+    UserName::read(alloc, name).expect(rt, "a user's name")
+}
+
 /// The record of a row, with these where it was changed.
-fn record_with(alloc: Global, row: &Row, vers: u32, times: Times, muid: &[u8]) -> Option<Record> {
-    let owner = UserName::read(alloc, row.owner).ok()?;
-    let group = UserName::read(alloc, row.group).ok()?;
-    let muid = UserName::read(alloc, muid).ok()?;
-    let content = content(alloc, row.bytes)?;
-    Some(Record {
+fn record_with(
+    rt: &impl Abort,
+    alloc: Global,
+    row: &Row,
+    vers: u32,
+    times: Times,
+    muid: &[u8],
+) -> Record {
+    Record {
         number: row.number,
         vers,
-        owner,
-        group,
+        owner: user(rt, alloc, row.owner),
+        group: user(rt, alloc, row.group),
         mode: row.mode,
         atime: times.atime,
         mtime: times.mtime,
-        muid,
-        content,
-    })
+        muid: user(rt, alloc, muid),
+        content: content(rt, alloc, row.bytes),
+    }
 }
 
 /// When a file was made, and when it was changed.
@@ -113,30 +121,39 @@ struct Times {
 
 const NEVER: Times = Times { atime: 0, mtime: 0 };
 
-pub fn record(alloc: Global, row: &Row) -> Option<(Path, Record)> {
-    let record = record_with(alloc, row, 0, NEVER, row.owner)?;
-    Some((Path::read(alloc, row.path).ok()?, record))
+pub fn record(rt: &impl Abort, alloc: Global, row: &Row) -> (Path, Record) {
+    let record = record_with(rt, alloc, row, 0, NEVER, row.owner);
+    (Path::read(alloc, row.path).expect(rt, "a path"), record)
 }
 
-pub fn records(alloc: Global, rows: &[Row]) -> Option<Vec<(Path, Record)>> {
+pub fn records(rt: &impl Abort, alloc: Global, rows: &[Row]) -> Vec<(Path, Record)> {
     let mut records = Vec::new(alloc);
     for row in rows {
-        records.push(record(alloc, row)?).ok()?;
+        records.push(record(rt, alloc, row)).expect(rt, "memory");
     }
-    Some(records)
+    records
 }
 
-pub fn start_tree(alloc: Global) -> Option<PlainTree> {
-    PlainTree::try_from_records(alloc, records(alloc, &START)?).ok()
+/// The tree of these records.
+pub fn tree_of(rt: &impl Abort, alloc: Global, records: Vec<(Path, Record)>) -> PlainTree {
+    PlainTree::try_from_records(alloc, records).expect(rt, "a tree")
 }
 
-pub fn start_lower(alloc: Global) -> Option<Arc<PlainTree>> {
-    Arc::new(alloc, start_tree(alloc)?).ok()
+pub fn start_tree(rt: &impl Abort, alloc: Global) -> PlainTree {
+    tree_of(rt, alloc, records(rt, alloc, &START))
+}
+
+pub fn shared<T: Drop>(rt: &impl Abort, alloc: Global, tree: T) -> Arc<T> {
+    Arc::new(alloc, tree).expect(rt, "memory")
+}
+
+pub fn start_lower(rt: &impl Abort, alloc: Global) -> Arc<PlainTree> {
+    shared(rt, alloc, start_tree(rt, alloc))
 }
 
 /// The start tree with nothing over it yet.
-pub fn over_plain(alloc: Global) -> Option<Overlay<PlainTree>> {
-    Some(Overlay::over(alloc, start_lower(alloc)?))
+pub fn over_plain(rt: &impl Abort, alloc: Global) -> Overlay<PlainTree> {
+    Overlay::over(alloc, start_lower(rt, alloc))
 }
 
 /// An overlay over a frozen overlay over a plain tree.
@@ -203,31 +220,32 @@ const MADE: [Row; 7] = [
 ];
 
 /// A record that was changed before.
-fn changed(alloc: Global, row: &Row) -> Option<(Path, Record)> {
+fn changed(rt: &impl Abort, alloc: Global, row: &Row) -> (Path, Record) {
     let times = Times { atime: 7, mtime: 8 };
-    let record = record_with(alloc, row, 3, times, b"zed")?;
-    Some((Path::read(alloc, row.path).ok()?, record))
+    let record = record_with(rt, alloc, row, 3, times, b"zed");
+    (Path::read(alloc, row.path).expect(rt, "a path"), record)
 }
 
-fn changed_records(alloc: Global) -> Option<Vec<(Path, Record)>> {
+fn changed_records(rt: &impl Abort, alloc: Global) -> Vec<(Path, Record)> {
     let mut records = Vec::new(alloc);
     for row in &MADE {
-        records.push(changed(alloc, row)?).ok()?;
+        records.push(changed(rt, alloc, row)).expect(rt, "memory");
     }
-    Some(records)
+    records
 }
 
 /// A tree that is frozen, as a lower tree.
 pub fn frozen<L: TreeRead + Drop>(
+    rt: &impl Abort,
     alloc: Global,
     tree: Overlay<L>,
-) -> Option<Arc<Lower<Overlay<L>>>> {
-    Arc::new(alloc, tree.freeze(alloc).ok()?).ok()
+) -> Arc<Lower<Overlay<L>>> {
+    shared(rt, alloc, tree.freeze(alloc).ok().expect(rt, "memory"))
 }
 
 /// The start tree again: files that were made in another order, and changed since, are frozen.
-pub fn over_frozen(alloc: Global) -> Option<TwoLevels> {
-    let plain = PlainTree::try_from_records(alloc, changed_records(alloc)?).ok()?;
-    let made = Overlay::over(alloc, Arc::new(alloc, plain).ok()?);
-    Some(Overlay::over(alloc, frozen(alloc, made)?))
+pub fn over_frozen(rt: &impl Abort, alloc: Global) -> TwoLevels {
+    let plain = tree_of(rt, alloc, changed_records(rt, alloc));
+    let made = Overlay::over(alloc, shared(rt, alloc, plain));
+    Overlay::over(alloc, frozen(rt, alloc, made))
 }

@@ -2,6 +2,7 @@
 
 use super::runs::{BEFORE, cut_over, run_and_look};
 use super::shown::{has_numbers, same_lines};
+use super::start::shared;
 use cs_apm::Order;
 use cs_apm::laws::rules_are_sentences;
 use cs_micro::break_up;
@@ -10,26 +11,24 @@ use cs_state::{Atlas, StateTree};
 use cs_trace::read_trace;
 use cs_tree_model::TreeRead;
 use std::alloc::Global;
+use std::process::Abort;
 use std::sync::Arc;
 
 /// The state of a set, which is to be allowed.
-fn built(alloc: Global, atlas: &Atlas, places: &[u32]) -> Option<StateTree> {
+fn built(rt: &impl Abort, alloc: Global, atlas: &Atlas, places: &[u32]) -> StateTree {
     let micros = atlas.micros();
-    let order = Order::of(alloc, micros).ok()?;
+    let order = Order::of(alloc, micros).expect(rt, "memory");
     rules_are_sentences(micros);
-    if order.is_allowed(places) {
-        atlas.build(alloc, places).ok()
-    } else {
-        None
-    }
+    assert!(rt; order.is_allowed(places));
+    atlas.build(alloc, places).expect(rt, "memory")
 }
 
 /// The state of a set of the trace that the text tells.
-fn state_of(alloc: Global, text: &str, places: &[u32]) -> Option<Arc<StateTree>> {
-    let trace = read_trace(alloc, text).ok()?;
-    let micros = break_up(alloc, &trace).ok()?;
-    let atlas = Atlas::of(alloc, trace, micros).ok()?;
-    Arc::new(alloc, built(alloc, &atlas, places)?).ok()
+fn state_of(rt: &impl Abort, alloc: Global, text: &str, places: &[u32]) -> Arc<StateTree> {
+    let trace = read_trace(alloc, text).expect(rt, "a trace");
+    let micros = break_up(alloc, &trace).expect(rt, "micro-operations");
+    let atlas = Atlas::of(alloc, trace, micros).expect(rt, "memory");
+    shared(rt, alloc, built(rt, alloc, &atlas, places))
 }
 
 /// Without two files of the start tree, which the operations make; the last file is in no state of the
@@ -47,25 +46,25 @@ const MAKING: &str = r#"{"trace":1,"owner":"cat","group":"staff","mode":"775"}
 "#;
 
 /// The start tree as a state: what the members made stands among what was there.
-pub fn start_state(alloc: Global) -> Option<Arc<StateTree>> {
-    state_of(alloc, MAKING, &[0, 1, 2, 3, 4])
+pub fn start_state(rt: &impl Abort, alloc: Global) -> Arc<StateTree> {
+    state_of(rt, alloc, MAKING, &[0, 1, 2, 3, 4])
 }
 
 /// An overlay over the start tree as a state.
-pub fn over_state(alloc: Global) -> Option<Overlay<StateTree>> {
-    Some(Overlay::over(alloc, start_state(alloc)?))
+pub fn over_state(rt: &impl Abort, alloc: Global) -> Overlay<StateTree> {
+    Overlay::over(alloc, start_state(rt, alloc))
 }
 
 #[test]
 fn members_make_what_the_start_tree_has(rt: HostRuntime) {
-    let state = start_state(rt.alloc()).expect(&rt, "the start tree");
+    let state = start_state(&rt, rt.alloc());
     same_lines(&rt, rt.alloc(), &*state, &BEFORE);
     has_numbers(&rt, &*state, 7, 6);
 }
 
 #[test]
 fn a_run_over_a_state_leaves_it(rt: HostRuntime) {
-    let state = start_state(rt.alloc()).expect(&rt, "the start tree");
+    let state = start_state(&rt, rt.alloc());
     run_and_look(&rt, rt.alloc(), &state);
 }
 
@@ -79,15 +78,15 @@ const LETTERS_AFTER: &str = r#""}
 "#;
 
 /// `/a` is written and waited for at another name.
-fn with_letters(alloc: Global) -> Option<Arc<StateTree>> {
-    let bytes = "61".repeat(alloc, 5_000).ok()?;
+fn with_letters(rt: &impl Abort, alloc: Global) -> Arc<StateTree> {
+    let bytes = "61".repeat(alloc, 5_000).expect(rt, "memory");
     let pieces = [LETTERS_BEFORE, bytes.as_str(), LETTERS_AFTER];
-    let text = pieces.concat(alloc).ok()?;
-    state_of(alloc, text.as_str(), &[0, 1, 2, 3, 4])
+    let text = pieces.concat(alloc).expect(rt, "memory");
+    state_of(rt, alloc, text.as_str(), &[0, 1, 2, 3, 4])
 }
 
 #[test]
 fn a_cut_over_a_states_file_grows_by_zeros(rt: HostRuntime) {
-    let state = with_letters(rt.alloc()).expect(&rt, "the state of all members");
+    let state = with_letters(&rt, rt.alloc());
     cut_over(&rt, rt.alloc(), &state);
 }

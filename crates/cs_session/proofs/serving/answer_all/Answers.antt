@@ -1,6 +1,6 @@
 use Rattle.std.proofs.Common.{◌∙◌, refl}
 use Rattle.cs_session.proofs.Counting.{keeps_reads_same, keeps_reads_then, keeps_faults_same, keeps_faults_then}
-use Rattle.cs_session.proofs.Handling.{handling_none, handling_more, handled_whole, handled_part}
+use Rattle.cs_session.proofs.Conversing.{handling_none, handling_more, handled_whole, handled_part}
 use Rattle.cs_session.proofs.serving.answer_all.Goals as goal
 
 pub loop-fault-init : goal.loop-fault-init

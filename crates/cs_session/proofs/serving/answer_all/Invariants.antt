@@ -2,7 +2,7 @@ use Rattle.std.proofs.Common.{◌≡◌, ◌≤◌, ◌*◌, None, length, vec_c
 use Rattle.cs_names.specs.declared.limits.TheConstants.{MESSAGE_BYTES}
 use Rattle.cs_wire.specs.Held.{left, size_of}
 use Rattle.cs_session.specs.Streams.{KeepsReads, KeepsFaults}
-use Rattle.cs_session.proofs.Handling.{Handling}
+use Rattle.cs_session.proofs.Conversing.{Handling}
 use Rattle.cs_session.proofs.serving.answer_all.Given as goal
 
 abbrev pub invariant-loop-fault : goal.invariant-loop-fault

@@ -4,7 +4,7 @@ use Rattle.cs_session.proofs.serving.answer_one.Goals as goal
 
 pub returns-clause-answered : goal.returns-clause-answered
 returns-clause-answered g c = record {
-  told = _;
+  wire_reply = _;
   replied = c.reply-reply.ensures.replied;
   adds = on_ok _ _ (c.encode.ensures.room (omega (arith, c.requires.room, c.reply-reply.ensures.fits.fits.is_small))) c.encode.ensures.ok;
 }

@@ -17,34 +17,31 @@ loop-init g c = record {
   few = omega arith;
   waits = omega arith;
   made = omega arith;
-  reads = omega arith;
-  failed = omega arith;
-  ends = refl;
-  faults = keeps_faults_same _;
+  reading = record { reads = omega arith; failed = omega arith; ends = refl; faults = keeps_faults_same _ };
 }
 
 pub returns-in-Err-clause-conversed : goal.returns-in-Err-clause-conversed
 returns-in-Err-clause-conversed g c =
     let was = c.loop.invariant in
-    let said = rw c.in-Bytes-eq0.field-0-test at c.in-Bytes-eq0.ensures in
-    let same = listening_same g.P.Port.gives _ _ _ _ _ _ _ _ _ _ _ was.listening (Consumes-keeps _ _ said.bytes.1) said.contents in
+    let read = rw c.in-Bytes-eq0.field-0-test at c.in-Bytes-eq0.ensures in
+    let same = listening_same g.P.Port.gives _ _ _ _ _ _ _ _ _ _ _ was.listening (Consumes-keeps _ _ read.bytes.1) read.contents in
     let room = room_some c.loop.framer c.make_room.new.self c.make_room.ensures.left c.make_room.ensures.size c.make_room.ensures.room was.size was.unfinished in
     let some : 0 < length c.read.new.buf = omega (arith, room, c.read.auto.buf, ap length c.room.ensures.value) in
     let left_over = rw c.make_room.ensures.left at c.in-Err.ensures.1 in
-    rw c.in-Err.ensures.0 (conversed_whole g.P.Port.gives _ _ _ _ _ _ _ _ _ _ same (λ _. (was.unfinished, left_over, refl, said.bytes.2 refl some)))
+    rw c.in-Err.ensures.0 (conversed_whole g.P.Port.gives _ _ _ _ _ _ _ _ _ _ same (λ _. (was.unfinished, left_over, refl, read.bytes.2 refl some)))
 
 pub returns-in-Err-clause-cut : goal.returns-in-Err-clause-cut
 returns-in-Err-clause-cut g c =
     let was = c.loop.invariant in
-    let said = rw c.in-Bytes-eq0.field-0-test at c.in-Bytes-eq0.ensures in
+    let read = rw c.in-Bytes-eq0.field-0-test at c.in-Bytes-eq0.ensures in
     let room = room_some c.loop.framer c.make_room.new.self c.make_room.ensures.left c.make_room.ensures.size c.make_room.ensures.room was.size was.unfinished in
-    λ _. rw said.counted (one_end _ _ (length c.room.result.now) was.ends (omega (arith, room, ap length c.room.ensures.value)))
+    λ _. rw read.counted (one_end _ _ (length c.room.result.now) was.reading.ends (omega (arith, room, ap length c.room.ensures.value)))
 
 pub returns-in_err-answer_all-in-Bytes-clause-conversed : goal.returns-in_err-answer_all-in-Bytes-clause-conversed
 returns-in_err-answer_all-in-Bytes-clause-conversed g c =
     let was = c.loop.invariant in
-    let said = c.in-Bytes.ensures in
-    let on = listening_on g.P.Port.gives _ _ _ _ _ _ _ _ _ _ _ _ was.listening said.bytes.1 said.contents in
+    let read = c.in-Bytes.ensures in
+    let on = listening_on g.P.Port.gives _ _ _ _ _ _ _ _ _ _ _ _ was.listening read.bytes.1 read.contents in
     let full = written-whole c.make_room.new.self.room c.read.new.buf (c.read.auto.buf ∙ ap length c.room.ensures.value) in
     let here : left c.took.new.self ≡ left c.loop.framer ++ take c.in-Bytes.count c.read.new.buf =
     c.took.ensures.left ∙ ap (λ (z : List ℕ). z ++ take c.in-Bytes.count (written c.make_room.new.self.room c.read.new.buf)) c.make_room.ensures.left ∙ ap (λ (z : List ℕ). left c.loop.framer ++ take c.in-Bytes.count z) full in
@@ -55,34 +52,31 @@ returns-in_err-answer_all-in-Bytes-clause-conversed g c =
 pub loop-preserved-in-Interrupted : goal.loop-preserved-in-Interrupted
 loop-preserved-in-Interrupted g c =
     let was = c.loop.invariant in
-    let said = c.in-Interrupted.ensures in
-    let reading = reading_more c.loop.counter (g.S.Stream.counts c.args.stream.now) (g.S.Stream.counts c.loop.stream) Interrupted (length c.room.result.now) (g.S.Stream.counts c.read.new.self) (record { reads = was.reads; failed = was.failed; ends = was.ends; faults = was.faults }) said.counted refl in
+    let read = c.in-Interrupted.ensures in
+    let reading = reading_more c.loop.counter (g.S.Stream.counts c.args.stream.now) (g.S.Stream.counts c.loop.stream) Interrupted (length c.room.result.now) (g.S.Stream.counts c.read.new.self) was.reading read.counted refl in
     record {
-      listening = rw c.make_room.ensures.left (listening_same g.P.Port.gives _ _ _ _ _ _ _ _ _ _ _ was.listening said.bytes said.contents);
+      listening = rw c.make_room.ensures.left (listening_same g.P.Port.gives _ _ _ _ _ _ _ _ _ _ _ was.listening read.bytes read.contents);
       unfinished = rw c.make_room.ensures.left was.unfinished;
       size = rw (size-written c.make_room.new.self c.read.new.buf, c.make_room.ensures.size) was.size;
       room = was.room;
       idle = was.idle;
       few = omega arith;
-      waits = rw said.counted (omega (arith, was.waits, was.few));
+      waits = rw read.counted (omega (arith, was.waits, was.few));
       made = omega (arith, was.made);
-      reads = reading.reads;
-      failed = reading.failed;
-      ends = reading.ends;
-      faults = reading.faults;
+      reading = reading;
     }
 
 pub loop-preserved : goal.loop-preserved
 loop-preserved g c =
     let was = c.loop.invariant in
-    let said = c.in-Bytes.ensures in
+    let read = c.in-Bytes.ensures in
     let answered = c.in_ok-answer_all-in-Bytes.ensures in
-    let on = listening_on g.P.Port.gives _ _ _ _ _ _ _ _ _ _ _ _ was.listening said.bytes.1 said.contents in
+    let on = listening_on g.P.Port.gives _ _ _ _ _ _ _ _ _ _ _ _ was.listening read.bytes.1 read.contents in
     let full = written-whole c.make_room.new.self.room c.read.new.buf (c.read.auto.buf ∙ ap length c.room.ensures.value) in
     let here : left c.took.new.self ≡ left c.loop.framer ++ take c.in-Bytes.count c.read.new.buf =
     c.took.ensures.left ∙ ap (λ (z : List ℕ). z ++ take c.in-Bytes.count (written c.make_room.new.self.room c.read.new.buf)) c.make_room.ensures.left ∙ ap (λ (z : List ℕ). left c.loop.framer ++ take c.in-Bytes.count z) full in
     let handled = rw here at answered.handled in
-    let more = reading_more c.loop.counter (g.S.Stream.counts c.args.stream.now) (g.S.Stream.counts c.loop.stream) (Bytes c.in-Bytes.count) (length c.room.result.now) (g.S.Stream.counts c.read.new.self) (record { reads = was.reads; failed = was.failed; ends = was.ends; faults = was.faults }) said.counted (no_end c.in-Bytes.count (length c.room.result.now) (g.S.Stream.counts c.loop.stream).ends (omega (arith, c.in-Bytes.count-test))) in
+    let more = reading_more c.loop.counter (g.S.Stream.counts c.args.stream.now) (g.S.Stream.counts c.loop.stream) (Bytes c.in-Bytes.count) (length c.room.result.now) (g.S.Stream.counts c.read.new.self) was.reading read.counted (no_end c.in-Bytes.count (length c.room.result.now) (g.S.Stream.counts c.loop.stream).ends (omega (arith, c.in-Bytes.count-test))) in
     let reading = reading_kept _ _ _ _ more answered.reads answered.faults in
     let size = answered.size ∙ ap size_of c.took.ensures.exact ∙ size-taken (record c.make_room.new.self { room = written c.make_room.new.self.room c.read.new.buf }) c.in-Bytes.count ∙ size-written c.make_room.new.self c.read.new.buf ∙ c.make_room.ensures.size in
     record {
@@ -94,8 +88,5 @@ loop-preserved g c =
       few = omega arith;
       waits = omega arith;
       made = omega arith;
-      reads = reading.reads;
-      failed = reading.failed;
-      ends = reading.ends;
-      faults = reading.faults;
+      reading = reading;
     }

@@ -2,7 +2,7 @@ use Rattle.std.proofs.Common.{◌≡◌, ◌≤◌, ◌<◌, ◌*◌, None, vec_
 use Rattle.cs_names.specs.declared.limits.TheConstants.{MESSAGE_BYTES}
 use Rattle.cs_wire.specs.Framing.{IsUnfinished}
 use Rattle.cs_wire.specs.Held.{left, size_of}
-use Rattle.cs_session.specs.Streams.{KeepsFaults, up}
+use Rattle.cs_session.proofs.Counting.{Reading}
 use Rattle.cs_session.proofs.Listening.{Listening}
 use Rattle.cs_session.proofs.serving.converse.Given as goal
 
@@ -19,8 +19,5 @@ invariant-loop g l =
       few : l.waits < 1000;
       waits : l.waits ≤ is.interrupted_reads;
       made : l.waits ≤ l.counter;
-      reads : is.reads ≡ up l.counter was.reads;
-      failed : was.failed_reads ≤ is.failed_reads;
-      ends : is.ends ≡ was.ends;
-      faults : KeepsFaults was is;
+      reading : Reading l.counter was is;
     }

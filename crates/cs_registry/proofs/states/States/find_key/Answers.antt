@@ -1,19 +1,17 @@
-use Rattle.std.proofs.Common.{◌≡◌, ◌∙◌, ◌<◌, None, false, true, is_some, length, sym, ap, arith}
-use Rattle.std.specs.Prelude.{map, slice_index_or}
+use Rattle.std.proofs.Common.{◌≡◌, ◌<◌, ◌∙◌, length, None, Some, ap, arith, sym}
 use Rattle.std.specs.Arc.{arc_value}
 use Rattle.std.specs.Option.{option_copied}
 use Rattle.cs_names.specs.declared.limits.TheConstants.{RUNS}
 use Rattle.cs_registry.specs.Runs.{place_of}
 use Rattle.cs_registry.proofs.Telling.{tells}
-use Rattle.cs_registry.proofs.Finding.{finds_again, finds_from, finds_full, finds_new, finds_none, finds_short, finds_within, is_admitted, published_is, state_is}
+use Rattle.cs_registry.proofs.Finding.{finds_again, finds_full, finds_new, finds_none, finds_short, is_admitted, published_is, state_is}
 use Rattle.cs_registry.proofs.states.States.find_key.Goals as goal
 use Rattle.cs_registry.proofs.states.States.find_key.Goals.{in-Ok, in-Err}
 
 pub returns-in_default-clause-finds : goal.returns-in_default-clause-finds
 returns-in_default-clause-finds g c =
-    let missing : slice_index_or (map is_some c.self.inside.states.items) c.args.key.number false ≡ false =
-    published_is _ c.args.key.number _ (rw (c.deref.ensures.value, c.number.ensures) at c.published.ensures) ∙ ap (λ o. is_some (option_copied o)) c.in_default.is in
-    finds_within c.self.view_is (finds_none g.H.Held.is_fresh _ _ missing)
+    let none = sym (ap option_copied c.in_default.is) ∙ (rw (c.deref.ensures.value, c.number.ensures) at c.published.ensures) in
+    rw (← c.self.view_is) (finds_none g.H.Held.is_fresh _ c.args.key (published_is c.self.inside.states.items c.args.key.number None none))
 
 pub make_run-requires-clause-admitted : goal.make_run-requires-clause-admitted
 make_run-requires-clause-admitted g c =
@@ -22,25 +20,23 @@ make_run-requires-clause-admitted g c =
 
 pub returns-in-Some-get_index_of-clause-finds : goal.returns-in-Some-get_index_of-clause-finds
 returns-in-Some-get_index_of-clause-finds g c =
-    let published : slice_index_or (map is_some c.self.inside.states.items) c.args.key.number false ≡ true =
-    published_is _ c.args.key.number _ (rw (c.deref.ensures.value, c.number.ensures) at c.published.ensures) ∙ ap (λ o. is_some (option_copied o)) c.in-Some.is in
-    finds_from c.self.view_is
-    (finds_again g.H.Held.is_fresh _ c.args.key published c.in-Some-get_index_of.place (sym c.in-Some-get_index_of.ensures.index) c.find_again.result c.find_again.new.runs.entries c.find_again.ensures.ok c.find_again.ensures.err)
+    let there = sym (ap option_copied c.in-Some.is) ∙ (rw (c.deref.ensures.value, c.number.ensures) at c.published.ensures) in
+    let published = published_is c.self.inside.states.items c.args.key.number (Some c.in-Some.lower.now) there in
+    rw (← c.self.view_is) (finds_again g.H.Held.is_fresh _ c.args.key published c.in-Some-get_index_of.place (sym c.in-Some-get_index_of.ensures.index) c.find_again.result c.find_again.new.runs.entries c.find_again.ensures.ok c.find_again.ensures.err)
 
 pub returns-in-None-clause-finds : goal.returns-in-None-clause-finds
 returns-in-None-clause-finds g c =
-    let published : slice_index_or (map is_some c.self.inside.states.items) c.args.key.number false ≡ true =
-    published_is _ c.args.key.number _ (rw (c.deref.ensures.value, c.number.ensures) at c.published.ensures) ∙ ap (λ o. is_some (option_copied o)) c.in-Some.is in
-    finds_within c.self.view_is (finds_full g.H.Held.is_fresh _ c.args.key published (sym c.in-None.ensures.index) (omega (arith, c.len.ensures.len)))
+    let there = sym (ap option_copied c.in-Some.is) ∙ (rw (c.deref.ensures.value, c.number.ensures) at c.published.ensures) in
+    let published = published_is c.self.inside.states.items c.args.key.number (Some c.in-Some.lower.now) there in
+    rw (← c.self.view_is) (finds_full g.H.Held.is_fresh _ c.args.key published (sym c.in-None.ensures.index) (omega (arith, c.len.ensures.len)))
 
 pub returns-after-make_run-clause-finds : goal.returns-after-make_run-clause-finds
 returns-after-make_run-clause-finds g c =
     let there = sym (ap option_copied c.in-Some.is) ∙ (rw (c.deref.ensures.value, c.number.ensures) at c.published.ensures) in
-    let published : slice_index_or (map is_some c.self.inside.states.items) c.args.key.number false ≡ true =
-    published_is _ c.args.key.number _ (rw (c.deref.ensures.value, c.number.ensures) at c.published.ensures) ∙ ap (λ o. is_some (option_copied o)) c.in-Some.is in
+    let published = published_is c.self.inside.states.items c.args.key.number (Some c.in-Some.lower.now) there in
     let none : place_of c.args.key c.self.inside.runs.entries ≡ None = sym c.in-None.ensures.index in
     let few : length c.self.inside.runs.entries < RUNS = omega (arith, c.len.ensures.len) in
-    finds_from c.self.view_is (elim c.match-make_run.branch [
+    rw (← c.self.view_is) (elim c.match-make_run.branch [
       | in-Ok w ↦ rw w.result-is
           (let made = w.in-Ok.ensures.made in
           finds_new g.H.Held.is_fresh _ c.args.key published none few w.in-Ok.place c.make_run.new.runs.entries made.1.0 made.0 made.1.2

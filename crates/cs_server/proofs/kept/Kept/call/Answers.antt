@@ -1,6 +1,5 @@
 use Rattle.std.proofs.Common.{◌<◌, refl, arith, vec_len}
 use Rattle.cs_server.proofs.Calling.{called, stray}
-use Rattle.cs_server.proofs.Fitting.{told_fits}
 use Rattle.cs_server.proofs.kept.Kept.call.Goals as goal
 
 pub returns-then-given-run-clause-called : goal.returns-then-given-run-clause-called
@@ -13,7 +12,4 @@ pub returns-clause-called : goal.returns-clause-called
 returns-clause-called g c =
     let low : c.args.pass < vec_len c.self.inside.passes = c.in-Some.ensures.variant.0 refl in
     let ok = c.self.inside.passes.ok in
-    rw (← c.self.view_is) (called g.S.Served.serves c.self.inside.runs.items c.self.inside.passes.items c.args.run c.args.pass c.in-Some.given.now (omega arith) c.in-Some.ensures.value c.self.invariant c.index-found.result.now c.run.result.now c.index-found.ensures c.run.ensures c.if-given-run.false c.args.now c.args.call c.call.result c.call.new.pass c.call.ensures)
-
-pub returns-clause-fits : goal.returns-clause-fits
-returns-clause-fits g c = told_fits g.S.Served.serves c.run.result.now c.in-Some.given.now.pass c.call.new.pass c.args.now c.args.call c.call.result c.call.ensures
+    rw (← c.self.view_is) (called g.S.Served.serves c.self.inside.runs.items c.self.inside.passes.items c.args.run c.args.pass c.in-Some.given.now (omega arith) c.in-Some.ensures.value c.self.invariant c.index-found.result.now c.run.result.now c.index-found.ensures c.run.ensures c.if-given-run.false c.args.now c.args.call c.call.result c.call.new.pass c.call.ensures.told)

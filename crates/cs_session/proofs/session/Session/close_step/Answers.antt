@@ -1,7 +1,7 @@
-use Rattle.std.proofs.Common.{rules}
-use Rattle.cs_session.specs.Closes.{close_decision}
+use Rattle.std.proofs.Common.{refl, rules}
+use Rattle.cs_session.specs.Removes.{close_decision}
 use Rattle.cs_session.specs.Steps.{CloseStep}
-use Rattle.cs_session.proofs.Marking.{answers, both, closed}
+use Rattle.cs_session.proofs.Marking.{answers, both, leads}
 use Rattle.cs_session.proofs.session.Session.close_step.Goals as goal
 
 pub returns-in-Err-clause-takes : goal.returns-in-Err-clause-takes
@@ -11,5 +11,5 @@ returns-in-Err-clause-takes g c =
 
 pub returns-clause-takes : goal.returns-clause-takes
 returns-clause-takes g c =
-    closed g.P.Port.gives c.args.now c.args.self.now _ c.self.view_is c.args.port.now
-    (λ refused. close_decision c.args.now c.is_some-awaits.result c.self.inside.fids.fids c.args.fid) c.args.fid (λ refused. search rules) _ c.in-Ok.ensures.decided c.put-answer.result _ c.put-answer.ensures.given _ _ (both _ _ _ _ c.close_reply.ensures.value c.in-Ok.ensures.taken) _ (search rules)
+    leads g.P.Port.gives c.args.now (CloseStep c.args.fid) c.args.self.now _ c.self.view_is c.args.port.now
+    (λ refused. close_decision c.args.now c.is_some-awaits.result c.self.inside.fids.fids c.args.fid) (λ refused. search rules) _ c.in-Ok.ensures.decided c.put-answer.result _ c.put-answer.ensures.given _ _ _ (both _ _ _ _ c.close_reply.ensures.value c.in-Ok.ensures.taken) refl _ (search rules)

@@ -1,19 +1,16 @@
 use Rattle.std.proofs.Common.{rules}
 use Rattle.cs_session.specs.declared.message.CallMessage.TheVariants as call
-use Rattle.cs_session.specs.Opens.{create_decision}
-use Rattle.cs_session.specs.Steps.{CallStep}
-use Rattle.cs_session.proofs.Marking.{answers, calls}
+use Rattle.cs_session.proofs.Marking.{calls, refuses}
 use Rattle.cs_session.proofs.session.Session.create_step.Goals as goal
 
 pub returns-in-Err-clause-takes : goal.returns-in-Err-clause-takes
 returns-in-Err-clause-takes g c =
-    answers g.P.Port.gives c.args.now (CallStep (call.Create c.args.message)) c.args.self.now _ c.self.view_is c.args.port.now
-    (create_decision c.args.now c.is_some-awaits.result c.self.inside.msize c.self.inside.fids.fids c.args.message) (λ refused. search rules) c.in-Err.reply c.in-Err.ensures.decided _ (search rules)
+    refuses g.P.Port.gives c.args.now (call.Create c.args.message) c.args.self.now _ c.self.view_is c.args.port.now _ c.is_some-awaits.ensures c.in-Err.reply c.in-Err.ensures.decided _ (search rules)
 
 pub returns-in-Ok-clause-takes : goal.returns-in-Ok-clause-takes
 returns-in-Ok-clause-takes g c =
-    calls g.P.Port.gives c.args.now c.args.self.now _ c.self.view_is c.args.port.now
-    (create_decision c.args.now c.is_some-awaits.result c.self.inside.msize c.self.inside.fids.fids c.args.message) (call.Create c.args.message) (λ refused. search rules) _ c.in-Ok.ensures.decided c.put-answer.result _ c.put-answer.ensures.given _ _ c.settle_create.ensures.value _ (search rules)
+    calls g.P.Port.gives c.args.now (call.Create c.args.message) c.args.self.now _ c.self.view_is c.args.port.now _ c.is_some-awaits.ensures
+    _ c.in-Ok.ensures.decided c.put-answer.result _ c.put-answer.ensures.given _ _ c.settle_create.ensures.value _ (search rules)
 
 pub returns-in-Err-clause-fits : goal.returns-in-Err-clause-fits
 returns-in-Err-clause-fits g c = c.in-Err.ensures.plain c.args.self.now.msize

@@ -1,9 +1,19 @@
-use Rattle.std.proofs.Common.{◌∙◌, [], refl, rules, sym}
-use Rattle.cs_session.specs.Marks.{Steps}
-use Rattle.cs_session.specs.Receipts.{Alone, Asked, Barred}
+use Rattle.std.proofs.Common.{◌∙◌, ℕ, List, [], refl, rules, sym}
+use Rattle.cs_session.specs.declared.reply.Reply.{Reply}
+use Rattle.cs_session.specs.declared.reply.Reply.TheVariants as r
+use Rattle.cs_session.specs.Marks.{NoDecode, Steps}
+use Rattle.cs_session.specs.Questions.{Question, PortAnswer}
+use Rattle.cs_session.specs.Receipts.{Alone, Asked, Barred, IsLetIn, IsReceived, IsUnread, Malformed, Short}
+use Rattle.cs_session.specs.Sessions.{Sess}
 use Rattle.cs_session.proofs.Fitting.{asks_fit}
-use Rattle.cs_session.proofs.Unread.{unread}
 use Rattle.cs_session.proofs.session.Session.receive.Goals as goal
+
+-- bytes that are not read
+module _ {P : Type 0} (gives : P → Question → PortAnswer → P → Type 0) (now : ℕ) (bytes : List ℕ) (s : Sess) (p : P) (let_in : IsLetIn s.msize bytes) where
+  unread : (reply : Reply) → IsUnread bytes reply → IsReceived gives now bytes s p reply s p
+  unread r.Memory u = record { mark = NoDecode; received = Short let_in u (refl, refl, refl) }
+  unread (r.Error rule) u = record { mark = Steps []; received = Malformed let_in u.0 (rw u.1 (refl, refl, refl)) }
+  unread reply u = absurd u
 
 pub returns-in-Some-clause-received : goal.returns-in-Some-clause-received
 returns-in-Some-clause-received g c = record { mark = Steps []; received = Barred c.in-Some.rule (search rules) (refl, refl, refl) }

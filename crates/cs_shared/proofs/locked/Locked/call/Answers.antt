@@ -1,4 +1,4 @@
-use Rattle.std.proofs.Common.{ℕ, refl, subst, inl}
+use Rattle.std.proofs.Common.{refl, inl}
 use Rattle.cs_shared.proofs.Telling.{served_after, told}
 use Rattle.cs_shared.proofs.locked.Locked.call.Goals as goal
 
@@ -7,6 +7,5 @@ invariant_of-self g c = served_after g.S.Served.serves c.self.inside.number c.se
 
 pub returns-clause-told : goal.returns-clause-told
 returns-clause-told g c =
-    let P : ℕ → Type 0 = λ n. g.S.Served.serves n c.self.inside.run.fresh in
     inl (told g.S.Served.serves c.args.number c.self.inside.run c.step.new.self c.args.pass.now c.step.new.pass c.args.now c.args.call c.step.result
-    (subst P c.if-self-number.false c.self.invariant) c.entries-legal.ensures.legal (c.if-not-fits.ensures.0 refl) c.step.ensures.stepped c.step.ensures.legal c.step.ensures.fits)
+    (rw (← c.if-self-number.false) c.self.invariant) c.step.ensures.stepped c.entries-legal.ensures.legal (c.if-not-fits.ensures.0 refl) c.step.ensures.legal c.step.ensures.fits)

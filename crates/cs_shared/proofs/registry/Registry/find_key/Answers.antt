@@ -1,20 +1,16 @@
-use Rattle.std.proofs.Common.{◌∙◌, ℕ, Some, refl, sym, ap, subst}
+use Rattle.std.proofs.Common.{◌∙◌, Some, refl, sym, ap}
 use Rattle.std.specs.Prelude.{Ok}
-use Rattle.cs_registry.specs.Registries.{Registry}
-use Rattle.cs_shared.specs.Finding.{FindsShared}
 use Rattle.cs_shared.proofs.Numbers.{found_number}
 use Rattle.cs_shared.proofs.Scenes.{found_of_server}
 use Rattle.cs_shared.proofs.registry.Registry.find_key.Goals as goal
 use Rattle.cs_shared.proofs.registry.Registry.find_key.Goals.{in-Ok, in-Err}
 
 pub invariant_of-self-2 : goal.invariant_of-self-2
-invariant_of-self-2 g c = found_of_server g.S.Served.is_scene c.self.inside.states c.find_key.new.self c.self.invariant _ c.in_ok-place.place c.in_ok-place.ensures.finds c.in_ok-place.ensures.found
+invariant_of-self-2 g c = found_of_server g.S.Served.is_scene c.self.inside.states c.find_key.new.self c.self.invariant c.args.key c.in_ok-place.place c.in_ok-place.ensures.finds
 
 pub returns-clause-finds : goal.returns-clause-finds
 returns-clause-finds g c =
-    let P : Registry ℕ → Type 0 = λ old. FindsShared old c.args.key c.match-again.result c.find_key.new.self in
-    subst P c.self.view_is
-    (record {
+    rw (← c.self.view_is) (record {
       place = Ok c.in_ok-place.place;
       found = c.in_ok-place.ensures.finds;
       handle = elim c.match-again.branch [
@@ -25,7 +21,8 @@ returns-clause-finds g c =
 
 pub returns-clause-number : goal.returns-clause-number
 returns-clause-number g c =
+    let left = found_of_server g.S.Served.is_scene c.self.inside.states c.find_key.new.self c.self.invariant c.args.key c.in_ok-place.place c.in_ok-place.ensures.finds in
     elim c.match-again.branch [
-      | in-Ok w ↦ rw w.result-is (w.in-Ok.ensures ∙ found_number c.self.inside.states c.find_key.new.self c.args.key c.in_ok-place.place c.self.invariant.numbered c.in_ok-place.ensures.found c.at.result.now c.at.ensures)
+      | in-Ok w ↦ rw w.result-is (w.in-Ok.ensures ∙ found_number c.find_key.new.self.runs c.in_ok-place.place left.numbered c.args.key c.at.result.now c.in_ok-place.ensures.found.here c.at.ensures)
       | in-Err w ↦ rw w.result-is tt
     ]

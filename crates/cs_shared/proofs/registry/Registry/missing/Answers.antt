@@ -1,9 +1,7 @@
-use Rattle.std.proofs.Common.{◌≤◌, ℕ, arith, length, not, subst}
+use Rattle.std.proofs.Common.{arith, not}
 use Rattle.std.proofs.lemmas.List.Sums.{count_by-le-length}
-use Rattle.cs_registry.specs.Registries.{Registry}
 use Rattle.cs_shared.proofs.registry.Registry.missing.Goals as goal
 
 pub returns-clause-few : goal.returns-clause-few
 returns-clause-few g c =
-    let P : Registry ℕ → Type 0 = λ r. c.missing.result ≤ length r.scene.plan in
-    subst P c.self.view_is (omega (arith, c.missing.ensures.count, c.missing.ensures.each, count_by-le-length not c.self.inside.states.published))
+    rw (← c.self.view_is) (omega (arith, c.missing.ensures.count, c.missing.ensures.each, count_by-le-length not c.self.inside.states.published))

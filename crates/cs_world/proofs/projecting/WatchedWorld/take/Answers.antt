@@ -5,7 +5,7 @@ use Rattle.std.proofs.lemmas.List.{get_or_default}
 use Rattle.cs_names.specs.declared.limits.TheConstants.{CONNECTIONS}
 use Rattle.cs_session.specs.Sessions.{blank}
 use Rattle.cs_world.specs.Noting.{world_in}
-use Rattle.cs_world.specs.Turns.{step_in}
+use Rattle.cs_world.specs.ConnectionSteps.{session_step}
 use Rattle.cs_world.proofs.Noted.{notes}
 use Rattle.cs_world.proofs.projecting.WatchedWorld.take.Goals as goal
 
@@ -14,5 +14,5 @@ returns-clause-notes c =
     let below : c.args.conn < CONNECTIONS = search rules in
     let inside : nat_lt c.args.conn CONNECTIONS ≡ true = grind (arith, nat_tests) in
     let its : slice_index_or c.args.self.now.sessions.items c.args.conn (blank None) ≡ c.in-Some.session.now = get_or_default c.args.self.now.sessions.items c.args.conn (blank None) c.in-Some.session.now (search rules) ∙ sym c.in-Some.ensures.value in
-    let n = notes (world_in c.args.self.now) c.args.self.now.watched refl c.args.conn c.args.now (step_in c.args.turn) inside c.take.result c.take.new.session c.take.new.runs c.in-Some.session.now its c.take.ensures in
-    (n.mark, record { steps = n.steps; key = n.key; noted = n.noted })
+    let n = notes (world_in c.args.self.now) c.args.self.now.watched refl c.args.conn c.args.now (session_step c.args.step) inside c.take.result c.take.new.session c.take.new.runs c.in-Some.session.now its c.take.ensures in
+    record { mark = n.mark; steps = n.steps; key = n.key; noted = n.noted }

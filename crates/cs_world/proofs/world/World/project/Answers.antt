@@ -24,14 +24,14 @@ loop-step-preserved c =
     let items : drop i c.args.steps.now ≡ c.step-item.result ∷ drop (i + 1) c.args.steps.now = drop-cons c.args.steps.now i c.step-item.result c.loop-step-test.true ∙ (λ k. sym c.step-item.is k ∷ drop (sym (add-one i) k) c.args.steps.now) in
     record {
       all = c.step.ensures.all;
-      key = notes.1.key ∙ c.loop-step.invariant.key;
-      noted = more_noted c.loop-step.world c.step.new.self c.step-item.result c.step.result notes.0 (rw c.in_ok-copy.ensures at notes.1) told _ c.loop-step.invariant.key (drop i c.args.steps.now) (drop (i + 1) c.args.steps.now) items _ c.loop-step.invariant.noted;
+      key = notes.key ∙ c.loop-step.invariant.key;
+      noted = more_noted c.loop-step.world c.step.new.self c.step-item.result c.step.result (rw c.in_ok-copy.ensures at notes) told _ c.loop-step.invariant.key (drop i c.args.steps.now) (drop (i + 1) c.args.steps.now) items _ c.loop-step.invariant.noted;
     }
 
 pub returns : goal.returns
 returns c =
     let w = c.loop-step.world in
     let empty : drop c.loop-step.step-index c.args.steps.now ≡ [] = nil_from_length (drop c.loop-step.step-index c.args.steps.now) (omega (arith, length-drop c.loop-step.step-index c.args.steps.now, c.loop-step-test.false)) in
-    sym (append-nil (w.watched.heard.items))
-    ∙ ap (λ (items : List Step). w.watched.heard.items ++ calls_of (projection_of (world_in w) (all_ample items) (record { number = c.args.number; name = c.args.name.now }))) (sym empty)
+    sym (append-nil (w.watched.calls.items))
+    ∙ ap (λ (items : List Step). w.watched.calls.items ++ calls_of (projection_of (world_in w) (all_ample items) (record { number = c.args.number; name = c.args.name.now }))) (sym empty)
     ∙ c.loop-step.invariant.noted c.if-world.false

@@ -1,0 +1,125 @@
+//! The journal of a run: its entries, and the bytes that their calls wrote.
+ghost use Rattle.std.specs.Prelude.{◌≡◌, ◌<◌, ◌≤◌, ◌+◌, [], ◌∷◌, ◌++◌, IfOk, OnErr, OnOk, Some, length, slice_get};
+ghost use Rattle.cs_names.specs.declared.limits.TheConstants.{RUN_ATTACHES};
+ghost use Rattle.cs_journal.specs.Kept.{LiesIn, call_of, entry_in};
+ghost use Rattle.cs_journal.specs.Summaries.{without_bytes};
+ghost use Rattle.cs_permit.specs.declared.call.Call.TheVariants.{Write};
+
+use crate::entry::{Entry, EntryRef};
+use crate::kept::{Kept, WriteHead};
+use crate::room::widen;
+use crate::user_text::UserText;
+use crate::written::Written;
+use cs_permit::WriteCall;
+use std::alloc::{AllocError, Global};
+use std::marker::Model;
+use std::sync::Arc;
+
+/// The entries of a run, in order. Contracts see them, each with its whole call, for how many there
+/// is room, and the bytes of the blocks in which those of writes lie.
+#[derive(Drop)]
+pub(crate) struct Journal {
+    entries: Vec<Entry>,
+    written: Written,
+}
+
+impl Model for Journal {
+    ghost use Rattle.std.specs.List.{All};
+    ghost use Rattle.std.specs.Prelude.{map, vec_capacity};
+    ghost use Rattle.cs_journal.specs.Journals.{JournalOf};
+
+    ghost Value = { JournalOf };
+
+    ghost use Rattle.cs_journal.specs.Kept.{IsEntryIn, entry_in};
+
+    ghost view = { λ journal. record {
+      items = map (entry_in journal.written) journal.entries.items;
+      capacity = vec_capacity journal.entries;
+      blocks = journal.written;
+    } };
+
+    ghost invariant = { λ journal. All (IsEntryIn journal.written) journal.entries.items };
+}
+
+impl Journal {
+    /// No entry.
+    pub(crate) fn new(alloc: Global) -> Journal
+        ensures { result.items ≡ [] }
+    {
+        Journal {
+            entries: Vec::new(alloc),
+            written: Written::new(alloc),
+        }
+    }
+
+    /// How many entries there are.
+    pub(crate) fn len(&self) -> usize
+        ensures { result ≡ length self.now.items }
+    {
+        self.entries.len()
+    }
+
+    /// Room for so many more, and for a whole journal where it has grown long.
+    #[inline]
+    pub(crate) fn widen(&mut self, more: usize) -> Result<(), AllocError>
+        ensures items { self.new.items ≡ self.old.items }
+        ensures ok { OnOk result (length self.new.items + more ≤ self.new.capacity) }
+        ensures capacity { self.old.capacity ≤ self.new.capacity }
+        ensures full { OnErr result (self.old.capacity < length self.old.items + more) }
+    {
+        widen(&mut self.entries, more)
+    }
+
+    /// Keeps the bytes of a write: what its entry and its receipt keep of it. The entries stay.
+    pub(crate) fn keep_write(
+        &mut self,
+        alloc: Global,
+        call: &WriteCall,
+    ) -> Result<(Kept, Kept), AllocError>
+        ensures items { self.new.items ≡ self.old.items }
+        ensures capacity { self.new.capacity ≡ self.old.capacity }
+        ensures lies { IfOk result (λ made. LiesIn self.new.blocks made.0) }
+        ensures entry { IfOk result (λ made. call_of self.new.blocks made.0 ≡ Write call.now) }
+        ensures receipt { IfOk result (λ made. without_bytes (call_of [] made.1)
+            ≡ without_bytes (Write call.now)) }
+    {
+        let head = WriteHead {
+            number: call.number,
+            offset: call.offset,
+            user: UserText::of(&call.user),
+        };
+        let head = Arc::new(alloc, head)?;
+        let shared = head.clone()?;
+        let piece = self.written.keep(alloc, call.bytes.as_slice())?;
+        let entry = Kept::Write { piece, head };
+        let receipt = Kept::Write {
+            piece,
+            head: shared,
+        };
+        Ok((entry, receipt))
+    }
+
+    /// Adds an entry. It takes no memory.
+    #[inline]
+    pub(crate) fn push(&mut self, entry: Entry)
+        requires room { length self.old.items < self.old.capacity }
+        requires pass { entry.pass < RUN_ATTACHES }
+        requires lies { LiesIn self.old.blocks entry.kept }
+        ensures items { self.new.items ≡ self.old.items ++ entry_in self.old.blocks entry ∷ [] }
+        ensures len { length self.new.items ≡ length self.old.items + 1 }
+        ensures capacity { self.new.capacity ≡ self.old.capacity }
+    {
+        self.entries.push_reserved(entry);
+    }
+
+    /// The entry at the place.
+    pub(crate) fn entry(&self, place: usize) -> EntryRef<'_>
+        requires { place < length self.now.items }
+        ensures { slice_get self.now.items place ≡ Some result }
+    {
+        EntryRef {
+            entry: &self.entries[place],
+            written: &self.written,
+        }
+    }
+}

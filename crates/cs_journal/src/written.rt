@@ -1,0 +1,124 @@
+//! The bytes that the calls of a journal write.
+ghost use Rattle.std.specs.Prelude.{◌≡◌, ◌<◌, [], IfOk, IfSome, IsTrue, OnOk, length};
+ghost use Rattle.cs_journal.specs.Written.{IsWithin, Keeps, bytes_at, bytes_in};
+
+use std::alloc::{AllocError, Global};
+use std::marker::Model;
+
+/// How many bytes a block has room for, if no write has more: each of the first few, and each
+/// later one.
+const SMALL_BLOCK: usize = 65_536;
+
+const LARGE_BLOCK: usize = 1_048_576;
+/// How many blocks are small, so that a run of few writes takes little memory.
+const SMALL_BLOCKS: usize = 4;
+
+/// Where the bytes of a write lie: all in one block.
+#[derive(Clone, Copy)]
+pub(crate) struct Piece {
+    pub(crate) block: u32,
+    pub(crate) start: u32,
+    pub(crate) len: u32,
+}
+
+/// The bytes of writes, one behind the other. Contracts see the bytes of each block.
+#[derive(Drop)]
+pub(crate) struct Written {
+    // none grows past its capacity, so that its bytes are never copied
+    blocks: Vec<Vec<u8>>,
+}
+
+impl Model for Written {
+    ghost use Rattle.std.specs.Prelude.{List, ℕ};
+    ghost use Rattle.cs_journal.specs.Written.{bytes_in};
+
+    ghost Value = { List (List ℕ) };
+
+    ghost view = { λ written. bytes_in written.blocks.items };
+}
+
+/// Whether the last block has room for so many bytes more.
+fn has_room(blocks: &[Vec<u8>], more: usize) -> bool
+    ensures { IsTrue result → 0 < length blocks.now }
+{
+    match blocks.last() {
+        Some(block) => more <= block.capacity() - block.len(),
+        None => false,
+    }
+}
+
+/// Begins a block, where the last has no room for so many bytes more.
+fn make_room(alloc: Global, blocks: &mut Vec<Vec<u8>>, more: usize) -> Result<(), AllocError>
+    ensures kept { Keeps (bytes_in blocks.old.items) (bytes_in blocks.new.items) }
+    ensures some { OnOk result (0 < length blocks.new.items) }
+{
+    if has_room(blocks.as_slice(), more) {
+        return Ok(());
+    }
+    let is_early = blocks.len() < SMALL_BLOCKS;
+    let room = if is_early { SMALL_BLOCK } else { LARGE_BLOCK };
+    blocks.reserve(1)?;
+    let block = Vec::with_capacity(alloc, room.max(more))?;
+    blocks.push_reserved(block);
+    Ok(())
+}
+
+/// The piece of so many bytes in that block behind so many others, if each number is one of 32
+/// bits: those of a message and of a journal are.
+fn piece_of(block: usize, start: usize, len: usize) -> Option<Piece>
+    ensures block { IfSome result (λ piece. piece.block ≡ block) }
+    ensures start { IfSome result (λ piece. piece.start ≡ start) }
+    ensures len { IfSome result (λ piece. piece.len ≡ len) }
+{
+    let block = u32::try_from(block).ok()?;
+    let start = u32::try_from(start).ok()?;
+    let len = u32::try_from(len).ok()?;
+    Some(Piece { block, start, len })
+}
+
+/// Puts the bytes behind those of the last block.
+fn put_last(blocks: &mut Vec<Vec<u8>>, bytes: &[u8]) -> Result<Piece, AllocError>
+    requires some { 0 < length blocks.old.items }
+    ensures kept { Keeps (bytes_in blocks.old.items) (bytes_in blocks.new.items) }
+    ensures within { IfOk result (λ piece. IsWithin (bytes_in blocks.new.items) piece) }
+    ensures bytes { IfOk result (λ piece. bytes_at (bytes_in blocks.new.items) piece ≡ bytes.now) }
+{
+    let last = blocks.len() - 1;
+    let start = blocks[last].len();
+    let Some(piece) = piece_of(last, start, bytes.len()) else {
+        return Err(AllocError);
+    };
+    blocks[last].extend_from_slice(bytes)?;
+    Ok(piece)
+}
+
+impl Written {
+    /// No bytes.
+    pub(crate) fn new(alloc: Global) -> Written
+        ensures { result ≡ [] }
+    {
+        Written {
+            blocks: Vec::new(alloc),
+        }
+    }
+
+    /// Keeps the bytes of a write.
+    pub(crate) fn keep(&mut self, alloc: Global, bytes: &[u8]) -> Result<Piece, AllocError>
+        ensures kept { Keeps self.old self.new }
+        ensures within { IfOk result (λ piece. IsWithin self.new piece) }
+        ensures bytes { IfOk result (λ piece. bytes_at self.new piece ≡ bytes.now) }
+    {
+        make_room(alloc, &mut self.blocks, bytes.len())?;
+        put_last(&mut self.blocks, bytes)
+    }
+
+    /// The bytes of the piece.
+    pub(crate) fn piece(&self, piece: Piece) -> &[u8]
+        requires { IsWithin self.now piece }
+        ensures { result.now ≡ bytes_at self.now piece }
+    {
+        let block = self.blocks[piece.block as usize].as_slice();
+        let start = piece.start as usize;
+        &block[start..start + piece.len as usize]
+    }
+}

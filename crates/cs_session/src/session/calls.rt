@@ -1,0 +1,210 @@
+//! The steps of a session that do one call.
+ghost use Rattle.std.specs.Prelude.{◌≡◌};
+ghost use Rattle.cs_session.specs.declared.message.CallMessage.TheVariants as call;
+ghost use Rattle.cs_session.specs.Sizes.{CallFits, ReplyFits};
+ghost use Rattle.cs_session.specs.Steps.{CallStep, IsTaken};
+
+use super::Session;
+use crate::message::{
+    CallMessage, CreateMessage, OpenMessage, ReadMessage, WalkMessage, WriteMessage, WstatMessage,
+};
+use crate::opening::{decide_create, decide_open, settle_create, settle_open};
+use crate::port::Port;
+use crate::reading::{decide_read, settle_read};
+use crate::removing::{decide_remove, remove_reply};
+use crate::reply::Reply;
+use crate::stating::{decide_stat, decide_wstat, stat_reply, wstat_reply};
+use crate::walking::{decide_walk, settle_walk};
+use crate::writing::{decide_write, write_reply};
+use std::alloc::Global;
+
+impl Session {
+    fn walk_step<P: Port>(
+        &mut self,
+        alloc: Global,
+        port: &mut P,
+        now: u32,
+        message: WalkMessage,
+    ) -> Reply
+        ensures takes { IsTaken P.gives now self.old port.old (CallStep (call.Walk message)) result
+            self.new port.new }
+        ensures fits { CallFits (call.Walk message) → ReplyFits self.old.msize result }
+        ensures pending { self.new.pending ≡ self.old.pending }
+    {
+        let awaits = self.pending.is_some();
+        let (fid, newfid) = (message.fid, message.newfid);
+        match decide_walk(awaits, self.msize, &mut self.fids, now, message) {
+            Err(reply) => reply,
+            Ok((ask, from)) => {
+                let answer = ask.put(alloc, port);
+                settle_walk(&mut self.fids, fid, newfid, from, answer)
+            }
+        }
+    }
+
+    fn open_step<P: Port>(
+        &mut self,
+        alloc: Global,
+        port: &mut P,
+        now: u32,
+        message: OpenMessage,
+    ) -> Reply
+        ensures takes { IsTaken P.gives now self.old port.old (CallStep (call.Open message)) result
+            self.new port.new }
+        ensures fits { ReplyFits self.old.msize result }
+        ensures pending { self.new.pending ≡ self.old.pending }
+    {
+        let awaits = self.pending.is_some();
+        match decide_open(awaits, self.msize, &self.fids, now, message) {
+            Err(reply) => reply,
+            Ok(ask) => {
+                let answer = ask.put(alloc, port);
+                settle_open(&mut self.fids, message.fid, message.mode, answer)
+            }
+        }
+    }
+
+    fn create_step<P: Port>(
+        &mut self,
+        alloc: Global,
+        port: &mut P,
+        now: u32,
+        message: CreateMessage,
+    ) -> Reply
+        ensures takes { IsTaken P.gives now self.old port.old (CallStep (call.Create message))
+            result self.new port.new }
+        ensures fits { ReplyFits self.old.msize result }
+        ensures pending { self.new.pending ≡ self.old.pending }
+    {
+        let awaits = self.pending.is_some();
+        let (fid, mode) = (message.fid, message.mode);
+        match decide_create(awaits, self.msize, &self.fids, now, message) {
+            Err(reply) => reply,
+            Ok(ask) => {
+                let answer = ask.put(alloc, port);
+                settle_create(&mut self.fids, fid, mode, answer)
+            }
+        }
+    }
+
+    fn read_step<P: Port>(
+        &mut self,
+        alloc: Global,
+        port: &mut P,
+        now: u32,
+        message: ReadMessage,
+    ) -> Reply
+        ensures takes { IsTaken P.gives now self.old port.old (CallStep (call.Read message)) result
+            self.new port.new }
+        ensures fits { ReplyFits self.old.msize result }
+        ensures pending { self.new.pending ≡ self.old.pending }
+    {
+        let awaits = self.pending.is_some();
+        match decide_read(awaits, self.msize, &self.fids, now, message) {
+            Err(reply) => reply,
+            Ok(ask) => {
+                let answer = ask.put(alloc, port);
+                settle_read(&mut self.fids, message.fid, answer)
+            }
+        }
+    }
+
+    fn write_step<P: Port>(
+        &mut self,
+        alloc: Global,
+        port: &mut P,
+        now: u32,
+        message: WriteMessage,
+    ) -> Reply
+        ensures takes { IsTaken P.gives now self.old port.old (CallStep (call.Write message)) result
+            self.new port.new }
+        ensures fits { ReplyFits self.old.msize result }
+        ensures pending { self.new.pending ≡ self.old.pending }
+    {
+        let awaits = self.pending.is_some();
+        let ask = match decide_write(awaits, self.msize, &self.fids, now, message) {
+            Ok(ask) => ask,
+            Err(reply) => return reply,
+        };
+        let answer = ask.put(alloc, port);
+        write_reply(answer)
+    }
+
+    fn remove_step<P: Port>(&mut self, alloc: Global, port: &mut P, now: u32, fid: u32) -> Reply
+        ensures takes { IsTaken P.gives now self.old port.old (CallStep (call.Remove fid)) result
+            self.new port.new }
+        ensures fits { ReplyFits self.old.msize result }
+        ensures pending { self.new.pending ≡ self.old.pending }
+    {
+        let awaits = self.pending.is_some();
+        let ask = match decide_remove(awaits, self.msize, &mut self.fids, now, fid) {
+            Ok(ask) => ask,
+            Err(reply) => return reply,
+        };
+        let answer = ask.put(alloc, port);
+        remove_reply(answer)
+    }
+
+    fn stat_step<P: Port>(&mut self, alloc: Global, port: &mut P, now: u32, fid: u32) -> Reply
+        ensures takes { IsTaken P.gives now self.old port.old (CallStep (call.Stat fid)) result
+            self.new port.new }
+        ensures fits { ReplyFits self.old.msize result }
+        ensures pending { self.new.pending ≡ self.old.pending }
+    {
+        let awaits = self.pending.is_some();
+        let ask = match decide_stat(awaits, self.msize, &self.fids, now, fid) {
+            Ok(ask) => ask,
+            Err(reply) => return reply,
+        };
+        let answer = ask.put(alloc, port);
+        stat_reply(answer)
+    }
+
+    fn wstat_step<P: Port>(
+        &mut self,
+        alloc: Global,
+        port: &mut P,
+        now: u32,
+        message: WstatMessage,
+    ) -> Reply
+        ensures takes { IsTaken P.gives now self.old port.old (CallStep (call.Wstat message)) result
+            self.new port.new }
+        ensures fits { ReplyFits self.old.msize result }
+        ensures pending { self.new.pending ≡ self.old.pending }
+    {
+        let awaits = self.pending.is_some();
+        let ask = match decide_wstat(awaits, self.msize, &self.fids, now, message) {
+            Ok(ask) => ask,
+            Err(reply) => return reply,
+        };
+        let answer = ask.put(alloc, port);
+        wstat_reply(answer)
+    }
+
+    /// Does a call on a fid's run: the connection's rules, the growth of its table, and then what
+    /// the run answers. A refusal leaves the fids, but for a remove that was asked, whose fid is
+    /// free (remove(5)).
+    pub fn call_step<P: Port>(
+        &mut self,
+        alloc: Global,
+        port: &mut P,
+        now: u32,
+        message: CallMessage,
+    ) -> Reply
+        ensures takes { IsTaken P.gives now self.old port.old (CallStep message) result self.new
+            port.new }
+        ensures fits { CallFits message → ReplyFits self.old.msize result }
+        ensures pending { self.new.pending ≡ self.old.pending }
+    {
+        match message {
+            CallMessage::Walk(message) => self.walk_step(alloc, port, now, message),
+            CallMessage::Open(message) => self.open_step(alloc, port, now, message),
+            CallMessage::Create(message) => self.create_step(alloc, port, now, message),
+            CallMessage::Read(message) => self.read_step(alloc, port, now, message),
+            CallMessage::Write(message) => self.write_step(alloc, port, now, message),
+            CallMessage::Remove(fid) => self.remove_step(alloc, port, now, fid),
+            CallMessage::Stat(fid) => self.stat_step(alloc, port, now, fid),
+            CallMessage::Wstat(message) => self.wstat_step(alloc, port, now, message),
+        }
+    }
+}
