@@ -1,8 +1,8 @@
 -- Receipts in the order of their places, and what is found among them.
-use Rattle.std.proofs.Common.{◌≡◌, ◌≢◌, ◌∙◌, ◌↔◌, ◌⊎◌, ⊎_elim, inl, inr, ℕ, suc, ◌+◌, ◌-◌, ◌<◌, ◌≤◌, ◌==◌, Bool, true, false, List, [], ◌∷◌, ◌++◌, length, length-drop, length-set, drop, drop-cons, get_or, set, Option, Some, None, Err, refl, sym, ap, subst, arith, add-one}
+use Rattle.std.proofs.Common.{◌≡◌, ◌≢◌, ◌∙◌, ◌↔◌, ◌⊎◌, ⊎_elim, inl, inr, ℕ, suc, ◌+◌, ◌-◌, ◌<◌, ◌≤◌, ◌==◌, Bool, true, false, List, [], ◌∷◌, ◌++◌, length, length-set, drop, drop-cons, get_or, set, Option, Some, None, Err, refl, sym, ap, subst, arith, add-one}
 use Rattle.std.proofs.lemmas.Bool.{eqb-false}
 use Rattle.std.proofs.lemmas.Bool.Decides.{nat_tests}
-use Rattle.std.proofs.lemmas.List.{get_or-drop, get_or-set_same, get_or-set_other}
+use Rattle.std.proofs.lemmas.List.{get_or-set_same, get_or-set_other}
 use Rattle.std.proofs.lemmas.List.Quantifiers.{all_pairs_push}
 use Rattle.std.proofs.lemmas.Option.{get_or_from_slice_get, slice_get-get_or, slice_get_within}
 use Rattle.std.specs.List.{find}
@@ -16,14 +16,6 @@ use Rattle.cs_journal.specs.Journals.{EntryOf}
 use Rattle.cs_journal.specs.Runs.{Fits, IsAscending, PassOf, ReceiptOf, RunOf, last_of, receipt_of, receipts_in}
 
 -- ---- places that ascend
-
-pub ascending_none : IsAscending []
-ascending_none i j d lt within = absurd (omega (arith, within))
-
-pub ascending_drop : (k : ℕ) (xs : List ReceiptOf) → IsAscending xs → IsAscending (drop k xs)
-ascending_drop k xs up i j d lt within =
-    let inside : j < length xs - k = omega (arith, within, length-drop k xs) in
-    rw (get_or-drop k xs i d, get_or-drop k xs j d) (up (k + i) (k + j) d (omega arith) (omega (arith, inside)))
 
 -- the places of a pass's receipts are those of entries
 own_places : (r : RunOf) (p : PassOf) → Fits r p → IsAscending p.receipts → (k : ℕ) (d : ReceiptOf) → k < length p.receipts → (get_or p.receipts k d).place < length r.journal

@@ -36,16 +36,12 @@ counted_in fresh tree us opens journal counts h p k there =
 
 -- the counts and the last receipt tell whether a pass fits
 pub fits_where_counted : (fresh tree : Tree) (us : List Row) (opens : List OpenFile) (journal : List EntryOf) (counts : List Counts) → IsHeld fresh tree us opens journal counts → (p : PassOf) (k : Counts) → slice_get counts p.number ≡ Some k
-    → Tallies k journal p → Fits (record { fresh = fresh; users = us; journal = journal; passes = length counts }) p
-fits_where_counted fresh tree us opens journal counts h p k there t =
-    let c = counted_in fresh tree us opens journal counts h p k there in
-    record { known = c.known; entries = sym t.entries ∙ c.entries; opens = sym t.opens ∙ c.opens; last = t.last ∙ c.last }
-
-pub counted_where_fits : (fresh tree : Tree) (us : List Row) (opens : List OpenFile) (journal : List EntryOf) (counts : List Counts) → IsHeld fresh tree us opens journal counts → (p : PassOf) (k : Counts) → slice_get counts p.number ≡ Some k
-    → Fits (record { fresh = fresh; users = us; journal = journal; passes = length counts }) p → Tallies k journal p
-counted_where_fits fresh tree us opens journal counts h p k there f =
-    let c = counted_in fresh tree us opens journal counts h p k there in
-    record { entries = c.entries ∙ sym f.entries; opens = c.opens ∙ sym f.opens; last = f.last ∙ sym c.last }
+    → Tallies k journal p ↔ Fits (record { fresh = fresh; users = us; journal = journal; passes = length counts }) p
+fits_where_counted fresh tree us opens journal counts h p k there =
+    let c = counted_in fresh tree us opens journal counts h p k there in (
+      λ t. record { known = c.known; entries = sym t.entries ∙ c.entries; opens = sym t.opens ∙ c.opens; last = t.last ∙ c.last },
+      λ f. record { entries = c.entries ∙ sym f.entries; opens = c.opens ∙ sym f.opens; last = f.last ∙ sym c.last },
+    )
 
 -- a receipt is of an entry where place, outcome and the call without its bytes are the entry's
 pub is_receipt_of : (place : ℕ) (r s : ReceiptOf) (e d : EntryOf) (x y : Call) (b : Bool) → s ≡ r → d ≡ e → s.place ≡ place → s.outcome ≡ d.outcome → x ≡ s.call → y ≡ without_bytes d.call → ((b ≡ true) ↔ (x ≡ y)) → (b ≡ true) ↔ (r ≡ receipt_of place e)

@@ -1,8 +1,9 @@
 -- A journal that is one entry longer, and what a replay leaves.
 use Rattle.std.proofs.Common.{◌≡◌, ◌≢◌, ◌∙◌, ℕ, suc, ◌+◌, ◌-◌, ◌≤◌, Bool, true, false, cond, List, [], ◌∷◌, ◌++◌, length, length-append, add-zero, zero-add, Some, refl, sym, ap, subst, arith}
 use Rattle.std.proofs.lemmas.Bool.{eq-eqb, ne_eqb}
+use Rattle.std.proofs.lemmas.List.{append-nil}
 use Rattle.std.proofs.lemmas.List.Elements.{filter-append}
-use Rattle.std.specs.Prelude.{if◌then◌else◌, slice_get}
+use Rattle.std.specs.Prelude.{filter, if◌then◌else◌, slice_get}
 use Rattle.cs_permit.specs.declared.call.OpenFile.{OpenFile}
 use Rattle.cs_run.proofs.Ascending.{stays_below}
 use Rattle.cs_run.proofs.Versions.{step_raises}
@@ -29,10 +30,6 @@ IsLegal-push s (x ∷ es) e legal its room = (legal.0, legal.1, IsLegal-push (ap
 abbrev pub own_receipt : ℕ → ℕ → EntryOf → List ReceiptOf
 own_receipt pass place e = if is_of_pass pass e then receipt_of place e ∷ [] else []
 
-first_receipt : (pass place : ℕ) (e : EntryOf) (rs : List ReceiptOf) (b : Bool) → is_of_pass pass e ≡ b → receipts_from pass place (e ∷ []) ≡ own_receipt pass place e
-first_receipt pass place e rs true own = rw own refl
-first_receipt pass place e rs false own = rw own refl
-
 onto : (b : Bool) (r : ReceiptOf) (rs more : List ReceiptOf) → (if b then r ∷ (rs ++ more) else (rs ++ more)) ≡ (if b then r ∷ rs else rs) ++ more
 onto true r rs more = refl
 onto false r rs more = refl
@@ -44,11 +41,11 @@ receipts-push pass place (x ∷ es) e =
     let same : place + 1 + length es ≡ place + suc (length es) = omega arith in
     ap (λ rs. if is_of_pass pass x then receipt_of place x ∷ rs else rs) (rest ∙ ap (λ n. receipts_from pass (place + 1) es ++ own_receipt pass n e) same) ∙ onto (is_of_pass pass x) (receipt_of place x) (receipts_from pass (place + 1) es) (own_receipt pass (place + suc (length es)) e)
 
-one_entry : (pass : ℕ) (e : EntryOf) → length (entries_of_pass pass (e ∷ [])) ≡ cond (is_of_pass pass e) 1 0
-one_entry pass e = elim (is_of_pass pass e) as (λ b. length (cond b (e ∷ []) []) ≡ cond b 1 0) [ true ↦ refl | false ↦ refl ]
-
-pub entries-push : (pass : ℕ) (es : List EntryOf) (e : EntryOf) → length (entries_of_pass pass (es ++ e ∷ [])) ≡ length (entries_of_pass pass es) + cond (is_of_pass pass e) 1 0
-entries-push pass es e = ap length (filter-append (is_of_pass pass) es (e ∷ [])) ∙ length-append (entries_of_pass pass es) (entries_of_pass pass (e ∷ [])) ∙ ap (λ n. length (entries_of_pass pass es) + n) (one_entry pass e)
+-- a filter keeps one element more, or none
+pub filter-push : {A : Type 0} (f : A → Bool) (xs : List A) (x : A) → length (filter f (xs ++ x ∷ [])) ≡ length (filter f xs) + cond (f x) 1 0
+filter-push f xs x =
+    let one : length (filter f (x ∷ [])) ≡ cond (f x) 1 0 = elim (f x) as (λ b. length (cond b (x ∷ []) []) ≡ cond b 1 0) [ true ↦ refl | false ↦ refl ] in
+    ap length (filter-append f xs (x ∷ [])) ∙ length-append (filter f xs) (filter f (x ∷ [])) ∙ ap (λ n. length (filter f xs) + n) one
 
 get-pushed : {A : Type 0} (xs : List A) (x : A) → slice_get (xs ++ x ∷ []) (length xs) ≡ Some x
 get-pushed [] x = refl
@@ -64,19 +61,15 @@ pub own_receipts : (pass : ℕ) (es : List EntryOf) (e : EntryOf) → e.pass ≡
 own_receipts pass es e own =
     receipts-push pass 0 es e ∙ ap (λ b. receipts_in pass es ++ (if b then receipt_of (0 + length es) e ∷ [] else [])) (eq-eqb e.pass pass own) ∙ ap (λ n. receipts_in pass es ++ receipt_of n e ∷ []) (zero-add (length es))
 
-append-nil : {A : Type 0} (xs : List A) → xs ++ [] ≡ xs
-append-nil [] = refl
-append-nil (x ∷ xs) = ap (λ ys. x ∷ ys) (append-nil xs)
-
 pub other_receipts : (pass : ℕ) (es : List EntryOf) (e : EntryOf) → e.pass ≢ pass → receipts_in pass (es ++ e ∷ []) ≡ receipts_in pass es
 other_receipts pass es e other =
     receipts-push pass 0 es e ∙ ap (λ b. receipts_in pass es ++ (if b then receipt_of (0 + length es) e ∷ [] else [])) (ne_eqb e.pass pass other) ∙ append-nil (receipts_in pass es)
 
 pub own_entries : (pass : ℕ) (es : List EntryOf) (e : EntryOf) → e.pass ≡ pass → length (entries_of_pass pass (es ++ e ∷ [])) ≡ length (entries_of_pass pass es) + 1
-own_entries pass es e own = entries-push pass es e ∙ ap (λ b. length (entries_of_pass pass es) + cond b 1 0) (eq-eqb e.pass pass own)
+own_entries pass es e own = filter-push (is_of_pass pass) es e ∙ ap (λ b. length (entries_of_pass pass es) + cond b 1 0) (eq-eqb e.pass pass own)
 
 pub other_entries : (pass : ℕ) (es : List EntryOf) (e : EntryOf) → e.pass ≢ pass → length (entries_of_pass pass (es ++ e ∷ [])) ≡ length (entries_of_pass pass es)
-other_entries pass es e other = entries-push pass es e ∙ ap (λ b. length (entries_of_pass pass es) + cond b 1 0) (ne_eqb e.pass pass other) ∙ add-zero (length (entries_of_pass pass es))
+other_entries pass es e other = filter-push (is_of_pass pass) es e ∙ ap (λ b. length (entries_of_pass pass es) + cond b 1 0) (ne_eqb e.pass pass other) ∙ add-zero (length (entries_of_pass pass es))
 
 -- ---- what a replay leaves
 

@@ -1,6 +1,6 @@
-pub mod Keeping
-pub mod Moves
+pub mod Blocks
 pub mod Journals
+pub mod Moves
 pub mod Fitting
 pub mod Last
 pub mod Steps

@@ -2,7 +2,6 @@
 use Rattle.std.proofs.Common.{◌≡◌, ◌≢◌, ◌∙◌, ℕ, zero, suc, ◌+◌, ◌<◌, ◌≤◌, Bool, true, false, cond, List, [], ◌∷◌, ◌++◌, length, length-append, Option, Some, None, get_or, refl, sym, ap, arith}
 use Rattle.std.proofs.lemmas.Bool.{ne_eqb, eq-eqb}
 use Rattle.std.proofs.lemmas.Bool.Decides.{nat_tests}
-use Rattle.std.proofs.lemmas.List.Elements.{filter-append}
 use Rattle.std.proofs.lemmas.List.Quantifiers.{position-Some}
 use Rattle.std.proofs.lemmas.Option.{slice_get-get_or}
 use Rattle.std.specs.List.{position}
@@ -20,6 +19,7 @@ use Rattle.cs_run.specs.Outcomes.{applied, closes}
 use Rattle.cs_run.specs.declared.answer.Outcome.{Outcome}
 use Rattle.cs_run.specs.declared.answer.Outcome.TheVariants as out
 use Rattle.cs_run.specs.declared.turn.Turn.{Turn}
+use Rattle.cs_journal.proofs.Journals.{filter-push}
 use Rattle.cs_journal.specs.Calls.{charge, ended}
 use Rattle.cs_journal.specs.Runs.{is_under, opens_under}
 
@@ -42,21 +42,15 @@ none_moves : (opens : List OpenFile) (pass : ℕ) → Moves opens opens pass 1
 none_moves opens pass = record { room = omega arith; own_room = omega arith; own = refl; others = λ q differs. refl }
 
 -- one open more
-under_one : (q : ℕ) (o : OpenFile) → length (opens_under q (o ∷ [])) ≡ cond (is_under q o) 1 0
-under_one q o = elim (is_under q o) as (λ b. length (cond b (o ∷ []) []) ≡ cond b 1 0) [ true ↦ refl | false ↦ refl ]
-
-under_pushed : (q : ℕ) (opens : List OpenFile) (o : OpenFile) → length (opens_under q (opens ++ o ∷ [])) ≡ length (opens_under q opens) + cond (is_under q o) 1 0
-under_pushed q opens o = ap length (filter-append (is_under q) opens (o ∷ [])) ∙ length-append (opens_under q opens) (opens_under q (o ∷ [])) ∙ ap (λ n. length (opens_under q opens) + n) (under_one q o)
-
 pushed_moves : (opens : List OpenFile) (o : OpenFile) (pass : ℕ) → o.pass ≡ pass → Moves opens (opens ++ o ∷ []) pass 2
 pushed_moves opens o pass own =
     let its : is_under pass o ≡ true = eq-eqb o.pass pass own in
-    let one : length (opens_under pass (opens ++ o ∷ [])) ≡ length (opens_under pass opens) + 1 = under_pushed pass opens o ∙ ap (λ b. length (opens_under pass opens) + cond b 1 0) its in
+    let one : length (opens_under pass (opens ++ o ∷ [])) ≡ length (opens_under pass opens) + 1 = filter-push (is_under pass) opens o ∙ ap (λ b. length (opens_under pass opens) + cond b 1 0) its in
     record {
       room = omega (arith, length-append opens (o ∷ []));
       own_room = omega (arith, one);
       own = omega (arith, one, length-append opens (o ∷ []));
-      others = λ q differs. under_pushed q opens o ∙ ap (λ b. length (opens_under q opens) + cond b 1 0) (ne_eqb o.pass q (λ same. differs (sym same ∙ own))) ∙ omega arith;
+      others = λ q differs. filter-push (is_under q) opens o ∙ ap (λ b. length (opens_under q opens) + cond b 1 0) (ne_eqb o.pass q (λ same. differs (sym same ∙ own))) ∙ omega arith;
     }
 
 -- one open less

@@ -5,59 +5,81 @@ use Rattle.std.proofs.lemmas.Bool.Decides.{nat_tests}
 use Rattle.std.proofs.lemmas.List.{get_or-set_same, get_or-set_other}
 use Rattle.std.specs.Option.{option_map}
 use Rattle.std.specs.Prelude.{is_some, nat_lt}
-use Rattle.cs_names.specs.declared.limits.TheConstants.{JOURNAL_ENTRIES}
+use Rattle.cs_names.specs.declared.limits.TheConstants.{JOURNAL_ENTRIES, RUN_ATTACHES}
 use Rattle.cs_names.specs.declared.rule_id.RuleId.TheVariants.{L1}
 use Rattle.cs_permit.specs.Calls.{failing_rule, rules_view}
 use Rattle.cs_permit.specs.declared.call.Call.{Call}
 use Rattle.cs_permit.specs.declared.call.Call.TheVariants as k
 use Rattle.cs_permit.specs.declared.call.CloseCall.{CloseCall}
 use Rattle.cs_permit.specs.declared.call.OpenFile.{OpenFile}
-use Rattle.cs_run.specs.Effects.{Left, close_effect, left, removes}
-use Rattle.cs_run.specs.Laws.{AllVersBelow}
-use Rattle.cs_run.specs.Marks.{CallMark, Ample as ample, NoRoom as no_room, is_refused}
+use Rattle.cs_run.proofs.Fitting.{fits}
+use Rattle.cs_run.proofs.Versions.{versions_can_grow}
+use Rattle.cs_run.specs.Effects.{Left, close_effect, left}
+use Rattle.cs_run.specs.Laws.{AllVersBelow, FitsCall}
+use Rattle.cs_run.specs.Marks.{CallMark, Ample as ample, NoGrant as no_grant, is_refused}
 use Rattle.cs_run.specs.Opens.{AreBelow, open_numbered}
-use Rattle.cs_run.specs.Outcomes.{outcome, outcome_by, stepped}
+use Rattle.cs_run.specs.Outcomes.{IsOutcomeOf, applied, outcome, outcome_by, stepped}
 use Rattle.cs_run.specs.declared.answer.Answer.{Answer}
 use Rattle.cs_run.specs.declared.answer.Answer.TheVariants.{Closed, Denied, Short}
 use Rattle.cs_run.specs.declared.answer.Outcome.{Outcome}
 use Rattle.cs_run.specs.declared.answer.Outcome.TheVariants as out
-use Rattle.cs_run.proofs.Versions.{versions_can_grow}
-use Rattle.cs_tree_model.specs.Stores.{CanStamp}
 use Rattle.cs_run.specs.declared.turn.Turn.{Turn}
+use Rattle.cs_tree_model.specs.Stores.{CanStamp}
 use Rattle.cs_tree_model.specs.Tree.{Tree}
 use Rattle.cs_users.specs.Rows.{Row}
-use Rattle.cs_journal.specs.declared.counts.Counts.{Counts}
 use Rattle.cs_journal.proofs.Fitting.{other_fits, own_fits}
 use Rattle.cs_journal.proofs.Journals.{IsLegal-push, below-replay, held_state, last-push, next-replay, other_entries, other_receipts, own_entries, own_receipts, replay-push, versions-replay}
-use Rattle.cs_journal.proofs.Moves.{Moves, call_moves, released_call}
+use Rattle.cs_journal.proofs.Moves.{Moves, call_moves, released_call, under_few}
 use Rattle.cs_journal.specs.Calls.{charge, closes_plainly, ended, is_close, is_full}
+use Rattle.cs_journal.specs.declared.counts.Counts.{Counts}
 use Rattle.cs_journal.specs.Holding.{IsHeld, counts_of, no_counts}
-use Rattle.cs_journal.specs.Journals.{EntryOf, HasRoom, IsLegal, IsOutcome, RunState, answer_to, apply, entries_of_pass, replay, rules_view_of, start, turn_in}
-use Rattle.cs_journal.specs.Marks.{StepMark, Ample, NoEntry, NoRoom, call_mark}
-use Rattle.cs_journal.specs.Runs.{Fits, PassOf, ReceiptOf, RunOf, last_of, opens_under, receipt_of, receipts_in, state_of}
+use Rattle.cs_journal.specs.Journals.{EntryOf, HasRoom, IsLegal, IsOutcome, RunState, answer_to, apply, entries_of_pass, left_by, replay, rules_view_of, start, turn_in}
+use Rattle.cs_journal.specs.Marks.{StepMark, Ample, NoEntry, NoGrant}
+use Rattle.cs_journal.specs.Runs.{Fits, PassOf, ReceiptOf, RunOf, first_state, last_of, opens_under, receipt_of, receipts_in, state_of}
 use Rattle.cs_journal.specs.Small.{is_small}
-use Rattle.cs_journal.specs.Steps.{Stepped, run_with_entry, entering, entry_of, without_entry, step}
+use Rattle.cs_journal.specs.Steps.{IsStep, entering, pass_with_receipt, run_with_entry, step}
 
--- ---- the three ends of a step
+-- what holds of a run and a pass holds of them by other names
+pub along : (P : RunOf → PassOf → Type 0) (r r' : RunOf) (p p' : PassOf) → r ≡ r' → p ≡ p' → P r' p' → P r p
+along P r r' p p' run_is pass_is there =
+    let Q : PassOf → Type 0 = λ x. P r x in
+    let R : RunOf → Type 0 = λ x. P x p' in
+    subst Q (sym pass_is) (subst R (sym run_is) there)
 
--- the mark of a step whose entry has room
-abbrev pub step_mark : CallMark → StepMark
-step_mark ample = Ample
-step_mark no_room = NoRoom
+-- ---- a close whose open stands and that removes nothing
 
-module _ (r : RunOf) (p : PassOf) (now : ℕ) (call : Call) where
-  pub full_step : is_full (state_of r) p.number call ≡ true → (mark : StepMark) × (without_entry r p (Denied L1) ≡ step r p now call mark)
-  unfolding step
-  full_step full = (Ample, rw full refl)
+granted_if : (mark : CallMark) → outcome_by None (is_refused mark && false) ≡ out.Granted
+granted_if ample = refl
+granted_if no_grant = refl
 
-  pub short_step : is_full (state_of r) p.number call ≡ false → is_some (ended (state_of r).opens p.number call) ≡ false → (mark : StepMark) × (without_entry r p Short ≡ step r p now call mark)
-  unfolding step
-  short_step room none = (NoEntry, rw (room, none) refl)
+both : (a b c : Bool) → (a && (b && not c)) ≡ true → (b ≡ true) × (c ≡ false)
+both true true false is = (refl, refl)
+both true true true is = absurd cc
+both true false c is = absurd cc
+both false b c is = absurd cc
 
-  pub entered_step : (mark : CallMark) → is_full (state_of r) p.number call ≡ false → entering r p (entry_of r p now call (step_mark mark)) ≡ step r p now call (step_mark mark)
-  unfolding step
-  entered_step ample room = rw room refl
-  entered_step no_room room = rw room refl
+plain_close : (s : RunState) (pass now : ℕ) (c : CloseCall) (mark : CallMark) → closes_plainly s pass (k.Close c) ≡ true → (stepped (rules_view_of s) (turn_in s pass now) (k.Close c) mark).answer ≡ Closed
+unfolding outcome failing_rule close_effect
+plain_close s pass now c mark plain =
+    let kept = both true (is_some (open_numbered c.open_number pass s.opens)) _ plain in
+    rw (kept.1, granted_if mark) refl
+
+-- such a close is answered whatever memory refuses
+plainly : (s : RunState) (pass now : ℕ) (call : Call) (mark : CallMark) → closes_plainly s pass call ≡ true → (stepped (rules_view_of s) (turn_in s pass now) call mark).answer ≡ Closed
+plainly s pass now (k.Close c) mark plain = plain_close s pass now c mark plain
+plainly s pass now (k.Attach c) mark plain = absurd cc
+plainly s pass now (k.Walk c) mark plain = absurd cc
+plainly s pass now (k.Open c) mark plain = absurd cc
+plainly s pass now (k.Create c) mark plain = absurd cc
+plainly s pass now (k.Read c) mark plain = absurd cc
+plainly s pass now (k.Write c) mark plain = absurd cc
+plainly s pass now (k.Remove c) mark plain = absurd cc
+plainly s pass now (k.Stat c) mark plain = absurd cc
+plainly s pass now (k.Wstat c) mark plain = absurd cc
+
+-- it ends an open that stands
+pub plain_ends : (s : RunState) (pass : ℕ) (call : Call) → closes_plainly s pass call ≡ true → is_some (ended s.opens pass call) ≡ true
+plain_ends s pass call plain = (both (is_close call) (is_some (ended s.opens pass call)) _ plain).0
 
 -- a call that an entry doesn't keep whole ends no open
 pub ends_small : (opens : List OpenFile) (pass : ℕ) (call : Call) → is_small call ≡ false → is_some (ended opens pass call) ≡ false
@@ -72,12 +94,56 @@ ends_small opens pass (k.Remove c) is = absurd cc
 ends_small opens pass (k.Stat c) is = refl
 ends_small opens pass (k.Wstat c) is = refl
 
+-- a call that ends an open that stands is charged nothing
+free : (opens : List OpenFile) (pass : ℕ) (call : Call) → is_some (ended opens pass call) ≡ true → charge opens pass call ≡ 0
+free opens pass call is = rw is refl
+
+pub ends_none_if : (opens : List OpenFile) (pass : ℕ) (call : Call) → (charge opens pass call ≡ 0 → ⊥) → is_some (ended opens pass call) ≡ false
+ends_none_if opens pass call charged = by (is_some (ended opens pass call)) refl
+  where
+    by : (b : Bool) → is_some (ended opens pass call) ≡ b → is_some (ended opens pass call) ≡ false
+    by true is = absurd (charged (free opens pass call is))
+    by false is = is
+
+-- ---- the three ends of a step
+
+module _ (r : RunOf) (p : PassOf) (now : ℕ) (call : Call) where
+  -- an entry more, with the outcome that a mark gives
+  pub entered_step : (mark : CallMark) (e : EntryOf) → is_full (state_of r) p.number call ≡ false → e ≡ record { pass = p.number; moment = now; call = call; outcome = outcome (rules_view_of (state_of r)) (turn_in (state_of r) p.number now) call mark } → (m : StepMark) × (entering r p e ≡ step r p now call m)
+  unfolding step
+  entered_step ample e room is = (Ample, rw (is, room) refl)
+  entered_step no_grant e room is = (NoGrant, rw (is, room) refl)
+
+  -- nothing changes
+  module _ (legal : IsLegal (first_state r) r.journal) (own : Fits r p) where
+    pub full_step : is_full (state_of r) p.number call ≡ true → closes_plainly (state_of r) p.number call ≢ true → IsStep r p now call (Denied L1) r p
+    unfolding step
+    full_step full other = record {
+      stepped = (Ample, rw full refl);
+      legal = legal;
+      fits = own;
+      others = λ q differs f. f;
+      plain = λ plain. absurd (other plain);
+      answers = fits (rules_view_of (state_of r)) (turn_in (state_of r) p.number now) call (out.Denied L1);
+    }
+
+    pub short_step : is_full (state_of r) p.number call ≡ false → is_some (ended (state_of r).opens p.number call) ≡ false → IsStep r p now call Short r p
+    unfolding step
+    short_step room none = record {
+      stepped = (NoEntry, rw (room, none) refl);
+      legal = legal;
+      fits = own;
+      others = λ q differs f. f;
+      plain = λ plain. let bad : false ≡ true = sym none ∙ plain_ends (state_of r) p.number call plain in absurd cc;
+      answers = fits (rules_view_of (state_of r)) (turn_in (state_of r) p.number now) call out.Short;
+    }
+
 -- ---- a run that holds what its journal gives
 
 nothing_below : AreBelow 0 []
 nothing_below i d within = absurd (omega arith)
 
-module _ (fresh tree : Tree) (us : List Row) (opens : List OpenFile) (journal : List EntryOf) (counts : List Counts) (h : IsHeld fresh tree us opens journal counts) where
+module _ {fresh tree : Tree} {us : List Row} {opens : List OpenFile} {journal : List EntryOf} {counts : List Counts} (h : IsHeld fresh tree us opens journal counts) where
   -- the run, and its state
   abbrev pub held_run : RunOf
   held_run = record { fresh = fresh; users = us; journal = journal; passes = length counts }
@@ -88,228 +154,212 @@ module _ (fresh tree : Tree) (us : List Row) (opens : List OpenFile) (journal : 
   pub state_here : state_of held_run ≡ here
   state_here = held_state fresh tree us opens journal counts h
 
-  pub numbers_below : AreBelow (length journal) opens
-  numbers_below = let P : RunState → Type 0 = λ s. AreBelow s.entries s.opens in subst P state_here (below-replay (start fresh us) journal nothing_below)
+  -- what is true of the state is true of the run by another name, and the other way round
+  pub at_state : (P : RunState → ℕ → Type 0) (r : RunOf) (p p' : PassOf) → held_run ≡ r → p ≡ p' → P here p.number → P (state_of r) p'.number
+  at_state P r p p' run_is pass_is there = along (λ x q. P (state_of x) q.number) r held_run p' p (sym run_is) (sym pass_is) (subst (λ s. P s p.number) (sym state_here) there)
 
-  versions_below : AllVersBelow (2 ^ 32 - JOURNAL_ENTRIES + length journal) tree
-  versions_below = let P : Tree → Type 0 = λ t. AllVersBelow (2 ^ 32 - JOURNAL_ENTRIES + length journal) t in subst P (sym h.tree_is) (versions-replay (2 ^ 32 - JOURNAL_ENTRIES) (start fresh us) journal h.grows.versions)
+  pub in_state : (P : RunState → ℕ → Type 0) (r : RunOf) (p p' : PassOf) → held_run ≡ r → p ≡ p' → P (state_of r) p'.number → P here p.number
+  in_state P r p p' run_is pass_is there = subst (λ s. P s p.number) state_here (along (λ x q. P (state_of x) q.number) held_run r p p' run_is pass_is there)
 
-  next_below : tree.next ≤ fresh.next + length journal
-  next_below = let P : Tree → Type 0 = λ t. t.next ≤ fresh.next + length journal in subst P (sym h.tree_is) (next-replay (start fresh us) journal)
+  -- a close whose open stands has room
+  pub plain_room : (pass : ℕ) (call : Call) → JOURNAL_ENTRIES < length journal + length opens + charge opens pass call → closes_plainly here pass call ≢ true
+  plain_room pass call above plain = let none = free opens pass call (plain_ends here pass call plain) in omega (arith, above, none, h.limit)
 
-  pub reserved_here : (p : PassOf) → Fits held_run p → p.reserved ≡ length (opens_under p.number opens)
-  reserved_here p f = f.opens ∙ ap (λ (s : RunState). length (opens_under p.number s.opens)) state_here
+  numbers_in : AreBelow (length journal) opens
+  numbers_in = let P : RunState → Type 0 = λ s. AreBelow s.entries s.opens in subst P state_here (below-replay (start fresh us) journal nothing_below)
 
-  module _ (pass now : ℕ) (call : Call) (limit : length journal + (length opens + charge opens pass call) ≤ JOURNAL_ENTRIES) where
-    abbrev pub turn_here : Turn
-    turn_here = record { moment = now; place = length journal; pass = pass }
+  versions_in : AllVersBelow (2 ^ 32 - JOURNAL_ENTRIES + length journal) tree
+  versions_in = let P : Tree → Type 0 = λ t. AllVersBelow (2 ^ 32 - JOURNAL_ENTRIES + length journal) t in subst P (sym h.tree_is) (versions-replay (2 ^ 32 - JOURNAL_ENTRIES) (start fresh us) journal h.grows.versions)
 
-    one_more_entry : length journal + 1 ≤ JOURNAL_ENTRIES
-    one_more_entry =
-        let m = call_moves (rules_view tree opens us) turn_here call out.Short in
-        omega (arith, m.room, limit)
+  next_in : tree.next ≤ fresh.next + length journal
+  next_in = let P : Tree → Type 0 = λ t. t.next ≤ fresh.next + length journal in subst P (sym h.tree_is) (next-replay (start fresh us) journal)
 
-    pub versions_grow : (n : ℕ) → CanStamp tree n
-    versions_grow = versions_can_grow (2 ^ 32 - JOURNAL_ENTRIES + length journal) tree versions_below (omega (arith, one_more_entry))
+-- What a step begins with: a run that holds what its journal gives, a pass that fits, and room for
+-- what the call is charged.
+pub record Begun (fresh tree : Tree) (us : List Row) (opens : List OpenFile) (journal : List EntryOf) (counts : List Counts) (p : PassOf) (call : Call) (charged : ℕ) : Type 0 where
+  pub held : IsHeld fresh tree us opens journal counts
+  pub own : Fits (held_run held) p
+  pub not_full : is_full (here held) p.number call ≡ false
+  pub charged_is : charged ≡ charge opens p.number call
 
-    pub next_grows : tree.next < 2 ^ 64
-    next_grows = omega (arith, one_more_entry, next_below, h.grows.next)
+pub begun : {fresh tree : Tree} {us : List Row} {opens : List OpenFile} {journal : List EntryOf} {counts : List Counts} (h : IsHeld fresh tree us opens journal counts) (r : RunOf) (p p' : PassOf) (call : Call) (charged : ℕ)
+    → held_run h ≡ r → p ≡ p' → Fits r p' → is_full (state_of r) p'.number call ≡ false → charged ≡ charge (state_of r).opens p'.number call → Begun fresh tree us opens journal counts p call charged
+begun h r p p' call charged run_is pass_is own room charged_is = record {
+  held = h;
+  own = along Fits (held_run h) r p p' run_is pass_is own;
+  not_full = in_state h (λ s n. is_full s n call ≡ false) r p p' run_is pass_is room;
+  charged_is = in_state h (λ s n. charged ≡ charge s.opens n call) r p p' run_is pass_is charged_is;
+}
 
-    pub not_full : is_full (state_of held_run) pass call ≡ false
-    not_full =
-        let P : RunState → Type 0 = λ s. is_full s pass call ≡ false in
-        let full : nat_lt JOURNAL_ENTRIES (length journal + length opens + charge opens pass call) ≡ false = grind (arith, nat_tests) in
-        subst P (sym state_here) full
+module _ {fresh tree : Tree} {us : List Row} {opens : List OpenFile} {journal : List EntryOf} {counts : List Counts} {p : PassOf} {call : Call} {charged : ℕ} (b : Begun fresh tree us opens journal counts p call charged) where
+  abbrev turn_here : ℕ → Turn
+  turn_here now = record { moment = now; place = length journal; pass = p.number }
 
-    -- ---- after the call
-    module _ (mark : CallMark) (tree' : Tree) (opens' : List OpenFile) (answer : Answer) (effect : left tree' opens' answer ≡ stepped (rules_view tree opens us) turn_here call mark) where
-      abbrev pub its_outcome : Outcome
-      its_outcome = outcome (rules_view tree opens us) turn_here call mark
+  room : length journal + (length opens + charge opens p.number call) ≤ JOURNAL_ENTRIES
+  room =
+      let full : nat_lt JOURNAL_ENTRIES (length journal + length opens + charge opens p.number call) ≡ false = b.not_full in
+      grind (arith, nat_tests)
 
-      abbrev pub its_entry : EntryOf
-      its_entry = record { pass = pass; moment = now; call = call; outcome = its_outcome }
+  -- the pass's reserved places are its opens
+  reserved_is : p.reserved ≡ length (opens_under p.number opens)
+  reserved_is = b.own.opens ∙ ap (λ (s : RunState). length (opens_under p.number s.opens)) (state_here b.held)
 
-      pub moved : Moves opens opens' pass (charge opens pass call)
-      moved =
-          let P : Left → Type 0 = λ l. Moves opens l.opens pass (charge opens pass call) in
-          subst P (sym effect) (call_moves (rules_view tree opens us) turn_here call its_outcome)
+  -- the room that the call and the opens take isn't nothing, nor more than a journal has
+  pub some_room : 1 ≤ length opens + charged
+  some_room = let m = released_call opens p.number call in omega (arith, m.room, b.charged_is)
 
-      applied_here : apply (state_of held_run) its_entry ≡ record { tree = tree'; opens = opens'; users = us; entries = length journal + 1 }
-      applied_here = ap (λ s. apply s its_entry) state_here ∙ (λ i. record { tree = (sym effect i).tree; opens = (sym effect i).opens; users = us; entries = length journal + 1 })
+  pub own_room : 1 ≤ p.reserved + charged
+  own_room = let m = released_call opens p.number call in omega (arith, m.own_room, b.charged_is, reserved_is)
 
-      outcome_is : IsOutcome (state_of held_run) its_entry
-      outcome_is = let P : RunState → Type 0 = λ s. IsOutcome s its_entry in subst P (sym state_here) (mark, refl)
+  pub own_few : p.reserved + charged ≤ JOURNAL_ENTRIES
+  own_few = omega (arith, room, b.charged_is, reserved_is, under_few p.number opens)
 
-      room_is : HasRoom (apply (state_of held_run) its_entry)
-      room_is = subst HasRoom (sym applied_here) (omega (arith, moved.room, limit))
+  pub known : p.number < RUN_ATTACHES
+  known = let in_run : p.number < length counts = b.own.known in omega (arith, in_run, b.held.passes)
 
-      pub legal_after : IsLegal (start fresh us) (journal ++ its_entry ∷ [])
-      legal_after = IsLegal-push (start fresh us) journal its_entry h.legal outcome_is room_is
+  one_more_entry : length journal + 1 ≤ JOURNAL_ENTRIES
+  one_more_entry = let m = released_call opens p.number call in omega (arith, m.room, room)
 
-      others_after : (q : ℕ) → q ≢ pass → length (opens_under q (apply (state_of held_run) its_entry).opens) ≡ length (opens_under q (state_of held_run).opens)
-      others_after q differs =
-          ap (λ (s : RunState). length (opens_under q s.opens)) applied_here ∙ moved.others q differs ∙ sym (ap (λ (s : RunState). length (opens_under q s.opens)) state_here)
+  -- what a call asks for
+  pub numbers_below : (place : ℕ) → place ≡ length journal → AreBelow place opens
+  numbers_below place is = subst (λ n. AreBelow n opens) (sym is) (numbers_in b.held)
 
-      pub others_fit : (q : PassOf) → q.number ≢ pass → Fits held_run q → Fits (run_with_entry held_run its_entry) q
-      others_fit q differs f = other_fits held_run q its_entry (λ same. differs (sym same)) (others_after q.number differs) f
+  pub versions_grow : (n : ℕ) → CanStamp tree n
+  versions_grow = versions_can_grow (2 ^ 32 - JOURNAL_ENTRIES + length journal) tree (versions_in b.held) (omega (arith, one_more_entry))
 
-      -- ---- under a pass that fits
-      module _ (receipts : List ReceiptOf) (reserved : ℕ) (f : Fits held_run (record { number = pass; receipts = receipts; reserved = reserved })) where
-        abbrev pub held_pass : PassOf
-        held_pass = record { number = pass; receipts = receipts; reserved = reserved }
+  pub next_grows : tree.next < 2 ^ 64
+  next_grows = omega (arith, one_more_entry, next_in b.held, b.held.grows.next)
 
-        reserved_after : reserved + length opens' - length opens ≡ length (opens_under pass opens')
-        reserved_after = omega (arith, reserved_here held_pass f, moved.own)
+  -- a growth for entry and receipt that is refused
+  pub short_left : (r r' : RunOf) (p' q : PassOf) (now : ℕ) → held_run b.held ≡ r → p ≡ p' → r' ≡ r → q ≡ p' → is_some (ended opens p.number call) ≡ false → IsStep r p' now call Short r' q
+  short_left r r' p' q now run_is pass_is same_run same_pass none =
+      along (λ x y. IsStep r p' now call Short x y) r' r q p' same_run same_pass
+      (along (λ x y. IsStep x y now call Short x y) r (held_run b.held) p' p (sym run_is) (sym pass_is)
+      (short_step (held_run b.held) p now call b.held.legal b.own
+      (subst (λ s. is_full s p.number call ≡ false) (sym (state_here b.held)) b.not_full)
+      (subst (λ (s : RunState). is_some (ended s.opens p.number call) ≡ false) (sym (state_here b.held)) none)))
 
-        abbrev pub counts_after : Counts
-        counts_after = record { entries = length receipts + 1; opens = reserved + length opens' - length opens; last = Some (length journal) }
+  -- ---- after the call
+  module _ {now place : ℕ} {us' : List Row} {how : Outcome} {tree' : Tree} {opens' : List OpenFile} {answer : Answer} (users_are : us' ≡ us) (place_is : place ≡ length journal) (went : IsOutcomeOf (rules_view tree opens us') (record { moment = now; place = place; pass = p.number }) call how (left tree' opens' answer)) where
+    abbrev pub its_entry : EntryOf
+    its_entry = record { pass = p.number; moment = now; call = call; outcome = how }
 
-        counts_are : counts_after ≡ counts_of pass opens' (journal ++ its_entry ∷ [])
-        counts_are =
-            let many : length receipts + 1 ≡ length (entries_of_pass pass (journal ++ its_entry ∷ [])) = ap (λ n. n + 1) f.entries ∙ sym (own_entries pass journal its_entry refl) in
-            let last : Some (length journal) ≡ option_map (λ (r : ReceiptOf). r.place) (last_of (receipts_in pass (journal ++ its_entry ∷ []))) =
-            sym (ap (λ rs. option_map (λ (r : ReceiptOf). r.place) (last_of rs)) (own_receipts pass journal its_entry refl) ∙ ap (option_map (λ (r : ReceiptOf). r.place)) (last-push (receipts_in pass journal) (receipt_of (length journal) its_entry))) in
-            λ i. record { entries = many i; opens = reserved_after i; last = last i }
+    ends : how ≡ outcome (rules_view tree opens us) (turn_here now) call went.mark
+    ends = went.ends ∙ (λ i. outcome (rules_view tree opens (users_are i)) (record { moment = now; place = place_is i; pass = p.number }) call went.mark)
 
-        other_counts : (q : ℕ) → q ≢ pass → counts_of q opens journal ≡ counts_of q opens' (journal ++ its_entry ∷ [])
-        other_counts q differs =
-            let other : its_entry.pass ≢ q = λ same. differs (sym same) in
-            let many : length (entries_of_pass q journal) ≡ length (entries_of_pass q (journal ++ its_entry ∷ [])) = sym (other_entries q journal its_entry other) in
-            let last : option_map (λ (r : ReceiptOf). r.place) (last_of (receipts_in q journal)) ≡ option_map (λ (r : ReceiptOf). r.place) (last_of (receipts_in q (journal ++ its_entry ∷ []))) = ap (λ rs. option_map (λ (r : ReceiptOf). r.place) (last_of rs)) (sym (other_receipts q journal its_entry other)) in
-            λ i. record { entries = many i; opens = sym (moved.others q differs) i; last = last i }
+    effect : left tree' opens' answer ≡ stepped (rules_view tree opens us) (turn_here now) call went.mark
+    effect = went.leaves_is ∙ (λ i. stepped (rules_view tree opens (users_are i)) (record { moment = now; place = place_is i; pass = p.number }) call went.mark)
 
-        counted_by : (q : ℕ) (b : Bool) → (q == pass) ≡ b → get_or (set counts pass counts_after) q no_counts ≡ counts_of q opens' (journal ++ its_entry ∷ [])
-        counted_by q true same =
-            let e : q ≡ pass = grind (arith, nat_tests) in
-            rw e (get_or-set_same counts pass counts_after no_counts f.known ∙ counts_are)
-        counted_by q false other =
-            let ne : q ≢ pass = eqb-false q pass other in
-            get_or-set_other counts pass q counts_after no_counts ne ∙ h.counted q ∙ other_counts q ne
+    by_entry : left tree' opens' answer ≡ left_by (here b.held) its_entry
+    by_entry = effect ∙ (λ i. applied (rules_view tree opens us) (turn_here now) call (sym ends i))
 
-        pub held_after : IsHeld fresh tree' us opens' (journal ++ its_entry ∷ []) (set counts pass counts_after)
-        held_after =
-            let next : replay (start fresh us) (journal ++ its_entry ∷ []) ≡ record { tree = tree'; opens = opens'; users = us; entries = length journal + 1 } = replay-push (start fresh us) journal its_entry ∙ applied_here in
-            record {
-              grows = h.grows;
-              tree_is = ap (λ (s : RunState). s.tree) (sym next);
-              opens_are = ap (λ (s : RunState). s.opens) (sym next);
-              legal = legal_after;
-              counted = λ q. counted_by q (q == pass) refl;
-              passes = omega (arith, h.passes, length-set counts pass counts_after);
-              limit = omega (arith, limit, moved.room, length-append journal (its_entry ∷ []));
-            }
+    moved : Moves opens opens' p.number (charge opens p.number call)
+    moved =
+        let P : Left → Type 0 = λ l. Moves opens l.opens p.number (charge opens p.number call) in
+        subst P (sym by_entry) (call_moves (rules_view tree opens us) (turn_here now) call how)
 
-        -- what the code leaves
-        abbrev pub run_after : RunOf
-        run_after = record { fresh = fresh; users = us; journal = journal ++ its_entry ∷ []; passes = length counts }
+    applied_here : apply (state_of (held_run b.held)) its_entry ≡ record { tree = tree'; opens = opens'; users = us; entries = length journal + 1 }
+    applied_here = ap (λ s. apply s its_entry) (state_here b.held) ∙ (λ i. record { tree = (sym by_entry i).tree; opens = (sym by_entry i).opens; users = us; entries = length journal + 1 })
 
-        abbrev pub pass_after : PassOf
-        pass_after = record { number = pass; receipts = receipts ++ receipt_of (length journal) its_entry ∷ []; reserved = reserved + length opens' - length opens }
+    outcome_is : IsOutcome (state_of (held_run b.held)) its_entry
+    outcome_is = let P : RunState → Type 0 = λ s. IsOutcome s its_entry in subst P (sym (state_here b.held)) (went.mark, ends)
 
-        entering_is : record { answer = answer; run = run_after; pass = pass_after } ≡ entering held_run held_pass its_entry
-        entering_is =
-            let answers : answer ≡ answer_to (state_of held_run) its_entry = ap (λ (l : Left). l.answer) effect ∙ sym (ap (λ s. answer_to s its_entry) state_here) in
-            let left_places : reserved + length opens' - length opens ≡ length (opens_under pass (apply (state_of held_run) its_entry).opens) = reserved_after ∙ sym (ap (λ (s : RunState). length (opens_under pass s.opens)) applied_here) in
-            λ i. record { answer = answers i; run = run_after; pass = record { number = pass; receipts = receipts ++ receipt_of (length journal) its_entry ∷ []; reserved = left_places i } }
+    legal_after : IsLegal (start fresh us) (journal ++ its_entry ∷ [])
+    legal_after = IsLegal-push (start fresh us) journal its_entry b.held.legal outcome_is (subst HasRoom (sym applied_here) (omega (arith, moved.room, room)))
 
-        marked : (m : CallMark) → call_mark (step_mark m) ≡ m
-        marked ample = refl
-        marked no_room = refl
+    others_after : (q : ℕ) → q ≢ p.number → length (opens_under q (apply (state_of (held_run b.held)) its_entry).opens) ≡ length (opens_under q (state_of (held_run b.held)).opens)
+    others_after q differs =
+        ap (λ (s : RunState). length (opens_under q s.opens)) applied_here ∙ moved.others q differs ∙ sym (ap (λ (s : RunState). length (opens_under q s.opens)) (state_here b.held))
 
-        same_entry : its_entry ≡ entry_of held_run held_pass now call (step_mark mark)
-        same_entry =
-            let own : its_outcome ≡ outcome (rules_view tree opens us) turn_here call (call_mark (step_mark mark)) = ap (outcome (rules_view tree opens us) turn_here call) (sym (marked mark)) in
-            let there : outcome (rules_view tree opens us) turn_here call (call_mark (step_mark mark)) ≡ outcome (rules_view_of (state_of held_run)) (turn_in (state_of held_run) pass now) call (call_mark (step_mark mark)) = ap (λ (s : RunState). outcome (rules_view_of s) (turn_in s pass now) call (call_mark (step_mark mark))) (sym state_here) in
-            λ i. record { pass = pass; moment = now; call = call; outcome = (own ∙ there) i }
+    places_after : p.reserved + length opens' - length opens ≡ length (opens_under p.number opens')
+    places_after = omega (arith, reserved_is, moved.own)
 
-        pub stepped_after : (m : StepMark) × (record { answer = answer; run = run_after; pass = pass_after } ≡ step held_run held_pass now call m)
-        stepped_after = (step_mark mark, entering_is ∙ ap (entering held_run held_pass) same_entry ∙ entered_step held_run held_pass now call mark not_full)
+    -- the places that are reserved then, and room for them
+    pub places_more : length opens ≤ p.reserved + length opens'
+    places_more = omega (arith, reserved_is, moved.own)
 
-        pub fits_after : Fits run_after pass_after
-        fits_after =
-            let P : Stepped → Type 0 = λ x. Fits x.run x.pass in
-            subst P (sym entering_is) (own_fits held_run held_pass its_entry refl f)
+    pub places_few : p.reserved + length opens' < 2 ^ 64
+    places_few =
+        let m = moved in
+        omega (arith, reserved_is, under_few p.number opens, m.room, room)
 
--- ---- what the code has, as these facts want it
+    pub room_after : length opens' + 1 ≤ length opens + charged
+    room_after = omega (arith, moved.room, b.charged_is)
 
--- what holds of a run and a pass holds of them by other names
-pub along : (P : RunOf → PassOf → Type 0) (r r' : RunOf) (p p' : PassOf) → r ≡ r' → p ≡ p' → P r' p' → P r p
-along P r r' p p' run_is pass_is there =
-    let Q : PassOf → Type 0 = λ x. P r x in
-    let R : RunOf → Type 0 = λ x. P x p' in
-    subst Q (sym pass_is) (subst R (sym run_is) there)
+    pub own_room_after : p.reserved + length opens' - length opens + 1 ≤ p.reserved + charged
+    own_room_after = omega (arith, moved.own_room, moved.own, reserved_is, b.charged_is)
 
-pub inside : (r r' : RunOf) (p p' : PassOf) → r ≡ r' → p ≡ p' → Fits r' p' → Fits r p
-inside = along Fits
+    -- ---- as the code has it: how many receipts there are, and places
+    module _ {many places : ℕ} (many_is : many ≡ length p.receipts + 1) (places_are : places ≡ p.reserved + length opens' - length opens) where
+      abbrev counts_after : Counts
+      counts_after = record { entries = many; opens = places; last = Some place }
 
--- a growth that is refused, of a run and a pass by other names
-pub short_at : (r r' : RunOf) (p p' : PassOf) (now : ℕ) (call : Call) → r ≡ r' → p ≡ p' → is_full (state_of r) p.number call ≡ false → is_some (ended (state_of r).opens p.number call) ≡ false
-    → (mark : StepMark) × (without_entry r' p' Short ≡ step r' p' now call mark)
-short_at r r' p p' now call run_is pass_is room none =
-    short_step r' p' now call (along (λ s q. is_full (state_of s) q.number call ≡ false) r' r p' p (sym run_is) (sym pass_is) room) (along (λ s q. is_some (ended (state_of s).opens q.number call) ≡ false) r' r p' p (sym run_is) (sym pass_is) none)
+      counts_are : counts_after ≡ counts_of p.number opens' (journal ++ its_entry ∷ [])
+      counts_are =
+          let entries : many ≡ length (entries_of_pass p.number (journal ++ its_entry ∷ [])) = many_is ∙ ap (λ n. n + 1) b.own.entries ∙ sym (own_entries p.number journal its_entry refl) in
+          let last : Some place ≡ option_map (λ (r : ReceiptOf). r.place) (last_of (receipts_in p.number (journal ++ its_entry ∷ []))) =
+          ap (λ n. Some n) place_is ∙ sym (ap (λ rs. option_map (λ (r : ReceiptOf). r.place) (last_of rs)) (own_receipts p.number journal its_entry refl) ∙ ap (option_map (λ (r : ReceiptOf). r.place)) (last-push (receipts_in p.number journal) (receipt_of (length journal) its_entry))) in
+          λ i. record { entries = entries i; opens = (places_are ∙ places_after) i; last = last i }
 
--- a call that ends an open that stands is charged nothing
-pub free : (opens : List OpenFile) (pass : ℕ) (call : Call) → is_some (ended opens pass call) ≡ true → charge opens pass call ≡ 0
-free opens pass call is = rw is refl
+      other_counts : (q : ℕ) → q ≢ p.number → counts_of q opens journal ≡ counts_of q opens' (journal ++ its_entry ∷ [])
+      other_counts q differs =
+          let other : its_entry.pass ≢ q = λ same. differs (sym same) in
+          λ i. record {
+            entries = sym (other_entries q journal its_entry other) i;
+            opens = sym (moved.others q differs) i;
+            last = option_map (λ (r : ReceiptOf). r.place) (last_of (sym (other_receipts q journal its_entry other) i));
+          }
 
-pub ends_none_if : (opens : List OpenFile) (pass : ℕ) (call : Call) → (charge opens pass call ≡ 0 → ⊥) → is_some (ended opens pass call) ≡ false
-ends_none_if opens pass call charged = by (is_some (ended opens pass call)) refl
-  where
-    by : (b : Bool) → is_some (ended opens pass call) ≡ b → is_some (ended opens pass call) ≡ false
-    by true is = absurd (charged (free opens pass call is))
-    by false is = is
+      counted_by : (q : ℕ) (same : Bool) → (q == p.number) ≡ same → get_or (set counts p.number counts_after) q no_counts ≡ counts_of q opens' (journal ++ its_entry ∷ [])
+      counted_by q true same =
+          let e : q ≡ p.number = grind (arith, nat_tests) in
+          rw e (get_or-set_same counts p.number counts_after no_counts b.own.known ∙ counts_are)
+      counted_by q false other =
+          let ne : q ≢ p.number = eqb-false q p.number other in
+          get_or-set_other counts p.number q counts_after no_counts ne ∙ b.held.counted q ∙ other_counts q ne
 
--- a call's effect, with its parts by other names
-pub effect_at : (t : Tree) (os : List OpenFile) (us us' : List Row) (w w' : Turn) (call call' : Call) (mark : CallMark) (l : Left)
-    → us' ≡ us → w' ≡ w → call' ≡ call → l ≡ stepped (rules_view t os us') w' call' mark → l ≡ stepped (rules_view t os us) w call mark
-effect_at t os us us' w w' call call' mark l users_are turn_is call_is e = e ∙ (λ i. stepped (rules_view t os (users_are i)) (turn_is i) (call_is i) mark)
+      pub held_after : (js : List EntryOf) → js ≡ journal ++ its_entry ∷ [] → IsHeld fresh tree' us opens' js (set counts p.number counts_after)
+      held_after js journal_is =
+          let next : replay (start fresh us) (journal ++ its_entry ∷ []) ≡ record { tree = tree'; opens = opens'; users = us; entries = length journal + 1 } = replay-push (start fresh us) journal its_entry ∙ applied_here in
+          subst (λ es. IsHeld fresh tree' us opens' es (set counts p.number counts_after)) (sym journal_is) (record {
+            grows = b.held.grows;
+            tree_is = ap (λ (s : RunState). s.tree) (sym next);
+            opens_are = ap (λ (s : RunState). s.opens) (sym next);
+            legal = legal_after;
+            counted = λ q. counted_by q (q == p.number) refl;
+            passes = omega (arith, b.held.passes, length-set counts p.number counts_after);
+            limit = omega (arith, room, moved.room, length-append journal (its_entry ∷ []));
+          })
 
-pub outcome_at : (t : Tree) (os : List OpenFile) (us us' : List Row) (w w' : Turn) (call call' : Call) (mark : CallMark) (o : Outcome)
-    → us' ≡ us → w' ≡ w → call' ≡ call → o ≡ outcome (rules_view t os us') w' call' mark → o ≡ outcome (rules_view t os us) w call mark
-outcome_at t os us us' w w' call call' mark o users_are turn_is call_is e = e ∙ (λ i. outcome (rules_view t os (users_are i)) (turn_is i) (call_is i) mark)
+      -- the run and the pass that are left
+      abbrev run_after : RunOf
+      run_after = run_with_entry (held_run b.held) its_entry
 
--- the room that a call and its opens take isn't nothing
-pub some_room : (opens : List OpenFile) (pass : ℕ) (call : Call) → 1 ≤ length opens + charge opens pass call
-some_room opens pass call = let m = released_call opens pass call in omega (arith, m.room)
+      abbrev pass_after : PassOf
+      pass_after = pass_with_receipt (held_run b.held) p its_entry
 
-pub some_own_room : (opens : List OpenFile) (pass : ℕ) (call : Call) → 1 ≤ length (opens_under pass opens) + charge opens pass call
-some_own_room opens pass call = let m = released_call opens pass call in omega (arith, m.own_room)
+      as_step : FitsCall call answer → IsStep (held_run b.held) p now call answer run_after pass_after
+      as_step answers =
+          let told : answer ≡ answer_to (state_of (held_run b.held)) its_entry = ap (λ (l : Left). l.answer) by_entry ∙ sym (ap (λ s. answer_to s its_entry) (state_here b.held)) in
+          let not_full : is_full (state_of (held_run b.held)) p.number call ≡ false = subst (λ s. is_full s p.number call ≡ false) (sym (state_here b.held)) b.not_full in
+          let marked : its_entry ≡ record { pass = p.number; moment = now; call = call; outcome = outcome (rules_view_of (state_of (held_run b.held))) (turn_in (state_of (held_run b.held)) p.number now) call went.mark } =
+          λ i. record { pass = p.number; moment = now; call = call; outcome = (ends ∙ ap (λ (s : RunState). outcome (rules_view_of s) (turn_in s p.number now) call went.mark) (sym (state_here b.held))) i } in
+          let made = entered_step (held_run b.held) p now call went.mark its_entry not_full marked in
+          record {
+            stepped = (made.0, (λ i. record { answer = told i; run = run_after; pass = pass_after }) ∙ made.1);
+            legal = legal_after;
+            fits = own_fits (held_run b.held) p its_entry refl b.own;
+            others = λ q differs f. other_fits (held_run b.held) q its_entry (λ same. differs (sym same)) (others_after q.number differs) f;
+            plain = λ plain.
+                ap (λ (l : Left). l.answer) effect ∙ plainly (here b.held) p.number now call went.mark (subst (λ (s : RunState). closes_plainly s p.number call ≡ true) (state_here b.held) plain);
+            answers = answers;
+          }
 
--- ---- a close whose open stands and that removes nothing
-
-granted_if : (mark : CallMark) → outcome_by None (is_refused mark && false) ≡ out.Granted
-granted_if ample = refl
-granted_if no_room = refl
-
-both : (a b c : Bool) → (a && (b && not c)) ≡ true → c ≡ false
-both true true false is = refl
-both true true true is = absurd cc
-both true false c is = absurd cc
-both false b c is = absurd cc
-
-plain_close : (s : RunState) (pass now : ℕ) (c : CloseCall) (mark : CallMark) → closes_plainly s pass (k.Close c) ≡ true → (stepped (rules_view_of s) (turn_in s pass now) (k.Close c) mark).answer ≡ Closed
-unfolding outcome failing_rule close_effect
-plain_close s pass now c mark plain =
-    let kept : removes s.tree (open_numbered c.open_number pass s.opens) ≡ false = both true (is_some (open_numbered c.open_number pass s.opens)) _ plain in
-    rw (kept, granted_if mark) refl
-
-ends_one : (a b c : Bool) → (a && (b && c)) ≡ true → b ≡ true
-ends_one true true c is = refl
-ends_one true false c is = absurd cc
-ends_one false b c is = absurd cc
-
-pub not_plain : (s : RunState) (pass : ℕ) (call : Call) → is_some (ended s.opens pass call) ≡ false → closes_plainly s pass call ≡ true → ⊥
-not_plain s pass call none plain = let bad : false ≡ true = sym none ∙ ends_one (is_close call) (is_some (ended s.opens pass call)) _ plain in absurd cc
-
--- such a close is answered whatever memory refuses
-pub plainly : (s : RunState) (pass now : ℕ) (call : Call) (mark : CallMark) → closes_plainly s pass call ≡ true → (stepped (rules_view_of s) (turn_in s pass now) call mark).answer ≡ Closed
-plainly s pass now (k.Close c) mark plain = plain_close s pass now c mark plain
-plainly s pass now (k.Attach c) mark plain = absurd cc
-plainly s pass now (k.Walk c) mark plain = absurd cc
-plainly s pass now (k.Open c) mark plain = absurd cc
-plainly s pass now (k.Create c) mark plain = absurd cc
-plainly s pass now (k.Read c) mark plain = absurd cc
-plainly s pass now (k.Write c) mark plain = absurd cc
-plainly s pass now (k.Remove c) mark plain = absurd cc
-plainly s pass now (k.Stat c) mark plain = absurd cc
-plainly s pass now (k.Wstat c) mark plain = absurd cc
+      pub made_step : (r : RunOf) (p' : PassOf) (js : List EntryOf) (rs : List ReceiptOf) → held_run b.held ≡ r → p ≡ p' → js ≡ journal ++ its_entry ∷ [] → rs ≡ p.receipts ++ receipt_of (length journal) its_entry ∷ [] → FitsCall call answer
+          → IsStep r p' now call answer (record { fresh = fresh; users = us; journal = js; passes = length (set counts p.number counts_after) }) (record { number = p.number; receipts = rs; reserved = places })
+      made_step r p' js rs run_is pass_is journal_is receipts_are answers =
+          let places_left : places ≡ length (opens_under p.number (apply (state_of (held_run b.held)) its_entry).opens) = places_are ∙ places_after ∙ sym (ap (λ (s : RunState). length (opens_under p.number s.opens)) applied_here) in
+          along (λ x y. IsStep r p' now call answer x y) _ run_after _ pass_after
+          (λ i. record { fresh = fresh; users = us; journal = journal_is i; passes = length-set counts p.number counts_after i })
+          (λ i. record { number = p.number; receipts = receipts_are i; reserved = places_left i })
+          (along (λ x y. IsStep x y now call answer run_after pass_after) r (held_run b.held) p' p (sym run_is) (sym pass_is) (as_step answers))

@@ -121,8 +121,8 @@ AreEntries passes journal = IsPermutation (all_receipts passes) (all_entries_fro
 
 -- what the call of the entry at a place of a journal from that state was answered, if there is one
 abbrev pub answer_at : RunState → List EntryOf → ℕ → Option Answer
-answer_at s journal place =
-    option_map (answer_to (replay s (take place journal))) (slice_get journal place)
+answer_at state journal place =
+    option_map (answer_to (replay state (take place journal))) (slice_get journal place)
 
 -- the same of a run's journal
 abbrev pub answer_in : RunOf → ℕ → Option Answer

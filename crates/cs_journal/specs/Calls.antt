@@ -22,8 +22,8 @@ charge opens pass call =
 
 -- there is no room for what a call takes
 abbrev pub is_full : RunState → ℕ → Call → Bool
-is_full run pass call =
-    nat_lt JOURNAL_ENTRIES (run.entries + length run.opens + charge run.opens pass call)
+is_full state pass call =
+    nat_lt JOURNAL_ENTRIES (state.entries + length state.opens + charge state.opens pass call)
 
 -- it is a close
 abbrev pub is_close : Call → Bool
@@ -32,6 +32,6 @@ is_close other = false
 
 -- a close whose open stands, and that removes nothing
 abbrev pub closes_plainly : RunState → ℕ → Call → Bool
-closes_plainly run pass call =
-    is_close call && (is_some (ended run.opens pass call)
-    && not (removes run.tree (ended run.opens pass call)))
+closes_plainly state pass call =
+    is_close call && (is_some (ended state.opens pass call)
+    && not (removes state.tree (ended state.opens pass call)))

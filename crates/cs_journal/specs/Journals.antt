@@ -21,8 +21,8 @@ pub record EntryOf : Type 0 where
   pub call : Call
   pub outcome : Outcome
 
--- A journal in memory: its entries, for how many there is room, and the bytes of each block of
--- those that its calls wrote.
+-- A journal in memory: its entries, for how many there is room, and, block after block, the bytes
+-- that its calls write.
 pub record JournalOf : Type 0 where
   pub items : List EntryOf
   pub capacity : ℕ
@@ -45,50 +45,50 @@ start t us = record { tree = t; opens = []; users = us; entries = 0 }
 
 -- what the rules look at
 abbrev pub rules_view_of : RunState → RulesView
-rules_view_of run = rules_view run.tree run.opens run.users
+rules_view_of state = rules_view state.tree state.opens state.users
 
 -- the turn of a call that comes next: its place is how many entries are before it
 abbrev pub turn_in : RunState → ℕ → ℕ → Turn
-turn_in run pass moment = record { moment = moment; place = run.entries; pass = pass }
+turn_in state pass moment = record { moment = moment; place = state.entries; pass = pass }
 
 -- what an entry's call leaves, by its outcome
 abbrev pub left_by : RunState → EntryOf → Left
-left_by run entry =
-    applied (rules_view_of run) (turn_in run entry.pass entry.moment) entry.call entry.outcome
+left_by state entry =
+    applied (rules_view_of state) (turn_in state entry.pass entry.moment) entry.call entry.outcome
 
 -- the answer to an entry's call
 abbrev pub answer_to : RunState → EntryOf → Answer
-answer_to run entry = (left_by run entry).answer
+answer_to state entry = (left_by state entry).answer
 
 -- the state after an entry
 abbrev pub apply : RunState → EntryOf → RunState
-apply run entry = record {
-  tree = (left_by run entry).tree;
-  opens = (left_by run entry).opens;
-  users = run.users;
-  entries = run.entries + 1;
+apply state entry = record {
+  tree = (left_by state entry).tree;
+  opens = (left_by state entry).opens;
+  users = state.users;
+  entries = state.entries + 1;
 }
 
 -- the state after the entries of a journal, one after the other
 abbrev pub replay : RunState → List EntryOf → RunState
-replay run [] = run
-replay run (entry ∷ entries) = replay (apply run entry) entries
+replay state [] = state
+replay state (entry ∷ entries) = replay (apply state entry) entries
 
 -- the outcome is the one of the entry's place: the first rule that fails denies the call; else it
 -- is granted, or short where it takes memory
 abbrev pub IsOutcome : RunState → EntryOf → Type 0
-IsOutcome run entry = (mark : CallMark)
-    × (entry.outcome ≡ outcome (rules_view_of run) (turn_in run entry.pass entry.moment) entry.call mark)
+IsOutcome state entry = (mark : CallMark)
+    × (entry.outcome ≡ outcome (rules_view_of state) (turn_in state entry.pass entry.moment) entry.call mark)
 
 -- there is room for the entries, and for that of each open's close
 abbrev pub HasRoom : RunState → Type 0
-HasRoom run = run.entries + length run.opens ≤ JOURNAL_ENTRIES
+HasRoom state = state.entries + length state.opens ≤ JOURNAL_ENTRIES
 
 -- a legal journal: each outcome is the one of its place, and there is always that room
 abbrev pub IsLegal : RunState → List EntryOf → Type 0
-IsLegal run [] = Unit {0}
-IsLegal run (entry ∷ entries) =
-    IsOutcome run entry × HasRoom (apply run entry) × IsLegal (apply run entry) entries
+IsLegal state [] = Unit {0}
+IsLegal state (entry ∷ entries) =
+    IsOutcome state entry × HasRoom (apply state entry) × IsLegal (apply state entry) entries
 
 -- the entry carries the pass's number
 abbrev pub is_of_pass : ℕ → EntryOf → Bool

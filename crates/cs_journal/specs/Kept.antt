@@ -7,6 +7,8 @@ use Rattle.cs_names.specs.declared.limits.TheConstants.{RUN_ATTACHES}
 use Rattle.cs_permit.specs.declared.call.Call.{Call}
 use Rattle.cs_permit.specs.declared.call.Call.TheVariants as call
 use Rattle.cs_journal.specs.declared.entry.Entry.{Entry}
+use Rattle.cs_journal.specs.declared.kept.Again.{Again}
+use Rattle.cs_journal.specs.declared.kept.Again.TheVariants as a
 use Rattle.cs_journal.specs.declared.kept.Kept.{Kept}
 use Rattle.cs_journal.specs.declared.kept.Kept.TheVariants as k
 use Rattle.cs_journal.specs.declared.kept.WriteHead.{WriteHead}
@@ -33,6 +35,11 @@ write_call head bytes =
       offset = head.offset;
       bytes = bytes;
     })
+
+-- a call that is done once more
+abbrev pub again_call : Again → Call
+again_call (a.Own c) = c
+again_call (a.Shared c) = c.now
 
 -- the call, where the bytes that it writes lie in these blocks
 abbrev pub call_of : List (List ℕ) → Kept → Call

@@ -10,6 +10,5 @@ pub mod Steps
 pub mod Bounds
 pub mod Holding
 pub mod Small
-pub mod Ready
 pub mod Codes
 pub mod Audit

@@ -1,7 +1,7 @@
 -- Which growth of a step memory refuses, as data.
 use Rattle.std.specs.Prelude.{Bool, true, false}
 use Rattle.cs_run.specs.Marks.{CallMark}
-use Rattle.cs_run.specs.Marks.{Ample as ample, NoRoom as no_room}
+use Rattle.cs_run.specs.Marks.{Ample as ample, NoGrant as no_grant}
 
 -- Whether memory suffices for a step on a run.
 pub data StepMark : Type 0 where
@@ -9,16 +9,16 @@ pub data StepMark : Type 0 where
   -- the growth for the entry and the receipt is refused
   NoEntry : StepMark
   -- a growth that the grant reaches is refused
-  NoRoom : StepMark
+  NoGrant : StepMark
 
 -- the growth for the entry and the receipt is refused
 abbrev pub refuses_entry : StepMark → Bool
 refuses_entry Ample = false
 refuses_entry NoEntry = true
-refuses_entry NoRoom = false
+refuses_entry NoGrant = false
 
 -- whether memory suffices for the grant
 abbrev pub call_mark : StepMark → CallMark
 call_mark Ample = ample
 call_mark NoEntry = ample
-call_mark NoRoom = no_room
+call_mark NoGrant = no_grant

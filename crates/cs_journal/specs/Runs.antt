@@ -8,6 +8,7 @@ use Rattle.cs_tree_model.specs.Tree.{Tree, tree_code}
 use Rattle.cs_users.specs.Rows.{Row}
 use Rattle.cs_users.specs.contracts.users.Users as users
 use Rattle.cs_permit.specs.contracts.call.Call as call
+use mir.Syntax.{static}
 use Rattle.cs_run.specs.contracts.answer.Outcome as outcome
 use Rattle.cs_permit.specs.declared.call.Call.{Call}
 use Rattle.cs_journal.specs.Summaries.{without_bytes}
@@ -24,7 +25,7 @@ pub record RunOf : Type 0 where
 abbrev pub entry_code : Coded EntryOf
 entry_code =
     code_by (ℕ × (ℕ × (Call × Outcome)))
-    (coded× coded_ℕ (coded× coded_ℕ (coded× call.the_row.coded outcome.the_row.coded)))
+    (coded× coded_ℕ (coded× coded_ℕ (coded× (call.the_row (record { mir = static; lft = [] })).coded outcome.the_row.coded)))
     (λ e. (e.pass, (e.moment, (e.call, e.outcome))))
     (λ parts. record {
       pass = parts.0;

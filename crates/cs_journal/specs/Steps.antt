@@ -1,14 +1,15 @@
 -- A step on a run: what a call under a pass leaves, and what it answers.
-use Rattle.std.specs.Prelude.{ℕ, [], ◌∷◌, ◌++◌, length, not, ◌&&◌, is_some, if◌then◌else◌}
+use Rattle.std.specs.Prelude.{◌≡◌, ◌≢◌, ℕ, true, [], ◌∷◌, ◌++◌, length, not, ◌&&◌, is_some, if◌then◌else◌}
 use Rattle.cs_names.specs.declared.rule_id.RuleId.TheVariants.{L1}
 use Rattle.cs_permit.specs.declared.call.Call.{Call}
 use Rattle.cs_run.specs.declared.answer.Answer.{Answer}
-use Rattle.cs_run.specs.declared.answer.Answer.TheVariants.{Denied, Short}
+use Rattle.cs_run.specs.declared.answer.Answer.TheVariants.{Closed, Denied, Short}
+use Rattle.cs_run.specs.Laws.{FitsCall}
 use Rattle.cs_run.specs.Outcomes.{outcome}
-use Rattle.cs_journal.specs.Calls.{ended, is_full}
-use Rattle.cs_journal.specs.Journals.{EntryOf, answer_to, apply, rules_view_of, turn_in}
+use Rattle.cs_journal.specs.Calls.{closes_plainly, ended, is_full}
+use Rattle.cs_journal.specs.Journals.{EntryOf, IsLegal, answer_to, apply, rules_view_of, turn_in}
 use Rattle.cs_journal.specs.Marks.{StepMark, call_mark, refuses_entry}
-use Rattle.cs_journal.specs.Runs.{PassOf, RunOf, opens_under, receipt_of, state_of}
+use Rattle.cs_journal.specs.Runs.{Fits, PassOf, RunOf, first_state, opens_under, receipt_of, state_of}
 
 -- What a step leaves: its answer, the run, and the pass.
 pub record Stepped : Type 0 where
@@ -63,3 +64,15 @@ step run pass now call mark =
     else if refuses_entry mark && not (is_some (ended (state_of run).opens pass.number call))
     then without_entry run pass Short
     else entering run pass (entry_of run pass now call mark)
+
+-- What is said of a step: it is the one that some mark gives, the journal is legal, and each pass
+-- fits that did. A close whose open stands, and that removes nothing, is made.
+pub record IsStep (old : RunOf) (pass : PassOf) (now : ℕ) (call : Call) (answer : Answer)
+    (new : RunOf) (left : PassOf) : Type 0 where
+  pub stepped : (mark : StepMark)
+      × (record { answer = answer; run = new; pass = left } ≡ step old pass now call mark)
+  pub legal : IsLegal (first_state new) new.journal
+  pub fits : Fits new left
+  pub others : (q : PassOf) → q.number ≢ pass.number → Fits old q → Fits new q
+  pub plain : closes_plainly (state_of old) pass.number call ≡ true → answer ≡ Closed
+  pub answers : FitsCall call answer

@@ -7,18 +7,16 @@ ghost use Rattle.cs_journal.specs.Summaries.{without_bytes};
 use crate::entry::Entry;
 use crate::journal::Journal;
 use crate::kept::Kept;
-use crate::ready::Ready;
 use crate::receipt::Receipt;
 use cs_run::{Outcome, Turn};
 
-/// Adds the entry of a call in that turn, and its receipt, with what each keeps of it, and lets the
-/// call go. It takes no memory.
+/// Adds the entry of a call in that turn, and its receipt, with what each keeps of it. It takes no
+/// memory.
 #[inline]
 pub(crate) fn enter(
     journal: &mut Journal,
     receipts: &mut Vec<Receipt>,
     turn: Turn,
-    _ready: Ready,
     entry: Kept,
     receipt: Kept,
     outcome: Outcome,

@@ -2,8 +2,7 @@
 ghost use Rattle.std.specs.Prelude.{◌≡◌, ◌<◌, IfOk};
 ghost use Rattle.cs_names.specs.declared.limits.TheConstants.{RUN_ATTACHES};
 
-use crate::kept::Kept;
-use crate::ready::Ready;
+use crate::kept::{Again, Kept};
 use crate::summary::CallSummary;
 use crate::written::Written;
 use cs_run::{Outcome, Turn};
@@ -41,7 +40,7 @@ impl<'a> Model for EntryRef<'a> {
 }
 
 impl<'a> EntryRef<'a> {
-    ghost use Rattle.cs_journal.specs.Ready.{ready_call};
+    ghost use Rattle.cs_journal.specs.Kept.{again_call};
     ghost use Rattle.cs_journal.specs.Summaries.{call_in, without_bytes};
 
     /// The number of its pass.
@@ -82,8 +81,8 @@ impl<'a> EntryRef<'a> {
     }
 
     /// Its call, once more.
-    pub(crate) fn again(&self, alloc: Global) -> Result<Ready, AllocError>
-        ensures { IfOk result (λ ready. ready_call ready ≡ self.now.call) }
+    pub(crate) fn again(&self, alloc: Global) -> Result<Again<'a>, AllocError>
+        ensures { IfOk result (λ again. again_call again ≡ self.now.call) }
     {
         self.entry.kept.again(alloc, self.written)
     }

@@ -16,7 +16,7 @@ use std::marker::Model;
 use std::sync::Arc;
 
 /// The entries of a run, in order. Contracts see them, each with its whole call, for how many there
-/// is room, and the bytes of the blocks in which those of writes lie.
+/// is room, and, block after block, the bytes that their calls write.
 #[derive(Drop)]
 pub(crate) struct Journal {
     entries: Vec<Entry>,
@@ -74,7 +74,7 @@ impl Journal {
     pub(crate) fn keep_write(
         &mut self,
         alloc: Global,
-        call: &WriteCall,
+        call: &WriteCall<'_>,
     ) -> Result<(Kept, Kept), AllocError>
         ensures items { self.new.items ≡ self.old.items }
         ensures capacity { self.new.capacity ≡ self.old.capacity }

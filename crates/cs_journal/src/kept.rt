@@ -1,17 +1,15 @@
 //! What an entry and a receipt keep of a call.
 ghost use Rattle.std.specs.Prelude.{◌≡◌, ◌+◌, ◌≤◌, ℕ, IfOk, List, true, vec_len};
-ghost use Rattle.cs_journal.specs.Kept.{LiesIn, call_of, close_call, read_call, remove_call, write_call};
-ghost use Rattle.cs_journal.specs.Ready.{ready_call};
+ghost use Rattle.cs_journal.specs.Kept.{LiesIn, again_call, call_of, close_call, read_call, remove_call, write_call};
 ghost use Rattle.cs_journal.specs.Small.{is_small, is_start};
 ghost use Rattle.cs_permit.specs.declared.call.Call.TheVariants.{Remove};
 
-use crate::ready::Ready;
 use crate::summary::{CallSummary, summary_of};
 use crate::user_text::UserText;
 use crate::written::{Piece, Written};
 use cs_fids::Place;
-use cs_names::{Bytes, UserName};
-use cs_permit::{Call, CloseCall, ReadCall, RemoveCall, StatCall, WriteCall};
+use cs_names::UserName;
+use cs_permit::{Call, CloseCall, ReadCall, RemoveCall, SentBytes, StatCall, WriteCall};
 use std::alloc::{AllocError, Global};
 use std::sync::Arc;
 
@@ -29,7 +27,7 @@ pub(crate) struct WriteHead {
 // a variant's short fields come first: they lie beside its tag
 #[derive(Drop)]
 pub(crate) enum Kept {
-    Shared(Arc<Call>),
+    Shared(Arc<Call<'static>>),
     Write {
         piece: Piece,
         head: Arc<WriteHead>,
@@ -58,14 +56,20 @@ pub(crate) enum Kept {
     Stat(u64),
 }
 
+/// A call that is done once more: made anew, or as an entry and a receipt share it.
+#[derive(Drop)]
+pub(crate) enum Again<'a> {
+    Own(Call<'a>),
+    Shared(&'a Call<'static>),
+}
+
 impl Kept {
-    ghost use Rattle.cs_journal.specs.Kept.{LiesIn, call_of};
-    ghost use Rattle.cs_journal.specs.Ready.{ready_call};
+    ghost use Rattle.cs_journal.specs.Kept.{LiesIn, again_call, call_of};
     ghost use Rattle.cs_journal.specs.Summaries.{call_in, without_bytes};
 
     /// What an entry or a receipt keeps of a call with no memory of its own: a close's user, and a
     /// remove's, on the last of the blank texts.
-    pub(crate) fn small(call: &Call, blanks: &mut Vec<Box<UserText>>) -> Kept
+    pub(crate) fn small(call: &Call<'_>, blanks: &mut Vec<Box<UserText>>) -> Kept
         requires small { is_small call.now ≡ true }
         requires blank { 1 ≤ vec_len blanks.old }
         ensures value { (blocks : List (List ℕ)) → call_of blocks result ≡ call.now }
@@ -93,13 +97,17 @@ impl Kept {
         }
     }
 
-    /// The call, once more.
-    pub(crate) fn again(&self, alloc: Global, written: &Written) -> Result<Ready, AllocError>
+    /// The call, once more. A write lends its bytes.
+    pub(crate) fn again<'a>(
+        &'a self,
+        alloc: Global,
+        written: &'a Written,
+    ) -> Result<Again<'a>, AllocError>
         requires { LiesIn written.now self.now }
-        ensures { IfOk result (λ ready. ready_call ready ≡ call_of written.now self.now) }
+        ensures { IfOk result (λ again. again_call again ≡ call_of written.now self.now) }
     {
         match self {
-            Kept::Shared(call) => Ok(Ready::Shared(call.clone()?)),
+            Kept::Shared(call) => Ok(Again::Shared(call)),
             Kept::Write { piece, head } => write_again(alloc, head, written.piece(*piece)),
             Kept::Close { open_number, user } => close_again(alloc, *open_number, user),
             Kept::Remove { number, user } => remove_again(alloc, *number, user, None),
@@ -112,8 +120,8 @@ impl Kept {
                 count,
                 number,
                 offset,
-            } => Ok(Ready::Own(read_again(*number, *offset, *count))),
-            Kept::Stat(number) => Ok(Ready::Own(Call::Stat(StatCall { number: *number }))),
+            } => Ok(Again::Own(read_again(*number, *offset, *count))),
+            Kept::Stat(number) => Ok(Again::Own(Call::Stat(StatCall { number: *number }))),
         }
     }
 
@@ -159,11 +167,15 @@ fn text_of(blanks: &mut Vec<Box<UserText>>, user: &UserName) -> Box<UserText>
     }
 }
 
-fn close_again(alloc: Global, open_number: u32, user: &UserText) -> Result<Ready, AllocError>
-    ensures { IfOk result (λ ready. ready_call ready ≡ close_call open_number user.now) }
+fn close_again(
+    alloc: Global,
+    open_number: u32,
+    user: &UserText,
+) -> Result<Again<'static>, AllocError>
+    ensures { IfOk result (λ again. again_call again ≡ close_call open_number user.now) }
 {
     let user = user.name(alloc)?;
-    Ok(Ready::Own(Call::Close(CloseCall { open_number, user })))
+    Ok(Again::Own(Call::Close(CloseCall { open_number, user })))
 }
 
 fn remove_again(
@@ -171,32 +183,34 @@ fn remove_again(
     number: u64,
     user: &UserText,
     open_number: Option<u32>,
-) -> Result<Ready, AllocError>
-    ensures { IfOk result (λ ready. ready_call ready ≡ remove_call number user.now open_number) }
+) -> Result<Again<'static>, AllocError>
+    ensures { IfOk result (λ again. again_call again ≡ remove_call number user.now open_number) }
 {
     let user = user.name(alloc)?;
-    Ok(Ready::Own(Call::Remove(RemoveCall {
+    Ok(Again::Own(Call::Remove(RemoveCall {
         number,
         user,
         open_number,
     })))
 }
 
-fn write_again(alloc: Global, head: &WriteHead, bytes: &[u8]) -> Result<Ready, AllocError>
-    ensures { IfOk result (λ ready. ready_call ready ≡ write_call head.now bytes.now) }
+fn write_again<'a>(
+    alloc: Global,
+    head: &WriteHead,
+    bytes: &'a [u8],
+) -> Result<Again<'a>, AllocError>
+    ensures { IfOk result (λ again. again_call again ≡ write_call head.now bytes.now) }
 {
-    let user = head.user.name(alloc)?;
-    let bytes = Bytes::keep(alloc, bytes)?;
-    Ok(Ready::Own(Call::Write(WriteCall {
+    Ok(Again::Own(Call::Write(WriteCall {
         number: head.number,
-        user,
+        user: head.user.name(alloc)?,
         offset: head.offset,
-        bytes,
+        bytes: SentBytes::lent(bytes),
     })))
 }
 
 /// A read that goes on at the start.
-fn read_again(number: u64, offset: u64, count: u32) -> Call
+fn read_again(number: u64, offset: u64, count: u32) -> Call<'static>
     ensures { result ≡ read_call number offset count }
 {
     Call::Read(ReadCall {
@@ -234,7 +248,7 @@ fn is_start(place: &Place) -> bool
 }
 
 /// Whether an entry keeps the call with no memory of its own.
-pub(crate) fn is_small(call: &Call) -> bool
+pub(crate) fn is_small(call: &Call<'_>) -> bool
     ensures { result ≡ is_small call.now }
 {
     match call {

@@ -69,7 +69,7 @@ impl Receipt {
     }
 
     /// Whether its call is this one, but for the bytes that they write. It takes no memory.
-    pub fn is_for(&self, call: &Call) -> bool
+    pub fn is_for(&self, call: &Call<'_>) -> bool
         ensures { IsTrue result ↔ (self.now.call ≡ without_bytes call.now) }
     {
         are_same(self.kept.summary(), summary_of(call))

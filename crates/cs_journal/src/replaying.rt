@@ -14,6 +14,7 @@ ghost use Rattle.cs_tree_model.specs.Stores.{CanStamp};
 
 use crate::entry::EntryRef;
 use crate::journal::Journal;
+use crate::kept::Again;
 use crate::run::Run;
 use cs_overlay::Overlay;
 use cs_permit::Call;
@@ -25,7 +26,7 @@ use std::alloc::{AllocError, Global};
 use std::sync::Arc;
 
 /// Takes out the open that the call ends, if that stands.
-fn release(call: &Call, opens: &mut Opens, pass: u32)
+fn release(call: &Call<'_>, opens: &mut Opens, pass: u32)
     ensures { opens.new.items ≡ released_if (closes call.now) pass opens.old.items }
 {
     if let Some(number) = closes(call) {
@@ -36,7 +37,7 @@ fn release(call: &Call, opens: &mut Opens, pass: u32)
 /// Grants a call that was granted: no rule denies it, so it is refused for want of memory alone.
 fn grant_again<T: TreeStore>(
     alloc: Global,
-    call: &Call,
+    call: &Call<'_>,
     tree: &mut T,
     opens: &mut Opens,
     users: &Users,
@@ -57,7 +58,7 @@ fn grant_again<T: TreeStore>(
 /// Does a call once more, so that it ends as it did.
 fn redo<T: TreeStore>(
     alloc: Global,
-    call: &Call,
+    call: &Call<'_>,
     outcome: Outcome,
     tree: &mut T,
     opens: &mut Opens,
@@ -98,17 +99,11 @@ fn redo_entry<T: TreeStore>(
     ensures { IfOk result (λ answer. left (T.tree tree.new) opens.new.items answer
         ≡ left_by (run_state (T.tree tree.old) opens.old.items users.now place) entry.entry) }
 {
-    let ready = entry.again(alloc)?;
-    let turn = entry.turn(place);
-    redo(
-        alloc,
-        ready.call(),
-        entry.outcome(),
-        tree,
-        opens,
-        users,
-        turn,
-    )
+    let (outcome, turn) = (entry.outcome(), entry.turn(place));
+    match entry.again(alloc)? {
+        Again::Own(call) => redo(alloc, &call, outcome, tree, opens, users, turn),
+        Again::Shared(call) => redo(alloc, call, outcome, tree, opens, users, turn),
+    }
 }
 
 /// What the call of the entry at the place was answered, if there is one.

@@ -1,16 +1,16 @@
 //! How many entries a call takes, and the memory for them.
-ghost use Rattle.std.specs.Prelude.{◌≡◌, ◌+◌, ◌≤◌, ◌⊎◌, ◌<◌, [], IfSome, IsNone, IsSome, OnErr, OnOk, false, length, true, vec_capacity, vec_len};
+ghost use Rattle.std.specs.Prelude.{◌≡◌, ◌+◌, ◌≤◌, ◌||◌, ◌⊎◌, ◌<◌, [], IfSome, IsNone, IsSome, OnErr, OnOk, false, length, true, vec_capacity, vec_len};
+ghost use Rattle.std.specs.Arc.{arc_value};
 ghost use Rattle.cs_names.specs.declared.limits.TheConstants.{JOURNAL_ENTRIES};
 ghost use Rattle.cs_journal.specs.Calls.{charge};
 ghost use Rattle.cs_journal.specs.Kept.{LiesIn, call_of};
-ghost use Rattle.cs_journal.specs.Ready.{is_apart, ready_call};
-ghost use Rattle.cs_journal.specs.Small.{is_small};
+ghost use Rattle.cs_journal.specs.Small.{is_small, is_write};
 ghost use Rattle.cs_journal.specs.Summaries.{without_bytes};
 ghost use Rattle.cs_run.specs.Laws.{opens_one};
 
 use crate::journal::Journal;
+use crate::keeping::keep;
 use crate::kept::Kept;
-use crate::ready::Ready;
 use crate::receipt::Receipt;
 use crate::user_text::UserText;
 use cs_names::limits::JOURNAL_ENTRIES;
@@ -18,12 +18,13 @@ use cs_permit::Call;
 use cs_run::closes;
 use cs_run::opens::Opens;
 use std::alloc::{AllocError, Global};
+use std::sync::Arc;
 
 /// From how many elements on a list is long.
 const LONG: usize = 1_024;
 
 /// Whether a grant of the call makes an open.
-fn opens_one(call: &Call) -> bool
+fn opens_one(call: &Call<'_>) -> bool
     ensures { result ≡ opens_one call.now }
 {
     match call {
@@ -41,7 +42,7 @@ fn opens_one(call: &Call) -> bool
 
 /// How many entries a call takes that are not reserved: its own, and for an open or a create that
 /// of the close; none where it ends an open that stands.
-pub(crate) fn charge_of(call: &Call, opens: &Opens, pass: u32) -> usize
+pub(crate) fn charge_of(call: &Call<'_>, opens: &Opens, pass: u32) -> usize
     ensures value { result ≡ charge opens.now.items pass call.now }
     ensures few { result ≤ 2 }
 {
@@ -102,22 +103,24 @@ pub(crate) fn widen<T>(list: &mut Vec<T>, more: usize) -> Result<(), AllocError>
 #[inline]
 pub(crate) fn make_room(
     alloc: Global,
-    ready: &Ready,
+    call: &Call<'_>,
+    shared: Option<&Arc<Call<'static>>>,
     journal: &mut Journal,
     receipts: &mut Vec<Receipt>,
     blanks: &mut Vec<Box<UserText>>,
     entries: usize,
     more: usize,
 ) -> Option<(Kept, Kept)>
-    requires apart { is_apart ready.now ≡ true }
+    requires apart { IsNone shared → (is_small call.now || is_write call.now) ≡ true }
+    requires shared { IfSome shared (λ whole. (arc_value whole.now ≡ call.now)
+        × (is_small call.now ≡ false)) }
     requires some { 1 ≤ more }
     requires few { more ≤ JOURNAL_ENTRIES }
     ensures lies { IfSome result (λ made. LiesIn journal.new.blocks made.0) }
-    ensures entry { IfSome result (λ made. call_of journal.new.blocks made.0
-        ≡ ready_call ready.now) }
+    ensures entry { IfSome result (λ made. call_of journal.new.blocks made.0 ≡ call.now) }
     ensures receipt { IfSome result (λ made. without_bytes (call_of [] made.1)
-        ≡ without_bytes (ready_call ready.now)) }
-    ensures refused { IsNone result → (is_small (ready_call ready.now) ≡ false)
+        ≡ without_bytes call.now) }
+    ensures refused { IsNone result → (is_small call.now ≡ false)
         ⊎ ((journal.old.capacity + 1 ≤ length journal.old.items + entries)
         ⊎ ((vec_capacity receipts.old + 1 ≤ vec_len receipts.old + more)
         ⊎ (vec_len blanks.old < more + more))) }
@@ -137,5 +140,5 @@ pub(crate) fn make_room(
     {
         return None;
     }
-    ready.keep(alloc, journal, blanks).ok()
+    keep(alloc, call, shared, journal, blanks).ok()
 }

@@ -1,16 +1,19 @@
 //! Calls on a run, each in its turn.
-ghost use Rattle.std.specs.Prelude.{◌≡◌, ◌≢◌, true};
-ghost use Rattle.cs_journal.specs.Calls.{closes_plainly};
+ghost use Rattle.std.specs.Prelude.{◌≡◌, ◌≢◌, ◌≤◌, ◌||◌, IfSome, IsNone, IsSome, false, true};
+ghost use Rattle.std.specs.Arc.{arc_value};
+ghost use Rattle.cs_journal.specs.Calls.{charge, closes_plainly, is_full};
 ghost use Rattle.cs_journal.specs.Journals.{IsLegal};
 ghost use Rattle.cs_journal.specs.Marks.{StepMark};
 ghost use Rattle.cs_journal.specs.Runs.{Fits, PassOf, first_state, state_of};
-ghost use Rattle.cs_journal.specs.Steps.{step};
+ghost use Rattle.cs_journal.specs.Small.{is_small, is_write};
+ghost use Rattle.cs_journal.specs.Steps.{IsStep, step};
 ghost use Rattle.cs_run.specs.Laws.{FitsCall};
 
 use crate::counts::Counts;
 use crate::entering::enter;
+use crate::keeping::{is_write, share};
+use crate::kept::is_small;
 use crate::pass::Pass;
-use crate::ready::Ready;
 use crate::room::{charge_of, make_room};
 use crate::run::Run;
 use cs_names::RuleId;
@@ -19,51 +22,97 @@ use cs_permit::Call;
 use cs_run::{Answer, Turn, act};
 use cs_tree_model::TreeRead;
 use std::alloc::Global;
+use std::sync::Arc;
 
 impl<L: TreeRead + Drop> Run<L> {
     /// Makes a call under a pass at that moment: L1 where the journal has no room for its entry
     /// and, of an open or a create, for that of the close; want of memory where a growth for entry
     /// and receipt is refused. Then nothing changes. Else the journal has one entry more, with the
     /// outcome by the run's rules and the memory that a grant takes, and the pass has its receipt.
-    #[tactic(auto, unfolding(crate::specs::Steps::step))]
-    pub fn step(&mut self, alloc: Global, pass: &mut Pass, now: u32, call: Call) -> Answer
+    pub fn step(&mut self, alloc: Global, pass: &mut Pass, now: u32, call: Call<'_>) -> Answer
         requires fits { Fits self.old pass.old }
         ensures stepped { (mark : StepMark)
             × (record { answer = result; run = self.new; pass = pass.new }
-            ≡ step self.old pass.old now call mark) }
+            ≡ step self.old pass.old now call.entry mark) }
         ensures legal { IsLegal (first_state self.new) self.new.journal }
         ensures fits { Fits self.new pass.new }
         ensures others { (q : PassOf) → q.number ≢ pass.old.number
             → Fits self.old q → Fits self.new q }
-        ensures plain { closes_plainly (state_of self.old) pass.old.number call ≡ true
+        ensures plain { closes_plainly (state_of self.old) pass.old.number call.entry ≡ true
             → result ≡ Answer.Closed }
-        ensures answer { FitsCall call result }
+        ensures answer { FitsCall call.entry result }
     {
-        let charge = charge_of(&call, &self.opens, pass.number);
-        let before = self.opens.len();
-        let entries = before + charge;
-        if self.journal.len() + entries > JOURNAL_ENTRIES {
+        let Some(charged) = self.charge(pass, &call) else {
             return Answer::Denied(RuleId::L1);
+        };
+        // lent here, since moving a call takes as long as much of a step
+        if is_small(&call) || is_write(&call) {
+            let none: Option<&Arc<Call<'static>>> = None;
+            return self.make_call(alloc, pass, now, &call, none, charged);
         }
-        let more = pass.reserved + charge;
-        let Ok(ready) = Ready::of(alloc, call) else {
+        let Ok(whole) = share(alloc, call) else {
             return Answer::Short;
         };
+        self.make_call(alloc, pass, now, &whole, Some(&whole), charged)
+    }
+
+    /// How many entries the call takes that are not reserved, if the journal has room for them.
+    fn charge(&self, pass: &Pass, call: &Call<'_>) -> Option<usize>
+        ensures full { IsNone result → is_full (state_of self.now) pass.now.number call.now ≡ true }
+        ensures room { IsSome result → is_full (state_of self.now) pass.now.number call.now
+            ≡ false }
+        ensures charge { IfSome result (λ n. n
+            ≡ charge (state_of self.now).opens pass.now.number call.now) }
+        ensures few { IfSome result (λ n. n ≤ 2) }
+        ensures legal { IsLegal (first_state self.now) self.now.journal }
+        ensures plain { IsNone result → closes_plainly (state_of self.now) pass.now.number call.now
+            ≢ true }
+    {
+        let charge = charge_of(call, &self.opens, pass.number);
+        let entries = self.journal.len() + self.opens.len() + charge;
+        if entries > JOURNAL_ENTRIES {
+            return None;
+        }
+        Some(charge)
+    }
+
+    /// Makes a call for which the journal has room, and that its entry and its receipt share, if
+    /// that is given.
+    fn make_call(
+        &mut self,
+        alloc: Global,
+        pass: &mut Pass,
+        now: u32,
+        call: &Call<'_>,
+        shared: Option<&Arc<Call<'static>>>,
+        charged: usize,
+    ) -> Answer
+        requires fits { Fits self.old pass.old }
+        requires room { is_full (state_of self.old) pass.old.number call.now ≡ false }
+        requires charge { charged ≡ charge (state_of self.old).opens pass.old.number call.now }
+        requires few { charged ≤ 2 }
+        requires apart { IsNone shared → (is_small call.now || is_write call.now) ≡ true }
+        requires shared { IfSome shared (λ whole. (arc_value whole.now ≡ call.now)
+            × (is_small call.now ≡ false)) }
+        ensures { IsStep self.old pass.old now call.now result self.new pass.new }
+    {
+        let before = self.opens.len();
+        let turn = Turn {
+            moment: now,
+            place: self.journal.len() as u32,
+            pass: pass.number,
+        };
+        let (entries, more) = (before + charged, pass.reserved + charged);
         let (journal, receipts) = (&mut self.journal, &mut pass.receipts);
         let blanks = &mut pass.blanks;
         let Some((entry, receipt)) = make_room(
-            alloc, &ready, journal, receipts, blanks, entries, more,
+            alloc, call, shared, journal, receipts, blanks, entries, more,
         ) else {
             return Answer::Short;
         };
-        let turn = Turn {
-            moment: now,
-            place: journal.len() as u32,
-            pass: pass.number,
-        };
         let (tree, opens, users) = (&mut self.tree, &mut self.opens, &self.users);
-        let (outcome, answer) = act(alloc, ready.call(), tree, opens, users, turn);
-        enter(journal, receipts, turn, ready, entry, receipt, outcome);
+        let (outcome, answer) = act(alloc, call, tree, opens, users, turn);
+        enter(journal, receipts, turn, entry, receipt, outcome);
         pass.reserved = pass.reserved + self.opens.len() - before;
         self.passes[pass.number as usize] = Counts {
             entries: pass.receipts.len(),

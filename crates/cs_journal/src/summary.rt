@@ -23,7 +23,7 @@ pub(crate) enum CallSummary<'a> {
 }
 
 /// The call without the bytes that it writes.
-pub(crate) fn summary_of(call: &Call) -> CallSummary<'_>
+pub(crate) fn summary_of<'a>(call: &'a Call<'_>) -> CallSummary<'a>
     ensures { call_in result ≡ without_bytes call.now }
 {
     match call {

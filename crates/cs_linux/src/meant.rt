@@ -17,8 +17,8 @@ fn asked_of(mut stat: Stat) -> Stat
 /// The request that Linux's client means by this one: a Twstat doesn't ask for another atime or muid,
 /// which the client fills in where its user asked for neither, and every other request is what it was
 /// (stat(5)). It takes no memory.
-pub fn request_of_linux(request: TMessage) -> TMessage
-    ensures { t_view result ≡ meant (t_view request) }
+pub fn request_of_linux(request: TMessage<'_>) -> TMessage<'_>
+    ensures { t_view result ≡ meant (t_view request.entry) }
 {
     let TMessage { tag, body } = request;
     let body = match body {

@@ -2,9 +2,10 @@
 //! call names a file by its number.
 ghost use Rattle.std.specs.Prelude.{◌≡◌, IfOk};
 
+use crate::sent_bytes::SentBytes;
 use crate::sent_stat::SentStat;
 use cs_fids::Place;
-use cs_names::{Bytes, Name, Text, Texts, UserName};
+use cs_names::{Name, Text, Texts, UserName};
 use std::alloc::{AllocError, Global};
 
 /// Attaches a user to the root of the run (attach(5)).
@@ -55,11 +56,11 @@ pub struct ReadCall {
 
 /// Writes into an open file (read(5)).
 #[derive(Debug, Drop)]
-pub struct WriteCall {
+pub struct WriteCall<'a> {
     pub number: u64,
     pub user: UserName,
     pub offset: u64,
-    pub bytes: Bytes,
+    pub bytes: SentBytes<'a>,
 }
 
 /// Ends an open (clunk(5)).
@@ -95,13 +96,13 @@ pub struct WstatCall {
 
 /// A call on a run.
 #[derive(Debug, Drop)]
-pub enum Call {
+pub enum Call<'a> {
     Attach(AttachCall),
     Walk(WalkCall),
     Open(OpenCall),
     Create(CreateCall),
     Read(ReadCall),
-    Write(WriteCall),
+    Write(WriteCall<'a>),
     Close(CloseCall),
     Remove(RemoveCall),
     Stat(StatCall),
@@ -150,20 +151,20 @@ fn copy_read(call: &ReadCall) -> Result<ReadCall, AllocError>
     })
 }
 
-fn copy_write(call: &WriteCall) -> Result<WriteCall, AllocError>
+fn copy_write(alloc: Global, call: &WriteCall<'_>) -> Result<WriteCall<'static>, AllocError>
     ensures { IfOk result (λ copy. copy ≡ call.now) }
 {
     Ok(WriteCall {
         number: call.number,
         user: call.user.try_clone()?,
         offset: call.offset,
-        bytes: call.bytes.try_clone()?,
+        bytes: call.bytes.try_clone(alloc)?,
     })
 }
 
-impl Call {
-    /// The same call again.
-    pub fn try_clone(&self, alloc: Global) -> Result<Call, AllocError>
+impl<'a> Call<'a> {
+    /// The same call again, which lends nothing.
+    pub fn try_clone(&self, alloc: Global) -> Result<Call<'static>, AllocError>
         ensures { IfOk result (λ copy. copy ≡ self.now) }
     {
         Ok(match self {
@@ -178,7 +179,7 @@ impl Call {
             }),
             Call::Create(call) => Call::Create(copy_create(call)?),
             Call::Read(call) => Call::Read(copy_read(call)?),
-            Call::Write(call) => Call::Write(copy_write(call)?),
+            Call::Write(call) => Call::Write(copy_write(alloc, call)?),
             Call::Close(call) => Call::Close(CloseCall {
                 open_number: call.open_number,
                 user: call.user.try_clone()?,

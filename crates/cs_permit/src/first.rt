@@ -116,7 +116,7 @@ fn ends_too_late(start: u64, count: u64) -> bool
 }
 
 /// Where a write begins.
-fn write_start(call: &WriteCall, file: &Metadata) -> u64
+fn write_start(call: &WriteCall<'_>, file: &Metadata) -> u64
     ensures { result ≡ (if is_append_only (lent file.now) then told_length file.now.kind
         else call.now.offset) }
 {
@@ -127,7 +127,7 @@ fn write_start(call: &WriteCall, file: &Metadata) -> u64
     }
 }
 
-fn first_of_write<T: TreeRead>(call: &WriteCall, tree: &T) -> Option<RuleId>
+fn first_of_write<T: TreeRead>(call: &WriteCall<'_>, tree: &T) -> Option<RuleId>
     ensures { result ≡ first_failing (write_rules (T.tree tree.now) call.now) }
 {
     let Some(file) = tree.record(call.number) else {
@@ -175,8 +175,8 @@ fn first_of_stat<T: TreeRead>(call: &StatCall, tree: &T) -> Option<RuleId>
 
 /// The first rule of the run that the call fails, if any. It takes no memory.
 #[tactic(auto, unfolding(crate::specs::Calls::failing_rule))]
-pub fn first_failing<T: TreeRead>(
-    call: &Call,
+pub fn failing_rule<T: TreeRead>(
+    call: &Call<'_>,
     tree: &T,
     opens: &[OpenFile],
     users: &Users,

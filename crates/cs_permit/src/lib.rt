@@ -11,6 +11,7 @@ pub mod mode;
 mod read;
 pub mod request;
 pub mod rules;
+pub mod sent_bytes;
 pub mod sent_stat;
 mod shown;
 mod table;
@@ -24,9 +25,10 @@ pub use call::{
 };
 pub use changes::{new_group, new_length, new_mode, new_mtime, new_name};
 pub use fault::{FindFault, PassFault};
-pub use first::{first_failing, first_of_walk};
+pub use first::{failing_rule, first_of_walk};
 pub use read::name_before;
 pub use request::Request;
+pub use sent_bytes::SentBytes;
 pub use sent_stat::SentStat;
 pub use shown::{
     entry_size, entry_stat, qid_at, qid_known, qid_of, shown_name, stat_of_file, stat_ref,

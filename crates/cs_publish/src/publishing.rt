@@ -1,5 +1,5 @@
 //! All states of a scene, made by several workers.
-ghost use Rattle.std.specs.Prelude.{◌≡◌, ◌↔◌, false, true, IfOk, IsErrOf};
+ghost use Rattle.std.specs.Prelude.{◌≡◌, ◌↔◌, false, IfOk, IsErrOf};
 ghost use Rattle.std.specs.Arc.{arc_value};
 ghost use Rattle.cs_publish.specs.Crews.{all_published, is_crew};
 ghost use Rattle.cs_registry.specs.Registries.{AdmitsAll, empty};

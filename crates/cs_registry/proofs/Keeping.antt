@@ -17,9 +17,6 @@ use Rattle.cs_registry.specs.Runs.{Runs}
 
 -- ---- no state
 
-no_state : {A : Type 0} (n k : ℕ) (x : A) → slice_get (replicate n None) k ≡ Some (Some x) → ⊥
-no_state n k x there = none-some x (sym (all_at (λ o. o ≡ None) (replicate n None) k (Some x) there (All-replicate (λ o. o ≡ None) n None refl)))
-
 module _ (A : Type 0) where
   pub none_there : (n : ℕ) → map (is_some {T = A}) (replicate n None) ≡ replicate n false
   none_there zero = refl
@@ -33,7 +30,7 @@ module _ {H A : Type 0} (scene : Scene) (states : List (Option A)) (runs : Runs 
   pub none_kept : (admits : ℕ → Tree → Type 0) (tree_of : A → Tree) → AdmitsAll admits scene → IsKept {H = H} admits scene tree_of states n runs
   none_kept admits tree_of all = record {
     each = ap length blank ∙ (length-replicate n None ∙ is);
-    made = λ k x h. absurd (no_state n k x (ap (λ xs. slice_get xs k) (sym blank) ∙ h));
+    made = λ k x h. absurd (none-some x (sym (all_at (λ (o : Option A). o ≡ None) (replicate n None) k (Some x) (ap (λ xs. slice_get xs k) (sym blank) ∙ h) (All-replicate (λ o. o ≡ None) n None refl))));
     admitted = all;
     left = sym (none_counted n) ∙ ap (count_by not) (sym (none_there A n) ∙ ap (map is_some) (sym blank));
     few = (let count : length runs ≡ 0 = ap length none in omega arith);

@@ -6,10 +6,10 @@ use Rattle.std.specs.Map.{keys_of}
 use Rattle.std.specs.Option.{option_map, option_map_or}
 use Rattle.std.proofs.Math.Seq.{get_or-append_seam, map-set_same}
 use Rattle.std.proofs.lemmas.Bool.Decides.{nat_tests}
-use Rattle.std.proofs.lemmas.List.{length_push, map-append}
+use Rattle.std.proofs.lemmas.List.{get_or-set_same, length-set, length_push, map-append}
 use Rattle.std.proofs.lemmas.List.Folds.{position_or_len_push}
 use Rattle.std.proofs.lemmas.Map.Entries.{length-keys_of}
-use Rattle.std.proofs.lemmas.Option.{get_or_from_slice_get, none-some, same_Some, slice_get_read}
+use Rattle.std.proofs.lemmas.Option.{get_or_from_slice_get, none-some, same_Some, slice_get_read, slice_get_within}
 use Rattle.indexmap.proofs.MapLemmas.{Missing-position}
 use Rattle.cs_tree_model.specs.Tree.{Tree}
 use Rattle.cs_users.specs.Rows.{Row}
@@ -29,9 +29,7 @@ get_set_other (y ∷ ys) (suc place) zero x apart = refl
 get_set_other (y ∷ ys) (suc place) (suc other) x apart = get_set_other ys place other x (λ e. apart (ap suc e))
 
 get_set_own : {X : Type 0} (xs : List X) (place : ℕ) (x y : X) → slice_get xs place ≡ Some y → slice_get (slice_set xs place x) place ≡ Some x
-get_set_own [] place x y there = cc
-get_set_own (z ∷ zs) zero x y there = refl
-get_set_own (z ∷ zs) (suc place) x y there = get_set_own zs place x y there
+get_set_own xs place x y there = (let inside = slice_get_within xs place y there in slice_get_read (slice_set xs place x) _ place x (sym (length-set xs place x)) inside (sym (get_or-set_same xs place x x inside)))
 
 keys_set : {K X : Type 0} (es : List (K × X)) (place : ℕ) (k : K) (x w : X) → slice_get es place ≡ Some (k, x) → keys_of (slice_set es place (k, w)) ≡ keys_of es
 keys_set es place k x w there = map-set_same (λ e. e.0) es place (k, w) (k, x) (sym (ap (λ e. e.0) (get_or_from_slice_get es place (k, x) (k, x) there)))

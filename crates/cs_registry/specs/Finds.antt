@@ -1,5 +1,6 @@
 -- What it is to find the run of a key.
-use Rattle.std.specs.Prelude.{◌≡◌, ◌≢◌, ℕ, not, List, length, if◌then◌else◌, slice_get, IfSome, IsSomeAnd, Option, None, Some, Result, Ok, Err}
+use Rattle.std.specs.Prelude.{◌≡◌, ◌≢◌, ℕ, not, List, length, if◌then◌else◌, slice_get}
+use Rattle.std.specs.Prelude.{IfSome, IsSomeAnd, Option, None, Some, Result, Ok, Err}
 use Rattle.std.specs.Option.{option_map_or}
 use Rattle.cs_plan.specs.Scenes.{state_at}
 use Rattle.cs_tree_model.specs.Tree.{Tree}

@@ -1,16 +1,15 @@
 -- What it is to publish a state.
 use Rattle.std.specs.Prelude.{◌≡◌, ◌<◌, ℕ, true, false, length, slice_set, Result, Ok, Err}
-use Rattle.cs_plan.specs.Scenes.{Published}
+use Rattle.cs_plan.specs.Scenes.{Published, Scene}
 use Rattle.cs_registry.specs.Registries.{Registry, is_published}
 use Rattle.cs_registry.specs.declared.fault.PublishFault.{PublishFault}
 use Rattle.cs_registry.specs.declared.fault.PublishFault.TheVariants.{Stranger, Twice, Memory}
 
-module _ {H : Type 0} where
-  -- the state is one of the registry's own scene
-  abbrev pub Belongs : Registry H → Published → Type 0
-  Belongs registry state =
-      (state.number < length registry.scene.plan) × (state.scene ≡ registry.scene)
+-- a state that was made is one of the scene's: it was made in it, and has a number of its plan
+abbrev pub IsStateOf : Scene → Published → Type 0
+IsStateOf scene state = (state.number < length scene.plan) × (state.scene ≡ scene)
 
+module _ {H : Type 0} where
   abbrev pub with_published : Registry H → ℕ → Registry H
   with_published registry number =
       record registry { published = slice_set registry.published number true }
@@ -18,10 +17,10 @@ module _ {H : Type 0} where
   -- what is answered, and what is left: Stranger comes first, then Twice, and want of memory last
   abbrev pub Publishes : Registry H → Published → Result Unit PublishFault → Registry H → Type 0
   Publishes old state (Ok _) new =
-      Belongs old state × (is_published old state.number ≡ false)
+      IsStateOf old.scene state × (is_published old state.number ≡ false)
       × (new ≡ with_published old state.number)
-  Publishes old state (Err Stranger) new = (¬ Belongs old state) × (new ≡ old)
+  Publishes old state (Err Stranger) new = (¬ IsStateOf old.scene state) × (new ≡ old)
   Publishes old state (Err Twice) new =
-      Belongs old state × (is_published old state.number ≡ true) × (new ≡ old)
+      IsStateOf old.scene state × (is_published old state.number ≡ true) × (new ≡ old)
   Publishes old state (Err Memory) new =
-      Belongs old state × (is_published old state.number ≡ false) × (new ≡ old)
+      IsStateOf old.scene state × (is_published old state.number ≡ false) × (new ≡ old)

@@ -1,5 +1,6 @@
 -- What a registry keeps.
-use Rattle.std.specs.Prelude.{◌≡◌, ◌≤◌, ℕ, Bool, false, not, count_by, is_some, List, [], length, map, Option, Some, replicate, slice_get, slice_index_or}
+use Rattle.std.specs.Prelude.{◌≡◌, ◌≤◌, ℕ, Bool, false, not, count_by, is_some, List, [], length}
+use Rattle.std.specs.Prelude.{map, Option, Some, replicate, slice_get, slice_index_or}
 use Rattle.cs_names.specs.declared.limits.TheConstants.{RUNS}
 use Rattle.cs_plan.specs.Scenes.{IsPublished, Published, Scene}
 use Rattle.cs_tree_model.specs.Tree.{Tree}

@@ -1,5 +1,6 @@
 -- The runs of a registry, in the order in which they were made.
-use Rattle.std.specs.Prelude.{ℕ, ◌+◌, nat_le, Bool, false, List, ◌∷◌, [], ◌++◌, length, position, slice_get, slice_set, Option, None, Some}
+use Rattle.std.specs.Prelude.{ℕ, ◌+◌, nat_le, Bool, false, List, ◌∷◌, [], ◌++◌, length, position}
+use Rattle.std.specs.Prelude.{slice_get, slice_set, Option, None, Some}
 use Rattle.std.specs.Map.{keys_of}
 use Rattle.std.specs.Option.{option_map, option_map_or}
 use Rattle.cs_names.specs.declared.limits.TheConstants.{RUNS, RUN_ATTACHES}

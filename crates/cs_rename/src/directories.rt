@@ -12,7 +12,7 @@ pub const KEPT_FIDS: usize = 16;
 
 /// The fid that may stand on a directory by a walk that was answered: a walk made it, and came to one, or
 /// had no name, so that the fid stands where another does.
-pub fn directory_of(request: &TBody, reply: &RBody) -> Option<u32>
+pub fn directory_of(request: &TBody<'_>, reply: &RBody) -> Option<u32>
     ensures { result ≡ came_to_directory request.now reply.now }
 {
     let TBody::Walk { newfid, wname, .. } = request else {

@@ -51,7 +51,7 @@ pub enum Renaming {
 #[derive(Drop)]
 pub enum Step {
     /// The server is asked this, and the rename goes on so with its reply.
-    Ask(Renaming, TMessage),
+    Ask(Renaming, TMessage<'static>),
     /// The client is answered this.
     Answer(RMessage),
 }

@@ -153,8 +153,8 @@ fn is_taken(body: &RBody) -> bool
 
 /// Begins with a request that was answered. Where it asks for a new name alone, and is refused since that
 /// name stands, a rename begins, and the client isn't answered yet. Else it is answered so.
-pub fn renaming_of(request: TMessage, reply: RMessage, directories: Vec<u32>) -> Step
-    ensures { Begins result request.tag request.body reply directories }
+pub fn renaming_of(request: TMessage<'_>, reply: RMessage, directories: Vec<u32>) -> Step
+    ensures { Begins result request.entry.tag request.entry.body reply directories }
 {
     let TMessage { tag, body } = request;
     let TBody::Wstat { fid, stat } = body else {

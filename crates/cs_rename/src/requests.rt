@@ -37,7 +37,7 @@ pub(crate) fn is_directory(qid: Qid) -> bool
     QTDIR <= qid.kind
 }
 
-pub(crate) fn tstat(tag: u16, fid: u32) -> TMessage
+pub(crate) fn tstat(tag: u16, fid: u32) -> TMessage<'static>
     ensures { t_view result ≡ tstat tag fid }
 {
     TMessage {
@@ -47,7 +47,12 @@ pub(crate) fn tstat(tag: u16, fid: u32) -> TMessage
 }
 
 /// A walk by one name.
-pub(crate) fn twalk(alloc: Global, tag: u16, fid: u32, name: &str) -> Result<TMessage, AllocError>
+pub(crate) fn twalk(
+    alloc: Global,
+    tag: u16,
+    fid: u32,
+    name: &str,
+) -> Result<TMessage<'static>, AllocError>
     ensures { IfOk result (λ m. t_view m ≡ twalk tag fid (name.now ∷ [])) }
 {
     let mut wname = Vec::new(alloc);
@@ -68,7 +73,7 @@ pub(crate) fn twalk_on(
     tag: u16,
     fid: u32,
     name: &str,
-) -> Result<TMessage, AllocError>
+) -> Result<TMessage<'static>, AllocError>
     ensures { IfOk result (λ m. t_view m ≡ twalk tag fid (name.now ∷ dot ∷ [])) }
 {
     let mut wname = Vec::new(alloc);
@@ -84,7 +89,7 @@ pub(crate) fn twalk_on(
     })
 }
 
-pub(crate) fn tremove(tag: u16) -> TMessage
+pub(crate) fn tremove(tag: u16) -> TMessage<'static>
     ensures { t_view result ≡ tremove tag }
 {
     TMessage {
@@ -93,7 +98,7 @@ pub(crate) fn tremove(tag: u16) -> TMessage
     }
 }
 
-pub(crate) fn tclunk(tag: u16) -> TMessage
+pub(crate) fn tclunk(tag: u16) -> TMessage<'static>
     ensures { t_view result ≡ tclunk tag }
 {
     TMessage {
@@ -102,7 +107,7 @@ pub(crate) fn tclunk(tag: u16) -> TMessage
     }
 }
 
-pub(crate) fn twstat(tag: u16, fid: u32, stat: Stat) -> TMessage
+pub(crate) fn twstat(tag: u16, fid: u32, stat: Stat) -> TMessage<'static>
     ensures { t_view result ≡ twstat tag fid (stat_of stat) }
 {
     TMessage {

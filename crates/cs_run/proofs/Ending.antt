@@ -4,7 +4,7 @@ use Rattle.cs_names.specs.declared.rule_id.RuleId.{RuleId}
 use Rattle.cs_permit.specs.Calls.{RulesView, failing_rule}
 use Rattle.cs_permit.specs.declared.call.Call.{Call}
 use Rattle.cs_run.specs.Effects.{Left, effect_of}
-use Rattle.cs_run.specs.Marks.{Ample, CallMark, NoRoom}
+use Rattle.cs_run.specs.Marks.{Ample, CallMark, NoGrant}
 use Rattle.cs_run.specs.Outcomes.{IsOutcomeOf, applied, outcome, takes_memory}
 use Rattle.cs_run.specs.declared.answer.Outcome.{Outcome}
 use Rattle.cs_run.specs.declared.answer.Outcome.TheVariants as o
@@ -27,4 +27,4 @@ module _ (s : RulesView) (w : Turn) (call : Call) (leaves : Left) where
   -- or short, if it takes memory
   pub short : failing_rule s call ≡ None → takes_memory s w call ≡ true → leaves ≡ applied s w call o.Short → IsOutcomeOf s w call o.Short leaves
   unfolding outcome
-  short none takes is = ended NoRoom o.Short (rw (none, takes) refl) is
+  short none takes is = ended NoGrant o.Short (rw (none, takes) refl) is

@@ -5,9 +5,9 @@ use Rattle.std.specs.Prelude.{Bool, true, false}
 pub data CallMark : Type 0 where
   Ample : CallMark
   -- a growth that the grant reaches is refused
-  NoRoom : CallMark
+  NoGrant : CallMark
 
 -- memory is refused
 abbrev pub is_refused : CallMark → Bool
 is_refused Ample = false
-is_refused NoRoom = true
+is_refused NoGrant = true

@@ -24,7 +24,7 @@ use crate::walking::{act_walk, walk};
 use crate::writing::act_write;
 use crate::wstating::act_wstat;
 use cs_permit::rules::is_exclusive;
-use cs_permit::{Call, OpenCall, OpenFile, first_failing, laws, qid_at};
+use cs_permit::{Call, OpenCall, OpenFile, failing_rule, laws, qid_at};
 use cs_tree_model::{TreeRead, TreeStore};
 use cs_users::Users;
 use std::alloc::{AllocError, Global};
@@ -32,7 +32,7 @@ use std::alloc::{AllocError, Global};
 /// Does a call that no rule denies.
 fn grant<T: TreeStore>(
     alloc: Global,
-    call: &Call,
+    call: &Call<'_>,
     tree: &mut T,
     opens: &mut Opens,
     users: &Users,
@@ -65,7 +65,7 @@ fn grant<T: TreeStore>(
 }
 
 /// The open that a call ends, whatever comes of it.
-pub fn closes(call: &Call) -> Option<u32>
+pub fn closes(call: &Call<'_>) -> Option<u32>
     ensures { result ≡ closes call.now }
 {
     match call {
@@ -106,7 +106,7 @@ fn asked_by_open<'a, T: TreeRead>(call: &OpenCall, tree: &T, opens: &'a Opens) -
 }
 
 /// Opens of which the call's rules say what they say of all.
-fn asked_of<'a, T: TreeRead>(call: &Call, tree: &T, opens: &'a Opens) -> &'a [OpenFile]
+fn asked_of<'a, T: TreeRead>(call: &Call<'_>, tree: &T, opens: &'a Opens) -> &'a [OpenFile]
     ensures { (users : List Row) → failing_rule (rules_view (T.tree tree.now) result.now users) call.now
         ≡ failing_rule (rules_view (T.tree tree.now) opens.now.items users) call.now }
 {
@@ -122,7 +122,7 @@ fn asked_of<'a, T: TreeRead>(call: &Call, tree: &T, opens: &'a Opens) -> &'a [Op
 #[tactic(auto, unfolding(crate::specs::Outcomes::outcome))]
 fn act_by_rules<T: TreeStore>(
     alloc: Global,
-    call: &Call,
+    call: &Call<'_>,
     tree: &mut T,
     opens: &mut Opens,
     users: &Users,
@@ -134,7 +134,7 @@ fn act_by_rules<T: TreeStore>(
     ensures { IsOutcomeOf (rules_view (T.tree tree.old) opens.old.items users.now) turn call.now
         result.0 (left (T.tree tree.new) opens.new.items result.1) }
 {
-    if let Some(rule) = first_failing(call, tree, asked_of(call, tree, opens), users) {
+    if let Some(rule) = failing_rule(call, tree, asked_of(call, tree, opens), users) {
         opens.release_if(closes(call), turn.pass);
         return (Outcome::Denied(rule), Answer::Denied(rule));
     }
@@ -152,7 +152,7 @@ fn act_by_rules<T: TreeStore>(
 #[tactic(auto, unfolding(crate::specs::Outcomes::outcome))]
 pub fn act<T: TreeStore>(
     alloc: Global,
-    call: &Call,
+    call: &Call<'_>,
     tree: &mut T,
     opens: &mut Opens,
     users: &Users,

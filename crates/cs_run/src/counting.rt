@@ -74,7 +74,13 @@ impl<T: TreeStore + Drop> CountedRun<T> {
     }
 
     /// Makes a call at that moment under a pass, in the turn of its count.
-    pub fn step(&mut self, alloc: Global, moment: u32, pass: u32, call: &Call) -> (Outcome, Answer)
+    pub fn step(
+        &mut self,
+        alloc: Global,
+        moment: u32,
+        pass: u32,
+        call: &Call<'_>,
+    ) -> (Outcome, Answer)
         requires room { is_full (run_of self.old) ≡ false }
         ensures stepped { IsOutcomeOf (state_of (run_of self.old))
             (turn_of (run_of self.old) moment pass) call.now result.0

@@ -15,7 +15,7 @@ use std::alloc::{AllocError, Global};
 
 /// Where the write begins: at the end of an append-only file, and else at the offset. None of a
 /// write that puts no byte.
-fn start_of_write<T: TreeRead>(tree: &T, call: &WriteCall) -> Option<u64>
+fn start_of_write<T: TreeRead>(tree: &T, call: &WriteCall<'_>) -> Option<u64>
     ensures writes { is_some result ≡ writes (T.tree tree.now) call.now }
     ensures start { IfSome result (λ start. start ≡ write_start (T.tree tree.now) call.now) }
 {
@@ -33,7 +33,7 @@ fn start_of_write<T: TreeRead>(tree: &T, call: &WriteCall) -> Option<u64>
 /// Puts the bytes into the file, if there are any.
 fn write_bytes<T: TreeStore>(
     alloc: Global,
-    call: &WriteCall,
+    call: &WriteCall<'_>,
     tree: &mut T,
     turn: Turn,
 ) -> Result<(), AllocError>
@@ -54,7 +54,7 @@ fn write_bytes<T: TreeStore>(
 #[tactic(auto, unfolding(crate::specs::Effects::write_effect))]
 pub fn act_write<T: TreeStore>(
     alloc: Global,
-    call: &WriteCall,
+    call: &WriteCall<'_>,
     tree: &mut T,
     opens: &Opens,
     turn: Turn,

@@ -12,7 +12,7 @@ use Rattle.cs_world.specs.Publishing.{published}
 use Rattle.cs_world.specs.Steps.{by_registry, IsStep}
 use Rattle.cs_world.specs.Worlds.{World, new_world}
 use Rattle.cs_world.specs.declared.reply.Reply.{Reply}
-use Rattle.cs_world.specs.declared.reply.Reply.TheVariants.{Published, Unpublished}
+use Rattle.cs_world.specs.declared.reply.Reply.TheVariants.{Published, NotPublished}
 use Rattle.cs_world.specs.declared.reply.StateFault.TheVariants.{NoSuchState, Twice, Memory}
 use Rattle.cs_world.specs.declared.step.Step.TheVariants.{Publish}
 use Rattle.cs_serve.specs.Commands.{served_world, with_first}
@@ -21,14 +21,14 @@ use Rattle.cs_serve.specs.Commands.{served_world, with_first}
 
 abbrev chosen : Registry RunOf → ℕ → Bool → Bool → Bool → Bool → Reply × Registry RunOf
 chosen r number there refused taken full =
-    cond (not there) (Unpublished NoSuchState, r) (cond refused (Unpublished Memory, r) (cond taken (Unpublished Twice, r) (cond full (Unpublished Memory, r) (Published, with_published r number))))
+    cond (not there) (NotPublished NoSuchState, r) (cond refused (NotPublished Memory, r) (cond taken (NotPublished Twice, r) (cond full (NotPublished Memory, r) (Published, with_published r number))))
 
 chosen_is : (w w' : World) (number : ℕ) (there refused taken full : Bool)
     → (Published, w') ≡ by_registry w (chosen w.registry number there refused taken full) → w' ≡ record w { registry = with_published w.registry number }
-chosen_is w w' number false refused taken full e = (let said : Published ≡ Unpublished NoSuchState = ap (λ (x : Reply × World). x.0) e in absurd (cc))
-chosen_is w w' number true true taken full e = (let said : Published ≡ Unpublished Memory = ap (λ (x : Reply × World). x.0) e in absurd (cc))
-chosen_is w w' number true false true full e = (let said : Published ≡ Unpublished Twice = ap (λ (x : Reply × World). x.0) e in absurd (cc))
-chosen_is w w' number true false false true e = (let said : Published ≡ Unpublished Memory = ap (λ (x : Reply × World). x.0) e in absurd (cc))
+chosen_is w w' number false refused taken full e = (let said : Published ≡ NotPublished NoSuchState = ap (λ (x : Reply × World). x.0) e in absurd (cc))
+chosen_is w w' number true true taken full e = (let said : Published ≡ NotPublished Memory = ap (λ (x : Reply × World). x.0) e in absurd (cc))
+chosen_is w w' number true false true full e = (let said : Published ≡ NotPublished Twice = ap (λ (x : Reply × World). x.0) e in absurd (cc))
+chosen_is w w' number true false false true e = (let said : Published ≡ NotPublished Memory = ap (λ (x : Reply × World). x.0) e in absurd (cc))
 chosen_is w w' number true false false false e = ap (λ (x : Reply × World). x.1) e
 
 pub one_more : (w w' : World) (number : ℕ) → IsStep w (Publish number) Published w' → w' ≡ record w { registry = with_published w.registry number }

@@ -1,5 +1,7 @@
--- What the commands print: of a scene its list, and of a script what its lines print on a new world.
-use Rattle.std.specs.Prelude.{◌≡◌, ◌⊎◌, true, ℕ, zero, suc, List, ◌++◌, length, replicate, Option, Result, Ok, Err}
+-- What the commands print: of a scene its list, and of a script what its lines print on a new
+-- world.
+use Rattle.std.specs.Prelude.{◌≡◌, ◌⊎◌, true, ℕ, zero, suc, List, ◌++◌, length, replicate, Option}
+use Rattle.std.specs.Prelude.{Result, Ok, Err}
 use Rattle.std.specs.Io.KnownBytes.{Appends, Consumes, IsAtEnd, Keeps}
 use Rattle.cs_apm.specs.Orders.{order_of}
 use Rattle.cs_micro.specs.Micros.{micros_in}
@@ -27,17 +29,23 @@ pub record IsScene (inputs : Inputs) (scene : Scene) : Type 0 where
 
 -- ---- list
 
--- the list of the inputs' scene was written; or after a fault nothing, or some of the list from the front
-abbrev pub Lists : {E : Type 0} → Inputs → Result (Unit {0}) E → Option (List ℕ) → Option (List ℕ) → Type 0
-Lists inputs (Ok done) old new = (scene : Scene) × IsScene inputs scene × Appends old new (list_text scene)
-Lists inputs (Err fault) old new = Keeps old new ⊎ ((scene : Scene) × IsScene inputs scene × AppendsFront old new (list_text scene))
+-- the list of the inputs' scene was written; or after a fault nothing, or some of the list from the
+-- front
+abbrev pub Lists : {E : Type 0} → Inputs → Result (Unit {0}) E → Option (List ℕ) → Option (List ℕ)
+    → Type 0
+Lists inputs (Ok done) old new =
+    (scene : Scene) × IsScene inputs scene × Appends old new (list_text scene)
+Lists inputs (Err fault) old new = Keeps old new
+    ⊎ ((scene : Scene) × IsScene inputs scene × AppendsFront old new (list_text scene))
 
 -- ---- script
 
 -- with the states of the numbers below this one published
 abbrev pub with_first : World → ℕ → World
 with_first w zero = w
-with_first w (suc number) = record (with_first w number) { registry = with_published (with_first w number).registry number }
+with_first w (suc number) = record (with_first w number) {
+  registry = with_published (with_first w number).registry number;
+}
 
 -- every state of the scene is published, and there is no run and no session
 abbrev pub served_world : Scene → List Row → World
@@ -46,7 +54,8 @@ served_world scene users =
     record new { registry = record new.registry { published = replicate (length scene.plan) true } }
 
 -- what a script begins with: its inputs' scene and users, and the lines of all bytes of its input
-pub record Begins (inputs : Inputs) (came left : Option (List ℕ)) (w : World) (lines : List ScriptLine) : Type 0 where
+pub record Begins (inputs : Inputs) (came left : Option (List ℕ)) (w : World)
+    (lines : List ScriptLine) : Type 0 where
   pub scene : Scene
   pub users : List Row
   pub bytes : List ℕ
@@ -57,13 +66,15 @@ pub record Begins (inputs : Inputs) (came left : Option (List ℕ)) (w : World) 
   pub reads : script_in bytes ≡ Ok lines
 
 -- lines lead there, and what they print was written
-pub record Ran (w : World) (lines : List ScriptLine) (old new : Option (List ℕ)) (w' : World) : Type 0 where
+pub record Ran (w : World) (lines : List ScriptLine) (old new : Option (List ℕ)) (w' : World)
+    : Type 0 where
   pub text : List ℕ
   pub prints : PrintsAll w lines text w'
   pub written : Appends old new text
 
 -- the first lines lead there, and of what they print some was written, from the front
-pub record Stopped (w : World) (lines : List ScriptLine) (old new : Option (List ℕ)) (w' : World) : Type 0 where
+pub record Stopped (w : World) (lines : List ScriptLine) (old new : Option (List ℕ)) (w' : World)
+    : Type 0 where
   pub run : List ScriptLine
   pub unrun : List ScriptLine
   pub text : List ℕ
@@ -71,7 +82,12 @@ pub record Stopped (w : World) (lines : List ScriptLine) (old new : Option (List
   pub prints : PrintsAll w run text w'
   pub written : AppendsFront old new text
 
--- what all lines print was written; or after a fault nothing, or some of what the first lines print, from the front
-abbrev pub Scripts : {E : Type 0} → Inputs → Result (Unit {0}) E → Option (List ℕ) → Option (List ℕ) → Option (List ℕ) → Option (List ℕ) → Type 0
-Scripts inputs (Ok done) came left old new = (w w' : World) × (lines : List ScriptLine) × Begins inputs came left w lines × Ran w lines old new w'
-Scripts inputs (Err fault) came left old new = Keeps old new ⊎ ((w w' : World) × (lines : List ScriptLine) × Begins inputs came left w lines × Stopped w lines old new w')
+-- what all lines print was written; or after a fault nothing, or some of what the first lines
+-- print, from the front
+abbrev pub Scripts : {E : Type 0} → Inputs → Result (Unit {0}) E → Option (List ℕ) → Option (List ℕ)
+    → Option (List ℕ) → Option (List ℕ) → Type 0
+Scripts inputs (Ok done) came left old new = (w w' : World) × (lines : List ScriptLine)
+    × Begins inputs came left w lines × Ran w lines old new w'
+Scripts inputs (Err fault) came left old new = Keeps old new
+    ⊎ ((w w' : World) × (lines : List ScriptLine)
+    × Begins inputs came left w lines × Stopped w lines old new w')

@@ -1,5 +1,7 @@
--- A script: the turns of connections, and the users files that are taken, a line each.
-use Rattle.std.specs.Prelude.{ℕ, ◌+◌, ◌*◌, ◌^◌, ◌==◌, ◌&&◌, Bool, nat_le, nat_lt, List, [], ◌∷◌, ◌++◌, codes, length, Option, Some, None, Result, Ok, Err, option_map, option_and_then, if◌then◌else◌}
+-- A script: what connections do, and the users files that are taken, a line each.
+use Rattle.std.specs.Prelude.{ℕ, ◌+◌, ◌*◌, ◌^◌, ◌==◌, ◌&&◌, Bool, nat_le, nat_lt, List, [], ◌∷◌}
+use Rattle.std.specs.Prelude.{◌++◌, codes, length, Option, Some, None, Result, Ok, Err, option_map}
+use Rattle.std.specs.Prelude.{option_and_then, if◌then◌else◌}
 use Rattle.std.specs.Io.BufRead.{strip_last}
 use Rattle.std.specs.Result.{result_ok}
 use Rattle.std.specs.Char.{is_ascii_digit}
@@ -14,7 +16,7 @@ use Rattle.cs_serve.specs.declared.fault.ProgramFault.TheVariants.{Script}
 use Rattle.cs_serve.specs.declared.script.Action.{Action}
 use Rattle.cs_serve.specs.declared.script.Action.TheVariants.{Send, HangUp}
 use Rattle.cs_serve.specs.declared.script.ScriptLine.{ScriptLine}
-use Rattle.cs_serve.specs.declared.script.ScriptLine.TheVariants.{Turn, Reload}
+use Rattle.cs_serve.specs.declared.script.ScriptLine.TheVariants.{Act, Reload}
 
 -- ---- words
 
@@ -32,7 +34,8 @@ number_in text = if is_decimal text then small (digits_value 10 text) else None
 
 -- the number of a connection
 abbrev pub conn_in : List ℕ → Option ℕ
-conn_in text = option_and_then (λ conn. if nat_lt conn CONNECTIONS then Some conn else None) (number_in text)
+conn_in text =
+    option_and_then (λ conn. if nat_lt conn CONNECTIONS then Some conn else None) (number_in text)
 
 -- at least so many bytes
 abbrev pub at_least : ℕ → List ℕ → Option (List ℕ)
@@ -48,22 +51,27 @@ sent_in digits = if nat_le (length digits) (2 * MESSAGE_BYTES) then bytes_in 7 d
 
 -- `hangup`, or a message
 abbrev pub action_in : List ℕ → Option Action
-action_in word = if same_bytes word (codes "hangup") then Some HangUp else option_map Send (sent_in word)
+action_in word =
+    if same_bytes word (codes "hangup") then Some HangUp else option_map Send (sent_in word)
 
 -- ---- lines
 
-abbrev pub turn_from : Option ℕ → Option ℕ → Option Action → Option ScriptLine
-turn_from (Some conn) (Some moment) (Some action) = Some (Turn (record { conn = conn; moment = moment; action = action }))
-turn_from (Some conn) (Some moment) None = None
-turn_from (Some conn) None action = None
-turn_from None moment action = None
+abbrev pub act_from : Option ℕ → Option ℕ → Option Action → Option ScriptLine
+act_from (Some conn) (Some moment) (Some action) =
+    Some (Act (record { conn = conn; moment = moment; action = action }))
+act_from (Some conn) (Some moment) None = None
+act_from (Some conn) None action = None
+act_from None moment action = None
 
--- `reload` and a users file of one byte at least, or the turn of a connection: its number, a moment, and what it does
+-- `reload` and a users file of one byte at least; or the number of a connection, a moment, and what
+-- the connection does
 abbrev pub line_of : List (List ℕ) → Option ScriptLine
 line_of [] = None
 line_of (first ∷ []) = None
-line_of (first ∷ second ∷ []) = if same_bytes first (codes "reload") then option_map Reload (bytes_in 1 second) else None
-line_of (first ∷ second ∷ third ∷ []) = turn_from (conn_in first) (number_in second) (action_in third)
+line_of (first ∷ second ∷ []) =
+    if same_bytes first (codes "reload") then option_map Reload (bytes_in 1 second) else None
+line_of (first ∷ second ∷ third ∷ []) =
+    act_from (conn_in first) (number_in second) (action_in third)
 line_of (first ∷ second ∷ third ∷ fourth ∷ others) = None
 
 -- with one space between the words
@@ -77,19 +85,24 @@ line_at number text = if nat_le number SCRIPT_LINES then line_in text else None
 -- ---- the script
 
 -- lines in front of others, if there is no fault
-abbrev pub behind : List ScriptLine → Result (List ScriptLine) ProgramFault → Result (List ScriptLine) ProgramFault
+abbrev pub behind : List ScriptLine → Result (List ScriptLine) ProgramFault
+    → Result (List ScriptLine) ProgramFault
 behind lines (Ok others) = Ok (lines ++ others)
 behind lines (Err fault) = Err fault
 
-abbrev pub with_line : ℕ → Option ScriptLine → Result (List ScriptLine) ProgramFault → Result (List ScriptLine) ProgramFault
+abbrev pub with_line : ℕ → Option ScriptLine → Result (List ScriptLine) ProgramFault
+    → Result (List ScriptLine) ProgramFault
 with_line number None later = Err (Script number)
 with_line number (Some line) later = behind (line ∷ []) later
 
--- the lines that texts spell, of which the first has the number; or the number of the first that spells none
+-- the lines that texts spell, of which the first has the number; or the number of the first that
+-- spells none
 abbrev pub lines_from : ℕ → List (List ℕ) → Result (List ScriptLine) ProgramFault
 lines_from number [] = Ok []
-lines_from number (text ∷ texts) = with_line number (line_at number text) (lines_from (number + 1) texts)
+lines_from number (text ∷ texts) =
+    with_line number (line_at number text) (lines_from (number + 1) texts)
 
 -- lines are cut at line feeds and counted from 1; a line feed at the very end makes no line more
 abbrev pub script_in : List ℕ → Result (List ScriptLine) ProgramFault
-script_in bytes = if length bytes == 0 then Ok [] else lines_from 1 (pieces 10 (strip_last 10 bytes))
+script_in bytes =
+    if length bytes == 0 then Ok [] else lines_from 1 (pieces 10 (strip_last 10 bytes))

@@ -7,7 +7,8 @@ use Rattle.cs_serve.specs.declared.fault.ProgramFault.{ProgramFault}
 use Rattle.cs_serve.specs.declared.fault.ProgramFault.TheVariants.{Input, Output}
 
 -- all of it, or after a fault some of it from the front
-abbrev pub Writes : {E : Type 0} → Result (Unit {0}) E → Option (List ℕ) → Option (List ℕ) → List ℕ → Type 0
+abbrev pub Writes : {E : Type 0} → Result (Unit {0}) E → Option (List ℕ) → Option (List ℕ) → List ℕ
+    → Type 0
 Writes (Ok done) old new text = Appends old new text
 Writes (Err fault) old new text = AppendsFront old new text
 

@@ -12,7 +12,8 @@ use cs_trace::{Trace, TraceFaultKind, read_trace};
 use cs_users::{Users, UsersFault};
 use std::alloc::Global;
 
-/// What the command line gave: the bytes of each file that it named, none of one that it didn't name.
+/// What the command line gave: the bytes of each file that it named, none of one that it didn't
+/// name.
 #[derive(Clone, Copy, Debug)]
 pub struct Inputs<'a> {
     pub users: &'a [u8],
@@ -38,7 +39,8 @@ fn trace_of(alloc: Global, trace: &[u8]) -> Result<Trace, ProgramFault>
     }
 }
 
-/// The scene of the inputs: the trace is judged first, then the picks' lines, then what is made of them.
+/// The scene of the inputs: the trace is judged first, then the picks' lines, then what is made of
+/// them.
 pub fn scene_of(alloc: Global, inputs: &Inputs) -> Result<Scene, ProgramFault>
     ensures scene { IfOk result (IsScene inputs.now) }
     ensures fault { IfErr result IsOfNoStream }

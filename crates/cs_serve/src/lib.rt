@@ -1,5 +1,5 @@
-//! The commands of the program over any reader and writers: the states that a crash may leave, listed,
-//! and served to the connections of a script.
+//! The commands of the program over any reader and writers: the states that a crash may leave,
+//! listed, and served to the connections of a script.
 #![tactic(auto)]
 
 mod ending;

@@ -12,9 +12,9 @@ use cs_session::{Stream, TwoEnded};
 use std::alloc::Global;
 use std::io::Write;
 
-/// The command `list` to a stream: writes the micro-operations of the trace, and then the states of its
-/// plan, a line each. Memory for the whole text is taken before any of it is written. After a fault
-/// nothing was written, or some of the text, from the front.
+/// The command `list` to a stream: writes the micro-operations of the trace, and then the states of
+/// its plan, a line each. Memory for the whole text is taken before any of it is written. After a
+/// fault nothing was written, or some of the text, from the front.
 pub fn list_to<S: Stream>(
     alloc: Global,
     inputs: &Inputs,
@@ -32,8 +32,8 @@ pub fn list_to<S: Stream>(
     print(stream, text.as_bytes())
 }
 
-/// The command `list`: what `list_to` does, to a writer. Its status: 0, or 1 where a fault ended it, which
-/// is told by one line on `err`; what was printed before stands.
+/// The command `list`: what `list_to` does, to a writer. Its status: 0, or 1 where a fault ended
+/// it, which is told by one line on `err`; what was printed before stands.
 pub fn list_of<W: Write, E: Write>(alloc: Global, inputs: &Inputs, out: &mut W, err: &mut E) -> u8
     ensures { result ≤ 1 }
 {

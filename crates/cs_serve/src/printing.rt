@@ -44,8 +44,9 @@ pub(crate) fn refused_text(alloc: Global, fault: UsersFault) -> Result<String, A
     format!(in alloc; "reload refused: {fault}\n")
 }
 
-/// Writes a text as the bytes of a stream are written: with no more than 999 interruptions in a row, and
-/// a write that takes no byte is a fault. After a fault some of it, from the front, was written.
+/// Writes a text as the bytes of a stream are written: with no more than 999 interruptions in a
+/// row, and a write that takes no byte is a fault. After a fault some of it, from the front, was
+/// written.
 pub(crate) fn print<S: Stream>(stream: &mut S, text: &[u8]) -> Result<(), ProgramFault>
     ensures written { Writes result (S.contents stream.old) (S.contents stream.new) text.now }
     ensures fault { IfErr result (BlamesOutput (S.counts stream.old) (S.counts stream.new)) }

@@ -30,11 +30,13 @@ fn prepare<S: Stream>(
     inputs: &Inputs,
     stream: &mut S,
 ) -> Result<Prepared, ProgramFault>
-    ensures begins { IfOk result (λ prepared. Begins inputs.now (S.remaining stream.old) (S.remaining stream.new) prepared.world prepared.lines.items) }
+    ensures begins { IfOk result (λ prepared. Begins inputs.now (S.remaining stream.old)
+        (S.remaining stream.new) prepared.world prepared.lines.items) }
     ensures contents { S.contents stream.new ≡ S.contents stream.old }
     ensures fault { IfErr result (Blames (S.counts stream.old) (S.counts stream.new)) }
     ensures faults { KeepsFaults (S.counts stream.old) (S.counts stream.new) }
-    ensures bounded { (S.counts stream.new).reads ≤ up CONNECTION_READS (S.counts stream.old).reads }
+    ensures bounded { (S.counts stream.new).reads
+        ≤ up CONNECTION_READS (S.counts stream.old).reads }
 {
     let scene = scene_of(alloc, inputs)?;
     let users = users_of(alloc, inputs.users)?;
@@ -44,36 +46,38 @@ fn prepare<S: Stream>(
     Ok(Prepared { world, lines })
 }
 
-/// The command `script` over a stream, which gives the script and takes what it prints: publishes all
-/// states, reads all of the input, checks every line, and then runs the lines one after the other, with
-/// a line of output for each. After a fault nothing was written, or some of what the first lines print,
-/// from the front. Where the inputs ask for it, `err` also gets each message and its reply as text.
+/// The command `script` over a stream, which gives the script and takes what it prints: publishes
+/// all states, reads all of the input, checks every line, and then runs the lines one after the
+/// other, with a line of output for each. After a fault nothing was written, or some of what the
+/// first lines print, from the front. Where the inputs ask for it, `err` also gets each message and
+/// its reply as text.
 pub fn script_over<S: Stream, E: Write>(
     alloc: Global,
     inputs: &Inputs,
     stream: &mut S,
     err: &mut E,
 ) -> Result<(), ProgramFault>
-    ensures printed { Scripts inputs.now result (S.remaining stream.old) (S.remaining stream.new) (S.contents stream.old) (S.contents stream.new) }
+    ensures printed { Scripts inputs.now result (S.remaining stream.old) (S.remaining stream.new)
+        (S.contents stream.old) (S.contents stream.new) }
     ensures fault { IfErr result (Blames (S.counts stream.old) (S.counts stream.new)) }
-    ensures bounded { (S.counts stream.new).reads ≤ up CONNECTION_READS (S.counts stream.old).reads }
+    ensures bounded { (S.counts stream.new).reads
+        ≤ up CONNECTION_READS (S.counts stream.old).reads }
 {
-    let mut prepared = prepare(alloc, inputs, stream)?;
-    let lines = prepared.lines.as_slice();
+    let Prepared { mut world, lines } = prepare(alloc, inputs, stream)?;
     run_lines(
         alloc,
-        &mut prepared.world,
-        lines,
+        &mut world,
+        lines.as_slice(),
         stream,
         inputs.verbose,
         err,
     )
 }
 
-/// The command `script`: what `script_over` does, over a reader and a writer. Its status: 0, or 1 where
-/// a fault ended it, which is told by one line on `err`; what was printed before stands. Where the inputs
-/// ask for it, `err` also gets each message and its reply as text, the connection's number and `<-` or
-/// `->` before them.
+/// The command `script`: what `script_over` does, over a reader and a writer. Its status: 0, or 1
+/// where a fault ended it, which is told by one line on `err`; what was printed before stands.
+/// Where the inputs ask for it, `err` also gets each message and its reply as text, the
+/// connection's number and `<-` or `->` before them.
 pub fn script_of<R: Read, W: Write, E: Write>(
     alloc: Global,
     inputs: &Inputs,

@@ -18,15 +18,15 @@ fn publish_each(alloc: Global, world: &mut World, count: u32) -> Result<(), Prog
     for number in 0..count {
         match world.step(alloc, Step::Publish(number)) {
             Reply::Published => {}
-            Reply::Unpublished(_) | Reply::Reloaded | Reply::NotReloaded | Reply::Connection(_) =>
+            Reply::NotPublished(_) | Reply::Reloaded | Reply::NotReloaded | Reply::Connection(_) =>
                 return Err(ProgramFault::Memory),
         }
     }
     Ok(())
 }
 
-/// A world of the scene's states, of which every one is published, for these users. It has no run yet,
-/// and no connection has a session.
+/// A world of the scene's states, of which every one is published, for these users. It has no run
+/// yet, and no connection has a session.
 pub fn world_of(alloc: Global, scene: Scene, users: Users) -> Result<World, ProgramFault>
     ensures world { IfOk result (λ world. world ≡ served_world scene users) }
     ensures fault { IfErr result IsOfNoStream }

@@ -13,15 +13,18 @@ use std::alloc::Global;
 /// How many bytes are read at once.
 const ROOM: usize = 65_536;
 
-/// Reads to the stream's end: its bytes. An interrupted read is tried again, up to 999 in a row: the
-/// thousandth in a row is a fault. There are 4,294,967,295 reads, those that are interrupted among them.
+/// Reads to the stream's end: its bytes. An interrupted read is tried again, up to 999 in a row:
+/// the thousandth in a row is a fault. There are 4,294,967,295 reads, those that are interrupted
+/// among them.
 pub(crate) fn read_all<S: Stream>(alloc: Global, stream: &mut S) -> Result<Vec<u8>, ProgramFault>
-    ensures bytes { IfOk result (λ bytes. Consumes (S.remaining stream.old) (S.remaining stream.new) bytes.items) }
+    ensures bytes { IfOk result (λ bytes.
+        Consumes (S.remaining stream.old) (S.remaining stream.new) bytes.items) }
     ensures end { OnOk result (IsAtEnd (S.remaining stream.new)) }
     ensures contents { S.contents stream.new ≡ S.contents stream.old }
     ensures fault { IfErr result (Blames (S.counts stream.old) (S.counts stream.new)) }
     ensures faults { KeepsFaults (S.counts stream.old) (S.counts stream.new) }
-    ensures bounded { (S.counts stream.new).reads ≤ up CONNECTION_READS (S.counts stream.old).reads }
+    ensures bounded { (S.counts stream.new).reads
+        ≤ up CONNECTION_READS (S.counts stream.old).reads }
 {
     let mut bytes = Vec::new(alloc);
     let Ok(mut room) = vec![in alloc; 0u8; ROOM] else {

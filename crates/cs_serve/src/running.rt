@@ -1,5 +1,6 @@
 //! What a script's lines do in a world, and what they print.
-ghost use Rattle.std.specs.Prelude.{◌≡◌, ◌<◌, ◌≤◌, ℕ, IfErr, IfOk, length, List, Ok, OnErr, OnOk, string_bytes};
+ghost use Rattle.std.specs.Prelude.{◌≡◌, ◌<◌, ◌≤◌, ℕ, IfErr, IfOk, length, List, Ok, OnErr, OnOk};
+ghost use Rattle.std.specs.Prelude.{string_bytes};
 ghost use Rattle.cs_names.specs.declared.limits.TheConstants.{CONNECTIONS};
 ghost use Rattle.cs_serve.specs.Commands.{Ran, Stopped};
 ghost use Rattle.cs_serve.specs.Printed.{Acts, Loaded, Prints};
@@ -10,7 +11,7 @@ ghost use Rattle.cs_users.specs.Reading.{users_in};
 
 use crate::fault::ProgramFault;
 use crate::printing::{closed_text, print, refused_text, reloaded_text, reply_text};
-use crate::script::{Action, ScriptLine, ScriptTurn};
+use crate::script::{Action, ScriptAct, ScriptLine};
 use crate::telling::tell;
 use cs_session::Stream;
 use cs_users::{Users, UsersFault};
@@ -45,8 +46,10 @@ fn send<E: Write>(
 ) -> Result<String, AllocError>
     requires connection { conn < CONNECTIONS }
     requires whole { 7 ≤ length message.now }
-    ensures ok { IfOk result (λ text. Acts world.old conn now (Send message.now) (string_bytes text) world.new) }
-    ensures err { OnErr result ((text : List ℕ) × Acts world.old conn now (Send message.now) text world.new) }
+    ensures ok { IfOk result (λ text.
+        Acts world.old conn now (Send message.now) (string_bytes text) world.new) }
+    ensures err { OnErr result ((text : List ℕ)
+        × Acts world.old conn now (Send message.now) text world.new) }
 {
     let reply = world.message(alloc, conn, now, message);
     tell_if(alloc, conn, message, &reply, verbose, err);
@@ -56,7 +59,8 @@ fn send<E: Write>(
 /// Ends a connection: the line that this comes to.
 fn hang_up(alloc: Global, world: &mut World, conn: u32, now: u32) -> Result<String, AllocError>
     requires connection { conn < CONNECTIONS }
-    ensures ok { IfOk result (λ text. Acts world.old conn now HangUp (string_bytes text) world.new) }
+    ensures ok { IfOk result (λ text.
+        Acts world.old conn now HangUp (string_bytes text) world.new) }
     ensures err { OnErr result ((text : List ℕ) × Acts world.old conn now HangUp text world.new) }
 {
     world.hang_up(alloc, conn, now);
@@ -67,25 +71,27 @@ fn hang_up(alloc: Global, world: &mut World, conn: u32, now: u32) -> Result<Stri
 fn act<E: Write>(
     alloc: Global,
     world: &mut World,
-    turn: &ScriptTurn,
+    asked: &ScriptAct,
     verbose: bool,
     err: &mut E,
 ) -> Result<String, AllocError>
-    ensures ok { IfOk result (λ text. Acts world.old turn.now.conn turn.now.moment turn.now.action (string_bytes text) world.new) }
-    ensures err { OnErr result ((text : List ℕ) × Acts world.old turn.now.conn turn.now.moment turn.now.action text world.new) }
+    ensures ok { IfOk result (λ text. Acts world.old asked.now.conn asked.now.moment
+        asked.now.action (string_bytes text) world.new) }
+    ensures err { OnErr result ((text : List ℕ) × Acts world.old asked.now.conn asked.now.moment
+        asked.now.action text world.new) }
 {
-    let conn = turn.conn.number();
-    match &turn.action {
+    let conn = asked.conn.number();
+    match &asked.action {
         Action::Send(message) => send(
             alloc,
             world,
             conn,
-            turn.moment,
+            asked.moment,
             message.bytes(),
             verbose,
             err,
         ),
-        Action::HangUp => hang_up(alloc, world, conn, turn.moment),
+        Action::HangUp => hang_up(alloc, world, conn, asked.moment),
     }
 }
 
@@ -101,7 +107,8 @@ fn load(alloc: Global, world: &mut World, file: &[u8], users: Users) -> Result<S
     }
 }
 
-/// Has the runs that are made from here on have the users of a users file: the line that it comes to.
+/// Has the runs that are made from here on have the users of a users file: the line that it comes
+/// to.
 fn reload(alloc: Global, world: &mut World, file: &[u8]) -> Result<String, AllocError>
     ensures ok { IfOk result (λ text. Loaded world.old file.now (string_bytes text) world.new) }
     ensures err { OnErr result ((text : List ℕ) × Loaded world.old file.now text world.new) }
@@ -112,8 +119,8 @@ fn reload(alloc: Global, world: &mut World, file: &[u8]) -> Result<String, Alloc
     }
 }
 
-/// Does what a line asks: the line that it comes to. With `verbose` a message and its reply are told on
-/// `err` as text.
+/// Does what a line asks: the line that it comes to. With `verbose` a message and its reply are
+/// told on `err` as text.
 fn take_line<E: Write>(
     alloc: Global,
     world: &mut World,
@@ -125,7 +132,7 @@ fn take_line<E: Write>(
     ensures err { OnErr result ((text : List ℕ) × Prints world.old line.now text world.new) }
 {
     match line {
-        ScriptLine::Turn(turn) => act(alloc, world, turn, verbose, err),
+        ScriptLine::Act(asked) => act(alloc, world, asked, verbose, err),
         ScriptLine::Reload(users) => reload(alloc, world, users.bytes()),
     }
 }
@@ -139,7 +146,8 @@ fn run_line<S: Stream, E: Write>(
     verbose: bool,
     err: &mut E,
 ) -> Result<(), ProgramFault>
-    ensures prints { (text : List ℕ) × Prints world.old line.now text world.new × Writes result (S.contents stream.old) (S.contents stream.new) text }
+    ensures prints { (text : List ℕ) × Prints world.old line.now text world.new
+        × Writes result (S.contents stream.old) (S.contents stream.new) text }
     ensures fault { IfErr result (BlamesOutput (S.counts stream.old) (S.counts stream.new)) }
     ensures faults { KeepsFaults (S.counts stream.old) (S.counts stream.new) }
     ensures reads { KeepsReads (S.counts stream.old) (S.counts stream.new) }
@@ -160,8 +168,10 @@ pub(crate) fn run_lines<S: Stream, E: Write>(
     verbose: bool,
     err: &mut E,
 ) -> Result<(), ProgramFault>
-    ensures ran { OnOk result (Ran world.old lines.now (S.contents stream.old) (S.contents stream.new) world.new) }
-    ensures stopped { OnErr result (Stopped world.old lines.now (S.contents stream.old) (S.contents stream.new) world.new) }
+    ensures ran { OnOk result (Ran world.old lines.now (S.contents stream.old)
+        (S.contents stream.new) world.new) }
+    ensures stopped { OnErr result (Stopped world.old lines.now (S.contents stream.old)
+        (S.contents stream.new) world.new) }
     ensures fault { IfErr result (BlamesOutput (S.counts stream.old) (S.counts stream.new)) }
     ensures faults { KeepsFaults (S.counts stream.old) (S.counts stream.new) }
     ensures reads { KeepsReads (S.counts stream.old) (S.counts stream.new) }

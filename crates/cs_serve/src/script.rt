@@ -1,11 +1,13 @@
 //! A script: what connections send, and the users files that are taken, line by line.
-ghost use Rattle.std.specs.Prelude.{◌≡◌, ◌≢◌, ◌<◌, ◌≤◌, [], ◌∷◌, ◌++◌, Err, IfErr, IfOk, None, Ok, OnOk, Some, length, option_map, vec_items};
+ghost use Rattle.std.specs.Prelude.{◌≡◌, ◌≢◌, ◌<◌, ◌≤◌, [], ◌∷◌, ◌++◌, Err, IfErr, IfOk, None, Ok};
+ghost use Rattle.std.specs.Prelude.{OnOk, Some, length, option_map, vec_items};
 ghost use Rattle.std.specs.Char.{is_ascii_digit};
 ghost use Rattle.std.specs.Io.BufRead.{strip_last};
 ghost use Rattle.std.specs.List.{list_all};
 ghost use Rattle.cs_names.specs.declared.limits.TheConstants.{CONNECTIONS};
 ghost use Rattle.cs_serve.specs.declared.fault.ProgramFault.TheVariants.{Memory, Script};
-ghost use Rattle.cs_serve.specs.Scripts.{action_in, bytes_in, conn_in, is_decimal, line_at, line_in, line_of, number_in, script_in, sent_in, turn_from};
+ghost use Rattle.cs_serve.specs.Scripts.{act_from, action_in, bytes_in, conn_in, is_decimal};
+ghost use Rattle.cs_serve.specs.Scripts.{line_at, line_in, line_of, number_in, script_in, sent_in};
 ghost use Rattle.cs_serve.specs.Written.{IsOfNoStream};
 
 use crate::fault::ProgramFault;
@@ -99,7 +101,7 @@ pub enum Action {
 
 /// That action on that connection, at that moment, in seconds since 1970.
 #[derive(Debug, Drop)]
-pub struct ScriptTurn {
+pub struct ScriptAct {
     pub conn: ScriptConn,
     pub moment: u32,
     pub action: Action,
@@ -109,7 +111,7 @@ pub struct ScriptTurn {
 #[derive(Debug, Drop)]
 pub enum ScriptLine {
     /// A connection does something.
-    Turn(ScriptTurn),
+    Act(ScriptAct),
     /// The runs that are made from here on have the users of that file.
     Reload(ScriptUsers),
 }
@@ -206,21 +208,22 @@ fn read_action(alloc: Global, word: &[u8]) -> Result<Option<Action>, AllocError>
     }
 }
 
-/// The turn of a connection that these words ask for: its number, a moment, and `hangup` or a message
+/// What a connection does by these words: its number, a moment, and `hangup` or a message
 /// in hexadecimal; None where they ask for none.
-fn read_turn(
+fn read_act(
     alloc: Global,
     first: &[u8],
     second: &[u8],
     third: &[u8],
 ) -> Result<Option<ScriptLine>, AllocError>
-    ensures { IfOk result (λ line. line ≡ turn_from (conn_in first.now) (number_in second.now) (action_in third.now)) }
+    ensures { IfOk result (λ line. line
+        ≡ act_from (conn_in first.now) (number_in second.now) (action_in third.now)) }
 {
     let (Some(conn), Some(moment)) = (conn(first), number(second)) else {
         return Ok(None);
     };
     match read_action(alloc, third)? {
-        Some(action) => Ok(Some(ScriptLine::Turn(ScriptTurn {
+        Some(action) => Ok(Some(ScriptLine::Act(ScriptAct {
             conn,
             moment,
             action,
@@ -229,8 +232,8 @@ fn read_turn(
     }
 }
 
-/// The list of users that the words ask for: `reload` and a users file in hexadecimal; None where they
-/// ask for none.
+/// The list of users that the words ask for: `reload` and a users file in hexadecimal; None where
+/// they ask for none.
 fn read_reload(alloc: Global, first: &[u8], second: &[u8]) -> Result<Option<ScriptLine>, AllocError>
     ensures { IfOk result (λ line. line ≡ line_of (first.now ∷ second.now ∷ [])) }
 {
@@ -243,7 +246,7 @@ fn read_reload(alloc: Global, first: &[u8], second: &[u8]) -> Result<Option<Scri
     }
 }
 
-/// The line that the text spells, with one space between its words: the turn of a connection, or
+/// The line that the text spells, with one space between its words: what a connection does, or
 /// `reload` and a users file; None where it spells none.
 fn read_line(alloc: Global, text: &[u8]) -> Result<Option<ScriptLine>, AllocError>
     ensures { IfOk result (λ line. line ≡ line_in text.now) }
@@ -260,7 +263,7 @@ fn read_line(alloc: Global, text: &[u8]) -> Result<Option<ScriptLine>, AllocErro
     };
     match words.next() {
         Some(_) => Ok(None),
-        None => read_turn(alloc, first, second, third),
+        None => read_act(alloc, first, second, third),
     }
 }
 
@@ -282,8 +285,10 @@ fn keep_line(
     number: usize,
     text: &[u8],
 ) -> Result<(), ProgramFault>
-    ensures kept { OnOk result (option_map (λ line. lines.old.items ++ line ∷ []) (line_at number text.now) ≡ Some lines.new.items) }
-    ensures fault { IfErr result (λ fault. fault ≢ Memory → (fault ≡ Script number) × (line_at number text.now ≡ None)) }
+    ensures kept { OnOk result (option_map (λ line. lines.old.items ++ line ∷ [])
+        (line_at number text.now) ≡ Some lines.new.items) }
+    ensures fault { IfErr result (λ fault. fault ≢ Memory
+        → (fault ≡ Script number) × (line_at number text.now ≡ None)) }
     ensures no_stream { IfErr result IsOfNoStream }
 {
     if number > SCRIPT_LINES {
@@ -302,8 +307,8 @@ fn keep_line(
 }
 
 /// The lines of a script, or the first line that is none: one past the limit is none, and so is an
-/// empty one. The line feed at the end of the script makes no line. Memory is answered where a growth
-/// was refused before such a line.
+/// empty one. The line feed at the end of the script makes no line. Memory is answered where a
+/// growth was refused before such a line.
 pub fn read_script(alloc: Global, bytes: &[u8]) -> Result<Vec<ScriptLine>, ProgramFault>
     ensures read { IfOk result (λ lines. script_in bytes.now ≡ Ok lines.items) }
     ensures fault { IfErr result (λ fault. fault ≢ Memory → script_in bytes.now ≡ Err fault) }

@@ -4,7 +4,8 @@ use cs_wire::{TMessage, WireFault};
 use std::fmt;
 use std::io::Write;
 
-/// Tells what came or was answered, or why that is no message. That it can't be written ends nothing.
+/// Tells what came or was answered, or why that is no message. That it can't be written ends
+/// nothing.
 fn line<M: fmt::Display, E: Write>(
     conn: u32,
     arrow: &str,
@@ -17,11 +18,11 @@ fn line<M: fmt::Display, E: Write>(
     };
 }
 
-/// Tells a connection's message and its reply as two lines of text, the connection's number and `<-` or
-/// `->` before them. That these can't be written ends nothing.
+/// Tells a connection's message and its reply as two lines of text, the connection's number and
+/// `<-` or `->` before them. That these can't be written ends nothing.
 pub fn tell<R: fmt::Display, E: Write>(
     conn: u32,
-    message: &Result<TMessage, WireFault>,
+    message: &Result<TMessage<'_>, WireFault>,
     reply: &Result<R, WireFault>,
     err: &mut E,
 ) {

@@ -9,6 +9,8 @@ mod fixture;
 mod groups;
 mod limits;
 mod lists;
+mod looking;
+mod ports;
 mod program;
 mod reloading;
 mod server;

@@ -19,15 +19,12 @@ module _ (serves : HasTree) (runs : List Key) (passes : List GivenPass) (run pla
   there : slice_get passes place ≡ Some given
   there = slice_get-get_or passes place given low ∙ ap Some (sym at)
 
-  unchanged : slice_set passes place given ≡ passes
-  unchanged = ap (slice_set passes place) at ∙ set-get_or passes place given
-
   -- a pass of another run
   pub stray : (now : ℕ) (call : Call) → (given.run ≡ run → ⊥) → KeptCalls serves (record { runs = runs; passes = passes }) now run place call (Denied S5) (record { runs = runs; passes = slice_set passes place given })
   stray now call other = inr (record {
     stray = λ pass is. (let same : Some given ≡ Some (given_by run pass) = sym there ∙ is in let own : given ≡ given_by run pass = cc in other (ap (λ (x : GivenPass). x.run) own));
     denied = refl;
-    kept = ap (λ (ps : List GivenPass). record { runs = runs; passes = ps }) unchanged;
+    kept = ap (λ (ps : List GivenPass). record { runs = runs; passes = ps }) (ap (slice_set passes place) at ∙ set-get_or passes place given);
   })
 
   -- one of this run

@@ -1,5 +1,6 @@
 -- What a connection keeps over runs that threads share.
-use Rattle.std.specs.Prelude.{ℕ, ◌<◌, List, [], ◌∷◌, ◌++◌, All, length, slice_get, slice_set, Option, None}
+use Rattle.std.specs.Prelude.{ℕ, ◌<◌, List, [], ◌∷◌, ◌++◌, All, length, slice_get, slice_set}
+use Rattle.std.specs.Prelude.{Option, None}
 use Rattle.std.specs.Option.{option_map_or}
 use Rattle.cs_journal.specs.Runs.{PassOf}
 use Rattle.cs_registry.specs.Keys.{Key}
@@ -24,17 +25,17 @@ abbrev pub with_run : FoundRuns → Key → FoundRuns
 with_run kept key = record { runs = kept.runs ++ key ∷ []; passes = kept.passes }
 
 abbrev pub given_by : ℕ → PassOf → GivenPass
-given_by run pass = record { run = run; pass = pass }
+given_by place pass = record { run = place; pass = pass }
 
 -- with a pass more, the last
 abbrev pub kept_with_pass : FoundRuns → ℕ → PassOf → FoundRuns
-kept_with_pass kept run pass =
-    record { runs = kept.runs; passes = kept.passes ++ given_by run pass ∷ [] }
+kept_with_pass kept place pass =
+    record { runs = kept.runs; passes = kept.passes ++ given_by place pass ∷ [] }
 
 -- with another pass at a place
 abbrev pub put_pass : FoundRuns → ℕ → ℕ → PassOf → FoundRuns
-put_pass kept place run pass =
-    record { runs = kept.runs; passes = slice_set kept.passes place (given_by run pass) }
+put_pass kept pass_place place pass =
+    record { runs = kept.runs; passes = slice_set kept.passes pass_place (given_by place pass) }
 
 -- the key of the run that gave the pass at a place
 abbrev pub key_at : FoundRuns → ℕ → Option Key

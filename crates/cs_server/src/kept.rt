@@ -179,10 +179,10 @@ impl<S: Served> Kept<S> {
         now: u32,
         run: u32,
         pass: u32,
-        call: Call,
+        call: Call<'_>,
     ) -> Answer
-        ensures called { KeptCalls S.serves self.old now run pass call result self.new }
-        ensures fits { FitsCall call result }
+        ensures called { KeptCalls S.serves self.old now run pass call.entry result self.new }
+        ensures fits { FitsCall call.entry result }
     {
         let Some(given) = self.passes.get_mut(pass as usize) else {
             return Answer::Denied(RuleId::S5);

@@ -67,7 +67,7 @@ impl<'r, S: Served, R: Wait> Port for SharedPort<'r, S, R> {
         self.kept.attach(self.rt, alloc, now, run, user)
     }
 
-    fn call(&mut self, alloc: Global, now: u32, run: u32, pass: u32, call: Call) -> Answer {
+    fn call(&mut self, alloc: Global, now: u32, run: u32, pass: u32, call: Call<'_>) -> Answer {
         self.kept.call(self.rt, alloc, now, run, pass, call)
     }
 }

@@ -11,7 +11,7 @@ use Rattle.cs_wire.specs.Messages.{Message as Spelled, replies, spelling}
 use Rattle.cs_session.specs.declared.serving.ServeFault.{ServeFault}
 use Rattle.cs_session.specs.declared.serving.ServeFault.TheVariants.{WriteFault}
 use Rattle.cs_session.specs.Questions.{Question, PortAnswer}
-use Rattle.cs_session.specs.Receipts.{IsReplied}
+use Rattle.cs_session.specs.Receiving.{IsReplied}
 use Rattle.cs_session.specs.Sessions.{Sess}
 use Rattle.cs_session.specs.Serving.{Exchange, messages_of, replies_of, Exchanges, AnswersFront, Handles, StopsAt}
 use Rattle.cs_session.specs.Streams.{AppendsFront}

@@ -1,5 +1,5 @@
 -- Each kind of reply fits the room of its session.
-use Rattle.std.proofs.Common.{◌≡◌, ℕ, zero, suc, ◌+◌, ◌-◌, ◌*◌, ◌≤◌, ◌<◌, ◌^◌, Bool, true, false, List, [], ◌∷◌, ◌++◌, length, map, Option, refl, arith, lit≤, lit<}
+use Rattle.std.proofs.Common.{◌≡◌, ℕ, zero, suc, ◌+◌, ◌-◌, ◌*◌, ◌≤◌, ◌<◌, ◌^◌, true, false, List, [], ◌∷◌, ◌++◌, length, map, Option, refl, arith, lit≤, lit<}
 use Rattle.std.specs.Prelude.{◌==◌, IfOk, None, Some, unwrap_or, slice_index, Vec}
 use Rattle.std.specs.Global.{Global}
 use Rattle.std.specs.Cow.{cow_str_bytes}
@@ -24,7 +24,7 @@ use Rattle.cs_permit.specs.Sizes.{IsQid, IsShown}
 use Rattle.cs_permit.proofs.Showing.{shown_in, text_of}
 use Rattle.cs_session.specs.Ready.{IsAgreed}
 use Rattle.cs_session.specs.Sizes.{AreQids, FitsIn, FitsWithin, MessageFits, room_of}
-use Rattle.cs_session.specs.Receipts.{message_in}
+use Rattle.cs_session.specs.Receiving.{message_in}
 
 -- ---- how many bytes the fields of a reply have
 

@@ -64,5 +64,5 @@ not_found x y r.Found h = absurd (h refl)
 not_found x y step_reply h = refl
 
 -- with no fid open, and no run that awaits its attach, a hang-up leaves nothing
-pub hung_up : (s : Sess) → s.pending ≡ None → least_open s.fids ≡ None → table_stepped s t.HangUp ≡ (r.Closed, blank None)
+pub hung_up : (s : Sess) → s.awaited ≡ None → least_open s.fids ≡ None → table_stepped s t.HangUp ≡ (r.Closed, blank None)
 hung_up s idle closed = rw (idle, closed) refl

@@ -1,4 +1,4 @@
--- An attach: its run is found, and then entered (attach(5)).
+-- An attach: its run is found, and then attached to (attach(5)).
 use Rattle.std.specs.Prelude.{ℕ, Bool, List, Option, None, Some, Result, Ok, Err, option_map}
 use Rattle.std.specs.FinMap.{insert}
 use Rattle.cs_names.specs.declared.rule_id.RuleId.TheVariants.{A4, A5, A6, S5}
@@ -18,14 +18,14 @@ use Rattle.cs_permit.specs.declared.fault.PassFault.TheVariants as p
 use Rattle.cs_session.specs.declared.reply.Reply.{Reply}
 use Rattle.cs_session.specs.declared.reply.Reply.TheVariants as r
 use Rattle.cs_session.specs.Decisions.{request_decision, refusal}
-use Rattle.cs_session.specs.Questions.{Question, Find, Enter, PortAnswer, Found, Entered}
+use Rattle.cs_session.specs.Questions.{Question, FindRun, AttachTo, PortAnswer, FindAnswer, AttachAnswer}
 use Rattle.cs_session.specs.Names.{user_in}
-use Rattle.cs_session.specs.Sessions.{Awaited, Sess, leaves, with_pending}
+use Rattle.cs_session.specs.Sessions.{Awaited, Sess, leaves, with_awaited}
 
 -- ---- find
 
 abbrev pub find_question : AttachMessage → Option Question
-find_question message = option_map (λ name. Find name.0 name.1) (tree_name_in message.aname)
+find_question message = option_map (λ name. FindRun name.0 name.1) (tree_name_in message.aname)
 
 abbrev pub find_decision : Bool → Option ℕ → FidMap → AttachMessage → Bool → Result Question Reply
 find_decision awaits msize fids message refused =
@@ -39,19 +39,20 @@ find_refusal f.Memory = r.Memory
 
 -- the run awaits its attach
 abbrev pub find_after : Sess → AttachMessage → PortAnswer → Reply × Sess
-find_after session message (Found (Ok run)) = (
+find_after session message (FindAnswer (Ok place)) = (
   r.Found,
-  with_pending
-      (Some (record { fid = message.fid; run = run; call = record { user = message.uname } })) session,
+  with_awaited
+      (Some (record { fid = message.fid; run = place; call = record { user = message.uname } }))
+      session,
 )
-find_after session message (Found (Err fault)) = (find_refusal fault, session)
+find_after session message (FindAnswer (Err fault)) = (find_refusal fault, session)
 find_after session message given = (r.Memory, session)
 
--- ---- enter
+-- ---- attach
 
 abbrev pub attach_decision : ℕ → Option Awaited → Result Question Reply
 attach_decision now None = Err (r.Error S5)
-attach_decision now (Some awaited) = Ok (Enter now awaited.run awaited.call)
+attach_decision now (Some awaited) = Ok (AttachTo now awaited.run awaited.call)
 
 abbrev pub pass_refusal : PassFault → Reply
 pass_refusal p.Room = r.Error A5
@@ -72,9 +73,9 @@ attach_settled fids fid run user pass answer = (refusal answer, fids)
 -- the run awaits its attach no more
 abbrev pub attach_after : Sess → Option Awaited → PortAnswer → Reply × Sess
 attach_after session None given = (r.Memory, session)
-attach_after session (Some awaited) (Entered (Ok pass)) =
-    leaves (with_pending None session)
+attach_after session (Some awaited) (AttachAnswer (Ok pass)) =
+    leaves (with_awaited None session)
     (attach_settled session.fids awaited.fid awaited.run (user_in awaited.call.user) pass.0 pass.1)
-attach_after session (Some awaited) (Entered (Err fault)) =
-    (pass_refusal fault, with_pending None session)
-attach_after session (Some awaited) given = (r.Memory, with_pending None session)
+attach_after session (Some awaited) (AttachAnswer (Err fault)) =
+    (pass_refusal fault, with_awaited None session)
+attach_after session (Some awaited) given = (r.Memory, with_awaited None session)

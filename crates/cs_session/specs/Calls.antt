@@ -47,7 +47,7 @@ call_question now msize fids (Remove fid) = remove_question now fids fid
 call_question now msize fids (Stat fid) = stat_question now fids fid
 call_question now msize fids (Wstat message) = wstat_question now fids message
 
--- by whether memory for the table is refused
+-- by whether memory for what the connection takes of its own is refused
 abbrev pub call_decision : ℕ → Bool → Option ℕ → FidMap → CallMessage → Bool → Result Question Reply
 call_decision now awaits msize fids message refused =
     request_decision awaits msize (call_rules fids message) (wants_memory fids message refused)

@@ -1,5 +1,5 @@
--- One shape for every step: the rules in their order, then the growth of the table, then the
--- question.
+-- One shape for every step: the rules in their order, then the memory that the connection takes of
+-- its own, then the question.
 use Rattle.std.specs.Prelude.{◌≡◌, ℕ, Bool, true, false, List, ◌∷◌, Option, None, Some, is_none, option_and_then, Result, Ok, Err}
 use Rattle.std.specs.FinMap.{get}
 use Rattle.cs_names.specs.declared.rule_id.RuleId.{RuleId}
@@ -15,7 +15,7 @@ use Rattle.cs_run.specs.declared.answer.Answer.TheVariants as a
 use Rattle.cs_session.specs.declared.reply.Reply.{Reply}
 use Rattle.cs_session.specs.declared.reply.Reply.TheVariants as r
 use Rattle.cs_session.specs.declared.question.RunQuestion.{RunQuestion}
-use Rattle.cs_session.specs.Questions.{Question, Ask}
+use Rattle.cs_session.specs.Questions.{Question, CallOn}
 
 -- what a connection asks before it looks at its fids: that no run awaits its attach, and that a
 -- session stands
@@ -36,7 +36,7 @@ abbrev pub request_decision : Bool → Option ℕ → List Check → Bool → Op
 request_decision awaits msize rules refused q =
     decide (first_failing (after_session awaits msize rules)) refused q
 
--- what a decision in memory comes to: with a question, no growth of the table was refused
+-- what a decision in memory comes to: with a question, no memory was refused
 abbrev pub Decides : {A : Type 0} → (A → Question) → (Bool → Result Question Reply) → Result A Reply
     → Type 0
 Decides ask by (Ok x) = by false ≡ Ok (ask x)
@@ -44,7 +44,7 @@ Decides ask by (Err reply) = (refused : Bool) × (by refused ≡ Err reply)
 
 -- what is asked of a run
 abbrev pub question_of : RunQuestion → Question
-question_of x = Ask x.now x.run x.pass x.call
+question_of x = CallOn x.now x.run x.pass x.call
 
 -- the fid of that number that isn't open, and the one that is
 abbrev pub walked_at : FidMap → ℕ → Option (FidOf Walked)

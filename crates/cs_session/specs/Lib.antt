@@ -17,7 +17,7 @@ pub mod Steps
 pub mod Messages
 pub mod Trails
 pub mod Sizes
-pub mod Receipts
+pub mod Receiving
 pub mod Streams
 pub mod Overs
 pub mod Serving

@@ -10,7 +10,7 @@ use Rattle.cs_session.specs.declared.message.TableStep.{TableStep}
 use Rattle.cs_session.specs.declared.message.TableStep.TheVariants as t
 use Rattle.cs_session.specs.declared.reply.Reply.{Reply}
 use Rattle.cs_session.specs.declared.reply.Reply.TheVariants as r
-use Rattle.cs_session.specs.Marks.{TableMark}
+use Rattle.cs_session.specs.Marks.{OwnMark}
 use Rattle.cs_session.specs.Questions.{Question, PortAnswer}
 use Rattle.cs_session.specs.Sessions.{Awaited, Sess, entry_at}
 use Rattle.cs_session.specs.Steps.{Step, FindStep, AttachStep, CallStep, CloseStep, Table, Takes}
@@ -20,7 +20,7 @@ abbrev pub close_or : Option ℕ → TableStep → Step
 close_or None change = Table change
 close_or (Some fid) change = CloseStep fid
 
--- a run is found, and then entered
+-- a run is found, and then attached to
 abbrev pub find_or : Option Awaited → AttachMessage → Step
 find_or None message = FindStep message
 find_or (Some awaited) message = AttachStep
@@ -35,7 +35,7 @@ clunk_or fid (Some (entry.Opened x)) = CloseStep fid
 abbrev pub next_step : Message → Sess → Step
 next_step (m.Version msize version) session =
     close_or (least_open session.fids) (t.Version msize version)
-next_step (m.Attach message) session = find_or session.pending message
+next_step (m.Attach message) session = find_or session.awaited message
 next_step (m.Call message) session = CallStep message
 next_step (m.Clunk fid) session = clunk_or fid (entry_at session fid)
 next_step m.HangUp session = close_or (least_open session.fids) t.HangUp
@@ -61,7 +61,7 @@ Either false A B = B
 module _ {P : Type 0} (gives : P → Question → PortAnswer → P → Type 0) (now : ℕ)
     (message : Message) where
   -- the steps of a message, each with its mark, of which the last answers it
-  abbrev pub Answers : List TableMark → Sess → P → Reply → Sess → P → Type 0
+  abbrev pub Answers : List OwnMark → Sess → P → Reply → Sess → P → Type 0
   Answers [] session port reply session' port' = ⊥
   Answers (mark ∷ marks) session port reply session' port' =
       (step_reply : Reply) × (mid : Sess) × (there : P)
@@ -73,5 +73,5 @@ module _ {P : Type 0} (gives : P → Question → PortAnswer → P → Type 0) (
   -- with some marks, one a step
   pub record IsAnswered (session : Sess) (port : P) (reply : Reply) (session' : Sess)
       (port' : P) : Type 0 where
-    pub marks : List TableMark
+    pub marks : List OwnMark
     pub answers : Answers marks session port reply session' port'

@@ -15,11 +15,11 @@ use Rattle.cs_session.specs.declared.reply.Reply.{Reply}
 use Rattle.cs_session.specs.declared.reply.Reply.TheVariants as r
 use Rattle.cs_session.specs.Names.{file_in}
 use Rattle.cs_session.specs.Decisions.{refusal, walked_at}
-use Rattle.cs_session.specs.Questions.{Question, Ask}
+use Rattle.cs_session.specs.Questions.{Question, CallOn}
 
 abbrev pub open_question : ℕ → FidMap → OpenMessage → Option Question
 open_question now fids message =
-    option_map (λ f. Ask now f.run f.pass
+    option_map (λ f. CallOn now f.run f.pass
     (c.Open (record { number = f.number; user = f.user; mode = message.mode })))
     (walked_at fids message.fid)
 
@@ -39,7 +39,7 @@ open_after fids fid mode answer = (refusal answer, fids)
 -- of a file's name
 abbrev pub create_named : ℕ → FidMap → CreateMessage → List ℕ → Option Question
 create_named now fids message name =
-    option_map (λ f. Ask now f.run f.pass
+    option_map (λ f. CallOn now f.run f.pass
     (c.Create (record {
       number = f.number;
       user = f.user;

@@ -17,7 +17,7 @@ use Rattle.cs_session.specs.declared.reading.TheConstants.{READ_OVERHEAD}
 use Rattle.cs_session.specs.declared.reply.Reply.{Reply}
 use Rattle.cs_session.specs.declared.reply.Reply.TheVariants as r
 use Rattle.cs_session.specs.Decisions.{opened_at, refusal}
-use Rattle.cs_session.specs.Questions.{Question, Ask}
+use Rattle.cs_session.specs.Questions.{Question, CallOn}
 
 -- ---- read: its count is cut to what a reply of the session holds
 
@@ -27,7 +27,7 @@ cut msize count = min count (unwrap_or msize 0 - READ_OVERHEAD)
 
 abbrev pub read_question : ℕ → Option ℕ → FidMap → ReadMessage → Option Question
 read_question now msize fids message =
-    option_map (λ f. Ask now f.run f.pass
+    option_map (λ f. CallOn now f.run f.pass
     (c.Read (record {
       number = f.number;
       offset = message.offset;
@@ -53,7 +53,7 @@ read_after fids fid answer = (refusal answer, fids)
 
 abbrev pub write_question : ℕ → FidMap → WriteMessage → Option Question
 write_question now fids message =
-    option_map (λ f. Ask now f.run f.pass
+    option_map (λ f. CallOn now f.run f.pass
     (c.Write (record {
       number = f.number;
       user = f.user;

@@ -17,6 +17,6 @@ HasPlace None table = Unit {0}
 HasPlace (Some awaited) table =
     (0 < table.room) × (awaited.fid ≢ NOFID) × (fid_at table awaited.fid ≡ None)
 
-pub record IsReady (msize : Option ℕ) (pending : Option Awaited) (table : Fids) : Type 0 where
+pub record IsReady (msize : Option ℕ) (awaited : Option Awaited) (table : Fids) : Type 0 where
   pub agreed : ForSome msize IsAgreed
-  pub place : HasPlace pending table
+  pub place : HasPlace awaited table

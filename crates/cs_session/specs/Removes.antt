@@ -13,7 +13,7 @@ use Rattle.cs_session.specs.declared.question.RunQuestion.{RunQuestion}
 use Rattle.cs_session.specs.declared.reply.Reply.{Reply}
 use Rattle.cs_session.specs.declared.reply.Reply.TheVariants as r
 use Rattle.cs_session.specs.Decisions.{decide, opened_at, question_of, refusal}
-use Rattle.cs_session.specs.Questions.{Question, Ask}
+use Rattle.cs_session.specs.Questions.{Question, CallOn}
 
 -- ---- remove
 
@@ -42,7 +42,7 @@ remove_reply answer = refusal answer
 
 abbrev pub close_question : ℕ → FidMap → ℕ → Option Question
 close_question now fids fid =
-    option_map (λ f. Ask now f.run f.pass
+    option_map (λ f. CallOn now f.run f.pass
     (c.Close (record { open_number = f.state.open_number; user = f.user }))) (opened_at fids fid)
 
 -- it takes no memory

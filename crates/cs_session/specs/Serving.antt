@@ -15,7 +15,7 @@ use Rattle.cs_session.specs.declared.serving.Progress.{Progress}
 use Rattle.cs_session.specs.declared.serving.Progress.TheVariants.{More, Done, Stopped}
 use Rattle.cs_session.specs.Messages.{IsAnswered}
 use Rattle.cs_session.specs.Questions.{Question, PortAnswer}
-use Rattle.cs_session.specs.Receipts.{IsReplied}
+use Rattle.cs_session.specs.Receiving.{IsReplied}
 use Rattle.cs_session.specs.Sessions.{Sess, blank}
 
 -- A message that came, the moment at which it was answered, and its reply.

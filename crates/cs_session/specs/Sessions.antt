@@ -1,5 +1,5 @@
 -- What a connection keeps from one step to the next.
-use Rattle.std.specs.Prelude.{ℕ, List, Option, None, refl}
+use Rattle.std.specs.Prelude.{ℕ, Option, None, refl}
 use Rattle.std.specs.Coded.{Coded, code_by, coded×, coded_ℕ, coded_option}
 use Rattle.std.specs.FinMap.{code, empty, get}
 use Rattle.cs_fids.specs.contracts.entry.Entry as row
@@ -19,20 +19,20 @@ pub record Awaited : Type 0 where
 -- the message size, if a session stands; the run that awaits its attach, if one does; and the fids
 pub record Sess : Type 0 where
   pub msize : Option ℕ
-  pub pending : Option Awaited
+  pub awaited : Option Awaited
   pub fids : FidMap
 
 abbrev pub awaited_code : Coded Awaited
 awaited_code = code_by (ℕ × (ℕ × AttachCall)) (coded× coded_ℕ (coded× coded_ℕ attach.the_row.coded))
-    (λ pending. (pending.fid, (pending.run, pending.call)))
+    (λ awaited. (awaited.fid, (awaited.run, awaited.call)))
     (λ parts. record { fid = parts.0; run = parts.1.0; call = parts.1.1 }) (λ _. refl)
 
 abbrev pub sess_code : Coded Sess
 sess_code = code_by (Option ℕ × (Option Awaited × FidMap))
     (coded× (coded_option coded_ℕ)
     (coded× (coded_option awaited_code) (code coded_ℕ row.the_row.coded)))
-    (λ session. (session.msize, (session.pending, session.fids)))
-    (λ parts. record { msize = parts.0; pending = parts.1.0; fids = parts.1.1 }) (λ _. refl)
+    (λ session. (session.msize, (session.awaited, session.fids)))
+    (λ parts. record { msize = parts.0; awaited = parts.1.0; fids = parts.1.1 }) (λ _. refl)
 
 -- what the number stands for
 abbrev pub entry_at : Sess → ℕ → Option Entry
@@ -41,8 +41,8 @@ entry_at session fid = get session.fids fid
 abbrev pub with_fids : FidMap → Sess → Sess
 with_fids fids session = record session { fids = fids }
 
-abbrev pub with_pending : Option Awaited → Sess → Sess
-with_pending pending session = record session { pending = pending }
+abbrev pub with_awaited : Option Awaited → Sess → Sess
+with_awaited awaited session = record session { awaited = awaited }
 
 -- the reply, and the fids that are left
 abbrev pub leaves : Sess → Reply × FidMap → Reply × Sess
@@ -50,4 +50,4 @@ leaves session answered = (answered.0, with_fids answered.1 session)
 
 -- no fid is left; a session of that message size stands, or none does
 abbrev pub blank : Option ℕ → Sess
-blank msize = record { msize = msize; pending = None; fids = empty }
+blank msize = record { msize = msize; awaited = None; fids = empty }

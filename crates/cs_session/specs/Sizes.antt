@@ -26,7 +26,7 @@ CallFits (call.Walk x) = length x.names ≤ WALK_NAMES
 CallFits message = Unit {0}
 
 -- a reply fits a session of that message size: a walk has few qids, and a read few bytes; any other
--- is short
+-- is small
 abbrev pub ReplyFits : Option ℕ → Reply → Type 0
 ReplyFits msize (r.Walk way) = length way.qids ≤ WALK_NAMES
 ReplyFits msize (r.Read bytes) = length bytes ≤ unwrap_or msize 0 - READ_OVERHEAD

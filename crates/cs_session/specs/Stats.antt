@@ -10,13 +10,13 @@ use Rattle.cs_session.specs.declared.message.WstatMessage.{WstatMessage}
 use Rattle.cs_session.specs.declared.reply.Reply.{Reply}
 use Rattle.cs_session.specs.declared.reply.Reply.TheVariants as r
 use Rattle.cs_session.specs.Decisions.{refusal}
-use Rattle.cs_session.specs.Questions.{Question, Ask}
+use Rattle.cs_session.specs.Questions.{Question, CallOn}
 
 -- ---- stat: it asks for no user, and copies nothing
 
 abbrev pub stat_question : ℕ → FidMap → ℕ → Option Question
 stat_question now fids fid =
-    option_map (λ e. Ask now (run_of e) (pass_of e) (c.Stat (record { number = number_of e })))
+    option_map (λ e. CallOn now (run_of e) (pass_of e) (c.Stat (record { number = number_of e })))
     (get fids fid)
 
 abbrev pub stat_reply : Answer → Reply
@@ -27,7 +27,7 @@ stat_reply answer = refusal answer
 
 abbrev pub wstat_question : ℕ → FidMap → WstatMessage → Option Question
 wstat_question now fids message =
-    option_map (λ e. Ask now (run_of e) (pass_of e)
+    option_map (λ e. CallOn now (run_of e) (pass_of e)
     (c.Wstat (record { number = number_of e; user = user_of e; stat = message.stat })))
     (get fids message.fid)
 

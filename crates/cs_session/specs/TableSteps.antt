@@ -41,4 +41,4 @@ after_change session t.HangUp =
 -- not while a run awaits its attach
 abbrev pub table_stepped : Sess → TableStep → Reply × Sess
 table_stepped session change =
-    if is_some session.pending then (r.Error S5, session) else after_change session change
+    if is_some session.awaited then (r.Error S5, session) else after_change session change

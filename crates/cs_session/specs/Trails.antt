@@ -1,14 +1,14 @@
 -- A message's steps as a list, each with its mark, and taken from where the one before led.
 use Rattle.std.specs.Prelude.{◌≡◌, ℕ, List, [], ◌∷◌, ◌++◌, map}
 use Rattle.cs_session.specs.declared.reply.Reply.{Reply}
-use Rattle.cs_session.specs.Marks.{TableMark}
+use Rattle.cs_session.specs.Marks.{OwnMark}
 use Rattle.cs_session.specs.Questions.{Question, PortAnswer}
 use Rattle.cs_session.specs.Sessions.{Sess}
 use Rattle.cs_session.specs.Steps.{Step, Takes}
 
 pub record Taken : Type 0 where
   pub step : Step
-  pub mark : TableMark
+  pub mark : OwnMark
   pub reply : Reply
 
 module _ {P : Type 0} (gives : P → Question → PortAnswer → P → Type 0) (now : ℕ) where
@@ -21,7 +21,7 @@ module _ {P : Type 0} (gives : P → Question → PortAnswer → P → Type 0) (
       × Trail mid there others session' port'
 
   -- steps with these marks, of which the last has this reply
-  pub record IsTrail (session : Sess) (port : P) (marks : List TableMark) (reply : Reply)
+  pub record IsTrail (session : Sess) (port : P) (marks : List OwnMark) (reply : Reply)
       (session' : Sess) (port' : P) : Type 0 where
     pub steps : List Taken
     pub last : Taken

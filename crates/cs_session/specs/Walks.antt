@@ -14,11 +14,11 @@ use Rattle.cs_session.specs.declared.message.WalkMessage.{WalkMessage}
 use Rattle.cs_session.specs.declared.reply.Reply.{Reply}
 use Rattle.cs_session.specs.declared.reply.Reply.TheVariants as r
 use Rattle.cs_session.specs.Decisions.{refusal, walked_at}
-use Rattle.cs_session.specs.Questions.{Question, Ask}
+use Rattle.cs_session.specs.Questions.{Question, CallOn}
 
 abbrev pub walk_question : ℕ → FidMap → WalkMessage → Option Question
 walk_question now fids message =
-    option_map (λ f. Ask now f.run f.pass
+    option_map (λ f. CallOn now f.run f.pass
     (c.Walk (record { number = f.number; user = f.user; names = message.names })))
     (walked_at fids message.fid)
 

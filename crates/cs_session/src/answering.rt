@@ -19,9 +19,9 @@ use std::alloc::Global;
 impl Session {
     /// Closes every open fid, the least first.
     fn close_all<P: Port>(&mut self, alloc: Global, port: &mut P, now: u32)
-        requires { self.old.pending ≡ None }
+        requires { self.old.awaited ≡ None }
         ensures closed { least_open self.new.fids ≡ None }
-        ensures idle { self.new.pending ≡ None }
+        ensures idle { self.new.awaited ≡ None }
         ensures before { (message : Message) (reply : Reply) (s : Sess) (p : P)
             → closes_first message ≡ true
             → IsAnswered P.gives now message self.new port.new reply s p
@@ -32,7 +32,7 @@ impl Session {
         }
     }
 
-    /// Finds the run of an attach, and enters it.
+    /// Finds the run of an attach, and attaches to it.
     fn attach<P: Port>(
         &mut self,
         alloc: Global,
@@ -40,11 +40,11 @@ impl Session {
         now: u32,
         message: AttachMessage,
     ) -> Reply
-        requires { self.old.pending ≡ None }
+        requires { self.old.awaited ≡ None }
         ensures answered { IsAnswered P.gives now (m.Attach message) self.old port.old result
             self.new port.new }
         ensures fits { ReplyFits self.old.msize result }
-        ensures idle { self.new.pending ≡ None }
+        ensures idle { self.new.awaited ≡ None }
     {
         match self.find_step(alloc, port, now, message) {
             Reply::Found => self.attach_step(alloc, port, now),
@@ -54,11 +54,11 @@ impl Session {
 
     /// Closes a fid that is open, or frees one that isn't.
     fn clunk<P: Port>(&mut self, alloc: Global, port: &mut P, now: u32, fid: u32) -> Reply
-        requires { self.old.pending ≡ None }
+        requires { self.old.awaited ≡ None }
         ensures answered { IsAnswered P.gives now (m.Clunk fid) self.old port.old result self.new
             port.new }
         ensures plain { IsPlain result }
-        ensures idle { self.new.pending ≡ None }
+        ensures idle { self.new.awaited ≡ None }
     {
         if self.is_open(fid) {
             return self.close_step(alloc, port, now, fid);
@@ -75,11 +75,11 @@ impl Session {
         msize: u32,
         version: Text,
     ) -> Reply
-        requires { self.old.pending ≡ None }
+        requires { self.old.awaited ≡ None }
         ensures answered { IsAnswered P.gives now (m.Version msize version) self.old port.old result
             self.new port.new }
         ensures plain { IsPlain result }
-        ensures idle { self.new.pending ≡ None }
+        ensures idle { self.new.awaited ≡ None }
     {
         self.close_all(alloc, port, now);
         self.table_step(port, now, TableStep::Version { msize, version })
@@ -88,7 +88,7 @@ impl Session {
     /// Ends the connection: closes every open fid, the least first, and frees all. What the closes
     /// answer counts for nothing.
     pub fn hang_up<P: Port>(&mut self, alloc: Global, port: &mut P, now: u32)
-        requires { self.old.pending ≡ None }
+        requires { self.old.awaited ≡ None }
         ensures answered { IsAnswered P.gives now m.HangUp self.old port.old r.Closed self.new
             port.new }
         ensures ended { self.new ≡ blank None }
@@ -104,13 +104,13 @@ impl Session {
         alloc: Global,
         port: &mut P,
         now: u32,
-        message: Message,
+        message: Message<'_>,
     ) -> Reply
-        requires { self.old.pending ≡ None }
-        ensures answered { IsAnswered P.gives now message self.old port.old result self.new
+        requires { self.old.awaited ≡ None }
+        ensures answered { IsAnswered P.gives now message.entry self.old port.old result self.new
             port.new }
-        ensures fits { MessageFits message → ReplyFits self.old.msize result }
-        ensures idle { self.new.pending ≡ None }
+        ensures fits { MessageFits message.entry → ReplyFits self.old.msize result }
+        ensures idle { self.new.awaited ≡ None }
     {
         match message {
             Message::Version { msize, version } => self.version(alloc, port, now, msize, version),

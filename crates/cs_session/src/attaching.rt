@@ -1,10 +1,10 @@
-//! Attaches: a run is found, and then entered (attach(5)).
+//! Attaches: a run is found, and then attached to (attach(5)).
 ghost use Rattle.std.specs.Prelude.{◌≡◌, ◌≢◌, ◌<◌, ◌≤◌, false, IfErr, IfOk, IsOk, None};
 ghost use Rattle.std.specs.FinMap.{get};
 ghost use Rattle.cs_session.specs.Attaches.{attach_settled, find_decision, find_refusal, pass_refusal};
 ghost use Rattle.cs_session.specs.Decisions.{Decides};
 ghost use Rattle.cs_session.specs.Names.{user_in};
-ghost use Rattle.cs_session.specs.Questions.{Find};
+ghost use Rattle.cs_session.specs.Questions.{FindRun};
 ghost use Rattle.cs_session.specs.Sizes.{IsPlain};
 
 use crate::message::AttachMessage;
@@ -35,7 +35,7 @@ pub(crate) fn decide_find<'a>(
     fids: &mut FidTable,
     message: &'a AttachMessage,
 ) -> Result<(TreeName<'a>, Option<UserName>), Reply>
-    ensures decided { Decides (λ a. Find a.0.state.now a.0.run.now)
+    ensures decided { Decides (λ a. FindRun a.0.state.now a.0.run.now)
         (find_decision awaits msize fids.old.fids message.now) result }
     ensures plain { IfErr result IsPlain }
     ensures idle { IsOk result → awaits ≡ false }

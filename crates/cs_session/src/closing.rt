@@ -19,7 +19,7 @@ pub(crate) fn decide_close(
     fids: &mut FidTable,
     now: u32,
     fid: u32,
-) -> Result<RunQuestion, Reply>
+) -> Result<RunQuestion<'static>, Reply>
     ensures decided { Decides question_of (λ _. close_decision now awaits fids.old.fids fid)
         result }
     ensures plain { IfErr result IsPlain }

@@ -4,13 +4,13 @@
 
 mod answering;
 mod attaching;
+mod awaited;
 pub mod clock;
 mod closing;
 pub mod counted;
 pub mod laws;
 pub mod message;
 mod opening;
-mod pending;
 pub mod port;
 mod question;
 pub mod reading;

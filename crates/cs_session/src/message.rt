@@ -1,8 +1,8 @@
 //! What a client's messages ask of its session, as plain values.
 ghost use Rattle.std.specs.Prelude.{◌≡◌, IfOk};
 
-use cs_names::{Bytes, Text, Texts};
-use cs_permit::SentStat;
+use cs_names::{Text, Texts};
+use cs_permit::{SentBytes, SentStat};
 use std::alloc::{AllocError, Global};
 
 /// A Tattach (attach(5)).
@@ -46,12 +46,12 @@ pub struct ReadMessage {
     pub count: u32,
 }
 
-/// A Twrite (read(5)).
+/// A Twrite (read(5)), whose bytes may be lent.
 #[derive(Debug, Drop)]
-pub struct WriteMessage {
+pub struct WriteMessage<'a> {
     pub fid: u32,
     pub offset: u64,
-    pub bytes: Bytes,
+    pub bytes: SentBytes<'a>,
 }
 
 /// A Twstat (stat(5)).
@@ -63,12 +63,12 @@ pub struct WstatMessage {
 
 /// A message that asks one call of a fid's run.
 #[derive(Debug, Drop)]
-pub enum CallMessage {
+pub enum CallMessage<'a> {
     Walk(WalkMessage),
     Open(OpenMessage),
     Create(CreateMessage),
     Read(ReadMessage),
-    Write(WriteMessage),
+    Write(WriteMessage<'a>),
     /// The fid.
     Remove(u32),
     /// The fid.
@@ -87,10 +87,10 @@ pub enum TableStep {
 
 /// What a session answers by its steps.
 #[derive(Debug, Drop)]
-pub enum Message {
+pub enum Message<'a> {
     Version { msize: u32, version: Text },
     Attach(AttachMessage),
-    Call(CallMessage),
+    Call(CallMessage<'a>),
     /// The fid.
     Clunk(u32),
     /// The connection ends.
@@ -111,9 +111,9 @@ impl AttachMessage {
     }
 }
 
-impl CallMessage {
-    /// The same message again.
-    pub fn try_clone(&self, alloc: Global) -> Result<CallMessage, AllocError>
+impl<'a> CallMessage<'a> {
+    /// The same message again, which lends nothing.
+    pub fn try_clone(&self, alloc: Global) -> Result<CallMessage<'static>, AllocError>
         ensures { IfOk result (λ copy. copy ≡ self.now) }
     {
         Ok(match self {
@@ -133,7 +133,7 @@ impl CallMessage {
             CallMessage::Write(message) => CallMessage::Write(WriteMessage {
                 fid: message.fid,
                 offset: message.offset,
-                bytes: message.bytes.try_clone()?,
+                bytes: message.bytes.try_clone(alloc)?,
             }),
             CallMessage::Remove(fid) => CallMessage::Remove(*fid),
             CallMessage::Stat(fid) => CallMessage::Stat(*fid),

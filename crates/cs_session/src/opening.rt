@@ -22,7 +22,7 @@ pub(crate) fn decide_open(
     fids: &FidTable,
     now: u32,
     message: OpenMessage,
-) -> Result<RunQuestion, Reply>
+) -> Result<RunQuestion<'static>, Reply>
     ensures decided { Decides question_of
         (call_decision now awaits msize fids.now.fids (call.Open message)) result }
     ensures plain { IfErr result IsPlain }
@@ -60,7 +60,7 @@ pub(crate) fn decide_create(
     fids: &FidTable,
     now: u32,
     message: CreateMessage,
-) -> Result<RunQuestion, Reply>
+) -> Result<RunQuestion<'static>, Reply>
     ensures decided { Decides question_of
         (call_decision now awaits msize fids.now.fids (call.Create message)) result }
     ensures plain { IfErr result IsPlain }

@@ -1,5 +1,4 @@
 //! What keeps the runs of a connection's fids.
-ghost use Rattle.std.specs.Prelude.{ℕ};
 ghost use Rattle.cs_run.specs.Laws.{FitsCall};
 ghost use Rattle.cs_session.specs.Questions.{Question, PortAnswer};
 ghost use Rattle.cs_session.specs.Questions as q;
@@ -17,8 +16,8 @@ pub trait Port {
 
     /// Finds the run of that name; its place.
     fn find(&mut self, alloc: Global, name: &TreeName) -> Result<u32, FindFault>
-        ensures { gives self.old (q.Find name.now.state.now name.now.run.now) (q.Found result)
-            self.new };
+        ensures { gives self.old (q.FindRun name.now.state.now name.now.run.now)
+            (q.FindAnswer result) self.new };
 
     /// Attaches a user to the run at that place, at that moment, under a new pass: the pass's
     /// place, and the run's answer; Foreign where no run is at that place (attach(5)).
@@ -29,11 +28,12 @@ pub trait Port {
         run: u32,
         user: Text,
     ) -> Result<(u32, Answer), PassFault>
-        ensures given { gives self.old (q.Enter now run (record { user = user })) (q.Entered result)
-            self.new };
+        ensures given { gives self.old (q.AttachTo now run (record { user = user }))
+            (q.AttachAnswer result) self.new };
 
-    /// Does a call on the run at that place, at that moment, under the pass at that place.
-    fn call(&mut self, alloc: Global, now: u32, run: u32, pass: u32, call: Call) -> Answer
-        ensures given { gives self.old (q.Ask now run pass call) (q.Got result) self.new }
-        ensures fits { FitsCall call result };
+    /// Makes a call on the run at that place, at that moment, under the pass at that place.
+    fn call(&mut self, alloc: Global, now: u32, run: u32, pass: u32, call: Call<'_>) -> Answer
+        ensures given { gives self.old (q.CallOn now run pass call.entry) (q.CallAnswer result)
+            self.new }
+        ensures fits { FitsCall call.entry result };
 }

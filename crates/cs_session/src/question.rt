@@ -4,7 +4,7 @@ ghost use Rattle.cs_permit.specs.Refusals.{first_failing};
 ghost use Rattle.cs_permit.specs.Table.{table_rules};
 ghost use Rattle.cs_run.specs.Laws.{FitsCall};
 ghost use Rattle.cs_session.specs.Decisions.{after_session, question_of, refusal};
-ghost use Rattle.cs_session.specs.Questions.{Got};
+ghost use Rattle.cs_session.specs.Questions.{CallAnswer};
 ghost use Rattle.cs_session.specs.Sizes.{IsPlain};
 
 use crate::port::Port;
@@ -17,16 +17,16 @@ use std::alloc::Global;
 
 /// A call on the run at that place, at that moment, under the pass at that place.
 #[derive(Drop)]
-pub(crate) struct RunQuestion {
+pub(crate) struct RunQuestion<'a> {
     pub(crate) now: u32,
     pub(crate) run: u32,
     pub(crate) pass: u32,
-    pub(crate) call: Call,
+    pub(crate) call: Call<'a>,
 }
 
-impl RunQuestion {
-    pub(crate) fn new(now: u32, run: u32, pass: u32, call: Call) -> RunQuestion
-        ensures { result ≡ record { now = now; run = run; pass = pass; call = call } }
+impl<'a> RunQuestion<'a> {
+    pub(crate) fn new(now: u32, run: u32, pass: u32, call: Call<'a>) -> RunQuestion<'a>
+        ensures { result ≡ record { now = now; run = run; pass = pass; call = call.entry } }
     {
         RunQuestion {
             now,
@@ -38,8 +38,8 @@ impl RunQuestion {
 
     /// Puts it to the port.
     pub(crate) fn put<P: Port>(self, alloc: Global, port: &mut P) -> Answer
-        ensures given { P.gives port.old (question_of self) (Got result) port.new }
-        ensures fits { FitsCall self.call result }
+        ensures given { P.gives port.old (question_of self.entry) (CallAnswer result) port.new }
+        ensures fits { FitsCall self.entry.call result }
     {
         port.call(alloc, self.now, self.run, self.pass, self.call)
     }

@@ -50,7 +50,7 @@ pub(crate) fn decide_read(
     fids: &FidTable,
     now: u32,
     message: ReadMessage,
-) -> Result<RunQuestion, Reply>
+) -> Result<RunQuestion<'static>, Reply>
     ensures decided { Decides question_of
         (call_decision now awaits msize fids.now.fids (call.Read message)) result }
     ensures plain { IfErr result IsPlain }

@@ -7,7 +7,7 @@ ghost use Rattle.cs_permit.specs.Sent.{sent_of};
 ghost use Rattle.cs_permit.specs.Sizes.{IsQid, IsShown};
 ghost use Rattle.cs_session.specs.declared.message.CallMessage.TheVariants as call;
 ghost use Rattle.cs_session.specs.Ready.{IsAgreed};
-ghost use Rattle.cs_session.specs.Receipts.{IsReceived, IsReplied, IsSpelled, IsUnread, error_reply, front_rules, message_in, needs_no_session, wire_of, version_named, tag_in};
+ghost use Rattle.cs_session.specs.Receiving.{IsReceived, IsReplied, IsSpelled, IsUnread, error_reply, rules_before_decoding, message_in, needs_no_session, wire_of, version_named, tag_in};
 ghost use Rattle.cs_session.specs.Sizes.{FitsIn, FitsWithin, ReplyFits, room_of};
 ghost use Rattle.cs_wire.specs.Messages.{r_view, t_kind_of};
 
@@ -18,8 +18,8 @@ use crate::message::{
 use crate::port::Port;
 use crate::reply::Reply;
 use crate::session::Session;
-use cs_names::{Bytes, RuleId, Text, Texts};
-use cs_permit::SentStat;
+use cs_names::{RuleId, Text, Texts};
+use cs_permit::{SentBytes, SentStat};
 use cs_wire::{Qid, RBody, RMessage, Stat, TBody, TKind, TMessage, WireFault, decode};
 use std::alloc::Global;
 use std::borrow::CowStr;
@@ -45,7 +45,7 @@ fn needs_no_session(number: u8) -> bool
 /// The first of the rules S1 and S2 that a message breaks before it is decoded.
 fn first_failing_front(msize: Option<u32>, bytes: &[u8]) -> Option<RuleId>
     requires { 7 ≤ length bytes.now }
-    ensures { result ≡ first_failing (front_rules msize bytes.now) }
+    ensures { result ≡ first_failing (rules_before_decoding msize bytes.now) }
 {
     match msize {
         None => {
@@ -63,7 +63,7 @@ fn first_failing_front(msize: Option<u32>, bytes: &[u8]) -> Option<RuleId>
 }
 
 /// The message that the bytes spell; want of memory; or that they are no message.
-fn decoded(alloc: Global, bytes: &[u8]) -> Result<TMessage, Reply>
+fn decoded(alloc: Global, bytes: &[u8]) -> Result<TMessage<'_>, Reply>
     ensures ok { IfOk result (λ message. IsSpelled bytes.now message) }
     ensures err { IfErr result (IsUnread bytes.now) }
 {
@@ -75,8 +75,8 @@ fn decoded(alloc: Global, bytes: &[u8]) -> Result<TMessage, Reply>
 }
 
 /// What a message asks of its session, or the reply of one that takes no step.
-fn message_in(body: TBody) -> Result<Message, Reply>
-    ensures { result ≡ message_in body }
+fn message_in<'a>(body: TBody<'a>) -> Result<Message<'a>, Reply>
+    ensures { result ≡ message_in body.entry }
 {
     Ok(match body {
         TBody::Auth { .. } => return Err(Reply::Error(RuleId::S3)),
@@ -113,7 +113,7 @@ fn message_in(body: TBody) -> Result<Message, Reply>
     })
 }
 
-fn walk(fid: u32, newfid: u32, names: Vec<String>) -> CallMessage
+fn walk(fid: u32, newfid: u32, names: Vec<String>) -> CallMessage<'static>
     ensures { result
         ≡ call.Walk (record { fid = fid; newfid = newfid; names = map string_bytes names.items }) }
 {
@@ -124,7 +124,7 @@ fn walk(fid: u32, newfid: u32, names: Vec<String>) -> CallMessage
     })
 }
 
-fn create(fid: u32, name: String, perm: u32, mode: u8) -> CallMessage
+fn create(fid: u32, name: String, perm: u32, mode: u8) -> CallMessage<'static>
     ensures { result
         ≡ call.Create (record { fid = fid; name = string_bytes name; perm = perm; mode = mode }) }
 {
@@ -136,23 +136,23 @@ fn create(fid: u32, name: String, perm: u32, mode: u8) -> CallMessage
     })
 }
 
-fn read(fid: u32, offset: u64, count: u32) -> CallMessage
+fn read(fid: u32, offset: u64, count: u32) -> CallMessage<'static>
     ensures { result ≡ call.Read (record { fid = fid; offset = offset; count = count }) }
 {
     CallMessage::Read(ReadMessage { fid, offset, count })
 }
 
-fn write(fid: u32, offset: u64, bytes: Vec<u8>) -> CallMessage
-    ensures { result ≡ call.Write (record { fid = fid; offset = offset; bytes = bytes.items }) }
+fn write(fid: u32, offset: u64, bytes: &[u8]) -> CallMessage<'_>
+    ensures { result ≡ call.Write (record { fid = fid; offset = offset; bytes = bytes.now }) }
 {
     CallMessage::Write(WriteMessage {
         fid,
         offset,
-        bytes: Bytes::new(bytes),
+        bytes: SentBytes::lent(bytes),
     })
 }
 
-fn wstat(fid: u32, stat: Stat) -> CallMessage
+fn wstat(fid: u32, stat: Stat) -> CallMessage<'static>
     ensures { result ≡ call.Wstat (record { fid = fid; stat = sent_of stat }) }
 {
     CallMessage::Wstat(WstatMessage {
@@ -255,11 +255,11 @@ impl Session {
     /// What a message's bytes come to.
     fn receive<P: Port>(&mut self, alloc: Global, port: &mut P, now: u32, bytes: &[u8]) -> Reply
         requires whole { 7 ≤ length bytes.now }
-        requires idle { self.old.pending ≡ None }
+        requires idle { self.old.awaited ≡ None }
         ensures received { IsReceived P.gives now bytes.now self.old port.old result self.new
             port.new }
         ensures fits { ReplyFits self.old.msize result }
-        ensures idle { self.new.pending ≡ None }
+        ensures idle { self.new.awaited ≡ None }
     {
         if let Some(rule) = first_failing_front(self.msize(), bytes) {
             return Reply::Error(rule);
@@ -286,11 +286,11 @@ impl Session {
         bytes: &[u8],
     ) -> RMessage
         requires whole { 7 ≤ length bytes.now }
-        requires idle { self.old.pending ≡ None }
+        requires idle { self.old.awaited ≡ None }
         ensures replied { IsReplied P.gives now bytes.now self.old port.old (r_view result) self.new
             port.new }
         ensures fits { FitsWithin (room_of self.old.msize) (r_view result) }
-        ensures idle { self.new.pending ≡ None }
+        ensures idle { self.new.awaited ≡ None }
     {
         let msize = self.msize();
         let reply = self.receive(alloc, port, now, bytes);

@@ -15,7 +15,7 @@ use cs_permit::{Call, RemoveCall, Request};
 use cs_run::Answer;
 
 /// What the remove of this entry asks, whose user it takes.
-fn removal(now: u32, entry: Entry) -> RunQuestion
+fn removal(now: u32, entry: Entry) -> RunQuestion<'static>
     ensures { result ≡ removal now entry }
 {
     let (run, pass, number) = (entry.run(), entry.pass(), entry.number());
@@ -38,7 +38,7 @@ pub(crate) fn decide_remove(
     fids: &mut FidTable,
     now: u32,
     fid: u32,
-) -> Result<RunQuestion, Reply>
+) -> Result<RunQuestion<'static>, Reply>
     ensures decided { Decides question_of
         (call_decision now awaits msize fids.old.fids (call.Remove fid)) result }
     ensures plain { IfErr result IsPlain }

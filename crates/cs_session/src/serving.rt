@@ -1,7 +1,6 @@
 //! A connection over a stream: its messages are answered until the stream ends.
-ghost use Rattle.std.specs.Prelude.{◌≡◌, ◌≢◌, ◌+◌, ◌*◌, ◌<◌, ◌≤◌, ℕ, [], length, vec_len, vec_capacity, IfOk, None, Ok, Err};
+ghost use Rattle.std.specs.Prelude.{◌≡◌, ◌≢◌, ◌+◌, ◌*◌, ◌<◌, ◌≤◌, [], length, vec_len, vec_capacity, IfOk, None, Ok, Err};
 ghost use Rattle.cs_names.specs.declared.limits.TheConstants.{MESSAGE_BYTES};
-ghost use Rattle.cs_wire.specs.Framing.{IsUnfinished};
 ghost use Rattle.cs_wire.specs.Held.{left, size_of};
 ghost use Rattle.cs_session.specs.Serving.{Adds, AnswersFront, Handles, Converses, Conversation, StopsFor};
 ghost use Rattle.cs_session.specs.Streams.{KeepsReads, KeepsFaults, BlamesReads, BlamesWrites, up};
@@ -73,11 +72,11 @@ fn answer_one<P: Port>(
 )
     requires whole { 7 ≤ length message.now }
     requires room { vec_len replies.old + MESSAGE_BYTES ≤ vec_capacity replies.old }
-    requires idle { session.old.pending ≡ None }
+    requires idle { session.old.awaited ≡ None }
     ensures answered { Adds P.gives now message.now session.old port.old replies.old.items
         replies.new.items session.new port.new }
     ensures room { vec_capacity replies.old ≤ vec_capacity replies.new }
-    ensures idle { session.new.pending ≡ None }
+    ensures idle { session.new.awaited ≡ None }
 {
     let reply = session.reply(alloc, port, now, message);
     encode(&reply, replies).unwrap();
@@ -95,13 +94,13 @@ fn answer_some<P: Port, C: Clock>(
 ) -> Progress
     requires empty { replies.old.items ≡ [] }
     requires room { 2 * MESSAGE_BYTES ≤ vec_capacity replies.old }
-    requires idle { session.old.pending ≡ None }
+    requires idle { session.old.awaited ≡ None }
     ensures served { AnswersFront P.gives session.old port.old (left framer.old) (left framer.new)
         replies.new.items session.new port.new }
     ensures stops { StopsFor result (left framer.old) (left framer.new) }
     ensures size { size_of framer.new ≡ size_of framer.old }
     ensures room { 2 * MESSAGE_BYTES ≤ vec_capacity replies.new }
-    ensures idle { session.new.pending ≡ None }
+    ensures idle { session.new.awaited ≡ None }
 {
     while replies.len() <= MESSAGE_BYTES as usize {
         match framer.next() {
@@ -126,7 +125,7 @@ fn answer_all<S: Stream, P: Port, C: Clock>(
     clock: &mut C,
 ) -> Result<(), ServeFault>
     requires room { 2 * MESSAGE_BYTES ≤ vec_capacity replies.old }
-    requires idle { session.old.pending ≡ None }
+    requires idle { session.old.awaited ≡ None }
     ensures handled { Handles P.gives result session.old port.old (left framer.old)
         (left framer.new) (S.contents stream.old) (S.contents stream.new) session.new port.new }
     ensures blamed { result ≡ Err ServeFault.WriteFault
@@ -136,7 +135,7 @@ fn answer_all<S: Stream, P: Port, C: Clock>(
     ensures remaining { S.remaining stream.new ≡ S.remaining stream.old }
     ensures size { size_of framer.new ≡ size_of framer.old }
     ensures room { 2 * MESSAGE_BYTES ≤ vec_capacity replies.new }
-    ensures idle { session.new.pending ≡ None }
+    ensures idle { session.new.awaited ≡ None }
 {
     loop {
         replies.clear();
@@ -166,7 +165,7 @@ fn converse<S: Stream, P: Port, C: Clock>(
     requires left { left framer.old ≡ [] }
     requires size { MESSAGE_BYTES ≤ size_of framer.old }
     requires room { 2 * MESSAGE_BYTES ≤ vec_capacity replies.old }
-    requires idle { session.old.pending ≡ None }
+    requires idle { session.old.awaited ≡ None }
     ensures conversed { Converses P.gives result session.old port.old (S.remaining stream.old)
         (S.remaining stream.new) (S.contents stream.old) (S.contents stream.new) session.new
         port.new }
@@ -182,7 +181,7 @@ fn converse<S: Stream, P: Port, C: Clock>(
     ensures bounded { (S.counts stream.new).reads
         ≤ up CONNECTION_READS (S.counts stream.old).reads }
     ensures memory { result ≢ Err ServeFault.Memory }
-    ensures idle { session.new.pending ≡ None }
+    ensures idle { session.new.awaited ≡ None }
 {
     let mut waits = 0;
     for _ in 0..CONNECTION_READS {

@@ -12,9 +12,9 @@ ghost use Rattle.cs_session.specs.TableSteps.{table_stepped};
 mod calls;
 
 use crate::attaching::{decide_find, find_refusal, pass_refusal, settle_attach};
+use crate::awaited::AwaitedRun;
 use crate::closing::{close_reply, decide_close};
 use crate::message::{AttachMessage, TableStep};
-use crate::pending::Pending;
 use crate::port::Port;
 use crate::reply::Reply;
 use crate::versions::{clunk, session_size, version_reply};
@@ -28,7 +28,7 @@ use std::marker::Model;
 #[derive(Drop)]
 pub struct Session {
     msize: Option<u32>,
-    pending: Option<Pending>,
+    awaited: Option<AwaitedRun>,
     fids: FidTable,
 }
 
@@ -40,9 +40,9 @@ impl Model for Session {
 
     ghost coded = { sess_code };
 
-    ghost view = { λ s. record { msize = s.msize; pending = s.pending; fids = s.fids.fids } };
+    ghost view = { λ s. record { msize = s.msize; awaited = s.awaited; fids = s.fids.fids } };
 
-    ghost invariant = { λ s. IsReady s.msize s.pending s.fids };
+    ghost invariant = { λ s. IsReady s.msize s.awaited s.fids };
 }
 
 impl Session {
@@ -52,7 +52,7 @@ impl Session {
     {
         Session {
             msize: None,
-            pending: None,
+            awaited: None,
             fids: FidTable::new(alloc),
         }
     }
@@ -65,7 +65,8 @@ impl Session {
         self.msize
     }
 
-    /// Finds the run of an attach, which then awaits it. A refusal leaves the connection.
+    /// Finds the run of an attach; the run then awaits the attach. A refusal leaves the
+    /// connection.
     pub fn find_step<P: Port>(
         &mut self,
         alloc: Global,
@@ -76,15 +77,15 @@ impl Session {
         ensures takes { IsTaken P.gives now self.old port.old (FindStep message) result self.new
             port.new }
         ensures plain { IsPlain result }
-        ensures found { result ≡ Reply.Found → IsSome self.new.pending }
-        ensures refused { result ≢ Reply.Found → self.new.pending ≡ self.old.pending }
+        ensures found { result ≡ Reply.Found → IsSome self.new.awaited }
+        ensures refused { result ≢ Reply.Found → self.new.awaited ≡ self.old.awaited }
     {
-        let awaits = self.pending.is_some();
+        let awaits = self.awaited.is_some();
         match decide_find(alloc, awaits, self.msize, &mut self.fids, &message) {
             Err(reply) => reply,
             Ok((name, user)) => match port.find(alloc, &name) {
                 Ok(run) => {
-                    self.pending = Some(Pending {
+                    self.awaited = Some(AwaitedRun {
                         fid: message.fid,
                         run,
                         uname: message.uname,
@@ -102,9 +103,9 @@ impl Session {
     pub fn attach_step<P: Port>(&mut self, alloc: Global, port: &mut P, now: u32) -> Reply
         ensures takes { IsTaken P.gives now self.old port.old AttachStep result self.new port.new }
         ensures fits { ReplyFits self.old.msize result }
-        ensures idle { self.new.pending ≡ None }
+        ensures idle { self.new.awaited ≡ None }
     {
-        let Some(found) = self.pending.take() else {
+        let Some(found) = self.awaited.take() else {
             return Reply::Error(RuleId::S5);
         };
         match port.attach(alloc, now, found.run, found.uname) {
@@ -125,11 +126,11 @@ impl Session {
         ensures takes { IsTaken P.gives now self.old port.old (CloseStep fid) result self.new
             port.new }
         ensures plain { IsPlain result }
-        ensures pending { self.new.pending ≡ self.old.pending }
-        ensures fewer { self.old.pending ≡ None → IsOk (opened_in (entry_at self.old fid))
+        ensures awaited { self.new.awaited ≡ self.old.awaited }
+        ensures fewer { self.old.awaited ≡ None → IsOk (opened_in (entry_at self.old fid))
             → len self.new.fids < len self.old.fids }
     {
-        let awaits = self.pending.is_some();
+        let awaits = self.awaited.is_some();
         let ask = match decide_close(awaits, &mut self.fids, now, fid) {
             Ok(ask) => ask,
             Err(reply) => return reply,
@@ -141,7 +142,7 @@ impl Session {
     /// Frees every fid, and begins a session of that message size, or none.
     fn begin(&mut self, msize: Option<u32>)
         requires agreed { ForSome msize IsAgreed }
-        requires idle { self.old.pending ≡ None }
+        requires idle { self.old.awaited ≡ None }
         ensures { self.new ≡ blank msize }
     {
         self.fids.clear();
@@ -156,9 +157,9 @@ impl Session {
             port.new }
         ensures value { (result, self.new) ≡ table_stepped self.old step }
         ensures plain { IsPlain result }
-        ensures idle { self.old.pending ≡ None → self.new.pending ≡ None }
+        ensures idle { self.old.awaited ≡ None → self.new.awaited ≡ None }
     {
-        if self.pending.is_some() {
+        if self.awaited.is_some() {
             return Reply::Error(RuleId::S5);
         }
         match step {
@@ -202,8 +203,8 @@ impl Session {
 
     /// Whether a run that was found awaits its attach.
     pub fn awaits(&self) -> bool
-        ensures { result ≡ is_some self.now.pending }
+        ensures { result ≡ is_some self.now.awaited }
     {
-        self.pending.is_some()
+        self.awaited.is_some()
     }
 }

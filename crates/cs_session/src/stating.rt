@@ -21,7 +21,7 @@ pub(crate) fn decide_stat(
     fids: &FidTable,
     now: u32,
     fid: u32,
-) -> Result<RunQuestion, Reply>
+) -> Result<RunQuestion<'static>, Reply>
     ensures decided { Decides question_of
         (call_decision now awaits msize fids.now.fids (call.Stat fid)) result }
     ensures plain { IfErr result IsPlain }
@@ -49,7 +49,7 @@ pub(crate) fn decide_wstat(
     fids: &FidTable,
     now: u32,
     message: WstatMessage,
-) -> Result<RunQuestion, Reply>
+) -> Result<RunQuestion<'static>, Reply>
     ensures decided { Decides question_of
         (call_decision now awaits msize fids.now.fids (call.Wstat message)) result }
     ensures plain { IfErr result IsPlain }

@@ -25,7 +25,7 @@ pub(crate) fn decide_walk(
     fids: &mut FidTable,
     now: u32,
     message: WalkMessage,
-) -> Result<(RunQuestion, Fid<Walked>), Reply>
+) -> Result<(RunQuestion<'static>, Fid<Walked>), Reply>
     ensures decided { Decides (λ a. question_of a.0)
         (call_decision now awaits msize fids.old.fids (call.Walk message)) result }
     ensures plain { IfErr result IsPlain }

@@ -16,15 +16,15 @@ use cs_permit::{Call, WriteCall};
 use cs_run::Answer;
 
 /// What a write asks.
-pub(crate) fn decide_write(
+pub(crate) fn decide_write<'a>(
     awaits: bool,
     msize: Option<u32>,
     fids: &FidTable,
     now: u32,
-    message: WriteMessage,
-) -> Result<RunQuestion, Reply>
+    message: WriteMessage<'a>,
+) -> Result<RunQuestion<'a>, Reply>
     ensures decided { Decides question_of
-        (call_decision now awaits msize fids.now.fids (call.Write message)) result }
+        (call_decision now awaits msize fids.now.fids (call.Write message.entry)) result }
     ensures plain { IfErr result IsPlain }
     ensures idle { IsOk result → awaits ≡ false }
 {

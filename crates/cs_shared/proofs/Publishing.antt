@@ -2,11 +2,10 @@
 use Rattle.std.proofs.Common.{◌≢◌, ℕ, refl}
 use Rattle.std.specs.Prelude.{◌↔◌, Result, Ok, Err}
 use Rattle.cs_plan.specs.Scenes.{Published}
-use Rattle.cs_registry.specs.Publishing.{Publishes}
+use Rattle.cs_registry.specs.Publishing.{IsStateOf, Publishes}
 use Rattle.cs_registry.specs.Registries.{Registry}
 use Rattle.cs_registry.specs.declared.fault.PublishFault.{PublishFault}
 use Rattle.cs_registry.specs.declared.fault.PublishFault.TheVariants.{Stranger, Twice, Memory}
-use Rattle.cs_shared.specs.Serving.{IsStateOf}
 
 -- those that are none of its scene
 pub own_unless_stranger : (old new : Registry ℕ) (state : Published) (answer : Result Unit PublishFault)

@@ -24,8 +24,8 @@ pub record IsOfServer (is_scene : Scene → Type 0) (registry : Registry ℕ) : 
 abbrev pub is_fresh : ℕ → Tree → List Row → ℕ → Type 0
 is_fresh number tree users shared = shared ≡ number
 
--- the run that is found is the one at the place; want of memory else only where no handle more of
--- it can be made
+-- a refusal is told as it is; of the run at the place one more handle is given, or want of memory
+-- is told
 abbrev pub IsHandle : Registry ℕ → Result ℕ FindFault → Result ℕ FindFault → Type 0
 IsHandle new (Err fault) answer = answer ≡ Err fault
 IsHandle new (Ok place) (Ok shared) = held_at new.runs place ≡ Some shared
@@ -34,6 +34,6 @@ IsHandle new (Ok place) (Err fault) = fault ≡ Memory
 -- what is found is the run of the key
 pub record FindsShared (old : Registry ℕ) (key : Key) (answer : Result ℕ FindFault)
     (new : Registry ℕ) : Type 0 where
-  pub place : Result ℕ FindFault
-  pub found : Finds is_fresh old key place new
-  pub handle : IsHandle new place answer
+  pub told : Result ℕ FindFault
+  pub found : Finds is_fresh old key told new
+  pub handle : IsHandle new told answer

@@ -1,6 +1,7 @@
 -- The order of runs: by the numbers of their states, and then by their names' bytes.
 use Rattle.std.specs.Prelude.{◌≡◌}
-use Rattle.std.specs.Cmp.{IsPartialOrder, IsTotalOrder, both_tied, nat_cmp_total, on_total, partial_order_from_total, then_total, unsigned_ties}
+use Rattle.std.specs.Cmp.{IsPartialOrder, IsTotalOrder, both_tied, nat_cmp_total, on_total}
+use Rattle.std.specs.Cmp.{partial_order_from_total, then_total, unsigned_ties}
 use Rattle.std.specs.Cmp.Derive.{alike_po}
 use Rattle.std.specs.Cmp.Lexicographic.{on_texts, slice_cmp, texts_ties}
 use Rattle.std.specs.Ordering.{as_partial_cmp, eq_by_cmp, nat_cmp, ordering_then}

@@ -1,6 +1,6 @@
 -- The scene of a server, and its trees.
-use Rattle.std.specs.Prelude.{◌≡◌, ◌<◌, ℕ, length, Some}
-use Rattle.cs_plan.specs.Scenes.{IsPlan, Published, Scene, order_in, state_at}
+use Rattle.std.specs.Prelude.{◌≡◌, ℕ, Some}
+use Rattle.cs_plan.specs.Scenes.{IsPlan, Scene, order_in, state_at}
 use Rattle.cs_tree_model.specs.Tree.{Tree}
 
 -- which trees a server has under a number
@@ -24,7 +24,3 @@ IsStateOfSome number tree = (scene : Scene) × IsPlanned scene × (state_at scen
 -- no other scene may be the server's
 abbrev pub IsOnly : (Scene → Type 0) → Scene → Type 0
 IsOnly is_scene scene = (other : Scene) → is_scene other → other ≡ scene
-
--- a state that was made is one of the scene's: it was made in it, and has a number of its plan
-abbrev pub IsStateOf : Scene → Published → Type 0
-IsStateOf scene state = (state.number < length scene.plan) × (state.scene ≡ scene)

@@ -3,12 +3,14 @@
 #![tactic(auto)]
 
 mod locked;
+mod look;
 mod named;
 mod registry;
 mod served;
 mod shared_registry;
 mod shared_run;
 
+pub use look::{AuditBy, Look};
 pub use named::NamedRun;
 pub use registry::Registry;
 pub use served::{AnyScene, Served};

@@ -1,6 +1,5 @@
 //! What a run's lock keeps.
 ghost use Rattle.std.specs.Prelude.{◌≡◌, IfOk};
-ghost use Rattle.std.specs.Fn.{FnOnceReturnsAt};
 ghost use Rattle.cs_journal.specs.Journals.{IsLegal};
 ghost use Rattle.cs_journal.specs.Runs.{first_state, fresh_pass};
 ghost use Rattle.cs_permit.specs.declared.call.Call.TheVariants as called;
@@ -8,6 +7,7 @@ ghost use Rattle.cs_run.specs.Laws.{FitsCall};
 ghost use Rattle.cs_shared.specs.Locks.{LockedAttaches, LockedCalls};
 ghost use Rattle.cs_shared.specs.Answers.{IsStepOfServedRun, IsAnswerOf};
 
+use crate::look::Look;
 use crate::served::Served;
 use cs_journal::{Pass, Run};
 use cs_names::{RuleId, Text};
@@ -59,11 +59,12 @@ impl<S: Served> Locked<S> {
         number: u32,
         pass: &mut Pass,
         now: u32,
-        call: Call,
+        call: Call<'_>,
     ) -> Answer
-        ensures calls { LockedCalls self.old number pass.old now call result self.new pass.new }
-        ensures told { IsAnswerOf S.serves number pass.old now call result pass.new }
-        ensures fits { FitsCall call result }
+        ensures calls { LockedCalls self.old number pass.old now call.entry result
+            self.new pass.new }
+        ensures told { IsAnswerOf S.serves number pass.old now call.entry result pass.new }
+        ensures fits { FitsCall call.entry result }
     {
         if self.number != number || !self.run.fits(pass) {
             return Answer::Denied(RuleId::S5);
@@ -97,13 +98,12 @@ impl<S: Served> Locked<S> {
     }
 
     /// Lends the run.
-    pub(crate) fn inspect<T, F: FnOnce(&Run<Built>) -> T>(&self, look: F) -> T
-        requires { F.IsAlwaysCallable look }
+    pub(crate) fn inspect<T, K: Look<T>>(&self, look: K) -> T
         ensures served { S.serves self.now.number self.now.run.fresh }
         ensures legal { IsLegal (first_state self.now.run) self.now.run.journal }
-        ensures told { FnOnceReturnsAt F.FnOnce look self.now.run result }
+        ensures told { K.tells look self.now.run result }
     {
         let _legal = self.run.entries();
-        look(&self.run)
+        look.look(&self.run)
     }
 }

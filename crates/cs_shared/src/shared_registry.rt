@@ -2,8 +2,9 @@
 ghost use Rattle.std.specs.Prelude.{◌≡◌, ◌≢◌, ◌↔◌, ◌≤◌, Err, IfOk, length};
 ghost use Rattle.std.specs.Arc.{arc_value};
 ghost use Rattle.std.specs.List.Sorted.{IsSorted};
+ghost use Rattle.cs_registry.specs.Publishing.{IsStateOf};
 ghost use Rattle.cs_shared.specs.Naming.{key_cmp};
-ghost use Rattle.cs_shared.specs.Serving.{IsOnly, IsStateOf, ServesAll};
+ghost use Rattle.cs_shared.specs.Serving.{IsOnly, ServesAll};
 
 use crate::named::NamedRun;
 use crate::registry::Registry;

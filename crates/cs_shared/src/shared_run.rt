@@ -1,7 +1,6 @@
 //! A run that threads share.
 ghost use Rattle.std.specs.Prelude.{◌≡◌, ℕ, IfOk};
 ghost use Rattle.std.specs.Arc.{arc_value};
-ghost use Rattle.std.specs.Fn.{FnOnceReturnsAt};
 ghost use Rattle.cs_journal.specs.Bounds.{CanGrow};
 ghost use Rattle.cs_journal.specs.Journals.{IsLegal};
 ghost use Rattle.cs_journal.specs.Runs.{RunOf, first_state, fresh_pass};
@@ -10,6 +9,7 @@ ghost use Rattle.cs_run.specs.Laws.{FitsCall};
 ghost use Rattle.cs_shared.specs.Answers.{IsStepOfServedRun, IsAnswerOf};
 
 use crate::locked::Locked;
+use crate::look::Look;
 use crate::served::Served;
 use cs_journal::{Pass, Run};
 use cs_names::Text;
@@ -97,21 +97,19 @@ impl<S: Served> SharedRun<S> {
         alloc: Global,
         pass: &mut Pass,
         now: u32,
-        call: Call,
+        call: Call<'_>,
     ) -> Answer
-        ensures told { IsAnswerOf S.serves self.now pass.old now call result pass.new }
-        ensures fits { FitsCall call result }
+        ensures told { IsAnswerOf S.serves self.now pass.old now call.entry result pass.new }
+        ensures fits { FitsCall call.entry result }
     {
         self.run.lock(rt).call(alloc, self.number, pass, now, call)
     }
 
-    /// Lends the run to `look`, under the lock. A `look` that makes a call on this same run would
-    /// wait for itself.
-    pub fn inspect<T, F: FnOnce(&Run<Built>) -> T>(&self, rt: &impl Wait, look: F) -> T
-        requires { F.IsAlwaysCallable look }
+    /// Lends the run to `look`, under the lock: what it tells.
+    pub fn inspect<T, K: Look<T>>(&self, rt: &impl Wait, look: K) -> T
         ensures { (number : ℕ)
             × ((run : RunOf) × S.serves number run.fresh × IsLegal (first_state run) run.journal
-            × FnOnceReturnsAt F.FnOnce look run result) }
+            × K.tells look run result) }
     {
         self.run.lock(rt).inspect(look)
     }

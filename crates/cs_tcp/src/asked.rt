@@ -13,19 +13,19 @@ pub(crate) enum Outcome {
     /// The client gets this.
     Instead(RMessage),
     /// The client isn't answered yet: the server is asked this.
-    Asked(TMessage),
+    Asked(TMessage<'static>),
 }
 
 /// What was asked of the server, as far as its replies matter: walks, since renames need to know
-/// directories, and renames. A rename onto a file that stands goes on from here: the client gets one reply
-/// to its request.
+/// directories, and renames. A rename onto a file that stands goes on from here: the client gets
+/// one reply to its request.
 #[derive(Drop)]
 pub(crate) struct Asked {
     alloc: Global,
     /// How many requests aren't answered.
     unanswered: u64,
     /// The last one, where its reply matters.
-    last: Option<TMessage>,
+    last: Option<TMessage<'static>>,
     directories: Directories,
     /// The rename that goes on.
     renaming: Option<Renaming>,
@@ -41,19 +41,35 @@ pub(crate) fn reply_type_of(reply: &[u8]) -> Option<RKind> {
     RKind::of_number(reply.get(4).copied()?)
 }
 
+/// The request, where its reply matters.
+fn kept(request: TMessage<'_>) -> Option<TMessage<'static>> {
+    let tag = request.tag;
+    match request.body {
+        TBody::Walk { fid, newfid, wname } => {
+            let body = TBody::Walk { fid, newfid, wname };
+            Some(TMessage { tag, body })
+        }
+        TBody::Wstat { fid, stat } => {
+            if !is_rename(&stat) {
+                return None;
+            }
+            let body = TBody::Wstat { fid, stat };
+            Some(TMessage { tag, body })
+        }
+        _other => None,
+    }
+}
+
 /// The request, where its reply matters. A walk that memory is wanting for does not.
-fn that_matters(alloc: Global, request: &[u8]) -> Option<TMessage> {
+fn that_matters(alloc: Global, request: &[u8]) -> Option<TMessage<'static>> {
     match type_of(request) {
         Some(TKind::Walk | TKind::Wstat) => {}
         _ => return None,
     }
-    let request = decode(alloc, request).ok()?;
-    let matters = match &request.body {
-        TBody::Walk { .. } => true,
-        TBody::Wstat { stat, .. } => is_rename(stat),
-        _ => false,
-    };
-    if matters { Some(request) } else { None }
+    match decode(alloc, request) {
+        Ok(request) => kept(request),
+        Err(_) => None,
+    }
 }
 
 /// The reply; where memory is wanting for it, an error that says so.
@@ -84,8 +100,8 @@ impl Asked {
         }
     }
 
-    /// Takes note of a request that is asked now: whether its reply matters, so that no more is to be asked
-    /// before it comes.
+    /// Takes note of a request that is asked now: whether its reply matters, so that no more is to
+    /// be asked before it comes.
     pub(crate) fn ask(&mut self, request: &[u8]) -> bool {
         self.unanswered = self.unanswered.saturating_add(1);
         self.last = that_matters(self.alloc, request);
@@ -105,7 +121,7 @@ impl Asked {
     }
 
     /// What is done with the reply to a request that matters.
-    fn answered(&mut self, request: TMessage, reply: &[u8]) -> Outcome {
+    fn answered(&mut self, request: TMessage<'_>, reply: &[u8]) -> Outcome {
         let Ok(reply) = decode_r(self.alloc, reply) else {
             return Outcome::Told;
         };

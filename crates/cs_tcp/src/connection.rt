@@ -18,44 +18,61 @@ use std::time::Duration;
 /// How many seconds a write may wait for a client that doesn't read.
 const WRITE_TIMEOUT_SECONDS: u64 = 30;
 
-/// Sets how the stream writes: at once, and with an end to waiting. A read may wait for ever: an idle
-/// client is no fault.
+/// Sets how the stream writes: at once, and with an end to waiting. A read may wait for ever: an
+/// idle client is no fault.
 fn set_up(stream: &TcpStream) -> io::Result<()> {
     stream.set_nodelay(true)?;
     stream.set_write_timeout(Some(Duration::from_secs(WRITE_TIMEOUT_SECONDS)))
 }
 
-/// Serves the stream to its end, and closes it.
-fn serve_stream<S: Served, R: Wait + Clock, RW: Read + Write + Drop>(
-    rt: &R,
-    alloc: Global,
-    server: &Server<S>,
-    stream: RW,
-) -> Connection<S> {
-    let mut stream = Counted::new(stream);
-    let mut clock = WallClock::new(rt);
-    serve_connection(rt, alloc, server, &mut stream, &mut clock)
+/// What serves streams. What is generic over it serves streams that lend, whatever a server keeps.
+trait Serves {
+    /// What comes of a stream.
+    type Ended;
+
+    /// Serves the stream to its end, and closes it.
+    fn serve<R: Wait + Clock, RW: Read + Write + Drop>(
+        &self,
+        rt: &R,
+        alloc: Global,
+        stream: RW,
+    ) -> Self::Ended;
 }
 
-/// Serves the stream to its end; its messages are told, if the log tells these.
-fn serve_heard<S: Served, R: Wait + Clock, E: Write, RW: Read + Write + Drop>(
-    rt: &R,
-    alloc: Global,
-    server: &Server<S>,
-    stream: RW,
-    conn: u32,
-    log: Log<E>,
-) -> Connection<S> {
-    if log.verbose {
-        let heard = Heard::new(rt, alloc, stream, conn, log);
-        serve_stream(rt, alloc, server, heard)
-    } else {
-        serve_stream(rt, alloc, server, stream)
+impl<S: Served> Serves for Server<S> {
+    type Ended = Connection<S>;
+
+    fn serve<R: Wait + Clock, RW: Read + Write + Drop>(
+        &self,
+        rt: &R,
+        alloc: Global,
+        stream: RW,
+    ) -> Connection<S> {
+        let mut stream = Counted::new(stream);
+        let mut clock = WallClock::new(rt);
+        serve_connection(rt, alloc, self, &mut stream, &mut clock)
     }
 }
 
-/// Serves the connection of that number to its end, and tells how it ended; its messages too, if the log
-/// tells these. None where its socket can't be set up: then nothing was read.
+/// Serves the stream to its end; its messages are told, if the log tells these.
+fn serve_heard<V: Serves, R: Wait + Clock, E: Write, RW: Read + Write + Drop>(
+    rt: &R,
+    alloc: Global,
+    server: &V,
+    stream: RW,
+    conn: u32,
+    log: Log<E>,
+) -> V::Ended {
+    if log.verbose {
+        let heard = Heard::new(rt, alloc, stream, conn, log);
+        server.serve(rt, alloc, heard)
+    } else {
+        server.serve(rt, alloc, stream)
+    }
+}
+
+/// Serves the connection of that number to its end, and tells how it ended; its messages too, if
+/// the log tells these. None where its socket can't be set up: then nothing was read.
 pub(crate) fn serve<S: Served, R: Wait + Clock, E: Write>(
     rt: &R,
     alloc: Global,

@@ -68,9 +68,9 @@ impl Door {
     }
 }
 
-/// Where connections come in until it is closed: then it listens no more. Threads share it, and one of
-/// them at a time waits for a connection, with the lock held; those that wait for the lock have nothing
-/// else to do.
+/// Where connections come in until it is closed: then it listens no more. Threads share it, and one
+/// of them at a time waits for a connection, with the lock held; those that wait for the lock have
+/// nothing else to do.
 #[derive(Drop)]
 pub(crate) struct Entrance {
     door: Mutex<Door>,
@@ -79,8 +79,8 @@ pub(crate) struct Entrance {
 }
 
 impl Entrance {
-    /// That of a listener whose accepts don't wait, by which so many connections come in, or any number.
-    /// Their numbers begin at 0, and do so again after 4,294,967,295.
+    /// That of a listener whose accepts don't wait, by which so many connections come in, or any
+    /// number. Their numbers begin at 0, and do so again after 4,294,967,295.
     pub(crate) fn new(listener: TcpListener, left: Option<u32>) -> Entrance {
         let door = Door {
             listener: Some(listener),

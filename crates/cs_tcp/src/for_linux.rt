@@ -8,10 +8,10 @@ use std::alloc::Global;
 use std::collections::VecDeque;
 use std::io::{self, Read, Write};
 
-/// A stream to a client of Linux: what is read from it is what the client means, and what is written to
-/// it is told in texts that the client knows. A message goes on once it is whole; one that memory is
-/// wanting for goes on as it is. Where the client renames a file onto one that stands, more requests are
-/// read than it sent, and their replies it doesn't get.
+/// A stream to a client of Linux: what is read from it is what the client means, and what is
+/// written to it is told in texts that the client knows. A message goes on once it is whole; one
+/// that memory is wanting for goes on as it is. Where the client renames a file onto one that
+/// stands, more requests are read than it sent, and their replies it doesn't get.
 #[derive(Drop)]
 pub(crate) struct ForLinux<RW> {
     stream: RW,
@@ -27,7 +27,7 @@ pub(crate) struct ForLinux<RW> {
 }
 
 /// What the client means by a Twstat. None of any other request.
-fn meant_by(alloc: Global, request: &[u8]) -> Option<TMessage> {
+fn meant_by(alloc: Global, request: &[u8]) -> Option<TMessage<'_>> {
     if type_of(request) != Some(TKind::Wstat) {
         return None;
     }
@@ -64,8 +64,8 @@ fn bytes_told(alloc: Global, reply: &[u8]) -> Option<Vec<u8>> {
     Some(bytes)
 }
 
-/// Appends what the client means by each whole request, up to one whose reply matters, and all of the rest
-/// where that begins no request.
+/// Appends what the client means by each whole request, up to one whose reply matters, and all of
+/// the rest where that begins no request.
 fn mean_some(
     alloc: Global,
     requests: &mut Framer,
@@ -102,7 +102,7 @@ fn give_rest(alloc: Global, requests: &mut Framer, meant: &mut VecDeque<u8>) -> 
 }
 
 /// Appends a request of no client's.
-fn put_request(alloc: Global, request: &TMessage, meant: &mut VecDeque<u8>) -> io::Result<()> {
+fn put_request(alloc: Global, request: &TMessage<'_>, meant: &mut VecDeque<u8>) -> io::Result<()> {
     if !request.fits() {
         return Err(io::Error::from(io::ErrorKind::InvalidData));
     }

@@ -6,8 +6,8 @@ use std::alloc::Global;
 use std::io::{self, Read, Write};
 use std::sync::Wait;
 
-/// A stream whose messages are told, each with its reply, once the reply was written. A stream has a
-/// reply for each message, in their order.
+/// A stream whose messages are told, each with its reply, once the reply was written. A stream has
+/// a reply for each message, in their order.
 #[derive(Drop)]
 pub(crate) struct Heard<'a, RW, R, E> {
     stream: RW,

@@ -1,5 +1,5 @@
-//! The command `serve`: the states that a crash may leave, served over TCP, each connection in a thread
-//! of its own.
+//! The command `serve`: the states that a crash may leave, served over TCP, each connection in a
+//! thread of its own.
 #![tactic(auto)]
 
 mod accepting;

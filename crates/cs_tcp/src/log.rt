@@ -9,8 +9,9 @@ use std::io::Write;
 use std::net::SocketAddr;
 use std::sync::{Mutex, Wait};
 
-/// Tells lines to a writer that threads share. Its lock is held while lines that belong together are
-/// written, and over nothing else; then they are flushed. That they can't be written ends nothing.
+/// Tells lines to a writer that threads share. Its lock is held while lines that belong together
+/// are written, and over nothing else; then they are flushed. That they can't be written ends
+/// nothing.
 pub(crate) struct Log<'a, E> {
     pub(crate) writer: &'a Mutex<E>,
     /// Whether connections, their messages, and how many states were published are told.
@@ -27,10 +28,10 @@ impl<E> Clone for Log<'_, E> {
 
 impl<E> Copy for Log<'_, E> {}
 
-/// The user and the run's key of an attach that was granted: the parts of its message, since a run's key
-/// is spelled in one way.
+/// The user and the run's key of an attach that was granted: the parts of its message, since a
+/// run's key is spelled in one way.
 fn attached<'a>(
-    message: &'a Result<TMessage, WireFault>,
+    message: &'a Result<TMessage<'_>, WireFault>,
     reply: &Result<RMessage, WireFault>,
 ) -> Option<(&'a str, &'a str)> {
     match (message, reply) {
@@ -85,7 +86,8 @@ impl<E: Write> Log<'_, E> {
         }
     }
 
-    /// Tells a message and its reply, and the user and the run where it is an attach that was granted.
+    /// Tells a message and its reply, and the user and the run where it is an attach that was
+    /// granted.
     pub(crate) fn exchanged(
         &self,
         rt: &impl Wait,

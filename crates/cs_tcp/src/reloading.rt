@@ -36,8 +36,8 @@ impl<R: Files> ReadsFiles for R {
     }
 }
 
-/// Loads the users that the bytes of a users file spell, if these aren't the last ones; now they are. Where
-/// memory is wanting the last ones stay, so that these are tried again.
+/// Loads the users that the bytes of a users file spell, if these aren't the last ones; now they
+/// are. Where memory is wanting the last ones stay, so that these are tried again.
 fn load<S: Served>(
     rt: &impl Wait,
     alloc: Global,
@@ -82,8 +82,8 @@ impl Reloading {
         })
     }
 
-    /// Reads the file, and loads its users if it changed. One thread at a time, so that what the file was
-    /// earlier is never loaded later.
+    /// Reads the file, and loads its users if it changed. One thread at a time, so that what the
+    /// file was earlier is never loaded later.
     fn read<S: Served, R: ReadsFiles + Wait>(
         &self,
         rt: &R,
@@ -100,8 +100,8 @@ impl Reloading {
         }
     }
 
-    /// Reads the file again: runs that are made from now on have its users. Else it is told why the list
-    /// stays.
+    /// Reads the file again: runs that are made from now on have its users. Else it is told why the
+    /// list stays.
     pub(crate) fn again<S: Served, R: ReadsFiles + Wait, E: Write>(
         &self,
         rt: &R,

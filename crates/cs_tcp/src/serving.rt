@@ -28,8 +28,8 @@ use std::thread::Threads;
 /// What is served, and to whom.
 #[derive(Clone, Copy, Debug, PartialEq, Eq)]
 pub struct Serving<'a> {
-    /// The address that is listened on: an IP address or a host's name, a colon and a port. With the
-    /// port 0 the system chooses one.
+    /// The address that is listened on: an IP address or a host's name, a colon and a port. With
+    /// the port 0 the system chooses one.
     pub listen: &'a str,
     /// How many threads make the states.
     pub workers: u32,
@@ -103,8 +103,8 @@ fn listen<R: Net<Listener = TcpListener, Stream = TcpStream>, W: Write>(
     Ok(listener)
 }
 
-/// Accepts connections and serves each in a thread until all have ended, and publishes meanwhile if that
-/// is still to be done: whether no fault was told.
+/// Accepts connections and serves each in a thread until all have ended, and publishes meanwhile if
+/// that is still to be done: whether no fault was told.
 fn serve_each<
     's,
     S: Served + Send + Sync + 's,
@@ -180,8 +180,8 @@ where
     Ok(served && !failed)
 }
 
-/// The command, but for the fault that ends it: that is given, and not told yet. Else whether no fault
-/// was told.
+/// The command, but for the fault that ends it: that is given, and not told yet. Else whether no
+/// fault was told.
 fn serve<R, I: Read + Drop + Send, W: Write, E: Write + Send>(
     rt: &R,
     alloc: Global,
@@ -201,24 +201,25 @@ where
     serve_scene::<Brand, R, I, W, E>(rt, alloc, scene, inputs, serving, input, out, log)
 }
 
-/// The command `serve`: publishes all states, before it listens or meanwhile, prints the address that it
-/// listens on, serves connections, each in a thread, and at the end prints a line for each run, with its
-/// audit by the passes of all connections.
+/// The command `serve`: publishes all states, before it listens or meanwhile, prints the address
+/// that it listens on, serves connections, each in a thread, and at the end prints a line for each
+/// run, with its audit by the passes of all connections.
 ///
-/// It ends when so many connections have ended. With `again` no more than so many are served at once; when
-/// one has ended another is accepted, until `input` ends or can't be read, which is standard input, and
-/// whose bytes count for nothing. Then it listens no more, serves those that it has to their end, and ends.
-/// Without `again` nothing is read of `input`.
+/// It ends when so many connections have ended. With `again` no more than so many are served at
+/// once; when one has ended another is accepted, until `input` ends or can't be read, which is
+/// standard input, and whose bytes count for nothing. Then it listens no more, serves those that it
+/// has to their end, and ends. Without `again` nothing is read of `input`.
 ///
-/// With `reload` it reads the users file again after each accept: runs that are made from then on have its
-/// users. Where it can't be read, is no users file, or memory is wanting, that is told by a line on `err`, and
-/// the list stays.
+/// With `reload` it reads the users file again after each accept: runs that are made from then on
+/// have its users. Where it can't be read, is no users file, or memory is wanting, that is told by
+/// a line on `err`, and the list stays.
 ///
-/// Its status: 0, or 1 where a fault was told, each by a line on `err`. A fault of a connection, or of a users
-/// file that is read again, is none of the command. Where accepting or publishing fails while there are connections, these are served to their
-/// end, and the runs are printed; with `again` not before `input` ends. Where the inputs ask for it, `err`
-/// also gets a line for each connection that comes and for each that ends, each message with its reply, and
-/// each attach that was granted. It may wait for clients for ever.
+/// Its status: 0, or 1 where a fault was told, each by a line on `err`. A fault of a connection, or
+/// of a users file that is read again, is none of the command. Where accepting or publishing fails
+/// while there are connections, these are served to their end, and the runs are printed; with
+/// `again` not before `input` ends. Where the inputs ask for it, `err` also gets a line for each
+/// connection that comes and for each that ends, each message with its reply, and each attach that
+/// was granted. It may wait for clients for ever.
 pub fn serve_of<R, I: Read + Drop + Send, W: Write, E: Write + Send>(
     rt: &R,
     alloc: Global,

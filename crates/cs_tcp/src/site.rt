@@ -8,8 +8,8 @@ use cs_shared::Served;
 use std::alloc::Global;
 use std::sync::{Mutex, Wait};
 
-/// A server, where its connections come in, its users file if that is read again, and the passes of the
-/// connections that ended.
+/// A server, where its connections come in, its users file if that is read again, and the passes of
+/// the connections that ended.
 #[derive(Drop)]
 pub(crate) struct Site<S: Served> {
     pub(crate) server: Server<S>,
@@ -36,8 +36,8 @@ impl<S: Served> Site<S> {
         }
     }
 
-    /// Keeps the passes of a connection that ended. Those for which there is no memory are let go: an audit
-    /// of their runs tells so.
+    /// Keeps the passes of a connection that ended. Those for which there is no memory are let go:
+    /// an audit of their runs tells so.
     pub(crate) fn keep(&self, rt: &impl Wait, alloc: Global, ended: Connection<S>) {
         let _lost = self.passes.lock(rt).keep(alloc, ended);
     }

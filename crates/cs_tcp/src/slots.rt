@@ -14,8 +14,8 @@ use std::rt::Clock;
 use std::sync::Wait;
 use std::thread::Scope;
 
-/// Serves connections until no more come in, and keeps the passes of each. Before one is served the users
-/// file is read again, if it is to be.
+/// Serves connections until no more come in, and keeps the passes of each. Before one is served the
+/// users file is read again, if it is to be.
 fn serve_slot<S: Served, R: Wait + Clock + ReadsFiles, E: Write>(
     rt: &R,
     alloc: Global,

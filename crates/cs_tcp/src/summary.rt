@@ -4,7 +4,7 @@ use cs_journal::AuditFault;
 use cs_registry::RunKey;
 use cs_serve::ProgramFault;
 use cs_server::{GivenPasses, Server};
-use cs_shared::{NamedRun, Served};
+use cs_shared::{AuditBy, NamedRun, Served};
 use std::alloc::Global;
 use std::fmt;
 use std::io::Write;
@@ -35,13 +35,11 @@ fn audit<S: Served, R: Wait>(
         Some(key) => passes.of(&key),
         None => &[],
     };
-    named
-        .run()
-        .inspect(rt, |run| (run.entries(), run.audit(passes)))
+    named.run().inspect(rt, AuditBy { passes })
 }
 
-/// Prints a line a run, by the numbers of their states and then by name: its key, how many entries its
-/// journal has, and what its audit by these passes comes to.
+/// Prints a line a run, by the numbers of their states and then by name: its key, how many entries
+/// its journal has, and what its audit by these passes comes to.
 pub(crate) fn print_runs<S: Served, R: Wait, W: Write>(
     rt: &R,
     alloc: Global,

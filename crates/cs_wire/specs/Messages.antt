@@ -1,5 +1,5 @@
 -- The messages: the number of each type, its fields, and the one spelling of a message.
-use Rattle.std.specs.Prelude.{ℕ, ◌<◌, ◌≤◌, ◌+◌, ◌^◌, ◌==◌, Bool, false, if◌then◌else◌, Option, Some, None, List, ◌++◌, length, map}
+use Rattle.std.specs.Prelude.{ℕ, ◌<◌, ◌≤◌, ◌+◌, ◌^◌, ◌==◌, Bool, true, false, not, ◌&&◌, if◌then◌else◌, Option, Some, None, List, ◌++◌, length, map}
 use Rattle.std.specs.Int.{w8, w16, w32, to_le_bytes}
 use Rattle.std.specs.Prelude.{String}
 use Rattle.std.specs.String.{string_bytes}
@@ -106,19 +106,25 @@ r_layout rk.Remove = Nothing
 r_layout rk.Stat = Boxed stat_shape
 r_layout rk.Wstat = Nothing
 
--- One way of the conversation: its types, their numbers and their fields.
+-- whether a client's message is read with no copy: the bytes of a write are lent
+abbrev pub t_lent : TKind → Bool
+t_lent tk.Write = true
+t_lent kind = false
+
+-- One way of the conversation: its types, their numbers and their fields, and which are read with no copy.
 pub record Side (Kind : Type 0) : Type 0 where
   pub number : Kind → ℕ
   pub kind_of : ℕ → Option Kind
   pub layout : Kind → Shape
+  pub lent : Kind → Bool
 
 -- what clients send
 abbrev pub requests : Side TKind
-requests = record { number = t_number; kind_of = t_kind_of; layout = t_layout }
+requests = record { number = t_number; kind_of = t_kind_of; layout = t_layout; lent = t_lent }
 
 -- what the server sends
 abbrev pub replies : Side RKind
-replies = record { number = r_number; kind_of = r_kind_of; layout = r_layout }
+replies = record { number = r_number; kind_of = r_kind_of; layout = r_layout; lent = λ _. false }
 
 -- A message without where it lies in memory: its type, its tag, and what its fields hold.
 pub record Message {Kind : Type 0} (side : Side Kind) : Type 0 where
@@ -132,7 +138,7 @@ fields_of {Kind} {side} m = spelled (side.layout m.kind) m.fields
 
 -- a field of the message takes memory where it is copied
 abbrev pub takes_memory : {Kind : Type 0} {side : Side Kind} → Message side → Bool
-takes_memory {Kind} {side} m = holds_bytes (side.layout m.kind) m.fields
+takes_memory {Kind} {side} m = not (side.lent m.kind) && holds_bytes (side.layout m.kind) m.fields
 
 -- each field can hold what it is to hold
 unfoldable pub FieldsFit : {Kind : Type 0} {side : Side Kind} → Message side → Type 0
@@ -195,7 +201,7 @@ with_request f (t.Walk fid newfid wname) = f tk.Walk (fid, (newfid, names_of wna
 with_request f (t.Open fid mode) = f tk.Open (fid, mode)
 with_request f (t.Create fid name perm mode) = f tk.Create (fid, (string_bytes name, (perm, mode)))
 with_request f (t.Read fid offset count) = f tk.Read (fid, (offset, count))
-with_request f (t.Write fid offset bytes) = f tk.Write (fid, (offset, bytes.items))
+with_request f (t.Write fid offset bytes) = f tk.Write (fid, (offset, bytes.now))
 with_request f (t.Clunk fid) = f tk.Clunk fid
 with_request f (t.Remove fid) = f tk.Remove fid
 with_request f (t.Stat fid) = f tk.Stat fid

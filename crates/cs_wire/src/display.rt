@@ -161,7 +161,7 @@ macro_rules! title_of_body {
     };
 }
 
-fn request_title(body: &TBody) -> &'static str {
+fn request_title(body: &TBody<'_>) -> &'static str {
     each_request!(title_of_body (body TBody))
 }
 
@@ -169,7 +169,7 @@ fn reply_title(body: &RBody) -> &'static str {
     each_reply!(title_of_body (body RBody))
 }
 
-impl fmt::Display for TMessage {
+impl fmt::Display for TMessage<'_> {
     fn fmt<W: fmt::Write>(&self, f: &mut fmt::Formatter<W>) -> fmt::Result {
         line(f, request_title(&self.body), self.tag)?;
         match &self.body {

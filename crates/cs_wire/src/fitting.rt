@@ -173,7 +173,7 @@ macro_rules! size_of_body {
 }
 
 #[tactic(auto, unfolding(crate::specs::Fields::size_of))]
-fn of_request(body: &TBody) -> Option<usize>
+fn of_request(body: &TBody<'_>) -> Option<usize>
     ensures size { result ≡ request_size body.now }
     ensures small { IfSome result (λ size. size ≤ 4295000000) }
 {
@@ -196,7 +196,7 @@ fn spelled(tag: &u16, fields: Option<usize>) -> Option<usize>
     Some(5 + two(tag) + fields?)
 }
 
-impl TMessage {
+impl TMessage<'_> {
     /// Whether it has a spelling, and one of at most 65,536 bytes: each text is shorter than 65,536
     /// bytes and has no NUL, and a walk has at most 16 names.
     pub fn fits(&self) -> bool

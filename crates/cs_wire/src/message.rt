@@ -40,15 +40,15 @@ pub struct Stat {
 
 /// What a client asks.
 #[derive(Debug, Drop)]
-pub struct TMessage {
+pub struct TMessage<'a> {
     /// The client's number for this request.
     pub tag: u16,
-    pub body: TBody,
+    pub body: TBody<'a>,
 }
 
 /// What a client asks, by its type.
 #[derive(Debug, Drop)]
-pub enum TBody {
+pub enum TBody<'a> {
     /// Tversion 100, version(5).
     Version {
         msize: u32,
@@ -95,11 +95,11 @@ pub enum TBody {
         offset: u64,
         count: u32,
     },
-    /// Twrite 118, read(5).
+    /// Twrite 118, read(5); its bytes are lent by the message that was read.
     Write {
         fid: u32,
         offset: u64,
-        data: Vec<u8>,
+        data: &'a [u8],
     },
     /// Tclunk 120, clunk(5).
     Clunk {

@@ -33,7 +33,7 @@ fn header(bytes: &[u8]) -> Result<(u8, u16, Cursor), WireFault>
 }
 
 #[tactic(auto, unfolding(crate::specs::Reading::message_of))]
-fn read_request(alloc: Global, bytes: &[u8]) -> Result<TMessage, WireFault>
+fn read_request(alloc: Global, bytes: &[u8]) -> Result<TMessage<'_>, WireFault>
     ensures { Decodes t_view result (message_of requests bytes.now) }
 {
     let (number, tag, fields) = header(bytes)?;
@@ -54,9 +54,9 @@ fn read_reply(alloc: Global, bytes: &[u8]) -> Result<RMessage, WireFault>
 ///
 /// Else the first fault, from the left: fewer than 7 bytes, a size that isn't their number, a type
 /// that isn't known, then the fields one after the other, then bytes that are left. It is
-/// `Memory` only where the bytes are a message, and one of its texts or its data has a byte, or its
-/// list an item: nothing is taken for an empty one.
-pub fn decode(alloc: Global, bytes: &[u8]) -> Result<TMessage, WireFault>
+/// `Memory` only where the bytes are a message, and one of its texts has a byte, or its list an
+/// item: nothing is taken for an empty one, nor for the bytes of a write, which stay where they are.
+pub fn decode(alloc: Global, bytes: &[u8]) -> Result<TMessage<'_>, WireFault>
     // What is read is spelled so.
     ensures found { IfOk result (λ m. IsMessage (t_view m) × (bytes.now ≡ spelling (t_view m))) }
     // What is spelled so is read, unless memory runs out.

@@ -1,12 +1,13 @@
-//! The fields of each request, from all of the bytes that a cursor has: first they are read, then the end is met,
-//! and only then are they copied, so that no fault comes after want of memory.
+//! The fields of each request, from all of the bytes that a cursor has: first they are read, then the
+//! end is met, and only then are they copied, so that no fault comes after want of memory. The bytes of
+//! a write are lent.
 
 ghost use Rattle.cs_wire.specs.declared.kind.TKind.TheVariants as tk;
 ghost use Rattle.cs_wire.specs.Messages.{requests, t_view};
 ghost use Rattle.cs_wire.specs.Reading.{all_of};
 ghost use Rattle.cs_wire.specs.Answers.{Decodes, Finds};
 
-use crate::copying::{items_copied, names_copied, text_copied};
+use crate::copying::{names_copied, text_copied};
 use crate::cursor::Cursor;
 use crate::fault::WireFault;
 use crate::kind::TKind;
@@ -14,7 +15,7 @@ use crate::message::{TBody, TMessage};
 use std::alloc::Global;
 
 #[tactic(auto, unfolding(crate::specs::Reading::all_of, crate::specs::Reading::field_at))]
-fn version(alloc: Global, tag: u16, mut fields: Cursor) -> Result<TMessage, WireFault>
+fn version(alloc: Global, tag: u16, mut fields: Cursor<'_>) -> Result<TMessage<'_>, WireFault>
     ensures { Decodes t_view result (all_of requests tk.Version tag fields.entry.rest.now) }
 {
     let msize = fields.four()?;
@@ -28,7 +29,7 @@ fn version(alloc: Global, tag: u16, mut fields: Cursor) -> Result<TMessage, Wire
 }
 
 #[tactic(auto, unfolding(crate::specs::Reading::all_of, crate::specs::Reading::field_at))]
-fn auth(alloc: Global, tag: u16, mut fields: Cursor) -> Result<TMessage, WireFault>
+fn auth(alloc: Global, tag: u16, mut fields: Cursor<'_>) -> Result<TMessage<'_>, WireFault>
     ensures { Decodes t_view result (all_of requests tk.Auth tag fields.entry.rest.now) }
 {
     let afid = fields.four()?;
@@ -44,7 +45,7 @@ fn auth(alloc: Global, tag: u16, mut fields: Cursor) -> Result<TMessage, WireFau
 }
 
 #[tactic(auto, unfolding(crate::specs::Reading::all_of, crate::specs::Reading::field_at))]
-fn attach(alloc: Global, tag: u16, mut fields: Cursor) -> Result<TMessage, WireFault>
+fn attach(alloc: Global, tag: u16, mut fields: Cursor<'_>) -> Result<TMessage<'_>, WireFault>
     ensures { Decodes t_view result (all_of requests tk.Attach tag fields.entry.rest.now) }
 {
     let fid = fields.four()?;
@@ -62,7 +63,7 @@ fn attach(alloc: Global, tag: u16, mut fields: Cursor) -> Result<TMessage, WireF
 }
 
 #[tactic(auto, unfolding(crate::specs::Reading::all_of, crate::specs::Reading::field_at))]
-fn flush(tag: u16, mut fields: Cursor) -> Result<TMessage, WireFault>
+fn flush(tag: u16, mut fields: Cursor<'_>) -> Result<TMessage<'_>, WireFault>
     ensures { Finds t_view result (all_of requests tk.Flush tag fields.entry.rest.now) }
 {
     let oldtag = fields.two()?;
@@ -74,7 +75,7 @@ fn flush(tag: u16, mut fields: Cursor) -> Result<TMessage, WireFault>
 }
 
 #[tactic(auto, unfolding(crate::specs::Reading::all_of, crate::specs::Reading::field_at))]
-fn walk(alloc: Global, tag: u16, mut fields: Cursor) -> Result<TMessage, WireFault>
+fn walk(alloc: Global, tag: u16, mut fields: Cursor<'_>) -> Result<TMessage<'_>, WireFault>
     ensures { Decodes t_view result (all_of requests tk.Walk tag fields.entry.rest.now) }
 {
     let fid = fields.four()?;
@@ -90,7 +91,7 @@ fn walk(alloc: Global, tag: u16, mut fields: Cursor) -> Result<TMessage, WireFau
 }
 
 #[tactic(auto, unfolding(crate::specs::Reading::all_of, crate::specs::Reading::field_at))]
-fn open(tag: u16, mut fields: Cursor) -> Result<TMessage, WireFault>
+fn open(tag: u16, mut fields: Cursor<'_>) -> Result<TMessage<'_>, WireFault>
     ensures { Finds t_view result (all_of requests tk.Open tag fields.entry.rest.now) }
 {
     let fid = fields.four()?;
@@ -103,7 +104,7 @@ fn open(tag: u16, mut fields: Cursor) -> Result<TMessage, WireFault>
 }
 
 #[tactic(auto, unfolding(crate::specs::Reading::all_of, crate::specs::Reading::field_at))]
-fn create(alloc: Global, tag: u16, mut fields: Cursor) -> Result<TMessage, WireFault>
+fn create(alloc: Global, tag: u16, mut fields: Cursor<'_>) -> Result<TMessage<'_>, WireFault>
     ensures { Decodes t_view result (all_of requests tk.Create tag fields.entry.rest.now) }
 {
     let fid = fields.four()?;
@@ -121,7 +122,7 @@ fn create(alloc: Global, tag: u16, mut fields: Cursor) -> Result<TMessage, WireF
 }
 
 #[tactic(auto, unfolding(crate::specs::Reading::all_of, crate::specs::Reading::field_at))]
-fn read(tag: u16, mut fields: Cursor) -> Result<TMessage, WireFault>
+fn read(tag: u16, mut fields: Cursor<'_>) -> Result<TMessage<'_>, WireFault>
     ensures { Finds t_view result (all_of requests tk.Read tag fields.entry.rest.now) }
 {
     let fid = fields.four()?;
@@ -135,23 +136,21 @@ fn read(tag: u16, mut fields: Cursor) -> Result<TMessage, WireFault>
 }
 
 #[tactic(auto, unfolding(crate::specs::Reading::all_of, crate::specs::Reading::field_at))]
-fn write(alloc: Global, tag: u16, mut fields: Cursor) -> Result<TMessage, WireFault>
-    ensures { Decodes t_view result (all_of requests tk.Write tag fields.entry.rest.now) }
+fn write(tag: u16, mut fields: Cursor<'_>) -> Result<TMessage<'_>, WireFault>
+    ensures { Finds t_view result (all_of requests tk.Write tag fields.entry.rest.now) }
 {
     let fid = fields.four()?;
     let offset = fields.eight()?;
     let data = fields.data()?;
     fields.end()?;
-    let body = TBody::Write {
-        fid,
-        offset,
-        data: items_copied(alloc, data)?,
-    };
-    Ok(TMessage { tag, body })
+    Ok(TMessage {
+        tag,
+        body: TBody::Write { fid, offset, data },
+    })
 }
 
 #[tactic(auto, unfolding(crate::specs::Reading::all_of, crate::specs::Reading::field_at))]
-fn clunk(tag: u16, mut fields: Cursor) -> Result<TMessage, WireFault>
+fn clunk(tag: u16, mut fields: Cursor<'_>) -> Result<TMessage<'_>, WireFault>
     ensures { Finds t_view result (all_of requests tk.Clunk tag fields.entry.rest.now) }
 {
     let fid = fields.four()?;
@@ -163,7 +162,7 @@ fn clunk(tag: u16, mut fields: Cursor) -> Result<TMessage, WireFault>
 }
 
 #[tactic(auto, unfolding(crate::specs::Reading::all_of, crate::specs::Reading::field_at))]
-fn remove(tag: u16, mut fields: Cursor) -> Result<TMessage, WireFault>
+fn remove(tag: u16, mut fields: Cursor<'_>) -> Result<TMessage<'_>, WireFault>
     ensures { Finds t_view result (all_of requests tk.Remove tag fields.entry.rest.now) }
 {
     let fid = fields.four()?;
@@ -175,7 +174,7 @@ fn remove(tag: u16, mut fields: Cursor) -> Result<TMessage, WireFault>
 }
 
 #[tactic(auto, unfolding(crate::specs::Reading::all_of, crate::specs::Reading::field_at))]
-fn stat(tag: u16, mut fields: Cursor) -> Result<TMessage, WireFault>
+fn stat(tag: u16, mut fields: Cursor<'_>) -> Result<TMessage<'_>, WireFault>
     ensures { Finds t_view result (all_of requests tk.Stat tag fields.entry.rest.now) }
 {
     let fid = fields.four()?;
@@ -187,7 +186,7 @@ fn stat(tag: u16, mut fields: Cursor) -> Result<TMessage, WireFault>
 }
 
 #[tactic(auto, unfolding(crate::specs::Reading::all_of, crate::specs::Reading::field_at))]
-fn wstat(alloc: Global, tag: u16, mut fields: Cursor) -> Result<TMessage, WireFault>
+fn wstat(alloc: Global, tag: u16, mut fields: Cursor<'_>) -> Result<TMessage<'_>, WireFault>
     ensures { Decodes t_view result (all_of requests tk.Wstat tag fields.entry.rest.now) }
 {
     let fid = fields.four()?;
@@ -205,8 +204,8 @@ pub(crate) fn request(
     alloc: Global,
     kind: TKind,
     tag: u16,
-    fields: Cursor,
-) -> Result<TMessage, WireFault>
+    fields: Cursor<'_>,
+) -> Result<TMessage<'_>, WireFault>
     ensures { Decodes t_view result (all_of requests kind tag fields.entry.rest.now) }
 {
     match kind {
@@ -218,7 +217,7 @@ pub(crate) fn request(
         TKind::Open => open(tag, fields),
         TKind::Create => create(alloc, tag, fields),
         TKind::Read => read(tag, fields),
-        TKind::Write => write(alloc, tag, fields),
+        TKind::Write => write(tag, fields),
         TKind::Clunk => clunk(tag, fields),
         TKind::Remove => remove(tag, fields),
         TKind::Stat => stat(tag, fields),

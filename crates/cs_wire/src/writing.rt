@@ -216,7 +216,7 @@ macro_rules! put_body {
 }
 
 #[tactic(auto, unfolding(crate::specs::Fields::spelled))]
-fn put_request(out: &mut Vec<u8>, body: &TBody)
+fn put_request(out: &mut Vec<u8>, body: &TBody<'_>)
     requires fits { RequestFits body.now }
     requires room { vec_len out.old + length (request_bytes body.now) ≤ vec_capacity out.old }
     ensures items { out.new.items ≡ out.old.items ++ request_bytes body.now }
@@ -244,7 +244,7 @@ macro_rules! number_of_body {
     };
 }
 
-fn request_kind(body: &TBody) -> u8
+fn request_kind(body: &TBody<'_>) -> u8
     ensures { result ≡ request_number body.now }
 {
     each_request!(number_of_body (body TBody))
@@ -285,7 +285,7 @@ pub fn encode(message: &RMessage, out: &mut Vec<u8>) -> Result<(), AllocError>
 }
 
 /// Appends the one spelling of a client's message that fits, as `encode` does.
-pub fn encode_t(message: &TMessage, out: &mut Vec<u8>) -> Result<(), AllocError>
+pub fn encode_t(message: &TMessage<'_>, out: &mut Vec<u8>) -> Result<(), AllocError>
     requires { Fits (t_view message.now) }
     ensures ok { OnOk result (out.new.items ≡ out.old.items ++ spelling (t_view message.now)) }
     ensures room { vec_len out.old + length (spelling (t_view message.now)) ≤ vec_capacity out.old → IsOk result }

@@ -42,7 +42,7 @@ module _ (ours : Key → Bool) where
     pub both_is : (x x' y y' : PortAnswer × Registry RunOf) → x ≡ x' → y ≡ y' → Both x' y' → Both x y
     both_is x x' y y' e g b = subst (λ (z : PortAnswer × Registry RunOf). Both z y) (sym e) (subst (λ (z : PortAnswer × Registry RunOf). Both x' z) (sym g) b)
 
-    pub both_same : (why : _) → Both (q.Found (Err why), w) (q.Found (Err why), v)
+    pub both_same : (why : _) → Both (q.FindAnswer (Err why), w) (q.FindAnswer (Err why), v)
     both_same why = record { to = f; alike = λ p is. refl; told = refl; fixed = refl; agree = a; more = λ p is. is; still = λ p is. is }
 
     both_changed : (new : Found RunOf → Found RunOf) (p : ℕ) (e : Kept) (is : slice_get v.runs p ≡ Some e) (x y : PortAnswer) → x ≡ moved_told f y → y ≡ moved_told (out (there (record v { runs = change new p v.runs }))) y
@@ -78,8 +78,8 @@ module _ (ours : Key → Bool) where
           record {
             to = f_more ours f w v a key one own;
             alike = λ p is. sym (f_old ours f w v a key one own p (let e = some_at (λ key. true) v.runs p is in slice_get_within v.runs p e.0 e.1));
-            told = ap (λ (n : ℕ). q.Found (Ok n)) (sym (f_new ours f w v a key one own));
-            fixed = ap (λ (n : ℕ). q.Found (Ok n)) (sym (still_out (there (record v { runs = v.runs ++ (key, one) ∷ [] })) (length v.runs) last));
+            told = ap (λ (n : ℕ). q.FindAnswer (Ok n)) (sym (f_new ours f w v a key one own));
+            fixed = ap (λ (n : ℕ). q.FindAnswer (Ok n)) (sym (still_out (there (record v { runs = v.runs ++ (key, one) ∷ [] })) (length v.runs) last));
             agree = both_more ours f w v a key one own;
             more = λ p is. tests_push (λ key. true) v.runs (key, one) p is;
             still = λ p is. tests_push (λ key. not (ours key)) w.runs (key, one) p is;
@@ -103,7 +103,7 @@ module _ (ours : Key → Bool) where
           by false is =
               let now : there (record v { runs = with_find v.runs p }) p ≡ true = tests_change (λ key. true) v.runs p (λ run. record run { finds = run.finds + 1 }) p (tests_at (λ key. true) v.runs p (key, its.0) its.1) in
               both_is _ _ _ _ (ap find_answer (when_found w key w_given (f p) (published_same ∙ shown) at_w (room_w ∙ is))) (ap find_answer (when_found v key v_given p shown at (room ∙ is)))
-              (both_changed (λ run. record run { finds = run.finds + 1 }) p (key, its.0) its.1 (q.Found (Ok (f p))) (q.Found (Ok p)) refl (ap (λ (n : ℕ). q.Found (Ok n)) (sym (still_out (there (record v { runs = with_find v.runs p })) p now))))
+              (both_changed (λ run. record run { finds = run.finds + 1 }) p (key, its.0) its.1 (q.FindAnswer (Ok (f p))) (q.FindAnswer (Ok p)) refl (ap (λ (n : ℕ). q.FindAnswer (Ok n)) (sym (still_out (there (record v { runs = with_find v.runs p })) p now))))
       find_by true full None shown at room =
           let at_w : place_of key w.runs ≡ None = a.known key own ∙ ap (option_map f) at in
           let room_w : nat_le RUNS (length w.runs) ≡ false = few (published_same ∙ shown) at_w in
@@ -136,7 +136,7 @@ module _ (ours : Key → Bool) where
     other_is : (x x' : PortAnswer × Registry RunOf) → x ≡ x' → Other x' → Other x
     other_is x x' e b = subst Other (sym e) b
 
-    pub other_same : (why : _) → Other (q.Found (Err why), w)
+    pub other_same : (why : _) → Other (q.FindAnswer (Err why), w)
     other_same why = record { fixed = refl; agree = a; still = λ p is. is }
 
     module _ (key : Key) (other : ours key ≡ false) (mark : RunMark) where
@@ -148,7 +148,7 @@ module _ (ours : Key → Bool) where
       other_made (Some held) =
           let one : Found RunOf = record { finds = 1; held = held } in
           record {
-            fixed = ap (λ (n : ℕ). q.Found (Ok n)) (sym (still_out (their ours (record w { runs = w.runs ++ (key, one) ∷ [] })) (length w.runs) (is_theirs (w.runs ++ (key, one) ∷ []) (length w.runs) one (get_end w.runs (key, one)))));
+            fixed = ap (λ (n : ℕ). q.FindAnswer (Ok n)) (sym (still_out (their ours (record w { runs = w.runs ++ (key, one) ∷ [] })) (length w.runs) (is_theirs (w.runs ++ (key, one) ∷ []) (length w.runs) one (get_end w.runs (key, one)))));
             agree = other_more ours f w v a key one other;
             still = λ p is. tests_push (λ key. not (ours key)) w.runs (key, one) p is;
           }
@@ -162,7 +162,7 @@ module _ (ours : Key → Bool) where
           let here : their ours w p ≡ true = is_theirs w.runs p its.0 its.1 in
           let now : their ours (record w { runs = with_find w.runs p }) p ≡ true = tests_change (λ key. not (ours key)) w.runs p (λ run. record run { finds = run.finds + 1 }) p here in
           record {
-            fixed = ap (λ (n : ℕ). q.Found (Ok n)) (sym (still_out (their ours (record w { runs = with_find w.runs p })) p now));
+            fixed = ap (λ (n : ℕ). q.FindAnswer (Ok n)) (sym (still_out (their ours (record w { runs = with_find w.runs p })) p now));
             agree = other_change ours f w v a (λ run. record run { finds = run.finds + 1 }) p here;
             still = λ k is. tests_change (λ key. not (ours key)) w.runs p (λ run. record run { finds = run.finds + 1 }) k is;
           }

@@ -21,7 +21,7 @@ use Rattle.cs_world.proofs.Standing.{Came, Moves, Stood, gave, given, is_there, 
 
 -- ---- the registry stays, and no fid is new
 
-module _ (w : World) (ok : HasAllThatIsNamed w) (conn : ℕ) (s' : Sess) (same : s'.pending ≡ (connection w conn).pending) where
+module _ (w : World) (ok : HasAllThatIsNamed w) (conn : ℕ) (s' : Sess) (same : s'.awaited ≡ (connection w conn).awaited) where
   same_count : (place : ℕ) → one_if (awaits place s') ≡ one_if (awaits place (connection w conn))
   same_count place = ap (λ (o : Option Awaited). one_if (option_map_or (λ (p : Awaited). p.run == place) o false)) same
 
@@ -56,7 +56,7 @@ module _ (w : World) (ok : HasAllThatIsNamed w) (conn n : ℕ) (key : Key) (run 
     pub own : (new run).held.passes + one_if (awaits n s') + run.finds ≤ run.held.passes + one_if (awaits n (connection w conn)) + (new run).finds
     pub others : (place : ℕ) → place ≢ n → one_if (awaits place s') ≤ one_if (awaits place (connection w conn))
     pub few : run.finds ≤ RUN_ATTACHES → (new run).finds ≤ RUN_ATTACHES
-    pub awaited : (p : Awaited) → s'.pending ≡ Some p → ((connection w conn).pending ≡ Some p) ⊎ (p.run ≡ n)
+    pub awaited : (p : Awaited) → s'.awaited ≡ Some p → ((connection w conn).awaited ≡ Some p) ⊎ (p.run ≡ n)
     pub fids : (fid : ℕ) (e : Entry) → entry_at s' fid ≡ Some e → Gave w.registry (run_of e) (pass_of e) ⊎ ((run_of e ≡ n) × (pass_of e < (new run).held.passes))
 
   module _ (c : Changes) where
@@ -95,7 +95,7 @@ module _ (w : World) (ok : HasAllThatIsNamed w) (conn n : ℕ) (key : Key) (run 
         let g = stands w.registry place h in
         is_there after place g.key g.run (elsewhere place (eqb-false place n e) ∙ g.there)
 
-    awaited_by : (p : Awaited) → ((connection w conn).pending ≡ Some p) ⊎ (p.run ≡ n) → IsSome (held_at after.runs p.run)
+    awaited_by : (p : Awaited) → ((connection w conn).awaited ≡ Some p) ⊎ (p.run ≡ n) → IsSome (held_at after.runs p.run)
     awaited_by p (inl was) = there_by p.run (p.run == n) refl (ok.awaited conn p was)
     awaited_by p (inr same) = is_there after p.run key (new run) (ap (slice_get after.runs) same ∙ there_now)
 

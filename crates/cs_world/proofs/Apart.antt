@@ -4,7 +4,7 @@ use Rattle.std.specs.Prelude.{is_none, nat_le, nat_lt, slice_index_or, slice_set
 use Rattle.std.specs.Option.{option_map, option_map_or}
 use Rattle.std.proofs.lemmas.Bool.{eqb-true, eqb-false}
 use Rattle.std.proofs.lemmas.Bool.Decides.{nat_tests}
-use Rattle.std.proofs.lemmas.List.{length-replicate}
+use Rattle.std.proofs.lemmas.List.{get_or-set_other, get_or-set_same, length-replicate}
 use Rattle.std.specs.FinMap.{empty, get, gets}
 use Rattle.std.proofs.Common.{rules}
 use Rattle.cs_journal.specs.Runs.{RunOf}
@@ -24,13 +24,13 @@ use Rattle.cs_permit.specs.declared.fault.PassFault.TheVariants.{Foreign}
 use Rattle.cs_permit.specs.declared.fault.FindFault.TheVariants as fault
 use Rattle.cs_session.specs.declared.reply.Reply.{Reply as Said}
 use Rattle.cs_session.specs.declared.reply.Reply.TheVariants.{Error}
-use Rattle.cs_session.specs.Questions.{Question, Find, Enter, Ask, PortAnswer, Entered, Got}
+use Rattle.cs_session.specs.Questions.{Question, FindRun, AttachTo, CallOn, PortAnswer, AttachAnswer, CallAnswer}
 use Rattle.cs_session.specs.Sessions.{Sess, blank}
 use Rattle.cs_session.specs.Steps.{Front, Done, Asks, after, front_by}
 use Rattle.cs_session.specs.Steps as c
 use Rattle.cs_users.specs.Rows.{Row}
 use Rattle.cs_world.specs.declared.reply.Reply.{Reply}
-use Rattle.cs_world.specs.declared.reply.Reply.TheVariants.{Connection, NotReloaded, Published, Reloaded, Unpublished as Refused}
+use Rattle.cs_world.specs.declared.reply.Reply.TheVariants.{Connection, NotReloaded, Published, Reloaded, NotPublished as Refused}
 use Rattle.cs_world.specs.declared.reply.StateFault.TheVariants as state
 use Rattle.cs_world.specs.declared.step.Step.{Step}
 use Rattle.cs_world.specs.declared.step.Step.TheVariants as t
@@ -38,36 +38,36 @@ use Rattle.cs_world.specs.Asking.{answered, found_by}
 use Rattle.cs_world.specs.Groups.{NoneMeetsLimit, first_replies, first_steps, is_first, key_found, key_of, meets_limit, needs_room}
 use Rattle.cs_world.specs.Lists.{steps_of}
 use Rattle.cs_world.specs.ConnectionSteps.{session_step}
-use Rattle.cs_world.specs.Marks.{WorldMark, RunMark, below, in_run, refuses_keeping, refuses_state, refuses_table, refuses_users}
+use Rattle.cs_world.specs.Marks.{WorldMark, RunMark, below, in_run, refuses_keeping, refuses_state, refuses_own, refuses_users}
 use Rattle.cs_world.specs.Questions.{question_of_front}
 use Rattle.cs_world.specs.Runs.{attached, called}
 use Rattle.cs_world.specs.Steps.{by_registry, from_front, step_of}
 use Rattle.cs_world.specs.Worlds.{World, connection, new_world, with_both}
-use Rattle.cs_world.proofs.Invariant.{enter_by}
+use Rattle.cs_world.proofs.Invariant.{attach_asks}
 use Rattle.cs_world.proofs.Moved.{blank_moved, moved, moved_front, moved_question, moved_reply, moved_told}
 use Rattle.cs_world.proofs.MovedSteps.{after_moved, front_moved}
 use Rattle.cs_world.proofs.Within.{Within, after_within, asks_fixed, done_within, more_within, moved_alike, out, within_out}
-use Rattle.cs_world.proofs.Placing.{index_replicate, index_set_other, index_set_same}
+use Rattle.cs_world.proofs.Placing.{index_replicate}
 use Rattle.cs_world.proofs.Tables.{call_asks, close_asks, judged_asks}
 use Rattle.cs_world.proofs.AgreeRuns.{there, AgreeRuns, their}
 use Rattle.cs_world.proofs.AgreeTold.{Both, Other, both_same, find_both, other_find, other_put, other_same, put_both}
 
 -- ---- the key that a find names
 
-named_by : (o : Option (List ℕ × List ℕ)) (state name : List ℕ) → option_map (λ (y : List ℕ × List ℕ). Find y.0 y.1) o ≡ Some (Find state name) → option_and_then (λ (y : List ℕ × List ℕ). key_in y.0 y.1) o ≡ key_in state name
-named_by None state name e = absurd (cc)
-named_by (Some y) state name e =
-    let number : y.0 ≡ state = cc in
-    let own : y.1 ≡ name = cc in
+named_by : (o : Option (List ℕ × List ℕ)) (state_name run_name : List ℕ) → option_map (λ (y : List ℕ × List ℕ). FindRun y.0 y.1) o ≡ Some (FindRun state_name run_name) → option_and_then (λ (y : List ℕ × List ℕ). key_in y.0 y.1) o ≡ key_in state_name run_name
+named_by None state_name run_name e = absurd (cc)
+named_by (Some y) state_name run_name e =
+    let number : y.0 ≡ state_name = cc in
+    let own : y.1 ≡ run_name = cc in
     λ i. key_in (number i) (own i)
 
 -- a question that finds names the key of its step
-find_named : (now : ℕ) (s : Sess) (x : c.Step) (refused : Bool) (state name : List ℕ) → front_by now s x refused ≡ Asks (Find state name) → key_found x ≡ key_in state name
-find_named now s (c.FindStep x) refused state name e = named_by (tree_name_in x.aname) state name (judged_asks s _ refused _ (Find state name) e)
-find_named now s c.AttachStep refused state name e = absurd (let its = enter_by now s s.pending refl (Find state name) e in let is : Find state name ≡ Enter now its.pending.run its.pending.call = its.is in cc)
-find_named now s (c.CallStep x) refused state name e = absurd (let its = call_asks now s (Find state name) x refused e in let is : Find state name ≡ Ask now (run_of its.held) (pass_of its.held) its.call = its.is in cc)
-find_named now s (c.CloseStep fid) refused state name e = absurd (let its = close_asks now s (Find state name) fid refused e in let is : Find state name ≡ Ask now (run_of its.held) (pass_of its.held) its.call = its.is in cc)
-find_named now s (c.Table x) refused state name e = absurd (cc)
+find_named : (now : ℕ) (s : Sess) (x : c.Step) (refused : Bool) (state_name run_name : List ℕ) → front_by now s x refused ≡ Asks (FindRun state_name run_name) → key_found x ≡ key_in state_name run_name
+find_named now s (c.FindStep x) refused state_name run_name e = named_by (tree_name_in x.aname) state_name run_name (judged_asks s _ refused _ (FindRun state_name run_name) e)
+find_named now s c.AttachStep refused state_name run_name e = absurd (let its = attach_asks now s s.awaited refl (FindRun state_name run_name) e in let is : FindRun state_name run_name ≡ AttachTo now its.awaited.run its.awaited.call = its.is in cc)
+find_named now s (c.CallStep x) refused state_name run_name e = absurd (let its = call_asks now s (FindRun state_name run_name) x refused e in let is : FindRun state_name run_name ≡ CallOn now (run_of its.held) (pass_of its.held) its.call = its.is in cc)
+find_named now s (c.CloseStep fid) refused state_name run_name e = absurd (let its = close_asks now s (FindRun state_name run_name) fid refused e in let is : FindRun state_name run_name ≡ CallOn now (run_of its.held) (pass_of its.held) its.call = its.is in cc)
+find_named now s (c.Table x) refused state_name run_name e = absurd (cc)
 
 -- ---- the limit of runs
 
@@ -113,52 +113,52 @@ module _ (mine : ℕ → Bool) (ours : Key → Bool) where
     }
       where
         same_w : connection (with_both w conn (moved to s') w') conn ≡ moved to s'
-        same_w = index_set_same w.connections conn (moved to s') (blank None) (omega (arith, low, a.all))
+        same_w = get_or-set_same w.connections conn (moved to s') (blank None) (omega (arith, low, a.all))
 
         same_v : connection (with_both v conn s' v') conn ≡ s'
-        same_v = index_set_same v.connections conn s' (blank None) (omega (arith, low, a.rest))
+        same_v = get_or-set_same v.connections conn s' (blank None) (omega (arith, low, a.rest))
 
         own_by : (n : ℕ) → mine n ≡ true → (b : Bool) → (n == conn) ≡ b → connection (with_both w conn (moved to s') w') n ≡ moved to (connection (with_both v conn s' v') n)
         own_by n m true e =
             let at : n ≡ conn = eqb-true n conn e in
             ap (connection (with_both w conn (moved to s') w')) at ∙ same_w ∙ ap (moved to) (sym same_v ∙ ap (connection (with_both v conn s' v')) (sym at))
         own_by n m false e =
-            index_set_other w.connections conn n (moved to s') (blank None) (eqb-false n conn e) ∙ a.own n m ∙ moved_alike (there v.registry) f to alike (connection v n) (a.inside n m)
-            ∙ ap (moved to) (sym (index_set_other v.connections conn n s' (blank None) (eqb-false n conn e)))
+            get_or-set_other w.connections conn n (moved to s') (blank None) (eqb-false n conn e) ∙ a.own n m ∙ moved_alike (there v.registry) f to alike (connection v n) (a.inside n m)
+            ∙ ap (moved to) (sym (get_or-set_other v.connections conn n s' (blank None) (eqb-false n conn e)))
 
         inside_by : (n : ℕ) → mine n ≡ true → (b : Bool) → (n == conn) ≡ b → Within (there v') (connection (with_both v conn s' v') n)
         inside_by n m true e = subst (Within (there v')) (sym (ap (connection (with_both v conn s' v')) (eqb-true n conn e) ∙ same_v)) within
-        inside_by n m false e = subst (Within (there v')) (sym (index_set_other v.connections conn n s' (blank None) (eqb-false n conn e))) (more_within (there v.registry) (there v') more (connection v n) (a.inside n m))
+        inside_by n m false e = subst (Within (there v')) (sym (get_or-set_other v.connections conn n s' (blank None) (eqb-false n conn e))) (more_within (there v.registry) (there v') more (connection v n) (a.inside n m))
 
         theirs_by : (n : ℕ) → mine n ≡ false → Within (their ours w') (connection (with_both w conn (moved to s') w') n)
         theirs_by n m =
             let other : n ≢ conn = λ same. (let e : mine n ≡ mine conn = ap mine same in absurd (cc)) in
-            subst (Within (their ours w')) (sym (index_set_other w.connections conn n (moved to s') (blank None) other)) (more_within (their ours w.registry) (their ours w') still (connection w n) (a.theirs n m))
+            subst (Within (their ours w')) (sym (get_or-set_other w.connections conn n (moved to s') (blank None) other)) (more_within (their ours w.registry) (their ours w') still (connection w n) (a.theirs n m))
 
     module _ (now : ℕ) (x : c.Step) (refused : Bool) (m : RunMark) (own : (k : Key) → key_found x ≡ Some k → ours k ≡ true) (few : option_map_or (needs_room w.registry) (question_of_front (front_by now (connection w conn) x refused)) false ≡ false) where
-      find_asks : (state name : List ℕ) (o : Option Key) → key_in state name ≡ o → key_found x ≡ o → NeedsNone w.registry o
+      find_asks : (state_name run_name : List ℕ) (o : Option Key) → key_in state_name run_name ≡ o → key_found x ≡ o → NeedsNone w.registry o
           → Both ours f w.registry v.registry a.runs (found_by w.registry m o) (found_by v.registry m o)
-      find_asks state name None is_key e below = both_same ours f w.registry v.registry a.runs fault.Unpublished
-      find_asks state name (Some key) is_key e below =
+      find_asks state_name run_name None is_key e below = both_same ours f w.registry v.registry a.runs fault.Unpublished
+      find_asks state_name run_name (Some key) is_key e below =
           find_both ours f w.registry v.registry a.runs key (own key e) (λ shown none. few_by (is_published w.registry key.number) (is_none (place_of key w.registry.runs)) (nat_le RUNS (length w.registry.runs)) below shown (ap (λ (z : Option ℕ). is_none z) none)) m
 
       -- the same find is asked in both
-      finds : (state name : List ℕ) → front_by now (connection v conn) x refused ≡ Asks (Find state name) → front_by now (connection w conn) x refused ≡ Asks (Find state name)
-      finds state name e = ap (λ (s : Sess). front_by now s x refused) (a.own conn is) ∙ front_moved f now (connection v conn) x refused ∙ ap (moved_front f) e
+      finds : (state_name run_name : List ℕ) → front_by now (connection v conn) x refused ≡ Asks (FindRun state_name run_name) → front_by now (connection w conn) x refused ≡ Asks (FindRun state_name run_name)
+      finds state_name run_name e = ap (λ (s : Sess). front_by now s x refused) (a.own conn is) ∙ front_moved f now (connection v conn) x refused ∙ ap (moved_front f) e
 
-      below_limit : (state name : List ℕ) → front_by now (connection v conn) x refused ≡ Asks (Find state name) → NeedsNone w.registry (key_in state name)
-      below_limit state name e = ap (λ (F : Front). option_map_or (needs_room w.registry) (question_of_front F) false) (sym (finds state name e)) ∙ few
+      below_limit : (state_name run_name : List ℕ) → front_by now (connection v conn) x refused ≡ Asks (FindRun state_name run_name) → NeedsNone w.registry (key_in state_name run_name)
+      below_limit state_name run_name e = ap (λ (F : Front). option_map_or (needs_room w.registry) (question_of_front F) false) (sym (finds state_name run_name e)) ∙ few
 
       asks_both : (question : Question) → front_by now (connection v conn) x refused ≡ Asks question → Both ours f w.registry v.registry a.runs (answered w.registry (moved_question f question) m) (answered v.registry question m)
-      asks_both (Find state name) e = find_asks state name (key_in state name) refl (find_named now (connection v conn) x refused state name e) (below_limit state name e)
-      asks_both (Enter moment p call) e =
-          let fixed : Enter moment p call ≡ Enter moment (out (there v.registry) p) call = asks_fixed (there v.registry) now (connection v conn) x refused (a.inside conn is) (Enter moment p call) e in
+      asks_both (FindRun state_name run_name) e = find_asks state_name run_name (key_in state_name run_name) refl (find_named now (connection v conn) x refused state_name run_name e) (below_limit state_name run_name e)
+      asks_both (AttachTo moment p call) e =
+          let fixed : AttachTo moment p call ≡ AttachTo moment (out (there v.registry) p) call = asks_fixed (there v.registry) now (connection v conn) x refused (a.inside conn is) (AttachTo moment p call) e in
           put_both ours f w.registry v.registry a.runs p (within_out (there v.registry) p (sym (let same : p ≡ out (there v.registry) p = cc in same)))
-          (λ run. (Entered (attached run moment call m).0, (attached run moment call m).1)) (Entered (Err Foreign)) (λ run g. refl)
-      asks_both (Ask moment p pass call) e =
-          let fixed : Ask moment p pass call ≡ Ask moment (out (there v.registry) p) pass call = asks_fixed (there v.registry) now (connection v conn) x refused (a.inside conn is) (Ask moment p pass call) e in
+          (λ run. (AttachAnswer (attached run moment call m).0, (attached run moment call m).1)) (AttachAnswer (Err Foreign)) (λ run g. refl)
+      asks_both (CallOn moment p pass call) e =
+          let fixed : CallOn moment p pass call ≡ CallOn moment (out (there v.registry) p) pass call = asks_fixed (there v.registry) now (connection v conn) x refused (a.inside conn is) (CallOn moment p pass call) e in
           put_both ours f w.registry v.registry a.runs p (within_out (there v.registry) p (sym (let same : p ≡ out (there v.registry) p = cc in same)))
-          (λ run. (Got (called run moment pass call (in_run m)).0, (called run moment pass call (in_run m)).1)) (Got (Denied S5)) (λ run g. refl)
+          (λ run. (CallAnswer (called run moment pass call (in_run m)).0, (called run moment pass call (in_run m)).1)) (CallAnswer (Denied S5)) (λ run g. refl)
 
       own_by_front : (F : Front) → front_by now (connection v conn) x refused ≡ F → Alike (from_front w conn x m (moved_front f F)) (from_front v conn x m F)
       own_by_front (Done reply s') e = record {
@@ -194,33 +194,33 @@ module _ (mine : ℕ → Bool) (ours : Key → Bool) where
       runs = runs;
       all = length-set w.connections conn s' ∙ a.all;
       rest = a.rest;
-      own = λ n m. index_set_other w.connections conn n s' (blank None) (λ same. (let e : mine n ≡ mine conn = ap mine same in absurd (cc))) ∙ a.own n m;
+      own = λ n m. get_or-set_other w.connections conn n s' (blank None) (λ same. (let e : mine n ≡ mine conn = ap mine same in absurd (cc))) ∙ a.own n m;
       inside = a.inside;
       theirs = λ n m. theirs_by n m (n == conn) refl;
     }
       where
         same_w : connection (with_both w conn s' w') conn ≡ s'
-        same_w = index_set_same w.connections conn s' (blank None) (omega (arith, low, a.all))
+        same_w = get_or-set_same w.connections conn s' (blank None) (omega (arith, low, a.all))
 
         theirs_by : (n : ℕ) → mine n ≡ false → (b : Bool) → (n == conn) ≡ b → Within (their ours w') (connection (with_both w conn s' w') n)
         theirs_by n m true e = subst (Within (their ours w')) (sym (ap (connection (with_both w conn s' w')) (eqb-true n conn e) ∙ same_w)) within
-        theirs_by n m false e = subst (Within (their ours w')) (sym (index_set_other w.connections conn n s' (blank None) (eqb-false n conn e))) (more_within (their ours w.registry) (their ours w') still (connection w n) (a.theirs n m))
+        theirs_by n m false e = subst (Within (their ours w')) (sym (get_or-set_other w.connections conn n s' (blank None) (eqb-false n conn e))) (more_within (their ours w.registry) (their ours w') still (connection w n) (a.theirs n m))
 
     module _ (now : ℕ) (x : c.Step) (refused : Bool) (m : RunMark) (other : (k : Key) → key_found x ≡ Some k → ours k ≡ false) where
-      other_asked : (state name : List ℕ) (o : Option Key) → key_in state name ≡ o → key_found x ≡ o → Other ours f w.registry v.registry a.runs (found_by w.registry m o)
-      other_asked state name None is_key e = other_same ours f w.registry v.registry a.runs fault.Unpublished
-      other_asked state name (Some key) is_key e = other_find ours f w.registry v.registry a.runs key (other key e) m
+      other_asked : (state_name run_name : List ℕ) (o : Option Key) → key_in state_name run_name ≡ o → key_found x ≡ o → Other ours f w.registry v.registry a.runs (found_by w.registry m o)
+      other_asked state_name run_name None is_key e = other_same ours f w.registry v.registry a.runs fault.Unpublished
+      other_asked state_name run_name (Some key) is_key e = other_find ours f w.registry v.registry a.runs key (other key e) m
 
       other_asks : (question : Question) → front_by now (connection w conn) x refused ≡ Asks question → Other ours f w.registry v.registry a.runs (answered w.registry question m)
-      other_asks (Find state name) e = other_asked state name (key_in state name) refl (find_named now (connection w conn) x refused state name e)
-      other_asks (Enter moment p call) e =
-          let fixed : Enter moment p call ≡ Enter moment (out (their ours w.registry) p) call = asks_fixed (their ours w.registry) now (connection w conn) x refused (a.theirs conn is) (Enter moment p call) e in
+      other_asks (FindRun state_name run_name) e = other_asked state_name run_name (key_in state_name run_name) refl (find_named now (connection w conn) x refused state_name run_name e)
+      other_asks (AttachTo moment p call) e =
+          let fixed : AttachTo moment p call ≡ AttachTo moment (out (their ours w.registry) p) call = asks_fixed (their ours w.registry) now (connection w conn) x refused (a.theirs conn is) (AttachTo moment p call) e in
           other_put ours f w.registry v.registry a.runs p (within_out (their ours w.registry) p (sym (let same : p ≡ out (their ours w.registry) p = cc in same)))
-          (λ run. (Entered (attached run moment call m).0, (attached run moment call m).1)) (Entered (Err Foreign)) (λ run g. refl)
-      other_asks (Ask moment p pass call) e =
-          let fixed : Ask moment p pass call ≡ Ask moment (out (their ours w.registry) p) pass call = asks_fixed (their ours w.registry) now (connection w conn) x refused (a.theirs conn is) (Ask moment p pass call) e in
+          (λ run. (AttachAnswer (attached run moment call m).0, (attached run moment call m).1)) (AttachAnswer (Err Foreign)) (λ run g. refl)
+      other_asks (CallOn moment p pass call) e =
+          let fixed : CallOn moment p pass call ≡ CallOn moment (out (their ours w.registry) p) pass call = asks_fixed (their ours w.registry) now (connection w conn) x refused (a.theirs conn is) (CallOn moment p pass call) e in
           other_put ours f w.registry v.registry a.runs p (within_out (their ours w.registry) p (sym (let same : p ≡ out (their ours w.registry) p = cc in same)))
-          (λ run. (Got (called run moment pass call (in_run m)).0, (called run moment pass call (in_run m)).1)) (Got (Denied S5)) (λ run g. refl)
+          (λ run. (CallAnswer (called run moment pass call (in_run m)).0, (called run moment pass call (in_run m)).1)) (CallAnswer (Denied S5)) (λ run g. refl)
 
       other_by_front : (F : Front) → front_by now (connection w conn) x refused ≡ F → Agree f (from_front w conn x m F).1 v
       other_by_front (Done reply s') e = set_other w.registry s' a.runs (λ p at. at) (done_within (their ours w.registry) now (connection w conn) x refused (a.theirs conn is) reply s' e)
@@ -304,14 +304,14 @@ module _ (mine : ℕ → Bool) (ours : Key → Bool) where
 
     on_both : (conn now : ℕ) (x : c.Step) (mark : WorldMark) → mine conn ≡ true → ((k : Key) → key_found x ≡ Some k → ours k ≡ mine conn)
         → (b : Bool) → nat_lt conn CONNECTIONS ≡ b
-        → option_map_or (needs_room w.registry) (cond b (question_of_front (front_by now (connection w conn) x (refuses_table mark))) None) false ≡ false
-        → Alike (cond {A = Reply × World} b (from_front w conn x (below mark) (front_by now (connection w conn) x (refuses_table mark))) (Connection (Error S5), w)) (cond {A = Reply × World} b (from_front v conn x (below mark) (front_by now (connection v conn) x (refuses_table mark))) (Connection (Error S5), v))
-    on_both conn now x mark is own true low few = own_front f w v a conn is (grind (arith, nat_tests)) now x (refuses_table mark) (below mark) (λ k e. own k e ∙ is) few
+        → option_map_or (needs_room w.registry) (cond b (question_of_front (front_by now (connection w conn) x (refuses_own mark))) None) false ≡ false
+        → Alike (cond {A = Reply × World} b (from_front w conn x (below mark) (front_by now (connection w conn) x (refuses_own mark))) (Connection (Error S5), w)) (cond {A = Reply × World} b (from_front v conn x (below mark) (front_by now (connection v conn) x (refuses_own mark))) (Connection (Error S5), v))
+    on_both conn now x mark is own true low few = own_front f w v a conn is (grind (arith, nat_tests)) now x (refuses_own mark) (below mark) (λ k e. own k e ∙ is) few
     on_both conn now x mark is own false low few = stays_alike (Connection (Error S5))
 
     on_other : (conn now : ℕ) (x : c.Step) (mark : WorldMark) → mine conn ≡ false → ((k : Key) → key_found x ≡ Some k → ours k ≡ mine conn) → (b : Bool) → nat_lt conn CONNECTIONS ≡ b
-        → Agree f (cond {A = Reply × World} b (from_front w conn x (below mark) (front_by now (connection w conn) x (refuses_table mark))) (Connection (Error S5), w)).1 v
-    on_other conn now x mark is own true low = other_front f w v a conn is (grind (arith, nat_tests)) now x (refuses_table mark) (below mark) (λ k e. own k e ∙ is)
+        → Agree f (cond {A = Reply × World} b (from_front w conn x (below mark) (front_by now (connection w conn) x (refuses_own mark))) (Connection (Error S5), w)).1 v
+    on_other conn now x mark is own true low = other_front f w v a conn is (grind (arith, nat_tests)) now x (refuses_own mark) (below mark) (λ k e. own k e ∙ is)
     on_other conn now x mark is own false low = a
 
     -- a step finds a run of its own group

@@ -21,7 +21,7 @@ use Rattle.cs_session.specs.Sessions.{Awaited, blank, entry_at}
 use Rattle.cs_session.specs.Steps.{Asks, Step, FindStep, AttachStep, CallStep, CloseStep, Table, front_by}
 use Rattle.cs_world.specs.Reachable.{CanBeAsked, HasOpen, IsReachable, awaits, waiting}
 use Rattle.cs_world.specs.Worlds.{World, connection}
-use Rattle.cs_world.proofs.Invariant.{enter_by, find_by}
+use Rattle.cs_world.proofs.Invariant.{attach_asks, find_by}
 use Rattle.cs_world.proofs.Standing.{counted, given, held_there, one_if, stands}
 use Rattle.cs_world.proofs.Tables.{IsAsked, call_asks, close_asks, fid_in, freed_by, judged_asks}
 
@@ -34,8 +34,8 @@ free_by s pass asked number is stands room =
 -- ---- what is asked can be asked
 
 module _ (w : World) (ok : IsReachable w) (conn : ℕ) (inside : conn < CONNECTIONS) where
-  enter_can : (p : Awaited) → (connection w conn).pending ≡ Some p → IsSomeAnd (held_at w.registry.runs p.run) (λ run. run.passes < RUN_ATTACHES)
-  enter_can p waits =
+  attach_can : (p : Awaited) → (connection w conn).awaited ≡ Some p → IsSomeAnd (held_at w.registry.runs p.run) (λ run. run.passes < RUN_ATTACHES)
+  attach_can p waits =
       let its = stands w.registry p.run (ok.there.awaited conn p waits) in
       let run = ok.there.runs p.run its.key its.run its.there in
       let one : one_if (awaits p.run (connection w conn)) ≡ 1 = rw waits (ap one_if (eq-eqb p.run p.run refl)) in
@@ -71,8 +71,8 @@ module _ (w : World) (ok : IsReachable w) (conn : ℕ) (inside : conn < CONNECTI
       let its = find_by (tree_name_in m.aname) q (judged_asks (connection w conn) _ refused _ q e) in
       subst (CanBeAsked w.registry) (sym its.is) tt
   can_be_asked now AttachStep refused q e =
-      let its = enter_by now (connection w conn) (connection w conn).pending refl q e in
-      subst (CanBeAsked w.registry) (sym its.is) (enter_can its.pending its.waits)
+      let its = attach_asks now (connection w conn) (connection w conn).awaited refl q e in
+      subst (CanBeAsked w.registry) (sym its.is) (attach_can its.awaited its.waits)
   can_be_asked now (CallStep m) refused q e = asks_can (fid_in m) (freed_by m) q now (call_asks now (connection w conn) q m refused e)
   can_be_asked now (CloseStep fid) refused q e = asks_can fid (Some fid) q now (close_asks now (connection w conn) q fid refused e)
   can_be_asked now (Table change) refused q e = absurd (cc)

@@ -14,7 +14,7 @@ use Rattle.cs_registry.specs.Registries.{Registry, is_published}
 use Rattle.cs_registry.specs.Runs.{Runs, change, has_no_room, held_at, place_of, with_run}
 use Rattle.cs_run.specs.declared.answer.Answer.TheVariants.{Denied}
 use Rattle.cs_permit.specs.declared.fault.PassFault.TheVariants.{Foreign}
-use Rattle.cs_session.specs.Questions.{Question, Find, Enter, Ask, PortAnswer, Entered, Got}
+use Rattle.cs_session.specs.Questions.{Question, FindRun, AttachTo, CallOn, PortAnswer, AttachAnswer, CallAnswer}
 use Rattle.cs_session.specs.Steps.{Front, Done, Asks, front_by}
 use Rattle.cs_session.specs.Steps as c
 use Rattle.cs_users.specs.Rows.{Row}
@@ -25,7 +25,7 @@ use Rattle.cs_world.specs.Asking.{answered, found_by, given_run, with_run_at}
 use Rattle.cs_world.specs.Isolation.{users_made_with}
 use Rattle.cs_world.specs.Lists.{steps_of}
 use Rattle.cs_world.specs.ConnectionSteps.{session_step}
-use Rattle.cs_world.specs.Marks.{WorldMark, RunMark, below, in_run, refuses_table}
+use Rattle.cs_world.specs.Marks.{WorldMark, RunMark, below, in_run, refuses_own}
 use Rattle.cs_world.specs.Projections.{answers_of, projection_of, put_to, run_with_key, answers_there}
 use Rattle.cs_world.specs.Questions.{question_of_step}
 use Rattle.cs_world.specs.Runs.{attached, called}
@@ -76,9 +76,9 @@ module _ (key : Key) where
     puts n (Some run) new told none = changed (λ (found : Found RunOf). record found { held = new run }) n
 
     asked : (q : Question) (m : RunMark) → has_run (answered r q m).1 ≡ true
-    asked (Find state name) m = finds m (key_in state name)
-    asked (Enter now n call) m = puts n (held_at r.runs n) (λ run. (attached run now call m).1) (λ run. Entered (attached run now call m).0) (Entered (Err Foreign))
-    asked (Ask now n pass call) m = puts n (held_at r.runs n) (λ run. (called run now pass call (in_run m)).1) (λ run. Got (called run now pass call (in_run m)).0) (Got (Denied S5))
+    asked (FindRun state_name run_name) m = finds m (key_in state_name run_name)
+    asked (AttachTo now n call) m = puts n (held_at r.runs n) (λ run. (attached run now call m).1) (λ run. AttachAnswer (attached run now call m).0) (AttachAnswer (Err Foreign))
+    asked (CallOn now n pass call) m = puts n (held_at r.runs n) (λ run. (called run now pass call (in_run m)).1) (λ run. CallAnswer (called run now pass call (in_run m)).0) (CallAnswer (Denied S5))
 
   module _ (w : World) (there : has_run w.registry ≡ true) where
     fronted : (conn : ℕ) (x : c.Step) (m : RunMark) (f : Front) → has_run (from_front w conn x m f).1.registry ≡ true
@@ -86,7 +86,7 @@ module _ (key : Key) where
     fronted conn x m (Asks q) = asked w.registry there q m
 
     connected : (conn now : ℕ) (x : c.Step) (mark : WorldMark) → has_run (on_connection w conn now x mark).1.registry ≡ true
-    connected conn now x mark = on_ends w conn now x mark (λ q y. has_run y.1.registry ≡ true) (λ low. fronted conn x (below mark) (front_by now (connection w conn) x (refuses_table mark))) (λ high. there)
+    connected conn now x mark = on_ends w conn now x mark (λ q y. has_run y.1.registry ≡ true) (λ low. fronted conn x (below mark) (front_by now (connection w conn) x (refuses_own mark))) (λ high. there)
 
     stays : (x : Step) (mark : WorldMark) → has_run (step_of w x mark).1.registry ≡ true
     stays (t.Publish number) mark = ap (λ (runs : Runs RunOf). is_some (place_of key runs)) (publish_keeps w.registry number mark) ∙ there
@@ -144,9 +144,9 @@ module _ (key : Key) where
 
   module _ (r : Registry RunOf) (none : place_of key r.runs ≡ None) (mark : RunMark) where
     none_put : (q : Question) → put_to r key q mark ≡ []
-    none_put (Find state name) = refl
-    none_put (Enter now place call) = rw none refl
-    none_put (Ask now place pass call) = rw none refl
+    none_put (FindRun state_name run_name) = refl
+    none_put (AttachTo now place call) = rw none refl
+    none_put (CallOn now place pass call) = rw none refl
 
     none_told : (q : Question) → answers_there r key q mark ≡ []
     none_told q = ap (λ (l : List (RunCall × RunMark)). map (λ (put : RunCall × RunMark). (answered r q mark).0) l) (none_put q)

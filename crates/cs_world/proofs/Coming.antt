@@ -11,18 +11,18 @@ use Rattle.cs_permit.specs.declared.call.Call.{Call}
 use Rattle.cs_permit.specs.declared.call.Call.TheVariants as call
 use Rattle.cs_permit.specs.TreeNames.{tree_name_in}
 use Rattle.cs_registry.specs.Runs.{held_at}
-use Rattle.cs_session.specs.Questions.{Question, Enter, Ask}
+use Rattle.cs_session.specs.Questions.{Question, AttachTo, CallOn}
 use Rattle.cs_session.specs.Sessions.{Awaited}
 use Rattle.cs_session.specs.Steps.{Front, Done, Asks, Step, FindStep, AttachStep, CallStep, CloseStep, Table, front_by}
 use Rattle.cs_world.specs.Asking.{answered}
 use Rattle.cs_world.specs.Comes.{ConnectionStepComesTo, Nobody, OwnReply, AsksRegistry, AttachShort, AttachOnRun, CallOnRun}
-use Rattle.cs_world.specs.Marks.{WorldMark, RunMark, below, in_run, refuses_pass, refuses_table}
+use Rattle.cs_world.specs.Marks.{WorldMark, RunMark, below, in_run, refuses_pass, refuses_own}
 use Rattle.cs_world.specs.Reachable.{IsReachable}
 use Rattle.cs_world.specs.Steps.{from_front, on_connection, continued_from}
 use Rattle.cs_world.specs.Worlds.{World, connection}
 use Rattle.cs_world.proofs.Ending.{on_ends}
 use Rattle.cs_world.proofs.Asked.{can_be_asked}
-use Rattle.cs_world.proofs.Invariant.{enter_by, find_by}
+use Rattle.cs_world.proofs.Invariant.{attach_asks, find_by}
 use Rattle.cs_world.proofs.Judging.{judged}
 use Rattle.cs_world.proofs.Tables.{call_asks, close_asks, judged_asks}
 
@@ -39,23 +39,23 @@ module _ (w : World) (ok : IsReachable w) (conn : ℕ) (inside : conn < CONNECTI
       by None is none = absurd none
       by (Some run) is some = (run, is, some)
 
-  enters_by : (p : Awaited) (mark : RunMark) → front_by now (connection w conn) x refused ≡ Asks (Enter now p.run p.call) → (run : RunOf) → held_at w.registry.runs p.run ≡ Some run → run.passes < RUN_ATTACHES → (short : Bool) → refuses_pass mark ≡ short → Its (Enter now p.run p.call) mark
-  enters_by p mark e run there low true short =
+  attach_comes_by : (p : Awaited) (mark : RunMark) → front_by now (connection w conn) x refused ≡ Asks (AttachTo now p.run p.call) → (run : RunOf) → held_at w.registry.runs p.run ≡ Some run → run.passes < RUN_ATTACHES → (short : Bool) → refuses_pass mark ≡ short → Its (AttachTo now p.run p.call) mark
+  attach_comes_by p mark e run there low true short =
       let room : nat_le RUN_ATTACHES run.passes ≡ false = grind (arith, nat_tests) in
       rw (there, room, short) (AttachShort p.run p.call run e there refl)
-  enters_by p mark e run there low false short =
+  attach_comes_by p mark e run there low false short =
       let room : nat_le RUN_ATTACHES run.passes ≡ false = grind (arith, nat_tests) in
       rw (there, room, short) (AttachOnRun p.run p.call run _ _ e there low (judged (with_pass run) now run.passes (call.Attach p.call) (in_run mark)) refl)
 
-  enters : (p : Awaited) (mark : RunMark) → front_by now (connection w conn) x refused ≡ Asks (Enter now p.run p.call) → Its (Enter now p.run p.call) mark
-  enters p mark e =
-      let can = can_be_asked w ok conn inside now x refused (Enter now p.run p.call) e in
+  attach_comes : (p : Awaited) (mark : RunMark) → front_by now (connection w conn) x refused ≡ Asks (AttachTo now p.run p.call) → Its (AttachTo now p.run p.call) mark
+  attach_comes p mark e =
+      let can = can_be_asked w ok conn inside now x refused (AttachTo now p.run p.call) e in
       let its = run_there p.run (λ run. run.passes < RUN_ATTACHES) can in
-      enters_by p mark e its.0 its.1 its.2 (refuses_pass mark) refl
+      attach_comes_by p mark e its.0 its.1 its.2 (refuses_pass mark) refl
 
-  calls : (place pass : ℕ) (asked : Call) (mark : RunMark) → front_by now (connection w conn) x refused ≡ Asks (Ask now place pass asked) → Its (Ask now place pass asked) mark
+  calls : (place pass : ℕ) (asked : Call) (mark : RunMark) → front_by now (connection w conn) x refused ≡ Asks (CallOn now place pass asked) → Its (CallOn now place pass asked) mark
   calls place pass asked mark e =
-      let can = can_be_asked w ok conn inside now x refused (Ask now place pass asked) e in
+      let can = can_be_asked w ok conn inside now x refused (CallOn now place pass asked) e in
       let its = run_there place (λ run. (pass < run.passes) × (IsSome (closes asked) → is_full (state_of run) pass asked ≡ false)) can in
       let run : RunOf = its.0 in
       let there : held_at w.registry.runs place ≡ Some run = its.1 in
@@ -67,10 +67,10 @@ module _ (w : World) (ok : IsReachable w) (conn : ℕ) (inside : conn < CONNECTI
   by_question : (x : Step) (refused : Bool) (q : Question) (mark : RunMark) → front_by now (connection w conn) x refused ≡ Asks q → Its w ok conn inside now x refused q mark
   by_question (FindStep m) refused q mark e =
       let its = find_by (tree_name_in m.aname) q (judged_asks (connection w conn) _ refused _ q e) in
-      AsksRegistry its.state its.name mark (subst (λ q. front_by now (connection w conn) (FindStep m) refused ≡ Asks q) its.is e) (subst (λ p. continued_from w conn (FindStep m) (answered w.registry q mark) ≡ continued_from w conn (FindStep m) (answered w.registry p mark)) its.is refl)
+      AsksRegistry its.state_name its.run_name mark (subst (λ q. front_by now (connection w conn) (FindStep m) refused ≡ Asks q) its.is e) (subst (λ p. continued_from w conn (FindStep m) (answered w.registry q mark) ≡ continued_from w conn (FindStep m) (answered w.registry p mark)) its.is refl)
   by_question AttachStep refused q mark e =
-      let its = enter_by now (connection w conn) (connection w conn).pending refl q e in
-      subst (λ q. Its w ok conn inside now AttachStep refused q mark) (sym its.is) (enters w ok conn inside now AttachStep refused its.pending mark (subst (λ q. front_by now (connection w conn) AttachStep refused ≡ Asks q) its.is e))
+      let its = attach_asks now (connection w conn) (connection w conn).awaited refl q e in
+      subst (λ q. Its w ok conn inside now AttachStep refused q mark) (sym its.is) (attach_comes w ok conn inside now AttachStep refused its.awaited mark (subst (λ q. front_by now (connection w conn) AttachStep refused ≡ Asks q) its.is e))
   by_question (CallStep m) refused q mark e =
       let its = call_asks now (connection w conn) q m refused e in
       subst (λ q. Its w ok conn inside now (CallStep m) refused q mark) (sym its.is) (calls w ok conn inside now (CallStep m) refused (run_of its.held) (pass_of its.held) its.call mark (subst (λ q. front_by now (connection w conn) (CallStep m) refused ≡ Asks q) its.is e))
@@ -85,5 +85,5 @@ module _ (w : World) (ok : IsReachable w) (conn : ℕ) (inside : conn < CONNECTI
 
 module _ (w : World) (ok : IsReachable w) (conn now : ℕ) (x : Step) (mark : WorldMark) where
   -- each step of a connection comes to one of these
-  pub comes : ConnectionStepComesTo w conn now x (refuses_table mark) (on_connection w conn now x mark).0 (on_connection w conn now x mark).1
-  comes = on_ends w conn now x mark (λ q y. ConnectionStepComesTo w conn now x (refuses_table mark) y.0 y.1) (λ low. by_front w ok conn low now x (refuses_table mark) (below mark) (front_by now (connection w conn) x (refuses_table mark)) refl) (λ high. Nobody high refl refl)
+  pub comes : ConnectionStepComesTo w conn now x (refuses_own mark) (on_connection w conn now x mark).0 (on_connection w conn now x mark).1
+  comes = on_ends w conn now x mark (λ q y. ConnectionStepComesTo w conn now x (refuses_own mark) y.0 y.1) (λ low. by_front w ok conn low now x (refuses_own mark) (below mark) (front_by now (connection w conn) x (refuses_own mark)) refl) (λ high. Nobody high refl refl)

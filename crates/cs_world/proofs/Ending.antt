@@ -12,10 +12,10 @@ use Rattle.cs_session.specs.Questions.{Question}
 use Rattle.cs_session.specs.Steps.{Front, Step, front_by}
 use Rattle.cs_users.specs.Rows.{Row}
 use Rattle.cs_world.specs.declared.reply.Reply.{Reply}
-use Rattle.cs_world.specs.declared.reply.Reply.TheVariants.{Connection, NotReloaded, Published, Reloaded, Unpublished}
+use Rattle.cs_world.specs.declared.reply.Reply.TheVariants.{Connection, NotReloaded, Published, Reloaded, NotPublished}
 use Rattle.cs_world.specs.declared.reply.StateFault.{StateFault}
 use Rattle.cs_world.specs.declared.reply.StateFault.TheVariants.{NoSuchState, Twice, Memory}
-use Rattle.cs_world.specs.Marks.{WorldMark, below, refuses_keeping, refuses_state, refuses_table, refuses_users}
+use Rattle.cs_world.specs.Marks.{WorldMark, below, refuses_keeping, refuses_state, refuses_own, refuses_users}
 use Rattle.cs_world.specs.Publishing.{published}
 use Rattle.cs_world.specs.Questions.{question_of_front, question_on}
 use Rattle.cs_world.specs.Reloading.{reloaded}
@@ -23,15 +23,15 @@ use Rattle.cs_world.specs.Steps.{from_front, on_connection}
 use Rattle.cs_world.specs.Worlds.{World, connection}
 
 module _ (r : Registry RunOf) (P : Reply × Registry RunOf → Type 0) where
-  publish_by : (number : ℕ) → ((fault : StateFault) → P (Unpublished fault, r)) → P (Published, with_published r number) → (a b c d : Bool)
-      → P (cond {A = Reply × Registry RunOf} a (Unpublished NoSuchState, r) (cond b (Unpublished Memory, r) (cond c (Unpublished Twice, r) (cond d (Unpublished Memory, r) (Published, with_published r number)))))
+  publish_by : (number : ℕ) → ((fault : StateFault) → P (NotPublished fault, r)) → P (Published, with_published r number) → (a b c d : Bool)
+      → P (cond {A = Reply × Registry RunOf} a (NotPublished NoSuchState, r) (cond b (NotPublished Memory, r) (cond c (NotPublished Twice, r) (cond d (NotPublished Memory, r) (Published, with_published r number)))))
   publish_by number stays more true b c d = stays NoSuchState
   publish_by number stays more false true c d = stays Memory
   publish_by number stays more false false true d = stays Twice
   publish_by number stays more false false false true = stays Memory
   publish_by number stays more false false false false = more
 
-  pub publish_ends : (number : ℕ) (mark : WorldMark) → ((fault : StateFault) → P (Unpublished fault, r)) → P (Published, with_published r number) → P (published r number mark)
+  pub publish_ends : (number : ℕ) (mark : WorldMark) → ((fault : StateFault) → P (NotPublished fault, r)) → P (Published, with_published r number) → P (published r number mark)
   publish_ends number mark stays more = publish_by number stays more (not (nat_lt number (length r.scene.plan))) (refuses_state mark) (is_published r number) (refuses_keeping mark)
 
   reload_by : (users : List Row) → P (NotReloaded, r) → P (Reloaded, with_users r users) → (refused : Bool) → P (cond {A = Reply × Registry RunOf} refused (NotReloaded, r) (Reloaded, with_users r users))
@@ -44,7 +44,7 @@ module _ (r : Registry RunOf) (P : Reply × Registry RunOf → Type 0) where
 -- by its question too
 module _ (w : World) (conn now : ℕ) (x : Step) (mark : WorldMark) (P : Option Question → Reply × World → Type 0) where
   abbrev its_front : Front
-  its_front = front_by now (connection w conn) x (refuses_table mark)
+  its_front = front_by now (connection w conn) x (refuses_own mark)
 
   on_by : (conn < CONNECTIONS → P (question_of_front its_front) (from_front w conn x (below mark) its_front)) → (CONNECTIONS ≤ conn → P None (Connection (Error S5), w)) → (b : Bool) → nat_lt conn CONNECTIONS ≡ b
       → P (cond b (question_of_front its_front) None) (cond {A = Reply × World} b (from_front w conn x (below mark) its_front) (Connection (Error S5), w))

@@ -15,7 +15,7 @@ use Rattle.cs_permit.specs.TreeNames.{tree_name_in}
 use Rattle.cs_session.specs.Attaches.{attach_decision, find_question}
 use Rattle.cs_permit.specs.Refusals.{Check}
 use Rattle.cs_session.specs.Decisions.{request_decision}
-use Rattle.cs_session.specs.Questions.{Question, Find, Enter}
+use Rattle.cs_session.specs.Questions.{Question, FindRun, AttachTo}
 use Rattle.cs_session.specs.Sessions.{Awaited, Sess, blank, entry_at}
 use Rattle.cs_session.specs.TableSteps.{table_stepped}
 use Rattle.cs_session.specs.Steps.{Front, Done, Asks, Step, FindStep, AttachStep, CallStep, CloseStep, Table, after, front_by, front_of}
@@ -30,7 +30,7 @@ use Rattle.cs_fids.specs.Tables.{FidMap}
 use Rattle.cs_registry.specs.Naming.{key_in}
 use Rattle.cs_world.specs.Asking.{answered}
 use Rattle.cs_world.specs.ConnectionSteps.{session_step}
-use Rattle.cs_world.specs.Marks.{WorldMark, RunMark, below, refuses_table}
+use Rattle.cs_world.specs.Marks.{WorldMark, RunMark, below, refuses_own}
 use Rattle.cs_world.specs.Reachable.{Gave, HasAllThatIsNamed}
 use Rattle.cs_world.specs.Steps.{by_registry, from_front, on_connection, step_of}
 use Rattle.cs_world.specs.Worlds.{World, connection, new_world}
@@ -52,23 +52,23 @@ none_if None is = refl
 none_if (Some x) is = absurd (cc)
 
 -- what a find asks
-pub record IsFind (q : Question) : Type 0 where
-  pub state : List ℕ
-  pub name : List ℕ
-  pub is : q ≡ Find state name
+pub record IsFindRun (q : Question) : Type 0 where
+  pub state_name : List ℕ
+  pub run_name : List ℕ
+  pub is : q ≡ FindRun state_name run_name
 
-pub find_by : (o : Option (List ℕ × List ℕ)) (q : Question) → option_map (λ (name : List ℕ × List ℕ). Find name.0 name.1) o ≡ Some q → IsFind q
+pub find_by : (o : Option (List ℕ × List ℕ)) (q : Question) → option_map (λ (name : List ℕ × List ℕ). FindRun name.0 name.1) o ≡ Some q → IsFindRun q
 find_by None q e = absurd (cc)
-find_by (Some name) q e = record { state = name.0; name = name.1; is = cc }
+find_by (Some name) q e = record { state_name = name.0; run_name = name.1; is = cc }
 
-pub record IsEnter (now : ℕ) (s : Sess) (q : Question) : Type 0 where
-  pub pending : Awaited
-  pub waits : s.pending ≡ Some pending
-  pub is : q ≡ Enter now pending.run pending.call
+pub record IsAttachTo (now : ℕ) (s : Sess) (q : Question) : Type 0 where
+  pub awaited : Awaited
+  pub waits : s.awaited ≡ Some awaited
+  pub is : q ≡ AttachTo now awaited.run awaited.call
 
-pub enter_by : (now : ℕ) (s : Sess) (o : Option Awaited) → s.pending ≡ o → (q : Question) → front_of s (attach_decision now o) ≡ Asks q → IsEnter now s q
-enter_by now s None is q e = absurd (cc)
-enter_by now s (Some p) is q e = record { pending = p; waits = is; is = cc }
+pub attach_asks : (now : ℕ) (s : Sess) (o : Option Awaited) → s.awaited ≡ o → (q : Question) → front_of s (attach_decision now o) ≡ Asks q → IsAttachTo now s q
+attach_asks now s None is q e = absurd (cc)
+attach_asks now s (Some p) is q e = record { awaited = p; waits = is; is = cc }
 
 -- ---- a step of a connection
 
@@ -81,7 +81,7 @@ module _ (w : World) (ok : HasAllThatIsNamed w) (conn : ℕ) where
   source_gave of answer fid e (Reads from place there is) = subst (λ x. Gave w.registry (run_of x) (pass_of x)) (sym is) (ok.fids conn fid (entry.Opened from) there)
 
   unmoved : (s' : Sess) → s' ≡ connection w conn → Moves w conn s' w.registry
-  unmoved s' same = stays w ok conn s' (ap (λ (s : Sess). s.pending) same) (λ fid e there. ap (λ s. entry_at s fid) (sym same) ∙ there)
+  unmoved s' same = stays w ok conn s' (ap (λ (s : Sess). s.awaited) same) (λ fid e there. ap (λ s. entry_at s fid) (sym same) ∙ there)
 
   done_moves : (now : ℕ) (x : Step) (refused : Bool) (reply : Said) (s' : Sess) → front_by now (connection w conn) x refused ≡ Done reply s' → Moves w conn s' w.registry
   done_moves now (FindStep m) refused reply s' e = unmoved s' (refused_keeps (connection w conn) _ reply s' e)
@@ -90,7 +90,7 @@ module _ (w : World) (ok : HasAllThatIsNamed w) (conn : ℕ) where
   done_moves now (CloseStep fid) refused reply s' e = unmoved s' (refused_keeps (connection w conn) _ reply s' e)
   done_moves now (Table change) refused reply s' e =
       let is : s' ≡ (table_stepped (connection w conn) change).1 = cc in
-      stays w ok conn s' (ap (λ (s : Sess). s.pending) is ∙ table_idle (connection w conn) change _ refl) (λ fid x there. table_keeps (connection w conn) fid x change _ refl (ap (λ (s : Sess). get s.fids fid) (sym is) ∙ there))
+      stays w ok conn s' (ap (λ (s : Sess). s.awaited) is ∙ table_idle (connection w conn) change _ refl) (λ fid x there. table_keeps (connection w conn) fid x change _ refl (ap (λ (s : Sess). get s.fids fid) (sym is) ∙ there))
 
   -- from what a step asks to where its answer leads
   abbrev Leads : Step → RunMark → Question → Type 0
@@ -99,11 +99,11 @@ module _ (w : World) (ok : HasAllThatIsNamed w) (conn : ℕ) where
   asks_moves : (now : ℕ) (x : Step) (refused : Bool) (q : Question) (mark : RunMark) → front_by now (connection w conn) x refused ≡ Asks q → Leads x mark q
   asks_moves now (FindStep m) refused q mark e =
       let its = find_by (tree_name_in m.aname) q (judged_asks (connection w conn) _ refused _ q e) in
-      let idle : (connection w conn).pending ≡ None = none_if (connection w conn).pending (judged_idle (connection w conn) _ (connection w conn).msize (attach_table_rules (connection w conn).fids m.fid m.afid m.aname) refused (find_question m) q e) in
-      subst (Leads (FindStep m) mark) (sym its.is) (finds w ok conn m idle mark (key_in its.state its.name))
+      let idle : (connection w conn).awaited ≡ None = none_if (connection w conn).awaited (judged_idle (connection w conn) _ (connection w conn).msize (attach_table_rules (connection w conn).fids m.fid m.afid m.aname) refused (find_question m) q e) in
+      subst (Leads (FindStep m) mark) (sym its.is) (finds w ok conn m idle mark (key_in its.state_name its.run_name))
   asks_moves now AttachStep refused q mark e =
-      let its = enter_by now (connection w conn) (connection w conn).pending refl q e in
-      subst (Leads AttachStep mark) (sym its.is) (attaches w ok conn its.pending its.waits now mark)
+      let its = attach_asks now (connection w conn) (connection w conn).awaited refl q e in
+      subst (Leads AttachStep mark) (sym its.is) (attaches w ok conn its.awaited its.waits now mark)
   asks_moves now (CallStep m) refused q mark e =
       let its = call_asks now (connection w conn) q m refused e in
       subst (Leads (CallStep m) mark) (sym its.is) (calls w ok conn now (run_of its.held) (pass_of its.held) its.call (ok.fids conn (fid_in m) its.held its.there) mark (λ told. (after (connection w conn) (CallStep m) told).1) (λ answer. refl)
@@ -119,7 +119,7 @@ module _ (w : World) (ok : HasAllThatIsNamed w) (conn : ℕ) where
   by_front inside now x refused mark (Asks q) e = moved w ok conn inside _ _ (asks_moves now x refused q mark e)
 
   pub connection_keeps : (now : ℕ) (x : Step) (mark : WorldMark) → HasAllThatIsNamed (on_connection w conn now x mark).1
-  connection_keeps now x mark = on_ends w conn now x mark (λ q y. HasAllThatIsNamed y.1) (λ low. by_front low now x (refuses_table mark) (below mark) (front_by now (connection w conn) x (refuses_table mark)) refl) (λ high. ok)
+  connection_keeps now x mark = on_ends w conn now x mark (λ q y. HasAllThatIsNamed y.1) (λ low. by_front low now x (refuses_own mark) (below mark) (front_by now (connection w conn) x (refuses_own mark)) refl) (λ high. ok)
 
 -- ---- a publish
 
@@ -185,6 +185,6 @@ new_is scene users =
       all = length-replicate CONNECTIONS (blank None);
       states = length-replicate (length scene.plan) false;
       runs = λ place key run there. absurd (cc);
-      awaited = λ conn p is. absurd (let here : (connection (new_world scene users) conn).pending ≡ None = ap (λ (s : Sess). s.pending) (none conn) in cc);
+      awaited = λ conn p is. absurd (let here : (connection (new_world scene users) conn).awaited ≡ None = ap (λ (s : Sess). s.awaited) (none conn) in cc);
       fids = λ conn fid e is. absurd (let here : entry_at (connection (new_world scene users) conn) fid ≡ None = ap (λ s. entry_at s fid) (none conn) ∙ nothing_there fid in cc);
     }

@@ -72,15 +72,11 @@ module _ (scene : Scene) (users : List Row) (key : Key) where
   own_users : (marked : List (Step × WorldMark)) (run : RunOf) (its : IsFrom marked run) → run.users ≡ its.own
   own_users marked run its = ap (λ (r : RunOf). r.users) its.ends ∙ alone_users its.fresh (puts marked) ∙ begin_users its.own (state_at scene key.number) its.fresh its.begins
 
-  -- and it has the users that stood when it was made
-  pub has_users : (marked : List (Step × WorldMark)) (run : RunOf) → run_after w marked key ≡ Some run → users_made_with w marked key ≡ Some run.users
-  has_users marked run found = let its = its_from marked run found in its.stood ∙ ap Some (sym (own_users marked run its))
-
-  pub is_alone : (marked : List (Step × WorldMark)) (run : RunOf) → run_after w marked key ≡ Some run → IsAlone w marked key run
+  is_alone : (marked : List (Step × WorldMark)) (run : RunOf) → run_after w marked key ≡ Some run → IsAlone w marked key run
   is_alone marked run found =
       let its = its_from marked run found in
       record {
-        users = has_users marked run found;
+        users = its.stood ∙ ap Some (sym (own_users marked run its));
         first_run = its.fresh;
         begins = ap start (own_users marked run its) ∙ its.begins;
         answers = its.answers;

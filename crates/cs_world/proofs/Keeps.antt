@@ -30,9 +30,9 @@ use Rattle.cs_run.specs.declared.answer.Answer.TheVariants as a
 use Rattle.cs_session.specs.declared.message.AttachMessage.{AttachMessage}
 use Rattle.cs_session.specs.Attaches.{attach_after, attach_settled, find_after}
 use Rattle.cs_session.specs.Names.{user_in}
-use Rattle.cs_session.specs.Questions.{Enter, Entered, Got, PortAnswer}
+use Rattle.cs_session.specs.Questions.{AttachTo, AttachAnswer, CallAnswer, PortAnswer}
 use Rattle.cs_session.specs.Questions as q
-use Rattle.cs_session.specs.Sessions.{Awaited, Sess, entry_at, with_fids, with_pending}
+use Rattle.cs_session.specs.Sessions.{Awaited, Sess, entry_at, with_fids, with_awaited}
 use Rattle.cs_world.specs.Asking.{answered, found_by, given_run, with_run_at}
 use Rattle.cs_world.specs.Marks.{RunMark, in_run, refuses_pass, refuses_run}
 use Rattle.cs_world.specs.Reachable.{Gave, HasAllThatIsNamed, awaits}
@@ -52,10 +52,10 @@ at_most_one false = omega arith
 
 -- ---- a find
 
-module _ (w : World) (ok : HasAllThatIsNamed w) (conn : ℕ) (x : AttachMessage) (idle : (connection w conn).pending ≡ None) where
+module _ (w : World) (ok : HasAllThatIsNamed w) (conn : ℕ) (x : AttachMessage) (idle : (connection w conn).awaited ≡ None) where
   -- the connection awaits its attach to the run at a place
   abbrev waits_at : ℕ → Sess
-  waits_at n = with_pending (Some (record { fid = x.fid; run = n; call = record { user = x.uname } })) (connection w conn)
+  waits_at n = with_awaited (Some (record { fid = x.fid; run = n; call = record { user = x.uname } })) (connection w conn)
 
   waits_there : (n place : ℕ) → place ≢ n → one_if (awaits place (waits_at n)) ≡ 0
   waits_there n place other = ap one_if (ne_eqb n place (λ same. other (sym same)))
@@ -102,7 +102,7 @@ module _ (w : World) (ok : HasAllThatIsNamed w) (conn : ℕ) (x : AttachMessage)
   same : Moves w conn (connection w conn) w.registry
   same = stays w ok conn (connection w conn) refl (λ fid e there. there)
 
-  made_by : (key : Key) (mark : RunMark) → is_published w.registry key.number ≡ true → (g : Option RunOf) → given_run w.registry key.number mark ≡ g → Moves w conn (find_after (connection w conn) x (q.Found (made w.registry key g).0)).1 (made w.registry key g).1
+  made_by : (key : Key) (mark : RunMark) → is_published w.registry key.number ≡ true → (g : Option RunOf) → given_run w.registry key.number mark ≡ g → Moves w conn (find_after (connection w conn) x (q.FindAnswer (made w.registry key g).0)).1 (made w.registry key g).1
   made_by key mark published None is = same
   made_by key mark published (Some held) is =
       let new = given_is w.registry key.number (refuses_run mark) (state_at w.registry.scene key.number) held is in
@@ -110,11 +110,11 @@ module _ (w : World) (ok : HasAllThatIsNamed w) (conn : ℕ) (x : AttachMessage)
 
   find_by : (key : Key) (mark : RunMark) (published full : Bool) (o : Option ℕ) → is_published w.registry key.number ≡ published → place_of key w.registry.runs ≡ o → room_ends w.registry.runs o ≡ full
       → (out : Result ℕ FindFault × Registry RunOf) → cond {A = Result ℕ FindFault × Registry RunOf} (not published) (Err Unpublished, w.registry) (cond full (Err Full, w.registry) (option_map_or (found_again w.registry) o (made w.registry key (given_run w.registry key.number mark)))) ≡ out
-      → Moves w conn (find_after (connection w conn) x (q.Found out.0)).1 out.1
-  find_by key mark false full o p is room out e = subst (λ (out : Result ℕ FindFault × Registry RunOf). Moves w conn (find_after (connection w conn) x (q.Found out.0)).1 out.1) e same
-  find_by key mark true true o p is room out e = subst (λ (out : Result ℕ FindFault × Registry RunOf). Moves w conn (find_after (connection w conn) x (q.Found out.0)).1 out.1) e same
-  find_by key mark true false (Some n) p is room out e = subst (λ (out : Result ℕ FindFault × Registry RunOf). Moves w conn (find_after (connection w conn) x (q.Found out.0)).1 out.1) e (again key n is room)
-  find_by key mark true false None p is room out e = subst (λ (out : Result ℕ FindFault × Registry RunOf). Moves w conn (find_after (connection w conn) x (q.Found out.0)).1 out.1) e (made_by key mark p (given_run w.registry key.number mark) refl)
+      → Moves w conn (find_after (connection w conn) x (q.FindAnswer out.0)).1 out.1
+  find_by key mark false full o p is room out e = subst (λ (out : Result ℕ FindFault × Registry RunOf). Moves w conn (find_after (connection w conn) x (q.FindAnswer out.0)).1 out.1) e same
+  find_by key mark true true o p is room out e = subst (λ (out : Result ℕ FindFault × Registry RunOf). Moves w conn (find_after (connection w conn) x (q.FindAnswer out.0)).1 out.1) e same
+  find_by key mark true false (Some n) p is room out e = subst (λ (out : Result ℕ FindFault × Registry RunOf). Moves w conn (find_after (connection w conn) x (q.FindAnswer out.0)).1 out.1) e (again key n is room)
+  find_by key mark true false None p is room out e = subst (λ (out : Result ℕ FindFault × Registry RunOf). Moves w conn (find_after (connection w conn) x (q.FindAnswer out.0)).1 out.1) e (made_by key mark p (given_run w.registry key.number mark) refl)
 
   pub finds : (mark : RunMark) (o : Option Key) → Moves w conn (find_after (connection w conn) x (found_by w.registry mark o).0).1 (found_by w.registry mark o).1
   finds mark None = same
@@ -123,23 +123,23 @@ module _ (w : World) (ok : HasAllThatIsNamed w) (conn : ℕ) (x : AttachMessage)
 -- ---- an attach
 
 -- a fid that an attach leaves is one that was there, or stands on its run under its pass
-entered_source : (fids : FidMap) (fid run : ℕ) (user : Option (List ℕ)) (pass : ℕ) (answer : Answer) (k : ℕ) (e : Entry) → get (attach_settled fids fid run user pass answer).1 k ≡ Some e → (get fids k ≡ Some e) ⊎ ((run_of e ≡ run) × (pass_of e ≡ pass))
-entered_source fids fid run None pass (a.Attached qid) k e there = inl there
-entered_source fids fid run (Some user) pass (a.Attached qid) k e there =
+settled_source : (fids : FidMap) (fid run : ℕ) (user : Option (List ℕ)) (pass : ℕ) (answer : Answer) (k : ℕ) (e : Entry) → get (attach_settled fids fid run user pass answer).1 k ≡ Some e → (get fids k ≡ Some e) ⊎ ((run_of e ≡ run) × (pass_of e ≡ pass))
+settled_source fids fid run None pass (a.Attached qid) k e there = inl there
+settled_source fids fid run (Some user) pass (a.Attached qid) k e there =
     elim (inserted fids fid k (entry.Walked (walked_fid run pass 0 user)) e there) [
       | inl new ↦ inr (ap run_of new.1, ap pass_of new.1)
       | inr old ↦ inl old
     ]
-entered_source fids fid run user pass answer k e there = inl there
+settled_source fids fid run user pass answer k e there = inl there
 
-module _ (w : World) (ok : HasAllThatIsNamed w) (conn : ℕ) (p : Awaited) (waits : (connection w conn).pending ≡ Some p) (key : Key) (run : Found RunOf) (there : slice_get w.registry.runs p.run ≡ Some (key, run)) where
+module _ (w : World) (ok : HasAllThatIsNamed w) (conn : ℕ) (p : Awaited) (waits : (connection w conn).awaited ≡ Some p) (key : Key) (run : Found RunOf) (there : slice_get w.registry.runs p.run ≡ Some (key, run)) where
   own_count : one_if (awaits p.run (connection w conn)) ≡ 1
   own_count = rw waits (ap one_if (eq-eqb p.run p.run refl))
 
   -- the run changes, and awaits the attach no more
-  enters : (held : RunOf) → held.fresh ≡ run.held.fresh → (IsSound run.held → IsSound held) → run.held.passes ≤ held.passes → held.passes ≤ run.held.passes + 1 → (s' : Sess) → s'.pending ≡ None
+  attach_moves : (held : RunOf) → held.fresh ≡ run.held.fresh → (IsSound run.held → IsSound held) → run.held.passes ≤ held.passes → held.passes ≤ run.held.passes + 1 → (s' : Sess) → s'.awaited ≡ None
       → ((fid : ℕ) (e : Entry) → entry_at s' fid ≡ Some e → (entry_at (connection w conn) fid ≡ Some e) ⊎ ((run_of e ≡ p.run) × (pass_of e < held.passes))) → Moves w conn s' (with_run_at w.registry p.run held)
-  enters held fresh room more most s' idle fids =
+  attach_moves held fresh room more most s' idle fids =
       let none : (place : ℕ) → one_if (awaits place s') ≡ 0 = λ place. rw idle refl in
       changes w ok conn p.run key run there (λ f. record f { held = held }) s' (record {
         fresh = fresh;
@@ -153,24 +153,24 @@ module _ (w : World) (ok : HasAllThatIsNamed w) (conn : ℕ) (p : Awaited) (wait
       })
 
   attaches_by : (now : ℕ) (mark : RunMark) (full refused : Bool) → nat_le RUN_ATTACHES run.held.passes ≡ full → refuses_pass mark ≡ refused
-      → Moves w conn (attach_after (connection w conn) (Some p) (Entered (attached run.held now p.call mark).0)).1 (with_run_at w.registry p.run (attached run.held now p.call mark).1)
-  attaches_by now mark true refused f is = rw f (enters run.held refl (λ h. h) (omega arith) (omega arith) (with_pending None (connection w conn)) refl (λ fid e there. inl there))
-  attaches_by now mark false true f is = rw (f, is) (enters run.held refl (λ h. h) (omega arith) (omega arith) (with_pending None (connection w conn)) refl (λ fid e there. inl there))
+      → Moves w conn (attach_after (connection w conn) (Some p) (AttachAnswer (attached run.held now p.call mark).0)).1 (with_run_at w.registry p.run (attached run.held now p.call mark).1)
+  attaches_by now mark true refused f is = rw f (attach_moves run.held refl (λ h. h) (omega arith) (omega arith) (with_awaited None (connection w conn)) refl (λ fid e there. inl there))
+  attaches_by now mark false true f is = rw (f, is) (attach_moves run.held refl (λ h. h) (omega arith) (omega arith) (with_awaited None (connection w conn)) refl (λ fid e there. inl there))
   attaches_by now mark false false f is =
       let more : RunOf = with_pass run.held in
       let it : Call = call.Attach p.call in
       let ended = run_step more now run.held.passes it (in_run mark) in
       let its = judged more now run.held.passes it (in_run mark) in
       let passes : ended.1.passes ≡ run.held.passes + 1 = keeps_passes more now run.held.passes it ended.0 ended.1 its in
-      rw (f, is) (enters ended.1 (keeps_fresh more now run.held.passes it ended.0 ended.1 its) (keeps_sound more now run.held.passes it ended.0 ended.1 its) (omega (arith, passes)) (omega (arith, passes))
-      (with_fids (attach_settled (connection w conn).fids p.fid p.run (user_in p.call.user) run.held.passes ended.0).1 (with_pending None (connection w conn))) refl (λ fid e there.
-      elim (entered_source (connection w conn).fids p.fid p.run (user_in p.call.user) run.held.passes ended.0 fid e there) [
+      rw (f, is) (attach_moves ended.1 (keeps_fresh more now run.held.passes it ended.0 ended.1 its) (keeps_sound more now run.held.passes it ended.0 ended.1 its) (omega (arith, passes)) (omega (arith, passes))
+      (with_fids (attach_settled (connection w conn).fids p.fid p.run (user_in p.call.user) run.held.passes ended.0).1 (with_awaited None (connection w conn))) refl (λ fid e there.
+      elim (settled_source (connection w conn).fids p.fid p.run (user_in p.call.user) run.held.passes ended.0 fid e there) [
         | inl was ↦ inl was
         | inr its ↦ inr (its.0, let at : pass_of e ≡ run.held.passes = its.1 in omega (arith, at, passes))
       ]))
 
-pub attaches : (w : World) (ok : HasAllThatIsNamed w) (conn : ℕ) (p : Awaited) → (connection w conn).pending ≡ Some p → (now : ℕ) (mark : RunMark)
-    → Moves w conn (attach_after (connection w conn) (connection w conn).pending (answered w.registry (Enter now p.run p.call) mark).0).1 (answered w.registry (Enter now p.run p.call) mark).1
+pub attaches : (w : World) (ok : HasAllThatIsNamed w) (conn : ℕ) (p : Awaited) → (connection w conn).awaited ≡ Some p → (now : ℕ) (mark : RunMark)
+    → Moves w conn (attach_after (connection w conn) (connection w conn).awaited (answered w.registry (AttachTo now p.run p.call) mark).0).1 (answered w.registry (AttachTo now p.run p.call) mark).1
 attaches w ok conn p waits now mark =
     let its = stands w.registry p.run (ok.awaited conn p waits) in
     rw (waits, held_there w.registry p.run its.key its.run its.there) (attaches_by w ok conn p waits its.key its.run its.there now mark _ _ refl refl)
@@ -178,7 +178,7 @@ attaches w ok conn p waits now mark =
 -- ---- a call
 
 module _ (w : World) (ok : HasAllThatIsNamed w) (conn now place pass : ℕ) (call : Call) (gave : Gave w.registry place pass) (mark : RunMark) where
-  calls_by : (key : Key) (run : Found RunOf) → slice_get w.registry.runs place ≡ Some (key, run) → pass < run.held.passes → (after : Answer → Sess) → ((answer : Answer) → (after answer).pending ≡ (connection w conn).pending)
+  calls_by : (key : Key) (run : Found RunOf) → slice_get w.registry.runs place ≡ Some (key, run) → pass < run.held.passes → (after : Answer → Sess) → ((answer : Answer) → (after answer).awaited ≡ (connection w conn).awaited)
       → ((answer : Answer) (fid : ℕ) (e : Entry) → entry_at (after answer) fid ≡ Some e → Gave w.registry (run_of e) (pass_of e)) → Moves w conn (after (called run.held now pass call (in_run mark)).0) (with_run_at w.registry place (called run.held now pass call (in_run mark)).1)
   calls_by key run there low after idle fids =
       let known : nat_lt pass run.held.passes ≡ true = grind (arith, nat_tests) in
@@ -197,8 +197,8 @@ module _ (w : World) (ok : HasAllThatIsNamed w) (conn now place pass : ℕ) (cal
         fids = λ fid e is. inl (fids ended.0 fid e is);
       }))
 
-  pub calls : (after : PortAnswer → Sess) → ((answer : Answer) → (after (Got answer)).pending ≡ (connection w conn).pending) → ((answer : Answer) (fid : ℕ) (e : Entry) → entry_at (after (Got answer)) fid ≡ Some e → Gave w.registry (run_of e) (pass_of e))
-      → Moves w conn (after (answered w.registry (q.Ask now place pass call) mark).0) (answered w.registry (q.Ask now place pass call) mark).1
+  pub calls : (after : PortAnswer → Sess) → ((answer : Answer) → (after (CallAnswer answer)).awaited ≡ (connection w conn).awaited) → ((answer : Answer) (fid : ℕ) (e : Entry) → entry_at (after (CallAnswer answer)) fid ≡ Some e → Gave w.registry (run_of e) (pass_of e))
+      → Moves w conn (after (answered w.registry (q.CallOn now place pass call) mark).0) (answered w.registry (q.CallOn now place pass call) mark).1
   calls after idle fids =
       let its = given w.registry place pass gave in
-      rw (held_there w.registry place its.key its.run its.there) (calls_by its.key its.run its.there its.gave (λ answer. after (Got answer)) idle fids)
+      rw (held_there w.registry place its.key its.run its.there) (calls_by its.key its.run its.there its.gave (λ answer. after (CallAnswer answer)) idle fids)

@@ -17,6 +17,7 @@ pub mod Judging
 pub mod Keeping
 pub mod Keeps
 pub mod Keyed
+pub mod Leaving
 pub mod Listing
 pub mod Making
 pub mod Moved
@@ -36,6 +37,5 @@ pub mod Standing
 pub mod Stepping
 pub mod Tables
 pub mod Theorem
-pub mod Touching
 pub mod Users
 pub mod Within

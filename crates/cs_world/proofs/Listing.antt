@@ -2,6 +2,7 @@
 use Rattle.std.proofs.Common.{◌≡◌, ◌∙◌, ℕ, ◌<◌, Bool, true, false, List, [], ◌∷◌, ◌++◌, length, length-set, None, refl, sym, ap, subst, arith}
 use Rattle.std.specs.Prelude.{nat_lt}
 use Rattle.std.proofs.lemmas.Bool.Decides.{nat_tests}
+use Rattle.std.proofs.lemmas.List.{get_or-set_same, set-get_or}
 use Rattle.cs_journal.specs.Runs.{RunOf}
 use Rattle.cs_names.specs.declared.limits.TheConstants.{CONNECTIONS}
 use Rattle.cs_registry.specs.Registries.{Registry}
@@ -9,7 +10,7 @@ use Rattle.cs_session.specs.declared.message.Message.{Message}
 use Rattle.cs_session.specs.declared.reply.Reply.{Reply as Said}
 use Rattle.cs_session.specs.Marks as c
 use Rattle.cs_session.specs.Messages.{Answers, Either, IsAnswered, goes_on, next_step}
-use Rattle.cs_session.specs.Receipts.{IsReplied, Receives, Barred, Malformed, Short, Alone, Asked, wire_of, tag_in}
+use Rattle.cs_session.specs.Receiving.{IsReplied, Receives, Barred, Malformed, Short, Alone, Asked, wire_of, tag_in}
 use Rattle.cs_session.specs.Sessions.{Sess, blank}
 use Rattle.cs_session.specs.Steps.{Step, FindStep, AttachStep, CallStep, CloseStep, Table}
 use Rattle.cs_wire.specs.Messages.{Message as Spelled, replies}
@@ -23,7 +24,7 @@ use Rattle.cs_world.specs.Steps.{IsStep, on_connection, step_of}
 use Rattle.cs_world.specs.declared.step.Step as t
 use Rattle.cs_world.specs.Worlds.{World, connection, with_both}
 use Rattle.cs_world.proofs.Reaching.{reaches}
-use Rattle.cs_world.proofs.Placing.{index_set_same, set_again, set_own}
+use Rattle.cs_world.proofs.Placing.{set_again}
 use Rattle.cs_world.proofs.Stepping.{takes}
 
 -- a step of the world is that of its connection
@@ -65,10 +66,10 @@ last_one message conn now w next after x mark said reply is own goes same there 
 
 module _ (message : Message) (conn now : ℕ) (low : conn < CONNECTIONS) (s' : Sess) (r' : Registry RunOf) where
   -- what answers a message on a session, as steps of the world
-  own_steps_by : (marks : List c.TableMark) (reply : Said) (w : World) → conn < length w.connections → (s : Sess) → connection w conn ≡ s → (p : Registry RunOf) → w.registry ≡ p → Answers IsGiven now message marks s p reply s' r' → IsByOwnSteps w conn now message reply (with_both w conn s' r')
+  own_steps_by : (marks : List c.OwnMark) (reply : Said) (w : World) → conn < length w.connections → (s : Sess) → connection w conn ≡ s → (p : Registry RunOf) → w.registry ≡ p → Answers IsGiven now message marks s p reply s' r' → IsByOwnSteps w conn now message reply (with_both w conn s' r')
   own_steps_by [] reply w inside s its p registry a = absurd a
   own_steps_by (mark ∷ marks) reply w inside s its p registry (said, mid, there, t, e) =
-      by (goes_on message x said) refl e (λ more. own_steps_by marks reply next (omega (arith, inside, length-set w.connections conn mid)) mid (index_set_same w.connections conn mid (blank None) inside) there refl more)
+      by (goes_on message x said) refl e (λ more. own_steps_by marks reply next (omega (arith, inside, length-set w.connections conn mid)) mid (get_or-set_same w.connections conn mid (blank None) inside) there refl more)
     where
       x : Step
       x = next_step message s
@@ -101,7 +102,7 @@ module _ (w : World) (conn now : ℕ) (low : conn < CONNECTIONS) (inside : conn 
   answered_by_steps message reply a = own_steps_by message conn now low s' r' a.marks reply w inside (connection w conn) refl w.registry refl a.answers
 
   stays : (same : s' ≡ connection w conn) (there : r' ≡ w.registry) → with_both w conn s' r' ≡ w
-  stays same there = (λ i. with_both w conn (same i) (there i)) ∙ ap (λ (c : List Sess). record { registry = w.registry; connections = c }) (set_own w.connections conn (blank None) inside)
+  stays same there = (λ i. with_both w conn (same i) (there i)) ∙ ap (λ (c : List Sess). record { registry = w.registry; connections = c }) (set-get_or w.connections conn (blank None))
 
   received : (bytes : List ℕ) (told : Spelled replies) (reply : Said) → told ≡ wire_of (tag_in bytes) reply → (mark : c.MessageMark) → Receives IsGiven now bytes (connection w conn) w.registry reply s' r' mark → IsRepliedBySteps w conn now bytes told (with_both w conn s' r')
   received bytes told reply is mark (Barred rule fails (r, s, p)) = ByItself reply is (stays s p)

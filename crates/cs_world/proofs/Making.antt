@@ -5,7 +5,7 @@ use Rattle.cs_journal.specs.Runs.{RunOf}
 use Rattle.cs_registry.specs.Publishing.{with_published}
 use Rattle.cs_registry.specs.Registries.{Registry, is_published}
 use Rattle.cs_world.specs.declared.reply.Reply.{Reply}
-use Rattle.cs_world.specs.declared.reply.Reply.TheVariants.{Published, Unpublished}
+use Rattle.cs_world.specs.declared.reply.Reply.TheVariants.{Published, NotPublished}
 use Rattle.cs_world.specs.declared.reply.StateFault.TheVariants.{Twice, Memory}
 use Rattle.cs_world.specs.Marks.{WorldMark, Below, NoPass, NoKeeping}
 use Rattle.cs_world.specs.Publishing.{published}
@@ -20,8 +20,8 @@ module _ (old new : Registry RunOf) (number made : ℕ) (e : made ≡ number) (l
   pub is_kept : is_published old made ≡ false → new ≡ with_published old made → Comes Published (Below NoPass) number
   is_kept free is = subst (Comes Published (Below NoPass)) e (rw (inside, free, is) refl)
 
-  pub is_twice : is_published old made ≡ true → new ≡ old → Comes (Unpublished Twice) (Below NoPass) number
-  is_twice there is = subst (Comes (Unpublished Twice) (Below NoPass)) e (rw (inside, there, is) refl)
+  pub is_twice : is_published old made ≡ true → new ≡ old → Comes (NotPublished Twice) (Below NoPass) number
+  is_twice there is = subst (Comes (NotPublished Twice) (Below NoPass)) e (rw (inside, there, is) refl)
 
-  pub is_short : is_published old made ≡ false → new ≡ old → Comes (Unpublished Memory) NoKeeping number
-  is_short free is = subst (Comes (Unpublished Memory) NoKeeping) e (rw (inside, free, is) refl)
+  pub is_short : is_published old made ≡ false → new ≡ old → Comes (NotPublished Memory) NoKeeping number
+  is_short free is = subst (Comes (NotPublished Memory) NoKeeping) e (rw (inside, free, is) refl)

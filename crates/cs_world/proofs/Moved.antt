@@ -22,7 +22,7 @@ use Rattle.cs_permit.specs.Table.{attach_table_rules, create_table_rules, is_ful
 use Rattle.cs_permit.specs.TreeNames.{tree_name_in}
 use Rattle.cs_session.specs.declared.reply.Reply.{Reply}
 use Rattle.cs_session.specs.Decisions.{opened_at, walked_at}
-use Rattle.cs_session.specs.Questions.{Question, Find, Enter, Ask, PortAnswer, Found, Entered, Got}
+use Rattle.cs_session.specs.Questions.{Question, FindRun, AttachTo, CallOn, PortAnswer, FindAnswer, AttachAnswer, CallAnswer}
 use Rattle.cs_session.specs.Sessions.{Awaited, Sess, blank}
 use Rattle.cs_session.specs.Steps.{Front, Done, Asks}
 use Rattle.cs_tree_model.specs.Maps.Values.{map_entries, map_values, entries-map_values, get-map_values}
@@ -43,22 +43,22 @@ abbrev pub moved_awaited : (ℕ → ℕ) → Awaited → Awaited
 moved_awaited f p = record p { run = f p.run }
 
 abbrev pub moved : (ℕ → ℕ) → Sess → Sess
-moved f s = record { msize = s.msize; pending = option_map (moved_awaited f) s.pending; fids = moved_fids f s.fids }
+moved f s = record { msize = s.msize; awaited = option_map (moved_awaited f) s.awaited; fids = moved_fids f s.fids }
 
 abbrev pub moved_question : (ℕ → ℕ) → Question → Question
-moved_question f (Find state name) = Find state name
-moved_question f (Enter now place call) = Enter now (f place) call
-moved_question f (Ask now place pass call) = Ask now (f place) pass call
+moved_question f (FindRun state_name run_name) = FindRun state_name run_name
+moved_question f (AttachTo now place call) = AttachTo now (f place) call
+moved_question f (CallOn now place pass call) = CallOn now (f place) pass call
 
 abbrev pub moved_front : (ℕ → ℕ) → Front → Front
 moved_front f (Done reply s) = Done reply (moved f s)
 moved_front f (Asks q) = Asks (moved_question f q)
 
 abbrev pub moved_told : (ℕ → ℕ) → PortAnswer → PortAnswer
-moved_told f (Found (Ok place)) = Found (Ok (f place))
-moved_told f (Found (Err fault)) = Found (Err fault)
-moved_told f (Entered x) = Entered x
-moved_told f (Got answer) = Got answer
+moved_told f (FindAnswer (Ok place)) = FindAnswer (Ok (f place))
+moved_told f (FindAnswer (Err fault)) = FindAnswer (Err fault)
+moved_told f (AttachAnswer x) = AttachAnswer x
+moved_told f (CallAnswer answer) = CallAnswer answer
 
 abbrev pub moved_reply : (ℕ → ℕ) → Reply × Sess → Reply × Sess
 moved_reply f x = (x.0, moved f x.1)
@@ -101,7 +101,7 @@ module _ (f : ℕ → ℕ) where
   least_moved fids = ap first_open (entries-map_values nat_cmp (moved_entry f) fids) ∙ first_moved (entries fids)
 
   pub blank_moved : (msize : Option ℕ) → moved f (blank msize) ≡ blank msize
-  blank_moved msize i = record { msize = msize; pending = None; fids = empty_moved i }
+  blank_moved msize i = record { msize = msize; awaited = None; fids = empty_moved i }
 
   -- ---- an entry
 
@@ -174,20 +174,20 @@ module _ (f : ℕ → ℕ) where
 
   module _ (now : ℕ) (fids : FidMap) where
     pub of_walked : (call : FidOf Walked → _) → ((x : FidOf Walked) → call (moved_fid f x) ≡ call x) → (k : ℕ)
-        → option_map (λ (x : FidOf Walked). Ask now x.run x.pass (call x)) (walked_at (moved_fids f fids) k) ≡ option_map (moved_question f) (option_map (λ (x : FidOf Walked). Ask now x.run x.pass (call x)) (walked_at fids k))
-    of_walked call same k = ap (option_map (λ (x : FidOf Walked). Ask now x.run x.pass (call x))) (walked_moved fids k) ∙ asks (λ (x : FidOf Walked). Ask now x.run x.pass (call x)) (moved_fid f) (λ x. ap (Ask now (f x.run) x.pass) (same x)) (walked_at fids k)
+        → option_map (λ (x : FidOf Walked). CallOn now x.run x.pass (call x)) (walked_at (moved_fids f fids) k) ≡ option_map (moved_question f) (option_map (λ (x : FidOf Walked). CallOn now x.run x.pass (call x)) (walked_at fids k))
+    of_walked call same k = ap (option_map (λ (x : FidOf Walked). CallOn now x.run x.pass (call x))) (walked_moved fids k) ∙ asks (λ (x : FidOf Walked). CallOn now x.run x.pass (call x)) (moved_fid f) (λ x. ap (CallOn now (f x.run) x.pass) (same x)) (walked_at fids k)
 
     pub of_opened : (call : FidOf Opened → _) → ((x : FidOf Opened) → call (moved_fid f x) ≡ call x) → (k : ℕ)
-        → option_map (λ (x : FidOf Opened). Ask now x.run x.pass (call x)) (opened_at (moved_fids f fids) k) ≡ option_map (moved_question f) (option_map (λ (x : FidOf Opened). Ask now x.run x.pass (call x)) (opened_at fids k))
-    of_opened call same k = ap (option_map (λ (x : FidOf Opened). Ask now x.run x.pass (call x))) (opened_moved fids k) ∙ asks (λ (x : FidOf Opened). Ask now x.run x.pass (call x)) (moved_fid f) (λ x. ap (Ask now (f x.run) x.pass) (same x)) (opened_at fids k)
+        → option_map (λ (x : FidOf Opened). CallOn now x.run x.pass (call x)) (opened_at (moved_fids f fids) k) ≡ option_map (moved_question f) (option_map (λ (x : FidOf Opened). CallOn now x.run x.pass (call x)) (opened_at fids k))
+    of_opened call same k = ap (option_map (λ (x : FidOf Opened). CallOn now x.run x.pass (call x))) (opened_moved fids k) ∙ asks (λ (x : FidOf Opened). CallOn now x.run x.pass (call x)) (moved_fid f) (λ x. ap (CallOn now (f x.run) x.pass) (same x)) (opened_at fids k)
 
-    entry_asks : (call : Entry → _) → ((x : Entry) → call (moved_entry f x) ≡ call x) → (x : Entry) → Ask now (run_of (moved_entry f x)) (pass_of (moved_entry f x)) (call (moved_entry f x)) ≡ Ask now (f (run_of x)) (pass_of x) (call x)
-    entry_asks call same (entry.Walked x) = ap (Ask now (f x.run) x.pass) (same (entry.Walked x))
-    entry_asks call same (entry.Opened x) = ap (Ask now (f x.run) x.pass) (same (entry.Opened x))
+    entry_asks : (call : Entry → _) → ((x : Entry) → call (moved_entry f x) ≡ call x) → (x : Entry) → CallOn now (run_of (moved_entry f x)) (pass_of (moved_entry f x)) (call (moved_entry f x)) ≡ CallOn now (f (run_of x)) (pass_of x) (call x)
+    entry_asks call same (entry.Walked x) = ap (CallOn now (f x.run) x.pass) (same (entry.Walked x))
+    entry_asks call same (entry.Opened x) = ap (CallOn now (f x.run) x.pass) (same (entry.Opened x))
 
     pub of_entry : (call : Entry → _) → ((x : Entry) → call (moved_entry f x) ≡ call x) → (k : ℕ)
-        → option_map (λ (x : Entry). Ask now (run_of x) (pass_of x) (call x)) (get (moved_fids f fids) k) ≡ option_map (moved_question f) (option_map (λ (x : Entry). Ask now (run_of x) (pass_of x) (call x)) (get fids k))
-    of_entry call same k = ap (option_map (λ (x : Entry). Ask now (run_of x) (pass_of x) (call x))) (get_moved fids k) ∙ asks (λ (x : Entry). Ask now (run_of x) (pass_of x) (call x)) (moved_entry f) (entry_asks call same) (get fids k)
+        → option_map (λ (x : Entry). CallOn now (run_of x) (pass_of x) (call x)) (get (moved_fids f fids) k) ≡ option_map (moved_question f) (option_map (λ (x : Entry). CallOn now (run_of x) (pass_of x) (call x)) (get fids k))
+    of_entry call same k = ap (option_map (λ (x : Entry). CallOn now (run_of x) (pass_of x) (call x))) (get_moved fids k) ∙ asks (λ (x : Entry). CallOn now (run_of x) (pass_of x) (call x)) (moved_entry f) (entry_asks call same) (get fids k)
 
   pub number_same : (x : Entry) → number_of (moved_entry f x) ≡ number_of x
   number_same (entry.Walked x) = refl

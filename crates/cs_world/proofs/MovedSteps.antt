@@ -33,7 +33,7 @@ use Rattle.cs_session.specs.Removes.{close_question, close_reply, remove_reply}
 use Rattle.cs_session.specs.Decisions.{after_session, decide, opened_at, walked_at}
 use Rattle.cs_session.specs.Names.{file_in, user_in}
 use Rattle.cs_session.specs.Opens.{create_after, create_named, open_after, open_left}
-use Rattle.cs_session.specs.Questions.{Question, Find, PortAnswer, Found, Entered, Got}
+use Rattle.cs_session.specs.Questions.{Question, FindRun, PortAnswer, FindAnswer, AttachAnswer, CallAnswer}
 use Rattle.cs_session.specs.Reads.{copies_name, cut, read_after, read_left}
 use Rattle.cs_session.specs.Sessions.{Awaited, Sess, blank, with_fids}
 use Rattle.cs_session.specs.Steps.{Step, FindStep, AttachStep, CallStep, CloseStep, Table, after, done, front_by, front_of}
@@ -51,17 +51,17 @@ module _ (f : ℕ → ℕ) where
   judged_moved s None false None = refl
   judged_moved s None false (Some q) = refl
 
-  waits : (s : Sess) → is_some (option_map (moved_awaited f) s.pending) ≡ is_some s.pending
-  waits s = some_by f (moved_awaited f) s.pending
+  waits : (s : Sess) → is_some (option_map (moved_awaited f) s.awaited) ≡ is_some s.awaited
+  waits s = some_by f (moved_awaited f) s.awaited
 
   -- one law for all: the rules, the growth and the question are the same but for places
   shape : (s : Sess) (rules' rules : List Check) → rules' ≡ rules → (refused' refused : Bool) → refused' ≡ refused → (q' q : Option Question) → q' ≡ option_map (moved_question f) q
-      → front_of (moved f s) (decide (first_failing (after_session (is_some (option_map (moved_awaited f) s.pending)) s.msize rules')) refused' q') ≡ moved_front f (front_of s (decide (first_failing (after_session (is_some s.pending) s.msize rules)) refused q))
+      → front_of (moved f s) (decide (first_failing (after_session (is_some (option_map (moved_awaited f) s.awaited)) s.msize rules')) refused' q') ≡ moved_front f (front_of s (decide (first_failing (after_session (is_some s.awaited) s.msize rules)) refused q))
   shape s rules' rules same refused' refused as_much q' q asked =
       (λ i. front_of (moved f s) (decide (first_failing (after_session (waits s i) s.msize (same i))) (as_much i) (asked i)))
-      ∙ judged_moved s (first_failing (after_session (is_some s.pending) s.msize rules)) refused q
+      ∙ judged_moved s (first_failing (after_session (is_some s.awaited) s.msize rules)) refused q
 
-  find_same : (o : Option (List ℕ × List ℕ)) → option_map (λ (name : List ℕ × List ℕ). Find name.0 name.1) o ≡ option_map (moved_question f) (option_map (λ (name : List ℕ × List ℕ). Find name.0 name.1) o)
+  find_same : (o : Option (List ℕ × List ℕ)) → option_map (λ (name : List ℕ × List ℕ). FindRun name.0 name.1) o ≡ option_map (moved_question f) (option_map (λ (name : List ℕ × List ℕ). FindRun name.0 name.1) o)
   find_same None = refl
   find_same (Some name) = refl
 
@@ -91,14 +91,14 @@ module _ (f : ℕ → ℕ) where
       shape s _ _ (λ i. (Q1, unknown f s.fids x.fid i) ∷ []) refused refused refl _ _
       (of_entry f now s.fids (λ y. c.Wstat (record { number = number_of y; user = user_of y; stat = x.stat })) (λ y i. c.Wstat (record { number = number_same f y i; user = user_same f y i; stat = x.stat })) x.fid)
 
-  enter_front : (now : ℕ) (s : Sess) (o : Option Awaited) → front_of (moved f s) (attach_decision now (option_map (moved_awaited f) o)) ≡ moved_front f (front_of s (attach_decision now o))
-  enter_front now s None = refl
-  enter_front now s (Some p) = refl
+  attach_front : (now : ℕ) (s : Sess) (o : Option Awaited) → front_of (moved f s) (attach_decision now (option_map (moved_awaited f) o)) ≡ moved_front f (front_of s (attach_decision now o))
+  attach_front now s None = refl
+  attach_front now s (Some p) = refl
 
   close_front : (now : ℕ) (s : Sess) (fid : ℕ) (refused : Bool) → front_by now (moved f s) (CloseStep fid) refused ≡ moved_front f (front_by now s (CloseStep fid) refused)
   close_front now s fid refused =
       (λ i. front_of (moved f s) (decide (first_failing ((S5, waits s i) ∷ [])) false (of_opened f now s.fids (λ y. c.Close (record { open_number = y.state.open_number; user = y.user })) (λ y. refl) fid i)))
-      ∙ judged_moved s (first_failing ((S5, is_some s.pending) ∷ [])) false (close_question now s.fids fid)
+      ∙ judged_moved s (first_failing ((S5, is_some s.awaited) ∷ [])) false (close_question now s.fids fid)
 
   -- ---- the steps of the table
 
@@ -133,12 +133,12 @@ module _ (f : ℕ → ℕ) where
   table_moved : (s : Sess) (x : TableStep) → table_stepped (moved f s) x ≡ moved_reply f (table_stepped s x)
   table_moved s x =
       ap (λ (b : Bool). cond b (r.Error S5, moved f s) (after_change (moved f s) x)) (waits s)
-      ∙ cond_moved (is_some s.pending) _ _ (r.Error S5, s) (after_change s x) refl (tabled_moved s x)
+      ∙ cond_moved (is_some s.awaited) _ _ (r.Error S5, s) (after_change s x) refl (tabled_moved s x)
 
   -- what a step does first is the same but for the places
   pub front_moved : (now : ℕ) (s : Sess) (x : Step) (refused : Bool) → front_by now (moved f s) x refused ≡ moved_front f (front_by now s x refused)
   front_moved now s (FindStep x) refused = shape s _ _ (attach_rules f s.fids x.fid x.afid x.aname) refused refused refl _ _ (find_same (tree_name_in x.aname))
-  front_moved now s AttachStep refused = enter_front now s s.pending
+  front_moved now s AttachStep refused = attach_front now s s.awaited
   front_moved now s (CallStep x) refused = call_front now s x refused
   front_moved now s (CloseStep fid) refused = close_front now s fid refused
   front_moved now s (Table x) refused = ap done (table_moved s x)
@@ -150,14 +150,14 @@ module _ (f : ℕ → ℕ) where
   rooted_moved fids fid run (Some user) pass (a.Attached qid) = λ i. (r.Attach qid, sym (insert_moved f fids fid (entry.Walked (walked_fid run pass 0 user))) i)
   rooted_moved fids fid run user pass answer = refl
 
-  enter_moved : (s : Sess) (o : Option Awaited) (told : PortAnswer) → attach_after (moved f s) (option_map (moved_awaited f) o) (moved_told f told) ≡ moved_reply f (attach_after s o told)
-  enter_moved s None told = refl
-  enter_moved s (Some p) (Entered (Ok x)) =
-      λ i. (let y = rooted_moved s.fids p.fid p.run (user_in p.call.user) x.0 x.1 i in (y.0, record { msize = s.msize; pending = None; fids = y.1 }))
-  enter_moved s (Some p) (Entered (Err fault)) = refl
-  enter_moved s (Some p) (Found (Ok place)) = refl
-  enter_moved s (Some p) (Found (Err fault)) = refl
-  enter_moved s (Some p) (Got answer) = refl
+  attach_moved : (s : Sess) (o : Option Awaited) (told : PortAnswer) → attach_after (moved f s) (option_map (moved_awaited f) o) (moved_told f told) ≡ moved_reply f (attach_after s o told)
+  attach_moved s None told = refl
+  attach_moved s (Some p) (AttachAnswer (Ok x)) =
+      λ i. (let y = rooted_moved s.fids p.fid p.run (user_in p.call.user) x.0 x.1 i in (y.0, record { msize = s.msize; awaited = None; fids = y.1 }))
+  attach_moved s (Some p) (AttachAnswer (Err fault)) = refl
+  attach_moved s (Some p) (FindAnswer (Ok place)) = refl
+  attach_moved s (Some p) (FindAnswer (Err fault)) = refl
+  attach_moved s (Some p) (CallAnswer answer) = refl
 
   walk_by : (fids : FidMap) (newfid : ℕ) (o : Option (FidOf Walked)) (way : Way) (stopped : Bool) → is_some way.stopped ≡ stopped → walk_left (moved_fids f fids) newfid (option_map (moved_fid f) o) way ≡ moved_fids f (walk_left fids newfid o way)
   walk_by fids newfid None way stopped is = refl
@@ -204,20 +204,20 @@ module _ (f : ℕ → ℕ) where
 
   -- what comes of what it is told is the same but for the places
   pub after_moved : (s : Sess) (x : Step) (told : PortAnswer) → after (moved f s) x (moved_told f told) ≡ moved_reply f (after s x told)
-  after_moved s (FindStep x) (Found (Ok place)) = refl
-  after_moved s (FindStep x) (Found (Err fault)) = refl
-  after_moved s (FindStep x) (Entered e) = refl
-  after_moved s (FindStep x) (Got answer) = refl
-  after_moved s AttachStep told = enter_moved s s.pending told
-  after_moved s (CallStep x) (Got answer) = λ i. (let y = call_moved s.fids x answer i in (y.0, record { msize = s.msize; pending = option_map (moved_awaited f) s.pending; fids = y.1 }))
-  after_moved s (CallStep x) (Found (Ok place)) = refl
-  after_moved s (CallStep x) (Found (Err fault)) = refl
-  after_moved s (CallStep x) (Entered e) = refl
-  after_moved s (CloseStep fid) (Got answer) = λ i. (close_reply answer, record { msize = s.msize; pending = option_map (moved_awaited f) s.pending; fids = sym (remove_moved f s.fids fid) i })
-  after_moved s (CloseStep fid) (Found (Ok place)) = refl
-  after_moved s (CloseStep fid) (Found (Err fault)) = refl
-  after_moved s (CloseStep fid) (Entered e) = refl
-  after_moved s (Table x) (Found (Ok place)) = refl
-  after_moved s (Table x) (Found (Err fault)) = refl
-  after_moved s (Table x) (Entered e) = refl
-  after_moved s (Table x) (Got answer) = refl
+  after_moved s (FindStep x) (FindAnswer (Ok place)) = refl
+  after_moved s (FindStep x) (FindAnswer (Err fault)) = refl
+  after_moved s (FindStep x) (AttachAnswer e) = refl
+  after_moved s (FindStep x) (CallAnswer answer) = refl
+  after_moved s AttachStep told = attach_moved s s.awaited told
+  after_moved s (CallStep x) (CallAnswer answer) = λ i. (let y = call_moved s.fids x answer i in (y.0, record { msize = s.msize; awaited = option_map (moved_awaited f) s.awaited; fids = y.1 }))
+  after_moved s (CallStep x) (FindAnswer (Ok place)) = refl
+  after_moved s (CallStep x) (FindAnswer (Err fault)) = refl
+  after_moved s (CallStep x) (AttachAnswer e) = refl
+  after_moved s (CloseStep fid) (CallAnswer answer) = λ i. (close_reply answer, record { msize = s.msize; awaited = option_map (moved_awaited f) s.awaited; fids = sym (remove_moved f s.fids fid) i })
+  after_moved s (CloseStep fid) (FindAnswer (Ok place)) = refl
+  after_moved s (CloseStep fid) (FindAnswer (Err fault)) = refl
+  after_moved s (CloseStep fid) (AttachAnswer e) = refl
+  after_moved s (Table x) (FindAnswer (Ok place)) = refl
+  after_moved s (Table x) (FindAnswer (Err fault)) = refl
+  after_moved s (Table x) (AttachAnswer e) = refl
+  after_moved s (Table x) (CallAnswer answer) = refl

@@ -84,8 +84,8 @@ module _ (r : RunOf) (ps : List PassOf) (all : AreOf r ps) (n : ℕ) (p : PassOf
 -- ---- an attach
 
 module _ (r : RunOf) (ps : List PassOf) (all : AreOf r ps) (r1 : RunOf) (p : PassOf) (new : r1 ≡ with_pass r) (made : p ≡ fresh_pass r.passes) (now : ℕ) (c : AttachCall) (answer : Answer) (r' : RunOf) (p' : PassOf) (t : Stepping r1 p now (call.Attach c) answer r' p') where
-  pub enters : length ps < RUN_ATTACHES → (number : ℕ) → number ≡ p.number → (mark : RunMark) × (◌≡◌ (Ok (number, answer), r') (attached r now c mark))
-  enters few number is =
+  pub attaches : length ps < RUN_ATTACHES → (number : ℕ) → number ≡ p.number → (mark : RunMark) × (◌≡◌ (Ok (number, answer), r') (attached r now c mark))
+  attaches few number is =
       let count : length ps ≡ r.passes = all.all in
       let room : nat_le RUN_ATTACHES r.passes ≡ false = grind (arith, nat_tests) in
       let own : p.number ≡ r.passes = ap (λ (x : PassOf). x.number) made in

@@ -51,13 +51,13 @@ use Rattle.cs_session.specs.Reads.{read_question, write_question}
 use Rattle.cs_session.specs.Decisions.{decide, opened_at, walked_at}
 use Rattle.cs_session.specs.Names.{file_in, user_in}
 use Rattle.cs_session.specs.Opens.{create_named, create_question, open_question}
-use Rattle.cs_session.specs.Questions.{Question, Enter, Ask, PortAnswer, Entered, Got}
+use Rattle.cs_session.specs.Questions.{Question, AttachTo, CallOn, PortAnswer, AttachAnswer, CallAnswer}
 use Rattle.cs_session.specs.Sessions.{Awaited, Sess, entry_at}
 use Rattle.cs_session.specs.Steps.{Step as Taken, FindStep, AttachStep, CallStep, CloseStep, Table, after, front_by, front_of}
 use Rattle.cs_session.specs.TableSteps.{clunk_reply, table_stepped, after_change}
 use Rattle.cs_session.specs.Walks.{walk_question}
 use Rattle.cs_world.specs.declared.reply.Reply.{Reply}
-use Rattle.cs_world.specs.declared.reply.Reply.TheVariants.{Connection, Published, Unpublished as Refused}
+use Rattle.cs_world.specs.declared.reply.Reply.TheVariants.{Connection, Published, NotPublished as Refused}
 use Rattle.cs_world.specs.declared.reply.StateFault.TheVariants as state
 use Rattle.cs_world.specs.declared.step.Step.{Step}
 use Rattle.cs_world.specs.declared.step.Step.TheVariants as s
@@ -108,12 +108,12 @@ module _ (w : World) (conn : ℕ) where
   Asked x q = Suffices x (answered w.registry q (InRun Ample)).0
 
   -- a call
-  module _ (x : Taken) (now place number : ℕ) (call : Call) (denied : (rule : RuleId) → Suffices x (Got (a.Denied rule))) (granted : (st : RulesView) (turn : Turn) → Suffices x (Got (effect_of st turn call).answer)) where
-    asks_by : (o : Option RunOf) → Suffices x (option_map_or {T = RunOf} {U = PortAnswer × Registry RunOf} (λ run. call_answer w.registry place (called run now number call Ample)) o (Got (a.Denied S5), w.registry)).0
+  module _ (x : Taken) (now place number : ℕ) (call : Call) (denied : (rule : RuleId) → Suffices x (CallAnswer (a.Denied rule))) (granted : (st : RulesView) (turn : Turn) → Suffices x (CallAnswer (effect_of st turn call).answer)) where
+    asks_by : (o : Option RunOf) → Suffices x (option_map_or {T = RunOf} {U = PortAnswer × Registry RunOf} (λ run. call_answer w.registry place (called run now number call Ample)) o (CallAnswer (a.Denied S5), w.registry)).0
     asks_by None = denied S5
-    asks_by (Some run) = call_answers run now number call (λ (answer : Answer). Suffices x (Got answer)) denied granted
+    asks_by (Some run) = call_answers run now number call (λ (answer : Answer). Suffices x (CallAnswer answer)) denied granted
 
-    asks : Asked x (Ask now place number call)
+    asks : Asked x (CallOn now place number call)
     asks = asks_by (held_at w.registry.runs place)
 
   -- a question made of what an option holds
@@ -154,25 +154,25 @@ module _ (w : World) (conn : ℕ) where
   -- ---- an attach
 
   module _ (p : Awaited) (now : ℕ) where
-    abbrev IsEntered : Result (ℕ × Answer) PassFault → Type 0
-    IsEntered told = session_tells_want (attach_after here (Some p) (Entered told)).0 ≡ false
+    abbrev IsAttachAnswer : Result (ℕ × Answer) PassFault → Type 0
+    IsAttachAnswer told = session_tells_want (attach_after here (Some p) (AttachAnswer told)).0 ≡ false
 
     rooted_by : (user : Option (List ℕ)) (number : ℕ) (qid : _) → session_tells_want (attach_settled here.fids p.fid p.run user number (a.Attached qid)).0 ≡ false
     rooted_by None number qid = refl
     rooted_by (Some user) number qid = refl
 
-    attached_by : (run : RunOf) (full : Bool) → nat_le RUN_ATTACHES run.passes ≡ full → IsEntered (attached run now p.call (InRun Ample)).0
+    attached_by : (run : RunOf) (full : Bool) → nat_le RUN_ATTACHES run.passes ≡ full → IsAttachAnswer (attached run now p.call (InRun Ample)).0
     attached_by run true e = rw e refl
-    attached_by run false e = rw e (run_answers (with_pass run) now run.passes (c.Attach p.call) (λ (answer : Answer). IsEntered (Ok (run.passes, answer))) (λ rule. refl) (λ st turn. rooted_by (user_in p.call.user) run.passes _))
+    attached_by run false e = rw e (run_answers (with_pass run) now run.passes (c.Attach p.call) (λ (answer : Answer). IsAttachAnswer (Ok (run.passes, answer))) (λ rule. refl) (λ st turn. rooted_by (user_in p.call.user) run.passes _))
 
-    entered_by : (o : Option RunOf) → session_tells_want (attach_after here (Some p) (option_map_or {T = RunOf} {U = PortAnswer × Registry RunOf} (λ run. attach_answer w.registry p.run (attached run now p.call (InRun Ample))) o (Entered (Err pass.Foreign), w.registry)).0).0 ≡ false
-    entered_by None = refl
-    entered_by (Some run) = attached_by run (nat_le RUN_ATTACHES run.passes) refl
+    attach_answer_by : (o : Option RunOf) → session_tells_want (attach_after here (Some p) (option_map_or {T = RunOf} {U = PortAnswer × Registry RunOf} (λ run. attach_answer w.registry p.run (attached run now p.call (InRun Ample))) o (AttachAnswer (Err pass.Foreign), w.registry)).0).0 ≡ false
+    attach_answer_by None = refl
+    attach_answer_by (Some run) = attached_by run (nat_le RUN_ATTACHES run.passes) refl
 
-  attach_goes : (now : ℕ) (o : Option Awaited) → here.pending ≡ o → Goes AttachStep (attach_decision now here.pending)
+  attach_goes : (now : ℕ) (o : Option Awaited) → here.awaited ≡ o → Goes AttachStep (attach_decision now here.awaited)
   attach_goes now None is = rw is refl
   attach_goes now (Some p) is =
-      let its : session_tells_want (attach_after here here.pending (answered w.registry (Enter now p.run p.call) (InRun Ample)).0).0 ≡ false = rw is (entered_by p now (held_at w.registry.runs p.run)) in
+      let its : session_tells_want (attach_after here here.awaited (answered w.registry (AttachTo now p.run p.call) (InRun Ample)).0).0 ≡ false = rw is (attach_answer_by p now (held_at w.registry.runs p.run)) in
       rw is its
 
   -- ---- a call's step
@@ -182,7 +182,7 @@ module _ (w : World) (conn : ℕ) where
   create_asked now x None q e = absurd (cc)
   create_asked now x (Some name) q e = made_of (CallStep (m.Create x)) _ (walked_at here.fids x.fid) q e (λ f. asks (CallStep (m.Create x)) now f.run f.pass _ (λ rule. refl) (λ st turn. refl))
 
-  stat_tells : (fid : ℕ) (o : Option _) → Suffices (CallStep (m.Stat fid)) (Got (option_map_or a.Stat o (a.Denied H2)))
+  stat_tells : (fid : ℕ) (o : Option _) → Suffices (CallStep (m.Stat fid)) (CallAnswer (option_map_or a.Stat o (a.Denied H2)))
   stat_tells fid None = refl
   stat_tells fid (Some stat) = refl
 
@@ -220,7 +220,7 @@ module _ (w : World) (conn : ℕ) where
   tabled_by t.HangUp b e true g = rw g refl
   tabled_by t.HangUp b e false g = rw g refl
 
-  table_by : (x : TableStep) (b : Bool) → is_some here.pending ≡ b → session_tells_want (table_stepped here x).0 ≡ false
+  table_by : (x : TableStep) (b : Bool) → is_some here.awaited ≡ b → session_tells_want (table_stepped here x).0 ≡ false
   table_by x true e = rw e refl
   table_by x false e = rw e (tabled_by x (is_none here.msize) refl (is_some (least_open here.fids)) refl)
 
@@ -228,10 +228,10 @@ module _ (w : World) (conn : ℕ) where
 
   on_goes : AllGiven → (now : ℕ) (x : Taken) → tells_want (from_front w conn x (InRun Ample) (front_by now here x false)).0 ≡ false
   on_goes given now (FindStep x) = goes (FindStep x) _ (find_question x) (λ p e. made_of (FindStep x) _ (tree_name_in x.aname) p e (λ (name : List ℕ × List ℕ). find_asked given x (key_in name.0 name.1)))
-  on_goes given now AttachStep = attach_goes now here.pending refl
+  on_goes given now AttachStep = attach_goes now here.awaited refl
   on_goes given now (CallStep x) = call_goes now x
   on_goes given now (CloseStep fid) = close_goes now fid
-  on_goes given now (Table x) = table_by x (is_some here.pending) refl
+  on_goes given now (Table x) = table_by x (is_some here.awaited) refl
 
   on_by : AllGiven → (now : ℕ) (x : Taken) (b : Bool) → tells_want (cond {A = Reply × World} b (from_front w conn x (InRun Ample) (front_by now here x false)) (Connection (r.Error S5), w)).0 ≡ false
   on_by given now x true = on_goes given now x

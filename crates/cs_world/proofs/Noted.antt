@@ -31,7 +31,7 @@ module _ (w : World) (old : WatchedRuns) (runs : old.runs ≡ w.registry) (conn 
     pub noted : new.is_short ≡ false → (old.is_short ≡ false)
         × (new.calls.items ≡ old.calls.items ++ calls_of (Puts mark))
 
-  by_front : (f : Front) (mark : c.TableMark) → front now (connection w conn) x mark ≡ f → Goes IsWatched f (connection w conn) old x reply s' new → IsNoted
+  by_front : (f : Front) (mark : c.OwnMark) → front now (connection w conn) x mark ≡ f → Goes IsWatched f (connection w conn) old x reply s' new → IsNoted
   by_front (Done said t) mark e (a, b, d) = record {
     mark = mark_of mark;
     steps = rw (inside, same_table mark, e) (λ i. (Connection (a i), with_both w conn (b i) ((ap (λ (y : WatchedRuns). y.runs) d ∙ runs) i)));
@@ -39,7 +39,7 @@ module _ (w : World) (old : WatchedRuns) (runs : old.runs ≡ w.registry) (conn 
     noted = λ ample. (ap (λ (y : WatchedRuns). y.is_short) (sym d) ∙ ample, rw (inside, same_table mark, e) (ap (λ (y : WatchedRuns). y.calls.items) d ∙ sym (append-nil old.calls.items)));
   }
   by_front (Asks q) mark e (answer, its, goes) =
-      let asks = still now (connection w conn) x (c.refuses_table mark) q e in
+      let asks = still now (connection w conn) x (c.refuses_own mark) q e in
       record {
         mark = Below its.mark;
         steps = rw (inside, asks, ← runs) (ap (replied w conn new.runs) goes ∙ ap (continued_from w conn x) its.answers);

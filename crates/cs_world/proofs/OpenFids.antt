@@ -5,6 +5,8 @@ use Rattle.std.specs.FinMap.{get}
 use Rattle.std.specs.Option.{option_map}
 use Rattle.std.proofs.lemmas.Bool.{eqb-true, eqb-false}
 use Rattle.std.proofs.lemmas.Bool.Decides.{nat_tests}
+use Rattle.std.proofs.lemmas.List.{get_or-set_other, get_or-set_same}
+use Rattle.std.proofs.lemmas.Option.{slice_get_within}
 use Rattle.cs_fids.specs.declared.entry.Entry.{Entry}
 use Rattle.cs_fids.specs.declared.entry.Entry.TheVariants as entry
 use Rattle.cs_fids.specs.declared.fid.Opened.{Opened}
@@ -26,7 +28,7 @@ use Rattle.cs_run.specs.Opens.{open_numbered}
 use Rattle.cs_session.specs.declared.message.AttachMessage.{AttachMessage}
 use Rattle.cs_session.specs.Attaches.{attach_after, attach_settled, find_after}
 use Rattle.cs_session.specs.Names.{user_in}
-use Rattle.cs_session.specs.Questions.{Question, Find, Enter, Ask, PortAnswer, Entered, Got}
+use Rattle.cs_session.specs.Questions.{Question, FindRun, AttachTo, CallOn, PortAnswer, AttachAnswer, CallAnswer}
 use Rattle.cs_session.specs.Questions as q
 use Rattle.cs_session.specs.Sessions.{Awaited, Sess, blank, entry_at}
 use Rattle.cs_world.specs.Asking.{answered, with_run_at}
@@ -37,7 +39,6 @@ use Rattle.cs_world.specs.Runs.{attached, run_step}
 use Rattle.cs_world.specs.Worlds.{World, connection, with_both}
 use Rattle.cs_world.proofs.Judging.{judged}
 use Rattle.cs_world.proofs.Opens as o
-use Rattle.cs_world.proofs.Placing.{index_set_other, index_set_same}
 use Rattle.cs_world.proofs.Reached.{keeps, put_other, put_same}
 use Rattle.cs_world.proofs.Standing.{given, held_there}
 use Rattle.cs_world.proofs.Tables.{IsAsked, Source, Kept, Walks, Opens, Reads, inserted}
@@ -71,11 +72,11 @@ module _ (w : World) (ok : OpensStand w) (conn : ℕ) (inside : conn < length w.
   whence_by : (c : ℕ) (b : Bool) → (c == conn) ≡ b → (fid : ℕ) (f : FidOf Opened) → entry_at (connection next c) fid ≡ Some (entry.Opened f) → Was w conn freed c fid f ⊎ Made w conn at r' c fid f
   whence_by c true is fid f there =
       let same : c ≡ conn = eqb-true c conn is in
-      let now : connection next c ≡ s' = ap (connection next) same ∙ index_set_same w.connections conn s' (blank None) inside in
+      let now : connection next c ≡ s' = ap (connection next) same ∙ get_or-set_same w.connections conn s' (blank None) inside in
       subst (λ n. Was w conn freed n fid f ⊎ Made w conn at r' n fid f) (sym same) (k.source fid f (ap (λ s. entry_at s fid) (sym now) ∙ there))
   whence_by c false is fid f there =
       let other : c ≢ conn = eqb-false c conn is in
-      let now : connection next c ≡ connection w c = index_set_other w.connections conn c s' (blank None) other in
+      let now : connection next c ≡ connection w c = get_or-set_other w.connections conn c s' (blank None) other in
       inl (record { from = f; was = ap (λ s. entry_at s fid) (sym now) ∙ there; run = refl; pass = refl; number = refl; keeps = λ same. absurd (other same) })
 
   whence : (c fid : ℕ) (f : FidOf Opened) → entry_at (connection next c) fid ≡ Some (entry.Opened f) → Was w conn freed c fid f ⊎ Made w conn at r' c fid f
@@ -107,16 +108,16 @@ module _ (w : World) (ok : OpensStand w) (conn : ℕ) (s' : Sess) (r' : Registry
   }
 
 -- a find keeps all opens
-module _ (registry : Registry RunOf) (state name : List ℕ) (mark : RunMark) (place pass number : ℕ) where
-  pub find_has : HasOpen registry place pass number → HasOpen (answered registry (Find state name) mark).1 place pass number
+module _ (registry : Registry RunOf) (state_name run_name : List ℕ) (mark : RunMark) (place pass number : ℕ) where
+  pub find_has : HasOpen registry place pass number → HasOpen (answered registry (FindRun state_name run_name) mark).1 place pass number
   find_has h =
       let its = stands_at h in
-      let same : held_at (answered registry (Find state name) mark).1.runs place ≡ held_at registry.runs place = keeps registry (Find state name) mark place (λ e. cc) its in
+      let same : held_at (answered registry (FindRun state_name run_name) mark).1.runs place ≡ held_at registry.runs place = keeps registry (FindRun state_name run_name) mark place (λ e. cc) its in
       rw same h
     where
       stands_by : (o : Option (Key × Found RunOf)) → slice_get registry.runs place ≡ o → IsSomeAnd (option_map (λ (run : Key × Found RunOf). run.1.held) o) (λ run. IsSome (open_numbered number pass (state_of run).opens)) → place < length registry.runs
       stands_by None is h = absurd h
-      stands_by (Some e) is h = o.within registry.runs place e is
+      stands_by (Some e) is h = slice_get_within registry.runs place e is
 
       stands_at : HasOpen registry place pass number → place < length registry.runs
       stands_at h = stands_by (slice_get registry.runs place) refl h
@@ -136,24 +137,24 @@ module _ (registry : Registry RunOf) (n : ℕ) (run run' : RunOf) (there : held_
 
 -- ---- an attach
 
-entered_open : (fids : FidMap) (fid run : ℕ) (user : Option (List ℕ)) (pass : ℕ) (answer : Answer) (k : ℕ) (f : FidOf Opened) → get (attach_settled fids fid run user pass answer).1 k ≡ Some (entry.Opened f) → get fids k ≡ Some (entry.Opened f)
-entered_open fids fid run None pass (a.Attached qid) k f there = there
-entered_open fids fid run (Some user) pass (a.Attached qid) k f there =
+settled_open : (fids : FidMap) (fid run : ℕ) (user : Option (List ℕ)) (pass : ℕ) (answer : Answer) (k : ℕ) (f : FidOf Opened) → get (attach_settled fids fid run user pass answer).1 k ≡ Some (entry.Opened f) → get fids k ≡ Some (entry.Opened f)
+settled_open fids fid run None pass (a.Attached qid) k f there = there
+settled_open fids fid run (Some user) pass (a.Attached qid) k f there =
     elim (inserted fids fid k (entry.Walked (walked_fid run pass 0 user)) (entry.Opened f) there) [
       | inl new ↦ absurd (let is = new.1 in cc)
       | inr old ↦ old
     ]
-entered_open fids fid run user pass answer k f there = there
+settled_open fids fid run user pass answer k f there = there
 
 pub attached_open : (s : Sess) (p : Option Awaited) (told : PortAnswer) (k : ℕ) (f : FidOf Opened) → entry_at (attach_after s p told).1 k ≡ Some (entry.Opened f) → entry_at s k ≡ Some (entry.Opened f)
 attached_open s None told k f there = there
-attached_open s (Some p) (Entered (Ok pass)) k f there = entered_open s.fids p.fid p.run (user_in p.call.user) pass.0 pass.1 k f there
-attached_open s (Some p) (Entered (Err fault)) k f there = there
+attached_open s (Some p) (AttachAnswer (Ok pass)) k f there = settled_open s.fids p.fid p.run (user_in p.call.user) pass.0 pass.1 k f there
+attached_open s (Some p) (AttachAnswer (Err fault)) k f there = there
 attached_open s (Some p) told k f there = there
 
 pub found_open : (s : Sess) (x : AttachMessage) (told : PortAnswer) (k : ℕ) (f : FidOf Opened) → entry_at (find_after s x told).1 k ≡ Some (entry.Opened f) → entry_at s k ≡ Some (entry.Opened f)
-found_open s x (q.Found (Ok run)) k f there = there
-found_open s x (q.Found (Err fault)) k f there = there
+found_open s x (q.FindAnswer (Ok run)) k f there = there
+found_open s x (q.FindAnswer (Err fault)) k f there = there
 found_open s x told k f there = there
 
 module _ (registry : Registry RunOf) (now n : ℕ) (attach : _) (mark : RunMark) (place pass number : ℕ) where
@@ -164,11 +165,11 @@ module _ (registry : Registry RunOf) (now n : ℕ) (attach : _) (mark : RunMark)
       let ended = run_step (with_pass run) now run.passes (call.Attach attach) (in_run mark) in
       rw (f, e) (o.stays (with_pass run) now run.passes (call.Attach attach) ended.0 ended.1 (judged (with_pass run) now run.passes (call.Attach attach) (in_run mark)) number pass (λ none. cc) h)
 
-  attach_by : (x : Option RunOf) → held_at registry.runs n ≡ x → HasOpen registry place pass number → HasOpen (answered registry (Enter now n attach) mark).1 place pass number
+  attach_by : (x : Option RunOf) → held_at registry.runs n ≡ x → HasOpen registry place pass number → HasOpen (answered registry (AttachTo now n attach) mark).1 place pass number
   attach_by None is h = rw is h
   attach_by (Some run) is h = rw is (put_has registry n run (attached run now attach mark).1 is place pass number (λ same stood. attach_stays run _ _ refl refl stood) h)
 
-  pub attach_has : HasOpen registry place pass number → HasOpen (answered registry (Enter now n attach) mark).1 place pass number
+  pub attach_has : HasOpen registry place pass number → HasOpen (answered registry (AttachTo now n attach) mark).1 place pass number
   attach_has h = attach_by (held_at registry.runs n) refl h
 
 -- ---- a call
@@ -231,8 +232,8 @@ module _ (w : World) (there : HasAllThatIsNamed w) (ok : OpensStand w) (conn now
 
   -- what the answer leads to
   pub called_keeps : (after : Answer → Sess) → ((answer : Answer) (fid : ℕ) (e : Entry) → entry_at (after answer) fid ≡ Some e → Source (connection w conn).fids at answer fid e) → ((answer : Answer) (fid : ℕ) (e : Entry) → entry_at (after answer) fid ≡ Some e → freed ≡ Some fid → ⊥)
-      → (told_after : PortAnswer → Sess) → ((answer : Answer) → told_after (Got answer) ≡ after answer)
-      → KeepsOpens w conn at freed (told_after (answered w.registry (Ask now (run_of its.held) (pass_of its.held) its.call) mark).0) (answered w.registry (Ask now (run_of its.held) (pass_of its.held) its.call) mark).1
+      → (told_after : PortAnswer → Sess) → ((answer : Answer) → told_after (CallAnswer answer) ≡ after answer)
+      → KeepsOpens w conn at freed (told_after (answered w.registry (CallOn now (run_of its.held) (pass_of its.held) its.call) mark).0) (answered w.registry (CallOn now (run_of its.held) (pass_of its.held) its.call) mark).1
   called_keeps after sources free told_after is =
       let g = given w.registry (run_of its.held) (pass_of its.held) (there.fids conn at its.held its.there) in
       let run : RunOf = g.run.held in

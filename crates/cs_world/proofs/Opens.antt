@@ -7,7 +7,7 @@ use Rattle.std.proofs.lemmas.Bool.{eq-eqb}
 use Rattle.std.proofs.lemmas.Bool.Decides.{nat_tests}
 use Rattle.std.proofs.lemmas.List.Quantifiers.{position-Some}
 use Rattle.std.proofs.lemmas.List.Sums.{fails_before_first}
-use Rattle.std.proofs.lemmas.Option.{slice_get-get_or, get_or_from_slice_get}
+use Rattle.std.proofs.lemmas.Option.{slice_get-get_or, slice_get_within, get_or_from_slice_get}
 use Rattle.cs_journal.specs.Journals.{rules_view_of, start, turn_in}
 use Rattle.cs_journal.specs.Runs.{RunOf, state_of}
 use Rattle.cs_journal.proofs.Journals.{below-replay}
@@ -38,16 +38,11 @@ none = record { number = 0; file = 0; mode = 0; pass = 0 }
 
 -- ---- an open at a place
 
-pub within : {A : Type 0} (xs : List A) (k : ℕ) (x : A) → slice_get xs k ≡ Some x → k < length xs
-within [] k x there = absurd (cc)
-within (y ∷ xs) zero x there = omega arith
-within (y ∷ xs) (suc k) x there = let low = within xs k x there in omega (arith, low)
-
 module _ {A : Type 0} (P : A → Bool) (xs : List A) (k : ℕ) (x : A) (there : slice_get xs k ≡ Some x) where
   fails_by : (b : Bool) → nat_lt (position_or_len P xs) (length xs) ≡ b → cond {A = Option ℕ} b (Some (position_or_len P xs)) None ≡ None → P x ≡ false
   fails_by true e is = absurd (cc)
   fails_by false e is =
-      let low : k < length xs = within xs k x there in
+      let low : k < length xs = slice_get_within xs k x there in
       let first : length xs ≤ position_or_len P xs = grind (arith, nat_tests) in
       let fails : P (get_or xs k x) ≡ false = fails_before_first P xs k x (omega arith) in
       ap P (sym (get_or_from_slice_get xs k x x there)) ∙ fails
@@ -140,9 +135,9 @@ module _ (run : RunOf) (now own : ℕ) (asked : Call) (answer : Answer) (run' : 
   pub stays : CallComesTo run now own asked answer run' → (number pass : ℕ) → (closes asked ≡ Some number → ⊥) → IsSome (open_numbered number pass (state_of run).opens) → IsSome (open_numbered number pass (state_of run').opens)
   stays (Full f is same) number pass differs h = subst (λ r. IsSome (open_numbered number pass (state_of r).opens)) (sym same) h
   stays (ShortBefore f none is same) number pass differs h = subst (λ r. IsSome (open_numbered number pass (state_of r).opens)) (sym same) h
-  stays (Denied rule f fails m) number pass differs h = rw m.opens (applied_stands (rules_view_of (state_of run)) (turn_in (state_of run) own now) asked number pass differs h (o.Denied rule))
-  stays (Short f fails takes m) number pass differs h = rw m.opens (applied_stands (rules_view_of (state_of run)) (turn_in (state_of run) own now) asked number pass differs h o.Short)
-  stays (Granted f fails m) number pass differs h = rw m.opens (applied_stands (rules_view_of (state_of run)) (turn_in (state_of run) own now) asked number pass differs h o.Granted)
+  stays (Denied rule f fails m) number pass differs h = rw m.state (applied_stands (rules_view_of (state_of run)) (turn_in (state_of run) own now) asked number pass differs h (o.Denied rule))
+  stays (Short f fails takes m) number pass differs h = rw m.state (applied_stands (rules_view_of (state_of run)) (turn_in (state_of run) own now) asked number pass differs h o.Short)
+  stays (Granted f fails m) number pass differs h = rw m.state (applied_stands (rules_view_of (state_of run)) (turn_in (state_of run) own now) asked number pass differs h o.Granted)
 
 -- ---- a new open
 
@@ -154,7 +149,7 @@ pub below : (run : RunOf) (number pass : ℕ) → IsSome (open_numbered number p
 below run number pass h =
     let its = at number pass (state_of run).opens h in
     let all = below-replay (start run.fresh run.users) run.journal nothing_below in
-    let low : its.place < length (state_of run).opens = within (state_of run).opens its.place its.open_file its.there in
+    let low : its.place < length (state_of run).opens = slice_get_within (state_of run).opens its.place its.open_file its.there in
     let less : (get_or (state_of run).opens its.place none).number < (state_of run).entries = all its.place none low in
     let same : get_or (state_of run).opens its.place none ≡ its.open_file = get_or_from_slice_get (state_of run).opens its.place its.open_file none its.there in
     let number_is : its.open_file.number ≡ number = its_number number pass its.open_file its.is in
@@ -194,4 +189,4 @@ module _ (run : RunOf) (now own : ℕ) (asked : Call) (answer : Answer) (run' : 
       let its = opened_by s w asked qid n number (sym m.answer_is ∙ told) in
       let made = one_more s w asked its.0 in
       let there : slice_get (s.opens ++ made.one ∷ []) (length s.opens) ≡ Some made.one = get_end s.opens made.one in
-      (its.1, rw (m.opens, made.more) (finds n own (s.opens ++ made.one ∷ []) (record { place = length s.opens; open_file = made.one; there = there; is = is_its made.one n own (made.number ∙ sym its.1) made.pass })))
+      (its.1, rw (m.state, made.more) (finds n own (s.opens ++ made.one ∷ []) (record { place = length s.opens; open_file = made.one; there = there; is = is_its made.one n own (made.number ∙ sym its.1) made.pass })))

@@ -1,5 +1,6 @@
 -- Places of a list of which one changes, or one more comes.
-use Rattle.std.proofs.Common.{◌≡◌, ◌≢◌, ℕ, zero, suc, ◌<◌, List, [], ◌∷◌, ◌++◌, length, Some, refl, ap, arith, ◌⊎◌, inl, inr}
+use Rattle.std.proofs.Common.{◌≡◌, ◌≢◌, ◌∙◌, ℕ, zero, suc, ◌<◌, List, [], ◌∷◌, ◌++◌, length, Some, refl, ap, arith, ◌⊎◌, inl, inr}
+use Rattle.std.proofs.lemmas.Option.{slice_get_within}
 use Rattle.std.specs.Prelude.{replicate, slice_get, slice_index_or, slice_set}
 
 -- what was at another place, or the new one at its own
@@ -25,18 +26,6 @@ get_pushed (a ∷ xs) (suc k) x y there =
       | inr other ↦ inr (λ e. other.0 (omega arith), other.1)
     ]
 
-pub index_set_other : {A : Type 0} (xs : List A) (n k : ℕ) (x d : A) → k ≢ n → slice_index_or (slice_set xs n x) k d ≡ slice_index_or xs k d
-index_set_other [] n k x d other = refl
-index_set_other (a ∷ xs) zero zero x d other = absurd (other refl)
-index_set_other (a ∷ xs) zero (suc k) x d other = refl
-index_set_other (a ∷ xs) (suc n) zero x d other = refl
-index_set_other (a ∷ xs) (suc n) (suc k) x d other = index_set_other xs n k x d (λ e. other (ap suc e))
-
-pub index_set_same : {A : Type 0} (xs : List A) (n : ℕ) (x d : A) → n < length xs → slice_index_or (slice_set xs n x) n d ≡ x
-index_set_same [] n x d inside = absurd (omega arith)
-index_set_same (a ∷ xs) zero x d inside = refl
-index_set_same (a ∷ xs) (suc n) x d inside = index_set_same xs n x d (omega arith)
-
 -- of a list of one value that value is everywhere, and past it too
 pub index_replicate : {A : Type 0} (n k : ℕ) (x : A) → slice_index_or (replicate n x) k x ≡ x
 index_replicate zero k x = refl
@@ -53,16 +42,14 @@ get_within [] n inside = absurd (omega arith)
 get_within (a ∷ xs) zero inside = (a, refl)
 get_within (a ∷ xs) (suc n) inside = get_within xs n (omega arith)
 
--- what stood stands when others come behind
-pub get_kept : {A : Type 0} (xs ys : List A) (k : ℕ) (y : A) → slice_get xs k ≡ Some y → slice_get (xs ++ ys) k ≡ Some y
-get_kept [] ys k y there = absurd (cc)
-get_kept (x ∷ xs) ys zero y there = there
-get_kept (x ∷ xs) ys (suc k) y there = get_kept xs ys k y there
-
 pub get_below : {A : Type 0} (xs ys : List A) (k : ℕ) → k < length xs → slice_get (xs ++ ys) k ≡ slice_get xs k
 get_below [] ys k inside = absurd (omega arith)
 get_below (x ∷ xs) ys zero inside = refl
 get_below (x ∷ xs) ys (suc k) inside = get_below xs ys k (omega arith)
+
+-- what stood stands when others come behind
+pub get_kept : {A : Type 0} (xs ys : List A) (k : ℕ) (y : A) → slice_get xs k ≡ Some y → slice_get (xs ++ ys) k ≡ Some y
+get_kept xs ys k y there = get_below xs ys k (slice_get_within xs k y there) ∙ there
 
 pub get_end : {A : Type 0} (xs : List A) (x : A) → slice_get (xs ++ x ∷ []) (length xs) ≡ Some x
 get_end [] x = refl
@@ -72,8 +59,3 @@ pub set_again : {A : Type 0} (xs : List A) (n : ℕ) (x y : A) → slice_set (sl
 set_again [] n x y = refl
 set_again (a ∷ xs) zero x y = refl
 set_again (a ∷ xs) (suc n) x y = ap (λ (rest : List _). a ∷ rest) (set_again xs n x y)
-
-pub set_own : {A : Type 0} (xs : List A) (n : ℕ) (d : A) → n < length xs → slice_set xs n (slice_index_or xs n d) ≡ xs
-set_own [] n d inside = absurd (omega arith)
-set_own (a ∷ xs) zero d inside = refl
-set_own (a ∷ xs) (suc n) d inside = ap (λ (rest : List _). a ∷ rest) (set_own xs n d (omega arith))

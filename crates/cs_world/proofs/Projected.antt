@@ -8,7 +8,7 @@ use Rattle.cs_names.specs.declared.limits.TheConstants.{CONNECTIONS}
 use Rattle.cs_names.specs.declared.rule_id.RuleId.TheVariants.{S5}
 use Rattle.cs_registry.specs.Keys.{Key}
 use Rattle.cs_session.specs.declared.reply.Reply.TheVariants.{Error}
-use Rattle.cs_session.specs.Questions.{Question, Find, Enter, Ask}
+use Rattle.cs_session.specs.Questions.{Question, FindRun, AttachTo, CallOn}
 use Rattle.cs_plan.specs.Scenes.{Scene}
 use Rattle.cs_session.specs.Sessions.{blank}
 use Rattle.cs_session.specs.Steps.{Front, front_by}
@@ -22,7 +22,7 @@ use Rattle.cs_world.specs.declared.step.Step.{Step}
 use Rattle.cs_world.specs.declared.step.Step.TheVariants as t
 use Rattle.cs_world.specs.Ample.{all_ample, ample, tells_want}
 use Rattle.cs_world.specs.ConnectionSteps.{session_step}
-use Rattle.cs_world.specs.Marks.{WorldMark, RunMark, InRun, below, refuses_table}
+use Rattle.cs_world.specs.Marks.{WorldMark, RunMark, InRun, below, refuses_own}
 use Rattle.cs_world.specs.Projections.{calls_of, projection_of, put_to, puts_of, stands_at}
 use Rattle.cs_world.specs.Questions.{question_of_front, question_of_step}
 use Rattle.cs_world.specs.Steps.{from_front, step_of}
@@ -39,21 +39,21 @@ module _ (w : World) (key : Key) where
   puts mark question = put_to w.registry key question mark
 
   puts_alike : (q : Question) (mark other : RunMark) → calls_of (puts mark q) ≡ calls_of (puts other q)
-  puts_alike (Find state name) mark other = refl
-  puts_alike (Enter now place call) mark other = call_if (stands_at w.registry key place) _ _ refl
-  puts_alike (Ask now place pass call) mark other = call_if (stands_at w.registry key place) _ _ refl
+  puts_alike (FindRun state_name run_name) mark other = refl
+  puts_alike (AttachTo now place call) mark other = call_if (stands_at w.registry key place) _ _ refl
+  puts_alike (CallOn now place pass call) mark other = call_if (stands_at w.registry key place) _ _ refl
 
   asked_calls : (asked : Option Question) (mark other : RunMark) → calls_of (option_map_or (puts mark) asked []) ≡ calls_of (option_map_or (puts other) asked [])
   asked_calls None mark other = refl
   asked_calls (Some q) mark other = puts_alike q mark other
 
   on_calls : (conn now : ℕ) (x : c.Step) (mark : WorldMark) (b : Bool)
-      → tells_want (cond {A = Reply × World} b (from_front w conn x (below mark) (front_by now (connection w conn) x (refuses_table mark))) (Connection (Error S5), w)).0 ≡ false
-      → calls_of (option_map_or (puts (below mark)) (cond b (question_of_front (front_by now (connection w conn) x (refuses_table mark))) None) [])
+      → tells_want (cond {A = Reply × World} b (from_front w conn x (below mark) (front_by now (connection w conn) x (refuses_own mark))) (Connection (Error S5), w)).0 ≡ false
+      → calls_of (option_map_or (puts (below mark)) (cond b (question_of_front (front_by now (connection w conn) x (refuses_own mark))) None) [])
       ≡ calls_of (option_map_or (puts (InRun Ample)) (cond b (question_of_front (front_by now (connection w conn) x false)) None) [])
   on_calls conn now x mark false told = refl
-  on_calls conn now x mark true told = elim (front_alike now (connection w conn) x (refuses_table mark)) [
-    | inl short ↦ absurd (let said : tells_want (from_front w conn x (below mark) (front_by now (connection w conn) x (refuses_table mark))).0 ≡ true = ap (λ (f : Front). tells_want (from_front w conn x (below mark) f).0) short in cc)
+  on_calls conn now x mark true told = elim (front_alike now (connection w conn) x (refuses_own mark)) [
+    | inl short ↦ absurd (let said : tells_want (from_front w conn x (below mark) (front_by now (connection w conn) x (refuses_own mark))).0 ≡ true = ap (λ (f : Front). tells_want (from_front w conn x (below mark) f).0) short in cc)
     | inr same ↦ ap (λ (f : Front). calls_of (option_map_or (puts (below mark)) (question_of_front f) [])) same ∙ asked_calls (question_of_front (front_by now (connection w conn) x false)) (below mark) (InRun Ample)
   ]
 

@@ -14,7 +14,7 @@ use Rattle.cs_registry.specs.Registries.{Registry, with_users}
 use Rattle.cs_registry.specs.Registries as registries
 use Rattle.cs_registry.specs.Publishing.{with_published}
 use Rattle.cs_session.specs.declared.reply.Reply.{Reply as Said}
-use Rattle.cs_session.specs.Questions.{Question, Got}
+use Rattle.cs_session.specs.Questions.{Question, CallAnswer}
 use Rattle.cs_session.specs.Sessions.{Sess, blank, entry_at}
 use Rattle.cs_session.specs.Steps.{Front, Done, Asks, Step, FindStep, AttachStep, CallStep, CloseStep, Table, after, front_by}
 use Rattle.cs_session.specs.TableSteps.{table_stepped}
@@ -23,12 +23,12 @@ use Rattle.cs_world.specs.declared.reply.Reply.{Reply}
 use Rattle.cs_world.specs.declared.step.Step as t
 use Rattle.cs_world.specs.declared.step.Step.TheVariants as s
 use Rattle.cs_world.specs.ConnectionSteps.{session_step}
-use Rattle.cs_world.specs.Marks.{WorldMark, RunMark, below, refuses_table}
+use Rattle.cs_world.specs.Marks.{WorldMark, RunMark, below, refuses_own}
 use Rattle.cs_world.specs.Reachable.{IsReachable, OpensStand}
 use Rattle.cs_world.specs.Steps.{by_registry, from_front, on_connection, step_of}
 use Rattle.cs_world.specs.Worlds.{World, connection, new_world}
 use Rattle.cs_world.proofs.Ending.{on_ends, publish_ends, reload_ends}
-use Rattle.cs_world.proofs.Invariant.{enter_by, find_by, new_is, step_keeps}
+use Rattle.cs_world.proofs.Invariant.{attach_asks, find_by, new_is, step_keeps}
 use Rattle.cs_world.proofs.OpenFids.{KeepsOpens, attach_has, attached_open, called_keeps, find_has, found_open, kept, unopened}
 use Rattle.cs_world.proofs.Placing.{index_replicate}
 use Rattle.cs_world.proofs.Tables.{Kept, call_asks, call_source, close_asks, fid_in, freed_by, freed_is_free, judged_asks, left, refused_keeps, table_keeps}
@@ -59,19 +59,19 @@ module _ (w : World) (ok : IsReachable w) (conn : ℕ) (inside : conn < CONNECTI
   asks_opens : (now : ℕ) (x : Step) (refused : Bool) (q : Question) (mark : RunMark) → front_by now (connection w conn) x refused ≡ Asks q → Opens x mark q
   asks_opens now (FindStep m) refused q mark e =
       let its = find_by (tree_name_in m.aname) q (judged_asks (connection w conn) _ refused _ q e) in
-      subst (Opens (FindStep m) mark) (sym its.is) (kept w ok.opens conn within 0 None _ _ (unopened w ok.opens conn _ _ (λ place pass number h. find_has w.registry its.state its.name mark place pass number h) (λ fid f there. found_open (connection w conn) m _ fid f there)))
+      subst (Opens (FindStep m) mark) (sym its.is) (kept w ok.opens conn within 0 None _ _ (unopened w ok.opens conn _ _ (λ place pass number h. find_has w.registry its.state_name its.run_name mark place pass number h) (λ fid f there. found_open (connection w conn) m _ fid f there)))
   asks_opens now AttachStep refused q mark e =
-      let its = enter_by now (connection w conn) (connection w conn).pending refl q e in
-      subst (Opens AttachStep mark) (sym its.is) (kept w ok.opens conn within 0 None _ _ (unopened w ok.opens conn _ _ (λ place pass number h. attach_has w.registry now its.pending.run its.pending.call mark place pass number h) (λ fid f there. attached_open (connection w conn) (connection w conn).pending _ fid f there)))
+      let its = attach_asks now (connection w conn) (connection w conn).awaited refl q e in
+      subst (Opens AttachStep mark) (sym its.is) (kept w ok.opens conn within 0 None _ _ (unopened w ok.opens conn _ _ (λ place pass number h. attach_has w.registry now its.awaited.run its.awaited.call mark place pass number h) (λ fid f there. attached_open (connection w conn) (connection w conn).awaited _ fid f there)))
   asks_opens now (CallStep m) refused q mark e =
       let its = call_asks now (connection w conn) q m refused e in
       subst (Opens (CallStep m) mark) (sym its.is) (kept w ok.opens conn within (fid_in m) (freed_by m) _ _
-      (called_keeps w ok.there ok.opens conn now (fid_in m) (freed_by m) q its mark (λ answer. (after (connection w conn) (CallStep m) (Got answer)).1) (λ answer fid x there. call_source (connection w conn).fids fid x m answer there) (λ answer fid x there gone. freed_is_free (connection w conn).fids m answer fid x there gone)
+      (called_keeps w ok.there ok.opens conn now (fid_in m) (freed_by m) q its mark (λ answer. (after (connection w conn) (CallStep m) (CallAnswer answer)).1) (λ answer fid x there. call_source (connection w conn).fids fid x m answer there) (λ answer fid x there gone. freed_is_free (connection w conn).fids m answer fid x there gone)
       (λ told. (after (connection w conn) (CallStep m) told).1) (λ answer. refl)))
   asks_opens now (CloseStep fid) refused q mark e =
       let its = close_asks now (connection w conn) q fid refused e in
       subst (Opens (CloseStep fid) mark) (sym its.is) (kept w ok.opens conn within fid (Some fid) _ _
-      (called_keeps w ok.there ok.opens conn now fid (Some fid) q its mark (λ answer. (after (connection w conn) (CloseStep fid) (Got answer)).1) (λ answer n x there. Kept (left (connection w conn).fids fid n x there).1) (λ answer n x there gone. (left (connection w conn).fids fid n x there).0 (let same : Some fid ≡ Some n = gone in cc))
+      (called_keeps w ok.there ok.opens conn now fid (Some fid) q its mark (λ answer. (after (connection w conn) (CloseStep fid) (CallAnswer answer)).1) (λ answer n x there. Kept (left (connection w conn).fids fid n x there).1) (λ answer n x there gone. (left (connection w conn).fids fid n x there).0 (let same : Some fid ≡ Some n = gone in cc))
       (λ told. (after (connection w conn) (CloseStep fid) told).1) (λ answer. refl)))
   asks_opens now (Table change) refused q mark e = absurd (cc)
 
@@ -81,7 +81,7 @@ module _ (w : World) (ok : IsReachable w) (conn : ℕ) (inside : conn < CONNECTI
 
 module _ (w : World) (ok : IsReachable w) where
   connection_opens : (conn now : ℕ) (x : Step) (mark : WorldMark) → OpensStand (on_connection w conn now x mark).1
-  connection_opens conn now x mark = on_ends w conn now x mark (λ q y. OpensStand y.1) (λ low. by_front w ok conn low now x (refuses_table mark) (below mark) (front_by now (connection w conn) x (refuses_table mark)) refl) (λ high. ok.opens)
+  connection_opens conn now x mark = on_ends w conn now x mark (λ q y. OpensStand y.1) (λ low. by_front w ok conn low now x (refuses_own mark) (below mark) (front_by now (connection w conn) x (refuses_own mark)) refl) (λ high. ok.opens)
 
   more_published : (number : ℕ) → OpensStand (record w { registry = with_published w.registry number })
   more_published number = record { stand = ok.opens.stand; own = ok.opens.own }

@@ -4,6 +4,7 @@ use Rattle.std.specs.Prelude.{IsSomeAnd, filter, slice_get, slice_set, slice_ind
 use Rattle.std.specs.Option.{option_map}
 use Rattle.std.proofs.lemmas.Option.{slice_get_past}
 use Rattle.std.proofs.lemmas.Bool.{eqb-true, eqb-false}
+use Rattle.std.proofs.lemmas.List.{get_or-set_other, get_or-set_same}
 use Rattle.cs_fids.specs.declared.entry.Entry.{Entry}
 use Rattle.cs_fids.specs.Entries.{pass_of, run_of}
 use Rattle.cs_journal.specs.Journals.{HasRoom, IsLegal}
@@ -19,7 +20,6 @@ use Rattle.cs_world.specs.Reachable.{Gave, HasAllThatIsNamed, IsRunOfReachable, 
 use Rattle.cs_world.specs.Reaching.{IsMade}
 use Rattle.cs_world.specs.Worlds.{World, connection, with_both}
 use Rattle.cs_world.proofs.Judging.{IsSound}
-use Rattle.cs_world.proofs.Placing.{index_set_other, index_set_same}
 
 -- ---- counting
 
@@ -98,7 +98,7 @@ module _ (w : World) (conn : ℕ) (s' : Sess) (r' : Registry RunOf) where
     pub runs : (place : ℕ) (key : Key) (run' : Found RunOf) → slice_get r'.runs place ≡ Some (key, run') → Came place key run'
     pub gave : (place pass : ℕ) → Gave w.registry place pass → Gave r' place pass
     pub there : (place : ℕ) → IsSome (held_at w.registry.runs place) → IsSome (held_at r'.runs place)
-    pub awaited : (p : Awaited) → s'.pending ≡ Some p → IsSome (held_at r'.runs p.run)
+    pub awaited : (p : Awaited) → s'.awaited ≡ Some p → IsSome (held_at r'.runs p.run)
     pub fids : (fid : ℕ) (e : Entry) → entry_at s' fid ≡ Some e → Gave r' (run_of e) (pass_of e)
 
 module _ (w : World) (ok : HasAllThatIsNamed w) (conn : ℕ) (inside : conn < CONNECTIONS) (s' : Sess) (r' : Registry RunOf) (m : Moves w conn s' r') where
@@ -109,16 +109,16 @@ module _ (w : World) (ok : HasAllThatIsNamed w) (conn : ℕ) (inside : conn < CO
   within = omega (arith, ok.all)
 
   same_conn : connection next conn ≡ s'
-  same_conn = index_set_same w.connections conn s' (blank None) within
+  same_conn = get_or-set_same w.connections conn s' (blank None) within
 
   other_conn : (c : ℕ) → c ≢ conn → connection next c ≡ connection w c
-  other_conn c other = index_set_other w.connections conn c s' (blank None) other
+  other_conn c other = get_or-set_other w.connections conn c s' (blank None) other
 
   counts : (place : ℕ) → waiting place next.connections + one_if (awaits place (connection w conn)) ≡ waiting place w.connections + one_if (awaits place s')
   counts place = counted (awaits place) w.connections conn s' (blank None) within
 
   -- nobody awaits an attach to a run that isn't there
-  past_by : (place : ℕ) (c : ℕ) (o : Option Awaited) (b : Bool) → (connection w c).pending ≡ o → awaits place (connection w c) ≡ b → slice_get w.registry.runs place ≡ None → awaits place (connection w c) ≡ false
+  past_by : (place : ℕ) (c : ℕ) (o : Option Awaited) (b : Bool) → (connection w c).awaited ≡ o → awaits place (connection w c) ≡ b → slice_get w.registry.runs place ≡ None → awaits place (connection w c) ≡ false
   past_by place c o false is waits none = waits
   past_by place c None true is waits none = rw is refl
   past_by place c (Some p) true is waits none =
@@ -129,7 +129,7 @@ module _ (w : World) (ok : HasAllThatIsNamed w) (conn : ℕ) (inside : conn < CO
       absurd (let there = found.there in cc)
 
   past : (place : ℕ) → slice_get w.registry.runs place ≡ None → waiting place w.connections ≡ 0
-  past place none = none_counted (awaits place) w.connections (blank None) (λ c. past_by place c (connection w c).pending (awaits place (connection w c)) refl refl none)
+  past place none = none_counted (awaits place) w.connections (blank None) (λ c. past_by place c (connection w c).awaited (awaits place (connection w c)) refl refl none)
 
   at_most_one : (b : Bool) → one_if b ≤ 1
   at_most_one true = omega arith
@@ -159,9 +159,9 @@ module _ (w : World) (ok : HasAllThatIsNamed w) (conn : ℕ) (inside : conn < CO
         fresh = ap (λ s. state_at s key.number) m.scene ∙ made.state ∙ ap Some (sym (ap (λ (r : RunOf). r.fresh) made.fresh));
       }
 
-  awaited_by : (c : ℕ) (b : Bool) → (c == conn) ≡ b → (p : Awaited) → (connection next c).pending ≡ Some p → IsSome (held_at r'.runs p.run)
-  awaited_by c true is p waits = m.awaited p (ap (λ (s : Sess). s.pending) (sym (ap (connection next) (eqb-true c conn is) ∙ same_conn)) ∙ waits)
-  awaited_by c false is p waits = m.there p.run (ok.awaited c p (ap (λ (s : Sess). s.pending) (sym (other_conn c (eqb-false c conn is))) ∙ waits))
+  awaited_by : (c : ℕ) (b : Bool) → (c == conn) ≡ b → (p : Awaited) → (connection next c).awaited ≡ Some p → IsSome (held_at r'.runs p.run)
+  awaited_by c true is p waits = m.awaited p (ap (λ (s : Sess). s.awaited) (sym (ap (connection next) (eqb-true c conn is) ∙ same_conn)) ∙ waits)
+  awaited_by c false is p waits = m.there p.run (ok.awaited c p (ap (λ (s : Sess). s.awaited) (sym (other_conn c (eqb-false c conn is))) ∙ waits))
 
   fids_by : (c : ℕ) (b : Bool) → (c == conn) ≡ b → (fid : ℕ) (e : Entry) → entry_at (connection next c) fid ≡ Some e → Gave r' (run_of e) (pass_of e)
   fids_by c true is fid e there = m.fids fid e (ap (λ s. entry_at s fid) (sym (ap (connection next) (eqb-true c conn is) ∙ same_conn)) ∙ there)

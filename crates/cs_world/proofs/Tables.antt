@@ -31,7 +31,7 @@ use Rattle.cs_session.specs.Calls.{call_after}
 use Rattle.cs_session.specs.Decisions.{decide, opened_at, walked_at}
 use Rattle.cs_session.specs.Names.{file_in}
 use Rattle.cs_session.specs.Opens.{create_after, create_named, open_after, open_left}
-use Rattle.cs_session.specs.Questions.{Question, Ask}
+use Rattle.cs_session.specs.Questions.{Question, CallOn}
 use Rattle.cs_session.specs.Reads.{read_after, read_left}
 use Rattle.cs_session.specs.Sessions.{Sess, entry_at}
 use Rattle.cs_session.specs.Steps.{Done, Asks, CallStep, CloseStep, front_of, front_by}
@@ -79,7 +79,7 @@ pub record IsAsked (fids : FidMap) (now fid : ℕ) (freed : Option ℕ) (q : Que
   pub held : Entry
   pub there : get fids fid ≡ Some held
   pub call : Call
-  pub is : q ≡ Ask now (run_of held) (pass_of held) call
+  pub is : q ≡ CallOn now (run_of held) (pass_of held) call
   pub ends : (number : ℕ) → closes call ≡ Some number → (f : FidOf Opened) × (held ≡ entry.Opened f) × (f.state.open_number ≡ number) × (freed ≡ Some fid)
 
 pub judged_asks : (s : Sess) (o : Option RuleId) (refused : Bool) (q : Option Question) (p : Question) → front_of s (decide o refused q) ≡ Asks p → q ≡ Some p
@@ -111,28 +111,28 @@ ended_open (entry.Walked f) number is = absurd (cc)
 ended_open (entry.Opened f) number is = (f, refl, cc)
 
 module _ (now : ℕ) (s : Sess) (q : Question) (fid : ℕ) (freed : Option ℕ) where
-  by_walked : (ask : FidOf Walked → Call) → ((f : FidOf Walked) → closes (ask f) ≡ None) → (o : Option (FidOf Walked)) → walked_at s.fids fid ≡ o → option_map (λ (f : FidOf Walked). Ask now f.run f.pass (ask f)) o ≡ Some q → IsAsked s.fids now fid freed q
+  by_walked : (ask : FidOf Walked → Call) → ((f : FidOf Walked) → closes (ask f) ≡ None) → (o : Option (FidOf Walked)) → walked_at s.fids fid ≡ o → option_map (λ (f : FidOf Walked). CallOn now f.run f.pass (ask f)) o ≡ Some q → IsAsked s.fids now fid freed q
   by_walked ask ends None is h = absurd (cc)
   by_walked ask ends (Some f) is h = record { held = entry.Walked f; there = walked_there (get s.fids fid) f is; call = ask f; is = cc; ends = λ number some. absurd (let none = ends f in cc) }
 
-  by_opened : (ask : FidOf Opened → Call) → ((f : FidOf Opened) → closes (ask f) ≡ None) → (o : Option (FidOf Opened)) → opened_at s.fids fid ≡ o → option_map (λ (f : FidOf Opened). Ask now f.run f.pass (ask f)) o ≡ Some q → IsAsked s.fids now fid freed q
+  by_opened : (ask : FidOf Opened → Call) → ((f : FidOf Opened) → closes (ask f) ≡ None) → (o : Option (FidOf Opened)) → opened_at s.fids fid ≡ o → option_map (λ (f : FidOf Opened). CallOn now f.run f.pass (ask f)) o ≡ Some q → IsAsked s.fids now fid freed q
   by_opened ask ends None is h = absurd (cc)
   by_opened ask ends (Some f) is h = record { held = entry.Opened f; there = opened_there (get s.fids fid) f is; call = ask f; is = cc; ends = λ number some. absurd (let none = ends f in cc) }
 
-  by_entry : (ask : Entry → Call) → ((f : Entry) → closes (ask f) ≡ None) → (o : Option Entry) → get s.fids fid ≡ o → option_map (λ (f : Entry). Ask now (run_of f) (pass_of f) (ask f)) o ≡ Some q → IsAsked s.fids now fid freed q
+  by_entry : (ask : Entry → Call) → ((f : Entry) → closes (ask f) ≡ None) → (o : Option Entry) → get s.fids fid ≡ o → option_map (λ (f : Entry). CallOn now (run_of f) (pass_of f) (ask f)) o ≡ Some q → IsAsked s.fids now fid freed q
   by_entry ask ends None is h = absurd (cc)
   by_entry ask ends (Some f) is h = record { held = f; there = is; call = ask f; is = cc; ends = λ number some. absurd (let none = ends f in cc) }
 
   create_asks : (x : CreateMessage) → fid ≡ x.fid → (o : Option (List ℕ)) → option_and_then (create_named now s.fids x) o ≡ Some q → IsAsked s.fids now fid freed q
   create_asks x same None h = absurd (cc)
-  create_asks x same (Some name) h = by_walked _ (λ f. refl) (walked_at s.fids fid) refl (subst (λ n. option_map (λ (f : FidOf Walked). Ask now f.run f.pass (c.Create (record { number = f.number; user = f.user; name = name; perm = x.perm; mode = x.mode }))) (walked_at s.fids n) ≡ Some q) (sym same) h)
+  create_asks x same (Some name) h = by_walked _ (λ f. refl) (walked_at s.fids fid) refl (subst (λ n. option_map (λ (f : FidOf Walked). CallOn now f.run f.pass (c.Create (record { number = f.number; user = f.user; name = name; perm = x.perm; mode = x.mode }))) (walked_at s.fids n) ≡ Some q) (sym same) h)
 
 module _ (now : ℕ) (s : Sess) (q : Question) where
-  remove_asks : (fid : ℕ) (o : Option Entry) → get s.fids fid ≡ o → option_map (λ (f : Entry). Ask now (run_of f) (pass_of f) (c.Remove (record { number = number_of f; user = user_of f; open_number = open_in f }))) o ≡ Some q → IsAsked s.fids now fid (Some fid) q
+  remove_asks : (fid : ℕ) (o : Option Entry) → get s.fids fid ≡ o → option_map (λ (f : Entry). CallOn now (run_of f) (pass_of f) (c.Remove (record { number = number_of f; user = user_of f; open_number = open_in f }))) o ≡ Some q → IsAsked s.fids now fid (Some fid) q
   remove_asks fid None is h = absurd (cc)
   remove_asks fid (Some f) is h = record { held = f; there = is; call = c.Remove (record { number = number_of f; user = user_of f; open_number = open_in f }); is = cc; ends = λ number some. (let its = ended_open f number some in (its.0, its.1, its.2, refl)) }
 
-  clunk_asks : (fid : ℕ) (o : Option (FidOf Opened)) → opened_at s.fids fid ≡ o → option_map (λ (f : FidOf Opened). Ask now f.run f.pass (c.Close (record { open_number = f.state.open_number; user = f.user }))) o ≡ Some q → IsAsked s.fids now fid (Some fid) q
+  clunk_asks : (fid : ℕ) (o : Option (FidOf Opened)) → opened_at s.fids fid ≡ o → option_map (λ (f : FidOf Opened). CallOn now f.run f.pass (c.Close (record { open_number = f.state.open_number; user = f.user }))) o ≡ Some q → IsAsked s.fids now fid (Some fid) q
   clunk_asks fid None is h = absurd (cc)
   clunk_asks fid (Some f) is h = record { held = entry.Opened f; there = opened_there (get s.fids fid) f is; call = c.Close (record { open_number = f.state.open_number; user = f.user }); is = cc; ends = λ number some. (f, refl, cc, refl) }
 
@@ -249,7 +249,7 @@ module _ (s : Sess) (k : ℕ) (e : Entry) where
   tabled_keeps t.HangUp b n true o there = rw o at there
   tabled_keeps t.HangUp b n false o there = nothing (rw o at there)
 
-  pub table_keeps : (x : TableStep) (b : Bool) → is_some s.pending ≡ b → get (table_stepped s x).1.fids k ≡ Some e → get s.fids k ≡ Some e
+  pub table_keeps : (x : TableStep) (b : Bool) → is_some s.awaited ≡ b → get (table_stepped s x).1.fids k ≡ Some e → get s.fids k ≡ Some e
   table_keeps x true is there = rw is at there
   table_keeps x false is there = tabled_keeps x _ refl _ refl (rw is at there)
 
@@ -258,7 +258,7 @@ none_if None is = refl
 none_if (Some x) is = absurd (cc)
 
 module _ (s : Sess) where
-  tabled_idle : (x : TableStep) (b : Bool) → (is_none s.msize ≡ b) → (c : Bool) → is_some (least_open s.fids) ≡ c → s.pending ≡ None → (after_change s x).1.pending ≡ s.pending
+  tabled_idle : (x : TableStep) (b : Bool) → (is_none s.msize ≡ b) → (c : Bool) → is_some (least_open s.fids) ≡ c → s.awaited ≡ None → (after_change s x).1.awaited ≡ s.awaited
   tabled_idle (t.Clunk fid) true n c o idle = rw n refl
   tabled_idle (t.Clunk fid) false n c o idle = rw n refl
   tabled_idle (t.Version msize version) b n true o idle = rw o refl
@@ -266,6 +266,6 @@ module _ (s : Sess) where
   tabled_idle t.HangUp b n true o idle = rw o refl
   tabled_idle t.HangUp b n false o idle = rw o (sym idle)
 
-  pub table_idle : (x : TableStep) (b : Bool) → is_some s.pending ≡ b → (table_stepped s x).1.pending ≡ s.pending
+  pub table_idle : (x : TableStep) (b : Bool) → is_some s.awaited ≡ b → (table_stepped s x).1.awaited ≡ s.awaited
   table_idle x true is = rw is refl
-  table_idle x false is = rw is (tabled_idle x _ refl _ refl (none_if s.pending is))
+  table_idle x false is = rw is (tabled_idle x _ refl _ refl (none_if s.awaited is))

@@ -23,7 +23,7 @@ use Rattle.cs_world.proofs.Coming.{comes}
 use Rattle.cs_world.proofs.NoWant.{no_want}
 use Rattle.cs_world.proofs.Reaching.{reaches}
 use Rattle.cs_world.proofs.Remarked.{only_told, run_told, same_step, told_mark}
-use Rattle.cs_world.proofs.Touching.{leaves}
+use Rattle.cs_world.proofs.Leaving.{leaves}
 
 module _ (w : World) (ok : IsReachable w) where
   comes_to : (x : Step) (mark : WorldMark) → StepComesTo w x mark (step_of w x mark).0 (step_of w x mark).1

@@ -37,4 +37,4 @@ module _ (run : RunOf) (now : ℕ) where
 -- whatever calls it was given
 pub alone_users : (run : RunOf) (xs : List (RunCall × RunMark)) → (alone run xs).1.users ≡ run.users
 alone_users run [] = refl
-alone_users run (x ∷ xs) = alone_users (call_alone run x.0.now x.0.pass x.0.call x.1).1 xs ∙ served_by run x.0.now x.0.pass x.0.call x.1 (attach_in x.0.call)
+alone_users run (x ∷ xs) = alone_users (call_alone run x.0.moment x.0.pass x.0.call x.1).1 xs ∙ served_by run x.0.moment x.0.pass x.0.call x.1 (attach_in x.0.call)

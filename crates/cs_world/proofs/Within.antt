@@ -16,7 +16,7 @@ use Rattle.cs_world.proofs.MovedSteps.{front_moved, after_moved}
 -- the run of each fid, and the one that awaits an attach, stand within
 pub record Within (b : ℕ → Bool) (s : Sess) : Type 0 where
   pub fids : (fid : ℕ) (e : Entry) → get s.fids fid ≡ Some e → b (run_of e) ≡ true
-  pub awaits : (p : Awaited) → s.pending ≡ Some p → b p.run ≡ true
+  pub awaits : (p : Awaited) → s.awaited ≡ Some p → b p.run ≡ true
 
 module _ (b : ℕ → Bool) where
   module _ (f g : ℕ → ℕ) (same : (p : ℕ) → b p ≡ true → f p ≡ g p) where
@@ -36,7 +36,7 @@ module _ (b : ℕ → Bool) where
     pub moved_alike : (s : Sess) → Within b s → moved f s ≡ moved g s
     moved_alike s in_b =
         let table : moved_fids f s.fids ≡ moved_fids g s.fids = same_map nat_cmp_total nat_cmp-IsAntisymmetric _ _ (λ k. get_moved f s.fids k ∙ get_alike (get s.fids k) (λ e is. in_b.fids k e is) ∙ sym (get_moved g s.fids k)) in
-        λ i. record { msize = s.msize; pending = awaits_alike s.pending in_b.awaits i; fids = table i }
+        λ i. record { msize = s.msize; awaited = awaits_alike s.awaited in_b.awaits i; fids = table i }
 
   -- a place outside is moved
   abbrev pub out : ℕ → ℕ
@@ -67,7 +67,7 @@ module _ (b : ℕ → Bool) where
   moved_same : (s : Sess) → moved (λ p. p) s ≡ s
   moved_same s =
       let table : moved_fids (λ p. p) s.fids ≡ s.fids = same_map nat_cmp_total nat_cmp-IsAntisymmetric _ _ (λ k. get_moved (λ p. p) s.fids k ∙ same_get (get s.fids k)) in
-      λ i. record { msize = s.msize; pending = same_awaits s.pending i; fids = table i }
+      λ i. record { msize = s.msize; awaited = same_awaits s.awaited i; fids = table i }
 
   fixed : (s : Sess) → Within b s → moved out s ≡ s
   fixed s in_b = moved_alike out (λ p. p) still_out s in_b ∙ moved_same s
@@ -88,7 +88,7 @@ module _ (b : ℕ → Bool) where
         let there : option_map (moved_entry out) (Some e) ≡ Some e = ap (option_map (moved_entry out)) (sym is) ∙ sym (get_moved out s.fids fid) ∙ ap (λ (x : Sess). get x.fids fid) (sym same) ∙ is in
         entry_within e (some_is (moved_entry out e) e there);
     awaits = λ p is.
-        let there : option_map (moved_awaited out) (Some p) ≡ Some p = ap (option_map (moved_awaited out)) (sym is) ∙ ap (λ (x : Sess). x.pending) (sym same) ∙ is in
+        let there : option_map (moved_awaited out) (Some p) ≡ Some p = ap (option_map (moved_awaited out)) (sym is) ∙ ap (λ (x : Sess). x.awaited) (sym same) ∙ is in
         within_out p.run (ap (λ (x : Awaited). x.run) (some_is (moved_awaited out p) p there));
   }
 

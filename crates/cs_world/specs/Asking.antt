@@ -15,7 +15,8 @@ use Rattle.cs_registry.specs.Registries.{Registry}
 use Rattle.cs_registry.specs.Runs.{held_at, with_held}
 use Rattle.cs_run.specs.declared.answer.Answer.{Answer}
 use Rattle.cs_run.specs.declared.answer.Answer.TheVariants.{Denied}
-use Rattle.cs_session.specs.Questions.{Question, Find, Enter, Ask, PortAnswer, Found, Entered, Got}
+use Rattle.cs_session.specs.Questions.{Question, FindRun, AttachTo, CallOn}
+use Rattle.cs_session.specs.Questions.{PortAnswer, FindAnswer, AttachAnswer, CallAnswer}
 use Rattle.cs_world.specs.Marks.{RunMark, in_run, refuses_run}
 use Rattle.cs_journal.specs.Runs.{RunOf, fresh_run}
 use Rattle.cs_world.specs.Runs.{attached, called}
@@ -29,10 +30,10 @@ given_run registry number mark =
     else option_map (λ tree. fresh_run tree registry.users) (state_at registry.scene number)
 
 abbrev pub find_answer : Result ℕ FindFault × Registry RunOf → PortAnswer × Registry RunOf
-find_answer pair = (Found pair.0, pair.1)
+find_answer pair = (FindAnswer pair.0, pair.1)
 
 abbrev pub found_by : Registry RunOf → RunMark → Option Key → PortAnswer × Registry RunOf
-found_by registry mark None = (Found (Err Unpublished), registry)
+found_by registry mark None = (FindAnswer (Err Unpublished), registry)
 found_by registry mark (Some key) =
     find_answer (found registry key (given_run registry key.number mark))
 
@@ -43,20 +44,21 @@ with_run_at registry place run = record registry { runs = with_held registry.run
 
 abbrev pub attach_answer : Registry RunOf → ℕ → Result (ℕ × Answer) PassFault × RunOf
     → PortAnswer × Registry RunOf
-attach_answer registry place pair = (Entered pair.0, with_run_at registry place pair.1)
+attach_answer registry place pair = (AttachAnswer pair.0, with_run_at registry place pair.1)
 
 abbrev pub call_answer : Registry RunOf → ℕ → Answer × RunOf → PortAnswer × Registry RunOf
-call_answer registry place pair = (Got pair.0, with_run_at registry place pair.1)
+call_answer registry place pair = (CallAnswer pair.0, with_run_at registry place pair.1)
 
 -- the answer to a question where memory refuses that growth, and the registry then
 abbrev pub answered : Registry RunOf → Question → RunMark → PortAnswer × Registry RunOf
-answered registry (Find state name) mark = found_by registry mark (key_in state name)
-answered registry (Enter now place call) mark =
+answered registry (FindRun state_name run_name) mark =
+    found_by registry mark (key_in state_name run_name)
+answered registry (AttachTo now place call) mark =
     option_map_or (λ run. attach_answer registry place (attached run now call mark))
-    (held_at registry.runs place) (Entered (Err Foreign), registry)
-answered registry (Ask now place pass call) mark =
+    (held_at registry.runs place) (AttachAnswer (Err Foreign), registry)
+answered registry (CallOn now place pass call) mark =
     option_map_or (λ run. call_answer registry place (called run now pass call (in_run mark)))
-    (held_at registry.runs place) (Got (Denied S5), registry)
+    (held_at registry.runs place) (CallAnswer (Denied S5), registry)
 
 -- the answer is the definition's, with some growth refused
 abbrev pub IsGiven : Registry RunOf → Question → PortAnswer → Registry RunOf → Type 0

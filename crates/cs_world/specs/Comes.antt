@@ -5,14 +5,13 @@ use Rattle.cs_names.specs.declared.limits.TheConstants.{CONNECTIONS, RUN_ATTACHE
 use Rattle.cs_names.specs.declared.rule_id.RuleId.TheVariants.{S5}
 use Rattle.cs_permit.specs.declared.call.AttachCall.{AttachCall}
 use Rattle.cs_permit.specs.declared.call.Call.{Call}
-use Rattle.cs_permit.specs.declared.call.Call.TheVariants as call
+use Rattle.cs_permit.specs.declared.call.Call.TheVariants as calls
 use Rattle.cs_permit.specs.declared.fault.PassFault.TheVariants as faults
-use Rattle.cs_registry.specs.Registries.{Registry}
 use Rattle.cs_registry.specs.Runs.{held_at}
 use Rattle.cs_run.specs.declared.answer.Answer.{Answer}
 use Rattle.cs_session.specs.declared.reply.Reply.{Reply as SessionReply}
 use Rattle.cs_session.specs.declared.reply.Reply.TheVariants.{Error}
-use Rattle.cs_session.specs.Questions.{Find, Enter, Ask, PortAnswer, Entered, Got}
+use Rattle.cs_session.specs.Questions.{FindRun, AttachTo, CallOn, AttachAnswer, CallAnswer}
 use Rattle.cs_session.specs.Sessions.{Sess}
 use Rattle.cs_session.specs.Steps.{Step as SessionStep, Done, Asks, front_by}
 use Rattle.cs_world.specs.declared.reply.Reply.{Reply}
@@ -20,59 +19,56 @@ use Rattle.cs_world.specs.declared.reply.Reply.TheVariants.{Connection}
 use Rattle.cs_registry.specs.Naming.{key_in}
 use Rattle.cs_world.specs.Asking.{found_by, with_run_at}
 use Rattle.cs_world.specs.Ends.{CallComesTo}
-use Rattle.cs_world.specs.Marks.{RunMark, WorldMark, refuses_table}
+use Rattle.cs_world.specs.Marks.{RunMark, WorldMark, refuses_own}
 use Rattle.cs_world.specs.Steps.{continued_from, on_connection}
 use Rattle.cs_world.specs.Worlds.{World, connection, with_both}
 
--- the connection goes on from the answer, over that registry
-abbrev pub ContinuesFrom : World → ℕ → SessionStep → PortAnswer × Registry RunOf → Reply → World
-    → Type 0
-ContinuesFrom world conn step answered reply after =
-    (reply, after) ≡ continued_from world conn step answered
-
--- in a reachable world, for whether memory for the connection's table is refused
+-- what a step of a connection comes to, by whether memory for what it takes of its own is refused;
+-- in a reachable world each step comes to one of these
 pub data ConnectionStepComesTo (world : World) (conn now : ℕ) (step : SessionStep) (refused : Bool)
     (reply : Reply) (after : World) : Type 0 where
   -- no connection has the number: S5
   Nobody : CONNECTIONS ≤ conn → reply ≡ Connection (Error S5) → after ≡ world
       → ConnectionStepComesTo world conn now step refused reply after
-  -- the connection answers by itself, by its own rules, for want of memory for its table, or by a
-  -- change of it: no run changes
+  -- the connection answers by itself, by its own rules, for want of memory for what it takes of its
+  -- own, or by a change of its table: no run changes
   OwnReply : (own_reply : SessionReply) (session : Sess)
       → front_by now (connection world conn) step refused ≡ Done own_reply session
       → reply ≡ Connection own_reply → after ≡ with_both world conn session world.registry
       → ConnectionStepComesTo world conn now step refused reply after
-  -- the registry is asked for a run, where memory refuses that growth
-  AsksRegistry : (state name : List ℕ) (mark : RunMark)
-      → front_by now (connection world conn) step refused ≡ Asks (Find state name)
-      → ContinuesFrom world conn step (found_by world.registry mark (key_in state name)) reply after
+  -- the registry is asked for a run, where memory refuses that growth; from its answer, and from
+  -- those below, the connection goes on
+  AsksRegistry : (state_name run_name : List ℕ) (mark : RunMark)
+      → front_by now (connection world conn) step refused ≡ Asks (FindRun state_name run_name)
+      → (reply, after) ≡ continued_from world conn step
+      (found_by world.registry mark (key_in state_name run_name))
       → ConnectionStepComesTo world conn now step refused reply after
   -- the run at a place has no memory for a new pass, and stays
   AttachShort : (place : ℕ) (attach : AttachCall) (run : RunOf)
-      → front_by now (connection world conn) step refused ≡ Asks (Enter now place attach)
+      → front_by now (connection world conn) step refused ≡ Asks (AttachTo now place attach)
       → held_at world.registry.runs place ≡ Some run
-      → ContinuesFrom world conn step
-      (Entered (Err faults.Memory), with_run_at world.registry place run) reply after
+      → (reply, after) ≡ continued_from world conn step
+      (AttachAnswer (Err faults.Memory), with_run_at world.registry place run)
       → ConnectionStepComesTo world conn now step refused reply after
   -- the attach is judged on the run at a place, under a new pass
   AttachOnRun : (place : ℕ) (attach : AttachCall) (run run' : RunOf) (answer : Answer)
-      → front_by now (connection world conn) step refused ≡ Asks (Enter now place attach)
+      → front_by now (connection world conn) step refused ≡ Asks (AttachTo now place attach)
       → held_at world.registry.runs place ≡ Some run → run.passes < RUN_ATTACHES
-      → CallComesTo (with_pass run) now run.passes (call.Attach attach) answer run'
-      → ContinuesFrom world conn step
-      (Entered (Ok (run.passes, answer)), with_run_at world.registry place run') reply after
+      → CallComesTo (with_pass run) now run.passes (calls.Attach attach) answer run'
+      → (reply, after) ≡ continued_from world conn step
+      (AttachAnswer (Ok (run.passes, answer)), with_run_at world.registry place run')
       → ConnectionStepComesTo world conn now step refused reply after
   -- the call is judged on the run at a place, under a pass that it gave
-  CallOnRun : (place pass : ℕ) (run_call : Call) (run run' : RunOf) (answer : Answer)
-      → front_by now (connection world conn) step refused ≡ Asks (Ask now place pass run_call)
+  CallOnRun : (place pass : ℕ) (call : Call) (run run' : RunOf) (answer : Answer)
+      → front_by now (connection world conn) step refused ≡ Asks (CallOn now place pass call)
       → held_at world.registry.runs place ≡ Some run → pass < run.passes
-      → CallComesTo run now pass run_call answer run'
-      → ContinuesFrom world conn step (Got answer, with_run_at world.registry place run')
-      reply after
+      → CallComesTo run now pass call answer run'
+      → (reply, after) ≡ continued_from world conn step
+      (CallAnswer answer, with_run_at world.registry place run')
       → ConnectionStepComesTo world conn now step refused reply after
 
 -- the reply of a step and the world that it leaves are what it comes to
 abbrev pub ConnectionStepComes : World → ℕ → ℕ → SessionStep → WorldMark → Type 0
 ConnectionStepComes world conn now step mark =
-    ConnectionStepComesTo world conn now step (refuses_table mark)
+    ConnectionStepComesTo world conn now step (refuses_own mark)
     (on_connection world conn now step mark).0 (on_connection world conn now step mark).1

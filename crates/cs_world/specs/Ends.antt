@@ -1,5 +1,5 @@
 -- How a call on a run ends.
-use Rattle.std.specs.Prelude.{Option, ◌≡◌, ℕ, true, false, [], ◌∷◌, ◌++◌, None, Some}
+use Rattle.std.specs.Prelude.{Option, ◌≡◌, ℕ, true, false, None, Some}
 use Rattle.cs_names.specs.declared.rule_id.RuleId.{RuleId}
 use Rattle.cs_names.specs.declared.rule_id.RuleId.TheVariants.{L1}
 use Rattle.cs_permit.specs.Calls.{failing_rule}
@@ -8,35 +8,28 @@ use Rattle.cs_run.specs.declared.answer.Answer.{Answer}
 use Rattle.cs_run.specs.declared.answer.Answer.TheVariants as answers
 use Rattle.cs_run.specs.declared.answer.Outcome.{Outcome}
 use Rattle.cs_run.specs.declared.answer.Outcome.TheVariants as outcomes
-use Rattle.cs_run.specs.Effects.{Left, effect_of, left}
-use Rattle.cs_run.specs.Opens.{released_if}
-use Rattle.cs_run.specs.Outcomes.{closes, takes_memory}
+use Rattle.cs_run.specs.Outcomes.{takes_memory}
 use Rattle.cs_journal.specs.Calls.{ended, is_full}
-use Rattle.cs_journal.specs.Journals.{rules_view_of, turn_in}
+use Rattle.cs_journal.specs.Journals.{EntryOf, answer_to, apply, rules_view_of, turn_in}
 use Rattle.cs_journal.specs.Runs.{RunOf, state_of}
+use Rattle.cs_journal.specs.Steps.{run_with_entry}
+
+-- the entry of a call that ended so
+abbrev pub entry_by : ℕ → ℕ → Call → Outcome → EntryOf
+entry_by now pass call outcome =
+    record { pass = pass; moment = now; call = call; outcome = outcome }
 
 -- a call was made: the journal has one entry more, the last, with how it ended; and the answer, the
--- tree and the opens are these
-pub record HasEntry (run : RunOf) (now pass : ℕ) (call : Call) (outcome : Outcome) (leaves : Left)
-    (answer : Answer) (run' : RunOf) : Type 0 where
-  pub answer_is : answer ≡ leaves.answer
-  pub entry : run'.journal
-      ≡ run.journal ++ record { pass = pass; moment = now; call = call; outcome = outcome } ∷ []
-  pub tree : (state_of run').tree ≡ leaves.tree
-  pub opens : (state_of run').opens ≡ leaves.opens
-  pub fresh : run'.fresh ≡ run.fresh
-  pub users : run'.users ≡ run.users
-  pub passes : run'.passes ≡ run.passes
+-- tree and the opens are what the call leaves by that
+pub record HasEntry (run : RunOf) (entry : EntryOf) (answer : Answer) (run' : RunOf)
+    : Type 0 where
+  pub answer_is : answer ≡ answer_to (state_of run) entry
+  pub run_is : run' ≡ run_with_entry run entry
+  pub state : state_of run' ≡ apply (state_of run) entry
 
 -- the first rule that the call fails in the run, if any
 abbrev pub failing_rule_of : RunOf → Call → Option RuleId
 failing_rule_of run call = failing_rule (rules_view_of (state_of run)) call
-
--- what a call that isn't granted leaves: the tree, and the opens but for the one that a close or a
--- remove ends
-abbrev pub not_granted : RunOf → ℕ → Call → Answer → Left
-not_granted run pass call answer =
-    left (state_of run).tree (released_if (closes call) pass (state_of run).opens) answer
 
 -- one of five ends; that memory was refused `want` of the theorem says
 pub data CallComesTo (run : RunOf) (now pass : ℕ) (call : Call) (answer : Answer) (run' : RunOf)
@@ -51,17 +44,14 @@ pub data CallComesTo (run : RunOf) (now pass : ℕ) (call : Call) (answer : Answ
   -- a rule fails, and this is the first
   Denied : (rule : RuleId) → is_full (state_of run) pass call ≡ false
       → failing_rule_of run call ≡ Some rule
-      → HasEntry run now pass call (outcomes.Denied rule)
-      (not_granted run pass call (answers.Denied rule)) answer run'
+      → HasEntry run (entry_by now pass call (outcomes.Denied rule)) answer run'
       → CallComesTo run now pass call answer run'
   -- no rule fails, and the call takes memory
   Short : is_full (state_of run) pass call ≡ false → failing_rule_of run call ≡ None
       → takes_memory (rules_view_of (state_of run)) (turn_in (state_of run) pass now) call ≡ true
-      → HasEntry run now pass call outcomes.Short
-      (not_granted run pass call answers.Short) answer run'
+      → HasEntry run (entry_by now pass call outcomes.Short) answer run'
       → CallComesTo run now pass call answer run'
   -- no rule fails, and the effect is that of the call
   Granted : is_full (state_of run) pass call ≡ false → failing_rule_of run call ≡ None
-      → HasEntry run now pass call outcomes.Granted
-      (effect_of (rules_view_of (state_of run)) (turn_in (state_of run) pass now) call) answer run'
+      → HasEntry run (entry_by now pass call outcomes.Granted) answer run'
       → CallComesTo run now pass call answer run'

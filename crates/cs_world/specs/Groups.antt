@@ -11,7 +11,7 @@ use Rattle.cs_registry.specs.Naming.{key_in}
 use Rattle.cs_registry.specs.Registries.{Registry, is_published}
 use Rattle.cs_registry.specs.Runs.{place_of}
 use Rattle.cs_session.specs.declared.message.AttachMessage.{AttachMessage}
-use Rattle.cs_session.specs.Questions.{Question, Find}
+use Rattle.cs_session.specs.Questions.{Question, FindRun}
 use Rattle.cs_session.specs.Steps.{Step as SessionStep, FindStep}
 use Rattle.cs_world.specs.declared.reply.Reply.{Reply}
 use Rattle.cs_world.specs.declared.step.Step.{Step}
@@ -59,7 +59,7 @@ key_of other = None
 
 -- a find of the group names the key
 abbrev pub finds_key : (Step → Bool) → Key → Step × WorldMark → Bool
-finds_key group key marked = group marked.0 && option_map_or (same_key key) (key_of marked.0) false
+finds_key group key one = group one.0 && option_map_or (same_key key) (key_of one.0) false
 
 abbrev pub is_named : (Step → Bool) → List (Step × WorldMark) → Key → Bool
 is_named group marked key = list_any (finds_key group key) marked
@@ -74,11 +74,11 @@ AreApart first marked = (key : Key)
 
 -- a question finds a run of a published state that isn't there, and there are as many as can be
 abbrev pub needs_room : Registry RunOf → Question → Bool
-needs_room registry (Find state name) =
+needs_room registry (FindRun state_name run_name) =
     option_map_or
     (λ key. is_published registry key.number && is_none (place_of key registry.runs)
     && nat_le RUNS (length registry.runs))
-    (key_in state name) false
+    (key_in state_name run_name) false
 needs_room registry other = false
 
 -- a step asks such a question

@@ -29,11 +29,6 @@ users_made_with world (one ∷ rest) key =
     then Some world.registry.users
     else users_made_with (step_of world one.0 one.1).1 rest key
 
--- each run that was found has the users that stood at its first granted find
-abbrev pub HaveUsersMadeWith : World → List (Step × WorldMark) → Type 0
-HaveUsersMadeWith world marked = (key : Key) (run : RunOf) → run_after world marked key ≡ Some run
-    → users_made_with world marked key ≡ Some run.users
-
 -- ---- a run is what reached it
 
 -- the run has the users that stood at its first granted find; and it is the fresh run of its state,
@@ -89,8 +84,8 @@ RefusesOnlyWhereTold world (one ∷ rest) =
     (tells_want (step_of world one.0 one.1).0 ≡ false → one.1 ≡ ample)
     × RefusesOnlyWhereTold (step_of world one.0 one.1).1 rest
 
--- the steps have these replies and lead there, each with a mark; memory refuses a growth only where
--- the reply tells it; and no run reaches another
+-- the steps have these replies and lead there, with marks that `taken` has, one a step; of these
+-- memory refuses a growth only where the reply tells it; and no run reaches another
 pub record IsIsolated (world : World) (steps : List Step) (replies : List Reply) (after : World)
     : Type 0 where
   pub taken : IsStepList world steps replies after

@@ -3,7 +3,7 @@ use Rattle.std.specs.Prelude.{◌≡◌, ℕ, List, [], ◌∷◌, ◌++◌, map
 use Rattle.cs_session.specs.declared.message.Message.{Message}
 use Rattle.cs_session.specs.declared.reply.Reply.{Reply as SessionReply}
 use Rattle.cs_session.specs.Messages.{Either, goes_on, next_step}
-use Rattle.cs_session.specs.Receipts.{IsSpelled, message_in, tag_in, wire_of}
+use Rattle.cs_session.specs.Receiving.{IsSpelled, message_in, tag_in, wire_of}
 use Rattle.cs_session.specs.Steps.{Step as SessionStep}
 use Rattle.cs_wire.specs.declared.message.TMessage.{TMessage}
 use Rattle.cs_wire.specs.Messages.{Message as Spelled, replies as reply_side}

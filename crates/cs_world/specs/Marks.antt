@@ -10,12 +10,12 @@ pub data RunMark : Type 0 where
   InRun : StepMark → RunMark
 
 -- Of a step: the list of users that is loaded; the state that is made; what keeps it, once it is
--- published; a connection's table of fids; or what a run needs.
+-- published; what a connection takes of its own; or what a run needs.
 pub data WorldMark : Type 0 where
   NoUsers : WorldMark
   NoState : WorldMark
   NoKeeping : WorldMark
-  NoTable : WorldMark
+  NoOwn : WorldMark
   Below : RunMark → WorldMark
 
 abbrev pub refuses_users : WorldMark → Bool
@@ -30,9 +30,9 @@ abbrev pub refuses_keeping : WorldMark → Bool
 refuses_keeping NoKeeping = true
 refuses_keeping other = false
 
-abbrev pub refuses_table : WorldMark → Bool
-refuses_table NoTable = true
-refuses_table other = false
+abbrev pub refuses_own : WorldMark → Bool
+refuses_own NoOwn = true
+refuses_own other = false
 
 -- what is left of it for the runs
 abbrev pub below : WorldMark → RunMark

@@ -14,7 +14,8 @@ use Rattle.cs_registry.specs.Registries.{Registry}
 use Rattle.cs_registry.specs.Runs.{held_at, place_of}
 use Rattle.cs_run.specs.declared.answer.Answer.{Answer}
 use Rattle.cs_run.specs.declared.answer.Answer.TheVariants.{Short}
-use Rattle.cs_session.specs.Questions.{Question, Find, Enter, Ask, PortAnswer, Found, Entered, Got}
+use Rattle.cs_session.specs.Questions.{Question, FindRun, AttachTo, CallOn}
+use Rattle.cs_session.specs.Questions.{PortAnswer, FindAnswer, AttachAnswer, CallAnswer}
 use Rattle.cs_world.specs.declared.run_call.RunCall.{RunCall}
 use Rattle.cs_world.specs.declared.step.Step.{Step}
 use Rattle.cs_world.specs.Ample.{all_ample}
@@ -46,10 +47,10 @@ answer_tells_want Short = true
 answer_tells_want answer = false
 
 abbrev pub port_tells_want : PortAnswer → Bool
-port_tells_want (Found (Err not_found.Memory)) = true
-port_tells_want (Entered (Err no_pass.Memory)) = true
-port_tells_want (Entered (Ok entered)) = answer_tells_want entered.1
-port_tells_want (Got answer) = answer_tells_want answer
+port_tells_want (FindAnswer (Err not_found.Memory)) = true
+port_tells_want (AttachAnswer (Err no_pass.Memory)) = true
+port_tells_want (AttachAnswer (Ok given)) = answer_tells_want given.1
+port_tells_want (CallAnswer answer) = answer_tells_want answer
 port_tells_want answer = false
 
 -- the growth that memory refused: a mark beside an answer that tells no want counts for nothing
@@ -59,19 +60,19 @@ wanted answer mark = if port_tells_want answer then mark else InRun Ample
 -- what a question puts to the run of a key: an attach, or another call, with the growth that it
 -- wanted and memory refused, if any
 abbrev pub put_to : Registry RunOf → Key → Question → RunMark → List (RunCall × RunMark)
-put_to registry key (Find state name) mark = []
-put_to registry key (Enter now place call) mark =
+put_to registry key (FindRun state_name run_name) mark = []
+put_to registry key (AttachTo now place call) mark =
     if stands_at registry key place
     then (
-      record { pass = next_pass registry place; now = now; call = Attach call },
-      wanted (answered registry (Enter now place call) mark).0 mark,
+      record { pass = next_pass registry place; moment = now; call = Attach call },
+      wanted (answered registry (AttachTo now place call) mark).0 mark,
     ) ∷ []
     else []
-put_to registry key (Ask now place pass call) mark =
+put_to registry key (CallOn now place pass call) mark =
     if stands_at registry key place
     then (
-      record { pass = pass; now = now; call = call },
-      wanted (answered registry (Ask now place pass call) mark).0 mark,
+      record { pass = pass; moment = now; call = call },
+      wanted (answered registry (CallOn now place pass call) mark).0 mark,
     ) ∷ []
     else []
 
@@ -126,9 +127,11 @@ attach_in other = None
 -- a call on a run: an attach gets a pass, and any other has one
 abbrev pub alone_by : RunOf → ℕ → ℕ → Call → RunMark → Option AttachCall → PortAnswer × RunOf
 alone_by run now pass call mark (Some attach) =
-    (Entered (attached run now attach mark).0, (attached run now attach mark).1)
-alone_by run now pass call mark None =
-    (Got (called run now pass call (in_run mark)).0, (called run now pass call (in_run mark)).1)
+    (AttachAnswer (attached run now attach mark).0, (attached run now attach mark).1)
+alone_by run now pass call mark None = (
+  CallAnswer (called run now pass call (in_run mark)).0,
+  (called run now pass call (in_run mark)).1,
+)
 
 abbrev pub call_alone : RunOf → ℕ → ℕ → Call → RunMark → PortAnswer × RunOf
 call_alone run now pass call mark = alone_by run now pass call mark (attach_in call)
@@ -137,5 +140,5 @@ call_alone run now pass call mark = alone_by run now pass call mark (attach_in c
 abbrev pub alone : RunOf → List (RunCall × RunMark) → List PortAnswer × RunOf
 alone run [] = ([], run)
 alone run (one ∷ rest) =
-    answer_before (call_alone run one.0.now one.0.pass one.0.call one.1)
-    (alone (call_alone run one.0.now one.0.pass one.0.call one.1).1 rest)
+    answer_before (call_alone run one.0.moment one.0.pass one.0.call one.1)
+    (alone (call_alone run one.0.moment one.0.pass one.0.call one.1).1 rest)

@@ -3,7 +3,7 @@ use Rattle.std.specs.Prelude.{ℕ, nat_lt, not, length, if◌then◌else◌}
 use Rattle.cs_registry.specs.Publishing.{with_published}
 use Rattle.cs_registry.specs.Registries.{Registry, is_published}
 use Rattle.cs_world.specs.declared.reply.Reply.{Reply}
-use Rattle.cs_world.specs.declared.reply.Reply.TheVariants.{Published, Unpublished}
+use Rattle.cs_world.specs.declared.reply.Reply.TheVariants.{Published, NotPublished}
 use Rattle.cs_world.specs.declared.reply.StateFault.TheVariants.{NoSuchState, Twice, Memory}
 use Rattle.cs_world.specs.Marks.{WorldMark, refuses_keeping, refuses_state}
 use Rattle.cs_journal.specs.Runs.{RunOf}
@@ -13,8 +13,8 @@ use Rattle.cs_journal.specs.Runs.{RunOf}
 abbrev pub published : Registry RunOf → ℕ → WorldMark → Reply × Registry RunOf
 published registry number mark =
     if not (nat_lt number (length registry.scene.plan))
-    then (Unpublished NoSuchState, registry) else
-    if refuses_state mark then (Unpublished Memory, registry) else
-    if is_published registry number then (Unpublished Twice, registry) else
-    if refuses_keeping mark then (Unpublished Memory, registry) else
+    then (NotPublished NoSuchState, registry) else
+    if refuses_state mark then (NotPublished Memory, registry) else
+    if is_published registry number then (NotPublished Twice, registry) else
+    if refuses_keeping mark then (NotPublished Memory, registry) else
     (Published, with_published registry number)

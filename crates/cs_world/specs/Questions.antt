@@ -6,7 +6,7 @@ use Rattle.cs_session.specs.Steps.{Step as SessionStep, Front, Done, Asks, front
 use Rattle.cs_world.specs.declared.step.Step.{Step}
 use Rattle.cs_world.specs.declared.step.Step.TheVariants.{On}
 use Rattle.cs_world.specs.ConnectionSteps.{session_step}
-use Rattle.cs_world.specs.Marks.{WorldMark, refuses_table}
+use Rattle.cs_world.specs.Marks.{WorldMark, refuses_own}
 use Rattle.cs_world.specs.Worlds.{World, connection}
 
 -- what passes the connection's own rules is a question
@@ -18,7 +18,7 @@ question_of_front (Asks question) = Some question
 abbrev pub question_on : World → ℕ → ℕ → SessionStep → WorldMark → Option Question
 question_on world conn now step mark =
     if nat_lt conn CONNECTIONS
-    then question_of_front (front_by now (connection world conn) step (refuses_table mark))
+    then question_of_front (front_by now (connection world conn) step (refuses_own mark))
     else None
 
 -- of any step: a publish and a reload ask nothing

@@ -18,14 +18,14 @@ use Rattle.cs_registry.specs.declared.found.Found.{Found}
 use Rattle.cs_registry.specs.Keys.{Key}
 use Rattle.cs_registry.specs.Registries.{Registry, is_published}
 use Rattle.cs_registry.specs.Runs.{held_at}
-use Rattle.cs_session.specs.Questions.{Question, Find, Enter, Ask}
+use Rattle.cs_session.specs.Questions.{Question, FindRun, AttachTo, CallOn}
 use Rattle.cs_session.specs.Sessions.{Awaited, Sess, entry_at}
 use Rattle.cs_session.specs.Steps.{Step as SessionStep, Asks, front_by}
 use Rattle.cs_world.specs.Worlds.{World, connection}
 
 -- the run at a place awaits the connection's attach
 abbrev pub awaits : ℕ → Sess → Bool
-awaits place session = option_map_or (λ attach. attach.run == place) session.pending false
+awaits place session = option_map_or (λ awaited. awaited.run == place) session.awaited false
 
 -- how many connections have found it, and are still to attach to it
 abbrev pub waiting : ℕ → List Sess → ℕ
@@ -55,10 +55,10 @@ pub record HasAllThatIsNamed (world : World) : Type 0 where
   pub runs : (place : ℕ) (key : Key) (found : Found RunOf)
       → slice_get world.registry.runs place ≡ Some (key, found)
       → IsRunOfReachable world place key found
-  pub awaited : (conn : ℕ) (attach : Awaited) → (connection world conn).pending ≡ Some attach
-      → IsSome (held_at world.registry.runs attach.run)
-  pub fids : (conn fid : ℕ) (held : Entry) → entry_at (connection world conn) fid ≡ Some held
-      → Gave world.registry (run_of held) (pass_of held)
+  pub awaited : (conn : ℕ) (awaited : Awaited) → (connection world conn).awaited ≡ Some awaited
+      → IsSome (held_at world.registry.runs awaited.run)
+  pub fids : (conn fid : ℕ) (one : Entry) → entry_at (connection world conn) fid ≡ Some one
+      → Gave world.registry (run_of one) (pass_of one)
 
 -- an open of that number stands in the run at a place, under that pass
 abbrev pub HasOpen : Registry RunOf → ℕ → ℕ → ℕ → Type 0
@@ -84,10 +84,10 @@ pub record IsReachable (world : World) : Type 0 where
 -- what a question is put to is there: of an attach a run that can give a pass, and of a call a run
 -- that gave the pass; and a close, and a remove of an open fid, has room for its entry
 abbrev pub CanBeAsked : Registry RunOf → Question → Type 0
-CanBeAsked registry (Find state name) = Unit {0}
-CanBeAsked registry (Enter now place call) =
+CanBeAsked registry (FindRun state_name run_name) = Unit {0}
+CanBeAsked registry (AttachTo now place call) =
     IsSomeAnd (held_at registry.runs place) (λ run. run.passes < RUN_ATTACHES)
-CanBeAsked registry (Ask now place pass call) =
+CanBeAsked registry (CallOn now place pass call) =
     IsSomeAnd (held_at registry.runs place) (λ run. (pass < run.passes)
     × (IsSome (closes call) → is_full (state_of run) pass call ≡ false))
 

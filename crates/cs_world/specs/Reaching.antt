@@ -7,7 +7,7 @@ use Rattle.cs_registry.specs.Keys.{Key}
 use Rattle.cs_registry.specs.Naming.{key_in}
 use Rattle.cs_registry.specs.Registries.{Registry, is_published}
 use Rattle.cs_registry.specs.Runs.{held_at, place_of}
-use Rattle.cs_session.specs.Questions.{Question, Find, Enter, Ask}
+use Rattle.cs_session.specs.Questions.{Question, FindRun, AttachTo, CallOn}
 use Rattle.cs_session.specs.Steps.{Step as SessionStep}
 use Rattle.cs_tree_model.specs.Tree.{Tree}
 use Rattle.cs_journal.specs.Runs.{RunOf, fresh_run}
@@ -19,25 +19,23 @@ use Rattle.cs_world.specs.Worlds.{World, connection}
 
 -- the place of the run that a question is put to
 abbrev pub run_asked : Question → Option ℕ
-run_asked (Find state name) = None
-run_asked (Enter now place call) = Some place
-run_asked (Ask now place pass call) = Some place
+run_asked (FindRun state_name run_name) = None
+run_asked (AttachTo now place call) = Some place
+run_asked (CallOn now place pass call) = Some place
 
 -- the place of the run that a question is put to, or that it finds again
 abbrev pub run_asked_or_found : Registry RunOf → Question → Option ℕ
-run_asked_or_found registry (Find state name) =
-    option_and_then (λ key. place_of key registry.runs) (key_in state name)
-run_asked_or_found registry (Enter now place call) = Some place
-run_asked_or_found registry (Ask now place pass call) = Some place
+run_asked_or_found registry (FindRun state_name run_name) =
+    option_and_then (λ key. place_of key registry.runs) (key_in state_name run_name)
+run_asked_or_found registry other = run_asked other
 
--- the place of the run that a step touches, by its question
+-- the place of the run that a step's question is put to, or that it finds again
 abbrev pub run_asked_or_found_by : World → Step → WorldMark → Option ℕ
 run_asked_or_found_by world step mark =
     option_and_then (run_asked_or_found world.registry) (question_of_step world step mark)
 
--- a step of a connection changes no run but the one that it reaches; of a run that it neither
--- reaches nor finds it changes nothing, nor key nor count of finds; and it changes no other
--- connection
+-- a step of a connection changes no run but the one that it asks; of a run that it neither asks nor
+-- finds it changes nothing, nor key nor count of finds; and it changes no other connection
 pub record ChangesWhatItAsks (world : World) (conn now : ℕ) (step : SessionStep)
     (mark : WorldMark) : Type 0 where
   pub runs : (place : ℕ)

@@ -5,7 +5,7 @@ use Rattle.cs_registry.specs.Registries.{Registry}
 use Rattle.cs_session.specs.declared.message.Message.{Message}
 use Rattle.cs_session.specs.declared.reply.Reply.{Reply as SessionReply}
 use Rattle.cs_session.specs.Messages.{IsAnswered}
-use Rattle.cs_session.specs.Receipts.{IsReplied}
+use Rattle.cs_session.specs.Receiving.{IsReplied}
 use Rattle.cs_session.specs.Sessions.{Sess}
 use Rattle.cs_wire.specs.Messages.{Message as Spelled, replies as reply_side}
 use Rattle.cs_world.specs.Asking.{IsGiven}

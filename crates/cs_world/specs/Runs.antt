@@ -35,7 +35,7 @@ called run now pass call mark =
 
 -- the number of the pass beside the answer
 abbrev pub under : ℕ → Answer × RunOf → Result (ℕ × Answer) PassFault × RunOf
-under pass stepped = (Ok (pass, stepped.0), stepped.1)
+under pass pair = (Ok (pass, pair.0), pair.1)
 
 -- an attach is a call under a new pass, whose number is how many there were
 abbrev pub attached : RunOf → ℕ → AttachCall → RunMark → Result (ℕ × Answer) PassFault × RunOf

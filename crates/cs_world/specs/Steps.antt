@@ -8,14 +8,15 @@ use Rattle.cs_session.specs.declared.reply.Reply.{Reply as SessionReply}
 use Rattle.cs_session.specs.declared.reply.Reply.TheVariants.{Error}
 use Rattle.cs_session.specs.Questions.{PortAnswer}
 use Rattle.cs_session.specs.Sessions.{Sess}
-use Rattle.cs_session.specs.Steps.{Step as SessionStep, Front, Done, Asks, front_by, after}
+use Rattle.cs_session.specs.Steps.{Step as SessionStep, Front, Done, Asks, front_by}
+use Rattle.cs_session.specs.Steps.{after as after_answer}
 use Rattle.cs_world.specs.declared.reply.Reply.{Reply}
 use Rattle.cs_world.specs.declared.reply.Reply.TheVariants.{Connection}
 use Rattle.cs_world.specs.declared.step.Step.{Step}
 use Rattle.cs_world.specs.declared.step.Step.TheVariants.{Publish, Reload, On}
 use Rattle.cs_world.specs.Asking.{answered}
 use Rattle.cs_world.specs.ConnectionSteps.{session_step}
-use Rattle.cs_world.specs.Marks.{WorldMark, RunMark, below, refuses_table}
+use Rattle.cs_world.specs.Marks.{WorldMark, RunMark, below, refuses_own}
 use Rattle.cs_world.specs.Publishing.{published}
 use Rattle.cs_world.specs.Reloading.{reloaded}
 use Rattle.cs_journal.specs.Runs.{RunOf}
@@ -30,7 +31,7 @@ replied world conn registry pair =
 -- the connection goes on from the answer
 abbrev pub continued_from : World → ℕ → SessionStep → PortAnswer × Registry RunOf → Reply × World
 continued_from world conn step answer =
-    replied world conn answer.1 (after (connection world conn) step answer.0)
+    replied world conn answer.1 (after_answer (connection world conn) step answer.0)
 
 -- it answers by itself, or asks the runs
 abbrev pub from_front : World → ℕ → SessionStep → RunMark → Front → Reply × World
@@ -44,7 +45,7 @@ abbrev pub on_connection : World → ℕ → ℕ → SessionStep → WorldMark �
 on_connection world conn now step mark =
     if nat_lt conn CONNECTIONS
     then from_front world conn step (below mark)
-    (front_by now (connection world conn) step (refuses_table mark))
+    (front_by now (connection world conn) step (refuses_own mark))
     else (Connection (Error S5), world)
 
 -- ---- a step
@@ -59,4 +60,4 @@ step_of world (On conn now step) mark = on_connection world conn now (session_st
 
 -- with some mark
 abbrev pub IsStep : World → Step → Reply → World → Type 0
-IsStep world step reply next = (mark : WorldMark) × ((reply, next) ≡ step_of world step mark)
+IsStep world step reply after = (mark : WorldMark) × ((reply, after) ≡ step_of world step mark)

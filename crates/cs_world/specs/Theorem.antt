@@ -9,26 +9,21 @@ use Rattle.cs_registry.specs.Keys.{Key}
 use Rattle.cs_tree_model.specs.Tree.{Tree}
 use Rattle.cs_world.specs.declared.reply.Reply.{Reply}
 use Rattle.cs_world.specs.declared.step.Step.{Step}
-use Rattle.cs_world.specs.declared.step.Step.TheVariants.{Publish, Reload, On}
+use Rattle.cs_world.specs.declared.step.Step.TheVariants.{On}
 use Rattle.cs_world.specs.Ample.{ample, tells_want}
 use Rattle.cs_world.specs.Comes.{ConnectionStepComesTo}
 use Rattle.cs_world.specs.ConnectionSteps.{session_step}
 use Rattle.cs_world.specs.Lists.{IsStepList}
-use Rattle.cs_world.specs.Marks.{WorldMark, refuses_table}
-use Rattle.cs_world.specs.Publishing.{published}
+use Rattle.cs_world.specs.Marks.{WorldMark, refuses_own}
 use Rattle.cs_world.specs.Reaching.{run_asked_or_found_by}
-use Rattle.cs_world.specs.Reloading.{reloaded}
-use Rattle.cs_world.specs.Steps.{by_registry}
+use Rattle.cs_world.specs.Steps.{step_of}
 use Rattle.cs_world.specs.Worlds.{World}
 
--- a publish and a reload are the registry's; any other step comes to what its connection comes to
+-- a step of a connection comes to what that says; a publish and a reload are the registry's
 abbrev pub StepComesTo : World → Step → WorldMark → Reply → World → Type 0
-StepComesTo world (Publish number) mark reply after =
-    (reply, after) ≡ by_registry world (published world.registry number mark)
-StepComesTo world (Reload users) mark reply after =
-    (reply, after) ≡ by_registry world (reloaded world.registry users mark)
 StepComesTo world (On conn now step) mark reply after =
-    ConnectionStepComesTo world conn now (session_step step) (refuses_table mark) reply after
+    ConnectionStepComesTo world conn now (session_step step) (refuses_own mark) reply after
+StepComesTo world other mark reply after = (reply, after) ≡ step_of world other mark
 
 -- a step, in which memory refuses the growth of its mark, has that reply and leads there
 pub record StepIsJudged (world : World) (step : Step) (mark : WorldMark) (reply : Reply)
@@ -36,7 +31,7 @@ pub record StepIsJudged (world : World) (step : Step) (mark : WorldMark) (reply 
   pub comes : StepComesTo world step mark reply after
   -- the reply tells want of memory exactly where a growth was refused
   pub want : (tells_want reply ≡ false) ↔ (mark ≡ ample)
-  -- no run changes but the one that it reaches or finds, and the scene stays
+  -- no run changes but the one that it asks or finds, and the scene stays
   pub others : (place : ℕ) → run_asked_or_found_by world step mark ≢ Some place
       → place < length world.registry.runs
       → slice_get after.registry.runs place ≡ slice_get world.registry.runs place
@@ -51,7 +46,7 @@ StepsAreJudged world (one ∷ rest) (reply ∷ replies) after =
     (next : World) × StepIsJudged world one.0 one.1 reply next
     × StepsAreJudged next rest replies after
 
--- of a list that was taken: its steps, in order, each with a mark
+-- of a list that was taken: its steps, in order, with marks that `taken` has, one a step
 pub record ListIsJudged (world : World) (steps : List Step) (replies : List Reply) (after : World)
     : Type 0 where
   pub taken : IsStepList world steps replies after

@@ -15,19 +15,20 @@ use Rattle.cs_world.specs.Projections.{calls_of, put_to}
 -- one call more was noted, and nothing was refused before
 abbrev pub NotesOne : List RunCall → Bool → ℕ → ℕ → Result Call AllocError → List RunCall → Type 0
 NotesOne old short pass now (Ok call) new =
-    (short ≡ false) × (new ≡ old ++ record { pass = pass; now = now; call = call } ∷ [])
+    (short ≡ false) × (new ≡ old ++ record { pass = pass; moment = now; call = call } ∷ [])
 NotesOne old short pass now (Err fault) new = ⊥
 
 -- a call was noted, if it reaches the run
 abbrev pub NotesCall : List RunCall → Bool → Bool → ℕ → ℕ → Call → List RunCall → Type 0
 NotesCall old short reaches pass now call new = (short ≡ false)
-    × (new ≡ old ++ (if reaches then record { pass = pass; now = now; call = call } ∷ [] else []))
+    × (new ≡ old ++
+    (if reaches then record { pass = pass; moment = now; call = call } ∷ [] else []))
 
 -- an attach that got a pass was noted, if it reaches the run
 abbrev pub NotesAttach : List RunCall → Bool → Bool → ℕ → Result Call AllocError
     → Result (ℕ × Answer) PassFault → List RunCall → Type 0
 NotesAttach old short false now call given new = (short ≡ false) × (new ≡ old)
-NotesAttach old short true now call (Ok entered) new = NotesOne old short entered.0 now call new
+NotesAttach old short true now call (Ok given) new = NotesOne old short given.0 now call new
 NotesAttach old short true now call (Err fault) new = ⊥
 
 -- the answer is the runs', and what it puts to the run of the key is noted last

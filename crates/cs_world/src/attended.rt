@@ -88,10 +88,10 @@ impl AttendedRun {
     }
 
     /// Does a call under the pass of that number, at that moment; S5 where it gave no such pass.
-    pub(crate) fn call(&mut self, alloc: Global, now: u32, pass: u32, call: Call) -> Answer
+    pub(crate) fn call(&mut self, alloc: Global, now: u32, pass: u32, call: Call<'_>) -> Answer
         ensures called { (mark : StepMark)
-            × ((result, self.new) ≡ called self.old now pass call mark) }
-        ensures fits { FitsCall call result }
+            × ((result, self.new) ≡ called self.old now pass call.entry mark) }
+        ensures fits { FitsCall call.entry result }
     {
         let Some(pass) = self.passes.get_mut(pass as usize) else {
             return Answer::Denied(RuleId::S5);

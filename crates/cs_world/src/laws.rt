@@ -12,7 +12,7 @@ ghost use Rattle.cs_world.specs.declared.step.Step.{Step};
 ghost use Rattle.cs_world.specs.declared.step.Step.TheVariants.{Publish, Reload};
 ghost use Rattle.cs_world.specs.Ample.{ample, tells_want};
 ghost use Rattle.cs_world.specs.Comes.{ConnectionStepComes};
-ghost use Rattle.cs_world.specs.Isolation.{HaveUsersMadeWith, NoneReachesAnother};
+ghost use Rattle.cs_world.specs.Isolation.{NoneReachesAnother};
 ghost use Rattle.cs_world.specs.Ends.{CallComesTo};
 ghost use Rattle.cs_world.specs.Lists.{follow_on, steps_of};
 ghost use Rattle.cs_world.specs.Marks.{WorldMark};
@@ -35,10 +35,10 @@ pub fn calls_are_judged()
         (run_step run now pass call mark).1 }
 {}
 
-/// A step of a connection changes no run but the one that it reaches, and no other connection; of a
-/// run that it neither reaches nor finds it changes nothing, nor key nor count of finds; a publish
-/// and a reload change no run and no connection. No step changes the scene.
-pub fn only_what_is_reached_changes()
+/// A step of a connection changes no run but the one that it asks, and no other connection; of a
+/// run that it neither asks nor finds it changes nothing, nor key nor count of finds; a publish and
+/// a reload change no run and no connection. No step changes the scene.
+pub fn only_what_is_asked_changes()
     ensures step { (world : World) (conn now : ℕ) (step : SessionStep) (mark : WorldMark) →
         ChangesWhatItAsks world conn now step mark }
     ensures publish { (world : World) (number : ℕ) (mark : WorldMark) →
@@ -58,9 +58,9 @@ pub fn new_runs_are_states()
 
 /// A new world is reachable, and each step leads from a reachable world to a reachable one. In a
 /// reachable world a connection attaches to a run that is there and can give a pass, and calls on a
-/// run that is there, under a pass that it gave: so no attach that was found is A5 or S5, nor a
-/// call S5 for want of a run or a pass. Each of its runs began as the crash state of its number's
-/// set, which is allowed: that its plan is one says `World::scene`.
+/// run that is there, under a pass that it gave: so no attach to a run that was found is A5 or S5,
+/// nor a call S5 for want of a run or a pass. Each of its runs began as the crash state of its
+/// number's set, which is allowed: that its plan is one says `World::scene`.
 pub fn reachable_worlds()
     ensures new { (scene : Scene) (users : List Row) → IsReachable (new_world scene users) }
     ensures step { (world : World) → IsReachable world → (step : Step) (mark : WorldMark) →
@@ -110,8 +110,6 @@ pub fn only_want_of_memory_differs()
 /// other. Each run that was found has the users that stood at its first granted find, whatever was
 /// loaded later.
 pub fn no_run_reaches_another()
-    ensures laws { (scene : Scene) (users : List Row) (marked : List (Step × WorldMark)) →
+    ensures { (scene : Scene) (users : List Row) (marked : List (Step × WorldMark)) →
         NoneReachesAnother (new_world scene users) marked }
-    ensures users_made_with { (scene : Scene) (users : List Row)
-        (marked : List (Step × WorldMark)) → HaveUsersMadeWith (new_world scene users) marked }
 {}

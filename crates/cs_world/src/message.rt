@@ -6,7 +6,7 @@ ghost use Rattle.cs_names.specs.declared.rule_id.RuleId.TheVariants.{S5};
 ghost use Rattle.cs_session.specs.declared.message.Message.TheVariants as message;
 ghost use Rattle.cs_session.specs.declared.reply.Reply.TheVariants as reply;
 ghost use Rattle.cs_session.specs.Ready.{IsAgreed};
-ghost use Rattle.cs_session.specs.Receipts.{tag_in, wire_of};
+ghost use Rattle.cs_session.specs.Receiving.{tag_in, wire_of};
 ghost use Rattle.cs_session.specs.Sessions.{blank};
 ghost use Rattle.cs_session.specs.Sizes.{FitsWithin, room_of};
 ghost use Rattle.cs_wire.specs.Messages.{r_view};
@@ -46,9 +46,9 @@ impl World {
     pub fn message(&mut self, alloc: Global, conn: u32, now: u32, bytes: &[u8]) -> RMessage
         requires connection { conn < CONNECTIONS }
         requires whole { 7 ≤ length bytes.now }
-        ensures replied { (connection self.old conn).pending ≡ None →
+        ensures replied { (connection self.old conn).awaited ≡ None →
             IsRepliedOn self.old conn now bytes.now (r_view result) self.new }
-        ensures out_of_turn { (connection self.old conn).pending ≢ None →
+        ensures out_of_turn { (connection self.old conn).awaited ≢ None →
             (r_view result ≡ wire_of (tag_in bytes.now) (reply.Error S5)) × (self.new ≡ self.old) }
         ensures others { self.new.connections
             ≡ slice_set self.old.connections conn (connection self.new conn) }
@@ -69,12 +69,12 @@ impl World {
     /// none of these steps: the reply is S5, and nothing changes. No other connection changes.
     pub fn hang_up(&mut self, alloc: Global, conn: u32, now: u32) -> Reply
         requires connection { conn < CONNECTIONS }
-        ensures closed { (connection self.old conn).pending ≡ None →
+        ensures closed { (connection self.old conn).awaited ≡ None →
             (result ≡ reply.Closed)
             × IsAnsweredOn self.old conn now message.HangUp reply.Closed self.new }
-        ensures ended { (connection self.old conn).pending ≡ None →
+        ensures ended { (connection self.old conn).awaited ≡ None →
             connection self.new conn ≡ blank None }
-        ensures out_of_turn { (connection self.old conn).pending ≢ None →
+        ensures out_of_turn { (connection self.old conn).awaited ≢ None →
             (result ≡ reply.Error S5) × (self.new ≡ self.old) }
         ensures others { self.new.connections
             ≡ slice_set self.old.connections conn (connection self.new conn) }

@@ -7,6 +7,6 @@ use cs_permit::Call;
 #[derive(Debug, Drop)]
 pub struct RunCall {
     pub pass: u32,
-    pub now: u32,
-    pub call: Call,
+    pub moment: u32,
+    pub call: Call<'static>,
 }

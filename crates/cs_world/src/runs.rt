@@ -42,13 +42,13 @@ impl Runs {
     {
         let state = match Scene::make(alloc, self.states.scene(), number) {
             Ok(state) => state,
-            Err(MakeFault::NoSuchState) => return Reply::Unpublished(StateFault::NoSuchState),
-            Err(MakeFault::Memory) => return Reply::Unpublished(StateFault::Memory),
+            Err(MakeFault::NoSuchState) => return Reply::NotPublished(StateFault::NoSuchState),
+            Err(MakeFault::Memory) => return Reply::NotPublished(StateFault::Memory),
         };
         match self.states.publish_own(alloc, state) {
             Ok(()) => Reply::Published,
-            Err(PublishFault::Twice) => Reply::Unpublished(StateFault::Twice),
-            Err(PublishFault::Memory) => Reply::Unpublished(StateFault::Memory),
+            Err(PublishFault::Twice) => Reply::NotPublished(StateFault::Twice),
+            Err(PublishFault::Memory) => Reply::NotPublished(StateFault::Memory),
             // the state was made in the registry's own scene
             Err(PublishFault::Stranger) => unreachable!(),
         }
@@ -90,7 +90,7 @@ impl Port for Runs {
         self.states.at_mut(run).attach(alloc, now, user)
     }
 
-    fn call(&mut self, alloc: Global, now: u32, run: u32, pass: u32, call: Call) -> Answer {
+    fn call(&mut self, alloc: Global, now: u32, run: u32, pass: u32, call: Call<'_>) -> Answer {
         if run >= self.states.run_count() {
             return Answer::Denied(RuleId::S5);
         }

@@ -8,12 +8,12 @@ use std::alloc::{AllocError, Global};
 /// What a connection does.
 #[derive(Debug, Drop)]
 pub enum ConnectionStep {
-    /// The run of an attach is found, which then awaits it (attach(5)).
+    /// The run of an attach is found, and then awaits it (attach(5)).
     Find(AttachMessage),
     /// The user of that find is attached to its run (attach(5)).
     Attach,
     /// A call on a fid's run.
-    Call(CallMessage),
+    Call(CallMessage<'static>),
     /// The open fid of that number is closed (clunk(5)).
     Close(u32),
     /// The connection's own table is changed.
@@ -35,7 +35,7 @@ impl ConnectionStep {
     }
 }
 
-/// A step: of what publishes states or loads users, or of a connection.
+/// A step: a publish, a reload, or what a connection does.
 #[derive(Debug, Drop)]
 pub enum Step {
     /// The state of that number is made and published.

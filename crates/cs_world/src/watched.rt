@@ -35,15 +35,20 @@ impl WatchedRuns {
     }
 
     /// Notes a call that reached the run.
-    fn note(&mut self, pass: u32, now: u32, call: Result<Call, AllocError>)
+    fn note(&mut self, pass: u32, now: u32, call: Result<Call<'static>, AllocError>)
         ensures runs { self.new.runs ≡ self.old.runs }
         ensures key { self.new.key ≡ self.old.key }
         ensures noted { self.new.is_short ≡ false →
-            NotesOne self.old.calls.items self.old.is_short pass now call self.new.calls.items }
+            NotesOne self.old.calls.items self.old.is_short pass now call.entry
+            self.new.calls.items }
     {
         match call {
             Ok(call) => {
-                let note = RunCall { pass, now, call };
+                let note = RunCall {
+                    pass,
+                    moment: now,
+                    call,
+                };
                 if self.calls.push(note).is_err() {
                     self.is_short = true;
                 }
@@ -53,7 +58,7 @@ impl WatchedRuns {
     }
 
     /// Notes a call, if it reaches the run.
-    fn note_call(&mut self, alloc: Global, reaches: bool, pass: u32, now: u32, call: &Call)
+    fn note_call(&mut self, alloc: Global, reaches: bool, pass: u32, now: u32, call: &Call<'_>)
         ensures runs { self.new.runs ≡ self.old.runs }
         ensures key { self.new.key ≡ self.old.key }
         ensures noted { self.new.is_short ≡ false →
@@ -71,17 +76,17 @@ impl WatchedRuns {
         &mut self,
         reaches: bool,
         now: u32,
-        call: Result<Call, AllocError>,
-        entered: &Result<(u32, Answer), PassFault>,
+        call: Result<Call<'static>, AllocError>,
+        given: &Result<(u32, Answer), PassFault>,
     )
         ensures runs { self.new.runs ≡ self.old.runs }
         ensures key { self.new.key ≡ self.old.key }
         ensures noted { self.new.is_short ≡ false →
-            NotesAttach self.old.calls.items self.old.is_short reaches now call entered.now
+            NotesAttach self.old.calls.items self.old.is_short reaches now call.entry given.now
             self.new.calls.items }
     {
         if reaches {
-            match entered {
+            match given {
                 Ok((pass, _)) => self.note(*pass, now, call),
                 Err(_) => self.is_short = true,
             }
@@ -107,12 +112,12 @@ impl Port for WatchedRuns {
     ) -> Result<(u32, Answer), PassFault> {
         let reaches = self.stands_at(run);
         let call = attach_of(&user);
-        let entered = self.runs.attach(alloc, now, run, user);
-        self.note_attach(reaches, now, call, &entered);
-        entered
+        let given = self.runs.attach(alloc, now, run, user);
+        self.note_attach(reaches, now, call, &given);
+        given
     }
 
-    fn call(&mut self, alloc: Global, now: u32, run: u32, pass: u32, call: Call) -> Answer {
+    fn call(&mut self, alloc: Global, now: u32, run: u32, pass: u32, call: Call<'_>) -> Answer {
         let reaches = self.stands_at(run);
         self.note_call(alloc, reaches, pass, now, &call);
         self.runs.call(alloc, now, run, pass, call)
@@ -120,7 +125,7 @@ impl Port for WatchedRuns {
 }
 
 /// The call of an attach of that user.
-fn attach_of(user: &Text) -> Result<Call, AllocError>
+fn attach_of(user: &Text) -> Result<Call<'static>, AllocError>
     ensures { IfOk result (λ call. call ≡ Attach (record { user = user.now })) }
 {
     Ok(Call::Attach(AttachCall {

@@ -1,5 +1,4 @@
 //! All states of a scene, published by workers in a registry that threads share.
-ghost use Rattle.std.specs.Prelude.{◌≡◌};
 ghost use Rattle.std.specs.Arc.{arc_value};
 ghost use Rattle.cs_shared.specs.Serving.{IsOnly, ServesAll};
 

@@ -1,10 +1,9 @@
 //! Audits of journals: of a full one, and of one with an eighth of the entries.
 
-use crate::ground::Ground;
+use crate::ground::{Ground, step_all};
+use crate::kind::Kind;
 use cs_bench::{Bound, Row, Total, Work, compare, print_figure};
 use cs_journal::{Pass, Run};
-use cs_names::Text;
-use cs_permit::{AttachCall, Call, StatCall};
 use cs_tree::PlainTree;
 use std::alloc::Global;
 use std::io;
@@ -47,29 +46,23 @@ impl Audit {
         })
     }
 
-    /// Makes a call under one of the passes, each in its turn.
-    fn call(&mut self, alloc: Global, call: Call) -> Option<()> {
+    /// Makes a stat under one of the passes, each in its turn.
+    fn stat(&mut self, alloc: Global) -> Option<()> {
         let turn = (self.entries % PASSES) as usize;
         let pass = self.passes.get_mut(turn)?;
         if !self.run.fits(pass) {
             return None;
         }
-        let _answer = self.run.step(alloc, pass, 1, call);
+        let _granted = step_all(alloc, &mut self.run, pass, Kind::Stats, &[], 1);
         self.entries = self.entries.wrapping_add(1);
         Some(())
     }
 
-    /// A journal of so many entries: attaches, and stats of the root.
+    /// A journal of so many entries of stats.
     fn of(alloc: Global, entries: u32) -> Option<Audit> {
         let mut audit = Audit::begun(alloc)?;
-        for entry in 0..entries {
-            let call = if entry < PASSES {
-                let user = Text::keep(alloc, "ann").ok()?;
-                Call::Attach(AttachCall { user })
-            } else {
-                Call::Stat(StatCall { number: 0 })
-            };
-            audit.call(alloc, call)?;
+        for _ in 0..entries {
+            audit.stat(alloc)?;
         }
         Some(audit)
     }

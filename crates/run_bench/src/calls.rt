@@ -4,7 +4,7 @@ ghost use Rattle.cs_tree_model.specs.Stores.{CanStamp};
 ghost use Rattle.cs_tree_model.specs.Tree.{content_numbered};
 
 use crate::files::{FILE, name, tree, user, users};
-use crate::kind::{BLOCK, Kind, OFFSET};
+use crate::kind::{BLOCK, Kind, OFFSET, blocks};
 use cs_bench::{Row, Work, compare};
 use cs_names::{Name, UserName};
 use cs_permit::{Call, qid_at, stat_ref};
@@ -23,9 +23,9 @@ const ROUNDS: u64 = 1_000;
 
 /// A call on a run.
 #[derive(Drop)]
-struct ByCall {
+struct ByCall<'a> {
     run: CountedRun<PlainTree>,
-    call: Call,
+    call: Call<'a>,
     repeats: u64,
 }
 
@@ -33,7 +33,7 @@ struct ByCall {
 pub fn is_granted<T: TreeStore + Drop>(
     alloc: Global,
     run: &mut CountedRun<T>,
-    call: &Call,
+    call: &Call<'_>,
 ) -> bool {
     if run.is_full() {
         return false;
@@ -42,7 +42,7 @@ pub fn is_granted<T: TreeStore + Drop>(
     !matches!(answer, Answer::Denied(_) | Answer::Short)
 }
 
-impl Work for ByCall {
+impl Work for ByCall<'_> {
     fn run(&mut self, alloc: Global) -> u64 {
         let mut done = 0u64;
         for _ in 0..self.repeats {
@@ -54,12 +54,12 @@ impl Work for ByCall {
 
 /// The same by the tree's own calls.
 #[derive(Drop)]
-struct ByTree {
+struct ByTree<'a> {
     tree: PlainTree,
     kind: Kind,
     names: Vec<Name>,
     user: UserName,
-    bytes: Vec<u8>,
+    bytes: &'a [u8],
     repeats: u64,
 }
 
@@ -85,20 +85,19 @@ fn push_names(alloc: Global, names: &mut Vec<Name>, count: u64) -> Option<()> {
     Some(())
 }
 
-impl ByTree {
-    fn of(alloc: Global, kind: Kind, repeats: u64) -> Option<ByTree> {
+impl<'a> ByTree<'a> {
+    fn of(alloc: Global, kind: Kind, blocks: &'a [u8], repeats: u64) -> Option<ByTree<'a>> {
         let mut names = Vec::new(alloc);
         if let Kind::Walks(count) = kind {
             push_names(alloc, &mut names, count)?;
         }
         let user = user(alloc)?;
-        let bytes = vec![in alloc; 9u8; BLOCK].ok()?;
         Some(ByTree {
             tree: tree(alloc)?,
             kind,
             names,
             user,
-            bytes,
+            bytes: blocks.get(..BLOCK)?,
             repeats,
         })
     }
@@ -114,7 +113,7 @@ impl ByTree {
     }
 
     fn write(&mut self, alloc: Global) -> Option<()> {
-        let bytes = self.bytes.as_slice();
+        let bytes = self.bytes;
         if !takes_bytes(&self.tree, FILE) || bytes.is_empty() || bytes.len() > 65_536 {
             return None;
         }
@@ -143,7 +142,7 @@ impl ByTree {
     }
 }
 
-impl Work for ByTree {
+impl Work for ByTree<'_> {
     fn run(&mut self, alloc: Global) -> u64 {
         let mut done = 0u64;
         for _ in 0..self.repeats {
@@ -153,8 +152,8 @@ impl Work for ByTree {
     }
 }
 
-fn by_call(alloc: Global, kind: Kind, repeats: u64) -> Option<ByCall> {
-    let call = kind.call(alloc)?;
+fn by_call<'a>(alloc: Global, kind: Kind, blocks: &'a [u8], repeats: u64) -> Option<ByCall<'a>> {
+    let call = kind.call(alloc, blocks, 0)?;
     let users = users(alloc)?;
     Some(ByCall {
         run: CountedRun::new(alloc, tree(alloc)?, users),
@@ -167,9 +166,12 @@ fn by_call(alloc: Global, kind: Kind, repeats: u64) -> Option<ByCall> {
 pub fn calls(rt: &(impl Clock + Print + AllocGlobal), kind: Kind, timed: bool) -> io::Result<()> {
     let alloc = rt.alloc();
     let repeats = if timed { REPEATS } else { 1 };
+    let Some(blocks) = blocks(alloc) else {
+        return println!(rt; "out of memory");
+    };
     let (Some(mut call), Some(mut own)) = (
-        by_call(alloc, kind, repeats),
-        ByTree::of(alloc, kind, repeats),
+        by_call(alloc, kind, &blocks, repeats),
+        ByTree::of(alloc, kind, &blocks, repeats),
     ) else {
         return println!(rt; "out of memory");
     };

@@ -2,11 +2,12 @@
 ghost use Rattle.std.specs.Arc.{arc_value};
 ghost use Rattle.std.specs.Prelude.{IfSome};
 ghost use Rattle.cs_journal.specs.Bounds.{CanGrow};
+ghost use Rattle.cs_journal.specs.Runs.{Fits};
 
 use crate::files::{tree, users};
+use crate::kind::Kind;
 use cs_journal::{Pass, Run, can_grow};
 use cs_overlay::Overlay;
-use cs_permit::Call;
 use cs_run::{Answer, CountedRun};
 use cs_tree::PlainTree;
 use cs_users::Users;
@@ -68,6 +69,30 @@ impl Ground {
     }
 }
 
+/// Makes so many calls under a pass: how many are granted.
+// the one place that steps, so that they are in line there
+pub fn step_all(
+    alloc: Global,
+    run: &mut Run<PlainTree>,
+    pass: &mut Pass,
+    kind: Kind,
+    blocks: &[u8],
+    count: u64,
+) -> u64
+    requires { Fits run.old pass.old }
+    ensures { Fits run.new pass.new }
+{
+    let mut done = 0u64;
+    for place in 0..count {
+        if let Some(call) = kind.call(alloc, blocks, place) {
+            let answer = run.step(alloc, pass, 1, call);
+            let is_granted = !matches!(answer, Answer::Denied(_) | Answer::Short);
+            done = done.wrapping_add(u64::from(is_granted));
+        }
+    }
+    done
+}
+
 /// A run, and its first pass.
 #[derive(Drop)]
 pub struct Side {
@@ -94,8 +119,8 @@ impl Side {
         Some(Side { run, pass })
     }
 
-    /// Makes a call.
-    pub fn step(&mut self, alloc: Global, call: Call) -> Answer {
-        self.run.step(alloc, &mut self.pass, 1, call)
+    /// Makes so many calls: how many are granted.
+    pub fn step_all(&mut self, alloc: Global, kind: Kind, blocks: &[u8], count: u64) -> u64 {
+        step_all(alloc, &mut self.run, &mut self.pass, kind, blocks, count)
     }
 }

@@ -2,8 +2,8 @@
 
 use crate::files::{DEPTH, FILE, name, user};
 use cs_fids::Place;
-use cs_names::{Bytes, Texts};
-use cs_permit::{Call, ReadCall, StatCall, WalkCall, WriteCall};
+use cs_names::Texts;
+use cs_permit::{Call, ReadCall, SentBytes, StatCall, WalkCall, WriteCall};
 use std::alloc::Global;
 
 /// Bytes of a read and of a write.
@@ -21,8 +21,23 @@ pub enum Kind {
     Walks(u64),
 }
 
+/// Bytes of a message of such a write.
+const MESSAGE: u64 = 4_119;
+
+/// Two blocks, from which each write lends its bytes.
+pub fn blocks(alloc: Global) -> Option<Vec<u8>> {
+    vec![in alloc; 9u8; BLOCK * 2].ok()
+}
+
+/// The bytes of a write. Those of the next lie further on by a message, as on a connection: how fast
+/// a processor copies depends on where in their pages both places lie.
+fn written(blocks: &[u8], place: u64) -> Option<&[u8]> {
+    let begin = (place.wrapping_mul(MESSAGE) % BLOCK as u64) as usize;
+    blocks.get(begin..begin + BLOCK)
+}
+
 /// A walk of so many names from the root down.
-fn walk(alloc: Global, count: u64) -> Option<Call> {
+fn walk(alloc: Global, count: u64) -> Option<Call<'static>> {
     let mut names = Vec::new(alloc);
     for depth in 1..count.min(DEPTH) + 1 {
         let name = name(alloc, depth)?;
@@ -46,8 +61,8 @@ impl Kind {
         }
     }
 
-    /// The call.
-    pub fn call(self, alloc: Global) -> Option<Call> {
+    /// The call at a place among others. A write lends its bytes from these blocks.
+    pub fn call<'a>(self, alloc: Global, blocks: &'a [u8], place: u64) -> Option<Call<'a>> {
         match self {
             Kind::Stats => Some(Call::Stat(StatCall { number: FILE })),
             Kind::Reads => Some(Call::Read(ReadCall {
@@ -60,7 +75,7 @@ impl Kind {
                 number: FILE,
                 user: user(alloc)?,
                 offset: OFFSET,
-                bytes: Bytes::new(vec![in alloc; 9u8; BLOCK].ok()?),
+                bytes: SentBytes::lent(written(blocks, place)?),
             })),
             Kind::Walks(count) => walk(alloc, count),
         }

@@ -2,10 +2,10 @@
 
 use crate::calls::is_granted;
 use crate::ground::{Ground, Side};
-use crate::kind::Kind;
+use crate::kind::{Kind, blocks};
 use cs_bench::{Row, Total, Work};
 use cs_overlay::Overlay;
-use cs_run::{Answer, CountedRun};
+use cs_run::CountedRun;
 use cs_tree::PlainTree;
 use std::alloc::Global;
 use std::io;
@@ -14,25 +14,26 @@ use std::rt::Clock;
 /// On how many runs the steps are made.
 const RUNS: u64 = 16;
 
-/// So many steps of a run.
-#[derive(Drop)]
-struct Stepping {
-    side: Side,
+/// So many calls: what a write lends its bytes from stands.
+#[derive(Clone, Copy)]
+struct Many<'a> {
     kind: Kind,
+    blocks: &'a [u8],
     count: u64,
 }
 
-impl Work for Stepping {
+/// So many steps of a run.
+#[derive(Drop)]
+struct Stepping<'a> {
+    side: Side,
+    many: Many<'a>,
+}
+
+impl Work for Stepping<'_> {
     fn run(&mut self, alloc: Global) -> u64 {
-        let mut done = 0u64;
-        for _ in 0..self.count {
-            if let Some(call) = self.kind.call(alloc) {
-                let answer = self.side.step(alloc, call);
-                let is_granted = !matches!(answer, Answer::Denied(_) | Answer::Short);
-                done = done.wrapping_add(u64::from(is_granted));
-            }
-        }
-        done
+        let many = self.many;
+        self.side
+            .step_all(alloc, many.kind, many.blocks, many.count)
     }
 }
 
@@ -40,15 +41,19 @@ impl Work for Stepping {
 #[derive(Drop)]
 struct Alone<'a> {
     run: &'a mut CountedRun<Overlay<PlainTree>>,
-    kind: Kind,
-    count: u64,
+    many: Many<'a>,
 }
 
 impl Work for Alone<'_> {
     fn run(&mut self, alloc: Global) -> u64 {
+        let Many {
+            kind,
+            blocks,
+            count,
+        } = self.many;
         let mut done = 0u64;
-        for _ in 0..self.count {
-            if let Some(call) = self.kind.call(alloc) {
+        for place in 0..count {
+            if let Some(call) = kind.call(alloc, blocks, place) {
                 done = done.wrapping_add(u64::from(is_granted(alloc, self.run, &call)));
             }
         }
@@ -68,8 +73,7 @@ fn row(kind: Kind) -> (u64, f64) {
 /// several runs the first doesn't count: it finds no memory that was used before.
 fn take_turns(
     rt: &(impl Clock + AllocGlobal),
-    kind: Kind,
-    count: u64,
+    many: Many<'_>,
     runs: u64,
 ) -> io::Result<Option<(Total, Total)>> {
     let alloc = rt.alloc();
@@ -77,7 +81,7 @@ fn take_turns(
         return Ok(None);
     };
     match ground.plain(alloc) {
-        Some(mut plain) => take_each(rt, &ground, &mut plain, kind, count, runs),
+        Some(mut plain) => take_each(rt, &ground, &mut plain, many, runs),
         None => Ok(None),
     }
 }
@@ -87,8 +91,7 @@ fn take_each(
     rt: &(impl Clock + AllocGlobal),
     ground: &Ground,
     plain: &mut CountedRun<Overlay<PlainTree>>,
-    kind: Kind,
-    count: u64,
+    many: Many<'_>,
     runs: u64,
 ) -> io::Result<Option<(Total, Total)>> {
     let alloc = rt.alloc();
@@ -100,9 +103,9 @@ fn take_each(
         if run == 1 {
             totals = (Total::new(), Total::new());
         }
-        totals.0.time(rt, &mut Stepping { side, kind, count })?;
+        totals.0.time(rt, &mut Stepping { side, many })?;
         let run = &mut *plain;
-        totals.1.time(rt, &mut Alone { run, kind, count })?;
+        totals.1.time(rt, &mut Alone { run, many })?;
     }
     Ok(Some(totals))
 }
@@ -111,7 +114,16 @@ fn take_each(
 pub fn steps(rt: &(impl Clock + Print + AllocGlobal), kind: Kind, timed: bool) -> io::Result<()> {
     let (steps, most) = row(kind);
     let (count, runs) = if timed { (steps, RUNS) } else { (1, 1) };
-    let Some(totals) = take_turns(rt, kind, count, runs)? else {
+    let Some(blocks) = blocks(rt.alloc()) else {
+        return println!(rt; "out of memory");
+    };
+    let blocks = blocks.as_slice();
+    let many = Many {
+        kind,
+        blocks,
+        count,
+    };
+    let Some(totals) = take_turns(rt, many, runs)? else {
         return println!(rt; "out of memory");
     };
     let name = kind.name();

@@ -20,8 +20,11 @@ const PASSING: u32 = 3;
 /// Reading and writing, as the low bits of an open's mode.
 const READ_WRITE: u8 = 2;
 
+/// The bytes of a write.
+static WRITTEN: [u8; BLOCK as usize] = [7; BLOCK as usize];
+
 /// The bytes of a message.
-fn spelled(alloc: Global, body: TBody) -> io::Result<Vec<u8>> {
+fn spelled(alloc: Global, body: TBody<'_>) -> io::Result<Vec<u8>> {
     let message = TMessage { tag: 1, body };
     if !message.fits() {
         return Err(io::Error::from(io::ErrorKind::InvalidInput));
@@ -31,7 +34,7 @@ fn spelled(alloc: Global, body: TBody) -> io::Result<Vec<u8>> {
     Ok(bytes)
 }
 
-fn walk(alloc: Global, newfid: u32, name: Option<String>) -> Result<TBody, AllocError> {
+fn walk(alloc: Global, newfid: u32, name: Option<String>) -> Result<TBody<'static>, AllocError> {
     let mut wname = Vec::new(alloc);
     if let Some(name) = name {
         wname.push(name)?;
@@ -43,7 +46,7 @@ fn walk(alloc: Global, newfid: u32, name: Option<String>) -> Result<TBody, Alloc
     })
 }
 
-fn create(fid: u32, name: String) -> TBody {
+fn create(fid: u32, name: String) -> TBody<'static> {
     TBody::Create {
         fid,
         name,
@@ -52,15 +55,15 @@ fn create(fid: u32, name: String) -> TBody {
     }
 }
 
-fn write(alloc: Global) -> Result<TBody, AllocError> {
-    Ok(TBody::Write {
+fn write() -> TBody<'static> {
+    TBody::Write {
         fid: OPEN,
         offset: 0,
-        data: vec![in alloc; 7u8; BLOCK as usize]?,
-    })
+        data: &WRITTEN,
+    }
 }
 
-fn read(fid: u32) -> TBody {
+fn read(fid: u32) -> TBody<'static> {
     TBody::Read {
         fid,
         offset: 0,
@@ -69,7 +72,7 @@ fn read(fid: u32) -> TBody {
 }
 
 /// A new session.
-fn version(alloc: Global) -> Result<TBody, AllocError> {
+fn version(alloc: Global) -> Result<TBody<'static>, AllocError> {
     Ok(TBody::Version {
         msize: 65_536,
         version: String::from_str(alloc, "9P2000")?,
@@ -77,7 +80,7 @@ fn version(alloc: Global) -> Result<TBody, AllocError> {
 }
 
 /// Ann comes to the run of that number of the state 0.
-fn attach(alloc: Global, run: u32) -> Result<TBody, AllocError> {
+fn attach(alloc: Global, run: u32) -> Result<TBody<'static>, AllocError> {
     Ok(TBody::Attach {
         fid: ROOT,
         afid: u32::MAX,
@@ -86,7 +89,7 @@ fn attach(alloc: Global, run: u32) -> Result<TBody, AllocError> {
     })
 }
 
-fn spell_all(alloc: Global, bodies: Vec<TBody>) -> io::Result<Vec<Vec<u8>>> {
+fn spell_all(alloc: Global, bodies: Vec<TBody<'_>>) -> io::Result<Vec<Vec<u8>>> {
     let mut all = Vec::new(alloc);
     for body in bodies {
         all.push(spelled(alloc, body)?)?;
@@ -103,13 +106,17 @@ pub fn joining(alloc: Global, client: u32, run: u32) -> io::Result<Vec<Vec<u8>>>
     bodies.push(attach(alloc, run)?)?;
     bodies.push(walk(alloc, OPEN, None)?)?;
     bodies.push(create(OPEN, name.clone()?))?;
-    bodies.push(write(alloc)?)?;
+    bodies.push(write())?;
     bodies.push(walk(alloc, FILE, Some(name))?)?;
     spell_all(alloc, bodies)
 }
 
 /// A walk to the client's own file, an open, a read of a block, and a clunk.
-fn push_opens(alloc: Global, client: u32, bodies: &mut Vec<TBody>) -> Result<(), AllocError> {
+fn push_opens(
+    alloc: Global,
+    client: u32,
+    bodies: &mut Vec<TBody<'static>>,
+) -> Result<(), AllocError> {
     let name = format!(in alloc; "c{client}")?;
     bodies.push(walk(alloc, PASSING, Some(name))?)?;
     bodies.push(TBody::Open {
@@ -122,7 +129,11 @@ fn push_opens(alloc: Global, client: u32, bodies: &mut Vec<TBody>) -> Result<(),
 }
 
 /// A walk of no name, a create, and a remove.
-fn push_creates(alloc: Global, client: u32, bodies: &mut Vec<TBody>) -> Result<(), AllocError> {
+fn push_creates(
+    alloc: Global,
+    client: u32,
+    bodies: &mut Vec<TBody<'static>>,
+) -> Result<(), AllocError> {
     let name = format!(in alloc; "t{client}")?;
     bodies.push(walk(alloc, PASSING, None)?)?;
     bodies.push(create(PASSING, name))?;
@@ -136,13 +147,13 @@ pub fn working(alloc: Global, kind: Kind, client: u32) -> io::Result<Vec<Vec<u8>
     match kind {
         Kind::Stats => bodies.push(TBody::Stat { fid: FILE })?,
         Kind::Reads => bodies.push(read(OPEN))?,
-        Kind::Writes => bodies.push(write(alloc)?)?,
+        Kind::Writes => bodies.push(write())?,
         Kind::Opens => push_opens(alloc, client, &mut bodies)?,
         Kind::Creates => push_creates(alloc, client, &mut bodies)?,
         Kind::Mixed => {
             bodies.push(TBody::Stat { fid: FILE })?;
             bodies.push(read(OPEN))?;
-            bodies.push(write(alloc)?)?;
+            bodies.push(write())?;
             push_opens(alloc, client, &mut bodies)?;
         }
     }

@@ -52,7 +52,7 @@ impl Port for LoneRun {
         Ok((0, answer))
     }
 
-    fn call(&mut self, alloc: Global, now: u32, _run: u32, _pass: u32, call: Call) -> Answer {
+    fn call(&mut self, alloc: Global, now: u32, _run: u32, _pass: u32, call: Call<'_>) -> Answer {
         self.run.step(alloc, &mut self.pass, now, call)
     }
 }

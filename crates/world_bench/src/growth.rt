@@ -115,19 +115,17 @@ fn row(
 
 /// Does each work in each world.
 pub fn growth(rt: &(impl Clock + Print + AllocGlobal), timed: bool) -> io::Result<()> {
-    let Some(mut worlds) = make_worlds(rt, timed) else {
+    let Some(worlds) = make_worlds(rt, timed) else {
         return println!(rt; "out of memory");
     };
+    let Worlds {
+        mut small,
+        mut states,
+        mut runs,
+    } = worlds;
     for kind in Kind::ALL {
-        row(
-            rt,
-            kind,
-            "states",
-            &mut worlds.states,
-            &mut worlds.small,
-            timed,
-        )?;
-        row(rt, kind, "runs", &mut worlds.runs, &mut worlds.small, timed)?;
+        row(rt, kind, "states", &mut states, &mut small, timed)?;
+        row(rt, kind, "runs", &mut runs, &mut small, timed)?;
     }
     Ok(())
 }

@@ -7,6 +7,9 @@ use std::alloc::Global;
 /// Bytes of a read and of a write.
 const BLOCK: u32 = 4_096;
 
+/// What is written.
+const WRITTEN: [u8; BLOCK as usize] = [9; BLOCK as usize];
+
 /// What is sent again and again, on a connection with fids on the root (0 and 1) and on the file
 /// (2, and 3, which is open).
 #[derive(Clone, Copy, Debug, PartialEq, Eq)]
@@ -30,7 +33,7 @@ impl Kind {
     }
 
     /// One message, or two of which the second takes the first back.
-    fn bodies(self, alloc: Global) -> Option<(TBody, Option<TBody>)> {
+    fn bodies(self, alloc: Global) -> Option<(TBody<'static>, Option<TBody<'static>>)> {
         Some(match self {
             Kind::Stats => (TBody::Stat { fid: 2 }, None),
             Kind::Reads => (
@@ -45,7 +48,7 @@ impl Kind {
                 TBody::Write {
                     fid: 3,
                     offset: 8_192,
-                    data: vec![in alloc; 9u8; BLOCK as usize].ok()?,
+                    data: &WRITTEN,
                 },
                 None,
             ),

@@ -6,7 +6,7 @@ use cs_world::World;
 use std::alloc::Global;
 
 /// The bytes of a message; of none where memory is wanting.
-pub fn spelled(alloc: Global, body: TBody) -> Option<Vec<u8>> {
+pub fn spelled(alloc: Global, body: TBody<'_>) -> Option<Vec<u8>> {
     let message = TMessage { tag: 1, body };
     if !message.fits() {
         return None;
@@ -42,12 +42,12 @@ pub fn send(alloc: Global, world: &mut World, bytes: &[u8], out: &mut Vec<u8>) -
 }
 
 /// Sends a message whose words are these.
-pub fn ask(alloc: Global, world: &mut World, body: TBody, out: &mut Vec<u8>) -> Option<()> {
+pub fn ask(alloc: Global, world: &mut World, body: TBody<'_>, out: &mut Vec<u8>) -> Option<()> {
     let bytes = spelled(alloc, body)?;
     send(alloc, world, &bytes, out)
 }
 
-pub fn walk(alloc: Global, fid: u32, newfid: u32, name: Option<&str>) -> Option<TBody> {
+pub fn walk(alloc: Global, fid: u32, newfid: u32, name: Option<&str>) -> Option<TBody<'static>> {
     let mut wname = Vec::new(alloc);
     if let Some(name) = name {
         wname.push(String::from_str(alloc, name).ok()?).ok()?;
@@ -55,7 +55,7 @@ pub fn walk(alloc: Global, fid: u32, newfid: u32, name: Option<&str>) -> Option<
     Some(TBody::Walk { fid, newfid, wname })
 }
 
-pub fn version(alloc: Global) -> Option<TBody> {
+pub fn version(alloc: Global) -> Option<TBody<'static>> {
     Some(TBody::Version {
         msize: 65_536,
         version: String::from_str(alloc, "9P2000").ok()?,
@@ -63,7 +63,7 @@ pub fn version(alloc: Global) -> Option<TBody> {
 }
 
 /// An attach of a user to a tree of that name.
-pub fn attach(alloc: Global, fid: u32, aname: &str) -> Option<TBody> {
+pub fn attach(alloc: Global, fid: u32, aname: &str) -> Option<TBody<'static>> {
     Some(TBody::Attach {
         fid,
         afid: u32::MAX,
@@ -73,7 +73,7 @@ pub fn attach(alloc: Global, fid: u32, aname: &str) -> Option<TBody> {
 }
 
 /// Adds a message's bytes.
-pub fn push(alloc: Global, all: &mut Vec<Vec<u8>>, body: Option<TBody>) -> Option<()> {
+pub fn push(alloc: Global, all: &mut Vec<Vec<u8>>, body: Option<TBody<'_>>) -> Option<()> {
     let bytes = spelled(alloc, body?)?;
     all.push(bytes).ok()
 }

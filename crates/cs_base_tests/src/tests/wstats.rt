@@ -4,7 +4,7 @@ use super::world::{USERS, start_tree};
 use cs_names::{RuleId, UserName};
 use cs_permit::changes::changes_fixed;
 use cs_permit::{
-    Call, SentStat, WstatCall, first_failing, new_group, new_length, new_mode, new_mtime, new_name,
+    Call, SentStat, WstatCall, failing_rule, new_group, new_length, new_mode, new_mtime, new_name,
     qid_at, stat_ref, stat_size,
 };
 use cs_tree::PlainTree;
@@ -190,7 +190,7 @@ struct Line(&'static [u8], u64, Fields, Option<RuleId>);
 /// The rule of the call that fails first, or nothing for want of memory.
 fn first_of(alloc: Global, tree: &PlainTree, users: &Users, line: &Line) -> Option<Option<RuleId>> {
     let call = Call::Wstat(wstat(alloc, line.0, line.1, stat_of(alloc, &line.2)?)?);
-    Some(first_failing(&call, tree, &[], users))
+    Some(failing_rule(&call, tree, &[], users))
 }
 
 fn assert_rules(rt: &(impl Abort + AllocGlobal), lines: &[Line]) {

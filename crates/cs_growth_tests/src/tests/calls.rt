@@ -3,10 +3,10 @@
 use super::shown::push_bytes;
 use super::start::user;
 use cs_fids::Place;
-use cs_names::{Bytes, Name, Text, Texts, UserName};
+use cs_names::{Name, Text, Texts, UserName};
 use cs_permit::{
-    AttachCall, Call, CloseCall, CreateCall, OpenCall, ReadCall, RemoveCall, SentStat, StatCall,
-    WalkCall, WriteCall, WstatCall,
+    AttachCall, Call, CloseCall, CreateCall, OpenCall, ReadCall, RemoveCall, SentBytes, SentStat,
+    StatCall, WalkCall, WriteCall, WstatCall,
 };
 use cs_run::{Answer, Data};
 use cs_wire::{Qid, Stat};
@@ -50,7 +50,7 @@ pub fn mode_before(word: Word) -> Option<u8> {
     }
 }
 
-pub fn open(user: UserName, mode: u8) -> Call {
+pub fn open(user: UserName, mode: u8) -> Call<'static> {
     Call::Open(OpenCall {
         number: 4,
         user,
@@ -58,11 +58,11 @@ pub fn open(user: UserName, mode: u8) -> Call {
     })
 }
 
-pub fn stat(number: u64) -> Call {
+pub fn stat(number: u64) -> Call<'static> {
     Call::Stat(StatCall { number })
 }
 
-pub fn read(number: u64, count: u32) -> Call {
+pub fn read(number: u64, count: u32) -> Call<'static> {
     Call::Read(ReadCall {
         number,
         offset: 0,
@@ -71,7 +71,7 @@ pub fn read(number: u64, count: u32) -> Call {
     })
 }
 
-fn walk(alloc: Global, user: UserName) -> Option<Call> {
+fn walk(alloc: Global, user: UserName) -> Option<Call<'static>> {
     let mut names = Vec::new(alloc);
     names.push(String::from_str(alloc, "d").ok()?).ok()?;
     names.push(String::from_str(alloc, "s").ok()?).ok()?;
@@ -82,7 +82,7 @@ fn walk(alloc: Global, user: UserName) -> Option<Call> {
     }))
 }
 
-fn create(alloc: Global, user: UserName) -> Option<Call> {
+fn create(alloc: Global, user: UserName) -> Option<Call<'static>> {
     Some(Call::Create(CreateCall {
         number: 0,
         user,
@@ -92,23 +92,23 @@ fn create(alloc: Global, user: UserName) -> Option<Call> {
     }))
 }
 
-fn write(alloc: Global, user: UserName) -> Option<Call> {
-    Some(Call::Write(WriteCall {
+fn write(user: UserName) -> Call<'static> {
+    Call::Write(WriteCall {
         number: 4,
         user,
         offset: 3,
-        bytes: Bytes::keep(alloc, b"HI").ok()?,
-    }))
+        bytes: SentBytes::lent(b"HI"),
+    })
 }
 
-fn close(user: UserName) -> Call {
+fn close(user: UserName) -> Call<'static> {
     Call::Close(CloseCall {
         open_number: OPEN_NUMBER,
         user,
     })
 }
 
-fn remove(user: UserName, open_number: Option<u32>) -> Call {
+fn remove(user: UserName, open_number: Option<u32>) -> Call<'static> {
     Call::Remove(RemoveCall {
         number: 4,
         user,
@@ -122,7 +122,7 @@ const KEPT: Qid = Qid {
     path: u64::MAX,
 };
 
-fn wstat(alloc: Global, user: UserName) -> Option<Call> {
+fn wstat(alloc: Global, user: UserName) -> Option<Call<'static>> {
     let stat = Stat {
         kind: u16::MAX,
         dev: u32::MAX,
@@ -143,13 +143,13 @@ fn wstat(alloc: Global, user: UserName) -> Option<Call> {
     }))
 }
 
-fn attach(alloc: Global) -> Option<Call> {
+fn attach(alloc: Global) -> Option<Call<'static>> {
     let user = Text::keep(alloc, "ann").ok()?;
     Some(Call::Attach(AttachCall { user }))
 }
 
 /// The call that a word stands for.
-pub fn call_of(alloc: Global, word: Word) -> Option<Call> {
+pub fn call_of(alloc: Global, word: Word) -> Option<Call<'static>> {
     let ann = user(alloc, b"ann")?;
     match word {
         Word::Attach => attach(alloc),
@@ -158,7 +158,7 @@ pub fn call_of(alloc: Global, word: Word) -> Option<Call> {
         Word::Create => create(alloc, ann),
         Word::Read => Some(read(4, 4)),
         Word::List => Some(read(0, 400)),
-        Word::Write => write(alloc, ann),
+        Word::Write => Some(write(ann)),
         Word::Close | Word::ClosePlainly => Some(close(ann)),
         Word::Remove => Some(remove(ann, None)),
         Word::RemoveOpen => Some(remove(ann, Some(OPEN_NUMBER))),

@@ -27,7 +27,7 @@ enum Word {
 #[derive(Debug, Drop)]
 enum Given {
     Attach(AttachMessage),
-    Call(CallMessage),
+    Call(CallMessage<'static>),
     Table(TableStep),
 }
 
@@ -48,7 +48,7 @@ fn give(alloc: Global, word: Word) -> Option<Given> {
         Word::Open => open(0),
         Word::Create => create(alloc)?,
         Word::Read => read(),
-        Word::Write => write(alloc)?,
+        Word::Write => write(),
         Word::Wstat => wstat(alloc)?,
     }))
 }

@@ -35,7 +35,7 @@ enum Told {
 struct Kept {
     run: Run<PlainTree>,
     pass: Pass,
-    call: Option<Call>,
+    call: Option<Call<'static>>,
     /// Whether the call leaves its pass as many places for closes.
     keeps_places: bool,
 }
@@ -49,7 +49,7 @@ fn fresh(alloc: Global) -> Option<Run<PlainTree>> {
     Run::fresh(alloc, lower, users).ok()
 }
 
-fn call_in(alloc: Global, kind: Kind) -> Option<Call> {
+fn call_in(alloc: Global, kind: Kind) -> Option<Call<'static>> {
     match kind {
         Kind::Step(word) => call_of(alloc, word),
         _ => call_of(alloc, Word::Stat),
@@ -58,7 +58,7 @@ fn call_in(alloc: Global, kind: Kind) -> Option<Call> {
 
 impl Kept {
     /// Makes a call at second 7.
-    fn step(&mut self, alloc: Global, call: Call) -> Option<Answer> {
+    fn step(&mut self, alloc: Global, call: Call<'_>) -> Option<Answer> {
         if !self.run.fits(&self.pass) {
             return None;
         }
@@ -87,7 +87,7 @@ impl Kept {
         Some(())
     }
 
-    fn make(&mut self, alloc: Global, call: Call) -> Option<End<Told>> {
+    fn make(&mut self, alloc: Global, call: Call<'_>) -> Option<End<Told>> {
         match self.step(alloc, call)? {
             Answer::Short => Some(End::Short),
             answer => Some(End::Done(Told::Answer(answer))),
@@ -110,7 +110,7 @@ impl Kept {
     }
 
     /// Adds what a call answers.
-    fn push(&mut self, alloc: Global, call: Call, told: &mut String) -> Option<()> {
+    fn push(&mut self, alloc: Global, call: Call<'_>, told: &mut String) -> Option<()> {
         let answer = self.step(alloc, call)?;
         push_answer(told, answer)?;
         told.push('\n').ok()

@@ -1,8 +1,8 @@
 //! Messages of a connection whose fid 0 was walked to, and whose fid 1 is open.
 
 use cs_fids::NOFID;
-use cs_names::{Bytes, Text, Texts};
-use cs_permit::SentStat;
+use cs_names::{Text, Texts};
+use cs_permit::{SentBytes, SentStat};
 use cs_session::{
     AttachMessage, CallMessage, CreateMessage, OpenMessage, ReadMessage, WalkMessage, WriteMessage,
     WstatMessage,
@@ -29,7 +29,7 @@ const KEPT: Qid = Qid {
     path: u64::MAX,
 };
 
-pub fn wstat(alloc: Global) -> Option<CallMessage> {
+pub fn wstat(alloc: Global) -> Option<CallMessage<'static>> {
     let stat = Stat {
         kind: u16::MAX,
         dev: u32::MAX,
@@ -49,7 +49,7 @@ pub fn wstat(alloc: Global) -> Option<CallMessage> {
     }))
 }
 
-pub fn walk(alloc: Global, newfid: u32) -> CallMessage {
+pub fn walk(alloc: Global, newfid: u32) -> CallMessage<'static> {
     CallMessage::Walk(WalkMessage {
         fid: 0,
         newfid,
@@ -58,7 +58,7 @@ pub fn walk(alloc: Global, newfid: u32) -> CallMessage {
 }
 
 /// A walk of the fid 0 by two names.
-pub fn walk_on(alloc: Global) -> Option<CallMessage> {
+pub fn walk_on(alloc: Global) -> Option<CallMessage<'static>> {
     let mut names = Vec::new(alloc);
     names.push(String::from_str(alloc, "d").ok()?).ok()?;
     names.push(String::from_str(alloc, "s").ok()?).ok()?;
@@ -69,11 +69,11 @@ pub fn walk_on(alloc: Global) -> Option<CallMessage> {
     }))
 }
 
-pub fn open(fid: u32) -> CallMessage {
+pub fn open(fid: u32) -> CallMessage<'static> {
     CallMessage::Open(OpenMessage { fid, mode: 2 })
 }
 
-pub fn create(alloc: Global) -> Option<CallMessage> {
+pub fn create(alloc: Global) -> Option<CallMessage<'static>> {
     Some(CallMessage::Create(CreateMessage {
         fid: 0,
         name: text(alloc, "c")?,
@@ -82,7 +82,7 @@ pub fn create(alloc: Global) -> Option<CallMessage> {
     }))
 }
 
-pub fn read() -> CallMessage {
+pub fn read() -> CallMessage<'static> {
     CallMessage::Read(ReadMessage {
         fid: 1,
         offset: 0,
@@ -90,10 +90,10 @@ pub fn read() -> CallMessage {
     })
 }
 
-pub fn write(alloc: Global) -> Option<CallMessage> {
-    Some(CallMessage::Write(WriteMessage {
+pub fn write() -> CallMessage<'static> {
+    CallMessage::Write(WriteMessage {
         fid: 1,
         offset: 0,
-        bytes: Bytes::keep(alloc, b"abc").ok()?,
-    }))
+        bytes: SentBytes::lent(b"abc"),
+    })
 }

@@ -26,7 +26,7 @@ enum Kind {
 #[derive(Drop)]
 struct Kept {
     run: CountedRun<Overlay<PlainTree>>,
-    call: Call,
+    call: Call<'static>,
     users: Users,
     opens: Opens,
 }
@@ -43,7 +43,7 @@ enum Told {
 }
 
 /// Makes a call in the run's next turn.
-fn step(alloc: Global, run: &mut CountedRun<Tree>, call: &Call) -> Option<End<Told>> {
+fn step(alloc: Global, run: &mut CountedRun<Tree>, call: &Call<'_>) -> Option<End<Told>> {
     if run.is_full() {
         return None;
     }
@@ -62,7 +62,12 @@ fn reserve(opens: &mut Opens) -> Option<End<Told>> {
 }
 
 /// Reads, or walks, in the run's tree.
-fn look(alloc: Global, run: &CountedRun<Tree>, users: &Users, call: &Call) -> Option<End<Told>> {
+fn look(
+    alloc: Global,
+    run: &CountedRun<Tree>,
+    users: &Users,
+    call: &Call<'_>,
+) -> Option<End<Told>> {
     match call {
         Call::Read(call) => match read(alloc, call, run.tree()) {
             Ok(data) => Some(End::Done(Told::Data(data))),
@@ -76,7 +81,7 @@ fn look(alloc: Global, run: &CountedRun<Tree>, users: &Users, call: &Call) -> Op
     }
 }
 
-fn call_in(alloc: Global, kind: Kind) -> Option<Call> {
+fn call_in(alloc: Global, kind: Kind) -> Option<Call<'static>> {
     match kind {
         Kind::Step(word) | Kind::Alone(word) => call_of(alloc, word),
         Kind::Reserve => call_of(alloc, Word::Stat),

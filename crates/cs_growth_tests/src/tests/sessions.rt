@@ -61,7 +61,7 @@ impl Port for Fake {
         Ok((1, Answer::Attached(QID)))
     }
 
-    fn call(&mut self, _alloc: Global, _now: u32, _run: u32, _pass: u32, call: Call) -> Answer {
+    fn call(&mut self, _alloc: Global, _now: u32, _run: u32, _pass: u32, call: Call<'_>) -> Answer {
         match call {
             Call::Open(_) | Call::Create(_) => Answer::Opened {
                 qid: QID,
@@ -81,7 +81,7 @@ impl Port for Fake {
 #[derive(Drop)]
 enum Given {
     Attach(AttachMessage),
-    Call(CallMessage),
+    Call(CallMessage<'static>),
     Nothing,
 }
 
@@ -92,7 +92,7 @@ fn give(alloc: Global, word: Word) -> Option<Given> {
         Word::Open => open(0),
         Word::Create => create(alloc)?,
         Word::Read => read(),
-        Word::Write => write(alloc)?,
+        Word::Write => write(),
         Word::Wstat => wstat(alloc)?,
         Word::Stat => CallMessage::Stat(0),
         Word::Remove => CallMessage::Remove(0),
@@ -120,7 +120,7 @@ struct Kept {
 const WALK: &[u8] = b"\x11\0\0\0n\x01\0\0\0\0\0\x02\0\0\0\0\0";
 
 impl Kept {
-    fn answer(&mut self, alloc: Global, message: Message) -> Option<Reply> {
+    fn answer(&mut self, alloc: Global, message: Message<'_>) -> Option<Reply> {
         if self.session.awaits() {
             return None;
         }
@@ -204,7 +204,7 @@ impl Subject for Kept {
         kept.begin(alloc)?;
         if let Word::Attach = row.1 {
             let message = attach(alloc, 2)?;
-            kept.session.find_step(alloc, &mut kept.port, 7, message);
+            kept.step(alloc, Word::Find, Given::Attach(message))?;
         }
         Some(kept)
     }

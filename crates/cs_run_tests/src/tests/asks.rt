@@ -1,10 +1,10 @@
 //! Calls by their words.
 
 use cs_fids::Place;
-use cs_names::{Bytes, Name, Text, Texts, UserName};
+use cs_names::{Name, Text, Texts, UserName};
 use cs_permit::{
-    AttachCall, Call, CloseCall, CreateCall, OpenCall, ReadCall, RemoveCall, SentStat, StatCall,
-    WalkCall, WriteCall, WstatCall,
+    AttachCall, Call, CloseCall, CreateCall, OpenCall, ReadCall, RemoveCall, SentBytes, SentStat,
+    StatCall, WalkCall, WriteCall, WstatCall,
 };
 use cs_wire::{Qid, Stat};
 use std::alloc::Global;
@@ -40,7 +40,7 @@ fn perm_of(word: &str) -> Option<u32> {
     Some(bit | u32::from_str_radix(digits, 8).ok()?)
 }
 
-fn attach(rt: &impl Abort, alloc: Global, user: UserName) -> Call {
+fn attach(rt: &impl Abort, alloc: Global, user: UserName) -> Call<'static> {
     let user = Text::keep(alloc, user.as_str()).expect(rt, "memory");
     Call::Attach(AttachCall { user })
 }
@@ -60,7 +60,7 @@ fn names_of(rt: &impl Abort, alloc: Global, text: &str) -> Texts {
 }
 
 /// From a file, by these names.
-fn walk(rt: &impl Abort, alloc: Global, user: UserName, words: &str) -> Call {
+fn walk(rt: &impl Abort, alloc: Global, user: UserName, words: &str) -> Call<'static> {
     let (file, names) = cut(words);
     let number = number(file).expect(rt, "a value");
     let names = names_of(rt, alloc, names);
@@ -72,7 +72,7 @@ fn walk(rt: &impl Abort, alloc: Global, user: UserName, words: &str) -> Call {
 }
 
 /// The file and the mode.
-fn open(rt: &impl Abort, user: UserName, words: &str) -> Call {
+fn open(rt: &impl Abort, user: UserName, words: &str) -> Call<'static> {
     let (file, mode) = cut(words);
     let (number, mode) = (
         number(file).expect(rt, "a value"),
@@ -82,7 +82,7 @@ fn open(rt: &impl Abort, user: UserName, words: &str) -> Call {
 }
 
 /// The directory, the name, the permissions and the mode.
-fn create(rt: &impl Abort, alloc: Global, user: UserName, words: &str) -> Call {
+fn create(rt: &impl Abort, alloc: Global, user: UserName, words: &str) -> Call<'static> {
     let (file, words) = cut(words);
     let (name, words) = cut(words);
     let (perm, mode) = cut(words);
@@ -102,7 +102,7 @@ fn create(rt: &impl Abort, alloc: Global, user: UserName, words: &str) -> Call {
 }
 
 /// The file, the offset and the count; it goes on from a place.
-fn read(rt: &impl Abort, words: &str, place: &Place) -> Call {
+fn read(rt: &impl Abort, words: &str, place: &Place) -> Call<'static> {
     let (file, words) = cut(words);
     let (offset, count) = cut(words);
     let (number, offset, count) = (
@@ -120,14 +120,14 @@ fn read(rt: &impl Abort, words: &str, place: &Place) -> Call {
 }
 
 /// The file, the offset and the bytes.
-fn write(rt: &impl Abort, alloc: Global, user: UserName, words: &str) -> Call {
+fn write(rt: &impl Abort, alloc: Global, user: UserName, words: &str) -> Call<'static> {
     let (file, words) = cut(words);
     let (offset, text) = cut(words);
     let (number, offset) = (
         number(file).expect(rt, "a value"),
         number(offset).expect(rt, "a value"),
     );
-    let bytes = Bytes::keep(alloc, text.as_bytes()).expect(rt, "memory");
+    let bytes = SentBytes::keep(alloc, text.as_bytes()).expect(rt, "memory");
     Call::Write(WriteCall {
         number,
         user,
@@ -137,13 +137,13 @@ fn write(rt: &impl Abort, alloc: Global, user: UserName, words: &str) -> Call {
 }
 
 /// The number of the open.
-fn close(rt: &impl Abort, user: UserName, words: &str) -> Call {
+fn close(rt: &impl Abort, user: UserName, words: &str) -> Call<'static> {
     let open_number = short(words).expect(rt, "a value");
     Call::Close(CloseCall { open_number, user })
 }
 
 /// The file, of a fid that isn't open.
-fn remove(rt: &impl Abort, user: UserName, words: &str) -> Call {
+fn remove(rt: &impl Abort, user: UserName, words: &str) -> Call<'static> {
     let number = number(words).expect(rt, "a value");
     Call::Remove(RemoveCall {
         number,
@@ -153,7 +153,7 @@ fn remove(rt: &impl Abort, user: UserName, words: &str) -> Call {
 }
 
 /// The file, of a fid that is open, and the number of the open.
-fn remove_open(rt: &impl Abort, user: UserName, words: &str) -> Call {
+fn remove_open(rt: &impl Abort, user: UserName, words: &str) -> Call<'static> {
     let (file, open_number) = cut(words);
     let (number, open_number) = (
         number(file).expect(rt, "a value"),
@@ -231,7 +231,7 @@ fn stat_of(rt: &impl Abort, alloc: Global, changes: &str) -> Stat {
 }
 
 /// The file and the changes.
-fn wstat(rt: &impl Abort, alloc: Global, user: UserName, words: &str) -> Call {
+fn wstat(rt: &impl Abort, alloc: Global, user: UserName, words: &str) -> Call<'static> {
     let (file, changes) = cut(words);
     let number = number(file).expect(rt, "a value");
     let stat = SentStat::new(stat_of(rt, alloc, changes));
@@ -240,7 +240,13 @@ fn wstat(rt: &impl Abort, alloc: Global, user: UserName, words: &str) -> Call {
 
 /// The call that words ask for, of that user: a word, and what its function takes. A read goes on
 /// from that place. Numbers are those of files, and of a close that of the open.
-pub fn call_of(rt: &impl Abort, alloc: Global, user: &str, words: &str, place: &Place) -> Call {
+pub fn call_of(
+    rt: &impl Abort,
+    alloc: Global,
+    user: &str,
+    words: &str,
+    place: &Place,
+) -> Call<'static> {
     let (word, words) = cut(words);
     let user = UserName::read(alloc, user.as_bytes()).expect(rt, "a value");
     match word {

@@ -28,7 +28,7 @@ fn place(rt: &impl Abort, alloc: Global) -> Place {
     Place { end: 61, last }
 }
 
-fn shown(rt: &impl Abort, alloc: Global, call: &Call) -> String {
+fn shown(rt: &impl Abort, alloc: Global, call: &Call<'_>) -> String {
     let mut text = String::new(alloc);
     write!(text, "{call:?}").expect(rt, "memory");
     text

@@ -4,9 +4,10 @@ ghost use Rattle.std.specs.Prelude.{◌≡◌};
 use super::asks::cut;
 use cs_fids::Place;
 use cs_journal::{Pass, Run, can_grow};
-use cs_names::{Bytes, Path, Text, Texts, UserName};
+use cs_names::{Path, Text, Texts, UserName};
 use cs_permit::{
-    AttachCall, Call, CloseCall, OpenCall, ReadCall, RemoveCall, StatCall, WalkCall, WriteCall,
+    AttachCall, Call, CloseCall, OpenCall, ReadCall, RemoveCall, SentBytes, StatCall, WalkCall,
+    WriteCall,
 };
 use cs_run::Answer;
 use cs_tree::PlainTree;
@@ -105,7 +106,7 @@ impl Side {
     }
 
     /// Makes a call at second 1000.
-    pub fn step(&mut self, alloc: Global, call: Call) -> Answer {
+    pub fn step(&mut self, alloc: Global, call: Call<'_>) -> Answer {
         self.run.step(alloc, &mut self.pass, 1000, call)
     }
 
@@ -128,12 +129,12 @@ impl Side {
     }
 }
 
-pub fn attach(rt: &impl Abort, alloc: Global, user: &str) -> Call {
+pub fn attach(rt: &impl Abort, alloc: Global, user: &str) -> Call<'static> {
     let user = Text::keep(alloc, user).expect(rt, "memory");
     Call::Attach(AttachCall { user })
 }
 
-fn walk(rt: &impl Abort, alloc: Global) -> Call {
+fn walk(rt: &impl Abort, alloc: Global) -> Call<'static> {
     let user = user(rt, alloc);
     let mut names = Vec::new(alloc);
     names
@@ -146,7 +147,7 @@ fn walk(rt: &impl Abort, alloc: Global) -> Call {
     })
 }
 
-fn open(rt: &impl Abort, alloc: Global, mode: &str) -> Call {
+fn open(rt: &impl Abort, alloc: Global, mode: &str) -> Call<'static> {
     let mode = mode.parse::<u8>().expect(rt, "a value");
     Call::Open(OpenCall {
         number: FILE,
@@ -156,15 +157,15 @@ fn open(rt: &impl Abort, alloc: Global, mode: &str) -> Call {
 }
 
 /// The offset and the bytes.
-fn write(rt: &impl Abort, alloc: Global, words: &str) -> Call {
+fn write(rt: &impl Abort, alloc: Global, words: &str) -> Call<'static> {
     let (offset, text) = words.split_once(' ').expect(rt, "a value");
     let offset = offset.parse::<u64>().expect(rt, "a value");
     write_of(rt, alloc, offset, text.as_bytes())
 }
 
-pub fn write_of(rt: &impl Abort, alloc: Global, offset: u64, bytes: &[u8]) -> Call {
+pub fn write_of(rt: &impl Abort, alloc: Global, offset: u64, bytes: &[u8]) -> Call<'static> {
     let user = user(rt, alloc);
-    let bytes = Bytes::keep(alloc, bytes).expect(rt, "memory");
+    let bytes = SentBytes::keep(alloc, bytes).expect(rt, "memory");
     Call::Write(WriteCall {
         number: FILE,
         user,
@@ -173,13 +174,13 @@ pub fn write_of(rt: &impl Abort, alloc: Global, offset: u64, bytes: &[u8]) -> Ca
     })
 }
 
-fn close(rt: &impl Abort, alloc: Global, open_number: &str) -> Call {
+fn close(rt: &impl Abort, alloc: Global, open_number: &str) -> Call<'static> {
     let open_number = open_number.parse::<u32>().expect(rt, "a value");
     let user = user(rt, alloc);
     Call::Close(CloseCall { open_number, user })
 }
 
-fn remove(rt: &impl Abort, alloc: Global, open_number: &str) -> Call {
+fn remove(rt: &impl Abort, alloc: Global, open_number: &str) -> Call<'static> {
     let open_number = open_number.parse::<u32>().expect(rt, "a value");
     Call::Remove(RemoveCall {
         number: FILE,
@@ -189,7 +190,7 @@ fn remove(rt: &impl Abort, alloc: Global, open_number: &str) -> Call {
 }
 
 /// A read of so many bytes.
-pub fn read_of(offset: u64, count: u32) -> Call {
+pub fn read_of(offset: u64, count: u32) -> Call<'static> {
     Call::Read(ReadCall {
         number: FILE,
         offset,
@@ -198,13 +199,13 @@ pub fn read_of(offset: u64, count: u32) -> Call {
     })
 }
 
-pub fn stat() -> Call {
+pub fn stat() -> Call<'static> {
     Call::Stat(StatCall { number: FILE })
 }
 
 /// The call that words ask for: `attach`, `walk` or `stat`; `open` with its mode, `write` with its
 /// offset and bytes, `close` or `remove` with the number of the open.
-pub fn call_of(rt: &impl Abort, alloc: Global, words: &str) -> Call {
+pub fn call_of(rt: &impl Abort, alloc: Global, words: &str) -> Call<'static> {
     let (word, words) = cut(words);
     match word {
         "attach" => attach(rt, alloc, "ann"),

@@ -91,7 +91,7 @@ impl World {
     }
 
     /// Makes a call at second 1000, in the turn of its number.
-    fn step(&mut self, rt: &impl Abort, alloc: Global, pass: u32, call: &Call) -> Answer {
+    fn step(&mut self, rt: &impl Abort, alloc: Global, pass: u32, call: &Call<'_>) -> Answer {
         assert!(rt; !self.run.is_full());
         let (_outcome, answer) = self.run.step(alloc, 1000, pass, call);
         answer

@@ -6,7 +6,7 @@ use cs_journal::AuditFault;
 use cs_names::RunName;
 use cs_registry::RunKey;
 use cs_server::{Connection, GivenPasses, Server};
-use cs_shared::AnyScene;
+use cs_shared::{AnyScene, AuditBy};
 use std::alloc::Global;
 use std::process::Abort;
 use std::sync::Wait;
@@ -44,7 +44,9 @@ fn audit_of<R: Wait + Abort>(
         .registry()
         .find(rt, alloc, 0, &name)
         .expect(rt, "memory");
-    run.inspect(rt, |run| run.audit(passes.of(&key)))
+    let passes = passes.of(&key);
+    let told: (usize, Result<(), AuditFault>) = run.inspect(rt, AuditBy { passes });
+    told.1
 }
 
 /// Serves three streams, of which the first and the last attach to `0/x`, and looks for the audit by the

@@ -1,12 +1,10 @@
 //! Connections over runs that they share, of a state that is published.
 
-use cs_names::{RunName, Text};
-use cs_permit::{Call, StatCall, TreeName};
+use cs_journal::AuditFault;
 use cs_plan::Scene;
-use cs_run::Answer;
-use cs_server::{Connection, Server, SharedPort, serve_connection, serve_streams};
-use cs_session::{Clock, Counted, FindFault, PassFault, Port, ServeFault, TwoEnded};
-use cs_shared::{AnyScene, NamedRun, SharedRegistry, SharedRun};
+use cs_server::{Connection, Server, serve_connection, serve_streams};
+use cs_session::{Clock, ServeFault, TwoEnded};
+use cs_shared::{AnyScene, AuditBy, NamedRun, SharedRegistry};
 use cs_trace::read_trace;
 use cs_users::Users;
 use std::alloc::Global;
@@ -31,7 +29,7 @@ const ANN_TO_A: &[u8] = b"\x19\0\0\0h\x01\0\0\0\0\0\xff\xff\xff\xff\x03\0ann\x03
 
 const CAT_TO_A: &[u8] = b"\x19\0\0\0h\x01\0\0\0\0\0\xff\xff\xff\xff\x03\0cat\x03\00/a";
 
-const BOB_TO_B: &[u8] = b"\x19\0\0\0h\x01\0\0\0\0\0\xff\xff\xff\xff\x03\0bob\x03\00/b";
+pub const BOB_TO_B: &[u8] = b"\x19\0\0\0h\x01\0\0\0\0\0\xff\xff\xff\xff\x03\0bob\x03\00/b";
 
 pub const ANN_TO_X: &[u8] = b"\x19\0\0\0h\x01\0\0\0\0\0\xff\xff\xff\xff\x03\0ann\x03\00/x";
 
@@ -53,7 +51,7 @@ const READ: &[u8] = b"\x17\0\0\0t\x04\0\x01\0\0\0\0\0\0\0\0\0\0\0\x40\0\0\0";
 const WRITE: &[u8] = b"\x19\0\0\0v\x04\0\x01\0\0\0\0\0\0\0\0\0\0\0\x02\0\0\0HI";
 
 #[derive(Clone, Copy)]
-struct Standing;
+pub struct Standing;
 
 impl Clock for Standing {
     fn now(&mut self) -> u32 {
@@ -61,7 +59,8 @@ impl Clock for Standing {
     }
 }
 
-fn come(count: &AtomicU32, least: u32) -> bool {
+/// Whether a count comes to at least so much.
+pub fn come(count: &AtomicU32, least: u32) -> bool {
     for _ in 0..TURNS {
         if count.load(Ordering::SeqCst) >= least {
             return true;
@@ -71,33 +70,43 @@ fn come(count: &AtomicU32, least: u32) -> bool {
     false
 }
 
+/// How many replies a client had, as another client sees it.
+pub fn counted(rt: &impl Abort, alloc: Global, count: u32) -> Arc<AtomicU32> {
+    Arc::new(alloc, AtomicU32::new(count)).expect(rt, "memory")
+}
+
 /// A client that sends a request at each read, the second once another client had a reply, and
 /// counts its replies.
 #[derive(Drop)]
-struct Client<'a> {
-    requests: &'a [&'a [u8]],
+pub struct Client {
+    requests: &'static [&'static [u8]],
     sent: usize,
-    replied: &'a AtomicU32,
-    other: &'a AtomicU32,
+    replied: Arc<AtomicU32>,
+    other: Arc<AtomicU32>,
 }
 
-impl<'a> Client<'a> {
-    fn new(requests: &'a [&'a [u8]], replied: &'a AtomicU32, other: &'a AtomicU32) -> Client<'a> {
+impl Client {
+    pub fn new(
+        rt: &impl Abort,
+        requests: &'static [&'static [u8]],
+        replied: &Arc<AtomicU32>,
+        other: &Arc<AtomicU32>,
+    ) -> Client {
         Client {
             requests,
             sent: 0,
-            replied,
-            other,
+            replied: replied.clone().expect(rt, "few clones"),
+            other: other.clone().expect(rt, "few clones"),
         }
     }
 }
 
-impl<'a> Read for Client<'a> {
+impl Read for Client {
     fn read(&mut self, buf: &mut [u8]) -> io::Result<usize> {
         let Some(request) = self.requests.get(self.sent) else {
             return Ok(0);
         };
-        if self.sent == 1 && !come(self.other, 1) {
+        if self.sent == 1 && !come(&self.other, 1) {
             return Err(Error::from(ErrorKind::TimedOut));
         }
         self.sent = self.sent.wrapping_add(1);
@@ -108,7 +117,7 @@ impl<'a> Read for Client<'a> {
     }
 }
 
-impl<'a> Write for Client<'a> {
+impl Write for Client {
     fn write(&mut self, buf: &[u8]) -> io::Result<usize> {
         self.replied.fetch_add(1, Ordering::SeqCst);
         Ok(buf.len())
@@ -142,13 +151,14 @@ pub fn server_of<R: Wait + Abort>(rt: &R, alloc: Global) -> Server<AnyScene> {
 }
 
 fn push_run<R: Wait + Abort>(rt: &R, text: &mut String, run: &NamedRun<AnyScene>) {
-    let entries = run.run().inspect(rt, |run| run.entries());
+    let told: (usize, Result<(), AuditFault>) = run.run().inspect(rt, AuditBy { passes: &[] });
+    let entries = told.0;
     let number = run.run().number();
     write!(text, "{number}/{} {entries}\n", run.name()).expect(rt, "memory")
 }
 
 /// The runs' keys with their entries, a line each.
-fn runs_of<R: Wait + Abort>(rt: &R, alloc: Global, server: &Server<AnyScene>) -> String {
+pub fn runs_of<R: Wait + Abort>(rt: &R, alloc: Global, server: &Server<AnyScene>) -> String {
     let runs = server.registry().runs(rt, alloc).expect(rt, "memory");
     let mut text = String::new(alloc);
     for run in &runs {
@@ -191,17 +201,17 @@ pub fn served_at_once<R: thread::Threads + Wait + Sync + Abort>(
     alloc: Global,
     server: &Server<AnyScene>,
 ) -> Vec<Connection<AnyScene>> {
-    let (ann, bob) = (AtomicU32::new(0), AtomicU32::new(0));
-    let ready = AtomicU32::new(1);
+    let (ann, bob) = (counted(rt, alloc, 0), counted(rt, alloc, 0));
+    let ready = counted(rt, alloc, 1);
     let mut streams = Vec::new(alloc);
     streams
-        .push(Client::new(&ANN, &ann, &bob))
+        .push(Client::new(rt, &ANN, &ann, &bob))
         .expect(rt, "memory");
     streams
-        .push(Client::new(&NOBODY, &ready, &ready))
+        .push(Client::new(rt, &NOBODY, &ready, &ready))
         .expect(rt, "memory");
     streams
-        .push(Client::new(&BOB, &bob, &ann))
+        .push(Client::new(rt, &BOB, &bob, &ann))
         .expect(rt, "memory");
     serve_streams(rt, alloc, server, streams, Standing).expect(rt, "memory")
 }
@@ -303,122 +313,6 @@ fn a_write_has_the_moment_of_its_message(rt: HostRuntime) {
     let alloc = rt.alloc();
     let server = server_of(&rt, alloc);
     expect_last(&rt, alloc, &server, &ANN_WRITES_AND_LOOKS, WRITTEN_AT_720);
-}
-
-/// Looks at a run until a client had so many replies.
-fn look<R: Wait>(
-    rt: &R,
-    run: &SharedRun<AnyScene>,
-    looking: &AtomicU32,
-    replied: &AtomicU32,
-) -> bool {
-    run.inspect(rt, |run| {
-        looking.store(1, Ordering::SeqCst);
-        come(replied, 3) && run.entries() == 0
-    })
-}
-
-const BOB_ELSEWHERE: [&[u8]; 3] = [VERSION, BOB_TO_B, STAT];
-
-/// Serves a client of another run, which goes on once the first is looked at.
-fn stat_elsewhere<R: Wait>(
-    rt: &R,
-    alloc: Global,
-    server: &Server<AnyScene>,
-    looking: &AtomicU32,
-    replied: &AtomicU32,
-) -> Result<(), ServeFault> {
-    let mut stream = Counted::new(Client::new(&BOB_ELSEWHERE, replied, looking));
-    serve_connection(rt, alloc, server, &mut stream, &mut Standing).result()
-}
-
-/// The run `0/a`.
-fn run_of_a<R: Wait + Abort>(
-    rt: &R,
-    alloc: Global,
-    server: &Server<AnyScene>,
-) -> SharedRun<AnyScene> {
-    let name = RunName::read(alloc, b"a").expect(rt, "a value");
-    server
-        .registry()
-        .find(rt, alloc, 0, &name)
-        .expect(rt, "memory")
-}
-
-#[test]
-fn a_connection_is_answered_while_another_run_is_locked(rt: HostRuntime) {
-    let server = server_of(&rt, rt.alloc());
-    let a = run_of_a(&rt, rt.alloc(), &server);
-    let (looking, replied) = (AtomicU32::new(0), AtomicU32::new(0));
-    let looked = thread::join(
-        &rt,
-        || look(&rt, &a, &looking, &replied),
-        || stat_elsewhere(&rt, rt.alloc(), &server, &looking, &replied),
-    );
-    assert!(rt; looked == (true, Ok(())));
-}
-
-/// What the run answers a stat of the root under the pass.
-fn stat(alloc: Global, port: &mut impl Port, run: u32, pass: u32) -> &'static str {
-    let answer = port.call(alloc, 720, run, pass, Call::Stat(StatCall { number: 0 }));
-    match &answer {
-        Answer::Stat(_) => "stat",
-        Answer::Denied(rule) => rule.text(),
-        _ => "another",
-    }
-}
-
-/// The place of the run of a state that is found.
-fn find(alloc: Global, port: &mut impl Port, state: &str, run: &str) -> Result<u32, FindFault> {
-    let name = TreeName {
-        state: state.as_bytes(),
-        run: run.as_bytes(),
-    };
-    port.find(alloc, &name)
-}
-
-#[test]
-fn a_port_tells_why_a_run_is_not_found(rt: HostRuntime) {
-    let alloc = rt.alloc();
-    let server = server_of(&rt, alloc);
-    let mut port = SharedPort::new(&rt, alloc, server.registry());
-    assert!(rt; find(alloc, &mut port, "1", "x") == Err(FindFault::Unpublished));
-    for place in 0..64 {
-        assert!(rt; find(alloc, &mut port, "0", "x") == Ok(place));
-    }
-    assert!(rt; find(alloc, &mut port, "0", "x") == Err(FindFault::Full));
-    assert!(rt; find(alloc, &mut port, "1", "x") == Err(FindFault::Unpublished));
-    assert!(rt; find(alloc, &mut port, "0", "y") == Ok(64));
-}
-
-/// How an attach to the run at a place comes out: the place of the pass.
-fn attach(alloc: Global, port: &mut impl Port, run: u32, user: &str) -> Result<u32, PassFault> {
-    let Ok(user) = Text::keep(alloc, user) else {
-        return Err(PassFault::Memory);
-    };
-    match port.attach(alloc, 720, run, user) {
-        Ok((pass, Answer::Attached(_))) => Ok(pass),
-        Ok(_) => Err(PassFault::Memory),
-        Err(fault) => Err(fault),
-    }
-}
-
-#[test]
-fn a_port_keeps_the_places_of_runs_and_passes(rt: HostRuntime) {
-    let alloc = rt.alloc();
-    let server = server_of(&rt, alloc);
-    let mut port = SharedPort::new(&rt, alloc, server.registry());
-    assert!(rt; attach(alloc, &mut port, 0, "ann") == Err(PassFault::Foreign));
-    assert!(rt; find(alloc, &mut port, "0", "a") == Ok(0));
-    assert!(rt; find(alloc, &mut port, "0", "b") == Ok(1));
-    assert!(rt; attach(alloc, &mut port, 1, "bob") == Ok(0));
-    assert!(rt; stat(alloc, &mut port, 1, 0) == "stat");
-    assert!(rt; stat(alloc, &mut port, 0, 0) == "S5 out of turn");
-    assert!(rt; stat(alloc, &mut port, 1, 1) == "S5 out of turn");
-    assert!(rt; stat(alloc, &mut port, 2, 0) == "S5 out of turn");
-    assert!(rt; port.into_kept().passes().len() == 1);
-    let runs = runs_of(&rt, alloc, &server);
-    assert!(rt; runs.as_str().lines().count() == 2);
 }
 
 #[test]

@@ -1,5 +1,6 @@
 //! Steps in words.
-use cs_names::{Bytes, Text, Texts};
+use cs_names::{Text, Texts};
+use cs_permit::SentBytes;
 use cs_session::{
     AttachMessage, CallMessage, OpenMessage, ReadMessage, TableStep, WalkMessage, WriteMessage,
 };
@@ -66,7 +67,7 @@ fn close(rt: &impl Abort, words: &str) -> Step {
 }
 
 /// A walk to `/f` as the fid 1.
-fn walk(rt: &impl Abort, alloc: Global) -> CallMessage {
+fn walk(rt: &impl Abort, alloc: Global) -> CallMessage<'static> {
     let mut names = Vec::new(alloc);
     names
         .push(String::from_str(alloc, "f").expect(rt, "memory"))
@@ -79,11 +80,11 @@ fn walk(rt: &impl Abort, alloc: Global) -> CallMessage {
 }
 
 /// A write of `HI` at the beginning of `/f`.
-fn write(rt: &impl Abort, alloc: Global) -> CallMessage {
+fn write() -> CallMessage<'static> {
     CallMessage::Write(WriteMessage {
         fid: 1,
         offset: 0,
-        bytes: Bytes::keep(alloc, b"HI").expect(rt, "memory"),
+        bytes: SentBytes::lent(b"HI"),
     })
 }
 
@@ -94,11 +95,11 @@ const READ: ReadMessage = ReadMessage {
     count: 10,
 };
 
-fn message_of(rt: &impl Abort, alloc: Global, word: &str) -> CallMessage {
+fn message_of(rt: &impl Abort, alloc: Global, word: &str) -> CallMessage<'static> {
     match word {
         "walk" => walk(rt, alloc),
         "open" => CallMessage::Open(OpenMessage { fid: 1, mode: 2 }),
-        "write" => write(rt, alloc),
+        "write" => write(),
         "read" => CallMessage::Read(READ),
         "stat" => CallMessage::Stat(0),
         _ => panic!(rt; "a word of no message"),

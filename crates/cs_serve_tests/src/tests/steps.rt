@@ -158,8 +158,8 @@ fn projection_on_a_run_has_what_reached_it(rt: HostRuntime) {
     let calls = projected(&rt, rt.alloc(), &world, TWO_USERS, b"x");
     assert_eq!(rt;
         calls.as_str(),
-        r#"RunCall { pass: 0, now: 7, call: Attach(AttachCall { user: Text { text: "ann" } }) }
-RunCall { pass: 1, now: 8, call: Attach(AttachCall { user: Text { text: "bob" } }) }
+        r#"RunCall { pass: 0, moment: 7, call: Attach(AttachCall { user: Text { text: "ann" } }) }
+RunCall { pass: 1, moment: 8, call: Attach(AttachCall { user: Text { text: "bob" } }) }
 "#
     );
     let other = projected(&rt, rt.alloc(), &world, TWO_USERS, b"y");
@@ -261,8 +261,8 @@ fn states_are_published_once(rt: HostRuntime) {
         "
 publish 0 => Published
 version 0 => Connection(Version { msize: 8192, is_spoken: true })
-publish 0 => Unpublished(Twice)
-publish 1 => Unpublished(NoSuchState)
+publish 0 => NotPublished(Twice)
+publish 1 => NotPublished(NoSuchState)
 find 0 0 ann 1/x => Connection(Error(A4))
 find 0 0 ann 00/x => Connection(Error(A3))
 find 0 0 ann 0/x => Connection(Found)

@@ -1,4 +1,4 @@
-//! The steps of a session that do one call.
+//! The steps of a session that make one call.
 ghost use Rattle.std.specs.Prelude.{◌≡◌};
 ghost use Rattle.cs_session.specs.declared.message.CallMessage.TheVariants as call;
 ghost use Rattle.cs_session.specs.Sizes.{CallFits, ReplyFits};
@@ -29,9 +29,9 @@ impl Session {
         ensures takes { IsTaken P.gives now self.old port.old (CallStep (call.Walk message)) result
             self.new port.new }
         ensures fits { CallFits (call.Walk message) → ReplyFits self.old.msize result }
-        ensures pending { self.new.pending ≡ self.old.pending }
+        ensures awaited { self.new.awaited ≡ self.old.awaited }
     {
-        let awaits = self.pending.is_some();
+        let awaits = self.awaited.is_some();
         let (fid, newfid) = (message.fid, message.newfid);
         match decide_walk(awaits, self.msize, &mut self.fids, now, message) {
             Err(reply) => reply,
@@ -52,9 +52,9 @@ impl Session {
         ensures takes { IsTaken P.gives now self.old port.old (CallStep (call.Open message)) result
             self.new port.new }
         ensures fits { ReplyFits self.old.msize result }
-        ensures pending { self.new.pending ≡ self.old.pending }
+        ensures awaited { self.new.awaited ≡ self.old.awaited }
     {
-        let awaits = self.pending.is_some();
+        let awaits = self.awaited.is_some();
         match decide_open(awaits, self.msize, &self.fids, now, message) {
             Err(reply) => reply,
             Ok(ask) => {
@@ -74,9 +74,9 @@ impl Session {
         ensures takes { IsTaken P.gives now self.old port.old (CallStep (call.Create message))
             result self.new port.new }
         ensures fits { ReplyFits self.old.msize result }
-        ensures pending { self.new.pending ≡ self.old.pending }
+        ensures awaited { self.new.awaited ≡ self.old.awaited }
     {
-        let awaits = self.pending.is_some();
+        let awaits = self.awaited.is_some();
         let (fid, mode) = (message.fid, message.mode);
         match decide_create(awaits, self.msize, &self.fids, now, message) {
             Err(reply) => reply,
@@ -97,9 +97,9 @@ impl Session {
         ensures takes { IsTaken P.gives now self.old port.old (CallStep (call.Read message)) result
             self.new port.new }
         ensures fits { ReplyFits self.old.msize result }
-        ensures pending { self.new.pending ≡ self.old.pending }
+        ensures awaited { self.new.awaited ≡ self.old.awaited }
     {
-        let awaits = self.pending.is_some();
+        let awaits = self.awaited.is_some();
         match decide_read(awaits, self.msize, &self.fids, now, message) {
             Err(reply) => reply,
             Ok(ask) => {
@@ -114,14 +114,14 @@ impl Session {
         alloc: Global,
         port: &mut P,
         now: u32,
-        message: WriteMessage,
+        message: WriteMessage<'_>,
     ) -> Reply
-        ensures takes { IsTaken P.gives now self.old port.old (CallStep (call.Write message)) result
-            self.new port.new }
+        ensures takes { IsTaken P.gives now self.old port.old (CallStep (call.Write message.entry))
+            result self.new port.new }
         ensures fits { ReplyFits self.old.msize result }
-        ensures pending { self.new.pending ≡ self.old.pending }
+        ensures awaited { self.new.awaited ≡ self.old.awaited }
     {
-        let awaits = self.pending.is_some();
+        let awaits = self.awaited.is_some();
         let ask = match decide_write(awaits, self.msize, &self.fids, now, message) {
             Ok(ask) => ask,
             Err(reply) => return reply,
@@ -134,9 +134,9 @@ impl Session {
         ensures takes { IsTaken P.gives now self.old port.old (CallStep (call.Remove fid)) result
             self.new port.new }
         ensures fits { ReplyFits self.old.msize result }
-        ensures pending { self.new.pending ≡ self.old.pending }
+        ensures awaited { self.new.awaited ≡ self.old.awaited }
     {
-        let awaits = self.pending.is_some();
+        let awaits = self.awaited.is_some();
         let ask = match decide_remove(awaits, self.msize, &mut self.fids, now, fid) {
             Ok(ask) => ask,
             Err(reply) => return reply,
@@ -149,9 +149,9 @@ impl Session {
         ensures takes { IsTaken P.gives now self.old port.old (CallStep (call.Stat fid)) result
             self.new port.new }
         ensures fits { ReplyFits self.old.msize result }
-        ensures pending { self.new.pending ≡ self.old.pending }
+        ensures awaited { self.new.awaited ≡ self.old.awaited }
     {
-        let awaits = self.pending.is_some();
+        let awaits = self.awaited.is_some();
         let ask = match decide_stat(awaits, self.msize, &self.fids, now, fid) {
             Ok(ask) => ask,
             Err(reply) => return reply,
@@ -170,9 +170,9 @@ impl Session {
         ensures takes { IsTaken P.gives now self.old port.old (CallStep (call.Wstat message)) result
             self.new port.new }
         ensures fits { ReplyFits self.old.msize result }
-        ensures pending { self.new.pending ≡ self.old.pending }
+        ensures awaited { self.new.awaited ≡ self.old.awaited }
     {
-        let awaits = self.pending.is_some();
+        let awaits = self.awaited.is_some();
         let ask = match decide_wstat(awaits, self.msize, &self.fids, now, message) {
             Ok(ask) => ask,
             Err(reply) => return reply,
@@ -181,20 +181,20 @@ impl Session {
         wstat_reply(answer)
     }
 
-    /// Does a call on a fid's run: the connection's rules, the growth of its table, and then what
-    /// the run answers. A refusal leaves the fids, but for a remove that was asked, whose fid is
-    /// free (remove(5)).
+    /// Makes a call on a fid's run: the connection's rules, the memory that it takes of its own,
+    /// and then what the run answers. A refusal leaves the fids, but for a remove that was asked,
+    /// whose fid is free (remove(5)).
     pub fn call_step<P: Port>(
         &mut self,
         alloc: Global,
         port: &mut P,
         now: u32,
-        message: CallMessage,
+        message: CallMessage<'_>,
     ) -> Reply
-        ensures takes { IsTaken P.gives now self.old port.old (CallStep message) result self.new
-            port.new }
-        ensures fits { CallFits message → ReplyFits self.old.msize result }
-        ensures pending { self.new.pending ≡ self.old.pending }
+        ensures takes { IsTaken P.gives now self.old port.old (CallStep message.entry) result
+            self.new port.new }
+        ensures fits { CallFits message.entry → ReplyFits self.old.msize result }
+        ensures awaited { self.new.awaited ≡ self.old.awaited }
     {
         match message {
             CallMessage::Walk(message) => self.walk_step(alloc, port, now, message),

@@ -1,7 +1,7 @@
 //! Messages by their words.
 use cs_fids::NOFID;
-use cs_names::{Bytes, Text, Texts};
-use cs_permit::SentStat;
+use cs_names::{Text, Texts};
+use cs_permit::{SentBytes, SentStat};
 use cs_session::{
     AttachMessage, CallMessage, CreateMessage, Message, OpenMessage, ReadMessage, WalkMessage,
     WriteMessage, WstatMessage,
@@ -20,13 +20,13 @@ pub fn attaching(rt: &impl Abort, alloc: Global, fid: u32) -> AttachMessage {
     }
 }
 
-fn version(rt: &impl Abort, alloc: Global, msize: u32) -> Message {
+fn version(rt: &impl Abort, alloc: Global, msize: u32) -> Message<'static> {
     let version = Text::keep(alloc, "9P2000.L").expect(rt, "memory");
     Message::Version { msize, version }
 }
 
 /// A walk of one name.
-fn walking(rt: &impl Abort, alloc: Global, fid: u32) -> CallMessage {
+fn walking(rt: &impl Abort, alloc: Global, fid: u32) -> CallMessage<'static> {
     let mut names = Vec::new(alloc);
     names
         .push(String::from_str(alloc, "a").expect(rt, "memory"))
@@ -39,7 +39,7 @@ fn walking(rt: &impl Abort, alloc: Global, fid: u32) -> CallMessage {
 }
 
 /// A walk of no name.
-fn cloning(alloc: Global, fid: u32) -> CallMessage {
+fn cloning(alloc: Global, fid: u32) -> CallMessage<'static> {
     CallMessage::Walk(WalkMessage {
         fid,
         newfid: 2,
@@ -48,7 +48,7 @@ fn cloning(alloc: Global, fid: u32) -> CallMessage {
 }
 
 /// A create of a file that is opened to be written.
-fn creating(rt: &impl Abort, alloc: Global, fid: u32) -> CallMessage {
+fn creating(rt: &impl Abort, alloc: Global, fid: u32) -> CallMessage<'static> {
     let name = Text::keep(alloc, "c").expect(rt, "memory");
     CallMessage::Create(CreateMessage {
         fid,
@@ -58,7 +58,7 @@ fn creating(rt: &impl Abort, alloc: Global, fid: u32) -> CallMessage {
     })
 }
 
-fn reading(fid: u32) -> CallMessage {
+fn reading(fid: u32) -> CallMessage<'static> {
     CallMessage::Read(ReadMessage {
         fid,
         offset: 0,
@@ -66,8 +66,8 @@ fn reading(fid: u32) -> CallMessage {
     })
 }
 
-fn writing(rt: &impl Abort, alloc: Global, fid: u32) -> CallMessage {
-    let bytes = Bytes::keep(alloc, b"abc").expect(rt, "memory");
+fn writing(rt: &impl Abort, alloc: Global, fid: u32) -> CallMessage<'static> {
+    let bytes = SentBytes::keep(alloc, b"abc").expect(rt, "memory");
     CallMessage::Write(WriteMessage {
         fid,
         offset: 0,
@@ -82,7 +82,7 @@ const KEPT_QID: Qid = Qid {
 };
 
 /// A wstat that changes the name alone.
-fn renaming(rt: &impl Abort, alloc: Global, fid: u32) -> CallMessage {
+fn renaming(rt: &impl Abort, alloc: Global, fid: u32) -> CallMessage<'static> {
     let stat = Stat {
         kind: u16::MAX,
         dev: u32::MAX,
@@ -102,7 +102,7 @@ fn renaming(rt: &impl Abort, alloc: Global, fid: u32) -> CallMessage {
     })
 }
 
-fn call_of(rt: &impl Abort, alloc: Global, word: &str, fid: u32) -> CallMessage {
+fn call_of(rt: &impl Abort, alloc: Global, word: &str, fid: u32) -> CallMessage<'static> {
     match word {
         "walk" => walking(rt, alloc, fid),
         "clone" => cloning(alloc, fid),
@@ -118,7 +118,7 @@ fn call_of(rt: &impl Abort, alloc: Global, word: &str, fid: u32) -> CallMessage 
 }
 
 /// The message that words ask for: `version` and a message size, or another word and a fid.
-pub fn message_of(rt: &impl Abort, alloc: Global, words: &str) -> Message {
+pub fn message_of(rt: &impl Abort, alloc: Global, words: &str) -> Message<'static> {
     let (word, number) = words.split_once(' ').expect(rt, "a value");
     let number = number.parse::<u32>().expect(rt, "a value");
     match word {

@@ -87,7 +87,7 @@ impl Port for Fake {
         }
     }
 
-    fn call(&mut self, _alloc: Global, now: u32, _run: u32, _pass: u32, call: Call) -> Answer {
+    fn call(&mut self, _alloc: Global, now: u32, _run: u32, _pass: u32, call: Call<'_>) -> Answer {
         if self.moments.push(now).is_err() {
             return Answer::Short;
         }
@@ -107,7 +107,7 @@ impl Port for Fake {
 }
 
 /// The reply to a message, of a connection that awaits no attach.
-fn ask(alloc: Global, session: &mut Session, port: &mut Fake, message: Message) -> Reply {
+fn ask(alloc: Global, session: &mut Session, port: &mut Fake, message: Message<'_>) -> Reply {
     if session.awaits() {
         return Reply::Error(RuleId::S5);
     }

@@ -1,5 +1,4 @@
 //! A port over one run of the start tree, and the first exchange.
-ghost use Rattle.std.specs.Prelude.{◌≡◌};
 
 use cs_journal::{Pass, Run, can_grow};
 use cs_names::{Path, RuleId, Text, UserName};
@@ -126,7 +125,7 @@ impl Port for Alone {
         Ok((place, self.call(alloc, now, 0, place, call)))
     }
 
-    fn call(&mut self, alloc: Global, now: u32, _run: u32, pass: u32, call: Call) -> Answer {
+    fn call(&mut self, alloc: Global, now: u32, _run: u32, pass: u32, call: Call<'_>) -> Answer {
         let Some(pass) = self.passes.get_mut(pass as usize) else {
             return Answer::Denied(RuleId::S5);
         };

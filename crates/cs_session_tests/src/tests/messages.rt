@@ -62,7 +62,7 @@ const REQUESTS: [Spelled; 14] = [
     ),
 ];
 
-fn expect_request_written(rt: &(impl Abort + AllocGlobal), message: &TMessage, bytes: &[u8]) {
+fn expect_request_written(rt: &(impl Abort + AllocGlobal), message: &TMessage<'_>, bytes: &[u8]) {
     assert!(rt; message.fits());
     let mut out = Vec::new(rt.alloc());
     encode_t(message, &mut out).expect(rt, "memory");

@@ -1,11 +1,12 @@
 //! Whether the journal of a shared run is the one that its users were answered from.
 
 use super::side::{attach, find, open, published, read, stat, walk, write};
-use cs_journal::{AuditFault, Pass};
+use cs_journal::{AuditFault, Pass, Run};
 use cs_permit::Call;
+use cs_plan::Built;
 use cs_run::Answer;
-use cs_shared::{AnyScene, SharedRegistry, SharedRun};
-use std::alloc::Global;
+use cs_shared::{AnyScene, AuditBy, Look, SharedRegistry, SharedRun};
+use std::alloc::{AllocError, Global};
 use std::process::Abort;
 use std::sync::Wait;
 
@@ -17,8 +18,25 @@ struct Pair {
     told: String,
 }
 
+/// What the journal tells of the call at a place, if there is one.
+#[derive(Drop)]
+struct AnswerAt {
+    alloc: Global,
+    place: usize,
+}
+
+impl Look<Result<Option<Answer>, AllocError>> for AnswerAt {
+    ghost use Rattle.std.specs.Prelude.{⊤};
+
+    ghost tells = { λ look run told. ⊤ };
+
+    fn look(self, run: &Run<Built>) -> Result<Option<Answer>, AllocError> {
+        run.answer_at(self.alloc, self.place)
+    }
+}
+
 /// The call that a word asks for.
-fn call_of(rt: &impl Abort, alloc: Global, user: &str, word: &str) -> Call {
+fn call_of(rt: &impl Abort, alloc: Global, user: &str, word: &str) -> Call<'static> {
     match word {
         "walk" => walk(rt, alloc, user),
         "open" => open(rt, alloc, user, 2),
@@ -67,12 +85,15 @@ impl Pair {
     }
 
     fn audit<R: Wait>(&self, rt: &R, passes: &[Pass]) -> Result<(), AuditFault> {
-        self.run.inspect(rt, |run| run.audit(passes))
+        let told: (usize, Result<(), AuditFault>) = self.run.inspect(rt, AuditBy { passes });
+        told.1
     }
 
     /// What the journal tells of the call at a place.
     fn answer_at<R: Wait + Abort>(&self, rt: &R, alloc: Global, place: usize) -> Answer {
-        let answer = self.run.inspect(rt, |run| run.answer_at(alloc, place));
+        let answer: Result<Option<Answer>, AllocError> = self
+            .run
+            .inspect(rt, AnswerAt { alloc, place });
         answer.expect(rt, "memory").expect(rt, "an answer")
     }
 
@@ -121,7 +142,7 @@ fn no_answer_is_invented_under_the_lock(rt: HostRuntime) {
     let x = after(&rt, alloc, &registry, "x", "ann stat\nbob stat");
     let told = x.told_again(&rt, alloc);
     assert!(rt; told.as_str() == x.told.as_str(), "{told}");
-    let past = x.run.inspect(&rt, |run| run.answer_at(alloc, 4));
+    let past: Result<Option<Answer>, AllocError> = x.run.inspect(&rt, AnswerAt { alloc, place: 4 });
     assert!(rt; past.expect(&rt, "memory").is_none());
 }
 

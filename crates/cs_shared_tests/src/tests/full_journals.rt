@@ -1,11 +1,11 @@
 //! A journal that two threads fill.
 
 use super::side::{attach, find, open, published, stat, walk};
-use cs_journal::Pass;
+use cs_journal::{AuditFault, Pass};
 use cs_names::{RuleId, UserName};
 use cs_permit::{Call, CloseCall};
 use cs_run::Answer;
-use cs_shared::{AnyScene, SharedRun};
+use cs_shared::{AnyScene, AuditBy, SharedRun};
 use std::alloc::Global;
 use std::process::Abort;
 use std::sync::Wait;
@@ -46,7 +46,7 @@ fn walk_and_open<R: Wait + Abort>(
     }
 }
 
-fn close(rt: &impl Abort, alloc: Global, open_number: u32) -> Call {
+fn close(rt: &impl Abort, alloc: Global, open_number: u32) -> Call<'static> {
     let user = UserName::read(alloc, b"ann").expect(rt, "a value");
     Call::Close(CloseCall { open_number, user })
 }
@@ -82,6 +82,6 @@ fn two_threads_fill_a_journal_up_to_a_close(rt: HostRuntime) {
     let closed = run.call(&rt, alloc, &mut ann, 4, close);
     assert!(rt; matches!(closed, Answer::Closed));
     let passes = [ann, bob];
-    assert!(rt; run.inspect(&rt, |run| run.entries()) == 65_536);
-    assert!(rt; run.inspect(&rt, |run| run.audit(&passes)) == Ok(()));
+    let told: (usize, Result<(), AuditFault>) = run.inspect(&rt, AuditBy { passes: &passes });
+    assert!(rt; told == (65_536, Ok(())));
 }

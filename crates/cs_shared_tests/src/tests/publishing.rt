@@ -136,8 +136,8 @@ fn state_of(rt: &impl Abort, alloc: Global, scene: &Arc<Scene>) -> Published {
     Scene::make(alloc, scene, 0).expect(rt, "a state")
 }
 
-/// How many states are missing, and how many runs there are, once so many workers have published; the
-/// fault where they are refused.
+/// How many states are missing, and how many runs there are, once so many workers have published;
+/// the fault where they are refused.
 fn publish<R: Threads + Wait + Sync + Abort, G: Gate>(
     rt: &R,
     alloc: Global,
@@ -205,8 +205,8 @@ fn is_refused<S: Served, R: Wait + Abort>(
     assert!(rt; registry.publish(rt, alloc, state) == Err(fault));
 }
 
-/// Publishes in a registry of the scene by too many workers, and then twice, with a state of its own and
-/// one of another scene between.
+/// Publishes in a registry of the scene by too many workers, and then twice, with a state of its
+/// own and one of another scene between.
 fn counts<S: Served, R: Threads + Wait + Sync + Abort>(rt: &R, alloc: Global, scene: Arc<Scene>)
     requires here { S.is_scene (arc_value scene) }
     requires only { IsOnly S.is_scene (arc_value scene) }

@@ -1,12 +1,13 @@
 //! Runs that users share, of a state that is published.
 
 use super::side::{F, attach, comes, find, open, published, read, registry_of, write};
-use cs_journal::Pass;
+use cs_journal::{AuditFault, Pass, Run};
 use cs_names::{RuleId, RunName};
 use cs_permit::{Call, StatCall};
+use cs_plan::Built;
 use cs_registry::FindFault;
 use cs_run::Answer;
-use cs_shared::{AnyScene, NamedRun, SharedRegistry, SharedRun};
+use cs_shared::{AnyScene, AuditBy, Look, NamedRun, SharedRegistry, SharedRun};
 use std::alloc::Global;
 use std::process::Abort;
 use std::sync::Wait;
@@ -110,7 +111,8 @@ fn runs_are_told_by_their_names(rt: HostRuntime) {
 /// How many entries each run has.
 fn push_entries<R: Wait + Abort>(rt: &R, text: &mut String, runs: &[NamedRun<AnyScene>]) {
     for run in runs {
-        let entries = run.run().inspect(rt, |run| run.entries());
+        let told: (usize, Result<(), AuditFault>) = run.run().inspect(rt, AuditBy { passes: &[] });
+        let entries = told.0;
         write!(text, "{entries}, ").expect(rt, "memory");
     }
 }
@@ -130,16 +132,30 @@ fn each_run_is_told_by_its_own_handle(rt: HostRuntime) {
 }
 
 /// Looks at a run until the flag comes.
+#[derive(Drop)]
+struct UntilAnswered<'f> {
+    looking: &'f AtomicBool,
+    answered: &'f AtomicBool,
+}
+
+impl<'f> Look<bool> for UntilAnswered<'f> {
+    ghost use Rattle.std.specs.Prelude.{⊤};
+
+    ghost tells = { λ look run told. ⊤ };
+
+    fn look(self, run: &Run<Built>) -> bool {
+        self.looking.store(true, Ordering::SeqCst);
+        comes(self.answered) && run.entries() == 0
+    }
+}
+
 fn look<R: Wait>(
     rt: &R,
     run: &SharedRun<AnyScene>,
     looking: &AtomicBool,
     answered: &AtomicBool,
 ) -> bool {
-    run.inspect(rt, |run| {
-        looking.store(true, Ordering::SeqCst);
-        comes(answered) && run.entries() == 0
-    })
+    run.inspect(rt, UntilAnswered { looking, answered })
 }
 
 /// Asks for a stat once the flag came.

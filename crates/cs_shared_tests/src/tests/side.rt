@@ -2,8 +2,8 @@
 
 use cs_fids::Place;
 use cs_journal::Pass;
-use cs_names::{Bytes, RunName, Text, Texts, UserName};
-use cs_permit::{Call, OpenCall, ReadCall, StatCall, WalkCall, WriteCall};
+use cs_names::{RunName, Text, Texts, UserName};
+use cs_permit::{Call, OpenCall, ReadCall, SentBytes, StatCall, WalkCall, WriteCall};
 use cs_plan::{Published, Scene};
 use cs_run::Answer;
 use cs_shared::{AnyScene, SharedRegistry, SharedRun};
@@ -70,7 +70,7 @@ pub fn published<R: Wait + Abort>(rt: &R, alloc: Global) -> SharedRegistry<AnySc
     registry
 }
 
-pub fn open(rt: &impl Abort, alloc: Global, user: &str, mode: u8) -> Call {
+pub fn open(rt: &impl Abort, alloc: Global, user: &str, mode: u8) -> Call<'static> {
     let user = UserName::read(alloc, user.as_bytes()).expect(rt, "a value");
     Call::Open(OpenCall {
         number: F,
@@ -79,9 +79,9 @@ pub fn open(rt: &impl Abort, alloc: Global, user: &str, mode: u8) -> Call {
     })
 }
 
-pub fn write(rt: &impl Abort, alloc: Global, user: &str, text: &str) -> Call {
+pub fn write(rt: &impl Abort, alloc: Global, user: &str, text: &str) -> Call<'static> {
     let user = UserName::read(alloc, user.as_bytes()).expect(rt, "a value");
-    let bytes = Bytes::keep(alloc, text.as_bytes()).expect(rt, "memory");
+    let bytes = SentBytes::keep(alloc, text.as_bytes()).expect(rt, "memory");
     Call::Write(WriteCall {
         number: F,
         user,
@@ -91,12 +91,12 @@ pub fn write(rt: &impl Abort, alloc: Global, user: &str, text: &str) -> Call {
 }
 
 /// Of the root.
-pub fn stat() -> Call {
+pub fn stat() -> Call<'static> {
     Call::Stat(StatCall { number: 0 })
 }
 
 /// Of no names, from the root.
-pub fn walk(rt: &impl Abort, alloc: Global, user: &str) -> Call {
+pub fn walk(rt: &impl Abort, alloc: Global, user: &str) -> Call<'static> {
     let user = UserName::read(alloc, user.as_bytes()).expect(rt, "a value");
     Call::Walk(WalkCall {
         number: 0,
@@ -106,7 +106,7 @@ pub fn walk(rt: &impl Abort, alloc: Global, user: &str) -> Call {
 }
 
 /// Of the first bytes of the file.
-pub fn read() -> Call {
+pub fn read() -> Call<'static> {
     Call::Read(ReadCall {
         number: F,
         offset: 0,

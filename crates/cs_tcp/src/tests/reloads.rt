@@ -85,7 +85,8 @@ fn ask_later<R: Net<Stream = TcpStream> + Files + Abort>(
     add_types(rt, alloc, &mut client, later.asked, types)
 }
 
-/// What bob is answered while the file changes, and the clients beside him, by the types of the replies.
+/// What bob is answered while the file changes, and the clients beside him, by the types of the
+/// replies.
 fn answers<R: Net<Stream = TcpStream> + Files + Abort>(
     rt: &R,
     alloc: Global,

@@ -81,21 +81,44 @@ fn server<R: Wait + Abort>(rt: &R, alloc: Global) -> Server<AnyScene> {
     server
 }
 
-/// Whether a client whose bytes come in pieces of so many is served to its end.
-fn is_served<'a, R: Wait + Abort>(
-    rt: &'a R,
+/// What serves a stream to its end. What is generic over it serves streams that lend.
+trait ServesToItsEnd {
+    /// Whether it was served to its end.
+    fn is_ended<R: Wait, RW: Read + Write + Drop>(&self, rt: &R, alloc: Global, stream: RW) -> bool;
+}
+
+impl ServesToItsEnd for Server<AnyScene> {
+    fn is_ended<R: Wait, RW: Read + Write + Drop>(
+        &self,
+        rt: &R,
+        alloc: Global,
+        stream: RW,
+    ) -> bool {
+        let mut stream = Counted::new(stream);
+        let connection = serve_connection(rt, alloc, self, &mut stream, &mut Standing);
+        connection.result().is_ok()
+    }
+}
+
+/// Whether a server serves a client whose bytes come in pieces of so many to its end.
+fn is_heard<V: ServesToItsEnd, R: Wait>(
+    rt: &R,
     alloc: Global,
+    server: &V,
     most: usize,
-    log: Log<'a, Vec<u8>>,
+    log: Log<Vec<u8>>,
 ) -> bool {
-    let server = server(rt, alloc);
     let client = Pieces {
         left: REQUESTS,
         most,
     };
-    let mut stream = Counted::new(Heard::new(rt, alloc, client, 7, log));
-    let connection = serve_connection(rt, alloc, &server, &mut stream, &mut Standing);
-    connection.result().is_ok()
+    server.is_ended(rt, alloc, Heard::new(rt, alloc, client, 7, log))
+}
+
+/// Whether a client whose bytes come in pieces of so many is served to its end.
+fn is_served<R: Wait + Abort>(rt: &R, alloc: Global, most: usize, log: Log<Vec<u8>>) -> bool {
+    let server = server(rt, alloc);
+    is_heard(rt, alloc, &server, most, log)
 }
 
 /// What is told of such a client, if it was served.

@@ -1,5 +1,4 @@
 //! Workers that publish for a server.
-ghost use Rattle.std.specs.Prelude.{◌≡◌};
 ghost use Rattle.std.specs.Arc.{arc_value};
 ghost use Rattle.cs_shared.specs.Serving.{IsOnly, ServesAll};
 

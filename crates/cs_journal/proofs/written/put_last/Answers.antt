@@ -1,6 +1,6 @@
 use Rattle.std.proofs.Common.{◌≡◌, ◌∙◌, ◌++◌, ◌-◌, ◌<◌, [], ℕ, ap, arith, get_or, length, sym}
 use Rattle.std.proofs.lemmas.List.{append-nil, get_or_default}
-use Rattle.cs_journal.proofs.Keeping.{Block, bytes_put, keeps_put, within_put}
+use Rattle.cs_journal.proofs.Blocks.{Block, bytes_put, keeps_put, within_put}
 use Rattle.cs_journal.proofs.written.put_last.Goals as goal
 
 pub returns-in_err-extend_from_slice-clause-kept :

@@ -9,8 +9,8 @@ use Rattle.cs_run.proofs.acting.act_by_rules.Goals as goal
 pub grant-requires-clause-granted : goal.grant-requires-clause-granted
 unfolding failing_rule
 grant-requires-clause-granted g c =
-    let none : c.first_failing.result ≡ None = search rules in
-    let same = sym c.first_failing.ensures ∙ none in
+    let none : c.failing_rule.result ≡ None = search rules in
+    let same = sym c.failing_rule.ensures ∙ none in
     c.first_rule_that_fails.ensures.granted (rules_of (rules_view (g.T.TreeRead.tree c.args.tree.now) c.args.opens.now.items c.args.users.now) c.args.call.now) (sym (c.asked_of.ensures c.args.users.now) ∙ same)
 
 pub returns-in-Some : goal.returns-in-Some
@@ -18,17 +18,17 @@ returns-in-Some g c =
     let t = g.T.TreeRead.tree c.args.tree.now in
     let closed = c.release_if.ensures ∙ ap (λ number. released_if number c.args.turn.pass c.args.opens.now.items) c.closes.ensures in
     denied (rules_view t c.args.opens.now.items c.args.users.now) c.args.turn c.args.call.now _ c.in-Some.rule
-    (sym (c.asked_of.ensures c.args.users.now) ∙ sym c.first_failing.ensures ∙ c.in-Some.is) (ap (λ os. left t os (a.Denied c.in-Some.rule)) closed)
+    (sym (c.asked_of.ensures c.args.users.now) ∙ sym c.failing_rule.ensures ∙ c.in-Some.is) (ap (λ os. left t os (a.Denied c.in-Some.rule)) closed)
 
 pub returns-in-Ok : goal.returns-in-Ok
 returns-in-Ok g c =
-    let none : c.first_failing.result ≡ None = search rules in
+    let none : c.failing_rule.result ≡ None = search rules in
     granted (rules_view (g.T.TreeRead.tree c.args.tree.now) c.args.opens.now.items c.args.users.now) c.args.turn c.args.call.now _
-    (sym (c.asked_of.ensures c.args.users.now) ∙ sym c.first_failing.ensures ∙ none) c.in-Ok.ensures.ok
+    (sym (c.asked_of.ensures c.args.users.now) ∙ sym c.failing_rule.ensures ∙ none) c.in-Ok.ensures.ok
 
 pub returns-in-Err : goal.returns-in-Err
 returns-in-Err g c =
-    let none : c.first_failing.result ≡ None = search rules in
+    let none : c.failing_rule.result ≡ None = search rules in
     short (rules_view (g.T.TreeRead.tree c.args.tree.now) c.args.opens.now.items c.args.users.now) c.args.turn c.args.call.now _
-    (sym (c.asked_of.ensures c.args.users.now) ∙ sym c.first_failing.ensures ∙ none) c.in-Err.ensures.memory
+    (sym (c.asked_of.ensures c.args.users.now) ∙ sym c.failing_rule.ensures ∙ none) c.in-Err.ensures.memory
     (λ i. left (c.in-Err.ensures.err.0 i) (c.in-Err.ensures.err.1 i) a.Short)

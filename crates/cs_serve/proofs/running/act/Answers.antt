@@ -4,10 +4,10 @@ use Rattle.cs_serve.proofs.running.act.Goals as goal
 
 pub returns-in-Send-clause-ok : goal.returns-in-Send-clause-ok
 returns-in-Send-clause-ok g c =
-    let action : c.args.turn.now.action ≡ Send c.bytes.result.now = cc in
+    let action : c.args.asked.now.action ≡ Send c.bytes.result.now = cc in
     rw (action, ← c.number-conn.ensures.value) c.send.ensures.ok
 
 pub returns-in-Send-clause-err : goal.returns-in-Send-clause-err
 returns-in-Send-clause-err g c =
-    let action : c.args.turn.now.action ≡ Send c.bytes.result.now = cc in
+    let action : c.args.asked.now.action ≡ Send c.bytes.result.now = cc in
     rw (action, ← c.number-conn.ensures.value) c.send.ensures.err

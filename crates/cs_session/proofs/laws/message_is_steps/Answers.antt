@@ -1,7 +1,7 @@
 use Rattle.std.proofs.Common.{ℕ, Bool, true, false, List, [], ◌∷◌, sym, ap}
 use Rattle.cs_session.specs.declared.message.Message.{Message}
 use Rattle.cs_session.specs.declared.reply.Reply.{Reply}
-use Rattle.cs_session.specs.Marks.{TableMark}
+use Rattle.cs_session.specs.Marks.{OwnMark}
 use Rattle.cs_session.specs.Messages.{Either, Answers, goes_on, next_step}
 use Rattle.cs_session.specs.Questions.{Question, PortAnswer}
 use Rattle.cs_session.specs.Sessions.{Sess}
@@ -12,7 +12,7 @@ choose : (b : Bool) (A B C : Type 0) → Either b A B → (A → C) → (B → C
 choose true A B C e f h = f e
 choose false A B C e f h = h e
 
-trail_of : {P : Type 0} (gives : P → Question → PortAnswer → P → Type 0) (now : ℕ) (message : Message) (marks : List TableMark) (s : Sess) (p : P) (reply : Reply) (s' : Sess) (p' : P)
+trail_of : {P : Type 0} (gives : P → Question → PortAnswer → P → Type 0) (now : ℕ) (message : Message) (marks : List OwnMark) (s : Sess) (p : P) (reply : Reply) (s' : Sess) (p' : P)
     → Answers gives now message marks s p reply s' p' → IsTrail gives now s p marks reply s' p'
 trail_of gives now message [] s p reply s' p' a = absurd a
 trail_of gives now message (mark ∷ marks) s p reply s' p' (step_reply, mid, there, takes, e) =

@@ -16,7 +16,7 @@ invariant-loop-fault g l =
       remaining : g.S.Stream.remaining l.stream ≡ g.S.Stream.remaining l.fn.stream;
       size : size_of l.framer ≡ size_of l.fn.framer;
       room : 2 * MESSAGE_BYTES ≤ vec_capacity l.replies;
-      idle : l.session.pending ≡ None;
+      idle : l.session.awaited ≡ None;
     }
 
 abbrev pub decreases-loop-fault : goal.decreases-loop-fault

@@ -11,7 +11,7 @@ invariant-loop-alloc g l = record {
   fewer : 0 < vec_len l.replies → length (left l.framer) < length (left l.fn.framer);
   size : size_of l.framer ≡ size_of l.fn.framer;
   room : 2 * MESSAGE_BYTES ≤ vec_capacity l.replies;
-  idle : l.session.pending ≡ None;
+  idle : l.session.awaited ≡ None;
 }
 
 abbrev pub decreases-loop-alloc : goal.decreases-loop-alloc

@@ -15,7 +15,7 @@ invariant-loop g l =
       unfinished : IsUnfinished (left l.framer);
       size : MESSAGE_BYTES ≤ size_of l.framer;
       room : 2 * MESSAGE_BYTES ≤ vec_capacity l.replies;
-      idle : l.session.pending ≡ None;
+      idle : l.session.awaited ≡ None;
       few : l.waits < 1000;
       waits : l.waits ≤ is.interrupted_reads;
       made : l.waits ≤ l.counter;

@@ -1,4 +1,4 @@
-use Rattle.std.proofs.Common.{◌++◌, ℕ, List, ap, ◌∙◌}
+use Rattle.std.proofs.Common.{◌++◌}
 use Rattle.cs_wire.specs.Fields.{Four, Eight, Raw, spelled}
 use Rattle.cs_wire.proofs.Putting.{then_put}
 use Rattle.cs_wire.proofs.writing.put_request.Goals as goal
@@ -15,6 +15,5 @@ unfolding spelled
 returns-in-Write-clause-items c =
     let fid = spelled Four c.in-Write.fid in
     let offset = spelled Eight c.in-Write.offset in
-    let bytes = spelled Raw c.deref-in-Write.result.now in
-    let put = then_put c.args.out.now.items fid (offset ++ bytes) c.put_four-in-Write.ensures.items (then_put c.put_four-in-Write.new.out.items offset bytes c.put_eight-in-Write.ensures.items c.put_data.ensures.items) in
-    rw c.in-Write.is (put ∙ ap (λ (z : List ℕ). c.args.out.now.items ++ (fid ++ (offset ++ spelled Raw z))) c.deref-in-Write.ensures.value)
+    let bytes = spelled Raw c.in-Write.data.now in
+    rw c.in-Write.is (then_put c.args.out.now.items fid (offset ++ bytes) c.put_four-in-Write.ensures.items (then_put c.put_four-in-Write.new.out.items offset bytes c.put_eight-in-Write.ensures.items c.put_data.ensures.items))

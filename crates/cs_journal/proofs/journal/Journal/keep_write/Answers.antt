@@ -1,5 +1,5 @@
 use Rattle.std.proofs.Common.{◌∙◌, ap}
-use Rattle.cs_journal.proofs.Keeping.{entries_stay}
+use Rattle.cs_journal.proofs.Blocks.{entries_stay}
 use Rattle.cs_journal.specs.Journals.{JournalOf}
 use Rattle.cs_journal.proofs.journal.Journal.keep_write.Goals as goal
 

@@ -5,11 +5,9 @@ use Rattle.cs_server.proofs.kept.Kept.call.Goals as goal
 pub returns-then-given-run-clause-called : goal.returns-then-given-run-clause-called
 returns-then-given-run-clause-called g c =
     let low : c.args.pass < vec_len c.self.inside.passes = c.in-Some.ensures.variant.0 refl in
-    let ok = c.self.inside.passes.ok in
-    rw (← c.self.view_is) (stray g.S.Served.serves c.self.inside.runs.items c.self.inside.passes.items c.args.run c.args.pass c.in-Some.given.now (omega arith) c.in-Some.ensures.value c.args.now c.args.call c.if-given-run.true)
+    rw (← c.self.view_is) (stray g.S.Served.serves c.self.inside.runs.items c.self.inside.passes.items c.args.run c.args.pass c.in-Some.given.now (omega (arith, low, c.self.inside.passes.ok)) c.in-Some.ensures.value c.args.now c.args.call c.if-given-run.true)
 
 pub returns-clause-called : goal.returns-clause-called
 returns-clause-called g c =
     let low : c.args.pass < vec_len c.self.inside.passes = c.in-Some.ensures.variant.0 refl in
-    let ok = c.self.inside.passes.ok in
-    rw (← c.self.view_is) (called g.S.Served.serves c.self.inside.runs.items c.self.inside.passes.items c.args.run c.args.pass c.in-Some.given.now (omega arith) c.in-Some.ensures.value c.self.invariant c.index-found.result.now c.run.result.now c.index-found.ensures c.run.ensures c.if-given-run.false c.args.now c.args.call c.call.result c.call.new.pass c.call.ensures.told)
+    rw (← c.self.view_is) (called g.S.Served.serves c.self.inside.runs.items c.self.inside.passes.items c.args.run c.args.pass c.in-Some.given.now (omega (arith, low, c.self.inside.passes.ok)) c.in-Some.ensures.value c.self.invariant c.index-found.result.now c.run.result.now c.index-found.ensures c.run.ensures c.if-given-run.false c.args.now c.args.call c.call-2.result c.call-2.new.pass c.call-2.ensures.told)

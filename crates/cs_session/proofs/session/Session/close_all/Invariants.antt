@@ -8,7 +8,7 @@ use Rattle.cs_session.proofs.session.Session.close_all.Given as goal
 
 abbrev pub invariant-loop-fid : goal.invariant-loop-fid
 invariant-loop-fid g l = record {
-  pending : l.self.pending ≡ None;
+  awaited : l.self.awaited ≡ None;
   before : (message : Message) (reply : Reply) (s : Sess) (p : g.row.P.Denot) → closes_first message ≡ true
       → IsAnswered g.P.Port.gives l.fn.now message l.self l.port reply s p → IsAnswered g.P.Port.gives l.fn.now message l.fn.self l.fn.port reply s p;
 }

@@ -3,7 +3,7 @@ use Rattle.cs_session.specs.declared.reply.Reply.{Reply}
 use Rattle.cs_session.specs.declared.reply.Reply.TheVariants as r
 use Rattle.cs_session.specs.Marks.{NoDecode, Steps}
 use Rattle.cs_session.specs.Questions.{Question, PortAnswer}
-use Rattle.cs_session.specs.Receipts.{Alone, Asked, Barred, IsLetIn, IsReceived, IsUnread, Malformed, Short}
+use Rattle.cs_session.specs.Receiving.{Alone, Asked, Barred, IsLetIn, IsReceived, IsUnread, Malformed, Short}
 use Rattle.cs_session.specs.Sessions.{Sess}
 use Rattle.cs_session.proofs.Fitting.{asks_fit}
 use Rattle.cs_session.proofs.session.Session.receive.Goals as goal

@@ -11,7 +11,7 @@ invariant_of-self-2 g c = found_of_server g.S.Served.is_scene c.self.inside.stat
 pub returns-clause-finds : goal.returns-clause-finds
 returns-clause-finds g c =
     rw (← c.self.view_is) (record {
-      place = Ok c.in_ok-place.place;
+      told = Ok c.in_ok-place.place;
       found = c.in_ok-place.ensures.finds;
       handle = elim c.match-again.branch [
         | in-Ok w ↦ rw w.result-is (c.at.ensures ∙ ap Some (sym w.in-Ok.ensures))

@@ -1,5 +1,5 @@
 use Rattle.std.proofs.Common.{arith}
-use Rattle.cs_world.proofs.Moving.{enters, fitting_more}
+use Rattle.cs_world.proofs.Moving.{attaches, fitting_more}
 use Rattle.cs_world.proofs.attended.AttendedRun.attach.Goals as goal
 
 pub invariant_of-self-2 : goal.invariant_of-self-2
@@ -11,5 +11,5 @@ invariant_of-self-2 c =
 pub returns : goal.returns
 returns c =
     rw (← c.self.view_is) (
-    enters c.self.inside.run c.self.inside.passes.items c.self.invariant c.new_pass.new.self c.in_ok-pass.pass c.in_ok-pass.ensures.run c.in_ok-pass.ensures.pass c.args.now (record { user = c.args.user }) c.step-answer.result c.step-answer.new.self c.step-answer.new.pass c.step-answer.ensures.stepped
+    attaches c.self.inside.run c.self.inside.passes.items c.self.invariant c.new_pass.new.self c.in_ok-pass.pass c.in_ok-pass.ensures.run c.in_ok-pass.ensures.pass c.args.now (record { user = c.args.user }) c.step-answer.result c.step-answer.new.self c.step-answer.new.pass c.step-answer.ensures.stepped
     (omega arith) c.number-number.result c.number-number.ensures)

@@ -1,0 +1,62 @@
+//! The bytes that a Twrite sends, which contracts see as a list, lent or in memory of their own.
+ghost use Rattle.std.specs.Prelude.{◌≡◌, IfOk, length};
+
+use std::alloc::{AllocError, Global};
+use std::borrow::CowSlice;
+use std::marker::Model;
+
+/// Bytes as they came, lent or in memory of their own. Contracts see them as a list.
+#[derive(Debug, Drop)]
+pub struct SentBytes<'a> {
+    bytes: CowSlice<'a, u8>,
+}
+
+impl<'a> Model for SentBytes<'a> {
+    ghost use Rattle.std.specs.Cow.{cow_slice_items};
+    ghost use Rattle.std.specs.Prelude.{List, ℕ};
+
+    ghost Value = { List ℕ };
+
+    ghost view = { λ sent. cow_slice_items sent.bytes };
+}
+
+impl<'a> SentBytes<'a> {
+    /// These bytes, lent.
+    pub fn lent(bytes: &'a [u8]) -> SentBytes<'a>
+        ensures { result ≡ bytes.now }
+    {
+        SentBytes {
+            bytes: CowSlice::Borrowed(bytes),
+        }
+    }
+
+    /// The same bytes, in memory of their own.
+    pub fn keep(alloc: Global, bytes: &[u8]) -> Result<SentBytes<'static>, AllocError>
+        ensures { IfOk result (λ kept. kept ≡ bytes.now) }
+    {
+        Ok(SentBytes {
+            bytes: CowSlice::Owned(Vec::from_slice(alloc, bytes)?),
+        })
+    }
+
+    /// The bytes as a slice.
+    pub fn as_slice(&self) -> &[u8]
+        ensures { result.now ≡ self.now }
+    {
+        self.bytes.as_slice()
+    }
+
+    /// How many they are.
+    pub fn len(&self) -> usize
+        ensures { result ≡ length self.now }
+    {
+        self.bytes.len()
+    }
+
+    /// The same bytes again, in memory of their own.
+    pub fn try_clone(&self, alloc: Global) -> Result<SentBytes<'static>, AllocError>
+        ensures { IfOk result (λ copy. copy ≡ self.now) }
+    {
+        SentBytes::keep(alloc, self.bytes.as_slice())
+    }
+}

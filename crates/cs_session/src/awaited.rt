@@ -1,0 +1,28 @@
+//! A run that was found, and awaits its attach.
+
+use cs_names::{Text, UserName};
+use std::marker::Model;
+
+/// A run that was found, and awaits its attach. Contracts see the fid and the call of the attach,
+/// and the run's place; the user's name stands here twice, so that the attach takes no memory.
+#[derive(Debug, Drop)]
+pub(crate) struct AwaitedRun {
+    pub(crate) fid: u32,
+    pub(crate) run: u32,
+    pub(crate) uname: Text,
+    pub(crate) user: Option<UserName>,
+}
+
+impl Model for AwaitedRun {
+    ghost use Rattle.std.specs.Prelude.{◌≡◌};
+    ghost use Rattle.cs_session.specs.Names.{user_in};
+    ghost use Rattle.cs_session.specs.Sessions.{Awaited, awaited_code};
+
+    ghost Value = { Awaited };
+
+    ghost coded = { awaited_code };
+
+    ghost view = { λ p. record { fid = p.fid; run = p.run; call = record { user = p.uname } } };
+
+    ghost invariant = { λ p. p.user ≡ user_in p.uname };
+}
