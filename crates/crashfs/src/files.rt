@@ -4,7 +4,7 @@ ghost use Rattle.std.specs.Prelude.{◌≡◌};
 use crate::ask::Ask;
 use cs_serve::Inputs;
 use std::fs::{File, OpenFile};
-use std::io::{self, Read};
+use std::io::{self, Read, Write};
 use std::rt::Files;
 
 /// The status of a command that a fault ended.
@@ -36,33 +36,45 @@ fn read_bytes<R: Files + AllocGlobal>(rt: &R, path: &str) -> io::Result<Vec<u8>>
     Ok(bytes)
 }
 
-/// The file's bytes, or the status where it can't be read, which is told.
-fn read_file<R: Files + Eprint + AllocGlobal>(rt: &R, path: &str) -> Result<Vec<u8>, u8> {
+/// The file's bytes, or the status if it can't be read, which a line on `err` reports.
+fn read_file<R: Files + Eprint + AllocGlobal, E: Write>(
+    rt: &R,
+    path: &str,
+    err: &mut E,
+) -> Result<Vec<u8>, u8> {
     match read_bytes(rt, path) {
         Ok(bytes) => Ok(bytes),
         Err(error) if error.kind() == io::ErrorKind::OutOfMemory => Err(out_of_memory(rt)),
         Err(_) => {
-            let _unheard = eprintln!(rt; "crashfs: {path}: cannot read");
+            let _unheard = writeln!(err, "crashfs: {path}: cannot read");
             Err(FAULT)
         }
     }
 }
 
 /// As `read_file`; of no file no bytes.
-fn read_if<R: Files + Eprint + AllocGlobal>(rt: &R, path: Option<&str>) -> Result<Vec<u8>, u8> {
+fn read_if<R: Files + Eprint + AllocGlobal, E: Write>(
+    rt: &R,
+    path: Option<&str>,
+    err: &mut E,
+) -> Result<Vec<u8>, u8> {
     match path {
-        Some(path) => read_file(rt, path),
+        Some(path) => read_file(rt, path, err),
         None => Ok(Vec::new(rt.alloc())),
     }
 }
 
 impl Given {
-    /// Reads the trace, the picks and the users, in this order. Or the status where one can't be read,
-    /// which is told.
-    pub fn read<R: Files + Eprint + AllocGlobal>(rt: &R, ask: &Ask) -> Result<Given, u8> {
-        let trace = read_file(rt, ask.wanted.trace)?;
-        let picks = read_if(rt, ask.wanted.picks)?;
-        let users = read_if(rt, ask.users)?;
+    /// Reads the trace, the picks and the users, in this order. Or the status if one can't be read,
+    /// which a line on `err` reports.
+    pub fn read<R: Files + Eprint + AllocGlobal, E: Write>(
+        rt: &R,
+        ask: &Ask,
+        err: &mut E,
+    ) -> Result<Given, u8> {
+        let trace = read_file(rt, ask.wanted.trace, err)?;
+        let picks = read_if(rt, ask.wanted.picks, err)?;
+        let users = read_if(rt, ask.users, err)?;
         Ok(Given {
             trace,
             picks,

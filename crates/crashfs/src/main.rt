@@ -5,6 +5,8 @@ mod ask;
 mod command_line;
 mod commands;
 mod files;
+#[cfg(test)]
+mod tests;
 
 use ask::{Ask, Job};
 use clap::Error;
@@ -53,7 +55,7 @@ where
     R: Net<Listener = TcpListener, Stream = TcpStream>,
     R::Reader: Send,
 {
-    let given = Given::read(rt, ask)?;
+    let given = Given::read(rt, ask, err)?;
     let inputs = given.inputs(ask);
     let alloc = rt.alloc();
     let Ok(mut out) = BufWriter::new(alloc, io::writer(rt)) else {

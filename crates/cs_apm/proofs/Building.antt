@@ -9,7 +9,7 @@ use Rattle.cs_tree_model.specs.Maps.Values.{map_values}
 use Rattle.cs_tree_model.specs.Tree.{IsTree}
 use Rattle.cs_trace.specs.Operations.{AreNested}
 use Rattle.cs_trace.specs.Traces.{Trace}
-use Rattle.cs_micro.specs.Micros.{Micros}
+use Rattle.cs_micro.specs.Micros.{Micros, block_of_version}
 use Rattle.cs_apm.specs.Atlases.{Atlas, IsAtlas, files_left, owners_left}
 use Rattle.cs_micro.specs.Legal.{AreLegal}
 use Rattle.cs_apm.specs.Orders.{needs_of}
@@ -54,12 +54,12 @@ module _ (t : Trace) (m : Micros) (a : Atlas) (is : IsAtlas t m.ops a) where
     nested : AreNested (nodes_in (start_state t).paths)
     nested = subst AreNested (sym (start_nodes t.records t.nodes)) is.nested
 
-    legal : AreLegal (nodes_in (start_state t).paths) (length t.files) m.ops
-    legal = subst (λ n. AreLegal n (length t.files) m.ops) (sym (start_nodes t.records t.nodes)) is.legal
+    legal : AreLegal (block_of_version t.version) (nodes_in (start_state t).paths) (length t.files) m.ops
+    legal = subst (λ n. AreLegal (block_of_version t.version) n (length t.files) m.ops) (sym (start_nodes t.records t.nodes)) is.legal
 
     state_paths : (state_of (start_state t) m.ops places).paths ≡ mirrored a.rights a.paths left
     state_paths =
-        paths_left (start_state t) m.ops m.syncs m.profile places nested (length t.files) legal allowed
+        paths_left (start_state t) m.ops m.syncs m.version places nested (block_of_version t.version) (length t.files) legal allowed
         ∙ ap (λ w. fold entries_after w (map (op_at m.ops) places)) (mirror_is a.rights a.paths a.slots is.ascending (start_state t).paths is.start)
         ∙ fold_mirrored a.rights a.paths (owners_left t m.ops places) (files_left t m.ops places) is.ascending m.ops a.steps is.steps a.slots is.long places
 
@@ -68,7 +68,7 @@ module _ (t : Trace) (m : Micros) (a : Atlas) (is : IsAtlas t m.ops a) where
     records_same = ap (map_values (record_of (state_of (start_state t) m.ops places).owners (state_of (start_state t) m.ops places).files)) state_paths
 
     pub nested_records_left : IsNested (map_values (record_of (owners_left t m.ops places) (files_left t m.ops places)) (mirrored a.rights a.paths left))
-    nested_records_left = subst IsNested records_same (state_nested (start_state t) m.ops m.syncs m.profile places nested (length t.files) legal allowed)
+    nested_records_left = subst IsNested records_same (state_nested (start_state t) m.ops m.syncs m.version places nested (block_of_version t.version) (length t.files) legal allowed)
 
     pub tree_left : fresh (map_values (record_of (owners_left t m.ops places) (files_left t m.ops places)) (mirrored a.rights a.paths left)) ≡ crash_state_of t m places
     tree_left = sym (ap fresh records_same)

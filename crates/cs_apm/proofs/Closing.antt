@@ -14,7 +14,7 @@ use Rattle.cs_trace.specs.Operations.{AreNested, IsDirectoryAt, Paths}
 use Rattle.cs_trace.specs.Traces.{Trace, start_paths}
 use Rattle.cs_micro.specs.declared.micro_op.EntryKind.TheVariants as kinds
 use Rattle.cs_micro.specs.declared.micro_op.MicroOp.{MicroOp}
-use Rattle.cs_micro.specs.declared.micro_op.MicroOp.TheVariants.{CreateDirEntry, DeleteDirEntry, MoveDirEntry, ChangeFileSize, WriteBlock, SetAttr, Say}
+use Rattle.cs_micro.specs.declared.micro_op.MicroOp.TheVariants.{CreateDirEntry, DeleteDirEntry, MoveDirEntry, LinkDirEntry, ChangeFileSize, WriteBlock, SetAttr, Say}
 use Rattle.cs_micro.specs.Legal.{AreLegal}
 use Rattle.cs_names.specs.Paths.{path_eq}
 use Rattle.cs_apm.specs.Atlases.{no_record}
@@ -50,28 +50,29 @@ one_of_two q r p zero low is = inl is
 one_of_two q r p (suc k) low is = inr (only_one r p k (omega (arith, low)) is)
 
 directory_of : (m : Paths) (o : MicroOp) → IsLegalThere m o → AreNested m → (p : Path) → Contains (named o) p → p ≢ [] → IsDirectoryAt m (parent_path p)
-directory_of m (CreateDirEntry q nodes.Directory r) h nested p there below = subst (λ w. IsDirectoryAt m (parent_path w)) (only_one q p there.0 there.1 there.2) h.1.0.1
-directory_of m (CreateDirEntry q (nodes.File f) r) h nested p there below = subst (λ w. IsDirectoryAt m (parent_path w)) (only_one q p there.0 there.1 there.2) h.1.0.1
+directory_of m (CreateDirEntry q nodes.Directory r) h nested p there below = subst (λ w. IsDirectoryAt m (parent_path w)) (only_one q p there.0 there.1 there.2) h.2.0.1
+directory_of m (CreateDirEntry q (nodes.File f) r) h nested p there below = subst (λ w. IsDirectoryAt m (parent_path w)) (only_one q p there.0 there.1 there.2) h.2.0.1
 directory_of m (DeleteDirEntry q kinds.File) h nested p there below =
     let same = only_one q p there.0 there.1 there.2 in
-    nested.nested p (nodes.File h.1.0) (ap (get m) (sym same) ∙ h.1.1) below
+    nested.nested p (nodes.File h.2.0) (ap (get m) (sym same) ∙ h.2.1) below
 directory_of m (DeleteDirEntry q kinds.Directory) h nested p there below =
     let same = only_one q p there.0 there.1 there.2 in
-    nested.nested p nodes.Directory (ap (get m) (sym same) ∙ h.1.1) below
+    nested.nested p nodes.Directory (ap (get m) (sym same) ∙ h.2.1) below
 directory_of m (MoveDirEntry q r) h nested p there below = ⊎_elim
-    (λ (same : q ≡ p). nested.nested p (nodes.File h.1.1.0) (ap (get m) (sym same) ∙ h.1.1.1) below)
-    (λ (same : r ≡ p). subst (λ w. IsDirectoryAt m (parent_path w)) same h.1.2.1)
+    (λ (same : q ≡ p). nested.nested p (nodes.File h.2.1.0) (ap (get m) (sym same) ∙ h.2.1.1) below)
+    (λ (same : r ≡ p). subst (λ w. IsDirectoryAt m (parent_path w)) same h.2.2.1)
     (one_of_two q r p there.0 there.1 there.2)
+directory_of m (LinkDirEntry q file) h nested p there below = subst (λ w. IsDirectoryAt m (parent_path w)) (only_one q p there.0 there.1 there.2) h.2.0.1
 directory_of m (ChangeFileSize file size) h nested p there below = absurd (let l = there.1 in omega (arith, l))
-directory_of m (WriteBlock file block at bytes) h nested p there below = absurd (let l = there.1 in omega (arith, l))
+directory_of m (WriteBlock file block start at bytes) h nested p there below = absurd (let l = there.1 in omega (arith, l))
 directory_of m (SetAttr (targets.File f) r) h nested p there below = absurd (let l = there.1 in omega (arith, l))
 directory_of m (SetAttr (targets.Directory q) r) h nested p there below =
     let same = only_one q p there.0 there.1 there.2 in
-    nested.nested p nodes.Directory (ap (get m) (sym same) ∙ h.1.0) below
+    nested.nested p nodes.Directory (ap (get m) (sym same) ∙ h.2.0) below
 directory_of m Say h nested p there below = absurd (let l = there.1 in omega (arith, l))
 
-module _ (t : Trace) (ops : List MicroOp) (rights : List Rights) (paths : List Path) (slots : List Slot) (made : ℕ)
-    (mirror : Mirror rights paths slots (start_entries t.records t.nodes)) (nested : AreNested (start_paths t)) (legal : AreLegal (start_paths t) made ops)
+module _ (t : Trace) (ops : List MicroOp) (rights : List Rights) (paths : List Path) (slots : List Slot) (size made : ℕ)
+    (mirror : Mirror rights paths slots (start_entries t.records t.nodes)) (nested : AreNested (start_paths t)) (legal : AreLegal size (start_paths t) made ops)
     (all_named : HasAllNamed paths ops (length ops)) where
   start_there : (q : Path) (n : Node) → get (start_paths t) q ≡ Some n → Contains paths q
   start_there q n is = by (get (start_entries t.records t.nodes) q) refl
@@ -107,6 +108,6 @@ module _ (t : Trace) (ops : List MicroOp) (rights : List Rights) (paths : List P
         (λ (w : (k : ℕ) × (k < length ops) × Contains (named (op_at ops k)) p).
         let lower = w.1 in
         run_there w.0 (omega (arith, lower)) (parent_path p) nodes.Directory
-        (directory_of (nodes_of all (start_paths t) ops w.0) (op_at ops w.0) (legal_at (start_paths t) made ops legal w.0 lower)
-        (legal_nested ops (start_paths t) nested (legal_at (start_paths t) made ops legal) w.0 (omega (arith, lower))) p w.2 below))
+        (directory_of (nodes_of all (start_paths t) ops w.0) (op_at ops w.0) (legal_at size (start_paths t) made ops legal w.0 lower)
+        (legal_nested ops (start_paths t) nested (legal_at size (start_paths t) made ops legal) w.0 (omega (arith, lower))) p w.2 below))
         known

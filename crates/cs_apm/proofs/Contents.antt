@@ -5,7 +5,7 @@ use Rattle.std.proofs.lemmas.List.{length-set, get_or-set_same, get_or-set_other
 use Rattle.std.proofs.lemmas.List.Sums.{fold_push}
 use Rattle.std.specs.Prelude.{fold}
 use Rattle.cs_micro.specs.declared.micro_op.MicroOp.{MicroOp}
-use Rattle.cs_micro.specs.declared.micro_op.MicroOp.TheVariants.{CreateDirEntry, DeleteDirEntry, MoveDirEntry, ChangeFileSize, WriteBlock, SetAttr, Say}
+use Rattle.cs_micro.specs.declared.micro_op.MicroOp.TheVariants.{CreateDirEntry, DeleteDirEntry, MoveDirEntry, LinkDirEntry, ChangeFileSize, WriteBlock, SetAttr, Say}
 use Rattle.cs_apm.specs.Contents.{change, changes, content_after, content_left}
 use Rattle.cs_apm.specs.Rules.{op_at}
 use Rattle.cs_apm.specs.States.{Content, State, after, files_after, no_content, with_file}
@@ -40,19 +40,21 @@ with_file_at files file n g low = ⊎_elim
 
 length_files : (files : List Content) (o : MicroOp) → length (files_after files o) ≡ length files
 length_files files (ChangeFileSize file size) = length-set files file _
-length_files files (WriteBlock file block at bytes) = length-set files file _
+length_files files (WriteBlock file block start at bytes) = length-set files file _
 length_files files (CreateDirEntry p node rights) = refl
 length_files files (DeleteDirEntry p kind) = refl
 length_files files (MoveDirEntry p q) = refl
+length_files files (LinkDirEntry p file) = refl
 length_files files (SetAttr target rights) = refl
 length_files files Say = refl
 
 one_file : (files : List Content) (n : ℕ) (o : MicroOp) → n < length files → get_or (files_after files o) n no_content ≡ content_after n (get_or files n no_content) o
 one_file files n (ChangeFileSize file size) low = with_file_at files file n (λ f. change f (ChangeFileSize file size)) low
-one_file files n (WriteBlock file block at bytes) low = with_file_at files file n (λ f. change f (WriteBlock file block at bytes)) low
+one_file files n (WriteBlock file block start at bytes) low = with_file_at files file n (λ f. change f (WriteBlock file block start at bytes)) low
 one_file files n (CreateDirEntry p node rights) low = refl
 one_file files n (DeleteDirEntry p kind) low = refl
 one_file files n (MoveDirEntry p q) low = refl
+one_file files n (LinkDirEntry p file) low = refl
 one_file files n (SetAttr target rights) low = refl
 one_file files n Say low = refl
 

@@ -1,7 +1,7 @@
 -- Entries of the table.
 use Rattle.std.specs.Option.{option_map_or}
 use Rattle.std.proofs.lemmas.Option.{slice_get-get_or, slice_get_read, slice_get_past}
-use Rattle.cs_trace.specs.declared.profile.Profile.{Profile}
+use Rattle.cs_trace_lines.specs.declared.version.Version.{Version}
 use Rattle.cs_apm.specs.declared.row.Row.{Row}
 use Rattle.cs_apm.specs.Bits.{has}
 use Rattle.std.proofs.Common.{◌≡◌, ℕ, zero, suc, ◌∷◌, ◌+◌, ◌<◌, ◌≤◌, Bool, false, List, [], length, map, get_or, refl, sym, ap, ◌∙◌, subst, ⊎_elim, arith}
@@ -29,8 +29,8 @@ entry need n i j later low =
     (λ (h : j ≤ i). get_or_past (map (λ i. need i j) (range_with_len 0 j)) i false (omega (arith, h, length-map-range_with_len (λ i. need i j) 0 j)) ∙ sym (later i j h))
     (cases_lt i j)
 
-pub entry_of_rules : (ops : List MicroOp) (syncs : List SyncPoint) (profile : Profile) (n i j : ℕ) → j < n → needs_in (table (needs ops syncs profile) n) i j ≡ needs ops syncs profile i j
-entry_of_rules ops syncs profile n i j low = entry (needs ops syncs profile) n i j (λ a b h. needs_later ops syncs profile a b h) low
+pub entry_of_rules : (ops : List MicroOp) (syncs : List SyncPoint) (version : Version) (n i j : ℕ) → j < n → needs_in (table (needs ops syncs version) n) i j ≡ needs ops syncs version i j
+entry_of_rules ops syncs version n i j low = entry (needs ops syncs version) n i j (λ a b h. needs_later ops syncs version a b h) low
 
 map_same : {X : Type 0} (f g : ℕ → X) (a n : ℕ) → ((k : ℕ) → k < a + n → f k ≡ g k) → map f (range_with_len a n) ≡ map g (range_with_len a n)
 map_same f g a zero same = refl

@@ -3,7 +3,7 @@ use Rattle.std.proofs.Common.{◌≡◌, ℕ, ◌+◌, ◌<◌, ◌≤◌, ◌==
 use Rattle.std.proofs.lemmas.Bool.{cases_eq, cases_lt, lt-ltb, le-ltb, eq-eqb, ne_eqb}
 use Rattle.std.proofs.lemmas.List.{length_push, get_or_append_left, get_or_at}
 use Rattle.std.proofs.lemmas.Option.{slice_get-get_or, slice_get_within, get_or_from_slice_get}
-use Rattle.cs_trace.specs.declared.profile.Profile.{Profile}
+use Rattle.cs_trace_lines.specs.declared.version.Version.{Version}
 use Rattle.cs_apm.specs.declared.row.Row.{Row}
 use Rattle.cs_apm.specs.Bits.{has}
 use Rattle.cs_micro.specs.declared.micro_op.MicroOp.{MicroOp}
@@ -39,14 +39,14 @@ filled_skip need j row w is filled i = filled i ∙ ⊎_elim
     (λ (e : i ≡ w → ⊥). let t = ne_eqb i w e in ap (λ b. b && need i j) (sym (tests_more i w ∙ ap (λ b. b || nat_lt i w) t)))
     (cases_eq i w)
 
-pub needs_later : (ops : List MicroOp) (syncs : List SyncPoint) (profile : Profile) (i j : ℕ) → j ≤ i → needs ops syncs profile i j ≡ false
+pub needs_later : (ops : List MicroOp) (syncs : List SyncPoint) (version : Version) (i j : ℕ) → j ≤ i → needs ops syncs version i j ≡ false
 unfolding needs
-needs_later ops syncs profile i j h = let e : nat_lt i j ≡ false = le-ltb i j h in rw e refl
+needs_later ops syncs version i j h = let e : nat_lt i j ≡ false = le-ltb i j h in rw e refl
 
-pub filled_all : (ops : List MicroOp) (syncs : List SyncPoint) (profile : Profile) (j : ℕ) (row : Row) → IsFilled (needs ops syncs profile) j row j → IsRow (needs ops syncs profile) j row
-filled_all ops syncs profile j row filled i = filled i ∙ ⊎_elim
-    (λ (l : i < j). ap (λ b. b && needs ops syncs profile i j) (lt-ltb i j l))
-    (λ (h : j ≤ i). ap (λ b. b && needs ops syncs profile i j) (le-ltb i j h) ∙ sym (needs_later ops syncs profile i j h))
+pub filled_all : (ops : List MicroOp) (syncs : List SyncPoint) (version : Version) (j : ℕ) (row : Row) → IsFilled (needs ops syncs version) j row j → IsRow (needs ops syncs version) j row
+filled_all ops syncs version j row filled i = filled i ∙ ⊎_elim
+    (λ (l : i < j). ap (λ b. b && needs ops syncs version i j) (lt-ltb i j l))
+    (λ (h : j ≤ i). ap (λ b. b && needs ops syncs version i j) (le-ltb i j h) ∙ sym (needs_later ops syncs version i j h))
     (cases_lt i j)
 
 pub rows_more : (need : ℕ → ℕ → Bool) (n : ℕ) (rows : List Row) (row : Row) → AreRows need n rows → IsRow need n row → AreRows need (n + 1) (rows ++ row ∷ [])

@@ -3,7 +3,7 @@ use Rattle.std.proofs.Common.{◌≡◌, ℕ, ◌<◌, ◌≤◌, Bool, false, L
 use Rattle.std.proofs.lemmas.Bool.{cases_lt, false≢true}
 use Rattle.std.proofs.lemmas.Option.{slice_get-get_or, slice_get_past}
 use Rattle.std.specs.Option.{option_map_or}
-use Rattle.cs_trace.specs.declared.profile.Profile.{Profile}
+use Rattle.cs_trace_lines.specs.declared.version.Version.{Version}
 use Rattle.cs_apm.specs.declared.row.Row.{Row}
 use Rattle.cs_apm.specs.Bits.{has}
 use Rattle.cs_micro.specs.declared.micro_op.MicroOp.{MicroOp}
@@ -23,13 +23,13 @@ past_none : (rows : List Row) (i j : ℕ) → length rows ≤ j → bit_in rows 
 unfolding bit_in
 past_none rows i j high = ap (λ o. option_map_or (λ r. has r i) o false) (slice_get_past rows j high)
 
-pub rows_backward : (ops : List MicroOp) (syncs : List SyncPoint) (profile : Profile) (rows : List Row) (d : Row) → AreRows (needs ops syncs profile) (length ops) rows → IsBackward (bit_in rows)
-rows_backward ops syncs profile rows d are i k is = ⊎_elim
+pub rows_backward : (ops : List MicroOp) (syncs : List SyncPoint) (version : Version) (rows : List Row) (d : Row) → AreRows (needs ops syncs version) (length ops) rows → IsBackward (bit_in rows)
+rows_backward ops syncs version rows d are i k is = ⊎_elim
     (λ (l : k < length ops).
-    let said = sym (row_says (needs ops syncs profile) (length ops) rows d are i k l) ∙ is in
+    let said = sym (row_says (needs ops syncs version) (length ops) rows d are i k l) ∙ is in
     ⊎_elim
     (λ (x : i < k). x)
-    (λ (x : k ≤ i). absurd (false≢true (sym (needs_later ops syncs profile i k x) ∙ said)))
+    (λ (x : k ≤ i). absurd (false≢true (sym (needs_later ops syncs version i k x) ∙ said)))
     (cases_lt i k))
     (λ (h : length ops ≤ k). absurd (false≢true (sym (past_none rows i k (subst (λ m. m ≤ k) (sym are.long) h)) ∙ is)))
     (cases_lt k (length ops))

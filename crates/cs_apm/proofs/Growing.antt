@@ -13,7 +13,7 @@ use Rattle.cs_trace.specs.declared.operation.Node.TheVariants as nodes
 use Rattle.cs_trace.specs.declared.operation.Rights.{Rights}
 use Rattle.cs_trace.specs.declared.operation.Target.TheVariants as targets
 use Rattle.cs_micro.specs.declared.micro_op.MicroOp.{MicroOp}
-use Rattle.cs_micro.specs.declared.micro_op.MicroOp.TheVariants.{CreateDirEntry, DeleteDirEntry, MoveDirEntry, ChangeFileSize, WriteBlock, SetAttr, Say}
+use Rattle.cs_micro.specs.declared.micro_op.MicroOp.TheVariants.{CreateDirEntry, DeleteDirEntry, MoveDirEntry, LinkDirEntry, ChangeFileSize, WriteBlock, SetAttr, Say}
 use Rattle.cs_apm.specs.States.{Entries, Entry, start_entries, start_entry}
 use Rattle.cs_apm.specs.States as states
 use Rattle.cs_apm.specs.declared.slot.Slot.{Slot}
@@ -68,8 +68,9 @@ module _ (old new : List Rights) (grows : Grows old new) where
   step_kept paths (CreateDirEntry p (nodes.File n) r) (Set i (File k)) h is = is
   step_kept paths (DeleteDirEntry p kind) (Set i Nothing) h is = is
   step_kept paths (MoveDirEntry p q) (Move i j) h is = is
+  step_kept paths (LinkDirEntry p n) (Set i (File k)) h is = is
   step_kept paths (ChangeFileSize n size) Other h is = tt
-  step_kept paths (WriteBlock n block at bytes) Other h is = tt
+  step_kept paths (WriteBlock n block start at bytes) Other h is = tt
   step_kept paths (SetAttr (targets.Directory p) r) (Own i k) h is = (is.0, grows.same k h ∙ is.1)
   step_kept paths (SetAttr (targets.File n) r) Other h is = tt
   step_kept paths Say Other h is = tt

@@ -9,7 +9,7 @@ use Rattle.std.specs.List.{list_any}
 use Rattle.std.specs.Prelude.{slice_get, slice_set}
 use Rattle.cs_trace.specs.declared.operation.Node.TheVariants as nodes
 use Rattle.cs_micro.specs.declared.micro_op.MicroOp.{MicroOp}
-use Rattle.cs_micro.specs.declared.micro_op.MicroOp.TheVariants.{CreateDirEntry, DeleteDirEntry, MoveDirEntry, ChangeFileSize, WriteBlock, SetAttr, Say}
+use Rattle.cs_micro.specs.declared.micro_op.MicroOp.TheVariants.{CreateDirEntry, DeleteDirEntry, MoveDirEntry, LinkDirEntry, ChangeFileSize, WriteBlock, SetAttr, Say}
 use Rattle.cs_apm.specs.Atlases.{AreChanged}
 use Rattle.cs_apm.specs.Making.{marked}
 use Rattle.cs_apm.specs.Contents.{changes}
@@ -24,8 +24,9 @@ pub length-marked : (flags : List Bool) (o : MicroOp) → length (marked flags o
 length-marked flags (CreateDirEntry p node rights) = refl
 length-marked flags (DeleteDirEntry p kind) = refl
 length-marked flags (MoveDirEntry p q) = refl
+length-marked flags (LinkDirEntry p file) = refl
 length-marked flags (ChangeFileSize file size) = length-set flags file true
-length-marked flags (WriteBlock file block at bytes) = length-set flags file true
+length-marked flags (WriteBlock file block start at bytes) = length-set flags file true
 length-marked flags (SetAttr target rights) = refl
 length-marked flags Say = refl
 
@@ -55,8 +56,9 @@ changed_more ops count flags o are = record {
     one (CreateDirEntry p node rights) n flag there = are.each n flag there ∙ sym (or_false (list_any (changes n) ops))
     one (DeleteDirEntry p kind) n flag there = are.each n flag there ∙ sym (or_false (list_any (changes n) ops))
     one (MoveDirEntry p q) n flag there = are.each n flag there ∙ sym (or_false (list_any (changes n) ops))
+    one (LinkDirEntry p file) n flag there = are.each n flag there ∙ sym (or_false (list_any (changes n) ops))
     one (ChangeFileSize file size) n flag there = set_flag flags file n flag (list_any (changes n) ops) (are.each n) there
-    one (WriteBlock file block at bytes) n flag there = set_flag flags file n flag (list_any (changes n) ops) (are.each n) there
+    one (WriteBlock file block start at bytes) n flag there = set_flag flags file n flag (list_any (changes n) ops) (are.each n) there
     one (SetAttr target rights) n flag there = are.each n flag there ∙ sym (or_false (list_any (changes n) ops))
     one Say n flag there = are.each n flag there ∙ sym (or_false (list_any (changes n) ops))
 
@@ -66,7 +68,8 @@ owners_made-append (CreateDirEntry p (nodes.File file) rights ∷ xs) ys = ap (�
 owners_made-append (CreateDirEntry p nodes.Directory rights ∷ xs) ys = owners_made-append xs ys
 owners_made-append (DeleteDirEntry p kind ∷ xs) ys = owners_made-append xs ys
 owners_made-append (MoveDirEntry p q ∷ xs) ys = owners_made-append xs ys
+owners_made-append (LinkDirEntry p file ∷ xs) ys = owners_made-append xs ys
 owners_made-append (ChangeFileSize file size ∷ xs) ys = owners_made-append xs ys
-owners_made-append (WriteBlock file block at bytes ∷ xs) ys = owners_made-append xs ys
+owners_made-append (WriteBlock file block start at bytes ∷ xs) ys = owners_made-append xs ys
 owners_made-append (SetAttr target rights ∷ xs) ys = owners_made-append xs ys
 owners_made-append (Say ∷ xs) ys = owners_made-append xs ys

@@ -12,7 +12,7 @@ use Rattle.cs_trace.specs.declared.operation.Rights.{Rights}
 use Rattle.cs_trace.specs.declared.operation.Target.TheVariants as targets
 use Rattle.cs_trace.specs.Traces.{Trace}
 use Rattle.cs_micro.specs.declared.micro_op.MicroOp.{MicroOp}
-use Rattle.cs_micro.specs.declared.micro_op.MicroOp.TheVariants.{CreateDirEntry, DeleteDirEntry, MoveDirEntry, ChangeFileSize, WriteBlock, SetAttr, Say}
+use Rattle.cs_micro.specs.declared.micro_op.MicroOp.TheVariants.{CreateDirEntry, DeleteDirEntry, MoveDirEntry, LinkDirEntry, ChangeFileSize, WriteBlock, SetAttr, Say}
 use Rattle.cs_apm.specs.Atlases.{files_left, owners_left}
 use Rattle.cs_apm.specs.Owners.{owner_after, owner_left}
 use Rattle.cs_apm.specs.Rules.{op_at}
@@ -43,8 +43,9 @@ length_owners : (owners : List Rights) (o : MicroOp) → length (owners_after ow
 length_owners owners (CreateDirEntry p node rights) = refl
 length_owners owners (DeleteDirEntry p kind) = refl
 length_owners owners (MoveDirEntry p q) = refl
+length_owners owners (LinkDirEntry p file) = refl
 length_owners owners (ChangeFileSize file size) = refl
-length_owners owners (WriteBlock file block at bytes) = refl
+length_owners owners (WriteBlock file block start at bytes) = refl
 length_owners owners (SetAttr (targets.File file) rights) = length-set owners file rights
 length_owners owners (SetAttr (targets.Directory p) rights) = refl
 length_owners owners Say = refl
@@ -53,8 +54,9 @@ one_owner : (owners : List Rights) (n : ℕ) (o : MicroOp) → n < length owners
 one_owner owners n (CreateDirEntry p node rights) low = refl
 one_owner owners n (DeleteDirEntry p kind) low = refl
 one_owner owners n (MoveDirEntry p q) low = refl
+one_owner owners n (LinkDirEntry p file) low = refl
 one_owner owners n (ChangeFileSize file size) low = refl
-one_owner owners n (WriteBlock file block at bytes) low = refl
+one_owner owners n (WriteBlock file block start at bytes) low = refl
 one_owner owners n (SetAttr (targets.File file) rights) low = set_at owners file n rights low
 one_owner owners n (SetAttr (targets.Directory p) rights) low = refl
 one_owner owners n Say low = refl

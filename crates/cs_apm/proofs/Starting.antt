@@ -1,5 +1,5 @@
 -- Which record stands at a path of the start, and which of them is each file's.
-use Rattle.std.proofs.Common.{◌≡◌, ℕ, zero, suc, ◌<◌, true, false, cond, List, [], ◌∷◌, Some, refl, sym, ap, ◌∙◌, subst, arith, ⊎_elim, length, map, get_or}
+use Rattle.std.proofs.Common.{◌≡◌, ℕ, zero, suc, ◌<◌, true, false, cond, List, [], ◌∷◌, Option, None, Some, refl, sym, ap, ◌∙◌, subst, arith, ⊎_elim, length, map, get_or}
 use Rattle.std.proofs.lemmas.Bool.{cases_Bool, false≢true}
 use Rattle.std.proofs.lemmas.Option.{get_or_from_slice_get, slice_get-get_or}
 use Rattle.std.specs.FinMap.{find, get, get-from_entries}
@@ -8,7 +8,7 @@ use Rattle.std.specs.List.Sorted.{IsStrictlySortedBy}
 use Rattle.std.specs.Option.{is_some, option_map_or}
 use Rattle.std.specs.Ordering.{eq_by_cmp, is_eq, ordering_reverse}
 use Rattle.std.specs.Cmp.{tied_itself}
-use Rattle.std.specs.Prelude.{slice_get}
+use Rattle.std.specs.Prelude.{slice_get, unwrap_or}
 use Rattle.std.specs.declared.cmp.Ordering.TheVariants.{Less}
 use Rattle.cs_tree_model.specs.declared.record.Record.{Record}
 use Rattle.cs_tree_model.specs.Laws.Paths.{path_total}
@@ -16,11 +16,11 @@ use Rattle.cs_tree_model.specs.Tree.{Path, path_cmp}
 use Rattle.cs_trace.specs.declared.operation.Node.{Node}
 use Rattle.cs_trace.specs.declared.operation.Node.TheVariants as nodes
 use Rattle.cs_trace.specs.declared.operation.Rights.{Rights}
-use Rattle.cs_trace.specs.Traces.{Trace, record_in, start_paths}
+use Rattle.cs_trace.specs.Traces.{AreAlikeAt, IsPathOf, Trace, record_in, start_paths}
 use Rattle.cs_apm.specs.Atlases.{AreStarts, no_record}
 use Rattle.cs_apm.specs.Making.{FindsFiles, node_at}
 use Rattle.cs_apm.specs.Slots.{AreAbove, AreAscending}
-use Rattle.cs_apm.specs.States.{content_at, content_of, no_content, nobody, owner_at, rights_of}
+use Rattle.cs_apm.specs.States.{Content, content_at, content_of, no_content, nobody, owner_at, permission_bits, rights_of}
 use Rattle.cs_apm.specs.Laws.Ascents.{above_at}
 
 above_of : (p : Path) (ps : List Path) → IsStrictlySortedBy path_cmp (p ∷ ps) → AreAbove p ps
@@ -78,9 +78,18 @@ found_node q (e ∷ es) (n ∷ ns) node h = ⊎_elim
     of_some : {n node : Node} → Some n ≡ Some node → n ≡ node
     of_some e = cc
 
+-- records that are alike have one content, and one owner, group and mode
+alike_content : (r : Record) (o : Option Record) → AreAlikeAt (Some r) o → content_of r ≡ option_map_or content_of o no_content
+alike_content r None alike = absurd alike
+alike_content r (Some s) alike = ap (λ o. let c : Content = record { size = length (unwrap_or o []); bytes = unwrap_or o [] } in c) alike.content
+
+alike_rights : (r : Record) (o : Option Record) → AreAlikeAt (Some r) o → rights_of r ≡ option_map_or rights_of o nobody
+alike_rights r None alike = absurd alike
+alike_rights r (Some s) alike = λ w. record { owner = alike.owner w; group = alike.group w; permissions = permission_bits (alike.mode w) }
+
 module _ (t : Trace) (each : length t.nodes ≡ length t.records) (up : AreAscending (map (λ e. e.0) t.records))
     (numbered : (n : ℕ) (p : Path) → slice_get t.files n ≡ Some p → get (start_paths t) p ≡ Some (nodes.File n))
-    (found : (n : ℕ) (p : Path) → get (start_paths t) p ≡ Some (nodes.File n) → slice_get t.files n ≡ Some p)
+    (found : (n : ℕ) (p : Path) → get (start_paths t) p ≡ Some (nodes.File n) → IsPathOf t n p)
     (starts : List ℕ) (long : length starts ≡ length t.files) (finds : FindsFiles t.nodes (length t.nodes) starts) where
   module _ (n : ℕ) (low : n < length starts) where
     there : slice_get t.files n ≡ Some (get_or t.files n [])
@@ -101,20 +110,22 @@ module _ (t : Trace) (each : length t.nodes ≡ length t.records) (up : AreAscen
         ∙ find_zip (map (λ e. e.0) t.records) t.nodes (get_or starts n 0) nodes.Directory up (subst (λ k. get_or starts n 0 < k) (sym (names_length t.records)) inside) (each ∙ sym (names_length t.records))
         ∙ ap Some noted_at.1
 
-    same_path : (get_or t.records (get_or starts n 0) no_record).0 ≡ get_or t.files n []
-    same_path = sym (get_or_from_slice_get t.files n _ [] (found n _ stands))
+    record_there : record_in t.records (get_or t.records (get_or starts n 0) no_record).0 ≡ Some (get_or t.records (get_or starts n 0) no_record).1
+    record_there = get-from_entries path_total t.records _ ∙ find_record t.records (get_or starts n 0) up inside
 
-    record_of_file : record_in t.records (get_or t.files n []) ≡ Some (get_or t.records (get_or starts n 0) no_record).1
-    record_of_file =
-        get-from_entries path_total t.records (get_or t.files n [])
-        ∙ ap (λ q. find path_cmp q t.records) (sym same_path)
-        ∙ find_record t.records (get_or starts n 0) up inside
+    -- the record is that of a path of the file, and alike that of its own path
+    alike : AreAlikeAt (Some (get_or t.records (get_or starts n 0) no_record).1) (record_in t.records (get_or t.files n []))
+    alike =
+        let p = (get_or t.records (get_or starts n 0) no_record).0 in
+        let found_path : IsPathOf t n p = found n p stands in
+        let own = sym (get_or_from_slice_get t.files n found_path.own [] found_path.at) in
+        subst (λ o. AreAlikeAt o (record_in t.records (get_or t.files n []))) record_there (subst (λ q. AreAlikeAt (record_in t.records p) (record_in t.records q)) own found_path.alike)
 
     pub owner_of_file : rights_of (get_or t.records (get_or starts n 0) no_record).1 ≡ owner_at t.records (get_or t.files n [])
-    owner_of_file = sym (ap (λ o. option_map_or rights_of o nobody) record_of_file)
+    owner_of_file = alike_rights _ _ alike
 
     content_of_file : content_of (get_or t.records (get_or starts n 0) no_record).1 ≡ content_at t.records (get_or t.files n [])
-    content_of_file = sym (ap (λ o. option_map_or content_of o no_content) record_of_file)
+    content_of_file = alike_content _ _ alike
 
   pub are_starts : AreStarts t starts
   are_starts = record { long = long; each = inside; content = content_of_file }

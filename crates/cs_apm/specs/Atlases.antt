@@ -9,15 +9,16 @@ use Rattle.cs_trace.specs.Traces.{Trace, start_paths}
 use Rattle.cs_micro.specs.declared.micro_op.MicroOp.{MicroOp}
 use Rattle.cs_apm.specs.Contents.{IsSmall, changes}
 use Rattle.cs_micro.specs.Legal.{AreLegal}
+use Rattle.cs_micro.specs.Micros.{block_of_version}
 use Rattle.cs_apm.specs.States.{Content, content_at, content_of, created, no_content, owners_of, start_state, state_of}
 use Rattle.cs_apm.specs.Slots.{AreAscending, AreKnown, AreKnownSteps, AreSteps, Mirror}
 use Rattle.cs_apm.specs.declared.tables.Tables.{Tables}
 use Rattle.cs_apm.specs.declared.slot.Slot.{Slot}
 use Rattle.cs_apm.specs.declared.slot.Step.{Step}
 
--- every path that ever stands, in order; what stands there at the start; what each micro-operation does
--- there; owner, group and permissions of the directories, and of the files as they are made; where the
--- record of each of the start's files stands; which files' bytes an operation changes
+-- every path that ever stands, in order; what stands there at the start; what each micro-operation
+-- does there; owner, group and permissions of the directories, and of the files as they are made;
+-- where the record of each of the start's files stands; which files' bytes an operation changes
 pub record Atlas : Type 0 where
   pub paths : List Path
   pub slots : List Slot
@@ -35,12 +36,15 @@ no_record = ([], record { number = 0; vers = 0; owner = []; group = []; mode = 0
 pub record AreStarts (t : Trace) (starts : List ℕ) : Type 0 where
   pub long : length starts ≡ length t.files
   pub each : (n : ℕ) → n < length starts → slice_index_or starts n 0 < length t.records
-  pub content : (n : ℕ) → n < length starts → content_of (slice_index_or t.records (slice_index_or starts n 0) no_record).1 ≡ content_at t.records (slice_index_or t.files n [])
+  pub content : (n : ℕ) → n < length starts
+      → content_of (slice_index_or t.records (slice_index_or starts n 0) no_record).1
+      ≡ content_at t.records (slice_index_or t.files n [])
 
 -- the flags of the files that an operation changes
 pub record AreChanged (ops : List MicroOp) (n : ℕ) (changed : List Bool) : Type 0 where
   pub long : length changed ≡ n
-  pub each : (file : ℕ) (flag : Bool) → slice_get changed file ≡ Some flag → flag ≡ list_any (changes file) ops
+  pub each : (file : ℕ) (flag : Bool) → slice_get changed file ≡ Some flag
+      → flag ≡ list_any (changes file) ops
 
 -- the atlas is of the trace, whose micro-operations these are
 pub record IsAtlas (t : Trace) (ops : List MicroOp) (a : Atlas) : Type 0 where
@@ -57,7 +61,7 @@ pub record IsAtlas (t : Trace) (ops : List MicroOp) (a : Atlas) : Type 0 where
   pub starts : AreStarts t a.starts
   pub changed : AreChanged ops (length (owners_of t ops)) a.changed
   pub nested : AreNested (start_paths t)
-  pub legal : AreLegal (start_paths t) (length t.files) ops
+  pub legal : AreLegal (block_of_version t.version) (start_paths t) (length t.files) ops
   pub small : All IsSmall ops
 
 -- the files after the members of a set
@@ -70,7 +74,8 @@ owners_left t ops places = (state_of (start_state t) ops places).owners
 
 -- the file of the number at the start, or as it is made
 abbrev pub content_before : Trace → List MicroOp → ℕ → Content
-content_before t ops n = slice_index_or (map (content_at t.records) t.files ++ created ops) n no_content
+content_before t ops n =
+    slice_index_or (map (content_at t.records) t.files ++ created ops) n no_content
 
 -- the tables as an atlas
 abbrev pub atlas_in : Tables → Atlas

@@ -5,7 +5,8 @@ use Rattle.std.specs.List.{list_any, range_with_len}
 -- k needs i by so many steps at most: some m that k needs is i, or needs it by fewer
 abbrev pub in_steps : (ℕ → ℕ → Bool) → ℕ → ℕ → ℕ → Bool
 in_steps needs zero i k = false
-in_steps needs (suc n) i k = list_any (λ m. needs m k && (i == m || in_steps needs n i m)) (range_with_len 0 k)
+in_steps needs (suc n) i k =
+    list_any (λ m. needs m k && (i == m || in_steps needs n i m)) (range_with_len 0 k)
 
 -- k needs i by any chain; a chain goes down, so k + 1 steps are all
 unfoldable pub by_chain : (ℕ → ℕ → Bool) → ℕ → ℕ → Bool

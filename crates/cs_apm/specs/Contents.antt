@@ -1,7 +1,6 @@
 -- What a set leaves of one file.
-use Rattle.std.specs.Prelude.{ℕ, ◌+◌, ◌*◌, ◌≤◌, ◌==◌, if◌then◌else◌, Bool, false, List, length, fold, map}
+use Rattle.std.specs.Prelude.{ℕ, ◌+◌, ◌≤◌, ◌==◌, if◌then◌else◌, Bool, false, List, length, fold, map}
 use Rattle.cs_names.specs.declared.limits.TheConstants.{FILE_BYTES}
-use Rattle.cs_micro.specs.declared.blocks.TheConstants.{BLOCK_BYTES}
 use Rattle.cs_micro.specs.declared.micro_op.MicroOp.{MicroOp}
 use Rattle.cs_micro.specs.declared.micro_op.MicroOp.TheVariants.{ChangeFileSize, WriteBlock}
 use Rattle.cs_apm.specs.Rules.{op_at}
@@ -10,13 +9,13 @@ use Rattle.cs_apm.specs.States.{Content, overwritten, resized}
 -- it changes the file of the number
 abbrev pub changes : ℕ → MicroOp → Bool
 changes n (ChangeFileSize file size) = file == n
-changes n (WriteBlock file block at bytes) = file == n
+changes n (WriteBlock file block start at bytes) = file == n
 changes n _ = false
 
 -- what it does to a file, if it is the file's
 abbrev pub change : Content → MicroOp → Content
 change f (ChangeFileSize file size) = resized size f
-change f (WriteBlock file block at bytes) = overwritten (block * BLOCK_BYTES + at) bytes f
+change f (WriteBlock file block start at bytes) = overwritten (start + at) bytes f
 change f _ = f
 
 abbrev pub content_after : ℕ → Content → MicroOp → Content
@@ -28,5 +27,5 @@ content_left n f ops places = fold (content_after n) f (map (op_at ops) places)
 
 -- a block's bytes lie within the largest file
 abbrev pub IsSmall : MicroOp → Type 0
-IsSmall (WriteBlock file block at bytes) = block * BLOCK_BYTES + at + length bytes ≤ FILE_BYTES
+IsSmall (WriteBlock file block start at bytes) = start + at + length bytes ≤ FILE_BYTES
 IsSmall _ = Unit {0}

@@ -24,6 +24,8 @@ abbrev pub is_maker : Makers → ℕ → Bool
 is_maker makers i = is_at makers.first i || is_at makers.second i
 
 -- for each of the first n micro-operations the first sync behind it that covers it
-pub record AreSynced (ops : List MicroOp) (syncs : List SyncPoint) (n : ℕ) (found : List (Option ℕ)) : Type 0 where
+pub record AreSynced (ops : List MicroOp) (syncs : List SyncPoint) (n : ℕ)
+    (found : List (Option ℕ)) : Type 0 where
   pub long : length found ≡ n
-  pub each : (i : ℕ) (first : Option ℕ) → slice_get found i ≡ Some first → (j : ℕ) → is_by first j ≡ is_synced syncs i j (op_at ops i)
+  pub each : (i : ℕ) (first : Option ℕ) → slice_get found i ≡ Some first → (j : ℕ)
+      → is_by first j ≡ is_synced syncs i j (op_at ops i)

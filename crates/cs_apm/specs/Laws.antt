@@ -1,6 +1,7 @@
 pub mod Chains
 pub mod Paths
 pub mod Reasons
+pub mod Earlier
 pub mod Search
 pub mod One
 pub mod Shown

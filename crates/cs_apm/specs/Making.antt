@@ -24,7 +24,8 @@ HasAllNamed paths ops n = (k : ℕ) → k < n → HasNamed paths (op_at ops k)
 -- the path is that of a record, or one of the first n micro-operations names it
 abbrev pub IsKnownPath : List (Path × Record) → List MicroOp → ℕ → Path → Type 0
 IsKnownPath records ops n p =
-    ((k : ℕ) × (k < length records) × ((slice_index_or records k no_record).0 ≡ p)) ⊎ ((k : ℕ) × (k < n) × Contains (named (op_at ops k)) p)
+    ((k : ℕ) × (k < length records) × ((slice_index_or records k no_record).0 ≡ p))
+    ⊎ ((k : ℕ) × (k < n) × Contains (named (op_at ops k)) p)
 
 abbrev pub node_at : List Node → ℕ → Node
 node_at ns i = slice_index_or ns i nodes.Directory
@@ -42,5 +43,5 @@ FindsFiles ns k starts = (n i : ℕ) → n < length starts → i < k → node_at
 -- the flag of the file that is changed is set
 abbrev pub marked : List Bool → MicroOp → List Bool
 marked changed (ChangeFileSize file size) = slice_set changed file true
-marked changed (WriteBlock file block at bytes) = slice_set changed file true
+marked changed (WriteBlock file block start at bytes) = slice_set changed file true
 marked changed _ = changed

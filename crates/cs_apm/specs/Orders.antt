@@ -12,9 +12,9 @@ table need n = map (λ j. map (λ i. need i j) (range_with_len 0 j)) (range_with
 unfoldable pub needs_in : List (List Bool) → ℕ → ℕ → Bool
 needs_in order i j = slice_index_or (slice_index_or order j []) i false
 
--- by the eight rules
+-- by the ten rules
 abbrev pub needs_of : Micros → ℕ → ℕ → Bool
-needs_of micros = rules.needs micros.ops micros.syncs micros.profile
+needs_of micros = rules.needs micros.ops micros.syncs micros.version
 
 -- the order of a trace's micro-operations
 abbrev pub order_of : Micros → List (List Bool)

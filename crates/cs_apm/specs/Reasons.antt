@@ -1,17 +1,19 @@
--- Why one micro-operation of a trace needs another: the eight rules as sentences.
-use Rattle.std.specs.Prelude.{◌≡◌, ◌<◌, ◌≤◌, ◌⊎◌, ℕ, List}
+-- Why one micro-operation of a trace needs another: the ten rules as sentences.
+use Rattle.std.specs.Prelude.{◌≡◌, ◌<◌, ◌≤◌, ◌⊎◌, ℕ, ◌+◌, true, List, length}
 use Rattle.std.specs.List.{Contains}
 use Rattle.cs_tree_model.specs.Tree.{Path, parent_path}
 use Rattle.cs_trace.specs.declared.operation.Covers.{Covers}
 use Rattle.cs_trace.specs.declared.operation.Covers.TheVariants as covers
 use Rattle.cs_trace.specs.declared.operation.Node.{Node}
 use Rattle.cs_trace.specs.declared.operation.Rights.{Rights}
+use Rattle.cs_trace.specs.declared.operation.Node.TheVariants as nodes
 use Rattle.cs_trace.specs.declared.operation.Target.TheVariants as targets
-use Rattle.cs_trace.specs.declared.profile.Profile.{Profile}
-use Rattle.cs_trace.specs.declared.profile.Profile.TheVariants as profiles
+use Rattle.cs_trace_lines.specs.Versions.{profile_of, says_first}
+use Rattle.cs_trace_lines.specs.declared.profile.Profile.TheVariants as profiles
+use Rattle.cs_trace_lines.specs.declared.version.Version.{Version}
 use Rattle.cs_micro.specs.declared.micro_op.EntryKind.TheVariants as kinds
 use Rattle.cs_micro.specs.declared.micro_op.MicroOp.{MicroOp}
-use Rattle.cs_micro.specs.declared.micro_op.MicroOp.TheVariants.{CreateDirEntry, DeleteDirEntry, MoveDirEntry, ChangeFileSize, WriteBlock, SetAttr, Say}
+use Rattle.cs_micro.specs.declared.micro_op.MicroOp.TheVariants.{CreateDirEntry, DeleteDirEntry, MoveDirEntry, LinkDirEntry, ChangeFileSize, WriteBlock, SetAttr, Say}
 use Rattle.cs_micro.specs.declared.sync_point.SyncPoint.{SyncPoint}
 use Rattle.cs_apm.specs.Rules.{op_at, touched}
 
@@ -29,9 +31,29 @@ pub record TouchesEntryOf (o : MicroOp) (d : Path) : Type 0 where
 abbrev pub Creates : MicroOp → Path → Type 0
 Creates o p = (node : Node) × (rights : Rights) × (o ≡ CreateDirEntry p node rights)
 
+-- it makes the file of the number
+abbrev pub CreatesFile : MicroOp → ℕ → Type 0
+CreatesFile o file =
+    (path : Path) × (rights : Rights) × (o ≡ CreateDirEntry path (nodes.File file) rights)
+
+-- it links the file of the number
+abbrev pub LinksFile : MicroOp → ℕ → Type 0
+LinksFile o file = (path : Path) × (o ≡ LinkDirEntry path file)
+
 -- it writes into the block of the file
 abbrev pub WritesBlock : MicroOp → ℕ → ℕ → Type 0
-WritesBlock o file block = (at : ℕ) × (bytes : List ℕ) × (o ≡ WriteBlock file block at bytes)
+WritesBlock o file block =
+    (start : ℕ) × (at : ℕ) × (bytes : List ℕ) × (o ≡ WriteBlock file block start at bytes)
+
+-- it writes into a block of the file, and its bytes all lie in the range of so many from the offset on
+pub record WritesWithin (o : MicroOp) (file offset count : ℕ) : Type 0 where
+  pub block : ℕ
+  pub start : ℕ
+  pub at : ℕ
+  pub bytes : List ℕ
+  pub is : o ≡ WriteBlock file block start at bytes
+  pub from : offset ≤ start + at
+  pub to : start + at + length bytes ≤ offset + count
 
 -- it changes the size of the file
 abbrev pub ChangesSize : MicroOp → ℕ → Type 0
@@ -49,11 +71,12 @@ SetsDirectory o d = (rights : Rights) × (o ≡ SetAttr (targets.Directory d) ri
 abbrev pub Names : MicroOp → Path → Type 0
 Names o p = Touches o p ⊎ SetsDirectory o p
 
--- it makes, deletes or moves an entry
+-- it makes, deletes, moves or links an entry
 abbrev pub IsEntryOperation : MicroOp → Type 0
 IsEntryOperation (CreateDirEntry p node rights) = Unit {0}
 IsEntryOperation (DeleteDirEntry p kind) = Unit {0}
 IsEntryOperation (MoveDirEntry p q) = Unit {0}
+IsEntryOperation (LinkDirEntry p file) = Unit {0}
 IsEntryOperation _ = ⊥
 
 -- i is the latest create of the path before j
@@ -61,11 +84,14 @@ pub record IsLatestCreate (ops : List MicroOp) (i j : ℕ) (p : Path) : Type 0 w
   pub made : Creates (op_at ops i) p
   pub last : (k : ℕ) → i < k → k < j → Creates (op_at ops k) p → ⊥
 
--- a sync of everything covers every operation, one of a file its blocks, its sizes and what sets its owner,
--- group and permissions, and one of a directory what touches an entry of it and what sets its own
+-- a sync of everything covers every operation; one of a file its blocks, its sizes and what sets
+-- its owner, group and permissions; one of a range of it its sizes, and what writes only bytes of
+-- the range; and one of a directory what touches an entry of it and what sets its own
 abbrev pub IsCovered : Covers → MicroOp → Type 0
 IsCovered covers.All o = Unit {0}
-IsCovered (covers.File file) o = (((block : ℕ) × WritesBlock o file block) ⊎ ChangesSize o file) ⊎ SetsFile o file
+IsCovered (covers.File file) o =
+    (((block : ℕ) × WritesBlock o file block) ⊎ ChangesSize o file) ⊎ SetsFile o file
+IsCovered (covers.Range file offset count) o = WritesWithin o file offset count ⊎ ChangesSize o file
 IsCovered (covers.Directory d) o = TouchesEntryOf o d ⊎ SetsDirectory o d
 
 -- a sync between i and j covers i
@@ -76,28 +102,43 @@ pub record IsSyncedBetween (ops : List MicroOp) (syncs : List SyncPoint) (i j : 
   pub ahead : point.at ≤ j
   pub covered : IsCovered point.covers (op_at ops i)
 
--- the eight rules, the first of them for blocks and for sizes
-pub data Reason (ops : List MicroOp) (syncs : List SyncPoint) (profile : Profile) (i j : ℕ) : Type 0 where
+-- the ten rules, the first of them for blocks and for sizes
+pub data Reason (ops : List MicroOp) (syncs : List SyncPoint) (version : Version)
+    (i j : ℕ) : Type 0 where
   -- both write one block of one file
-  writes_one_block : (file block : ℕ) → WritesBlock (op_at ops i) file block → WritesBlock (op_at ops j) file block → Reason ops syncs profile i j
+  writes_one_block : (file block : ℕ) → WritesBlock (op_at ops i) file block
+      → WritesBlock (op_at ops j) file block → Reason ops syncs version i j
   -- both change the size of one file
-  resizes_one_file : (file : ℕ) → ChangesSize (op_at ops i) file → ChangesSize (op_at ops j) file → Reason ops syncs profile i j
+  resizes_one_file : (file : ℕ) → ChangesSize (op_at ops i) file → ChangesSize (op_at ops j) file
+      → Reason ops syncs version i j
   -- both name one path
-  names_one_path : (p : Path) → Names (op_at ops i) p → Names (op_at ops j) p → Reason ops syncs profile i j
+  names_one_path : (p : Path) → Names (op_at ops i) p → Names (op_at ops j) p
+      → Reason ops syncs version i j
   -- i is the latest create, before j, of the parent directory of a path that j names
-  makes_directory : (p : Path) → Names (op_at ops j) p → IsLatestCreate ops i j (parent_path p) → Reason ops syncs profile i j
+  makes_directory : (p : Path) → Names (op_at ops j) p → IsLatestCreate ops i j (parent_path p)
+      → Reason ops syncs version i j
   -- j deletes a directory, and i touches an entry in it
-  empties_directory : (d : Path) → op_at ops j ≡ DeleteDirEntry d kinds.Directory → TouchesEntryOf (op_at ops i) d → Reason ops syncs profile i j
+  empties_directory : (d : Path) → op_at ops j ≡ DeleteDirEntry d kinds.Directory
+      → TouchesEntryOf (op_at ops i) d → Reason ops syncs version i j
   -- a sync between them covers i
-  is_waited_for : IsSyncedBetween ops syncs i j → Reason ops syncs profile i j
-  -- both are a text that is told
-  tells_after : op_at ops i ≡ Say → op_at ops j ≡ Say → Reason ops syncs profile i j
+  is_waited_for : IsSyncedBetween ops syncs i j → Reason ops syncs version i j
+  -- both are acknowledged lines
+  tells_after : op_at ops i ≡ Say → op_at ops j ≡ Say → Reason ops syncs version i j
   -- both set owner, group and permissions of one file
-  sets_one_file : (file : ℕ) → SetsFile (op_at ops i) file → SetsFile (op_at ops j) file → Reason ops syncs profile i j
-  -- both make, delete or move an entry, and the file system keeps these in order
-  is_kept_in_order : profile ≡ profiles.Ordered → IsEntryOperation (op_at ops i) → IsEntryOperation (op_at ops j) → Reason ops syncs profile i j
+  sets_one_file : (file : ℕ) → SetsFile (op_at ops i) file → SetsFile (op_at ops j) file
+      → Reason ops syncs version i j
+  -- both make, delete, move or link an entry, and the file system keeps these in order
+  is_kept_in_order : profile_of version ≡ profiles.Ordered → IsEntryOperation (op_at ops i)
+      → IsEntryOperation (op_at ops j) → Reason ops syncs version i j
+  -- i is an acknowledged line, in a version in which it comes before all that follows it
+  is_acknowledged_first : says_first version ≡ true → op_at ops i ≡ Say
+      → Reason ops syncs version i j
+  -- i makes the file that j links
+  creates_the_linked_file : (file : ℕ) → CreatesFile (op_at ops i) file
+      → LinksFile (op_at ops j) file → Reason ops syncs version i j
 
 -- j needs i
-pub record Needs (ops : List MicroOp) (syncs : List SyncPoint) (profile : Profile) (i j : ℕ) : Type 0 where
+pub record Needs (ops : List MicroOp) (syncs : List SyncPoint) (version : Version)
+    (i j : ℕ) : Type 0 where
   pub before : i < j
-  pub reason : Reason ops syncs profile i j
+  pub reason : Reason ops syncs version i j

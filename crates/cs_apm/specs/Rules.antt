@@ -1,16 +1,19 @@
--- Which micro-operation of a trace needs which: the eight rules, as tests.
-use Rattle.std.specs.Prelude.{ℕ, ◌+◌, ◌-◌, ◌==◌, ◌&&◌, ◌||◌, not, nat_lt, nat_le, Bool, true, false, List, [], ◌∷◌, slice_index_or}
+-- Which micro-operation of a trace needs which: the ten rules, as tests.
+use Rattle.std.specs.Prelude.{ℕ, ◌+◌, ◌-◌, ◌==◌, ◌&&◌, ◌||◌, not, nat_lt, nat_le, Bool, true, false, List, [], ◌∷◌, length, slice_index_or}
 use Rattle.std.specs.List.{list_any, range_with_len}
 use Rattle.cs_names.specs.Paths.{path_eq}
 use Rattle.cs_tree_model.specs.Tree.{Path, parent_path}
 use Rattle.cs_trace.specs.declared.operation.Covers.{Covers}
 use Rattle.cs_trace.specs.declared.operation.Covers.TheVariants as covers
+use Rattle.cs_trace.specs.declared.operation.Node.TheVariants as nodes
 use Rattle.cs_trace.specs.declared.operation.Target.TheVariants as targets
-use Rattle.cs_trace.specs.declared.profile.Profile.{Profile}
-use Rattle.cs_trace.specs.declared.profile.Profile.TheVariants as profiles
+use Rattle.cs_trace_lines.specs.Versions.{profile_of, says_first}
+use Rattle.cs_trace_lines.specs.declared.profile.Profile.{Profile}
+use Rattle.cs_trace_lines.specs.declared.profile.Profile.TheVariants as profiles
+use Rattle.cs_trace_lines.specs.declared.version.Version.{Version}
 use Rattle.cs_micro.specs.declared.micro_op.EntryKind.TheVariants as kinds
 use Rattle.cs_micro.specs.declared.micro_op.MicroOp.{MicroOp}
-use Rattle.cs_micro.specs.declared.micro_op.MicroOp.TheVariants.{CreateDirEntry, DeleteDirEntry, MoveDirEntry, ChangeFileSize, WriteBlock, SetAttr, Say}
+use Rattle.cs_micro.specs.declared.micro_op.MicroOp.TheVariants.{CreateDirEntry, DeleteDirEntry, MoveDirEntry, LinkDirEntry, ChangeFileSize, WriteBlock, SetAttr, Say}
 use Rattle.cs_micro.specs.declared.sync_point.SyncPoint.{SyncPoint}
 
 -- the micro-operation at a place
@@ -22,6 +25,7 @@ abbrev pub touched : MicroOp → List Path
 touched (CreateDirEntry p node rights) = p ∷ []
 touched (DeleteDirEntry p kind) = p ∷ []
 touched (MoveDirEntry p q) = p ∷ q ∷ []
+touched (LinkDirEntry p file) = p ∷ []
 touched _ = []
 
 abbrev pub touches : MicroOp → Path → Bool
@@ -50,18 +54,20 @@ abbrev pub sets_directory : MicroOp → Path → Bool
 sets_directory (SetAttr (targets.Directory p) rights) d = path_eq p d
 sets_directory _ d = false
 
--- it makes, deletes or moves an entry
+-- it makes, deletes, moves or links an entry
 abbrev pub is_entry_operation : MicroOp → Bool
 is_entry_operation (CreateDirEntry p node rights) = true
 is_entry_operation (DeleteDirEntry p kind) = true
 is_entry_operation (MoveDirEntry p q) = true
+is_entry_operation (LinkDirEntry p file) = true
 is_entry_operation _ = false
 
 -- ---- the rules
 
 -- P1: both write one block of one file, or both change the size of one file
 abbrev pub same_place : MicroOp → MicroOp → Bool
-same_place (WriteBlock file block at bytes) (WriteBlock other number from more) = file == other && block == number
+same_place (WriteBlock file block start at bytes) (WriteBlock other number begin from more) =
+    file == other && block == number
 same_place (ChangeFileSize file to) (ChangeFileSize other size) = file == other
 same_place _ _ = false
 
@@ -75,7 +81,8 @@ between i j = range_with_len (i + 1) (j - (i + 1))
 
 -- i is the latest create of the path before j
 unfoldable pub is_latest : List MicroOp → ℕ → ℕ → Path → Bool
-is_latest ops i j q = creates (op_at ops i) q && not (list_any (λ k. creates (op_at ops k) q) (between i j))
+is_latest ops i j q =
+    creates (op_at ops i) q && not (list_any (λ k. creates (op_at ops k) q) (between i j))
 
 -- P3: i is the latest create, before j, of the parent directory of a path that j names
 abbrev pub makes_parent : List MicroOp → ℕ → ℕ → Bool
@@ -86,28 +93,39 @@ abbrev pub empties : MicroOp → MicroOp → Bool
 empties a (DeleteDirEntry d kinds.Directory) = touches_entry_of a d
 empties a _ = false
 
--- a sync of a file covers its blocks, its sizes and what sets its owner, group and permissions, and one of
--- a directory what touches an entry of it and what sets its own
+-- bytes from one place of a file to another lie in the range of so many bytes from an offset on
+abbrev pub lies_within : ℕ → ℕ → ℕ → ℕ → Bool
+lies_within offset count begin end = nat_le offset begin && nat_le end (offset + count)
+
+-- a sync of a file covers its blocks, its sizes and what sets its owner, group and permissions; one
+-- of a range of it covers its sizes, and those of its blocks' writes whose bytes all lie in the
+-- range; and one of a directory covers what touches an entry of it and what sets its own
 abbrev pub is_covered : Covers → MicroOp → Bool
 is_covered covers.All a = true
-is_covered (covers.File file) (WriteBlock other block at bytes) = file == other
+is_covered (covers.File file) (WriteBlock other block start at bytes) = file == other
 is_covered (covers.File file) (ChangeFileSize other size) = file == other
 is_covered (covers.File file) (SetAttr (targets.File other) rights) = file == other
 is_covered (covers.File file) _ = false
+is_covered (covers.Range file offset count) (WriteBlock other block start at bytes) =
+    file == other && lies_within offset count (start + at) (start + at + length bytes)
+is_covered (covers.Range file offset count) (ChangeFileSize other size) = file == other
+is_covered (covers.Range file offset count) _ = false
 is_covered (covers.Directory d) a = touches_entry_of a d || sets_directory a d
 
 -- P5: a sync between them covers i, which is a
 abbrev pub is_synced : List SyncPoint → ℕ → ℕ → MicroOp → Bool
-is_synced syncs i j a = list_any (λ s. (nat_lt i s.at && nat_le s.at j) && is_covered s.covers a) syncs
+is_synced syncs i j a =
+    list_any (λ s. (nat_lt i s.at && nat_le s.at j) && is_covered s.covers a) syncs
 
--- P6: both are a text that is told
+-- P6: both are acknowledged lines
 abbrev pub both_say : MicroOp → MicroOp → Bool
 both_say Say Say = true
 both_say _ _ = false
 
 -- P7: both set owner, group and permissions of one file
 abbrev pub sets_same_file : MicroOp → MicroOp → Bool
-sets_same_file (SetAttr (targets.File file) rights) (SetAttr (targets.File other) more) = file == other
+sets_same_file (SetAttr (targets.File file) rights) (SetAttr (targets.File other) more) =
+    file == other
 sets_same_file _ _ = false
 
 -- P8: both are entry operations, and the file system keeps these in order
@@ -115,10 +133,44 @@ abbrev pub keeps_order : Profile → MicroOp → MicroOp → Bool
 keeps_order profiles.Blocks a b = false
 keeps_order profiles.Ordered a b = is_entry_operation a && is_entry_operation b
 
--- the rules that look at the two alone
-abbrev pub pair_needs : Profile → MicroOp → MicroOp → Bool
-pair_needs profile a b = same_place a b || shares_path a b || empties a b || both_say a b || sets_same_file a b || keeps_order profile a b
+-- P9: a is an acknowledged line, in a version in which it comes before all that follows it
+abbrev pub says_before : Version → MicroOp → Bool
+says_before version Say = says_first version
+says_before version _ = false
+
+-- P10: a creates the file that b links
+abbrev pub creates_linked : MicroOp → MicroOp → Bool
+creates_linked (CreateDirEntry p (nodes.File file) rights) (LinkDirEntry q other) = file == other
+creates_linked _ _ = false
+
+-- the rules of all versions that look at the two alone
+abbrev pub common_pair_needs : Profile → MicroOp → MicroOp → Bool
+common_pair_needs profile a b =
+    same_place a b || shares_path a b || empties a b || both_say a b || sets_same_file a b
+    || keeps_order profile a b
+
+-- and with them those that only version 3 knows
+abbrev pub pair_needs : Version → MicroOp → MicroOp → Bool
+pair_needs version a b =
+    common_pair_needs (profile_of version) a b || says_before version a || creates_linked a b
+
+-- j needs i by the eight rules of all versions, which ask for the profile only
+unfoldable pub common_needs : List MicroOp → List SyncPoint → Profile → ℕ → ℕ → Bool
+common_needs ops syncs profile i j =
+    nat_lt i j
+    && (common_pair_needs profile (op_at ops i) (op_at ops j)
+    || makes_parent ops i j
+    || is_synced syncs i j (op_at ops i))
+
+-- it makes no link
+abbrev pub IsNoLink : MicroOp → Type 0
+IsNoLink (LinkDirEntry p file) = ⊥
+IsNoLink _ = Unit {0}
 
 -- j needs i: i is before j, and one of the rules says so
-unfoldable pub needs : List MicroOp → List SyncPoint → Profile → ℕ → ℕ → Bool
-needs ops syncs profile i j = nat_lt i j && (pair_needs profile (op_at ops i) (op_at ops j) || makes_parent ops i j || is_synced syncs i j (op_at ops i))
+unfoldable pub needs : List MicroOp → List SyncPoint → Version → ℕ → ℕ → Bool
+needs ops syncs version i j =
+    nat_lt i j
+    && (pair_needs version (op_at ops i) (op_at ops j)
+    || makes_parent ops i j
+    || is_synced syncs i j (op_at ops i))

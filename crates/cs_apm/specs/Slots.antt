@@ -9,7 +9,7 @@ use Rattle.cs_trace.specs.declared.operation.Node.TheVariants as nodes
 use Rattle.cs_trace.specs.declared.operation.Rights.{Rights}
 use Rattle.cs_trace.specs.declared.operation.Target.TheVariants as targets
 use Rattle.cs_micro.specs.declared.micro_op.MicroOp.{MicroOp}
-use Rattle.cs_micro.specs.declared.micro_op.MicroOp.TheVariants.{CreateDirEntry, DeleteDirEntry, MoveDirEntry, ChangeFileSize, WriteBlock, SetAttr, Say}
+use Rattle.cs_micro.specs.declared.micro_op.MicroOp.TheVariants.{CreateDirEntry, DeleteDirEntry, MoveDirEntry, LinkDirEntry, ChangeFileSize, WriteBlock, SetAttr, Say}
 use Rattle.cs_apm.specs.States.{Entries, Entry, nobody}
 use Rattle.cs_apm.specs.States as states
 use Rattle.cs_apm.specs.declared.slot.Slot.{Slot}
@@ -72,7 +72,8 @@ entry_of rights (File n) = Some (states.File n)
 abbrev pub slot_entry : List Rights → List Path → List Slot → Path → Option Entry
 slot_entry rights [] slots p = None
 slot_entry rights (q ∷ qs) [] p = None
-slot_entry rights (q ∷ qs) (s ∷ ss) p = cond (path_eq q p) (entry_of rights s) (slot_entry rights qs ss p)
+slot_entry rights (q ∷ qs) (s ∷ ss) p =
+    cond (path_eq q p) (entry_of rights s) (slot_entry rights qs ss p)
 
 -- the slots have what stands at each path, and nothing stands elsewhere
 abbrev pub Mirror : List Rights → List Path → List Slot → Entries → Type 0
@@ -82,7 +83,8 @@ Mirror rights paths slots m = (p : Path) → get m p ≡ slot_entry rights paths
 abbrev pub present : List Rights → List Path → List Slot → List (Path × Entry)
 present rights [] slots = []
 present rights (p ∷ ps) [] = []
-present rights (p ∷ ps) (s ∷ ss) = option_map_or (λ e. (p, e) ∷ present rights ps ss) (entry_of rights s) (present rights ps ss)
+present rights (p ∷ ps) (s ∷ ss) =
+    option_map_or (λ e. (p, e) ∷ present rights ps ss) (entry_of rights s) (present rights ps ss)
 
 -- the map of what the slots have
 unfoldable pub mirrored : List Rights → List Path → List Slot → Entries
@@ -95,20 +97,25 @@ IsPlace paths i p = (i < length paths) × (path_at paths i ≡ p)
 
 -- the step does to the slots what the micro-operation does to the paths
 abbrev pub IsStep : List Rights → List Path → MicroOp → Step → Type 0
-IsStep rights paths (CreateDirEntry p nodes.Directory r) (Set i (Directory k)) = IsPlace paths i p × (rights_at rights k ≡ r)
-IsStep rights paths (CreateDirEntry p (nodes.File n) r) (Set i (File k)) = IsPlace paths i p × (k ≡ n)
+IsStep rights paths (CreateDirEntry p nodes.Directory r) (Set i (Directory k)) =
+    IsPlace paths i p × (rights_at rights k ≡ r)
+IsStep rights paths (CreateDirEntry p (nodes.File n) r) (Set i (File k)) =
+    IsPlace paths i p × (k ≡ n)
 IsStep rights paths (DeleteDirEntry p kind) (Set i Nothing) = IsPlace paths i p
 IsStep rights paths (MoveDirEntry p q) (Move i j) = IsPlace paths i p × IsPlace paths j q
+IsStep rights paths (LinkDirEntry p n) (Set i (File k)) = IsPlace paths i p × (k ≡ n)
 IsStep rights paths (ChangeFileSize n size) Other = Unit {0}
-IsStep rights paths (WriteBlock n block at bytes) Other = Unit {0}
-IsStep rights paths (SetAttr (targets.Directory p) r) (Own i k) = IsPlace paths i p × (rights_at rights k ≡ r)
+IsStep rights paths (WriteBlock n block start at bytes) Other = Unit {0}
+IsStep rights paths (SetAttr (targets.Directory p) r) (Own i k) =
+    IsPlace paths i p × (rights_at rights k ≡ r)
 IsStep rights paths (SetAttr (targets.File n) r) Other = Unit {0}
 IsStep rights paths Say Other = Unit {0}
 IsStep rights paths _ _ = ⊥
 
 abbrev pub AreSteps : List Rights → List Path → List MicroOp → List Step → Type 0
 AreSteps rights paths [] [] = Unit {0}
-AreSteps rights paths (o ∷ ops) (s ∷ steps) = IsStep rights paths o s × AreSteps rights paths ops steps
+AreSteps rights paths (o ∷ ops) (s ∷ steps) =
+    IsStep rights paths o s × AreSteps rights paths ops steps
 AreSteps rights paths _ _ = ⊥
 
 -- ---- what they refer to

@@ -1,5 +1,5 @@
 -- The state of a set of micro-operations: plain maps, and the tree that they are read as.
-use Rattle.std.specs.Prelude.{ℕ, ◌+◌, ◌-◌, ◌*◌, ◌%◌, nat_lt, if◌then◌else◌, List, [], ◌∷◌, ◌++◌, Option, None, Some, unwrap_or, length, take, drop, replicate, fold, map, slice_set, slice_index_or, refl}
+use Rattle.std.specs.Prelude.{ℕ, ◌+◌, ◌-◌, ◌%◌, nat_lt, if◌then◌else◌, List, [], ◌∷◌, ◌++◌, Option, None, Some, unwrap_or, length, take, drop, replicate, fold, map, slice_set, slice_index_or, refl}
 use Rattle.std.specs.Coded.{Coded, code_by, coded×, coded_ℕ, coded_list}
 use Rattle.std.specs.FinMap.{FinMap, from_entries, get, insert, remove}
 use Rattle.std.specs.List.{zip}
@@ -14,9 +14,8 @@ use Rattle.cs_trace.specs.declared.operation.Node.TheVariants as nodes
 use Rattle.cs_trace.specs.declared.operation.Rights.{Rights}
 use Rattle.cs_trace.specs.declared.operation.Target.TheVariants as targets
 use Rattle.cs_trace.specs.Traces.{Trace, record_in}
-use Rattle.cs_micro.specs.declared.blocks.TheConstants.{BLOCK_BYTES}
 use Rattle.cs_micro.specs.declared.micro_op.MicroOp.{MicroOp}
-use Rattle.cs_micro.specs.declared.micro_op.MicroOp.TheVariants.{CreateDirEntry, DeleteDirEntry, MoveDirEntry, ChangeFileSize, WriteBlock, SetAttr}
+use Rattle.cs_micro.specs.declared.micro_op.MicroOp.TheVariants.{CreateDirEntry, DeleteDirEntry, MoveDirEntry, LinkDirEntry, ChangeFileSize, WriteBlock, SetAttr}
 use Rattle.cs_micro.specs.Micros.{Micros}
 use Rattle.cs_apm.specs.Rules.{op_at}
 
@@ -64,12 +63,14 @@ abbrev pub entries_after : Entries → MicroOp → Entries
 entries_after m (CreateDirEntry p node rights) = insert m p (entry_made node rights)
 entries_after m (DeleteDirEntry p kind) = remove m p
 entries_after m (MoveDirEntry p q) = moved p q m
+entries_after m (LinkDirEntry p file) = insert m p (File file)
 entries_after m (SetAttr (targets.Directory p) rights) = owned m p rights (get m p)
 entries_after m _ = m
 
 -- a size that shrinks drops every byte past it, hidden ones too
 abbrev pub resized : ℕ → Content → Content
-resized size f = record f { size = size; bytes = (if nat_lt size f.size then take size f.bytes else f.bytes) }
+resized size f =
+    record f { size = size; bytes = (if nat_lt size f.size then take size f.bytes else f.bytes) }
 
 -- zeros up to an end, where the bytes end before it
 abbrev pub padded : ℕ → List ℕ → List ℕ
@@ -95,7 +96,8 @@ with_file file change files = slice_set files file (change (slice_index_or files
 
 abbrev pub files_after : List Content → MicroOp → List Content
 files_after files (ChangeFileSize file size) = with_file file (resized size) files
-files_after files (WriteBlock file block at bytes) = with_file file (overwritten (block * BLOCK_BYTES + at) bytes) files
+files_after files (WriteBlock file block start at bytes) =
+    with_file file (overwritten (start + at) bytes) files
 files_after files _ = files
 
 abbrev pub owners_after : List Rights → MicroOp → List Rights
@@ -119,7 +121,8 @@ created ops = map (λ _. no_content) (owners_made ops)
 
 -- all files as they are made, those of the start first; no set is without its number
 abbrev pub with_created : State → List MicroOp → State
-with_created start ops = record start { files = start.files ++ created ops; owners = start.owners ++ owners_made ops }
+with_created start ops =
+    record start { files = start.files ++ created ops; owners = start.owners ++ owners_made ops }
 
 -- the members of the set in the trace's order
 unfoldable pub state_of : State → List MicroOp → List ℕ → State
@@ -139,7 +142,8 @@ start_entry node r = entry_made node (rights_of r)
 
 -- what stands at each path at the start
 abbrev pub start_entries : List (Path × Record) → List Node → Entries
-start_entries records nodes = from_entries (map (λ x. (x.0.0, start_entry x.1 x.0.1)) (zip records nodes))
+start_entries records nodes =
+    from_entries (map (λ x. (x.0.0, start_entry x.1 x.0.1)) (zip records nodes))
 
 abbrev pub nobody : Rights
 nobody = record { owner = []; group = []; permissions = 0 }
@@ -157,13 +161,17 @@ content_at records p = option_map_or content_of (record_in records p) no_content
 abbrev pub owner_at : List (Path × Record) → Path → Rights
 owner_at records p = option_map_or rights_of (record_in records p) nobody
 
--- owner, group and permissions of each file by its number as it is made: those of the start, and those
--- that are made
+-- owner, group and permissions of each file by its number as it is made: those of the start, and
+-- those that are made
 abbrev pub owners_of : Trace → List MicroOp → List Rights
 owners_of t ops = map (owner_at t.records) t.files ++ owners_made ops
 
 abbrev pub start_state : Trace → State
-start_state t = record { paths = start_entries t.records t.nodes; files = map (content_at t.records) t.files; owners = map (owner_at t.records) t.files }
+start_state t = record {
+  paths = start_entries t.records t.nodes;
+  files = map (content_at t.records) t.files;
+  owners = map (owner_at t.records) t.files;
+}
 
 -- ---- read as a tree
 
@@ -186,7 +194,9 @@ record_with rights bit content = record {
 
 abbrev pub record_of : List Rights → List Content → Entry → Record
 record_of owners files (Directory rights) = record_with rights DMDIR None
-record_of owners files (File file) = record_with (slice_index_or owners file nobody) 0 (Some (visible (slice_index_or files file no_content)))
+record_of owners files (File file) =
+    record_with (slice_index_or owners file nobody) 0
+    (Some (visible (slice_index_or files file no_content)))
 
 abbrev pub records_of : State → FinMap path_cmp Record
 records_of s = map_values (record_of s.owners s.files) s.paths

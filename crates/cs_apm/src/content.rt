@@ -4,13 +4,13 @@ ghost use Rattle.std.specs.List.{All};
 ghost use Rattle.cs_apm.specs.Contents.{IsSmall, change, changes, content_after, content_left};
 ghost use Rattle.cs_apm.specs.States.{overwritten, padded, put, resized, visible};
 
-use cs_micro::{BLOCK_BYTES, MicroOp};
+use cs_micro::MicroOp;
 use cs_names::limits::FILE_BYTES;
 use std::alloc::AllocError;
 use std::marker::Model;
 
-/// What is in a file. Contracts see its size, and its bytes from the first on; those past the size are
-/// hidden.
+/// What is in a file. Contracts see its size, and its bytes from the first on; those past the size
+/// are hidden.
 #[derive(Debug, Drop)]
 pub struct FileContent {
     size: u64,
@@ -66,11 +66,11 @@ impl FileContent {
         match op {
             MicroOp::ChangeFileSize { length, .. } => self.resize(*length),
             MicroOp::WriteBlock {
-                block,
+                start,
                 at,
                 bytes,
                 ..
-            } => self.overwrite((*block * BLOCK_BYTES + *at) as usize, bytes.as_slice())?,
+            } => self.overwrite((*start + *at) as usize, bytes.as_slice())?,
             _ => {}
         }
         Ok(())

@@ -55,7 +55,8 @@ fn file_left(
     requires known { file < length changed.now }
     requires small { All IsSmall ops.now }
     requires inside { All (λ place. place < length ops.now) places.now }
-    ensures { IfOk result (λ content. content ≡ content_left file (content_before trace.now ops.now file) ops.now places.now) }
+    ensures { IfOk result (λ content. content
+        ≡ content_left file (content_before trace.now ops.now file) ops.now places.now) }
 {
     let mut content = file_before(alloc, trace, ops, starts, file)?;
     if changed[file as usize] {
@@ -79,7 +80,8 @@ pub fn bytes_left(
     requires known { file < length changed.now }
     requires small { All IsSmall ops.now }
     requires inside { All (λ place. place < length ops.now) places.now }
-    ensures { IfOk result (λ bytes. bytes.items ≡ visible (slice_index_or (files_left trace.now ops.now places.now) file no_content)) }
+    ensures { IfOk result (λ bytes. bytes.items
+        ≡ visible (slice_index_or (files_left trace.now ops.now places.now) file no_content)) }
 {
     let content = file_left(alloc, trace, ops, starts, changed, places, file)?;
     let bytes = content.into_visible()?;

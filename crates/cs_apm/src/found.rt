@@ -1,5 +1,5 @@
-//! What is found once for each micro-operation: the latest creates of the directories of the paths that it
-//! names, and the first sync behind it that covers it.
+//! What is found once for each micro-operation: the latest creates of the directories of the paths
+//! that it names, and the first sync behind it that covers it.
 ghost use Rattle.std.specs.Prelude.{◌≡◌, ◌<◌, ◌≤◌, ℕ, length, IfOk};
 ghost use Rattle.cs_tree_model.specs.Tree.{parent_path};
 ghost use Rattle.cs_apm.specs.Finding.{AreSynced, is_at, is_before, is_by, is_maker};
@@ -22,7 +22,8 @@ pub struct Makers {
 /// The latest create of the path's directory before j.
 fn latest_create(ops: &[MicroOp], j: usize, path: &Path) -> Option<usize>
     requires { j ≤ length ops.now }
-    ensures { (i : ℕ) → i < j → is_at result i ≡ rules.is_latest ops.now i j (parent_path path.now) }
+    ensures { (i : ℕ) → i < j
+        → is_at result i ≡ rules.is_latest ops.now i j (parent_path path.now) }
 {
     let mut latest = None;
     for k in 0..j {
@@ -45,6 +46,7 @@ impl Makers {
             MicroOp::MoveDirEntry { from, to } => {
                 (latest_create(ops, j, from), latest_create(ops, j, to))
             }
+            MicroOp::LinkDirEntry { path, .. } => (latest_create(ops, j, path), None),
             MicroOp::SetAttr {
                 target: Target::Directory(path),
                 ..

@@ -1,5 +1,5 @@
-//! What a crash may leave of a trace: which micro-operation needs which, and which sets have all that
-//! their members need, and what each of these sets leaves.
+//! What a crash may leave of a trace: which micro-operation needs which, and which sets have all
+//! that their members need, and what each of these sets leaves.
 #![tactic(auto)]
 
 pub mod content;
@@ -22,4 +22,5 @@ mod steps;
 pub mod tables;
 
 pub use order::Order;
+pub use rules::is_covered;
 pub use state::build;

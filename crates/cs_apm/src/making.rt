@@ -29,7 +29,8 @@ fn record_with(
     content: Content,
 ) -> Result<Record, AllocError>
     requires { bit ≤ DMDIR }
-    ensures { IfOk result (λ made. made ≡ fresh_record number (record_with rights.now bit content)) }
+    ensures { IfOk result (λ made. made
+        ≡ fresh_record number (record_with rights.now bit content)) }
 {
     Ok(Record {
         number,
@@ -55,10 +56,15 @@ fn record_at(
     slot: Slot,
 ) -> Result<Option<Record>, AllocError>
     requires files { AreFiles trace.now ops.now tables.now }
-    requires known { IsKnown (length tables.now.rights.items) (length tables.now.owners.items) slot }
+    requires known { IsKnown (length tables.now.rights.items)
+        (length tables.now.owners.items) slot }
     requires small { All IsSmall ops.now }
     requires inside { All (λ place. place < length ops.now) places.now }
-    ensures { IfOk result (λ made. made ≡ option_map (λ e. fresh_record number (record_of (owners_left trace.now ops.now places.now) (files_left trace.now ops.now places.now) e)) (entry_of tables.now.rights.items slot)) }
+    ensures { IfOk result (λ made. made
+        ≡ option_map
+        (λ e. fresh_record number
+        (record_of (owners_left trace.now ops.now places.now)
+        (files_left trace.now ops.now places.now) e)) (entry_of tables.now.rights.items slot)) }
 {
     match slot {
         Slot::Nothing => Ok(None),
@@ -95,10 +101,16 @@ fn records(
 ) -> Result<Vec<(Path, Record)>, AllocError>
     requires files { AreFiles trace.now ops.now tables.now }
     requires long { length slots.now ≡ length tables.now.paths.items }
-    requires known { AreKnown (length tables.now.rights.items) (length tables.now.owners.items) slots.now }
+    requires known { AreKnown (length tables.now.rights.items)
+        (length tables.now.owners.items) slots.now }
     requires small { All IsSmall ops.now }
     requires inside { All (λ place. place < length ops.now) places.now }
-    ensures { IfOk result (λ records. records.items ≡ numbered 0 (map_entries (record_of (owners_left trace.now ops.now places.now) (files_left trace.now ops.now places.now)) (present tables.now.rights.items tables.now.paths.items slots.now))) }
+    ensures { IfOk result (λ records. records.items
+        ≡ numbered 0
+        (map_entries
+        (record_of (owners_left trace.now ops.now places.now)
+        (files_left trace.now ops.now places.now))
+        (present tables.now.rights.items tables.now.paths.items slots.now))) }
 {
     let mut records = Vec::new(alloc);
     for (i, slot) in slots.iter().enumerate() {
@@ -122,12 +134,21 @@ pub fn store_of(
 ) -> Result<PlainTree, AllocError>
     requires files { AreFiles trace.now ops.now tables.now }
     requires long { length slots.now ≡ length tables.now.paths.items }
-    requires known { AreKnown (length tables.now.rights.items) (length tables.now.owners.items) slots.now }
+    requires known { AreKnown (length tables.now.rights.items)
+        (length tables.now.owners.items) slots.now }
     requires small { All IsSmall ops.now }
     requires inside { All (λ place. place < length ops.now) places.now }
     requires ascending { AreAscending tables.now.paths.items }
-    requires nested { IsNested (map_values (record_of (owners_left trace.now ops.now places.now) (files_left trace.now ops.now places.now)) (mirrored tables.now.rights.items tables.now.paths.items slots.now)) }
-    ensures { IfOk result (λ tree. tree ≡ fresh (map_values (record_of (owners_left trace.now ops.now places.now) (files_left trace.now ops.now places.now)) (mirrored tables.now.rights.items tables.now.paths.items slots.now))) }
+    requires nested { IsNested
+        (map_values
+        (record_of (owners_left trace.now ops.now places.now)
+        (files_left trace.now ops.now places.now))
+        (mirrored tables.now.rights.items tables.now.paths.items slots.now)) }
+    ensures { IfOk result (λ tree. tree
+        ≡ fresh (map_values
+        (record_of (owners_left trace.now ops.now places.now)
+        (files_left trace.now ops.now places.now))
+        (mirrored tables.now.rights.items tables.now.paths.items slots.now))) }
 {
     let records = records(alloc, trace, ops, tables, places, slots)?;
     PlainTree::from_records(alloc, records)

@@ -12,8 +12,8 @@ use cs_names::limits::MICRO_OPERATIONS;
 use std::alloc::{AllocError, Global};
 use std::marker::Model;
 
-/// Which micro-operation of a trace needs which to be on the disk before it. Contracts see a table: for
-/// each place, which of the places before it it needs.
+/// Which micro-operation of a trace needs which to be on the disk before it. Contracts see a table:
+/// for each place, which of the places before it it needs.
 #[derive(Debug, Drop)]
 pub struct Order {
     rows: Vec<Row>,
@@ -33,12 +33,12 @@ impl Model for Order {
 }
 
 impl Order {
-    /// The order of a trace's micro-operations, by the eight rules. What it looks for among all of
+    /// The order of a trace's micro-operations, by the ten rules. What it looks for among all of
     /// them is found here once.
     pub fn of(alloc: Global, micros: &Micros) -> Result<Order, AllocError>
         ensures { IfOk result (λ order. order ≡ order_of micros.now) }
     {
-        let rows = rows_of(alloc, micros.ops(), micros.syncs(), micros.profile())?;
+        let rows = rows_of(alloc, micros.ops(), micros.syncs(), micros.version())?;
         let reach = reach_of(alloc, &rows)?;
         Ok(Order { rows, reach })
     }
@@ -82,13 +82,14 @@ impl Order {
     fn needs_only(&self, j: usize, members: &Row) -> bool
         requires { j < length self.now }
         ensures backward { IsBackward (needs_in self.now) }
-        ensures value { IsTrue result ↔ ((i : ℕ) → needs_in self.now i j ≡ true → has members.now i ≡ true) }
+        ensures value { IsTrue result
+            ↔ ((i : ℕ) → needs_in self.now i j ≡ true → has members.now i ≡ true) }
     {
         self.rows[j].within(members)
     }
 
-    /// Whether a crash may leave just the micro-operations at these places: they ascend strictly, each is
-    /// in range, and with each there is all that it needs.
+    /// Whether a crash may leave just the micro-operations at these places: they ascend strictly,
+    /// each is in range, and with each there is all that it needs.
     pub fn is_allowed(&self, places: &[u32]) -> bool
         ensures { IsTrue result ↔ IsAllowed (needs_in self.now) (length self.now) places.now }
     {

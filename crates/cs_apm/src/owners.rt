@@ -20,8 +20,8 @@ pub fn owner_after<'a>(file: u32, owner: &'a Rights, op: &'a MicroOp) -> &'a Rig
     }
 }
 
-/// What a set leaves of owner, group and permissions of the file of the number, which has these of the
-/// owners as it is made.
+/// What a set leaves of owner, group and permissions of the file of the number, which has these of
+/// the owners as it is made.
 pub fn owner_left<'a>(
     owners: &'a [Rights],
     ops: &'a [MicroOp],
@@ -30,7 +30,8 @@ pub fn owner_left<'a>(
 ) -> &'a Rights
     requires known { file < length owners.now }
     requires inside { All (λ place. place < length ops.now) places.now }
-    ensures { result.now ≡ owner_left file (slice_index_or owners.now file nobody) ops.now places.now }
+    ensures { result.now
+        ≡ owner_left file (slice_index_or owners.now file nobody) ops.now places.now }
 {
     let mut owner = &owners[file as usize];
     for place in places {

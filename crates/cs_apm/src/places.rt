@@ -19,7 +19,8 @@ pub fn add_path(alloc: Global, paths: &mut Vec<Path>, path: &Path) -> Result<(),
     ensures ascending { AreAscending paths.new.items }
     ensures there { OnOk result (Contains paths.new.items path.now) }
     ensures others { (p : Names) → Contains paths.old.items p → Contains paths.new.items p }
-    ensures only { (p : Names) → Contains paths.new.items p → Contains paths.old.items p ⊎ (path.now ≡ p) }
+    ensures only { (p : Names) → Contains paths.new.items p → Contains paths.old.items p
+        ⊎ (path.now ≡ p) }
     ensures few { length paths.new.items ≤ length paths.old.items + 1 }
 {
     match paths.binary_search(path) {
@@ -38,8 +39,11 @@ fn add_starts(
     requires { AreAscending paths.old.items }
     ensures ascending { OnOk result (AreAscending paths.new.items) }
     ensures there { OnOk result (HasFirst paths.new.items records.now (length records.now)) }
-    ensures only { OnOk result ((p : Names) → Contains paths.new.items p → Contains paths.old.items p ⊎ ((k : ℕ) × (k < length records.now) × ((slice_index_or records.now k no_record).0 ≡ p))) }
-    ensures few { OnOk result (length paths.new.items ≤ length paths.old.items + length records.now) }
+    ensures only { OnOk result ((p : Names) → Contains paths.new.items p
+        → Contains paths.old.items p
+        ⊎ ((k : ℕ) × (k < length records.now) × ((slice_index_or records.now k no_record).0 ≡ p))) }
+    ensures few { OnOk result (length paths.new.items
+        ≤ length paths.old.items + length records.now) }
 {
     for record in records {
         add_path(alloc, paths, &record.0)?;
@@ -53,7 +57,8 @@ fn add_named(alloc: Global, paths: &mut Vec<Path>, op: &MicroOp) -> Result<(), A
     ensures ascending { OnOk result (AreAscending paths.new.items) }
     ensures there { OnOk result (HasNamed paths.new.items op.now) }
     ensures others { (p : Names) → Contains paths.old.items p → Contains paths.new.items p }
-    ensures only { OnOk result ((p : Names) → Contains paths.new.items p → Contains paths.old.items p ⊎ Contains (named op.now) p) }
+    ensures only { OnOk result ((p : Names) → Contains paths.new.items p
+        → Contains paths.old.items p ⊎ Contains (named op.now) p) }
     ensures few { OnOk result (length paths.new.items ≤ length paths.old.items + 2) }
 {
     match op {
@@ -63,6 +68,7 @@ fn add_named(alloc: Global, paths: &mut Vec<Path>, op: &MicroOp) -> Result<(), A
             add_path(alloc, paths, from)?;
             add_path(alloc, paths, to)?;
         }
+        MicroOp::LinkDirEntry { path, .. } => add_path(alloc, paths, path)?,
         MicroOp::SetAttr {
             target: Target::Directory(path),
             ..
@@ -82,8 +88,10 @@ pub fn paths_of(
     ensures ascending { IfOk result (λ paths. AreAscending paths.items) }
     ensures starts { IfOk result (λ paths. HasFirst paths.items records.now (length records.now)) }
     ensures named { IfOk result (λ paths. HasAllNamed paths.items ops.now (length ops.now)) }
-    ensures only { IfOk result (λ paths. (p : Names) → Contains paths.items p → IsKnownPath records.now ops.now (length ops.now) p) }
-    ensures few { IfOk result (λ paths. length paths.items ≤ length records.now + 2 * length ops.now) }
+    ensures only { IfOk result (λ paths. (p : Names) → Contains paths.items p
+        → IsKnownPath records.now ops.now (length ops.now) p) }
+    ensures few { IfOk result (λ paths. length paths.items
+        ≤ length records.now + 2 * length ops.now) }
 {
     let mut paths = Vec::new(alloc);
     add_starts(alloc, &mut paths, records)?;

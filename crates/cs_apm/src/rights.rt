@@ -50,7 +50,8 @@ pub fn push_copy(table: &mut Vec<Rights>, rights: &Rights) -> Result<u32, AllocE
 /// The slot of a record at the start.
 pub fn start_slot(table: &mut Vec<Rights>, node: Node, start: &Record) -> Result<Slot, AllocError>
     requires { length table.old.items < 2 ^ 32 }
-    ensures entry { IfOk result (λ slot. entry_of table.new.items slot ≡ Some (start_entry node start.now)) }
+    ensures entry { IfOk result (λ slot. entry_of table.new.items slot
+        ≡ Some (start_entry node start.now)) }
     ensures there { IfOk result (HasRights (length table.new.items)) }
     ensures grows { OnOk result (Grows table.old.items table.new.items) }
     ensures few { OnOk result (length table.new.items ≤ length table.old.items + 1) }
@@ -64,7 +65,8 @@ pub fn start_slot(table: &mut Vec<Rights>, node: Node, start: &Record) -> Result
 /// The slot of an entry that is made.
 pub fn made_slot(table: &mut Vec<Rights>, node: Node, rights: &Rights) -> Result<Slot, AllocError>
     requires { length table.old.items < 2 ^ 32 }
-    ensures entry { IfOk result (λ slot. entry_of table.new.items slot ≡ Some (entry_made node rights.now)) }
+    ensures entry { IfOk result (λ slot. entry_of table.new.items slot
+        ≡ Some (entry_made node rights.now)) }
     ensures there { IfOk result (HasRights (length table.new.items)) }
     ensures grows { OnOk result (Grows table.old.items table.new.items) }
     ensures few { OnOk result (length table.new.items ≤ length table.old.items + 1) }
@@ -82,7 +84,8 @@ fn push_starts(
     places: &[u32],
 ) -> Result<(), AllocError>
     requires { All (λ place. place < length records.now) places.now }
-    ensures { OnOk result (table.new.items ≡ table.old.items ++ map (λ place. rights_of (slice_index_or records.now place no_record).1) places.now) }
+    ensures { OnOk result (table.new.items ≡ table.old.items
+        ++ map (λ place. rights_of (slice_index_or records.now place no_record).1) places.now) }
 {
     for place in places {
         let rights = rights_of(&records[*place as usize].1)?;
@@ -106,8 +109,8 @@ fn push_made(table: &mut Vec<Rights>, op: &MicroOp) -> Result<(), AllocError>
     Ok(())
 }
 
-/// Those of each file by its number: of the files at the start, whose records are at these places, and
-/// of those that are made.
+/// Those of each file by its number: of the files at the start, whose records are at these places,
+/// and of those that are made.
 pub fn owners_of(
     alloc: Global,
     records: &[(Path, Record)],
@@ -115,7 +118,9 @@ pub fn owners_of(
     ops: &[MicroOp],
 ) -> Result<Vec<Rights>, AllocError>
     requires { All (λ place. place < length records.now) places.now }
-    ensures { IfOk result (λ owners. owners.items ≡ map (λ place. rights_of (slice_index_or records.now place no_record).1) places.now ++ owners_made ops.now) }
+    ensures { IfOk result (λ owners. owners.items
+        ≡ map (λ place. rights_of (slice_index_or records.now place no_record).1) places.now
+        ++ owners_made ops.now) }
 {
     let mut owners = Vec::new(alloc);
     push_starts(&mut owners, records, places)?;

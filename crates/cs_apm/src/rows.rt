@@ -11,7 +11,7 @@ use crate::row::Row;
 use crate::rules::{op_at, pair_needs};
 use cs_micro::{MicroOp, SyncPoint};
 use cs_names::limits::MICRO_OPERATIONS;
-use cs_trace::Profile;
+use cs_trace::Version;
 use std::alloc::{AllocError, Global};
 
 /// Whether a sync between i and j covers i.
@@ -34,7 +34,7 @@ fn is_synced(
 fn needs(
     ops: &[MicroOp],
     syncs: &[SyncPoint],
-    profile: Profile,
+    version: Version,
     found: &[Option<usize>],
     makers: Makers,
     i: usize,
@@ -44,9 +44,9 @@ fn needs(
     requires inside { j < length ops.now }
     requires found { AreSynced ops.now syncs.now (length ops.now) found.now }
     requires makers { (i : ℕ) → i < j → is_maker makers i ≡ rules.makes_parent ops.now i j }
-    ensures { result ≡ rules.needs ops.now syncs.now profile i j }
+    ensures { result ≡ rules.needs ops.now syncs.now version i j }
 {
-    pair_needs(profile, op_at(ops, i), op_at(ops, j))
+    pair_needs(version, op_at(ops, i), op_at(ops, j))
         || makers.has(i)
         || is_synced(ops, syncs, found, i, j)
 }
@@ -55,19 +55,19 @@ fn needs(
 fn row_of(
     ops: &[MicroOp],
     syncs: &[SyncPoint],
-    profile: Profile,
+    version: Version,
     found: &[Option<usize>],
     j: usize,
 ) -> Row
     requires inside { j < length ops.now }
     requires few { length ops.now ≤ MICRO_OPERATIONS }
     requires found { AreSynced ops.now syncs.now (length ops.now) found.now }
-    ensures { IsRow (rules.needs ops.now syncs.now profile) j result }
+    ensures { IsRow (rules.needs ops.now syncs.now version) j result }
 {
     let makers = Makers::of(ops, j);
     let mut row = Row::empty();
     for i in 0..j {
-        if needs(ops, syncs, profile, found, makers, i, j) {
+        if needs(ops, syncs, version, found, makers, i, j) {
             row.set(i);
         }
     }
@@ -79,15 +79,16 @@ pub fn rows_of(
     alloc: Global,
     ops: &[MicroOp],
     syncs: &[SyncPoint],
-    profile: Profile,
+    version: Version,
 ) -> Result<Vec<Row>, AllocError>
     requires { length ops.now ≤ MICRO_OPERATIONS }
-    ensures { IfOk result (λ rows. AreRows (rules.needs ops.now syncs.now profile) (length ops.now) rows.items) }
+    ensures { IfOk result
+        (λ rows. AreRows (rules.needs ops.now syncs.now version) (length ops.now) rows.items) }
 {
     let found = first_syncs(alloc, ops, syncs)?;
     let mut rows = Vec::new(alloc);
     for j in 0..ops.len() {
-        let row = row_of(ops, syncs, profile, &found, j);
+        let row = row_of(ops, syncs, version, &found, j);
         rows.push(row)?;
     }
     Ok(rows)

@@ -7,7 +7,7 @@ ghost use Rattle.cs_apm.specs.Rules as rules;
 
 use cs_micro::{EntryKind, MicroOp};
 use cs_names::Path;
-use cs_trace::{Covers, Profile, Target};
+use cs_trace::{Covers, Node, Profile, Target, Version};
 
 /// Whether the directory is the one that has the path.
 pub fn is_parent(directory: &Path, path: &Path) -> bool
@@ -24,6 +24,7 @@ fn touches(op: &MicroOp, path: &Path) -> bool
         MicroOp::CreateDirEntry { path: made, .. } => made == path,
         MicroOp::DeleteDirEntry { path: gone, .. } => gone == path,
         MicroOp::MoveDirEntry { from, to } => from == path || to == path,
+        MicroOp::LinkDirEntry { path: linked, .. } => linked == path,
         _ => false,
     }
 }
@@ -62,6 +63,7 @@ fn touches_entry_of(op: &MicroOp, directory: &Path) -> bool
         MicroOp::MoveDirEntry { from, to } => {
             is_parent(directory, from) || is_parent(directory, to)
         }
+        MicroOp::LinkDirEntry { path, .. } => is_parent(directory, path),
         _ => false,
     }
 }
@@ -95,6 +97,7 @@ fn shares_path(a: &MicroOp, b: &MicroOp) -> bool
         MicroOp::CreateDirEntry { path, .. } => names(a, path),
         MicroOp::DeleteDirEntry { path, .. } => names(a, path),
         MicroOp::MoveDirEntry { from, to } => names(a, from) || names(a, to),
+        MicroOp::LinkDirEntry { path, .. } => names(a, path),
         MicroOp::SetAttr {
             target: Target::Directory(path),
             ..
@@ -116,7 +119,7 @@ fn empties(a: &MicroOp, b: &MicroOp) -> bool
     }
 }
 
-/// Both are a text that is told.
+/// Both are acknowledged lines.
 fn both_say(a: &MicroOp, b: &MicroOp) -> bool
     ensures { result ≡ rules.both_say a.now b.now }
 {
@@ -148,7 +151,7 @@ fn sets_same_file(a: &MicroOp, b: &MicroOp) -> bool
     }
 }
 
-/// Whether the operation makes, deletes or moves an entry.
+/// Whether the operation makes, deletes, moves or links an entry.
 fn is_entry_operation(op: &MicroOp) -> bool
     ensures { result ≡ rules.is_entry_operation op.now }
 {
@@ -156,6 +159,7 @@ fn is_entry_operation(op: &MicroOp) -> bool
         MicroOp::CreateDirEntry { .. } => true,
         MicroOp::DeleteDirEntry { .. } => true,
         MicroOp::MoveDirEntry { .. } => true,
+        MicroOp::LinkDirEntry { .. } => true,
         _ => false,
     }
 }
@@ -170,9 +174,36 @@ fn keeps_order(profile: Profile, a: &MicroOp, b: &MicroOp) -> bool
     }
 }
 
-/// Whether the second needs the first, which is before it, by a rule that looks at the two alone.
-pub fn pair_needs(profile: Profile, a: &MicroOp, b: &MicroOp) -> bool
-    ensures { result ≡ rules.pair_needs profile a.now b.now }
+/// The first is an acknowledged line, in a version in which it comes before all that follows it.
+fn says_before(version: Version, a: &MicroOp) -> bool
+    ensures { result ≡ rules.says_before version a.now }
+{
+    match a {
+        MicroOp::Say => version.says_first(),
+        _ => false,
+    }
+}
+
+/// The first makes the file that the second links.
+fn creates_linked(a: &MicroOp, b: &MicroOp) -> bool
+    ensures { result ≡ rules.creates_linked a.now b.now }
+{
+    match a {
+        MicroOp::CreateDirEntry {
+            node: Node::File(file),
+            ..
+        } => match b {
+            MicroOp::LinkDirEntry { file: other, .. } => file == other,
+            _ => false,
+        },
+        _ => false,
+    }
+}
+
+/// Whether the second needs the first, which is before it, by a rule of all versions that looks at
+/// these two only.
+fn common_pair_needs(profile: Profile, a: &MicroOp, b: &MicroOp) -> bool
+    ensures { result ≡ rules.common_pair_needs profile a.now b.now }
 {
     same_place(a, b)
         || shares_path(a, b)
@@ -180,6 +211,42 @@ pub fn pair_needs(profile: Profile, a: &MicroOp, b: &MicroOp) -> bool
         || both_say(a, b)
         || sets_same_file(a, b)
         || keeps_order(profile, a, b)
+}
+
+/// Whether the second needs the first, which is before it, by a rule that looks at these two only.
+pub fn pair_needs(version: Version, a: &MicroOp, b: &MicroOp) -> bool
+    ensures { result ≡ rules.pair_needs version a.now b.now }
+{
+    common_pair_needs(version.profile(), a, b) || says_before(version, a) || creates_linked(a, b)
+}
+
+/// Whether bytes that begin here in a file, and end there, lie in its range of so many bytes from
+/// an offset on. The range may end above 2^64.
+fn lies_within(offset: u64, count: u64, begin: u128, end: u128) -> bool
+    ensures { result ≡ rules.lies_within offset count begin end }
+{
+    u128::from(offset) <= begin && end <= u128::from(offset) + u128::from(count)
+}
+
+/// Whether a sync of a range of the file waits for the operation.
+fn is_in_range(file: u32, offset: u64, count: u64, op: &MicroOp) -> bool
+    ensures { result ≡ rules.is_covered (Covers.Range file offset count) op.now }
+{
+    match op {
+        MicroOp::WriteBlock {
+            file: other,
+            start,
+            at,
+            bytes,
+            ..
+        } => {
+            let begin = u128::from(*start) + u128::from(*at);
+            let end = begin + bytes.as_slice().len() as u128;
+            file == *other && lies_within(offset, count, begin, end)
+        }
+        MicroOp::ChangeFileSize { file: other, .. } => file == *other,
+        _ => false,
+    }
 }
 
 /// Whether a sync that covers this waits for the operation.
@@ -197,6 +264,11 @@ pub fn is_covered(covers: &Covers, op: &MicroOp) -> bool
             } => file == owned,
             _ => false,
         },
+        Covers::Range {
+            file,
+            offset,
+            length,
+        } => is_in_range(*file, *offset, *length, op),
         Covers::Directory(directory) => {
             touches_entry_of(op, directory) || sets_directory(op, directory)
         }

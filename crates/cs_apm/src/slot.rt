@@ -3,8 +3,8 @@ ghost use Rattle.std.specs.Prelude.{◌≡◌, ◌<◌, length, map, fold};
 ghost use Rattle.std.specs.List.{All};
 ghost use Rattle.cs_apm.specs.Slots.{FitsIn, slots_after, step_at};
 
-/// What stands at a path: a directory, by the place of its owner, group and permissions, or a file, by
-/// its number.
+/// What stands at a path: a directory, by the place of its owner, group and permissions, or a file,
+/// by its number.
 #[derive(Clone, Copy, Debug)]
 pub enum Slot {
     Nothing,
@@ -19,8 +19,8 @@ pub enum Step {
     Set(u32, Slot),
     /// What stands in the one slot comes to the other.
     Move(u32, u32),
-    /// A directory that stands in the slot has its owner, group and permissions at this place from now
-    /// on.
+    /// A directory that stands in the slot has its owner, group and permissions at this place from
+    /// now on.
     Own(u32, u32),
     /// Nothing.
     Other,

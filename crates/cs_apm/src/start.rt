@@ -12,7 +12,8 @@ use cs_trace::{Node, Rights};
 use cs_tree_model::Record;
 use std::alloc::{AllocError, Global};
 
-/// What stands at each of the paths at the start. The rights of its directories come into the table.
+/// What stands at each of the paths at the start. The rights of its directories come into the
+/// table.
 pub fn start_slots(
     alloc: Global,
     records: &[(Path, Record)],
@@ -25,9 +26,12 @@ pub fn start_slots(
     requires ascending { AreAscending paths.now }
     requires there { HasFirst paths.now records.now (length records.now) }
     ensures long { IfOk result (λ slots. length slots.items ≡ length paths.now) }
-    ensures mirror { IfOk result (λ slots. Mirror table.new.items paths.now slots.items (start_entries records.now nodes.now)) }
+    ensures mirror { IfOk result
+        (λ slots. Mirror table.new.items paths.now slots.items
+        (start_entries records.now nodes.now)) }
     ensures there { IfOk result (λ slots. HaveRights (length table.new.items) slots.items) }
-    ensures few { OnOk result (length table.new.items ≤ length table.old.items + length records.now) }
+    ensures few { OnOk result (length table.new.items
+        ≤ length table.old.items + length records.now) }
 {
     let mut slots = vec![in alloc; Slot::Nothing; paths.len()]?;
     for k in (0..records.len()).rev() {

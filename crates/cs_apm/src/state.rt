@@ -4,7 +4,7 @@ ghost use Rattle.std.specs.List.{All};
 ghost use Rattle.cs_tree_model.specs.Tree.{IsTree};
 ghost use Rattle.cs_trace.specs.Traces.{start_paths};
 ghost use Rattle.cs_micro.specs.Legal.{AreLegal};
-ghost use Rattle.cs_micro.specs.Micros.{micros_in};
+ghost use Rattle.cs_micro.specs.Micros.{block_of_version, micros_in};
 ghost use Rattle.cs_apm.specs.Atlases.{IsAtlas, atlas_in};
 ghost use Rattle.cs_apm.specs.Orders.{needs_of};
 ghost use Rattle.cs_apm.specs.Sets.{IsAllowed};
@@ -23,15 +23,17 @@ use std::alloc::{AllocError, Global};
 pub fn filled(alloc: Global, tables: &Tables, places: &[u32]) -> Result<Vec<Slot>, AllocError>
     requires fit { All (FitsIn (length tables.now.slots.items)) tables.now.steps.items }
     requires inside { All (λ place. place < length tables.now.steps.items) places.now }
-    ensures { IfOk result (λ left. left.items ≡ fold slots_after tables.now.slots.items (map (step_at tables.now.steps.items) places.now)) }
+    ensures { IfOk result (λ left. left.items
+        ≡ fold slots_after tables.now.slots.items
+        (map (step_at tables.now.steps.items) places.now)) }
 {
     let mut left = Vec::from_slice(alloc, &tables.slots)?;
     fill(&mut left, &tables.steps, places);
     Ok(left)
 }
 
-/// The store of the state of a set, which is allowed: the members' steps are taken in the slots, and what
-/// stands then is made a tree.
+/// The store of the state of a set, which is allowed: the members' steps are taken in the slots,
+/// and what stands then is made a tree.
 pub fn state_of(
     alloc: Global,
     trace: &Trace,
@@ -57,7 +59,8 @@ pub fn build(
     places: &[u32],
 ) -> Result<PlainTree, AllocError>
     requires broken { micros.now ≡ micros_in trace.now }
-    requires legal { AreLegal (start_paths trace.now) (length micros.now.starts) micros.now.ops }
+    requires legal { AreLegal (block_of_version trace.now.version) (start_paths trace.now)
+        (length micros.now.starts) micros.now.ops }
     requires allowed { IsAllowed (needs_of micros.now) (length micros.now.ops) places.now }
     ensures state { IfOk result (λ tree. tree ≡ crash_state_of trace.now micros.now places.now) }
     ensures tree { IfOk result IsTree }

@@ -11,7 +11,8 @@ use cs_names::Path;
 use cs_trace::{Rights, Target};
 use std::alloc::{AllocError, Global};
 
-/// What the micro-operation does. The rights of a directory that it makes or sets come into the table.
+/// What the micro-operation does. The rights of a directory that it makes or sets come into the
+/// table.
 fn step_of(paths: &[Path], table: &mut Vec<Rights>, op: &MicroOp) -> Result<Step, AllocError>
     requires few { length table.old.items < 2 ^ 32 }
     requires short { length paths.now ≤ 2 ^ 32 }
@@ -34,6 +35,9 @@ fn step_of(paths: &[Path], table: &mut Vec<Rights>, op: &MicroOp) -> Result<Step
             place_of(paths, from) as u32,
             place_of(paths, to) as u32,
         )),
+        MicroOp::LinkDirEntry { path, file } => {
+            Ok(Step::Set(place_of(paths, path) as u32, Slot::File(*file)))
+        }
         MicroOp::SetAttr {
             target: Target::Directory(path),
             rights,

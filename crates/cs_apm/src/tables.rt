@@ -2,7 +2,7 @@
 ghost use Rattle.std.specs.Prelude.{◌≡◌, length, IfOk};
 ghost use Rattle.cs_trace.specs.Traces.{start_paths};
 ghost use Rattle.cs_micro.specs.Legal.{AreLegal};
-ghost use Rattle.cs_micro.specs.Micros.{micros_in};
+ghost use Rattle.cs_micro.specs.Micros.{block_of_version, micros_in};
 
 use crate::flags::changed_by;
 use crate::places::paths_of;
@@ -40,7 +40,8 @@ impl Tables {
     /// The tables of a trace and its micro-operations.
     pub fn of(alloc: Global, trace: &Trace, micros: &Micros) -> Result<Tables, AllocError>
         requires broken { micros.now ≡ micros_in trace.now }
-        requires legal { AreLegal (start_paths trace.now) (length micros.now.starts) micros.now.ops }
+        requires legal { AreLegal (block_of_version trace.now.version) (start_paths trace.now)
+            (length micros.now.starts) micros.now.ops }
         ensures { IfOk result (λ tables. IsAtlas trace.now micros.now.ops (atlas_in tables)) }
     {
         let records = trace.records();

@@ -69,8 +69,9 @@ module _ (needs : ℕ → ℕ → Bool) (n : ℕ) (back : IsBackward needs) wher
   pub left_allowed : (lost : List ℕ) (end : ℕ) → end ≤ n → IsAllowed needs n (left_of needs lost end)
   left_allowed lost end few = kept_allowed needs n end (stays needs lost) back few (stays_keeps needs back lost)
 
-  without_allowed : (losses : List (Option ℕ)) (file : ℕ) → length losses ≤ n → All (IsAllowed needs n) (sets_without needs losses file)
-  without_allowed losses file few = one_or_none (IsAllowed needs n) (is_given (lost_places losses file) (length losses)) _ (left_allowed (lost_places losses file) (length losses) few)
+  without_allowed : (shorter losses : List (Option ℕ)) (file : ℕ) → length losses ≤ n → All (IsAllowed needs n) (sets_without needs shorter losses file)
+  without_allowed shorter losses file few =
+      one_or_none (IsAllowed needs n) (is_given needs (lost_places shorter file) (lost_places losses file) (length losses)) _ (left_allowed (lost_places losses file) (length losses) few)
 
 pub lost_good : (order : List (List Bool)) → IsBackward (needs_in order) → All (IsAllowed (needs_in order) (length order)) (lost_sets order)
 lost_good order back = all_range (IsAllowed (needs_in order) (length order)) (least_with (needs_in order)) 0 (length order) (λ k l. least_allowed (needs_in order) (length order) back k (omega (arith, l)))
@@ -78,8 +79,8 @@ lost_good order back = all_range (IsAllowed (needs_in order) (length order)) (le
 pub files_good : (m : Micros) (order : List (List Bool)) → length order ≡ length m.ops → IsBackward (needs_in order) → All (IsAllowed (needs_in order) (length order)) (files_sets m order)
 files_good m order long back = all_flat_range (IsAllowed (needs_in order) (length order)) (prefix_sets m order) 0 (length m.ops + 1) (λ end l.
     let e = length-map-range_with_len (lost_at m.ops m.syncs (end - 1)) 0 end in
-    all_flat (IsAllowed (needs_in order) (length order)) (sets_without (needs_in order) (losses_of m.ops m.syncs end)) (changed_files m.ops) (λ file.
-    without_allowed (needs_in order) (length order) back (losses_of m.ops m.syncs end) file (omega (arith, e, l, long))))
+    all_flat (IsAllowed (needs_in order) (length order)) (sets_without (needs_in order) (losses_of m.ops m.syncs (end - 1)) (losses_of m.ops m.syncs end)) (changed_files m.ops) (λ file.
+    without_allowed (needs_in order) (length order) back (losses_of m.ops m.syncs (end - 1)) (losses_of m.ops m.syncs end) file (omega (arith, e, l, long))))
 
 pub family_good : (s : Scene) (family : Family) → IsBackward (needs_in (order_in s)) → All (IsAllowedIn (order_in s)) (family_in s family)
 family_good s Lost back = lost_good (order_in s) back

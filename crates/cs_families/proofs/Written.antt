@@ -1,5 +1,5 @@
 -- Lines that are written, and more of them.
-use Rattle.std.proofs.Common.{◌≡◌, ℕ, Bool, ◌+◌, ◌<◌, List, [], ◌++◌, length, map, take, get_or, Option, sym, ap, subst, ◌∙◌, arith}
+use Rattle.std.proofs.Common.{◌≡◌, ℕ, Bool, ◌+◌, ◌-◌, ◌<◌, List, [], ◌++◌, length, map, take, get_or, Option, sym, ap, subst, ◌∙◌, arith}
 use Rattle.std.proofs.KnownBytes.{Appends-trans}
 use Rattle.std.proofs.lemmas.Grind.{flat_map-append}
 use Rattle.std.proofs.lemmas.List.{flat_map_more, take_more}
@@ -36,8 +36,11 @@ prefixes_more f n =
     ∙ ap (flat_map pick_line) (flat_map_more f [] (range_with_len 0 n) n ∙ ap (flat_map f) (sym (range_more n)))
 
 -- the sets of a prefix, from what was found of it
-pub same_prefix : (m : Micros) (order : List (List Bool)) (end : ℕ) (ops : List MicroOp) (syncs : List SyncPoint) (losses : List (Option ℕ)) (files : List ℕ)
-    → ops ≡ m.ops → syncs ≡ m.syncs → losses ≡ losses_of ops syncs end → files ≡ changed_files ops → flat_map (sets_without (needs_in order) losses) files ≡ prefix_sets m order end
-same_prefix m order end ops syncs losses files a b l f =
-    ap (λ (v : List (Option ℕ)). flat_map (sets_without (needs_in order) v) files) (l ∙ ap (λ (o : List MicroOp). losses_of o syncs end) a ∙ ap (λ (s : List SyncPoint). losses_of m.ops s end) b)
-    ∙ ap (flat_map (sets_without (needs_in order) (losses_of m.ops m.syncs end))) (f ∙ ap changed_files a)
+pub same_prefix : (m : Micros) (order : List (List Bool)) (end : ℕ) (ops : List MicroOp) (syncs : List SyncPoint) (shorter losses : List (Option ℕ)) (files : List ℕ)
+    → ops ≡ m.ops → syncs ≡ m.syncs → shorter ≡ losses_of ops syncs (end - 1) → losses ≡ losses_of ops syncs end → files ≡ changed_files ops
+    → flat_map (sets_without (needs_in order) shorter losses) files ≡ prefix_sets m order end
+same_prefix m order end ops syncs shorter losses files a b s l f =
+    let of_micros = λ (last : ℕ). ap (λ (o : List MicroOp). losses_of o syncs last) a ∙ ap (λ (v : List SyncPoint). losses_of m.ops v last) b in
+    ap (λ (v : List (Option ℕ)). flat_map (sets_without (needs_in order) v losses) files) (s ∙ of_micros (end - 1))
+    ∙ ap (λ (v : List (Option ℕ)). flat_map (sets_without (needs_in order) (losses_of m.ops m.syncs (end - 1)) v) files) (l ∙ of_micros end)
+    ∙ ap (flat_map (sets_without (needs_in order) (losses_of m.ops m.syncs (end - 1)) (losses_of m.ops m.syncs end))) (f ∙ ap changed_files a)

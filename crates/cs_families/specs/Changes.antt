@@ -9,7 +9,7 @@ use Rattle.cs_plan.specs.Plans.{first}
 -- the file of which the micro-operation changes the size, a block or the rights
 abbrev pub file_changed : MicroOp → Option ℕ
 file_changed (ChangeFileSize file to) = Some file
-file_changed (WriteBlock file block at bytes) = Some file
+file_changed (WriteBlock file block start at bytes) = Some file
 file_changed (SetAttr (targets.File file) rights) = Some file
 file_changed _ = None
 

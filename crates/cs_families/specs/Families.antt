@@ -1,5 +1,5 @@
 -- The families of sets.
-use Rattle.std.specs.Prelude.{ℕ, ◌+◌, ◌==◌, ◌||◌, if◌then◌else◌, Bool, List, [], ◌∷◌, length, map, Option}
+use Rattle.std.specs.Prelude.{ℕ, ◌+◌, ◌-◌, ◌==◌, ◌||◌, if◌then◌else◌, Bool, List, [], ◌∷◌, length, map, Option}
 use Rattle.std.specs.Io.KnownBytes.{Appends}
 use Rattle.std.specs.List.{filter, flat_map}
 use Rattle.cs_micro.specs.Micros.{Micros}
@@ -30,16 +30,21 @@ lost_sets order = map (least_with (needs_in order)) (first (length order))
 
 -- ---- the prefixes that lose a file's changes
 
--- what is left of a prefix without these places, if it is given
-abbrev pub sets_left : (ℕ → ℕ → Bool) → List ℕ → ℕ → List (List ℕ)
-sets_left needs lost end = if is_given lost end then left_of needs lost end ∷ [] else []
+-- what is left of a prefix without these places, if it is given; the prefix that is a place shorter loses others
+abbrev pub sets_left : (ℕ → ℕ → Bool) → List ℕ → List ℕ → ℕ → List (List ℕ)
+sets_left needs shorter lost end =
+    if is_given needs shorter lost end then left_of needs lost end ∷ [] else []
 
-abbrev pub sets_without : (ℕ → ℕ → Bool) → List (Option ℕ) → ℕ → List (List ℕ)
-sets_without needs losses file = sets_left needs (lost_places losses file) (length losses)
+abbrev pub sets_without : (ℕ → ℕ → Bool) → List (Option ℕ) → List (Option ℕ) → ℕ → List (List ℕ)
+sets_without needs shorter losses file =
+    sets_left needs (lost_places shorter file) (lost_places losses file) (length losses)
 
 -- that of each file
 abbrev pub prefix_sets : Micros → List (List Bool) → ℕ → List (List ℕ)
-prefix_sets m order end = flat_map (sets_without (needs_in order) (losses_of m.ops m.syncs end)) (changed_files m.ops)
+prefix_sets m order end =
+    flat_map
+    (sets_without (needs_in order) (losses_of m.ops m.syncs (end - 1)) (losses_of m.ops m.syncs end))
+    (changed_files m.ops)
 
 -- those of each prefix
 abbrev pub files_sets : Micros → List (List Bool) → List (List ℕ)

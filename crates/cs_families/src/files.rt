@@ -22,15 +22,17 @@ use std::io::Write;
 fn write_left<W: Write>(
     alloc: Global,
     order: &Order,
+    shorter: &[u32],
     lost: &[u32],
     end: usize,
     out: &mut W,
 ) -> Result<(), FamilyFault>
     requires few { end ≤ length order.now }
     requires inside { All (λ place. place < length order.now) lost.now }
-    ensures { OnOk result (Appends (W.contents out.old) (W.contents out.new) (picks_text (sets_left (needs_in order.now) lost.now end))) }
+    ensures { OnOk result (Appends (W.contents out.old) (W.contents out.new)
+        (picks_text (sets_left (needs_in order.now) shorter.now lost.now end))) }
 {
-    if !is_given(lost, end) {
+    if !is_given(order, shorter, lost, end) {
         return Ok(());
     }
     let left = left_of(alloc, order, lost, end)?;
@@ -41,31 +43,38 @@ fn write_left<W: Write>(
 fn write_without<W: Write>(
     alloc: Global,
     order: &Order,
+    shorter: &[Option<u32>],
     losses: &[Option<u32>],
     file: u32,
     out: &mut W,
 ) -> Result<(), FamilyFault>
-    requires { length losses.now ≤ length order.now }
-    ensures { OnOk result (Appends (W.contents out.old) (W.contents out.new) (picks_text (sets_without (needs_in order.now) losses.now file))) }
+    requires fewer { length shorter.now ≤ length order.now }
+    requires few { length losses.now ≤ length order.now }
+    ensures { OnOk result (Appends (W.contents out.old) (W.contents out.new)
+        (picks_text (sets_without (needs_in order.now) shorter.now losses.now file))) }
 {
     let _few = order.len();
+    let others = lost_places(alloc, shorter, file)?;
     let lost = lost_places(alloc, losses, file)?;
-    write_left(alloc, order, &lost, losses.len(), out)
+    write_left(alloc, order, &others, &lost, losses.len(), out)
 }
 
 /// Writes the sets of a prefix, in the order of the files.
 fn write_prefix<W: Write>(
     alloc: Global,
     order: &Order,
+    shorter: &[Option<u32>],
     losses: &[Option<u32>],
     files: &[u32],
     out: &mut W,
 ) -> Result<(), FamilyFault>
-    requires { length losses.now ≤ length order.now }
-    ensures { OnOk result (Appends (W.contents out.old) (W.contents out.new) (picks_text (flat_map (sets_without (needs_in order.now) losses.now) files.now))) }
+    requires fewer { length shorter.now ≤ length order.now }
+    requires few { length losses.now ≤ length order.now }
+    ensures { OnOk result (Appends (W.contents out.old) (W.contents out.new)
+        (picks_text (flat_map (sets_without (needs_in order.now) shorter.now losses.now) files.now))) }
 {
     for file in files {
-        write_without(alloc, order, losses, *file, out)?;
+        write_without(alloc, order, shorter, losses, *file, out)?;
     }
     Ok(())
 }
@@ -84,8 +93,9 @@ pub fn write_files<W: Write>(
     let syncs = micros.syncs();
     let files = changed_files(alloc, ops)?;
     for end in 0..ops.len() + 1 {
+        let shorter = losses_of(alloc, ops, syncs, end.saturating_sub(1))?;
         let losses = losses_of(alloc, ops, syncs, end)?;
-        write_prefix(alloc, order, &losses, &files, out)?;
+        write_prefix(alloc, order, &shorter, &losses, &files, out)?;
     }
     Ok(())
 }

@@ -3,7 +3,7 @@ ghost use Rattle.std.specs.Prelude.{◌≡◌, ◌<◌, ◌≤◌, length, IfOk}
 ghost use Rattle.std.specs.List.{All};
 ghost use Rattle.cs_apm.specs.Orders.{needs_in};
 ghost use Rattle.cs_plan.specs.Plans.{IsAllowedIn, is_kept};
-ghost use Rattle.cs_families.specs.Left.{is_given, left_of, loses_at, lost_places, stays};
+ghost use Rattle.cs_families.specs.Left.{adds_nothing, is_given, left_of, loses_at, loses_one_more, lost_places, stays};
 
 use crate::changes::is_file;
 use cs_apm::Order;
@@ -33,17 +33,6 @@ pub fn lost_places(alloc: Global, losses: &[Option<u32>], file: u32) -> Result<V
     Ok(lost)
 }
 
-/// Whether another set is left of the prefix than of the one that is a place shorter.
-pub fn is_given(lost: &[u32], end: usize) -> bool
-    ensures { result ≡ is_given lost.now end }
-{
-    let count = lost.len();
-    if count == 0 {
-        return false;
-    }
-    count == 1 || lost[count - 1] as usize + 1 != end
-}
-
 /// Whether the operation at one place stays where that at another is missing.
 fn keeps(order: &Order, missing: usize, place: usize) -> bool
     requires first { missing < length order.now }
@@ -65,6 +54,41 @@ fn stays(order: &Order, lost: &[u32], place: usize) -> bool
         }
     }
     true
+}
+
+/// Whether the prefix loses what the one that is a place shorter loses, and its last place.
+fn loses_one_more(shorter: &[u32], lost: &[u32], end: usize) -> bool
+    ensures { result ≡ loses_one_more shorter.now lost.now end }
+{
+    let count = shorter.len();
+    lost.len() == count + 1 && &lost[..count] == shorter && lost[count] as usize + 1 == end
+}
+
+/// Whether the prefix leaves the set that the one that is a place shorter leaves: its last place
+/// doesn't stay, and else it loses the same.
+fn adds_nothing(order: &Order, shorter: &[u32], lost: &[u32], end: usize) -> bool
+    requires few { end ≤ length order.now }
+    requires some { 0 < length order.now }
+    requires inside { All (λ missing. missing < length order.now) lost.now }
+    ensures { result ≡ adds_nothing (needs_in order.now) shorter.now lost.now end }
+{
+    if stays(order, lost, end.saturating_sub(1)) {
+        return false;
+    }
+    lost == shorter || loses_one_more(shorter, lost, end)
+}
+
+/// Whether another set is left of the prefix than of the one that is a place shorter, which loses
+/// others.
+pub fn is_given(order: &Order, shorter: &[u32], lost: &[u32], end: usize) -> bool
+    requires few { end ≤ length order.now }
+    requires inside { All (λ missing. missing < length order.now) lost.now }
+    ensures { result ≡ is_given (needs_in order.now) shorter.now lost.now end }
+{
+    if lost.is_empty() {
+        return false;
+    }
+    shorter.is_empty() || !adds_nothing(order, shorter, lost, end)
 }
 
 /// The places before the end, without the lost ones and all that need one by any chain.

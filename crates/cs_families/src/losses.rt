@@ -1,28 +1,18 @@
 //! Which changes of files a crash may lose.
 ghost use Rattle.std.specs.Prelude.{◌≡◌, ◌<◌, ◌≤◌, length, IfOk};
-ghost use Rattle.cs_families.specs.Losses.{covers_file, is_synced, losses_of, lost_at};
+ghost use Rattle.cs_apm.specs.Rules as rules;
+ghost use Rattle.cs_families.specs.Losses.{losses_of, lost_at};
 
 use crate::changes::file_changed;
+use cs_apm::is_covered;
 use cs_micro::{MicroOp, SyncPoint};
-use cs_trace::Covers;
 use std::alloc::{AllocError, Global};
 
-/// Whether a sync that covers this waits for the file's changes.
-fn covers_file(covers: &Covers, file: u32) -> bool
-    ensures { result ≡ covers_file file covers.now }
+/// Whether a sync point after the place, and before the last operation, covers the operation.
+fn is_synced(syncs: &[SyncPoint], place: usize, last: usize, op: &MicroOp) -> bool
+    ensures { result ≡ rules.is_synced syncs.now place last op.now }
 {
-    match covers {
-        Covers::All => true,
-        Covers::File(other) => *other == file,
-        Covers::Directory(_) => false,
-    }
-}
-
-/// Whether a sync point behind the place, and before the last operation, covers the file's changes.
-fn is_synced(syncs: &[SyncPoint], place: usize, last: usize, file: u32) -> bool
-    ensures { result ≡ is_synced syncs.now place last file }
-{
-    syncs.iter().any(|sync| place < sync.at && sync.at <= last && covers_file(&sync.covers, file))
+    syncs.iter().any(|sync| place < sync.at && sync.at <= last && is_covered(&sync.covers, op))
 }
 
 /// The file whose change at the place a crash may lose, if there is one.
@@ -30,14 +20,15 @@ fn lost_at(ops: &[MicroOp], syncs: &[SyncPoint], last: usize, place: usize) -> O
     requires { place < length ops.now }
     ensures { result ≡ lost_at ops.now syncs.now last place }
 {
-    match file_changed(&ops[place]) {
-        Some(file) if !is_synced(syncs, place, last, file) => Some(file),
-        _ => None,
+    let op = &ops[place];
+    if is_synced(syncs, place, last, op) {
+        return None;
     }
+    file_changed(op)
 }
 
 /// For each place of the prefix the file whose change there a crash may lose, if there is one: a sync point
-/// behind the prefix's last operation hasn't ended then.
+/// after the prefix's last operation hasn't ended then.
 pub fn losses_of(
     alloc: Global,
     ops: &[MicroOp],

@@ -15,7 +15,7 @@ use Rattle.cs_journal.specs.Runs.{PassOf, ReceiptOf, receipt_of}
 -- ---- lists of any elements
 
 -- the element is one of the list
-abbrev IsIn : {A : Type 0} → A → List A → Type 0
+abbrev pub IsIn : {A : Type 0} → A → List A → Type 0
 IsIn x [] = ⊥
 IsIn x (y ∷ ys) = (x ≡ y) ⊎ IsIn x ys
 
@@ -23,7 +23,7 @@ in_front : {A : Type 0} (x : A) (xs ys : List A) → IsIn x xs → IsIn x (xs ++
 in_front x [] ys there = absurd there
 in_front x (z ∷ xs) ys there = ⊎_elim (λ (same : x ≡ z). inl same) (λ (rest : IsIn x xs). inr (in_front x xs ys rest)) there
 
-in_back : {A : Type 0} (x : A) (xs ys : List A) → IsIn x ys → IsIn x (xs ++ ys)
+pub in_back : {A : Type 0} (x : A) (xs ys : List A) → IsIn x ys → IsIn x (xs ++ ys)
 in_back x [] ys there = there
 in_back x (z ∷ xs) ys there = inr (in_back x xs ys there)
 
@@ -88,13 +88,13 @@ entries_apart place (e ∷ es) = (
   entries_apart (place + 1) es,
 )
 
-entries_many : (place : ℕ) (es : List EntryOf) → length (all_entries_from place es) ≡ length es
+pub entries_many : (place : ℕ) (es : List EntryOf) → length (all_entries_from place es) ≡ length es
 entries_many place [] = refl
 entries_many place (e ∷ es) = ap suc (entries_many (place + 1) es)
 
 -- ---- receipts
 
-receipts_many : (passes : List PassOf) → length (all_receipts passes) ≡ receipts_count passes
+pub receipts_many : (passes : List PassOf) → length (all_receipts passes) ≡ receipts_count passes
 receipts_many [] = refl
 receipts_many (p ∷ ps) =
     length-append (map (λ (r : ReceiptOf). (p.number, r)) p.receipts) (all_receipts ps) ∙ ap (λ n. n + length (all_receipts ps)) (length-map p.receipts (λ (r : ReceiptOf). (p.number, r))) ∙ ap (λ n. length p.receipts + n) (receipts_many ps) ∙ sym (sum_by-cons (λ (q : PassOf). length q.receipts) p ps)
@@ -107,7 +107,7 @@ found_in : (place : ℕ) (rs : List ReceiptOf) (r : ReceiptOf) → find (is_at p
 found_in place [] r found = absurd cc
 found_in place (x ∷ rs) r found = found_by place x rs r (is_at place x) refl found (found_in place rs r)
 
-held_own : (p : PassOf) (ps : List PassOf) (number : ℕ) (r : ReceiptOf) → IsIn r p.receipts → p.number ≡ number → IsIn (number, r) (all_receipts (p ∷ ps))
+pub held_own : (p : PassOf) (ps : List PassOf) (number : ℕ) (r : ReceiptOf) → IsIn r p.receipts → p.number ≡ number → IsIn (number, r) (all_receipts (p ∷ ps))
 held_own p ps number r there same = in_front (number, r) (map (λ (x : ReceiptOf). (p.number, x)) p.receipts) (all_receipts ps) (subst (λ (n : ℕ). IsIn {A = ℕ × ReceiptOf} (n, r) (map (λ (x : ReceiptOf). (p.number, x)) p.receipts)) same (in_map (λ (x : ReceiptOf). (p.number, x)) r p.receipts there))
 
 held_by : (p : PassOf) (ps : List PassOf) (number : ℕ) (r : ReceiptOf) (b : Bool) → is_numbered number p ≡ b → IsIn r (receipts_of_pass (p ∷ ps) number) → (IsIn r (receipts_of_pass ps number) → IsIn (number, r) (all_receipts ps)) → IsIn (number, r) (all_receipts (p ∷ ps))

@@ -7,3 +7,4 @@ pub mod Steps
 pub mod Audits
 pub mod Replays
 pub mod Entries
+pub mod Audited

@@ -1,7 +1,7 @@
 -- When the receipts of some passes are the entries of a journal, and what an entry's call was
 -- answered.
 use Rattle.std.specs.Prelude.{◌≡◌, ◌≢◌, ℕ, ◌+◌, ◌<◌, ◌≤◌, ◌==◌, Bool, List, [], ◌∷◌, length, map, option_map, slice_get, sum_by, take, Option, None, Some, Result, Ok, Err}
-use Rattle.std.specs.List.{find, flat_map}
+use Rattle.std.specs.List.{AllPairs, find, flat_map}
 use Rattle.std.specs.List.Sorted.{IsPermutation}
 use Rattle.std.specs.Option.{option_map_or}
 use Rattle.cs_run.specs.declared.answer.Answer.{Answer}
@@ -116,6 +116,10 @@ all_entries_from place (e ∷ es) = (e.pass, receipt_of place e) ∷ all_entries
 -- the receipts of the passes are the entries, each once
 abbrev pub AreEntries : List PassOf → List EntryOf → Type 0
 AreEntries passes journal = IsPermutation (all_receipts passes) (all_entries_from 0 journal)
+
+-- no two passes have the same number
+abbrev pub HaveDistinctNumbers : List PassOf → Type 0
+HaveDistinctNumbers passes = AllPairs (λ one later. one.number ≢ later.number) passes
 
 -- ---- what an entry's call was answered
 

@@ -4,7 +4,7 @@ use Rattle.std.proofs.lemmas.List.Elements.{All-cons, All-nil}
 use Rattle.std.specs.List.{All}
 use Rattle.cs_trace.specs.Operations.{AreLegal, IsLegal, Paths, paths_after, sizes_after}
 use Rattle.cs_trace.specs.declared.operation.Operation.{Operation}
-use Rattle.cs_trace.specs.declared.operation.Operation.TheVariants.{Creat, Mkdir, Unlink, Rmdir, Rename, Write, Truncate, SetAttr, Sync, Say}
+use Rattle.cs_trace.specs.declared.operation.Operation.TheVariants.{Creat, Mkdir, Unlink, Rmdir, Rename, Link, Write, Truncate, SetAttr, Sync, Say}
 use Rattle.cs_micro.specs.MicroOperations.{IsWithinLimit}
 
 within : (m : Paths) (sizes : List ℕ) (o : Operation) → IsLegal m sizes o → IsWithinLimit o
@@ -13,6 +13,7 @@ within m sizes (Mkdir p rights) legal = tt
 within m sizes (Unlink p) legal = tt
 within m sizes (Rmdir p) legal = tt
 within m sizes (Rename p q) legal = tt
+within m sizes (Link p file) legal = tt
 within m sizes (Write file size offset bytes) legal = legal.2
 within m sizes (Truncate file size to) legal = tt
 within m sizes (SetAttr target before after) legal = tt

@@ -1,14 +1,15 @@
 //! The line of a trace that each micro-operation came from.
 ghost use Rattle.std.specs.Prelude.{◌≡◌, ◌≤◌, ◌++◌, ◌^◌, IfOk, OnOk, length, replicate, slice_index};
 ghost use Rattle.std.specs.List.{All};
-ghost use Rattle.cs_trace.specs.Lines.{is_blank};
+ghost use Rattle.cs_trace_lines.specs.Lines.{is_blank};
+ghost use Rattle.cs_trace_lines.specs.Versions.{block_bytes};
 ghost use Rattle.cs_trace.specs.States.{lines_in};
 ghost use Rattle.cs_micro.specs.MicroOperations.{IsWithinLimit};
 ghost use Rattle.cs_lists.specs.Lines.{lines_of, lines_told, spread, told};
 
 use cs_micro::micro_count;
 use cs_names::limits::TREE_RECORDS;
-use cs_trace::{Operation, Trace};
+use cs_trace::{BlockSize, Operation, Trace};
 use std::alloc::{AllocError, Global};
 
 /// Whether the line has JSON's blanks alone: it is skipped, and counted.
@@ -65,18 +66,20 @@ fn push_line(
 /// For each micro-operation of these operations its line: so many numbers come before the first's.
 fn spread(
     alloc: Global,
+    block: BlockSize,
     numbers: &[usize],
     first: usize,
     operations: &[Operation],
 ) -> Result<Vec<usize>, AllocError>
     requires within { All IsWithinLimit operations.now }
     requires few { first ≤ TREE_RECORDS }
-    ensures { IfOk result (λ lines. lines.items ≡ spread numbers.now first operations.now) }
+    ensures { IfOk result (λ lines. lines.items
+        ≡ spread (block_bytes block) numbers.now first operations.now) }
 {
     let mut lines = Vec::new(alloc);
     for (place, operation) in operations.iter().enumerate() {
         let line = number_at(numbers, first + place);
-        push_line(alloc, &mut lines, line, micro_count(operation))?;
+        push_line(alloc, &mut lines, line, micro_count(block, operation))?;
     }
     Ok(lines)
 }
@@ -89,5 +92,6 @@ pub fn lines_of(alloc: Global, text: &str, trace: &Trace) -> Result<Vec<usize>, 
 {
     let numbers = told_of(alloc, text)?;
     let first = trace.records().len();
-    spread(alloc, &numbers, first, trace.operations())
+    let block = trace.version().block_size();
+    spread(alloc, block, &numbers, first, trace.operations())
 }

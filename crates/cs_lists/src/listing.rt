@@ -56,7 +56,7 @@ fn push_ops(
     lines: &Option<Vec<usize>>,
     text: &mut Vec<u8>,
 ) -> Result<(), ProgramFault> {
-    let Ok(mut paths) = FilePaths::of(alloc, scene.trace()) else {
+    let Ok(mut paths) = FilePaths::of(alloc, scene.micros()) else {
         return Err(ProgramFault::Memory);
     };
     for (place, op) in scene.micros().ops().iter().enumerate() {
@@ -64,7 +64,7 @@ fn push_ops(
         let path = paths.changed(op);
         let origin = Origin { line, path };
         write!(text, "{}", OpLine { place, op, origin }).map_err(|_| ProgramFault::Memory)?;
-        if paths.take(op).is_err() {
+        if paths.take(alloc, op).is_err() {
             return Err(ProgramFault::Memory);
         }
     }

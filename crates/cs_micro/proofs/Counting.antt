@@ -6,25 +6,31 @@ use Rattle.std.proofs.lemmas.List.Folds.{length-flat_map-take}
 use Rattle.std.proofs.lemmas.List.FromFn.{length-map-range_with_len}
 use Rattle.std.specs.List.{flat_map}
 use Rattle.cs_trace.specs.declared.operation.Operation.{Operation}
+use Rattle.cs_trace_lines.specs.Versions.{block_bytes}
+use Rattle.cs_trace_lines.specs.declared.version.BlockSize.{BlockSize}
 use Rattle.cs_micro.specs.Blocks.{block_of, block_write, block_writes}
 use Rattle.cs_micro.specs.MicroOperations.{grown, micro_operations_of, micros_of, written}
+use Rattle.cs_micro.proofs.Divisions.{blocks_ascend}
 
 -- as many blocks as there are from the first to the last
-count_blocks : (file offset : ℕ) (bytes : List ℕ) → length (block_writes file offset bytes) ≡ block_of (offset + length bytes - 1) + 1 - block_of offset
+count_blocks : (block file offset : ℕ) (bytes : List ℕ) → length (block_writes block file offset bytes) ≡ block_of block (offset + length bytes - 1) + 1 - block_of block offset
 unfolding block_writes
-count_blocks file offset bytes = length-map-range_with_len (block_write file offset bytes) (block_of offset) _
+count_blocks block file offset bytes = length-map-range_with_len (block_write block file offset bytes) (block_of block offset) _
 
-pub count_written : (file size offset : ℕ) (bytes : List ℕ) → (length bytes ≡ 0 → ⊥)
-    → length (written file size offset bytes) ≡ length (grown file size (offset + length bytes)) + (block_of (offset + length bytes - 1) + 1 - block_of offset)
-count_written file size offset bytes some =
+pub count_written : (block file size offset : ℕ) (bytes : List ℕ) → (length bytes ≡ 0 → ⊥)
+    → length (written block file size offset bytes) ≡ length (grown file size (offset + length bytes)) + (block_of block (offset + length bytes - 1) + 1 - block_of block offset)
+count_written block file size offset bytes some =
     let e : (length bytes == 0) ≡ false = ne_eqb (length bytes) 0 some in
-    ap (λ b. length (cond b [] (grown file size (offset + length bytes) ++ block_writes file offset bytes))) e
-    ∙ length-append (grown file size (offset + length bytes)) (block_writes file offset bytes)
-    ∙ ap (λ n. length (grown file size (offset + length bytes)) + n) (count_blocks file offset bytes)
+    ap (λ b. length (cond b [] (grown file size (offset + length bytes) ++ block_writes block file offset bytes))) e
+    ∙ length-append (grown file size (offset + length bytes)) (block_writes block file offset bytes)
+    ∙ ap (λ n. length (grown file size (offset + length bytes)) + n) (count_blocks block file offset bytes)
 
 -- a write of some byte is at least one
-pub written_some : (file size offset : ℕ) (bytes : List ℕ) → (length bytes ≡ 0 → ⊥) → 0 < length (written file size offset bytes)
-written_some file size offset bytes some = omega (arith, some, count_written file size offset bytes some)
+pub written_some : (block : BlockSize) (file size offset : ℕ) (bytes : List ℕ) → (length bytes ≡ 0 → ⊥) → 0 < length (written (block_bytes block) file size offset bytes)
+written_some block file size offset bytes some =
+    let count = count_written (block_bytes block) file size offset bytes some in
+    let ascend = blocks_ascend block offset (offset + length bytes - 1) (omega (arith, some)) in
+    omega (arith, count, ascend)
 
 pub grown_one : (file size end : ℕ) → size < end → length (grown file size end) ≡ 1
 grown_one file size end less = let e : nat_lt size end ≡ true = lt-ltb size end less in rw e refl
@@ -32,23 +38,24 @@ grown_one file size end less = let e : nat_lt size end ≡ true = lt-ltb size en
 pub grown_none : (file size end : ℕ) → end ≤ size → length (grown file size end) ≡ 0
 grown_none file size end le = let e : nat_lt size end ≡ false = le-ltb size end le in rw e refl
 
-pub micros_none : micro_operations_of [] ≡ []
+pub micros_none : (block : ℕ) → micro_operations_of block [] ≡ []
 unfolding micro_operations_of
-micros_none = refl
+micros_none block = refl
 
 -- those of one operation more
-pub micros_more : (ops : List Operation) (i : ℕ) (x : Operation) → i < length ops → x ≡ get_or ops i x
-    → micro_operations_of (take (i + 1) ops) ≡ micro_operations_of (take i ops) ++ micros_of x
+pub micros_more : (block : ℕ) (ops : List Operation) (i : ℕ) (x : Operation) → i < length ops → x ≡ get_or ops i x
+    → micro_operations_of block (take (i + 1) ops) ≡ micro_operations_of block (take i ops) ++ micros_of block x
 unfolding micro_operations_of
-micros_more ops i x low is =
-    ap (flat_map micros_of) (take_more ops i x low) ∙ sym (flat_map_more micros_of [] (take i ops) (get_or ops i x)) ∙ ap (λ o. flat_map micros_of (take i ops) ++ micros_of o) (sym is)
+micros_more block ops i x low is =
+    ap (flat_map (micros_of block)) (take_more ops i x low) ∙ sym (flat_map_more (micros_of block) [] (take i ops) (get_or ops i x))
+    ∙ ap (λ o. flat_map (micros_of block) (take i ops) ++ micros_of block o) (sym is)
 
 -- one operation's are among all
-pub micros_within : (ops : List Operation) (i : ℕ) (x : Operation) → i < length ops → x ≡ get_or ops i x
-    → length (micro_operations_of (take i ops)) + length (micros_of x) ≤ length (micro_operations_of ops)
+pub micros_within : (block : ℕ) (ops : List Operation) (i : ℕ) (x : Operation) → i < length ops → x ≡ get_or ops i x
+    → length (micro_operations_of block (take i ops)) + length (micros_of block x) ≤ length (micro_operations_of block ops)
 unfolding micro_operations_of
-micros_within ops i x low is =
-    subst (λ o. length (flat_map micros_of (take i ops)) + length (micros_of o) ≤ length (flat_map micros_of ops)) (sym is) (length-flat_map-take micros_of ops i x low)
+micros_within block ops i x low is =
+    subst (λ o. length (flat_map (micros_of block) (take i ops)) + length (micros_of block o) ≤ length (flat_map (micros_of block) ops)) (sym is) (length-flat_map-take (micros_of block) ops i x low)
 
-pub micros_all : (ops : List Operation) (i : ℕ) → length ops ≤ i → micro_operations_of (take i ops) ≡ micro_operations_of ops
-micros_all ops i high = ap micro_operations_of (take_all i ops high)
+pub micros_all : (block : ℕ) (ops : List Operation) (i : ℕ) → length ops ≤ i → micro_operations_of block (take i ops) ≡ micro_operations_of block ops
+micros_all block ops i high = ap (micro_operations_of block) (take_all i ops high)

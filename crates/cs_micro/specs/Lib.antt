@@ -4,3 +4,4 @@ pub mod Micros
 pub mod MicroOperations
 pub mod SyncPoints
 pub mod Texts
+pub mod Laws

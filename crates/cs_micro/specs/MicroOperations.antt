@@ -1,4 +1,4 @@
--- The micro-operations that an operation of a trace is.
+-- The micro-operations that an operation of a trace is, for a block size in bytes.
 use Rattle.std.specs.Prelude.{ℕ, ◌+◌, ◌<◌, ◌≤◌, ◌==◌, ◌&&◌, nat_lt, Bool, List, [], ◌∷◌, ◌++◌, length, if◌then◌else◌}
 use Rattle.std.specs.List.{flat_map}
 use Rattle.cs_names.specs.Paths.{path_eq}
@@ -6,7 +6,7 @@ use Rattle.cs_names.specs.Texts.{same_bytes}
 use Rattle.cs_names.specs.declared.limits.TheConstants.{FILE_BYTES}
 use Rattle.cs_trace.specs.declared.operation.Node.TheVariants as nodes
 use Rattle.cs_trace.specs.declared.operation.Operation.{Operation}
-use Rattle.cs_trace.specs.declared.operation.Operation.TheVariants.{Creat, Mkdir, Unlink, Rmdir, Rename, Write, Truncate, SetAttr, Sync, Say}
+use Rattle.cs_trace.specs.declared.operation.Operation.TheVariants.{Creat, Mkdir, Unlink, Rmdir, Rename, Link, Write, Truncate, SetAttr, Sync, Say}
 use Rattle.cs_trace.specs.declared.operation.Rights.{Rights}
 use Rattle.cs_trace.specs.declared.operation.Target.{Target}
 use Rattle.cs_micro.specs.declared.micro_op.EntryKind.TheVariants as kinds
@@ -14,14 +14,15 @@ use Rattle.cs_micro.specs.declared.micro_op.MicroOp.{MicroOp}
 use Rattle.cs_micro.specs.declared.micro_op.MicroOp.TheVariants as micro
 use Rattle.cs_micro.specs.Blocks.{block_writes}
 
--- where bytes end past a file's size, one change of size
+-- if bytes end past a file's size, one change of size
 abbrev pub grown : ℕ → ℕ → ℕ → List MicroOp
 grown file size end = if nat_lt size end then micro.ChangeFileSize file end ∷ [] else []
 
 -- a write of no byte is nothing; any other is a change of size, if it grows, and then its blocks
-abbrev pub written : ℕ → ℕ → ℕ → List ℕ → List MicroOp
-written file size offset bytes =
-    if length bytes == 0 then [] else grown file size (offset + length bytes) ++ block_writes file offset bytes
+abbrev pub written : ℕ → ℕ → ℕ → ℕ → List ℕ → List MicroOp
+written block file size offset bytes =
+    if length bytes == 0 then [] else grown file size (offset + length bytes)
+    ++ block_writes block file offset bytes
 
 -- a change to another size
 abbrev pub resized : ℕ → ℕ → ℕ → List MicroOp
@@ -33,28 +34,31 @@ moved p q = if path_eq p q then [] else micro.MoveDirEntry p q ∷ []
 
 -- the same owner, group and permissions
 abbrev pub same_rights : Rights → Rights → Bool
-same_rights a b = same_bytes a.owner b.owner && same_bytes a.group b.group && a.permissions == b.permissions
+same_rights a b =
+    same_bytes a.owner b.owner && same_bytes a.group b.group && a.permissions == b.permissions
 
 -- a change to other rights
 abbrev pub attributed : Target → Rights → Rights → List MicroOp
-attributed target before after = if same_rights before after then [] else micro.SetAttr target after ∷ []
+attributed target before after =
+    if same_rights before after then [] else micro.SetAttr target after ∷ []
 
 -- the micro-operations of one operation
-abbrev pub micros_of : Operation → List MicroOp
-micros_of (Creat p file rights) = micro.CreateDirEntry p (nodes.File file) rights ∷ []
-micros_of (Mkdir p rights) = micro.CreateDirEntry p nodes.Directory rights ∷ []
-micros_of (Unlink p) = micro.DeleteDirEntry p kinds.File ∷ []
-micros_of (Rmdir p) = micro.DeleteDirEntry p kinds.Directory ∷ []
-micros_of (Rename p q) = moved p q
-micros_of (Write file size offset bytes) = written file size offset bytes
-micros_of (Truncate file size to) = resized file size to
-micros_of (SetAttr target before after) = attributed target before after
-micros_of (Sync covers) = []
-micros_of Say = micro.Say ∷ []
+abbrev pub micros_of : ℕ → Operation → List MicroOp
+micros_of block (Creat p file rights) = micro.CreateDirEntry p (nodes.File file) rights ∷ []
+micros_of block (Mkdir p rights) = micro.CreateDirEntry p nodes.Directory rights ∷ []
+micros_of block (Unlink p) = micro.DeleteDirEntry p kinds.File ∷ []
+micros_of block (Rmdir p) = micro.DeleteDirEntry p kinds.Directory ∷ []
+micros_of block (Rename p q) = moved p q
+micros_of block (Link p file) = micro.LinkDirEntry p file ∷ []
+micros_of block (Write file size offset bytes) = written block file size offset bytes
+micros_of block (Truncate file size to) = resized file size to
+micros_of block (SetAttr target before after) = attributed target before after
+micros_of block (Sync covers) = []
+micros_of block Say = micro.Say ∷ []
 
 -- those of all operations, one after another
-unfoldable pub micro_operations_of : List Operation → List MicroOp
-micro_operations_of operations = flat_map micros_of operations
+unfoldable pub micro_operations_of : ℕ → List Operation → List MicroOp
+micro_operations_of block operations = flat_map (micros_of block) operations
 
 -- a write of at least one byte ends within the largest file
 abbrev pub IsWithinLimit : Operation → Type 0

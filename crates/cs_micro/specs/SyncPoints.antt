@@ -6,15 +6,19 @@ use Rattle.cs_trace.specs.declared.operation.Operation.TheVariants.{Sync, Say}
 use Rattle.cs_micro.specs.declared.sync_point.SyncPoint.{SyncPoint}
 use Rattle.cs_micro.specs.MicroOperations.{micro_operations_of}
 
--- a sync behind so many micro-operations is a sync point there
+-- a sync after so many micro-operations is a sync point there
 abbrev pub points_behind : ℕ → Operation → List SyncPoint
 points_behind count (Sync covers) = record { at = count; covers = covers } ∷ []
 points_behind count _ = []
 
--- the operation at a place, behind the micro-operations of those before it
-abbrev pub points_at : List Operation → ℕ → List SyncPoint
-points_at operations place = points_behind (length (micro_operations_of (take place operations))) (slice_index_or operations place Say)
+-- the operation at a place, after the micro-operations of those before it, for a block size in
+-- bytes
+abbrev pub points_at : ℕ → List Operation → ℕ → List SyncPoint
+points_at block operations place =
+    points_behind (length (micro_operations_of block (take place operations)))
+    (slice_index_or operations place Say)
 
 -- the sync points of all operations
-unfoldable pub sync_points_of : List Operation → List SyncPoint
-sync_points_of operations = flat_map (points_at operations) (range_with_len 0 (length operations))
+unfoldable pub sync_points_of : ℕ → List Operation → List SyncPoint
+sync_points_of block operations =
+    flat_map (points_at block operations) (range_with_len 0 (length operations))

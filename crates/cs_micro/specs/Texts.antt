@@ -9,7 +9,7 @@ use Rattle.cs_trace.specs.declared.operation.Target.TheVariants as targets
 use Rattle.cs_micro.specs.declared.fault.MicroFault.{MicroFault}
 use Rattle.cs_micro.specs.declared.fault.MicroFault.TheVariants.{TooMany, Memory}
 use Rattle.cs_micro.specs.declared.micro_op.MicroOp.{MicroOp}
-use Rattle.cs_micro.specs.declared.micro_op.MicroOp.TheVariants.{CreateDirEntry, DeleteDirEntry, MoveDirEntry, ChangeFileSize, WriteBlock, SetAttr, Say}
+use Rattle.cs_micro.specs.declared.micro_op.MicroOp.TheVariants.{CreateDirEntry, DeleteDirEntry, MoveDirEntry, LinkDirEntry, ChangeFileSize, WriteBlock, SetAttr, Say}
 
 abbrev pub kind_text : Node → List ℕ
 kind_text Directory = codes "dir"
@@ -21,20 +21,30 @@ target_text (targets.Directory p) = codes "dir " ++ path_text p
 
 -- permissions as three octal digits
 abbrev pub mode_text : ℕ → List ℕ
-mode_text permissions = decimal (permissions / 64) ++ (decimal (permissions / 8 % 8) ++ decimal (permissions % 8))
+mode_text permissions =
+    decimal (permissions / 64) ++ (decimal (permissions / 8 % 8) ++ decimal (permissions % 8))
 
 abbrev pub rights_text : Rights → List ℕ
-rights_text rights = mode_text rights.permissions ++ (codes " " ++ (rights.owner ++ (codes " " ++ rights.group)))
+rights_text rights =
+    mode_text rights.permissions ++ (codes " " ++ (rights.owner ++ (codes " " ++ rights.group)))
 
 -- the kind, and its fields
 abbrev pub op_text : MicroOp → List ℕ
-op_text (CreateDirEntry p node rights) = codes "create_dir_entry " ++ (path_text p ++ (codes " " ++ kind_text node))
+op_text (CreateDirEntry p node rights) =
+    codes "create_dir_entry " ++ (path_text p ++ (codes " " ++ kind_text node))
 op_text (DeleteDirEntry p kind) = codes "delete_dir_entry " ++ path_text p
 op_text (MoveDirEntry p q) = codes "move_dir_entry " ++ (path_text p ++ (codes " " ++ path_text q))
-op_text (ChangeFileSize file to) = codes "change_file_size " ++ (decimal file ++ (codes " " ++ decimal to))
-op_text (WriteBlock file block at bytes) =
-    codes "write_block " ++ (decimal file ++ (codes " " ++ (decimal block ++ (codes " " ++ (decimal at ++ (codes " " ++ decimal (length bytes)))))))
-op_text (SetAttr target rights) = codes "set_attr " ++ (target_text target ++ (codes " " ++ rights_text rights))
+op_text (LinkDirEntry p file) =
+    codes "link_dir_entry " ++ (path_text p ++ (codes " " ++ decimal file))
+op_text (ChangeFileSize file to) =
+    codes "change_file_size " ++ (decimal file ++ (codes " " ++ decimal to))
+op_text (WriteBlock file block start at bytes) =
+    codes "write_block "
+    ++ (decimal file
+    ++ (codes " "
+    ++ (decimal block ++ (codes " " ++ (decimal at ++ (codes " " ++ decimal (length bytes)))))))
+op_text (SetAttr target rights) =
+    codes "set_attr " ++ (target_text target ++ (codes " " ++ rights_text rights))
 op_text Say = codes "say"
 
 abbrev pub fault_text : MicroFault → List ℕ

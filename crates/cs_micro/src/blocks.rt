@@ -1,36 +1,45 @@
 //! The blocks of a file that a write touches.
-ghost use Rattle.std.specs.Prelude.{◌≡◌, ◌++◌, ◌+◌, ◌*◌, ◌<◌, ◌≤◌, length, IfOk, OnOk};
+ghost use Rattle.std.specs.Prelude.{◌≡◌, ◌++◌, ◌+◌, ◌<◌, ◌≤◌, length, IfOk, OnOk};
 ghost use Rattle.std.specs.List.{flat_map};
-ghost use Rattle.cs_micro.specs.Blocks.{block_write, block_writes, bytes_in, touched_blocks};
+ghost use Rattle.cs_trace_lines.specs.Versions.{block_bytes};
+ghost use Rattle.cs_micro.specs.Blocks.{block_of, block_write, block_writes, bytes_in, start_of, touched_blocks};
 
 use crate::micro_op::MicroOp;
 use cs_names::Bytes;
 use cs_names::limits::FILE_BYTES;
+use cs_trace::BlockSize;
 use std::alloc::{AllocError, Global};
 
-/// Bytes of a block of a file.
-pub const BLOCK_BYTES: u64 = 4_096;
+/// The block that has the byte at this place of a file.
+pub fn block_of(size: BlockSize, place: u64) -> u64
+    ensures value { result ≡ block_of (block_bytes size) place }
+    ensures few { result ≤ place }
+{
+    place / size.bytes()
+}
 
 /// The bytes of a write that fall into one block.
 fn write_block(
     alloc: Global,
+    size: BlockSize,
     file: u32,
     block: u64,
     offset: u64,
     bytes: &[u8],
 ) -> Result<MicroOp, AllocError>
     requires end { offset + length bytes.now ≤ FILE_BYTES }
-    requires begins { BLOCK_BYTES * block < offset + length bytes.now }
-    requires ends { offset < BLOCK_BYTES * (block + 1) }
-    ensures { IfOk result (λ op. op ≡ block_write file offset bytes.now block) }
+    requires begins { start_of (block_bytes size) block < offset + length bytes.now }
+    requires ends { offset < start_of (block_bytes size) (block + 1) }
+    ensures { IfOk result (λ op. op ≡ block_write (block_bytes size) file offset bytes.now block) }
 {
-    let start = BLOCK_BYTES * block;
+    let start = size.bytes() * block;
     let from = offset.max(start);
-    let to = (offset + bytes.len() as u64).min(start + BLOCK_BYTES);
+    let to = (offset + bytes.len() as u64).min(start + size.bytes());
     let piece = &bytes[(from - offset) as usize..(to - offset) as usize];
     Ok(MicroOp::WriteBlock {
         file,
         block,
+        start,
         at: from - start,
         bytes: Bytes::keep(alloc, piece)?,
     })
@@ -40,25 +49,28 @@ fn write_block(
 pub fn push_blocks(
     alloc: Global,
     ops: &mut Vec<MicroOp>,
+    size: BlockSize,
     file: u32,
     offset: u64,
     bytes: &[u8],
 ) -> Result<(), AllocError>
     requires some { 0 < length bytes.now }
     requires end { offset + length bytes.now ≤ FILE_BYTES }
-    ensures { OnOk result (ops.new.items ≡ ops.old.items ++ block_writes file offset bytes.now) }
+    ensures { OnOk result (ops.new.items ≡ ops.old.items
+        ++ block_writes (block_bytes size) file offset bytes.now) }
 {
-    let first = offset / BLOCK_BYTES;
-    let last = (offset + bytes.len() as u64 - 1) / BLOCK_BYTES;
+    let first = block_of(size, offset);
+    let last = block_of(size, offset + bytes.len() as u64 - 1);
     for block in first..last + 1 {
-        ops.push(write_block(alloc, file, block, offset, bytes)?)?;
+        ops.push(write_block(alloc, size, file, block, offset, bytes)?)?;
     }
     Ok(())
 }
 
 /// The parts of a write in the blocks that it touches, one after another, are its bytes. The call
 /// does nothing; its contract is the law.
-pub fn blocks_make_up_a_write(offset: u64, bytes: &[u8])
+pub fn blocks_make_up_a_write(size: BlockSize, offset: u64, bytes: &[u8])
     requires { 0 < length bytes.now }
-    ensures { flat_map (λ block. bytes_in block offset bytes.now) (touched_blocks offset bytes.now) ≡ bytes.now }
+    ensures { flat_map (λ block. bytes_in (block_bytes size) block offset bytes.now)
+        (touched_blocks (block_bytes size) offset bytes.now) ≡ bytes.now }
 {}

@@ -1,28 +1,30 @@
 //! The micro-operations and the sync points of a list of operations.
 ghost use Rattle.std.specs.Prelude.{◌≡◌, ◌++◌, ◌∷◌, [], ◌+◌, ◌<◌, ◌≤◌, ◌↔◌, length, IfOk, IsErr, IsTrue, OnOk, ℕ};
 ghost use Rattle.std.specs.List.{All};
+ghost use Rattle.cs_trace_lines.specs.Versions.{block_bytes};
 ghost use Rattle.cs_micro.specs.MicroOperations.{IsWithinLimit, attributed, micro_operations_of, micros_of, moved, resized, same_rights, written};
 ghost use Rattle.cs_micro.specs.SyncPoints.{points_behind, sync_points_of};
 
-use crate::blocks::{BLOCK_BYTES, push_blocks};
+use crate::blocks::{block_of, push_blocks};
 use crate::copies::{copy_covers, copy_target};
 use crate::micro_op::{EntryKind, MicroOp};
 use crate::sync_point::SyncPoint;
 use cs_names::Path;
 use cs_names::limits::{FILE_BYTES, MICRO_OPERATIONS};
-use cs_trace::{Node, Operation, Rights, Target};
+use cs_trace::{BlockSize, Node, Operation, Rights, Target};
 use std::alloc::{AllocError, Global};
 
 /// How many micro-operations a write is. It takes no memory.
-fn count_of_write(size: u64, offset: u64, bytes: &[u8]) -> usize
+fn count_of_write(block: BlockSize, size: u64, offset: u64, bytes: &[u8]) -> usize
     requires { 0 < length bytes.now → offset + length bytes.now ≤ FILE_BYTES }
-    ensures { (file : ℕ) → result ≡ length (written file size offset bytes.now) }
+    ensures { (file : ℕ)
+        → result ≡ length (written (block_bytes block) file size offset bytes.now) }
 {
     if bytes.is_empty() {
         return 0;
     }
     let end = offset + bytes.len() as u64;
-    let blocks = (end - 1) / BLOCK_BYTES + 1 - offset / BLOCK_BYTES;
+    let blocks = block_of(block, end - 1) + 1 - block_of(block, offset);
     let changes = if size < end { 1 } else { 0 };
     blocks as usize + changes
 }
@@ -35,15 +37,16 @@ fn are_same(rights: &Rights, others: &Rights) -> bool
 }
 
 /// How many micro-operations an operation is. It takes no memory.
-pub fn micro_count(operation: &Operation) -> usize
+pub fn micro_count(block: BlockSize, operation: &Operation) -> usize
     requires { IsWithinLimit operation.now }
-    ensures { result ≡ length (micros_of operation.now) }
+    ensures { result ≡ length (micros_of (block_bytes block) operation.now) }
 {
     match operation {
         Operation::Creat { .. }
         | Operation::Mkdir { .. }
         | Operation::Unlink { .. }
         | Operation::Rmdir { .. }
+        | Operation::Link { .. }
         | Operation::Say => 1,
         Operation::Rename { from, to } => usize::from(from != to),
         Operation::Write {
@@ -51,7 +54,7 @@ pub fn micro_count(operation: &Operation) -> usize
             offset,
             bytes,
             ..
-        } => count_of_write(*size, *offset, bytes.as_slice()),
+        } => count_of_write(block, *size, *offset, bytes.as_slice()),
         Operation::Truncate { size, length, .. } => usize::from(size != length),
         Operation::SetAttr { before, after, .. } => usize::from(!are_same(before, after)),
         Operation::Sync(_) => 0,
@@ -59,13 +62,14 @@ pub fn micro_count(operation: &Operation) -> usize
 }
 
 /// Whether there are no more micro-operations than a trace may have. It takes no memory.
-pub fn has_room(operations: &[Operation]) -> bool
+pub fn has_room(block: BlockSize, operations: &[Operation]) -> bool
     requires { All IsWithinLimit operations.now }
-    ensures { IsTrue result ↔ (length (micro_operations_of operations.now) ≤ MICRO_OPERATIONS) }
+    ensures { IsTrue result
+        ↔ (length (micro_operations_of (block_bytes block) operations.now) ≤ MICRO_OPERATIONS) }
 {
     let mut total = 0;
     for operation in operations {
-        let count = micro_count(operation);
+        let count = micro_count(block, operation);
         if count > MICRO_OPERATIONS - total {
             return false;
         }
@@ -82,7 +86,8 @@ fn push_create(
     node: Node,
     rights: &Rights,
 ) -> Result<(), AllocError>
-    ensures { OnOk result (ops.new.items ≡ ops.old.items ++ MicroOp.CreateDirEntry path.now node rights.now ∷ []) }
+    ensures { OnOk result (ops.new.items ≡ ops.old.items
+        ++ MicroOp.CreateDirEntry path.now node rights.now ∷ []) }
 {
     ops.push(MicroOp::CreateDirEntry {
         path: path.try_clone(alloc)?,
@@ -99,7 +104,8 @@ fn push_delete(
     path: &Path,
     kind: EntryKind,
 ) -> Result<(), AllocError>
-    ensures { OnOk result (ops.new.items ≡ ops.old.items ++ MicroOp.DeleteDirEntry path.now kind ∷ []) }
+    ensures { OnOk result (ops.new.items ≡ ops.old.items
+        ++ MicroOp.DeleteDirEntry path.now kind ∷ []) }
 {
     ops.push(MicroOp::DeleteDirEntry {
         path: path.try_clone(alloc)?,
@@ -128,18 +134,38 @@ fn push_move(
     Ok(())
 }
 
-/// A change of size where a write grows, and then its blocks.
+/// One more entry of a file.
+fn push_link(
+    alloc: Global,
+    ops: &mut Vec<MicroOp>,
+    path: &Path,
+    file: u32,
+) -> Result<(), AllocError>
+    ensures { OnOk result (ops.new.items ≡ ops.old.items
+        ++ MicroOp.LinkDirEntry path.now file ∷ []) }
+{
+    ops.push(MicroOp::LinkDirEntry {
+        path: path.try_clone(alloc)?,
+        file,
+    })?;
+    Ok(())
+}
+
+/// A change of size if a write grows the file, and then its blocks.
 fn push_write(
     alloc: Global,
     ops: &mut Vec<MicroOp>,
+    block: BlockSize,
     file: u32,
     size: u64,
     offset: u64,
     bytes: &[u8],
 ) -> Result<(), AllocError>
     requires { 0 < length bytes.now → offset + length bytes.now ≤ FILE_BYTES }
-    ensures value { OnOk result (ops.new.items ≡ ops.old.items ++ written file size offset bytes.now) }
-    ensures memory { IsErr result → 0 < length (written file size offset bytes.now) }
+    ensures value { OnOk result (ops.new.items ≡ ops.old.items
+        ++ written (block_bytes block) file size offset bytes.now) }
+    ensures memory { IsErr result
+        → 0 < length (written (block_bytes block) file size offset bytes.now) }
 {
     if bytes.is_empty() {
         return Ok(());
@@ -148,7 +174,7 @@ fn push_write(
     if size < end {
         ops.push(MicroOp::ChangeFileSize { file, length: end })?;
     }
-    push_blocks(alloc, ops, file, offset, bytes)
+    push_blocks(alloc, ops, block, file, offset, bytes)
 }
 
 /// A change of size, unless it is to the same size.
@@ -170,7 +196,8 @@ fn push_rights(
     before: &Rights,
     after: &Rights,
 ) -> Result<(), AllocError>
-    ensures value { OnOk result (ops.new.items ≡ ops.old.items ++ attributed target.now before.now after.now) }
+    ensures value { OnOk result (ops.new.items ≡ ops.old.items
+        ++ attributed target.now before.now after.now) }
     ensures memory { IsErr result → 0 < length (attributed target.now before.now after.now) }
 {
     if are_same(before, after) {
@@ -191,15 +218,17 @@ fn push_say(ops: &mut Vec<MicroOp>) -> Result<(), AllocError>
     Ok(())
 }
 
-/// The micro-operations of one operation, behind the others.
+/// The micro-operations of one operation, after the others.
 fn push_micros(
     alloc: Global,
     ops: &mut Vec<MicroOp>,
+    block: BlockSize,
     operation: &Operation,
 ) -> Result<(), AllocError>
     requires { IsWithinLimit operation.now }
-    ensures value { OnOk result (ops.new.items ≡ ops.old.items ++ micros_of operation.now) }
-    ensures memory { IsErr result → 0 < length (micros_of operation.now) }
+    ensures value { OnOk result (ops.new.items ≡ ops.old.items
+        ++ micros_of (block_bytes block) operation.now) }
+    ensures memory { IsErr result → 0 < length (micros_of (block_bytes block) operation.now) }
 {
     match operation {
         Operation::Creat { path, file, rights } => {
@@ -211,12 +240,13 @@ fn push_micros(
         Operation::Unlink { path } => push_delete(alloc, ops, path, EntryKind::File),
         Operation::Rmdir { path } => push_delete(alloc, ops, path, EntryKind::Directory),
         Operation::Rename { from, to } => push_move(alloc, ops, from, to),
+        Operation::Link { path, file } => push_link(alloc, ops, path, *file),
         Operation::Write {
             file,
             size,
             offset,
             bytes,
-        } => push_write(alloc, ops, *file, *size, *offset, bytes.as_slice()),
+        } => push_write(alloc, ops, block, *file, *size, *offset, bytes.as_slice()),
         Operation::Truncate { file, size, length } => push_size(ops, *file, *size, *length),
         Operation::SetAttr {
             target,
@@ -228,14 +258,15 @@ fn push_micros(
     }
 }
 
-/// The sync point of one operation, if it is one, behind so many micro-operations.
+/// The sync point of one operation, if it is one, after so many micro-operations.
 fn push_sync(
     alloc: Global,
     syncs: &mut Vec<SyncPoint>,
     count: usize,
     operation: &Operation,
 ) -> Result<(), AllocError>
-    ensures value { OnOk result (syncs.new.items ≡ syncs.old.items ++ points_behind count operation.now) }
+    ensures value { OnOk result (syncs.new.items ≡ syncs.old.items
+        ++ points_behind count operation.now) }
     ensures memory { IsErr result → 0 < length (points_behind count operation.now) }
 {
     if let Operation::Sync(covers) = operation {
@@ -250,18 +281,23 @@ fn push_sync(
 /// The micro-operations of these operations, and their sync points.
 pub fn broken_up(
     alloc: Global,
+    block: BlockSize,
     operations: &[Operation],
 ) -> Result<(Vec<MicroOp>, Vec<SyncPoint>), AllocError>
     requires { All IsWithinLimit operations.now }
-    ensures ops { IfOk result (λ both. both.0.items ≡ micro_operations_of operations.now) }
-    ensures syncs { IfOk result (λ both. both.1.items ≡ sync_points_of operations.now) }
-    ensures memory { IsErr result → 0 < length (micro_operations_of operations.now) + length (sync_points_of operations.now) }
+    ensures ops { IfOk result (λ both. both.0.items
+        ≡ micro_operations_of (block_bytes block) operations.now) }
+    ensures syncs { IfOk result (λ both. both.1.items
+        ≡ sync_points_of (block_bytes block) operations.now) }
+    ensures memory { IsErr result
+        → 0 < length (micro_operations_of (block_bytes block) operations.now)
+        + length (sync_points_of (block_bytes block) operations.now) }
 {
     let mut ops = Vec::new(alloc);
     let mut syncs = Vec::new(alloc);
     for operation in operations {
         push_sync(alloc, &mut syncs, ops.len(), operation)?;
-        push_micros(alloc, &mut ops, operation)?;
+        push_micros(alloc, &mut ops, block, operation)?;
     }
     Ok((ops, syncs))
 }

@@ -1,7 +1,6 @@
 //! Copies of what a trace keeps.
-ghost use Rattle.std.specs.Prelude.{◌≡◌, ◌<◌, length, IfOk, IsErr};
+ghost use Rattle.std.specs.Prelude.{◌≡◌, IfOk};
 
-use cs_names::Path;
 use cs_trace::{Covers, Target};
 use std::alloc::{AllocError, Global};
 
@@ -22,18 +21,15 @@ pub fn copy_covers(alloc: Global, covers: &Covers) -> Result<Covers, AllocError>
     match covers {
         Covers::All => Ok(Covers::All),
         Covers::File(file) => Ok(Covers::File(*file)),
+        Covers::Range {
+            file,
+            offset,
+            length,
+        } => Ok(Covers::Range {
+            file: *file,
+            offset: *offset,
+            length: *length,
+        }),
         Covers::Directory(path) => Ok(Covers::Directory(path.try_clone(alloc)?)),
     }
-}
-
-/// The same paths again.
-pub fn copy_paths(alloc: Global, paths: &[Path]) -> Result<Vec<Path>, AllocError>
-    ensures value { IfOk result (λ copy. copy.items ≡ paths.now) }
-    ensures memory { IsErr result → 0 < length paths.now }
-{
-    let mut copy = Vec::new(alloc);
-    for path in paths {
-        copy.push(path.try_clone(alloc)?)?;
-    }
-    Ok(copy)
 }

@@ -8,9 +8,10 @@ mod copies;
 pub mod fault;
 pub mod micro_op;
 pub mod micros;
+mod starts;
 pub mod sync_point;
 
-pub use blocks::{BLOCK_BYTES, blocks_make_up_a_write};
+pub use blocks::blocks_make_up_a_write;
 pub use breaking::micro_count;
 pub use fault::MicroFault;
 pub use micro_op::{EntryKind, MicroOp};

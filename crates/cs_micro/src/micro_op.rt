@@ -14,7 +14,7 @@ pub enum EntryKind {
     Directory,
 }
 
-/// A step that reaches the disk by itself. A file is told by its number, and an entry by its path.
+/// A step that reaches the disk by itself. It names a file by its number, and an entry by its path.
 #[derive(Debug, Drop)]
 pub enum MicroOp {
     /// A new entry: of a directory, or of the file of that number.
@@ -33,6 +33,11 @@ pub enum MicroOp {
         from: Path,
         to: Path,
     },
+    /// A new entry of a file that exists: one more path for it.
+    LinkDirEntry {
+        path: Path,
+        file: u32,
+    },
     /// The file has so many bytes from now on.
     ChangeFileSize {
         file: u32,
@@ -43,6 +48,8 @@ pub enum MicroOp {
         file: u32,
         /// The block's number, from 0.
         block: u64,
+        /// Where the block begins in the file.
+        start: u64,
         /// Where the bytes begin in the block.
         at: u64,
         /// At least one byte; all of them lie in the block.
@@ -80,6 +87,7 @@ impl fmt::Display for MicroOp {
             }
             MicroOp::DeleteDirEntry { path, .. } => write!(f, "delete_dir_entry {path}"),
             MicroOp::MoveDirEntry { from, to } => write!(f, "move_dir_entry {from} {to}"),
+            MicroOp::LinkDirEntry { path, file } => write!(f, "link_dir_entry {path} {file}"),
             MicroOp::ChangeFileSize { file, length } => {
                 write!(f, "change_file_size {file} {length}")
             }
@@ -88,6 +96,7 @@ impl fmt::Display for MicroOp {
                 block,
                 at,
                 bytes,
+                ..
             } => {
                 let count = bytes.as_slice().len();
                 write!(f, "write_block {file} {block} {at} {count}")

@@ -1,33 +1,33 @@
 //! A trace that is broken up.
-ghost use Rattle.std.specs.Prelude.{◌≡◌, ◌<◌, ◌≤◌, ◌↔◌, length, IfOk, IsErrOf};
+ghost use Rattle.std.specs.Prelude.{◌≡◌, ◌<◌, ◌≤◌, ◌↔◌, length, map, IfOk, IsErrOf};
 ghost use Rattle.cs_trace.specs.Traces.{start_paths};
 ghost use Rattle.cs_micro.specs.Legal.{AreLegal};
 ghost use Rattle.cs_micro.specs.MicroOperations.{micro_operations_of};
-ghost use Rattle.cs_micro.specs.Micros.{HoldsAny, micros_in};
+ghost use Rattle.cs_micro.specs.Micros.{HoldsAny, block_of_version, micros_in};
 
 use crate::breaking::{broken_up, has_room};
-use crate::copies::copy_paths;
 use crate::fault::MicroFault;
 use crate::micro_op::MicroOp;
+use crate::starts::paths_of_files;
 use crate::sync_point::SyncPoint;
 use cs_names::Path;
 use cs_names::limits::MICRO_OPERATIONS;
-use cs_trace::{Profile, Trace};
+use cs_trace::{Trace, Version};
 use std::alloc::Global;
 use std::marker::Model;
 
-/// The micro-operations of a trace, MICRO_OPERATIONS at most, with its sync points, the paths of the
-/// files at its start, and its profile. Contracts see the three lists and the profile.
+/// The micro-operations of a trace, MICRO_OPERATIONS at most, with its sync points, the paths of
+/// the files at its start, and its version. Contracts see the three lists and the version.
 #[derive(Debug, Drop)]
 pub struct Micros {
     ops: Vec<MicroOp>,
     syncs: Vec<SyncPoint>,
-    starts: Vec<Path>,
-    profile: Profile,
+    starts: Vec<Vec<Path>>,
+    version: Version,
 }
 
 impl Model for Micros {
-    ghost use Rattle.std.specs.Prelude.{◌≤◌, length};
+    ghost use Rattle.std.specs.Prelude.{◌≤◌, length, map};
     ghost use Rattle.cs_names.specs.declared.limits.TheConstants.{MICRO_OPERATIONS};
     ghost use Rattle.cs_micro.specs.Micros.{Micros};
 
@@ -36,8 +36,8 @@ impl Model for Micros {
     ghost view = { λ micros. record {
       ops = micros.ops.items;
       syncs = micros.syncs.items;
-      starts = micros.starts.items;
-      profile = micros.profile;
+      starts = map (λ paths. paths.items) micros.starts.items;
+      version = micros.version;
     } };
 
     ghost invariant = { λ micros. length micros.ops.items ≤ MICRO_OPERATIONS };
@@ -59,40 +59,46 @@ impl Micros {
         self.syncs.as_slice()
     }
 
-    /// The paths of the files at the start, in the order of their numbers.
-    pub fn starts(&self) -> &[Path]
-        ensures { result.now ≡ self.now.starts }
+    /// The paths of each file at the start, in the order of the files' numbers: its own, and then
+    /// those of the start lines that link it.
+    pub fn starts(&self) -> &[Vec<Path>]
+        ensures { map (λ paths. paths.items) result.now ≡ self.now.starts }
     {
         self.starts.as_slice()
     }
 
-    /// Which directory operations the trace's file system keeps in order.
-    pub fn profile(&self) -> Profile
-        ensures { result ≡ self.now.profile }
+    /// The trace's version: the size of a block, and what the file system keeps in order.
+    pub fn version(&self) -> Version
+        ensures { result ≡ self.now.version }
     {
-        self.profile
+        self.version
     }
 }
 
-/// The trace's operations as micro-operations, with its sync points. TooMany is answered where
-/// there are more than MICRO_OPERATIONS of them, and Memory never in its place; nor is it where
-/// there is nothing to keep.
+/// The trace's operations as micro-operations, with its sync points. The result is TooMany if there
+/// are more than MICRO_OPERATIONS of them, and is Memory only if there is something to keep.
 pub fn break_up(alloc: Global, trace: &Trace) -> Result<Micros, MicroFault>
     ensures value { IfOk result (λ micros. micros ≡ micros_in trace.now) }
-    ensures many { IsErrOf result MicroFault.TooMany ↔ (MICRO_OPERATIONS < length (micro_operations_of trace.now.operations)) }
-    ensures legal { IfOk result (λ micros. AreLegal (start_paths trace.now) (length micros.starts) micros.ops) }
+    ensures many { IsErrOf result MicroFault.TooMany
+        ↔ (MICRO_OPERATIONS
+        < length (micro_operations_of (block_of_version trace.now.version) trace.now.operations)) }
+    ensures legal { IfOk result
+        (λ micros. AreLegal (block_of_version trace.now.version) (start_paths trace.now)
+        (length micros.starts) micros.ops) }
     ensures memory { IsErrOf result MicroFault.Memory → HoldsAny (micros_in trace.now) }
 {
+    let version = trace.version();
+    let block = version.block_size();
     let operations = trace.operations();
-    if !has_room(operations) {
+    if !has_room(block, operations) {
         return Err(MicroFault::TooMany);
     }
-    let (ops, syncs) = broken_up(alloc, operations)?;
-    let starts = copy_paths(alloc, trace.files())?;
+    let (ops, syncs) = broken_up(alloc, block, operations)?;
+    let starts = paths_of_files(alloc, trace.files(), trace.links())?;
     Ok(Micros {
         ops,
         syncs,
         starts,
-        profile: trace.profile(),
+        version,
     })
 }

@@ -1,4 +1,4 @@
-//! Where an application waits for the disk.
+//! Points of a trace at which an application waits for the disk.
 use cs_trace::Covers;
 
 /// A sync point: what an fsync or a sync waits for.
@@ -6,6 +6,6 @@ use cs_trace::Covers;
 pub struct SyncPoint {
     /// How many micro-operations come before it.
     pub at: usize,
-    /// What it covers: one file, the entries of one directory, or everything.
+    /// What it covers: one file or a range of it, the entries of one directory, or everything.
     pub covers: Covers,
 }

@@ -1,13 +1,13 @@
 -- Two values that are told apart by `==` differ, and no others do.
-use Rattle.std.proofs.Common.{◌≡◌, ℕ, true, false, ◌&&◌, List, rules, refl, ap, subst}
+use Rattle.std.proofs.Common.{◌≡◌, ◌==◌, ℕ, true, false, ◌&&◌, List, rules, refl, ap, subst}
 use Rattle.std.specs.Bool.{Decides}
 use Rattle.std.proofs.lemmas.Slice.Eq.{bytes_eq-Decides, slice_eq-Decides}
 use Rattle.cs_names.specs.Paths.{path_eq}
 use Rattle.cs_trace.specs.declared.operation.Node.{Node}
 use Rattle.cs_trace.specs.declared.operation.Operation.{Operation}
-use Rattle.cs_trace.specs.declared.operation.Operation.TheVariants.{Creat, Mkdir, Unlink, Rmdir, Rename, Write, Truncate, SetAttr, Sync, Say}
+use Rattle.cs_trace.specs.declared.operation.Operation.TheVariants.{Creat, Mkdir, Link, Unlink, Rmdir, Rename, Write, Truncate, SetAttr, Sync, Say}
 use Rattle.cs_trace.specs.declared.operation.Covers.{Covers}
-use Rattle.cs_trace.specs.declared.operation.Covers.TheVariants.{All, File, Directory}
+use Rattle.cs_trace.specs.declared.operation.Covers.TheVariants.{All, File, Range, Directory}
 use Rattle.cs_trace.specs.declared.operation.Rights.{Rights}
 use Rattle.cs_trace.specs.declared.operation.Target.{Target}
 use Rattle.cs_trace.specs.declared.operation.Target.TheVariants as targets
@@ -34,9 +34,10 @@ differ : {A : Type 0} → false ≡ true → A
 differ e = cc
 
 covers_true : (a b : Covers) → covers.TheImpl.eq-value.it a b ≡ true → a ≡ b
-covers_true All other = elim other as (λ (x : Covers). covers.TheImpl.eq-value.it All x ≡ true → All ≡ x) [ All ↦ λ e. refl | File n ↦ differ | Directory p ↦ differ ]
-covers_true (File n) other = elim other as (λ (x : Covers). covers.TheImpl.eq-value.it (File n) x ≡ true → File n ≡ x) [ All ↦ differ | File m ↦ λ e. search rules | Directory p ↦ differ ]
-covers_true (Directory p) other = elim other as (λ (x : Covers). covers.TheImpl.eq-value.it (Directory p) x ≡ true → Directory p ≡ x) [ All ↦ differ | File n ↦ differ | Directory q ↦ λ e. ap Directory ((path_decides p q).0 e) ]
+covers_true All other = elim other as (λ (x : Covers). covers.TheImpl.eq-value.it All x ≡ true → All ≡ x) [ All ↦ λ e. refl | _ ↦ differ ]
+covers_true (File n) other = elim other as (λ (x : Covers). covers.TheImpl.eq-value.it (File n) x ≡ true → File n ≡ x) [ File m ↦ λ e. search rules | _ ↦ differ ]
+covers_true (Range n o l) other = elim other as (λ (x : Covers). covers.TheImpl.eq-value.it (Range n o l) x ≡ true → Range n o l ≡ x) [ Range n' o' l' ↦ λ e. search rules | _ ↦ differ ]
+covers_true (Directory p) other = elim other as (λ (x : Covers). covers.TheImpl.eq-value.it (Directory p) x ≡ true → Directory p ≡ x) [ Directory q ↦ λ e. ap Directory ((path_decides p q).0 e) | _ ↦ differ ]
 
 target_true : (a b : Target) → target.TheImpl.eq-value.it a b ≡ true → a ≡ b
 target_true (targets.File n) other = elim other as (λ (x : Target). target.TheImpl.eq-value.it (targets.File n) x ≡ true → targets.File n ≡ x) [ targets.File m ↦ λ e. search rules | targets.Directory p ↦ differ ]
@@ -58,11 +59,13 @@ recipe_decides a b = search (rules, bytes_eq-Decides)
 covers_own : (a : Covers) → covers.TheImpl.eq-value.it a a ≡ true
 covers_own All = refl
 covers_own (File n) = search rules
+covers_own (Range n o l) = search rules
 covers_own (Directory p) = (path_decides p p).1 refl
 
 operation_true : (a b : Operation) → operation.TheImpl.eq-value.it a b ≡ true → a ≡ b
 operation_true (Creat p f r) other = elim other as (λ (x : Operation). operation.TheImpl.eq-value.it (Creat p f r) x ≡ true → Creat p f r ≡ x) [ Creat p' f' r' ↦ λ e. search (rules, path_decides, rights_decides) | _ ↦ differ ]
 operation_true (Mkdir p r) other = elim other as (λ (x : Operation). operation.TheImpl.eq-value.it (Mkdir p r) x ≡ true → Mkdir p r ≡ x) [ Mkdir p' r' ↦ λ e. search (rules, path_decides, rights_decides) | _ ↦ differ ]
+operation_true (Link p f) other = elim other as (λ (x : Operation). operation.TheImpl.eq-value.it (Link p f) x ≡ true → Link p f ≡ x) [ Link p' f' ↦ λ e. search (rules, path_decides) | _ ↦ differ ]
 operation_true (Unlink p) other = elim other as (λ (x : Operation). operation.TheImpl.eq-value.it (Unlink p) x ≡ true → Unlink p ≡ x) [ Unlink p' ↦ λ e. ap Unlink ((path_decides p p').0 e) | _ ↦ differ ]
 operation_true (Rmdir p) other = elim other as (λ (x : Operation). operation.TheImpl.eq-value.it (Rmdir p) x ≡ true → Rmdir p ≡ x) [ Rmdir p' ↦ λ e. ap Rmdir ((path_decides p p').0 e) | _ ↦ differ ]
 operation_true (Rename p q) other = elim other as (λ (x : Operation). operation.TheImpl.eq-value.it (Rename p q) x ≡ true → Rename p q ≡ x) [ Rename p' q' ↦ λ e. search (rules, path_decides) | _ ↦ differ ]
@@ -75,6 +78,7 @@ operation_true Say other = elim other as (λ (x : Operation). operation.TheImpl.
 operation_own : (a : Operation) → operation.TheImpl.eq-value.it a a ≡ true
 operation_own (Creat p f r) = search (rules, path_decides, rights_decides)
 operation_own (Mkdir p r) = search (rules, path_decides, rights_decides)
+operation_own (Link p f) = search (rules, path_decides)
 operation_own (Unlink p) = (path_decides p p).1 refl
 operation_own (Rmdir p) = (path_decides p p).1 refl
 operation_own (Rename p q) = search (rules, path_decides)
@@ -89,3 +93,6 @@ operation_decides a b = (operation_true a b, λ same. subst (λ x. operation.The
 
 pub entry_decides : (a b : List (List ℕ) × Record) → Decides (path_eq a.0 b.0 && record_eq.TheImpl.eq-value.it a.1 b.1) (a ≡ b)
 entry_decides a b = search (rules, path_decides, record_decides)
+
+pub link_decides : (a b : List (List ℕ) × ℕ) → Decides (path_eq a.0 b.0 && a.1 == b.1) (a ≡ b)
+link_decides a b = search (rules, path_decides)

@@ -22,13 +22,13 @@ use Rattle.cs_trace.specs.Traces.{Trace, records_made}
 use Rattle.cs_trace.specs.declared.operation.Operation.{Operation}
 use Rattle.cs_trace.specs.declared.operation.Rights.{Rights}
 use Rattle.cs_trace.specs.declared.operation.Target.TheVariants as targets
-use Rattle.cs_trace.specs.declared.operation.Operation.TheVariants.{Creat, Mkdir, Unlink, Rmdir, Rename, Write, Truncate, SetAttr, Sync}
+use Rattle.cs_trace.specs.declared.operation.Operation.TheVariants.{Creat, Mkdir, Link, Unlink, Rmdir, Rename, Write, Truncate, SetAttr, Sync}
 use Rattle.cs_trace.specs.declared.operation.Operation.TheVariants as operations
 use Rattle.cs_micro.specs.Blocks.{block_write, block_writes, touched_blocks}
 use Rattle.cs_micro.specs.MicroOperations.{grown, micro_operations_of, micros_of, same_rights}
-use Rattle.cs_micro.specs.Micros.{micros_in}
+use Rattle.cs_micro.specs.Micros.{block_of_version, micros_in}
 use Rattle.cs_micro.specs.declared.micro_op.MicroOp.{MicroOp}
-use Rattle.cs_micro.specs.declared.micro_op.MicroOp.TheVariants.{CreateDirEntry, DeleteDirEntry, MoveDirEntry, ChangeFileSize, Say}
+use Rattle.cs_micro.specs.declared.micro_op.MicroOp.TheVariants.{CreateDirEntry, DeleteDirEntry, MoveDirEntry, LinkDirEntry, ChangeFileSize, Say}
 use Rattle.cs_micro.specs.declared.micro_op.MicroOp.TheVariants as micro
 use Rattle.cs_apm.specs.Rules.{op_at}
 use Rattle.cs_apm.specs.Laws.Members.{members_run, run}
@@ -41,6 +41,7 @@ use Rattle.cs_plan.proofs.Counting.{count_push, first_more}
 -- it makes an entry
 abbrev pub makes : MicroOp → Bool
 makes (CreateDirEntry p node rights) = true
+makes (LinkDirEntry p file) = true
 makes _ = false
 
 -- ---- one micro-operation
@@ -91,6 +92,7 @@ one_more : (m : Entries) (o : MicroOp) → len (entries_after m o) ≤ len m + c
 one_more m (CreateDirEntry p node rights) = insert_most m p (entry_made node rights)
 one_more m (DeleteDirEntry p kind) = (let h = remove_most m p in omega (arith, h))
 one_more m (MoveDirEntry p q) = (let h = moved_most m p q (get m p) refl in omega (arith, h))
+one_more m (LinkDirEntry p file) = insert_most m p (states.File file)
 one_more m (micro.SetAttr (targets.Directory p) rights) = (let h = owned_most m p rights (get m p) refl in omega (arith, h))
 one_more m _ = omega arith
 
@@ -135,43 +137,45 @@ none_made : {X : Type 0} (f : X → MicroOp) (xs : List X) → ((x : X) → make
 none_made f [] none = refl
 none_made f (x ∷ xs) none = sum_by-cons (λ o. cond (makes o) 1 0) (f x) (map f xs) ∙ ap (λ b. cond b 1 0 + count_by makes (map f xs)) (none x) ∙ omega (arith, none_made f xs none)
 
-blocks_make : (file offset : ℕ) (bytes : List ℕ) → count_by makes (block_writes file offset bytes) ≡ 0
+blocks_make : (b file offset : ℕ) (bytes : List ℕ) → count_by makes (block_writes b file offset bytes) ≡ 0
 unfolding block_writes
-blocks_make file offset bytes = none_made (block_write file offset bytes) (touched_blocks offset bytes) (λ _. refl)
+blocks_make b file offset bytes = none_made (block_write b file offset bytes) (touched_blocks b offset bytes) (λ _. refl)
 
-grown_make : (b : Bool) (file end : ℕ) → count_by makes (cond b (ChangeFileSize file end ∷ []) []) ≡ 0
+grown_make : (more : Bool) (file end : ℕ) → count_by makes (cond more (ChangeFileSize file end ∷ []) []) ≡ 0
 grown_make true file end = refl
 grown_make false file end = refl
 
-written_make : (b : Bool) (file size offset : ℕ) (bytes : List ℕ) → count_by makes (cond b [] (grown file size (offset + length bytes) ++ block_writes file offset bytes)) ≡ 0
-written_make true file size offset bytes = refl
-written_make false file size offset bytes =
-    sum_by-append (λ o. cond (makes o) 1 0) (grown file size (offset + length bytes)) (block_writes file offset bytes)
-    ∙ omega (arith, grown_make (nat_lt size (offset + length bytes)) file (offset + length bytes), blocks_make file offset bytes)
+written_make : (none : Bool) (b file size offset : ℕ) (bytes : List ℕ) → count_by makes (cond none [] (grown file size (offset + length bytes) ++ block_writes b file offset bytes)) ≡ 0
+written_make true b file size offset bytes = refl
+written_make false b file size offset bytes =
+    sum_by-append (λ o. cond (makes o) 1 0) (grown file size (offset + length bytes)) (block_writes b file offset bytes)
+    ∙ omega (arith, grown_make (nat_lt size (offset + length bytes)) file (offset + length bytes), blocks_make b file offset bytes)
 
 unless_makes : (b : Bool) (o : MicroOp) → makes o ≡ false → count_by makes (cond b [] (o ∷ [])) ≡ 0
 unless_makes true o none = refl
 unless_makes false o none = sum_by-cons (λ o. cond (makes o) 1 0) o [] ∙ ap (λ b. cond b 1 0 + count_by makes []) none
 
-made_of : (o : Operation) → count_by makes (micros_of o) ≡ made_by o
-made_of (Creat p file rights) = refl
-made_of (Mkdir p rights) = refl
-made_of (Unlink p) = refl
-made_of (Rmdir p) = refl
-made_of (Rename p q) = unless_makes (path_eq p q) (MoveDirEntry p q) refl
-made_of (Write file size offset bytes) = written_make (nat_eq (length bytes) 0) file size offset bytes
-made_of (Truncate file size to) = unless_makes (nat_eq size to) (ChangeFileSize file to) refl
-made_of (SetAttr target before after) = unless_makes (same_rights before after) (micro.SetAttr target after) refl
-made_of (Sync covers) = refl
-made_of operations.Say = refl
+-- b is the block size
+made_of : (b : ℕ) (o : Operation) → count_by makes (micros_of b o) ≡ made_by o
+made_of b (Creat p file rights) = refl
+made_of b (Mkdir p rights) = refl
+made_of b (Link p file) = refl
+made_of b (Unlink p) = refl
+made_of b (Rmdir p) = refl
+made_of b (Rename p q) = unless_makes (path_eq p q) (MoveDirEntry p q) refl
+made_of b (Write file size offset bytes) = written_make (nat_eq (length bytes) 0) b file size offset bytes
+made_of b (Truncate file size to) = unless_makes (nat_eq size to) (ChangeFileSize file to) refl
+made_of b (SetAttr target before after) = unless_makes (same_rights before after) (micro.SetAttr target after) refl
+made_of b (Sync covers) = refl
+made_of b operations.Say = refl
 
-pub made_all : (trace : List Operation) → count_by makes (micro_operations_of trace) ≡ sum_by made_by trace
+pub made_all : (b : ℕ) (trace : List Operation) → count_by makes (micro_operations_of b trace) ≡ sum_by made_by trace
 unfolding micro_operations_of
-made_all [] = refl
-made_all (o ∷ os) =
-    sum_by-append (λ o. cond (makes o) 1 0) (micros_of o) (flat_map micros_of os)
-    ∙ ap (λ n. n + count_by makes (flat_map micros_of os)) (made_of o)
-    ∙ ap (λ n. made_by o + n) (made_all os)
+made_all b [] = refl
+made_all b (o ∷ os) =
+    sum_by-append (λ o. cond (makes o) 1 0) (micros_of b o) (flat_map (micros_of b) os)
+    ∙ ap (λ n. n + count_by makes (flat_map (micros_of b) os)) (made_of b o)
+    ∙ ap (λ n. made_by o + n) (made_all b os)
     ∙ sym (sum_by-cons made_by o os)
 
 -- ---- the state of a set
@@ -206,7 +210,7 @@ paths_most t needs places allowed =
     = ap (λ s. s.paths) (members_run after start ops (length ops) places allowed.ascending allowed.in_range) in
     let most = run_most (is_member places) start ops (length ops) in
     let first = start_most t in
-    let made = made_first ops (length ops) (omega arith) ∙ ap (count_by makes) (take_all (length ops) ops (omega arith)) ∙ made_all t.operations in
+    let made = made_first ops (length ops) (omega arith) ∙ ap (count_by makes) (take_all (length ops) ops (omega arith)) ∙ made_all (block_of_version t.version) t.operations in
     subst (λ m. len m ≤ records_made t) (sym same) (omega (arith, most, first, made))
 
 len_map_values : {X Y : Type 0} (f : X → Y) (m : FinMap path_cmp X) → len (map_values f m) ≡ len m

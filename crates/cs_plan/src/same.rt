@@ -3,7 +3,7 @@ ghost use Rattle.std.specs.Prelude.{◌≡◌, ◌↔◌, IsTrue};
 
 use crate::recipe::Recipe;
 use cs_names::Path;
-use cs_trace::{Node, Operation, Profile, Trace};
+use cs_trace::{Node, Operation, Trace, Version};
 use cs_tree_model::Record;
 
 pub fn are_same_recipes(recipes: &[Recipe], others: &[Recipe]) -> bool
@@ -36,17 +36,24 @@ fn are_same_paths(paths: &[Path], others: &[Path]) -> bool
     paths == others
 }
 
-fn are_same_profiles(profile: Profile, other: Profile) -> bool
-    ensures { IsTrue result ↔ (profile ≡ other) }
+fn are_same_links(links: &[(Path, u32)], others: &[(Path, u32)]) -> bool
+    ensures { IsTrue result ↔ (links.now ≡ others.now) }
 {
-    profile == other
+    links == others
 }
 
-/// Whether two traces have the same start, the same operations and the same profile. It takes no memory.
+fn are_same_versions(version: Version, other: Version) -> bool
+    ensures { IsTrue result ↔ (version ≡ other) }
+{
+    version == other
+}
+
+/// Whether two traces have the same version, with profile and block size, the same start and the same
+/// operations. It takes no memory.
 pub fn is_same_trace(trace: &Trace, other: &Trace) -> bool
     ensures { IsTrue result ↔ (trace.now ≡ other.now) }
 {
-    if !are_same_profiles(trace.profile(), other.profile()) {
+    if !are_same_versions(trace.version(), other.version()) {
         return false;
     }
     if !are_same_operations(trace.operations(), other.operations()) {
@@ -58,5 +65,5 @@ pub fn is_same_trace(trace: &Trace, other: &Trace) -> bool
     if !are_same_nodes(trace.nodes(), other.nodes()) {
         return false;
     }
-    are_same_paths(trace.files(), other.files())
+    are_same_paths(trace.files(), other.files()) && are_same_links(trace.links(), other.links())
 }

@@ -1,9 +1,12 @@
 -- What workers publish.
-use Rattle.std.specs.Prelude.{ℕ, ◌&&◌, Bool, true, nat_le, List, [], length, replicate}
+use Rattle.std.specs.Prelude.{ℕ, ⊤, ◌&&◌, Bool, true, nat_le, List, [], length, replicate}
 use Rattle.cs_names.specs.declared.limits.TheConstants.{WORKERS}
 use Rattle.cs_plan.specs.Scenes.{Scene}
 use Rattle.cs_registry.specs.Registries.{Registry}
 use Rattle.cs_users.specs.Rows.{Row}
+use Rattle.cs_shared.specs.Serving.{IsOnly}
+use Rattle.cs_publish.specs.declared.joining.Known.{Known}
+use Rattle.cs_publish.specs.declared.joining.Known.TheVariants.{ByType, ByContent}
 
 -- how many workers there may be
 abbrev pub is_crew : ℕ → Bool
@@ -18,3 +21,9 @@ all_published scene users =
       published = replicate (length scene.plan) true;
       runs = [];
     }
+
+-- states of the scene may be published in a server's registry of it: by its type, if that knows no
+-- other scene
+abbrev pub MayPublish : (Scene → Type 0) → Known → Scene → Type 0
+MayPublish is_scene ByType scene = IsOnly is_scene scene
+MayPublish is_scene ByContent scene = ⊤

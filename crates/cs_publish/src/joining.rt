@@ -1,7 +1,7 @@
 //! The states of a scene, published in a registry that threads share, while others use it.
 ghost use Rattle.std.specs.Prelude.{◌≡◌, ◌↔◌, ◌≤◌, false, length, IfOk, IsErrOf};
 ghost use Rattle.std.specs.Arc.{arc_value};
-ghost use Rattle.cs_publish.specs.Crews.{is_crew};
+ghost use Rattle.cs_publish.specs.Crews.{MayPublish, is_crew};
 ghost use Rattle.cs_shared.specs.Serving.{IsOnly};
 
 use crate::crew::{hire, is_crew, next_made, numbers_below};
@@ -18,23 +18,33 @@ use std::sync::{Arc, Wait};
 use std::thread;
 use std::thread::Threads;
 
+/// How it is known that a state is one of the registry's scene.
+#[derive(Clone, Copy, PartialEq, Eq)]
+pub(crate) enum Known {
+    /// The server's type knows no other scene.
+    ByType,
+    /// The contents of the scenes are compared.
+    ByContent,
+}
+
 /// Publishes so many states that the workers make, each under a lock of its own: how many weren't
 /// published before.
 fn collect_into<S: Served, N: Staged, R: Wait>(
     rt: &R,
     alloc: Global,
     registry: &SharedRegistry<S>,
+    known: Known,
     count: u32,
     made: Receiver<FromWorker<N>>,
 ) -> Result<u32, Lost>
-    requires only { IsOnly S.is_scene registry.now }
+    requires may { MayPublish S.is_scene known registry.now }
     requires own { IsOnly N.is_scene registry.now }
     ensures { IfOk result (λ published. published ≤ count) }
 {
     let mut published = 0;
     for _made in 0..count {
         let state = next_made(rt, &made)?;
-        published += publish_one(rt, alloc, registry, state.into_state())?;
+        published += publish_one(rt, alloc, registry, known, state.into_state())?;
     }
     if registry.missing(rt) > 0 {
         return Err(Lost::Channel);
@@ -42,22 +52,27 @@ fn collect_into<S: Served, N: Staged, R: Wait>(
     Ok(published)
 }
 
-/// Publishes a state of the registry's scene: 1, or 0 where it stood already.
+/// Publishes a state of the registry's scene: 1, or 0 if it was published before.
 fn publish_one<S: Served, R: Wait>(
     rt: &R,
     alloc: Global,
     registry: &SharedRegistry<S>,
+    known: Known,
     state: Published,
 ) -> Result<u32, Lost>
-    requires only { IsOnly S.is_scene registry.now }
+    requires may { MayPublish S.is_scene known registry.now }
     requires own { state.scene ≡ registry.now }
     ensures { IfOk result (λ one. one ≤ 1) }
 {
-    match registry.publish_own(rt, alloc, state) {
+    let done = match known {
+        Known::ByType => registry.publish_own(rt, alloc, state),
+        Known::ByContent => registry.publish(rt, alloc, state),
+    };
+    match done {
         Ok(()) => Ok(1),
         Err(PublishFault::Twice) => Ok(0),
         Err(PublishFault::Memory) => Err(Lost::Memory),
-        Err(PublishFault::Stranger) => unreachable!(),
+        Err(PublishFault::Stranger) => Err(Lost::Channel),
     }
 }
 
@@ -66,13 +81,14 @@ fn gather_into<'s, S: Served, N: Staged, R: Threads + Wait + Sync, G: Gate>(
     rt: &'s R,
     alloc: Global,
     registry: &'s SharedRegistry<S>,
+    known: Known,
     count: u32,
     stage: &'s Stage<N>,
     numbers: &'s Receiver<u32>,
     workers: u32,
     gate: &'s G,
 ) -> Result<u32, Lost>
-    requires only { IsOnly S.is_scene registry.now }
+    requires may { MayPublish S.is_scene known registry.now }
     requires own { IsOnly N.is_scene registry.now }
     ensures { IfOk result (λ published. published ≤ count) }
 {
@@ -80,12 +96,12 @@ fn gather_into<'s, S: Served, N: Staged, R: Threads + Wait + Sync, G: Gate>(
         thread::scope_env(),
         rt,
         move |scope| -> Result<u32, Lost>
-            requires only { IsOnly S.is_scene registry.now }
+            requires may { MayPublish S.is_scene known registry.now }
             requires own { IsOnly N.is_scene registry.now }
             ensures { IfOk result (λ published. published ≤ count) }
         {
             let made = hire(scope, rt, alloc, stage, numbers, workers, gate)?;
-            collect_into(rt, alloc, registry, count, made)
+            collect_into(rt, alloc, registry, known, count, made)
         },
     )
 }
@@ -95,11 +111,12 @@ fn publish_scene_into<S: Served, N: Staged, R: Threads + Wait + Sync, G: Gate>(
     rt: &R,
     alloc: Global,
     registry: &SharedRegistry<S>,
+    known: Known,
     scene: Arc<Scene>,
     workers: u32,
     gate: &G,
 ) -> Result<u32, Lost>
-    requires only { IsOnly S.is_scene registry.now }
+    requires may { MayPublish S.is_scene known registry.now }
     requires here { N.is_scene (arc_value scene) }
     requires own { IsOnly N.is_scene registry.now }
     ensures { IfOk result (λ published. published ≤ length (arc_value scene).plan) }
@@ -107,14 +124,55 @@ fn publish_scene_into<S: Served, N: Staged, R: Threads + Wait + Sync, G: Gate>(
     let count = scene.plan().len() as u32;
     let numbers = numbers_below(rt, alloc, count)?;
     let stage = Stage::<N>::new(scene);
-    gather_into(rt, alloc, registry, count, &stage, &numbers, workers, gate)
+    gather_into(
+        rt, alloc, registry, known, count, &stage, &numbers, workers, gate,
+    )
+}
+
+/// The same for the registry's scene, by as many workers as there may be.
+fn publish_by<S: Served, R: Threads + Wait + Sync, G: Gate>(
+    rt: &R,
+    alloc: Global,
+    registry: &SharedRegistry<S>,
+    known: Known,
+    workers: u32,
+    gate: &G,
+) -> Result<u32, PublishAllFault>
+    requires { MayPublish S.is_scene known registry.now }
+    ensures few { IfOk result (λ published. published ≤ length registry.now.plan) }
+    ensures crew { IsErrOf result PublishAllFault.Workers ↔ (is_crew workers ≡ false) }
+{
+    if !is_crew(workers) {
+        return Err(PublishAllFault::Workers);
+    }
+    let Ok(scene) = Arc::try_clone(registry.scene()) else {
+        return Err(PublishAllFault::Memory);
+    };
+    publish_scene_into::<S, Brand, R, G>(rt, alloc, registry, known, scene, workers, gate).map_err(
+        fault_of,
+    )
 }
 
 /// Publishes the states of the registry's scene, made by so many workers, while other threads may
 /// use the registry: how many it published. Each is published as soon as it is made, and one that
-/// stood already is passed over. No content is compared: the type knows no other scene. The faults
-/// are those of `publish_all`; what was published before one stays.
+/// is published already is passed over. The faults are those of `publish_all`; what was published
+/// before one stays. The content of a state's scene is compared with the registry's, which takes
+/// long for a large trace.
 pub fn publish_into<S: Served, R: Threads + Wait + Sync, G: Gate>(
+    rt: &R,
+    alloc: Global,
+    registry: &SharedRegistry<S>,
+    workers: u32,
+    gate: &G,
+) -> Result<u32, PublishAllFault>
+    ensures few { IfOk result (λ published. published ≤ length registry.now.plan) }
+    ensures crew { IsErrOf result PublishAllFault.Workers ↔ (is_crew workers ≡ false) }
+{
+    publish_by(rt, alloc, registry, Known::ByContent, workers, gate)
+}
+
+/// The same for a registry whose type knows no other scene: no content is compared.
+pub fn publish_own_into<S: Served, R: Threads + Wait + Sync, G: Gate>(
     rt: &R,
     alloc: Global,
     registry: &SharedRegistry<S>,
@@ -125,13 +183,5 @@ pub fn publish_into<S: Served, R: Threads + Wait + Sync, G: Gate>(
     ensures few { IfOk result (λ published. published ≤ length registry.now.plan) }
     ensures crew { IsErrOf result PublishAllFault.Workers ↔ (is_crew workers ≡ false) }
 {
-    if !is_crew(workers) {
-        return Err(PublishAllFault::Workers);
-    }
-    let Ok(scene) = Arc::try_clone(registry.scene()) else {
-        return Err(PublishAllFault::Memory);
-    };
-    publish_scene_into::<S, Brand, R, G>(rt, alloc, registry, scene, workers, gate).map_err(
-        fault_of,
-    )
+    publish_by(rt, alloc, registry, Known::ByType, workers, gate)
 }

@@ -10,5 +10,5 @@ mod stage;
 
 pub use fault::PublishAllFault;
 pub use gate::{Gate, NoGate};
-pub use joining::publish_into;
+pub use joining::{publish_into, publish_own_into};
 pub use publishing::publish_all;

@@ -3,7 +3,7 @@ ghost use Rattle.std.specs.Prelude.{◌≡◌, IfOk};
 ghost use Rattle.std.specs.Arc.{arc_value};
 ghost use Rattle.cs_plan.specs.Scenes as model;
 
-use crate::gate::LetThrough;
+use crate::gate::{Gate, LetThrough};
 use cs_plan::{MakeFault, Published, Scene};
 use std::alloc::Global;
 use std::marker::{Brand, Model, PhantomData};
@@ -77,8 +77,12 @@ impl<N: Staged> Stage<N> {
     }
 
     /// The state of that number, made anew.
-    pub(crate) fn make(&self, alloc: Global, number: LetThrough) -> Result<Made<N>, MakeFault>
-        ensures number { IfOk result (λ made. made.number ≡ number) }
+    pub(crate) fn make<G: Gate>(
+        &self,
+        alloc: Global,
+        number: LetThrough<'_, G>,
+    ) -> Result<Made<N>, MakeFault>
+        ensures number { IfOk result (λ made. made.number ≡ number.entry) }
         ensures scene { IfOk result (λ made. made.scene ≡ self.now) }
     {
         let state = Scene::make(alloc, &self.scene, number.number())?;

@@ -28,7 +28,7 @@ module _ {H : Type 0} (r : Registry H) (key : Key) (given : Option H) where
   pub when_new : is_published r key.number ≡ true → place_of key r.runs ≡ None → room_ends r.runs None ≡ false → found r key given ≡ made r key given
   when_new published none room = rw (published, none, room) refl
 
-module _ {H : Type 0} (is_fresh : ℕ → Tree → List Row → H → Type 0) (r : Registry H) (key : Key) where
+module _ {H : Type 0} (is_fresh : Key → Tree → List Row → H → Type 0) (r : Registry H) (key : Key) where
   pub finds_none : is_published r key.number ≡ false → Finds is_fresh r key (Err Unpublished) r
   finds_none missing = record { given = None; fresh = tt; answers = sym (when_unpublished r key None missing) }
 
@@ -61,7 +61,7 @@ module _ {H : Type 0} (is_fresh : ℕ → Tree → List Row → H → Type 0) (r
         pub finds_short : (runs : Runs H) → runs ≡ r.runs → Finds is_fresh r key (Err Memory) (record r { runs = runs })
         finds_short runs same = record { given = None; fresh = tt; answers = (λ i. (Err Memory, record r { runs = same i })) ∙ sym (when_new r key None published none room) }
 
-        pub finds_new : (place : ℕ) (runs : Runs H) (held : H) → place ≡ length r.runs → runs ≡ with_run r.runs key held → IsNew is_fresh r key.number held → Finds is_fresh r key (Ok place) (record r { runs = runs })
+        pub finds_new : (place : ℕ) (runs : Runs H) (held : H) → place ≡ length r.runs → runs ≡ with_run r.runs key held → IsNew is_fresh r key held → Finds is_fresh r key (Ok place) (record r { runs = runs })
         finds_new place runs held last with new = record {
           given = Some held;
           fresh = new;

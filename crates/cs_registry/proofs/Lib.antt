@@ -3,3 +3,4 @@ pub mod Digits
 pub mod Finding
 pub mod Keeping
 pub mod Telling
+pub mod Keyed

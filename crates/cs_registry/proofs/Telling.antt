@@ -53,12 +53,12 @@ placed_last t es e none own =
     let inside : nat_lt (length es) (length (ks ++ e.0 ∷ [])) ≡ true = grind (arith, nat_tests, length_push ks e.0) in
     ap (position t) (map-append (λ x. x.0) es (e ∷ [])) ∙ rw (last, inside) refl
 
-module _ {H : Type 0} (is_fresh : ℕ → Tree → List Row → H → Type 0) (old : Registry H) (key : Key) where
-  new_run : (held : H) → IsNew is_fresh old key.number held → place_of key old.runs ≡ None → IsFound is_fresh old key (length old.runs) (record old { runs = with_run old.runs key held })
+module _ {H : Type 0} (is_fresh : Key → Tree → List Row → H → Type 0) (old : Registry H) (key : Key) where
+  new_run : (held : H) → IsNew is_fresh old key held → place_of key old.runs ≡ None → IsFound is_fresh old key (length old.runs) (record old { runs = with_run old.runs key held })
   new_run held new none = record {
     here = placed_last (same_key key) old.runs (key, _) none (same_key-laws.refl key);
     same = λ before there. absurd (none-some before (sym none ∙ there));
-    fresh = λ _. subst (λ (o : Option (Key × Found H)). IsSomeAnd (option_map (λ e. e.1.held) o) (IsNew is_fresh old key.number)) (sym (get_pushed_own old.runs _)) new;
+    fresh = λ _. subst (λ (o : Option (Key × Found H)). IsSomeAnd (option_map (λ e. e.1.held) o) (IsNew is_fresh old key)) (sym (get_pushed_own old.runs _)) new;
     others = λ other apart. get_pushed_other old.runs other _ apart;
   }
 
@@ -79,7 +79,7 @@ module _ {H : Type 0} (is_fresh : ℕ → Tree → List Row → H → Type 0) (o
   abbrev Told : Result ℕ FindFault × Registry H → Type 0
   Told told = IfOk told.0 (λ place. IsFound is_fresh old key place told.1)
 
-  told : (given : Option H) → IfSome given (IsNew is_fresh old key.number) → (published full : Bool) (o : Option ℕ) → is_published old key.number ≡ published → has_no_room old.runs key ≡ full → place_of key old.runs ≡ o → Told (found old key given)
+  told : (given : Option H) → IfSome given (IsNew is_fresh old key) → (published full : Bool) (o : Option ℕ) → is_published old key.number ≡ published → has_no_room old.runs key ≡ full → place_of key old.runs ≡ o → Told (found old key given)
   told given fresh false full o p n w = subst Told (sym (when_unpublished old key given p)) tt
   told given fresh true true o p n w = subst Told (sym (when_full old key given p n)) tt
   told given fresh true false (Some place) p n w = subst Told (sym (when_found old key given place p w (sym (ap (room_ends old.runs) w) ∙ n))) (old_run place _ refl w)
@@ -87,6 +87,6 @@ module _ {H : Type 0} (is_fresh : ℕ → Tree → List Row → H → Type 0) (o
   told (Some held) fresh true false None p n w = subst Told (sym (when_new old key (Some held) p w (sym (ap (room_ends old.runs) w) ∙ n))) (new_run held fresh w)
 
 -- a find that is granted gives the run of the key, and no other run changes
-pub tells : {H : Type 0} {is_fresh : ℕ → Tree → List Row → H → Type 0} {old new : Registry H} {key : Key} {answer : Result ℕ FindFault}
+pub tells : {H : Type 0} {is_fresh : Key → Tree → List Row → H → Type 0} {old new : Registry H} {key : Key} {answer : Result ℕ FindFault}
     → Finds is_fresh old key answer new → IfOk answer (λ place. IsFound is_fresh old key place new)
 tells {is_fresh = is_fresh} {old = old} {key = key} finds = subst (Told is_fresh old key) (sym finds.answers) (told is_fresh old key finds.given finds.fresh _ _ _ refl refl refl)

@@ -29,26 +29,26 @@ module _ {H : Type 0} where
       if has_no_room registry.runs key then (Err Full, registry) else
       option_map_or (found_again registry) (place_of key registry.runs) (made registry key given)
 
-  -- a value is new: of a number, over the tree of its state, with the users
-  abbrev pub IsNew : (ℕ → Tree → List Row → H → Type 0) → Registry H → ℕ → H → Type 0
-  IsNew is_fresh registry number held =
-      (tree : Tree) × (state_at registry.scene number ≡ Some tree)
-      × is_fresh number tree registry.users held
+  -- a value is new: of a key, over the tree of its state, with the users
+  abbrev pub IsNew : (Key → Tree → List Row → H → Type 0) → Registry H → Key → H → Type 0
+  IsNew is_fresh registry key held =
+      (tree : Tree) × (state_at registry.scene key.number ≡ Some tree)
+      × is_fresh key tree registry.users held
 
   -- the answer is the definition's for what memory gives, which is a new run or none
-  pub record Finds (is_fresh : ℕ → Tree → List Row → H → Type 0) (old : Registry H) (key : Key)
+  pub record Finds (is_fresh : Key → Tree → List Row → H → Type 0) (old : Registry H) (key : Key)
       (answer : Result ℕ FindFault) (new : Registry H) : Type 0 where
     pub given : Option H
-    pub fresh : IfSome given (IsNew is_fresh old key.number)
+    pub fresh : IfSome given (IsNew is_fresh old key)
     pub answers : (answer, new) ≡ found old key given
 
   -- the run of the key stands at the place: the one that stood there before, or a new one where
   -- there was none; no other run changes
-  pub record IsFound (is_fresh : ℕ → Tree → List Row → H → Type 0) (old : Registry H) (key : Key)
+  pub record IsFound (is_fresh : Key → Tree → List Row → H → Type 0) (old : Registry H) (key : Key)
       (place : ℕ) (new : Registry H) : Type 0 where
     pub here : place_of key new.runs ≡ Some place
     pub same : (before : ℕ) → place_of key old.runs ≡ Some before
         → (place ≡ before) × (held_at new.runs place ≡ held_at old.runs place)
     pub fresh : place_of key old.runs ≡ None
-        → IsSomeAnd (held_at new.runs place) (IsNew is_fresh old key.number)
+        → IsSomeAnd (held_at new.runs place) (IsNew is_fresh old key)
     pub others : (other : ℕ) → other ≢ place → slice_get new.runs other ≡ slice_get old.runs other

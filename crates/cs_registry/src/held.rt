@@ -3,7 +3,9 @@ ghost use Rattle.std.specs.Prelude.{ℕ, IfOk, List};
 ghost use Rattle.std.specs.Arc.{arc_value};
 ghost use Rattle.cs_tree_model.specs.Tree.{Tree};
 ghost use Rattle.cs_users.specs.Rows.{Row};
+ghost use Rattle.cs_registry.specs.Keys.{Key};
 
+use crate::key::RunKey;
 use cs_plan::Built;
 use cs_users::Users;
 use std::alloc::{AllocError, Global};
@@ -14,16 +16,16 @@ pub trait Held: Drop {
     /// Which trees may be published under a number.
     ghost admits: { ℕ → Tree → Type 0 };
 
-    /// The value is new: of that number, over that tree, with those users.
-    ghost is_fresh: { ℕ → Tree → List Row → Self → Type 0 };
+    /// The value is new: of that key, over that tree, with those users.
+    ghost is_fresh: { Key → Tree → List Row → Self → Type 0 };
 
-    /// What is kept of a new run of a state, over its tree, which all its runs share.
+    /// What is kept of the new run of a key, over the tree of its state, which all its runs share.
     fn fresh(
         alloc: Global,
-        number: u32,
+        key: &RunKey,
         lower: Arc<Built>,
         users: Arc<Users>,
     ) -> Result<Self, AllocError>
-        requires { admits number (arc_value lower) }
-        ensures { IfOk result (is_fresh number (arc_value lower) (arc_value users)) };
+        requires { admits key.now.number (arc_value lower) }
+        ensures { IfOk result (is_fresh key.now (arc_value lower) (arc_value users)) };
 }

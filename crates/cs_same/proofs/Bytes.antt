@@ -1,13 +1,12 @@
 -- One byte of a file: the operations that reach it say what it is.
-use Rattle.std.proofs.Common.{◌≡◌, ◌≢◌, ℕ, zero, suc, ◌+◌, ◌-◌, ◌*◌, ◌<◌, ◌≤◌, ◌==◌, ◌&&◌, Bool, true, false, cond, nat_le, nat_lt, List, [], ◌∷◌, ◌++◌, length, map, take, replicate, get_or, refl, sym, ap, ◌∙◌, subst, arith, ⊎_elim, length-append}
+use Rattle.std.proofs.Common.{◌≡◌, ◌≢◌, ℕ, zero, suc, ◌+◌, ◌-◌, ◌<◌, ◌≤◌, ◌==◌, ◌&&◌, Bool, true, false, cond, nat_le, nat_lt, List, [], ◌∷◌, ◌++◌, length, map, take, replicate, get_or, refl, sym, ap, ◌∙◌, subst, arith, ⊎_elim, length-append}
 use Rattle.std.proofs.lemmas.Bool.{cases_eq, cases_lt, eq-eqb, false≢true, le-leb, le-ltb, lt-ltb, ne_eqb}
 use Rattle.std.proofs.lemmas.List.{ext_get_or, get_or-take, get_or_past, length-replicate, length-take, length-take-le}
 use Rattle.std.specs.Prelude.{fold}
 use Rattle.cs_names.specs.declared.limits.TheConstants.{FILE_BYTES}
 use Rattle.cs_tree_model.specs.Laws.Bytes.{zeros_behind}
-use Rattle.cs_micro.specs.declared.blocks.TheConstants.{BLOCK_BYTES}
 use Rattle.cs_micro.specs.declared.micro_op.MicroOp.{MicroOp}
-use Rattle.cs_micro.specs.declared.micro_op.MicroOp.TheVariants.{CreateDirEntry, DeleteDirEntry, MoveDirEntry, ChangeFileSize, WriteBlock, SetAttr, Say}
+use Rattle.cs_micro.specs.declared.micro_op.MicroOp.TheVariants.{CreateDirEntry, DeleteDirEntry, MoveDirEntry, LinkDirEntry, ChangeFileSize, WriteBlock, SetAttr, Say}
 use Rattle.cs_apm.specs.Contents.{content_after, content_left}
 use Rattle.cs_apm.specs.Rules.{op_at}
 use Rattle.cs_apm.specs.States.{Content, overwritten, resized, visible}
@@ -109,14 +108,15 @@ module _ (floor n i : ℕ) where
       (λ (e : file ≡ n). subst (λ b. Agree (cond b (resized size f) f) (cond b (resized size g) g)) (sym (eq-eqb file n e)) (same_cut size f g (above size (ap (λ k. ChangeFileSize k size) e)) h))
       (λ (e : file ≢ n). subst (λ b. Agree (cond b (resized size f) f) (cond b (resized size g) g)) (sym (ne_eqb file n e)) h)
       (cases_eq file n)
-  both (WriteBlock file block at bytes) f g above h = by (file == n)
+  both (WriteBlock file block start at bytes) f g above h = by (file == n)
     where
-      by : (b : Bool) → Agree (cond b (overwritten (block * BLOCK_BYTES + at) bytes f) f) (cond b (overwritten (block * BLOCK_BYTES + at) bytes g) g)
-      by true = same_write (block * BLOCK_BYTES + at) bytes f g h
+      by : (b : Bool) → Agree (cond b (overwritten (start + at) bytes f) f) (cond b (overwritten (start + at) bytes g) g)
+      by true = same_write (start + at) bytes f g h
       by false = h
   both (CreateDirEntry p node rights) f g above h = h
   both (DeleteDirEntry p kind) f g above h = h
   both (MoveDirEntry p q) f g above h = h
+  both (LinkDirEntry p linked) f g above h = h
   both (SetAttr target rights) f g above h = h
   both Say f g above h = h
 
@@ -132,25 +132,26 @@ module _ (floor n i : ℕ) where
       (cases_lt i floor)))
       (λ (e : file ≢ n). subst (λ b. Agree (cond b (resized size f) f) g) (sym (ne_eqb file n e)) h)
       (cases_eq file n)
-  one (WriteBlock file block at bytes) f g above none h = ⊎_elim
-      (λ (e : file ≡ n). subst (λ b. Agree (cond b (overwritten (block * BLOCK_BYTES + at) bytes f) f) g) (sym (eq-eqb file n e)) (h.0, hidden e ∙ h.1))
-      (λ (e : file ≢ n). subst (λ b. Agree (cond b (overwritten (block * BLOCK_BYTES + at) bytes f) f) g) (sym (ne_eqb file n e)) h)
+  one (WriteBlock file block start at bytes) f g above none h = ⊎_elim
+      (λ (e : file ≡ n). subst (λ b. Agree (cond b (overwritten (start + at) bytes f) f) g) (sym (eq-eqb file n e)) (h.0, hidden e ∙ h.1))
+      (λ (e : file ≢ n). subst (λ b. Agree (cond b (overwritten (start + at) bytes f) f) g) (sym (ne_eqb file n e)) h)
       (cases_eq file n)
     where
-      hidden : file ≡ n → byte_of (overwritten (block * BLOCK_BYTES + at) bytes f) i ≡ byte_of f i
+      hidden : file ≡ n → byte_of (overwritten (start + at) bytes f) i ≡ byte_of f i
       hidden e = ⊎_elim
-          (λ (before : i < block * BLOCK_BYTES + at). byte_before (block * BLOCK_BYTES + at) bytes f i before)
-          (λ (ge : block * BLOCK_BYTES + at ≤ i). ⊎_elim
-          (λ (inside : i < block * BLOCK_BYTES + at + length bytes). absurd (false≢true (sym none
-          ∙ ap (λ b. b && (nat_le (block * BLOCK_BYTES + at) i && nat_lt i (block * BLOCK_BYTES + at + length bytes))) (eq-eqb file n e)
-          ∙ ap (λ b. b && nat_lt i (block * BLOCK_BYTES + at + length bytes)) (le-leb (block * BLOCK_BYTES + at) i ge)
-          ∙ lt-ltb i (block * BLOCK_BYTES + at + length bytes) inside)))
-          (λ (behind : block * BLOCK_BYTES + at + length bytes ≤ i). byte_behind (block * BLOCK_BYTES + at) bytes f i behind)
-          (cases_lt i (block * BLOCK_BYTES + at + length bytes)))
-          (cases_lt i (block * BLOCK_BYTES + at))
+          (λ (before : i < start + at). byte_before (start + at) bytes f i before)
+          (λ (ge : start + at ≤ i). ⊎_elim
+          (λ (inside : i < start + at + length bytes). absurd (false≢true (sym none
+          ∙ ap (λ b. b && (nat_le (start + at) i && nat_lt i (start + at + length bytes))) (eq-eqb file n e)
+          ∙ ap (λ b. b && nat_lt i (start + at + length bytes)) (le-leb (start + at) i ge)
+          ∙ lt-ltb i (start + at + length bytes) inside)))
+          (λ (behind : start + at + length bytes ≤ i). byte_behind (start + at) bytes f i behind)
+          (cases_lt i (start + at + length bytes)))
+          (cases_lt i (start + at))
   one (CreateDirEntry p node rights) f g above none h = h
   one (DeleteDirEntry p kind) f g above none h = h
   one (MoveDirEntry p q) f g above none h = h
+  one (LinkDirEntry p linked) f g above none h = h
   one (SetAttr target rights) f g above none h = h
   one Say f g above none h = h
 

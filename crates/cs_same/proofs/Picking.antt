@@ -2,7 +2,7 @@
 use Rattle.std.proofs.Common.{◌≡◌, ℕ, ◌+◌, ◌<◌, Bool, true, false, cond, List, [], ◌∷◌, ◌++◌, length, take, drop, get_or, refl, sym, ap, ◌∙◌}
 use Rattle.std.proofs.lemmas.List.{append-nil, take-append-drop}
 use Rattle.cs_state.specs.Steps.{picked}
-use Rattle.cs_state.proofs.Blocks.{picked_end, picked_more}
+use Rattle.cs_state.proofs.Pages.{picked_end, picked_more}
 
 pub nothing : {X : Type 0} (xs ys : List X) → xs ++ ys ≡ [] → (xs ≡ []) × (ys ≡ [])
 nothing [] ys h = (refl, h)

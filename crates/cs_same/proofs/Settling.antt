@@ -5,7 +5,7 @@ use Rattle.std.specs.Option.{option_map}
 use Rattle.cs_trace.specs.declared.operation.Rights.{Rights}
 use Rattle.cs_trace.specs.declared.operation.Target.TheVariants as targets
 use Rattle.cs_micro.specs.declared.micro_op.MicroOp.{MicroOp}
-use Rattle.cs_micro.specs.declared.micro_op.MicroOp.TheVariants.{CreateDirEntry, DeleteDirEntry, MoveDirEntry, ChangeFileSize, WriteBlock, SetAttr, Say}
+use Rattle.cs_micro.specs.declared.micro_op.MicroOp.TheVariants.{CreateDirEntry, DeleteDirEntry, MoveDirEntry, LinkDirEntry, ChangeFileSize, WriteBlock, SetAttr, Say}
 use Rattle.cs_apm.specs.Atlases.{content_before, files_left, owners_left}
 use Rattle.cs_apm.specs.Contents.{content_left}
 use Rattle.cs_apm.specs.Owners.{owner_after, owner_left}
@@ -17,7 +17,7 @@ use Rattle.cs_apm.proofs.Owning.{left_owner}
 use Rattle.cs_state.specs.Owners.{sets_rights}
 use Rattle.cs_state.specs.Steps.{picked, resizes}
 use Rattle.cs_state.specs.Windows.{byte_of, size_after}
-use Rattle.cs_state.proofs.Blocks.{unresized}
+use Rattle.cs_state.proofs.Pages.{unresized}
 use Rattle.cs_state.proofs.Showing.{left_size}
 use Rattle.cs_same.specs.Differences.{AreDiffering}
 use Rattle.cs_same.specs.Pairs.{IsPair, IsSettled, content_by, first_content, first_owner, owner_by, second_content, second_owner}
@@ -34,7 +34,8 @@ resizes_its n (ChangeFileSize file size) is = ap Some (eqb-true file n is)
 resizes_its n (CreateDirEntry p node rights) is = absurd (cc is)
 resizes_its n (DeleteDirEntry p kind) is = absurd (cc is)
 resizes_its n (MoveDirEntry p q) is = absurd (cc is)
-resizes_its n (WriteBlock file block at bytes) is = absurd (cc is)
+resizes_its n (LinkDirEntry p linked) is = absurd (cc is)
+resizes_its n (WriteBlock file block start at bytes) is = absurd (cc is)
 resizes_its n (SetAttr target rights) is = absurd (cc is)
 resizes_its n Say is = absurd (cc is)
 
@@ -44,16 +45,18 @@ sets_its n (SetAttr (targets.Directory p) rights) is = absurd (cc is)
 sets_its n (CreateDirEntry p node rights) is = absurd (cc is)
 sets_its n (DeleteDirEntry p kind) is = absurd (cc is)
 sets_its n (MoveDirEntry p q) is = absurd (cc is)
+sets_its n (LinkDirEntry p linked) is = absurd (cc is)
 sets_its n (ChangeFileSize file size) is = absurd (cc is)
-sets_its n (WriteBlock file block at bytes) is = absurd (cc is)
+sets_its n (WriteBlock file block start at bytes) is = absurd (cc is)
 sets_its n Say is = absurd (cc is)
 
 reaches_its : (floor n i : ℕ) (o : MicroOp) → reaches floor n i o ≡ true → changed_file o ≡ Some n
 reaches_its floor n i (ChangeFileSize file size) is = ap Some (eqb-true file n (and_parts (file == n) _ is).0)
-reaches_its floor n i (WriteBlock file block at bytes) is = ap Some (eqb-true file n (and_parts (file == n) _ is).0)
+reaches_its floor n i (WriteBlock file block start at bytes) is = ap Some (eqb-true file n (and_parts (file == n) _ is).0)
 reaches_its floor n i (CreateDirEntry p node rights) is = absurd (cc is)
 reaches_its floor n i (DeleteDirEntry p kind) is = absurd (cc is)
 reaches_its floor n i (MoveDirEntry p q) is = absurd (cc is)
+reaches_its floor n i (LinkDirEntry p linked) is = absurd (cc is)
 reaches_its floor n i (SetAttr target rights) is = absurd (cc is)
 reaches_its floor n i Say is = absurd (cc is)
 
@@ -63,8 +66,9 @@ owner_kept n r (SetAttr (targets.Directory p) rights) none = refl
 owner_kept n r (CreateDirEntry p node rights) none = refl
 owner_kept n r (DeleteDirEntry p kind) none = refl
 owner_kept n r (MoveDirEntry p q) none = refl
+owner_kept n r (LinkDirEntry p linked) none = refl
 owner_kept n r (ChangeFileSize file size) none = refl
-owner_kept n r (WriteBlock file block at bytes) none = refl
+owner_kept n r (WriteBlock file block start at bytes) none = refl
 owner_kept n r Say none = refl
 
 same_owner : (n : ℕ) (r : Rights) (ops : List MicroOp) (places others : List ℕ) → picked (λ k. sets_rights n (op_at ops k)) places ≡ picked (λ k. sets_rights n (op_at ops k)) others → owner_left n r ops places ≡ owner_left n r ops others

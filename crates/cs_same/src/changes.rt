@@ -1,7 +1,7 @@
 //! Which micro-operations change each file of a trace, and in which blocks.
 use crate::mixing::{digest_of_record, digest_of_rights};
-use cs_micro::{BLOCK_BYTES, MicroOp};
-use cs_trace::{Node, Target, Trace};
+use cs_micro::MicroOp;
+use cs_trace::{BlockSize, Node, Target, Trace};
 use cs_tree_model::{Content, Kind};
 use std::alloc::{AllocError, Global};
 
@@ -27,20 +27,20 @@ pub struct File {
     pub changes: Vec<(u32, Change)>,
 }
 
-/// The block into which the micro-operation writes, or in which it ends a file.
-fn block_of(op: &MicroOp) -> Option<u64> {
+/// The block of this size into which the micro-operation writes, or in which it ends a file.
+fn block_of(size: BlockSize, op: &MicroOp) -> Option<u64> {
     match op {
         MicroOp::WriteBlock { block, .. } => Some(*block),
-        MicroOp::ChangeFileSize { length, .. } => Some(*length / BLOCK_BYTES),
+        MicroOp::ChangeFileSize { length, .. } => Some(*length / size.bytes()),
         _ => None,
     }
 }
 
 /// The blocks that some micro-operation writes into or ends a file in, in ascending order.
-pub fn blocks_of(alloc: Global, ops: &[MicroOp]) -> Result<Vec<u64>, AllocError> {
+pub fn blocks_of(alloc: Global, size: BlockSize, ops: &[MicroOp]) -> Result<Vec<u64>, AllocError> {
     let mut blocks = Vec::new(alloc);
     for op in ops {
-        if let Some(block) = block_of(op) {
+        if let Some(block) = block_of(size, op) {
             blocks.push(block)?;
         }
     }

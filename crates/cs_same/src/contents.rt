@@ -2,9 +2,9 @@
 //! micro-operation writes into, or ends a file in.
 use crate::changes::{Change, File, blocks_of, files_of};
 use crate::mixing::{digest_of, mixed};
-use cs_micro::BLOCK_BYTES;
 use cs_names::Path;
 use cs_plan::Scene;
+use cs_trace::BlockSize;
 use cs_tree_model::{TreeRead, number_of_path};
 use std::alloc::{AllocError, Global};
 use std::collections::BTreeMap;
@@ -54,6 +54,7 @@ pub struct Standing<'a> {
 #[derive(Drop)]
 pub struct Contents {
     files: Vec<File>,
+    block_size: BlockSize,
     /// The blocks that are read, in ascending order.
     blocks: Vec<u64>,
     digests: BTreeMap<Version, u64>,
@@ -114,7 +115,12 @@ impl Left {
 }
 
 /// The digest of a block of a file that stands in the state, which is made for this.
-fn read_block(alloc: Global, standing: Standing<'_>, block: u64) -> Result<u64, AllocError> {
+fn read_block(
+    alloc: Global,
+    size: BlockSize,
+    standing: Standing<'_>,
+    block: u64,
+) -> Result<u64, AllocError> {
     let Ok(made) = Scene::make(alloc, standing.scene, standing.number) else {
         return Err(AllocError);
     };
@@ -122,8 +128,8 @@ fn read_block(alloc: Global, standing: Standing<'_>, block: u64) -> Result<u64, 
     let Some(number) = number_of_path(store, standing.path.names()) else {
         return Ok(0);
     };
-    let offset = block.wrapping_mul(BLOCK_BYTES);
-    match store.read_at(alloc, number, offset, BLOCK_BYTES as usize)? {
+    let offset = block.wrapping_mul(size.bytes());
+    match store.read_at(alloc, number, offset, size.bytes() as usize)? {
         Some(bytes) => Ok(digest_of(&bytes)),
         None => Ok(0),
     }
@@ -133,9 +139,11 @@ impl Contents {
     /// The files of a scene's trace.
     pub fn of(alloc: Global, scene: &Scene) -> Result<Contents, AllocError> {
         let ops = scene.micros().ops();
-        let blocks = blocks_of(alloc, ops)?;
+        let block_size = scene.trace().version().block_size();
+        let blocks = blocks_of(alloc, block_size, ops)?;
         Ok(Contents {
             files: files_of(alloc, scene.trace(), ops, &blocks)?,
+            block_size,
             blocks,
             digests: BTreeMap::new(alloc),
         })
@@ -151,7 +159,7 @@ impl Contents {
         if let Some(digest) = self.digests.get(&version) {
             return Ok(*digest);
         }
-        let digest = read_block(alloc, standing, version.block)?;
+        let digest = read_block(alloc, self.block_size, standing, version.block)?;
         self.digests.insert(version, digest)?;
         Ok(digest)
     }
@@ -167,11 +175,12 @@ impl Contents {
             return Ok(0);
         };
         let left = left_of(alloc, file, members, self.blocks.len())?;
+        let size = self.block_size.bytes();
         let mut digest = mixed(left.rights, left.length);
         for (at, write) in left.writes.iter().enumerate() {
             let block = self.blocks.get(at).copied().unwrap_or(0);
-            if block <= left.length / BLOCK_BYTES {
-                let end = block.saturating_add(1).saturating_mul(BLOCK_BYTES);
+            if block <= left.length / size {
+                let end = block.saturating_add(1).saturating_mul(size);
                 let version = Version {
                     file: standing.file,
                     block,

@@ -48,7 +48,7 @@ impl Entries {
         let ops = scene.micros().ops();
         let mut places = Places::new(alloc);
         for op in ops {
-            places.add_touched(alloc, scene.trace().files(), op)?;
+            places.add_touched(alloc, scene.micros().starts(), op)?;
         }
         let start = start_of(alloc, scene.trace(), &places)?;
         let effects = effects_of(alloc, &places, &start, ops)?;
@@ -134,6 +134,10 @@ fn push_effects(
     match op {
         MicroOp::CreateDirEntry { path, node, rights } => {
             let entry = Entry::of(*node, digest_of_rights(rights));
+            push_effect(places, now, effects, place, path, entry)
+        }
+        MicroOp::LinkDirEntry { path, file } => {
+            let entry = Entry::File { file: *file };
             push_effect(places, now, effects, place, path, entry)
         }
         MicroOp::DeleteDirEntry { path, .. } => {

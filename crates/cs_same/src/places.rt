@@ -5,8 +5,8 @@ use cs_trace::Target;
 use std::alloc::{AllocError, Global};
 use std::collections::BTreeMap;
 
-/// The paths that some micro-operation touches, those of the directories whose rights one sets, and those
-/// of the start's files that one changes.
+/// The paths that some micro-operation touches, those of the directories whose rights one sets, and all
+/// those of the start's files that one changes.
 #[derive(Debug, Drop)]
 pub struct Places {
     pub paths: Vec<Path>,
@@ -32,18 +32,33 @@ impl Places {
         Ok(())
     }
 
-    /// Adds the paths of a micro-operation: those that it touches, or that of the directory or of the start's
-    /// file that it changes.
+    /// Adds the paths of a file of the start; a file that is made has none there.
+    fn add_start(
+        &mut self,
+        alloc: Global,
+        starts: &[Vec<Path>],
+        file: u32,
+    ) -> Result<(), AllocError> {
+        if let Some(paths) = starts.get(file as usize) {
+            for path in paths {
+                self.add(alloc, path)?;
+            }
+        }
+        Ok(())
+    }
+
+    /// Adds the paths of a micro-operation: those that it touches, that of the directory, or those of the
+    /// start's file that it changes. The paths of the start's files are given by their numbers.
     pub fn add_touched(
         &mut self,
         alloc: Global,
-        files: &[Path],
+        starts: &[Vec<Path>],
         op: &MicroOp,
     ) -> Result<(), AllocError> {
         match op {
-            MicroOp::CreateDirEntry { path, .. } | MicroOp::DeleteDirEntry { path, .. } => {
-                self.add(alloc, path)
-            }
+            MicroOp::CreateDirEntry { path, .. }
+            | MicroOp::DeleteDirEntry { path, .. }
+            | MicroOp::LinkDirEntry { path, .. } => self.add(alloc, path),
             MicroOp::MoveDirEntry { from, to } => {
                 self.add(alloc, from)?;
                 self.add(alloc, to)
@@ -57,12 +72,7 @@ impl Places {
             | MicroOp::SetAttr {
                 target: Target::File(file),
                 ..
-            } => {
-                match files.get(*file as usize) {
-                    Some(path) => self.add(alloc, path),
-                    None => Ok(()),
-                }
-            }
+            } => self.add_start(alloc, starts, *file),
             MicroOp::Say => Ok(()),
         }
     }

@@ -7,7 +7,7 @@ ghost use Rattle.cs_state.specs.Windows as windows;
 ghost use Rattle.cs_same.specs.Reaching as reaching;
 ghost use Rattle.cs_same.specs.Reaching.{floor_after, floor_in, reaches};
 
-use cs_micro::{BLOCK_BYTES, MicroOp};
+use cs_micro::MicroOp;
 use cs_names::limits::FILE_BYTES;
 use cs_trace::Target;
 
@@ -109,12 +109,12 @@ pub fn reached(op: &MicroOp, floor: u64, size: u64) -> Span
     match op {
         MicroOp::ChangeFileSize { .. } => between(floor, size),
         MicroOp::WriteBlock {
-            block,
+            start,
             at,
             bytes,
             ..
         } => {
-            let from = *block * BLOCK_BYTES + *at;
+            let from = *start + *at;
             between(from, size.min(from + bytes.as_slice().len() as u64))
         }
         _ => between(0, 0),

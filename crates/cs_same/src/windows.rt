@@ -8,7 +8,7 @@ ghost use Rattle.cs_state.specs.Windows.{whole, IsPart};
 ghost use Rattle.cs_same.specs.Windows.{IsWindow};
 
 use cs_apm::content::{changes, put_at};
-use cs_micro::{BLOCK_BYTES, MicroOp};
+use cs_micro::MicroOp;
 use std::alloc::{AllocError, Global};
 
 /// Bytes of a file from an offset on, zeros past its end, and its size.
@@ -81,13 +81,13 @@ fn change(part: &mut [u8], offset: usize, size: u64, file: u32, op: &MicroOp) ->
             *length
         }
         MicroOp::WriteBlock {
-            block,
+            start,
             at,
             bytes,
             ..
         } => {
-            let at = (*block * BLOCK_BYTES + *at) as usize;
-            write(part, offset, at, bytes.as_slice());
+            let from = (*start + *at) as usize;
+            write(part, offset, from, bytes.as_slice());
             size
         }
         _ => size,

@@ -3,6 +3,7 @@
 mod audits;
 mod bounds;
 mod commands;
+mod dialogues;
 mod exchange;
 mod files;
 mod fixture;

@@ -1,3 +1,4 @@
 pub mod Kept
 pub mod Asking
 pub mod Served
+pub mod Given

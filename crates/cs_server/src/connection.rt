@@ -40,7 +40,7 @@ impl<S: Served> Connection<S> {
     {
         Connection {
             result: Err(ServeFault::Memory),
-            kept: Kept::new(alloc),
+            kept: Kept::none(alloc),
         }
     }
 

@@ -2,12 +2,13 @@
 ghost use Rattle.std.specs.Prelude.{◌≡◌};
 ghost use Rattle.cs_server.specs.Kept.{nothing};
 
-use crate::kept::Kept;
-use cs_names::Text;
+use crate::kept::{GivenPass, Kept};
+use cs_names::{RuleId, Text};
 use cs_permit::{Call, FindFault, PassFault, TreeName};
+use cs_registry::RunKey;
 use cs_run::Answer;
 use cs_session::Port;
-use cs_shared::{Served, SharedRegistry};
+use cs_shared::{Served, SharedRegistry, SharedRun};
 use std::alloc::Global;
 use std::marker::Model;
 use std::sync::Wait;
@@ -17,7 +18,8 @@ use std::sync::Wait;
 pub struct SharedPort<'r, S: Served, R: Wait> {
     rt: &'r R,
     registry: &'r SharedRegistry<S>,
-    kept: Kept<S>,
+    runs: Vec<SharedRun<S>>,
+    passes: Vec<GivenPass>,
 }
 
 impl<'r, S: Served, R: Wait> Model for SharedPort<'r, S, R> {
@@ -25,7 +27,9 @@ impl<'r, S: Served, R: Wait> Model for SharedPort<'r, S, R> {
 
     ghost Value = { model.FoundRuns };
 
-    ghost view = { λ port. port.kept };
+    ghost view = { λ port. record { runs = port.runs.items; passes = port.passes.items } };
+
+    ghost invariant = { λ port. model.AreInside port.runs.items port.passes.items };
 }
 
 impl<'r, S: Served, R: Wait> SharedPort<'r, S, R> {
@@ -36,7 +40,8 @@ impl<'r, S: Served, R: Wait> SharedPort<'r, S, R> {
         SharedPort {
             rt,
             registry,
-            kept: Kept::new(alloc),
+            runs: Vec::new(alloc),
+            passes: Vec::new(alloc),
         }
     }
 
@@ -44,7 +49,7 @@ impl<'r, S: Served, R: Wait> SharedPort<'r, S, R> {
     pub fn into_kept(self) -> Kept<S>
         ensures { result ≡ self.entry }
     {
-        self.kept
+        Kept::of(self.runs, self.passes)
     }
 }
 
@@ -53,10 +58,22 @@ impl<'r, S: Served, R: Wait> Port for SharedPort<'r, S, R> {
 
     ghost gives = { λ old question told new. Gives S.serves old question told new };
 
+    /// A find that the registry grants stays counted, also if there is no memory to keep the run.
     fn find(&mut self, alloc: Global, name: &TreeName) -> Result<u32, FindFault> {
-        self.kept.find(self.rt, alloc, self.registry, name)
+        let Some(key) = RunKey::named(name) else {
+            return Err(FindFault::Unpublished);
+        };
+        let Ok(place) = u32::try_from(self.runs.len()) else {
+            return Err(FindFault::Full);
+        };
+        let run = self.registry.find_key(self.rt, alloc, key)?;
+        match self.runs.push(run) {
+            Ok(()) => Ok(place),
+            Err(_) => Err(FindFault::Memory),
+        }
     }
 
+    /// Room for the pass is made before the run gives it.
     fn attach(
         &mut self,
         alloc: Global,
@@ -64,10 +81,32 @@ impl<'r, S: Served, R: Wait> Port for SharedPort<'r, S, R> {
         run: u32,
         user: Text,
     ) -> Result<(u32, Answer), PassFault> {
-        self.kept.attach(self.rt, alloc, now, run, user)
+        let Some(found) = self.runs.get(run as usize) else {
+            return Err(PassFault::Foreign);
+        };
+        let Ok(place) = u32::try_from(self.passes.len()) else {
+            return Err(PassFault::Room);
+        };
+        if self.passes.reserve(1).is_err() {
+            return Err(PassFault::Memory);
+        }
+        match found.attach(self.rt, alloc, now, user) {
+            Ok((pass, answer)) => {
+                self.passes.push_reserved(GivenPass { run, pass });
+                Ok((place, answer))
+            }
+            Err(fault) => Err(fault),
+        }
     }
 
     fn call(&mut self, alloc: Global, now: u32, run: u32, pass: u32, call: Call<'_>) -> Answer {
-        self.kept.call(self.rt, alloc, now, run, pass, call)
+        let Some(given) = self.passes.get_mut(pass as usize) else {
+            return Answer::Denied(RuleId::S5);
+        };
+        if given.run != run {
+            return Answer::Denied(RuleId::S5);
+        }
+        let found = &self.runs[run as usize];
+        found.call(self.rt, alloc, &mut given.pass, now, call)
     }
 }

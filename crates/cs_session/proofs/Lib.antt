@@ -6,3 +6,5 @@ pub mod Listening
 pub mod Maps
 pub mod Marking
 pub mod Turns
+pub mod OfFids
+pub mod OwnRules

@@ -14,6 +14,8 @@ pub mod Versions
 pub mod TableSteps
 pub mod Calls
 pub mod Steps
+pub mod OfFids
+pub mod OwnRules
 pub mod Messages
 pub mod Trails
 pub mod Sizes

@@ -28,7 +28,7 @@ mod writing;
 pub use clock::Clock;
 pub use counted::{Counted, TwoEnded};
 pub use cs_permit::{FindFault, PassFault};
-pub use laws::message_is_steps;
+pub use laws::{calls_are_of_their_fids, message_is_steps, own_denials_are_the_first_rule};
 pub use message::{
     AttachMessage, CallMessage, CreateMessage, Message, OpenMessage, ReadMessage, TableStep,
     WalkMessage, WriteMessage, WstatMessage,

@@ -1,5 +1,5 @@
 pub mod Admitting
-pub mod Numbers
+pub mod Keyed
 pub mod Telling
 pub mod Publishing
 pub mod Scenes

@@ -1,6 +1,7 @@
 -- What is told of a step on the run under a lock.
-use Rattle.std.proofs.Common.{◌≡◌, ◌∙◌, ℕ, ◌&&◌, not, Bool, true, false, is_some, refl, subst, sym, ap}
+use Rattle.std.proofs.Common.{◌≡◌, ◌≢◌, ◌≤◌, ◌∙◌, ℕ, ◌&&◌, not, Bool, true, false, is_some, refl, subst, sym, ap}
 use Rattle.std.specs.Prelude.{if◌then◌else◌}
+use Rattle.cs_names.specs.declared.limits.TheConstants.{RUN_ATTACHES}
 use Rattle.cs_names.specs.declared.rule_id.RuleId.TheVariants.{L1}
 use Rattle.cs_permit.specs.declared.call.Call.{Call}
 use Rattle.cs_run.specs.declared.answer.Answer.{Answer}
@@ -12,7 +13,9 @@ use Rattle.cs_journal.specs.Runs.{Fits, PassOf, RunOf, first_state, state_of}
 use Rattle.cs_journal.specs.Steps.{Stepped, entering, entry_of, step, without_entry}
 use Rattle.cs_tree_model.specs.Tree.{Tree}
 use Rattle.cs_shared.specs.Serving.{HasTree}
-use Rattle.cs_shared.specs.Answers.{IsServedRun, IsStepOfServedRun}
+use Rattle.cs_permit.specs.declared.fault.PassFault.{PassFault}
+use Rattle.cs_permit.specs.declared.fault.PassFault.TheVariants.{Foreign, Room, Memory}
+use Rattle.cs_shared.specs.Answers.{IsFull, IsOfAnother, IsRefused, IsServed, IsStepOfServedRun, IsUnfit}
 
 module _ (run : RunOf) (pass : PassOf) (now : ℕ) (call : Call) (mark : StepMark) where
   -- what holds of each end that a step may have holds of the step
@@ -41,11 +44,36 @@ module _ (serves : HasTree) (number : ℕ) (run run' : RunOf) (pass pass' : Pass
 
   -- an answer to a call on the run under the lock is one of a step
   pub told : IsLegal (first_state run) run.journal → Fits run pass → IsLegal (first_state run') run'.journal → Fits run' pass' → IsStepOfServedRun serves number pass now call answer pass'
-  told legal fits legal' fits' = record {
-    run = run;
-    mark = stepped.0;
-    before = record { served = served; legal = legal; fits = fits };
-    answer_is = ap (λ (s : Stepped). s.answer) stepped.1;
-    pass_is = ap (λ (s : Stepped). s.pass) stepped.1;
-    after = subst (λ (s : Stepped). IsServedRun serves number s.run pass') stepped.1 (record { served = served_after; legal = legal'; fits = fits' });
-  }
+  told legal fits legal' fits' =
+      let left = subst (λ (s : Stepped). IsServed serves number s.run × Fits s.run pass') stepped.1 (record { tree = served_after; legal = legal' }, fits') in record {
+        run = run;
+        mark = stepped.0;
+        served = record { tree = served; legal = legal };
+        fits = fits;
+        answer_is = ap (λ (s : Stepped). s.answer) stepped.1;
+        pass_is = ap (λ (s : Stepped). s.pass) stepped.1;
+        served_after = left.0;
+        fits_after = left.1;
+      }
+
+module _ (serves : HasTree) (number other : ℕ) (run : RunOf) (served : serves other run.fresh) (legal : IsLegal (first_state run) run.journal) where
+  -- the run under the lock is of another number
+  pub another : other ≢ number → IsOfAnother serves number
+  another differs = record { other = other; run = run; served = record { tree = served; legal = legal }; differs = differs }
+
+  module _ (own : other ≡ number) where
+    -- it is of this one
+    pub its_own : IsServed serves number run
+    its_own = subst (λ (n : ℕ). IsServed serves n run) own (record { tree = served; legal = legal })
+
+    pub unfit : (pass : PassOf) → (¬ Fits run pass) → IsUnfit serves number pass
+    unfit pass not = record { run = run; served = its_own; unfit = not }
+
+    pub full : RUN_ATTACHES ≤ run.passes → IsFull serves number
+    full many = record { run = run; served = its_own; full = many }
+
+    -- why it gives no pass
+    pub refused : (fault : PassFault) → fault ≢ Foreign → (fault ≡ Room → RUN_ATTACHES ≤ run.passes) → IsRefused serves number fault
+    refused Foreign own room = absurd (own refl)
+    refused Room own room = full (room refl)
+    refused Memory own room = tt

@@ -11,29 +11,28 @@ use Rattle.cs_registry.specs.declared.found.Found.{Found}
 use Rattle.cs_tree_model.specs.Tree.{Tree}
 use Rattle.cs_users.specs.Rows.{Row}
 
--- Of a shared run contracts see the number of its state. It carries the number of its key.
-abbrev pub IsNumbered : Key × Found ℕ → Type 0
-IsNumbered run = run.1.held ≡ run.0.number
+-- Of a shared run contracts see its key, which is the key that the registry has it under.
+abbrev pub IsKeyed : Key × Found Key → Type 0
+IsKeyed run = run.1.held ≡ run.0
 
--- a registry is of the server's scene, and its runs carry the numbers of their keys
-pub record IsOfServer (is_scene : Scene → Type 0) (registry : Registry ℕ) : Type 0 where
+-- a registry is of the server's scene, and each run has the key that it is kept under
+pub record IsOfServer (is_scene : Scene → Type 0) (registry : Registry Key) : Type 0 where
   pub scene : is_scene registry.scene
-  pub numbered : All IsNumbered registry.runs
+  pub keyed : All IsKeyed registry.runs
 
--- a shared run is fresh: of that number
-abbrev pub is_fresh : ℕ → Tree → List Row → ℕ → Type 0
-is_fresh number tree users shared = shared ≡ number
+-- a new shared run has its key
+abbrev pub is_fresh : Key → Tree → List Row → Key → Type 0
+is_fresh key tree users shared = shared ≡ key
 
--- a refusal is told as it is; of the run at the place one more handle is given, or want of memory
--- is told
-abbrev pub IsHandle : Registry ℕ → Result ℕ FindFault → Result ℕ FindFault → Type 0
+-- a refusal is passed on; of the run at the place one more handle is given, or an allocation fails
+abbrev pub IsHandle : Registry Key → Result ℕ FindFault → Result Key FindFault → Type 0
 IsHandle new (Err fault) answer = answer ≡ Err fault
 IsHandle new (Ok place) (Ok shared) = held_at new.runs place ≡ Some shared
 IsHandle new (Ok place) (Err fault) = fault ≡ Memory
 
 -- what is found is the run of the key
-pub record FindsShared (old : Registry ℕ) (key : Key) (answer : Result ℕ FindFault)
-    (new : Registry ℕ) : Type 0 where
+pub record FindsShared (old : Registry Key) (key : Key) (answer : Result Key FindFault)
+    (new : Registry Key) : Type 0 where
   pub told : Result ℕ FindFault
   pub found : Finds is_fresh old key told new
   pub handle : IsHandle new told answer

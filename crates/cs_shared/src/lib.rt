@@ -2,16 +2,15 @@
 //! No call holds two locks.
 #![tactic(auto)]
 
+mod by_key;
 mod locked;
 mod look;
-mod named;
 mod registry;
 mod served;
 mod shared_registry;
 mod shared_run;
 
 pub use look::{AuditBy, Look};
-pub use named::NamedRun;
 pub use registry::Registry;
 pub use served::{AnyScene, Served};
 pub use shared_registry::SharedRegistry;

@@ -1,11 +1,9 @@
 //! What a run's lock keeps.
-ghost use Rattle.std.specs.Prelude.{◌≡◌, IfOk};
-ghost use Rattle.cs_journal.specs.Journals.{IsLegal};
-ghost use Rattle.cs_journal.specs.Runs.{first_state, fresh_pass};
+ghost use Rattle.std.specs.Prelude.{◌≡◌, ◌≢◌, ◌↔◌, IsNone, IsSomeAnd, IsTrue};
 ghost use Rattle.cs_permit.specs.declared.call.Call.TheVariants as called;
 ghost use Rattle.cs_run.specs.Laws.{FitsCall};
 ghost use Rattle.cs_shared.specs.Locks.{LockedAttaches, LockedCalls};
-ghost use Rattle.cs_shared.specs.Answers.{IsStepOfServedRun, IsAnswerOf};
+ghost use Rattle.cs_shared.specs.Answers.{IsAnswerOf, IsAttachOf, IsTold};
 
 use crate::look::Look;
 use crate::served::Served;
@@ -18,8 +16,8 @@ use std::alloc::Global;
 use std::marker::{Model, PhantomData};
 
 /// A run, with the number of its state: the server has the tree that the run began with under that
-/// number. What is done under the lock is done by these calls alone. Contracts see the number and
-/// the run.
+/// number. What is done under the lock is done by these calls, and each of them compares the number
+/// with that of the handle that it came by. Contracts see the number and the run.
 #[derive(Drop)]
 pub(crate) struct Locked<S: Served> {
     number: u32,
@@ -51,8 +49,15 @@ impl<S: Served> Locked<S> {
         }
     }
 
-    /// Makes a call under a pass at that moment, where this run is the one of the number, and the
-    /// pass is its own: else S5.
+    /// Whether this run is of the number.
+    fn is_of(&self, number: u32) -> bool
+        ensures { IsTrue result ↔ (self.now.number ≡ number) }
+    {
+        self.number == number
+    }
+
+    /// Makes a call under a pass at that moment. S5 if this run is of another number, or the pass
+    /// doesn't fit it.
     pub(crate) fn call(
         &mut self,
         alloc: Global,
@@ -66,14 +71,17 @@ impl<S: Served> Locked<S> {
         ensures told { IsAnswerOf S.serves number pass.old now call.entry result pass.new }
         ensures fits { FitsCall call.entry result }
     {
-        if self.number != number || !self.run.fits(pass) {
+        let _legal = self.run.entries();
+        if !self.is_of(number) {
             return Answer::Denied(RuleId::S5);
         }
-        let _legal = self.run.entries();
+        if !self.run.fits(pass) {
+            return Answer::Denied(RuleId::S5);
+        }
         self.run.step(alloc, pass, now, call)
     }
 
-    /// Attaches a user under a new pass, at that moment, where this run is the one of the number.
+    /// Attaches a user under a new pass, at that moment. Foreign if this run is of another number.
     pub(crate) fn attach(
         &mut self,
         alloc: Global,
@@ -83,27 +91,34 @@ impl<S: Served> Locked<S> {
     ) -> Result<(Pass, Answer), PassFault>
         ensures attaches { LockedAttaches self.old number now
             (called.Attach (record { user = user })) result self.new }
-        ensures told { IfOk result
-            (λ x. IsStepOfServedRun S.serves number (fresh_pass x.0.number) now
-            (called.Attach (record { user = user })) x.1 x.0) }
+        ensures told { IsAttachOf S.serves number now
+            (called.Attach (record { user = user })) result }
     {
-        if self.number != number {
+        let _legal = self.run.entries();
+        if !self.is_of(number) {
             return Err(PassFault::Foreign);
         }
-        let mut pass = self.run.new_pass(alloc)?;
+        let mut pass = match self.run.new_pass(alloc) {
+            Ok(pass) => pass,
+            Err(fault) => return Err(fault),
+        };
         let _legal = self.run.entries();
         let call = Call::Attach(AttachCall { user });
         let answer = self.run.step(alloc, &mut pass, now, call);
         Ok((pass, answer))
     }
 
-    /// Lends the run.
-    pub(crate) fn inspect<T, K: Look<T>>(&self, look: K) -> T
-        ensures served { S.serves self.now.number self.now.run.fresh }
-        ensures legal { IsLegal (first_state self.now.run) self.now.run.journal }
-        ensures told { K.tells look self.now.run result }
+    /// Lends the run. None if it is of another number.
+    pub(crate) fn inspect<T, K: Look<T> + Drop>(&self, number: u32, look: K) -> Option<T>
+        ensures looks { self.now.number ≡ number
+            → IsSomeAnd result (K.tells look self.now.run) }
+        ensures foreign { self.now.number ≢ number → IsNone result }
+        ensures told { IsTold S.serves number (K.tells look) result }
     {
         let _legal = self.run.entries();
-        look.look(&self.run)
+        if !self.is_of(number) {
+            return None;
+        }
+        Some(look.look(&self.run))
     }
 }

@@ -5,11 +5,10 @@ ghost use Rattle.std.specs.List.Sorted.{IsPermutation, IsSorted};
 ghost use Rattle.std.specs.Map.{keys_of};
 ghost use Rattle.cs_registry.specs.Publishing.{Publishes};
 ghost use Rattle.cs_registry.specs.Registries.{empty, missing_of, with_users};
-ghost use Rattle.cs_shared.specs.Finding.{FindsShared, IsNumbered};
+ghost use Rattle.cs_shared.specs.Finding.{FindsShared, IsKeyed};
 ghost use Rattle.cs_shared.specs.Naming.{key_cmp};
 ghost use Rattle.cs_shared.specs.Serving.{IsOnly, ServesAll};
 
-use crate::named::NamedRun;
 use crate::served::Served;
 use crate::shared_run::SharedRun;
 use cs_plan::{Published, Scene};
@@ -19,19 +18,19 @@ use std::alloc::{AllocError, Global};
 use std::marker::Model;
 use std::sync::Arc;
 
-/// The published states of the server's scene and their shared runs, each of which carries the
-/// number of its key. Contracts see it as cs_registry's, and of a run the number of its state.
+/// The published states of the server's scene and their shared runs. Contracts see it as
+/// cs_registry's, and of a run its key.
 #[derive(Drop)]
 pub struct Registry<S: Served> {
     states: States<SharedRun<S>>,
 }
 
 impl<S: Served> Model for Registry<S> {
-    ghost use Rattle.std.specs.Prelude.{ℕ};
+    ghost use Rattle.cs_registry.specs.Keys.{Key};
     ghost use Rattle.cs_registry.specs.Registries as model;
     ghost use Rattle.cs_shared.specs.Finding.{IsOfServer};
 
-    ghost Value = { model.Registry ℕ };
+    ghost Value = { model.Registry Key };
 
     ghost view = { λ r. r.states };
 
@@ -54,6 +53,22 @@ impl<S: Served> Registry<S> {
         Ok(Registry {
             states: States::new(alloc, scene, users)?,
         })
+    }
+
+    /// The registry of these states of the server's scene and their runs, as `publish_all` gives it.
+    pub fn of(states: States<SharedRun<S>>) -> Registry<S>
+        requires own { S.is_scene states.scene }
+        requires keyed { All IsKeyed states.runs }
+        ensures { result ≡ states }
+    {
+        Registry { states }
+    }
+
+    /// The scene.
+    pub fn scene(&self) -> &Arc<Scene>
+        ensures { arc_value result.now ≡ self.now.scene }
+    {
+        self.states.scene()
     }
 
     /// How many states of the plan aren't published.
@@ -89,7 +104,7 @@ impl<S: Served> Registry<S> {
     /// Finds the run of a key.
     pub fn find_key(&mut self, alloc: Global, key: RunKey) -> Result<SharedRun<S>, FindFault>
         ensures finds { FindsShared self.old key result self.new }
-        ensures number { IfOk result (λ shared. shared ≡ key.number) }
+        ensures key { IfOk result (λ shared. shared ≡ key) }
     {
         let place = self.states.find_key(alloc, key)?;
         match self.states.at(place).again() {
@@ -106,29 +121,28 @@ impl<S: Served> Registry<S> {
     }
 
     /// All runs, in the order of their keys.
-    pub fn runs(&self, alloc: Global) -> Result<Vec<NamedRun<S>>, AllocError>
+    pub fn runs(&self, alloc: Global) -> Result<Vec<SharedRun<S>>, AllocError>
         ensures all { IfOk result (λ runs. IsPermutation (keys_of self.now.runs) runs.items) }
         ensures sorted { IfOk result (λ runs. IsSorted key_cmp runs.items) }
     {
-        let mut runs = named_runs(alloc, &self.states)?;
+        let mut runs = all_runs(alloc, &self.states)?;
         runs.sort()?;
         Ok(runs)
     }
 }
 
-/// The runs with their names, in the order in which they were made.
-fn named_runs<S: Served>(
+/// The runs, in the order in which they were made.
+fn all_runs<S: Served>(
     alloc: Global,
     states: &States<SharedRun<S>>,
-) -> Result<Vec<NamedRun<S>>, AllocError>
-    requires { All IsNumbered states.now.runs }
+) -> Result<Vec<SharedRun<S>>, AllocError>
+    requires { All IsKeyed states.now.runs }
     ensures { IfOk result (λ runs. runs.items ≡ keys_of states.now.runs) }
 {
     let mut runs = Vec::new(alloc);
     for place in 0..states.run_count() {
-        let name = states.key_at(place).name().to_string(alloc)?;
         let run = states.at(place).again()?;
-        runs.push(NamedRun::new(name, run))?;
+        runs.push(run)?;
     }
     Ok(runs)
 }

@@ -6,7 +6,6 @@ ghost use Rattle.cs_registry.specs.Publishing.{IsStateOf};
 ghost use Rattle.cs_shared.specs.Naming.{key_cmp};
 ghost use Rattle.cs_shared.specs.Serving.{IsOnly, ServesAll};
 
-use crate::named::NamedRun;
 use crate::registry::Registry;
 use crate::served::Served;
 use crate::shared_run::SharedRun;
@@ -54,6 +53,18 @@ impl<S: Served> SharedRegistry<S> {
         Ok(SharedRegistry {
             scene,
             inside: Mutex::new(inside),
+        })
+    }
+
+    /// The same of the states and the runs of a registry.
+    pub fn of(registry: Registry<S>) -> Result<SharedRegistry<S>, AllocError>
+        ensures { IfOk result (λ shared. shared ≡ registry.scene) }
+    {
+        let _own = registry.missing();
+        let scene = Arc::try_clone(registry.scene())?;
+        Ok(SharedRegistry {
+            scene,
+            inside: Mutex::new(registry),
         })
     }
 
@@ -111,7 +122,7 @@ impl<S: Served> SharedRegistry<S> {
         number: u32,
         name: &RunName,
     ) -> Result<SharedRun<S>, FindFault>
-        ensures { IfOk result (λ shared. shared ≡ number) }
+        ensures { IfOk result (λ shared. shared ≡ record { number = number; name = name.now }) }
     {
         self.find_key(rt, alloc, RunKey::new(number, name))
     }
@@ -123,7 +134,7 @@ impl<S: Served> SharedRegistry<S> {
         alloc: Global,
         key: RunKey,
     ) -> Result<SharedRun<S>, FindFault>
-        ensures { IfOk result (λ shared. shared ≡ key.number) }
+        ensures { IfOk result (λ shared. shared ≡ key) }
     {
         self.inside.lock(rt).find_key(alloc, key)
     }
@@ -138,7 +149,7 @@ impl<S: Served> SharedRegistry<S> {
     }
 
     /// All runs, by the numbers of their states and then by name.
-    pub fn runs(&self, rt: &impl Wait, alloc: Global) -> Result<Vec<NamedRun<S>>, AllocError>
+    pub fn runs(&self, rt: &impl Wait, alloc: Global) -> Result<Vec<SharedRun<S>>, AllocError>
         ensures { IfOk result (λ runs. IsSorted key_cmp runs.items) }
     {
         self.inside.lock(rt).runs(alloc)

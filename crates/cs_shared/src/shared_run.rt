@@ -1,12 +1,10 @@
 //! A run that threads share.
-ghost use Rattle.std.specs.Prelude.{◌≡◌, ℕ, IfOk};
+ghost use Rattle.std.specs.Prelude.{◌≡◌, IfOk};
 ghost use Rattle.std.specs.Arc.{arc_value};
 ghost use Rattle.cs_journal.specs.Bounds.{CanGrow};
-ghost use Rattle.cs_journal.specs.Journals.{IsLegal};
-ghost use Rattle.cs_journal.specs.Runs.{RunOf, first_state, fresh_pass};
 ghost use Rattle.cs_permit.specs.declared.call.Call.TheVariants as called;
 ghost use Rattle.cs_run.specs.Laws.{FitsCall};
-ghost use Rattle.cs_shared.specs.Answers.{IsStepOfServedRun, IsAnswerOf};
+ghost use Rattle.cs_shared.specs.Answers.{IsAnswerOf, IsAttachOf, IsTold};
 
 use crate::locked::Locked;
 use crate::look::Look;
@@ -15,44 +13,44 @@ use cs_journal::{Pass, Run};
 use cs_names::Text;
 use cs_permit::{Call, PassFault};
 use cs_plan::Built;
-use cs_registry::Held;
+use cs_registry::{Held, RunKey};
 use cs_run::Answer;
 use cs_users::Users;
 use std::alloc::{AllocError, Global};
 use std::marker::Model;
 use std::sync::{Arc, Mutex, Wait};
 
-/// A run that threads share, under a lock, with the number of its state. Contracts see the number.
-/// Each call takes the run's lock once, and no other.
+/// A run that threads share, under a lock, with its key. Contracts see the key. Each call takes the
+/// run's lock once, and no other.
 #[derive(Drop)]
 pub struct SharedRun<S: Served> {
-    number: u32,
+    key: RunKey,
     run: Arc<Mutex<Locked<S>>>,
 }
 
 impl<S: Served> Model for SharedRun<S> {
-    ghost use Rattle.std.specs.Prelude.{ℕ};
+    ghost use Rattle.cs_registry.specs.Keys.{Key};
 
-    ghost Value = { ℕ };
+    ghost Value = { Key };
 
-    ghost view = { λ shared. shared.number };
+    ghost view = { λ shared. shared.key };
 }
 
 impl<S: Served> SharedRun<S> {
-    /// A run over this tree, with no open and no entry.
+    /// The run of a key, over the tree of its state, with no open and no entry.
     pub fn fresh(
         alloc: Global,
-        number: u32,
+        key: RunKey,
         lower: Arc<Built>,
         users: Arc<Users>,
     ) -> Result<SharedRun<S>, AllocError>
-        requires served { S.serves number (arc_value lower) }
+        requires served { S.serves key.number (arc_value lower) }
         requires grows { CanGrow (arc_value lower) }
-        ensures { IfOk result (λ shared. shared ≡ number) }
+        ensures { IfOk result (λ shared. shared ≡ key) }
     {
-        let run = Run::fresh(alloc, lower, users)?;
-        let run = Arc::new(alloc, Mutex::new(Locked::new(number, run)))?;
-        Ok(SharedRun { number, run })
+        let run = Locked::new(key.number(), Run::fresh(alloc, lower, users)?);
+        let run = Arc::new(alloc, Mutex::new(run))?;
+        Ok(SharedRun { key, run })
     }
 
     /// The same run.
@@ -60,21 +58,21 @@ impl<S: Served> SharedRun<S> {
         ensures { IfOk result (λ shared. shared ≡ self.now) }
     {
         Ok(SharedRun {
-            number: self.number,
+            key: self.key.again(),
             run: Arc::try_clone(&self.run)?,
         })
     }
 
-    /// The number of its state.
-    pub fn number(&self) -> u32
-        ensures { result ≡ self.now }
+    /// Its key.
+    pub fn key(&self) -> &RunKey
+        ensures { result.now ≡ self.now }
     {
-        self.number
+        &self.key
     }
 
-    /// Attaches a user under a new pass, at that moment, in seconds since 1970: Foreign where the
-    /// run under the lock is of another number, before all else; Room where it gave RUN_ATTACHES
-    /// passes; then Memory. After a refusal no pass was given, and the run is as it was.
+    /// Attaches a user under a new pass, at that moment, in seconds since 1970. Foreign if the run
+    /// under the lock is of another number; then Room if it gave RUN_ATTACHES passes; then Memory.
+    /// After a refusal no pass was given, and the run is as it was.
     pub fn attach(
         &self,
         rt: &impl Wait,
@@ -82,15 +80,15 @@ impl<S: Served> SharedRun<S> {
         now: u32,
         user: Text,
     ) -> Result<(Pass, Answer), PassFault>
-        ensures { IfOk result
-            (λ x. IsStepOfServedRun S.serves self.now (fresh_pass x.0.number) now
-            (called.Attach (record { user = user })) x.1 x.0) }
+        ensures { IsAttachOf S.serves self.now.number now
+            (called.Attach (record { user = user })) result }
     {
-        self.run.lock(rt).attach(alloc, self.number, now, user)
+        let number = self.key.number();
+        self.run.lock(rt).attach(alloc, number, now, user)
     }
 
-    /// Makes a call under a pass at that moment, in seconds since 1970: S5 where the run under the
-    /// lock is of another number, or the pass isn't its own, before all else; then as `Run::step`.
+    /// Makes a call under a pass at that moment, in seconds since 1970. S5 if the run under the
+    /// lock is of another number, or the pass doesn't fit it; else as `Run::step`.
     pub fn call(
         &self,
         rt: &impl Wait,
@@ -99,19 +97,20 @@ impl<S: Served> SharedRun<S> {
         now: u32,
         call: Call<'_>,
     ) -> Answer
-        ensures told { IsAnswerOf S.serves self.now pass.old now call.entry result pass.new }
+        ensures told { IsAnswerOf S.serves self.now.number pass.old now call.entry result
+            pass.new }
         ensures fits { FitsCall call.entry result }
     {
-        self.run.lock(rt).call(alloc, self.number, pass, now, call)
+        let number = self.key.number();
+        self.run.lock(rt).call(alloc, number, pass, now, call)
     }
 
-    /// Lends the run to `look`, under the lock: what it tells.
-    pub fn inspect<T, K: Look<T>>(&self, rt: &impl Wait, look: K) -> T
-        ensures { (number : ℕ)
-            × ((run : RunOf) × S.serves number run.fresh × IsLegal (first_state run) run.journal
-            × K.tells look run result) }
+    /// Lends the run to `look`, under the lock: what it tells. None if the run under the lock is of
+    /// another number.
+    pub fn inspect<T, K: Look<T> + Drop>(&self, rt: &impl Wait, look: K) -> Option<T>
+        ensures { IsTold S.serves self.now.number (K.tells look) result }
     {
-        self.run.lock(rt).inspect(look)
+        self.run.lock(rt).inspect(self.key.number(), look)
     }
 }
 
@@ -121,14 +120,14 @@ impl<S: Served> Held for SharedRun<S> {
 
     ghost admits = { λ number tree. CanGrow tree × S.serves number tree };
 
-    ghost is_fresh = { λ number tree users shared. shared ≡ number };
+    ghost is_fresh = { λ key tree users shared. shared ≡ key };
 
     fn fresh(
         alloc: Global,
-        number: u32,
+        key: &RunKey,
         lower: Arc<Built>,
         users: Arc<Users>,
     ) -> Result<SharedRun<S>, AllocError> {
-        SharedRun::fresh(alloc, number, lower, users)
+        SharedRun::fresh(alloc, key.again(), lower, users)
     }
 }

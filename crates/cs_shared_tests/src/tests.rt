@@ -2,6 +2,7 @@
 mod audits;
 mod full_journals;
 mod publishing;
+mod registries;
 mod reloads;
 mod shared_runs;
 mod side;

@@ -17,7 +17,7 @@ use Rattle.cs_state.specs.Owners.{sets_rights}
 use Rattle.cs_state.specs.Shares.{ids, mark_at}
 use Rattle.cs_state.specs.Steps.{resizes}
 use Rattle.cs_state.specs.Windows.{size_after}
-use Rattle.cs_state.proofs.Blocks.{ids_same, unresized}
+use Rattle.cs_state.proofs.Pages.{ids_same, unresized}
 use Rattle.cs_state.proofs.Lasting.{IsSaidBy}
 
 -- ---- marks that are set one after the other
@@ -59,7 +59,7 @@ is_change _ file is = absurd (false≢true is)
 
 pub size_needed : (micros : Micros) (file j k : ℕ) → j < k → resizes file (op_at micros.ops j) ≡ true → resizes file (op_at micros.ops k) ≡ true → needs_of micros j k ≡ true
 size_needed micros file j k before first second =
-    (needs_exactly micros.ops micros.syncs micros.profile j k).1
+    (needs_exactly micros.ops micros.syncs micros.version j k).1
     (record { before = before; reason = resizes_one_file file (is_change (op_at micros.ops j) file first) (is_change (op_at micros.ops k) file second) })
 
 is_setter : (o : MicroOp) (file : ℕ) → sets_rights file o ≡ true → SetsFile o file
@@ -68,7 +68,7 @@ is_setter _ file is = absurd (false≢true is)
 
 pub owner_needed : (micros : Micros) (file j k : ℕ) → j < k → sets_rights file (op_at micros.ops j) ≡ true → sets_rights file (op_at micros.ops k) ≡ true → needs_of micros j k ≡ true
 owner_needed micros file j k before first second =
-    (needs_exactly micros.ops micros.syncs micros.profile j k).1
+    (needs_exactly micros.ops micros.syncs micros.version j k).1
     (record { before = before; reason = sets_one_file file (is_setter (op_at micros.ops j) file first) (is_setter (op_at micros.ops k) file second) })
 
 -- ---- the last of them says all

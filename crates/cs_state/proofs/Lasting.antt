@@ -11,7 +11,7 @@ use Rattle.cs_apm.specs.Sets.{IsAllowed}
 use Rattle.cs_state.specs.Numbers.{kept_at, IsKept}
 use Rattle.cs_state.specs.Shares.{ids, mark_at}
 use Rattle.cs_state.specs.Steps.{members_in}
-use Rattle.cs_state.proofs.Blocks.{fold_ids, fold_map}
+use Rattle.cs_state.proofs.Pages.{fold_ids, fold_map}
 use Rattle.cs_state.proofs.Listing.{ids_are, ids_have, ids_up}
 
 -- what passes the test says all, and what doesn't leaves it

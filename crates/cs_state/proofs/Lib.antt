@@ -11,7 +11,7 @@ pub mod Joining
 pub mod Listing
 pub mod Owning
 pub mod Gathering
-pub mod Blocks
+pub mod Pages
 pub mod Lasting
 pub mod Including
 pub mod Setting

@@ -5,28 +5,28 @@ use Rattle.std.specs.Global.{Vec}
 use Rattle.std.specs.Ordering.{is_eq, nat_cmp}
 use Rattle.std.specs.Prelude.{IsSome}
 
-module _ (rows new : ℕ → Option (Vec ℕ)) (block : ℕ) (row : Vec ℕ) (goes : (q : ℕ) → new q ≡ cond (is_eq (nat_cmp block q)) (Some row) (rows q)) where
-  pub row_there : (q : ℕ) → q ≡ block → new q ≡ Some row
-  row_there q e = let t : block == q ≡ true = eq-eqb _ _ (sym e) in let u : nat_lt block q ≡ false = le-ltb _ _ (omega (arith, e)) in goes q ∙ rw (t, u) refl
+module _ (rows new : ℕ → Option (Vec ℕ)) (page : ℕ) (row : Vec ℕ) (goes : (q : ℕ) → new q ≡ cond (is_eq (nat_cmp page q)) (Some row) (rows q)) where
+  pub row_there : (q : ℕ) → q ≡ page → new q ≡ Some row
+  row_there q e = let t : page == q ≡ true = eq-eqb _ _ (sym e) in let u : nat_lt page q ≡ false = le-ltb _ _ (omega (arith, e)) in goes q ∙ rw (t, u) refl
 
-  row_other : (q : ℕ) → q ≢ block → new q ≡ rows q
-  row_other q ne = let t : block == q ≡ false = ne_eqb _ _ (λ e. ne (sym e)) in ⊎_elim
-      (λ (a : block < q). let u : nat_lt block q ≡ true = lt-ltb _ _ a in goes q ∙ rw (t, u) refl)
-      (λ (a : q ≤ block). let u : nat_lt block q ≡ false = le-ltb _ _ a in goes q ∙ rw (t, u) refl)
-      (cases_lt block q)
+  row_other : (q : ℕ) → q ≢ page → new q ≡ rows q
+  row_other q ne = let t : page == q ≡ false = ne_eqb _ _ (λ e. ne (sym e)) in ⊎_elim
+      (λ (a : page < q). let u : nat_lt page q ≡ true = lt-ltb _ _ a in goes q ∙ rw (t, u) refl)
+      (λ (a : q ≤ page). let u : nat_lt page q ≡ false = le-ltb _ _ a in goes q ∙ rw (t, u) refl)
+      (cases_lt page q)
 
   pub rows_keep : (q : ℕ) → IsSome (rows q) → IsSome (new q)
   rows_keep q some = ⊎_elim
-      (λ (e : q ≡ block). cc (row_there q e))
-      (λ (ne : q ≢ block). cc (row_other q ne))
-      (cases_eq q block)
+      (λ (e : q ≡ page). cc (row_there q e))
+      (λ (ne : q ≢ page). cc (row_other q ne))
+      (cases_eq q page)
 
   -- each row has what is to be in it
-  pub rows_right : (wanted : ℕ → List ℕ) → row.items ≡ wanted block → ((q : ℕ) (r : Vec ℕ) → rows q ≡ Some r → r.items ≡ wanted q) → (q : ℕ) (r : Vec ℕ) → new q ≡ Some r → r.items ≡ wanted q
+  pub rows_right : (wanted : ℕ → List ℕ) → row.items ≡ wanted page → ((q : ℕ) (r : Vec ℕ) → rows q ≡ Some r → r.items ≡ wanted q) → (q : ℕ) (r : Vec ℕ) → new q ≡ Some r → r.items ≡ wanted q
   rows_right wanted is are q r there = ⊎_elim
-      (λ (e : q ≡ block).
+      (λ (e : q ≡ page).
       let same : Some row ≡ Some r = sym (row_there q e) ∙ there in
       let one : row ≡ r = cc in
       ap (λ (v : Vec ℕ). v.items) (sym one) ∙ is ∙ ap wanted (sym e))
-      (λ (ne : q ≢ block). are q r (sym (row_other q ne) ∙ there))
-      (cases_eq q block)
+      (λ (ne : q ≢ page). are q r (sym (row_other q ne) ∙ there))
+      (cases_eq q page)

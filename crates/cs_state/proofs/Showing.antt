@@ -119,7 +119,7 @@ cond_size false f g = refl
 
 pub one_size : (n : ℕ) (f : Content) (o : MicroOp) → (content_after n f o).size ≡ size_after n f.size o
 one_size n f (ChangeFileSize file size) = cond_size (file == n) (record { size = size; bytes = cond (nat_lt size f.size) (take size f.bytes) f.bytes }) f
-one_size n f (WriteBlock file block at bytes) = cond_size (file == n) _ f ∙ same_size (file == n) f.size
+one_size n f (WriteBlock file block start at bytes) = cond_size (file == n) _ f ∙ same_size (file == n) f.size
   where
     same_size : (b : Bool) (m : ℕ) → cond b m m ≡ m
     same_size true m = refl

@@ -1,14 +1,17 @@
--- What the steps of a file say of each state: its size, and the bytes of each block.
+-- What the steps of a file say of each state: its size, and the bytes of each page.
 use Rattle.std.proofs.Common.{◌≡◌, ℕ, ◌<◌, Bool, true, List, [], ◌∷◌, Some, sym, ap, ◌∙◌, subst, arith, length, map, get_or}
 use Rattle.std.proofs.lemmas.List.{get_or_default}
 use Rattle.std.proofs.lemmas.List.Elements.{All-cons, All-nil}
 use Rattle.std.proofs.lemmas.Option.{slice_get-get_or}
 use Rattle.std.specs.List.{All}
 use Rattle.std.specs.Prelude.{fold, slice_get}
+use Rattle.cs_trace_lines.specs.Versions.{block_bytes, block_size_of}
+use Rattle.cs_trace_lines.specs.declared.version.BlockSize.{BlockSize}
 use Rattle.cs_trace.specs.Operations.{Paths}
 use Rattle.cs_micro.specs.declared.micro_op.MicroOp.{MicroOp}
 use Rattle.cs_micro.specs.declared.micro_op.MicroOp.TheVariants.{ChangeFileSize, WriteBlock, Say}
 use Rattle.cs_micro.specs.Legal.{AreLegal, IsLegal, made_after, paths_after}
+use Rattle.cs_micro.specs.Laws.Pages.{in_one_page}
 use Rattle.cs_apm.specs.Contents.{content_left}
 use Rattle.cs_apm.specs.Rules.{op_at}
 use Rattle.cs_apm.specs.States.{Content}
@@ -18,21 +21,21 @@ use Rattle.cs_state.specs.Parts.{bytes_before, file_in, AreMembers, AreParts}
 use Rattle.cs_state.specs.Shares.{ids, mark_at}
 use Rattle.cs_state.specs.Steps.{members_in, resizes, row_at, struck_by, touches, AgreeIn, AreFileSteps, IsFitting}
 use Rattle.cs_state.specs.Windows.{size_after, whole}
-use Rattle.cs_state.proofs.Blocks.{agree}
+use Rattle.cs_state.proofs.Pages.{agree}
 use Rattle.cs_state.proofs.Filing.{has_flag, left_of}
 use Rattle.cs_state.proofs.Including.{size_needed}
 use Rattle.cs_state.proofs.Lasting.{closed_under}
 use Rattle.cs_state.proofs.Listing.{ids_are}
 use Rattle.cs_state.proofs.Showing.{left_size}
 
-fitting : (m : Paths) (made : ℕ) (o : MicroOp) → IsLegal m made o → IsFitting o
-fitting m made (ChangeFileSize file size) h = h.1
-fitting m made (WriteBlock file block at bytes) h = h.2
-fitting m made _ h = tt
+fitting : (size : BlockSize) (m : Paths) (made : ℕ) (o : MicroOp) → IsLegal (block_bytes size) m made o → IsFitting o
+fitting size m made (ChangeFileSize file to) h = h.1
+fitting size m made (WriteBlock file block start at bytes) h = in_one_page size m made file block start at bytes h
+fitting size m made _ h = tt
 
-all_fitting : (m : Paths) (made : ℕ) (ops : List MicroOp) → AreLegal m made ops → All IsFitting ops
-all_fitting m made [] h = All-nil IsFitting
-all_fitting m made (o ∷ ops) h = All-cons IsFitting o ops (fitting m made o h.0) (all_fitting (paths_after m o) (made_after made o) ops h.1)
+all_fitting : (size : BlockSize) (m : Paths) (made : ℕ) (ops : List MicroOp) → AreLegal (block_bytes size) m made ops → All IsFitting ops
+all_fitting size m made [] h = All-nil IsFitting
+all_fitting size m made (o ∷ ops) h = All-cons IsFitting o ops (fitting size m made o h.0) (all_fitting size (paths_after m o) (made_after made o) ops h.1)
 
 module _ (parts : Parts) (h : AreParts parts) (file : ℕ) (known : file < length parts.tables.owners.items) (members : List Bool) (set : AreMembers parts members) where
   abbrev ops : List MicroOp
@@ -54,14 +57,14 @@ module _ (parts : Parts) (h : AreParts parts) (file : ℕ) (known : file < lengt
         let long = h.steps.long in
         h.steps.each file steps (slice_get-get_or parts.steps.items file steps (omega (arith, there, long)) ∙ ap Some (sym read)) changed
 
-    pub inside : (block : ℕ) → All (λ place. place < length ops) (row_at steps block)
-    inside block = subst (All (λ place. place < length ops)) (sym (are.rows block))
-        (λ i e low. subst (λ v. v < length ops) (get_or_default (ids (touches file (length start) ops (Some block)) (length ops)) i 0 e low) (ids_are (touches file (length start) ops (Some block)) (length ops) i low).0)
+    pub inside : (page : ℕ) → All (λ place. place < length ops) (row_at steps page)
+    inside page = subst (All (λ place. place < length ops)) (sym (are.rows page))
+        (λ i e low. subst (λ v. v < length ops) (get_or_default (ids (touches file (length start) ops (Some page)) (length ops)) i 0 e low) (ids_are (touches file (length start) ops (Some page)) (length ops) i low).0)
 
-    pub agrees : (block : ℕ) → AgreeIn block (struck_by ops members (whole start) (row_at steps block)) left
-    agrees block = subst (λ r. AgreeIn block (struck_by ops members (whole start) r) left) (sym (are.rows block))
-        (subst (λ f. AgreeIn block (struck_by ops members (whole start) (ids (touches file (length start) ops (Some block)) (length ops))) f)
+    pub agrees : (page : ℕ) → AgreeIn page (struck_by ops members (whole start) (row_at steps page)) left
+    agrees page = subst (λ r. AgreeIn page (struck_by ops members (whole start) r) left) (sym (are.rows page))
+        (subst (λ f. AgreeIn page (struck_by ops members (whole start) (ids (touches file (length start) ops (Some page)) (length ops))) f)
         (ap (λ k. content_left file (whole start) ops (ids (mark_at members) k)) (sym set.long) ∙ left_of parts h file (members_in members) known)
-        (agree file (whole start) ops members (length ops) block
-        (λ k low. all_fitting _ _ ops h.whole.atlas.legal k Say low)
+        (agree file (whole start) ops members (length ops) page
+        (λ k low. all_fitting (block_size_of parts.trace.version) _ _ ops h.whole.atlas.legal k Say low)
         (closed_under parts.micros (length ops) members set.allowed (resizes file) (size_needed parts.micros file))))

@@ -1,10 +1,9 @@
--- The micro-operations that change a file: its size, and each of its blocks.
-use Rattle.std.specs.Prelude.{◌≡◌, ◌+◌, ◌*◌, ◌<◌, ◌≤◌, ◌&&◌, ◌==◌, nat_lt, ℕ, zero, suc, if◌then◌else◌, Bool, false, true, List, [], ◌∷◌, ◌++◌, cond, Option, None, Some, IsSome, length, take, fold, slice_get, slice_index_or}
+-- The micro-operations that change a file: its size, and each of its pages.
+use Rattle.std.specs.Prelude.{◌≡◌, ◌+◌, ◌*◌, ◌/◌, ◌%◌, ◌<◌, ◌≤◌, ◌&&◌, ◌==◌, nat_lt, ℕ, zero, suc, if◌then◌else◌, Bool, false, true, List, [], ◌∷◌, ◌++◌, cond, Option, None, Some, IsSome, length, take, fold, slice_get, slice_index_or}
 use Rattle.std.specs.BTreeMap.{get}
 use Rattle.std.specs.Global.{Vec}
 use Rattle.std.specs.Option.{option_map_or}
 use Rattle.std.specs.Ordering.{nat_cmp}
-use Rattle.cs_micro.specs.declared.blocks.TheConstants.{BLOCK_BYTES}
 use Rattle.cs_micro.specs.declared.micro_op.MicroOp.{MicroOp}
 use Rattle.cs_micro.specs.declared.micro_op.MicroOp.TheVariants.{ChangeFileSize, WriteBlock}
 use Rattle.cs_names.specs.declared.limits.TheConstants.{FILE_BYTES}
@@ -14,6 +13,7 @@ use Rattle.cs_apm.specs.Contents.{changes}
 use Rattle.cs_apm.specs.Rules.{op_at}
 use Rattle.cs_apm.specs.States.{Content, overwritten}
 use Rattle.cs_state.specs.declared.file_steps.FileSteps.{FileSteps}
+use Rattle.cs_state.specs.declared.file_steps.TheConstants.{PAGE_BYTES}
 use Rattle.cs_state.specs.Shares.{ids, mark_at}
 use Rattle.cs_state.specs.Windows.{byte_of, size_after}
 
@@ -22,21 +22,21 @@ abbrev pub resizes : ℕ → MicroOp → Bool
 resizes n (ChangeFileSize file size) = file == n
 resizes n _ = false
 
--- it is that block
-abbrev pub is_block : Option ℕ → ℕ → Bool
-is_block None other = false
-is_block (Some block) other = other == block
+-- the byte lies in that page
+abbrev pub is_page : Option ℕ → ℕ → Bool
+is_page None byte = false
+is_page (Some page) byte = byte / PAGE_BYTES == page
 
--- it cuts off a file of this size, or writes into the block, if there is one
+-- it cuts off a file of this size, or writes into the page, if there is one
 abbrev pub reaches : Option ℕ → ℕ → MicroOp → Bool
-reaches block size (ChangeFileSize file to) = nat_lt to size
-reaches block size (WriteBlock file other at bytes) = is_block block other
-reaches block size _ = false
+reaches page size (ChangeFileSize file to) = nat_lt to size
+reaches page size (WriteBlock file block start at bytes) = is_page page (start + at)
+reaches page size _ = false
 
--- no file is too large, and bytes lie in their block
+-- no file is too large, and bytes lie in one page
 abbrev pub IsFitting : MicroOp → Type 0
 IsFitting (ChangeFileSize file to) = to ≤ FILE_BYTES
-IsFitting (WriteBlock file block at bytes) = at + length bytes ≤ BLOCK_BYTES
+IsFitting (WriteBlock file block start at bytes) = (start + at) % PAGE_BYTES + length bytes ≤ PAGE_BYTES
 IsFitting _ = Unit {0}
 
 -- the file's size when the first k of all micro-operations are done
@@ -44,18 +44,18 @@ abbrev pub size_before : ℕ → ℕ → List MicroOp → ℕ → ℕ
 size_before n size ops zero = size
 size_before n size ops (suc k) = size_after n (size_before n size ops k) (op_at ops k)
 
--- the micro-operation at the place cuts the file off, or writes into its block
+-- the micro-operation at the place cuts the file off, or writes into the page
 abbrev pub touches : ℕ → ℕ → List MicroOp → Option ℕ → ℕ → Bool
-touches n size ops block k = changes n (op_at ops k) && reaches block (size_before n size ops k) (op_at ops k)
+touches n size ops page k = changes n (op_at ops k) && reaches page (size_before n size ops k) (op_at ops k)
 
--- those of the file's steps that reach the block
+-- those of the file's steps that reach the page
 abbrev pub row_at : FileSteps → ℕ → List ℕ
-row_at steps block = option_map_or (λ row. row.items) (get nat_cmp steps.blocks block) steps.cuts.items
+row_at steps page = option_map_or (λ row. row.items) (get nat_cmp steps.pages page) steps.cuts.items
 
 -- those that change the file, which has so many bytes at the start
 pub record AreFileSteps (n size : ℕ) (ops : List MicroOp) (steps : FileSteps) : Type 0 where
   pub sizes : steps.sizes.items ≡ ids (λ k. resizes n (op_at ops k)) (length ops)
-  pub rows : (block : ℕ) → row_at steps block ≡ ids (touches n size ops (Some block)) (length ops)
+  pub rows : (page : ℕ) → row_at steps page ≡ ids (touches n size ops (Some page)) (length ops)
 
 -- each file that something changes has those that change it
 pub record AreAllSteps (t : Trace) (ops : List MicroOp) (changed : List Bool) (all : List FileSteps) : Type 0 where
@@ -68,17 +68,17 @@ abbrev pub picked : (ℕ → Bool) → List ℕ → List ℕ
 picked f [] = []
 picked f (k ∷ ks) = cond (f k) (k ∷ []) [] ++ picked f ks
 
--- those of the places that reach the block, or cut the file off; it has these sizes before each
+-- those of the places that reach the page, or cut the file off; it has these sizes before each
 abbrev pub reaching : List ℕ → List MicroOp → List ℕ → Option ℕ → List ℕ
-reaching sizes ops places block = picked (λ k. reaches block (slice_index_or sizes k 0) (op_at ops k)) places
+reaching sizes ops places page = picked (λ k. reaches page (slice_index_or sizes k 0) (op_at ops k)) places
 
--- each row has those that reach its block
+-- each row has those that reach its page
 abbrev pub AreRows : List ℕ → List MicroOp → List ℕ → (ℕ → Option (Vec ℕ)) → Type 0
-AreRows sizes ops places rows = (block : ℕ) (row : Vec ℕ) → rows block ≡ Some row → row.items ≡ reaching sizes ops places (Some block)
+AreRows sizes ops places rows = (page : ℕ) (row : Vec ℕ) → rows page ≡ Some row → row.items ≡ reaching sizes ops places (Some page)
 
--- the block that it writes into, if it writes, has a row
+-- the page that it writes into, if it writes, has a row
 abbrev pub HasRow : (ℕ → Option (Vec ℕ)) → MicroOp → Type 0
-HasRow rows (WriteBlock file block at bytes) = IsSome (rows block)
+HasRow rows (WriteBlock file block start at bytes) = IsSome (rows ((start + at) / PAGE_BYTES))
 HasRow rows _ = Unit {0}
 
 -- ---- a part of a file
@@ -86,7 +86,7 @@ HasRow rows _ = Unit {0}
 -- what is left of a file that is cut, or written into
 abbrev pub struck : Content → MicroOp → Content
 struck f (ChangeFileSize file to) = record f { bytes = take to f.bytes }
-struck f (WriteBlock file block at bytes) = overwritten (block * BLOCK_BYTES + at) bytes f
+struck f (WriteBlock file block start at bytes) = overwritten (start + at) bytes f
 struck f _ = f
 
 abbrev pub member_struck : List MicroOp → List Bool → Content → ℕ → Content
@@ -96,13 +96,13 @@ member_struck ops members f k = if mark_at members k then struck f (op_at ops k)
 abbrev pub struck_by : List MicroOp → List Bool → Content → List ℕ → Content
 struck_by ops members f places = fold (member_struck ops members) f places
 
--- the two have the same bytes in the block
+-- the two have the same bytes in the page
 abbrev pub AgreeIn : ℕ → Content → Content → Type 0
-AgreeIn block f g = (i : ℕ) → block * BLOCK_BYTES ≤ i → i < block * BLOCK_BYTES + BLOCK_BYTES → byte_of f i ≡ byte_of g i
+AgreeIn page f g = (i : ℕ) → page * PAGE_BYTES ≤ i → i < page * PAGE_BYTES + PAGE_BYTES → byte_of f i ≡ byte_of g i
 
--- what of the part lies in the block is that of the file
+-- what of the part lies in the page is that of the file
 abbrev pub IsPartIn : ℕ → ℕ → Content → List ℕ → Type 0
-IsPartIn block offset f part = (k : ℕ) → k < length part → block * BLOCK_BYTES ≤ offset + k → offset + k < block * BLOCK_BYTES + BLOCK_BYTES
+IsPartIn page offset f part = (k : ℕ) → k < length part → page * PAGE_BYTES ≤ offset + k → offset + k < page * PAGE_BYTES + PAGE_BYTES
     → slice_index_or part k 0 ≡ byte_of f (offset + k)
 
 -- the members of a set, of which each has a mark

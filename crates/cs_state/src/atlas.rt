@@ -3,7 +3,7 @@ ghost use Rattle.std.specs.Prelude.{◌≡◌, length, IfOk};
 ghost use Rattle.cs_tree_model.specs.Tree.{IsTree};
 ghost use Rattle.cs_trace.specs.Traces.{start_paths};
 ghost use Rattle.cs_micro.specs.Legal.{AreLegal};
-ghost use Rattle.cs_micro.specs.Micros.{micros_in};
+ghost use Rattle.cs_micro.specs.Micros.{block_of_version, micros_in};
 ghost use Rattle.cs_apm.specs.Orders.{needs_of};
 ghost use Rattle.cs_apm.specs.Sets.{IsAllowed};
 ghost use Rattle.cs_apm.specs.States.{crash_state_of};
@@ -50,7 +50,7 @@ impl Atlas {
     /// The atlas of a trace and what it breaks into, as `break_up` gives it.
     pub fn of(alloc: Global, trace: Trace, micros: Micros) -> Result<Atlas, AllocError>
         requires broken { micros ≡ micros_in trace }
-        requires legal { AreLegal (start_paths trace) (length micros.starts) micros.ops }
+        requires legal { AreLegal (block_of_version trace.version) (start_paths trace) (length micros.starts) micros.ops }
         ensures { IfOk result (λ atlas. atlas ≡ trace) }
     {
         let tables = Tables::of(alloc, &trace, &micros)?;
@@ -81,7 +81,7 @@ impl Atlas {
     /// What the trace breaks into.
     pub fn micros(&self) -> &Micros
         ensures value { result.now ≡ micros_in self.now }
-        ensures legal { AreLegal (start_paths self.now) (length result.now.starts) result.now.ops }
+        ensures legal { AreLegal (block_of_version self.now.version) (start_paths self.now) (length result.now.starts) result.now.ops }
     {
         &self.parts.micros
     }

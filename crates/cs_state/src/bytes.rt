@@ -11,10 +11,10 @@ ghost use Rattle.cs_state.specs.Shares.{ids, mark_at};
 ghost use Rattle.cs_state.specs.Steps.{members_in, resizes, row_at, struck, struck_by, AgreeIn, IsPartIn};
 ghost use Rattle.cs_state.specs.Windows.{size_after, whole, IsPart};
 
-use crate::file_steps::{FileSteps, size_after};
+use crate::file_steps::{FileSteps, PAGE_BYTES, size_after};
 use crate::members::{first_members, is_member};
 use cs_apm::content::put_at;
-use cs_micro::{BLOCK_BYTES, MicroOp};
+use cs_micro::MicroOp;
 use std::alloc::{AllocError, Global};
 
 /// The size that the members leave of the file, which had this size: the last of those that change it
@@ -103,16 +103,11 @@ fn strike(part: &mut [u8], offset: usize, op: &MicroOp)
     match op {
         MicroOp::ChangeFileSize { length, .. } => cut(part, offset, *length as usize),
         MicroOp::WriteBlock {
-            block,
+            start,
             at,
             bytes,
             ..
-        } => write(
-            part,
-            offset,
-            (*block * BLOCK_BYTES + *at) as usize,
-            bytes.as_slice(),
-        ),
+        } => write(part, offset, (*start + *at) as usize, bytes.as_slice()),
         _ => {}
     }
 }
@@ -132,28 +127,28 @@ fn take(part: &mut [u8], offset: usize, ops: &[MicroOp], places: &[u32], members
     }
 }
 
-/// Takes those of the places that are members, in what lies in the block of a part of a file that begins
+/// Takes those of the places that are members, in what lies in the page of a part of a file that begins
 /// at the offset.
-fn take_block(
+fn take_page(
     part: &mut [u8],
     offset: usize,
-    block: usize,
+    page: usize,
     ops: &[MicroOp],
     places: &[u32],
     members: &[bool],
 )
     requires room { offset + length part.old < 2 ^ 64 }
-    requires begins { block * BLOCK_BYTES < offset + length part.old }
-    requires ends { offset < block * BLOCK_BYTES + BLOCK_BYTES }
+    requires begins { page * PAGE_BYTES < offset + length part.old }
+    requires ends { offset < page * PAGE_BYTES + PAGE_BYTES }
     requires small { All IsSmall ops.now }
     requires inside { All (λ place. place < length ops.now) places.now }
     ensures long { length part.new ≡ length part.old }
-    ensures inside { (f : Content) → IsPartIn block offset f part.old → IsPartIn block offset (struck_by ops.now members.now f places.now) part.new }
-    ensures outside { (k : ℕ) → (offset + k < block * BLOCK_BYTES) ⊎ (block * BLOCK_BYTES + BLOCK_BYTES ≤ offset + k) → slice_index_or part.new k 0 ≡ slice_index_or part.old k 0 }
+    ensures inside { (f : Content) → IsPartIn page offset f part.old → IsPartIn page offset (struck_by ops.now members.now f places.now) part.new }
+    ensures outside { (k : ℕ) → (offset + k < page * PAGE_BYTES) ⊎ (page * PAGE_BYTES + PAGE_BYTES ≤ offset + k) → slice_index_or part.new k 0 ≡ slice_index_or part.old k 0 }
 {
-    let first = block * BLOCK_BYTES as usize;
+    let first = page * PAGE_BYTES as usize;
     let from = first.saturating_sub(offset);
-    let end = first.saturating_add(BLOCK_BYTES as usize) - offset;
+    let end = first.saturating_add(PAGE_BYTES as usize) - offset;
     let end = part.len().min(end);
     take(&mut part[from..end], offset + from, ops, places, members);
 }
@@ -172,16 +167,16 @@ pub fn part_left(
     requires some { 0 < count }
     requires few { offset + count < 2 ^ 64 }
     requires small { All IsSmall ops.now }
-    requires inside { (block : ℕ) → All (λ place. place < length ops.now) (row_at steps.now block) }
+    requires inside { (page : ℕ) → All (λ place. place < length ops.now) (row_at steps.now page) }
     ensures long { IfOk result (λ part. length part.items ≡ count) }
-    ensures part { IfOk result (λ part. (g : Content) → ((block : ℕ) → AgreeIn block (struck_by ops.now members.now (whole start.now) (row_at steps.now block)) g) → IsPart offset g part.items) }
+    ensures part { IfOk result (λ part. (g : Content) → ((page : ℕ) → AgreeIn page (struck_by ops.now members.now (whole start.now) (row_at steps.now page)) g) → IsPart offset g part.items) }
 {
     let mut part = copied(alloc, start, offset, count)?;
-    let first = offset / BLOCK_BYTES as usize;
-    let last = (offset + count - 1) / BLOCK_BYTES as usize;
-    for block in first..last + 1 {
-        let row = steps.row(block as u64);
-        take_block(&mut part, offset, block, ops, row, members);
+    let first = offset / PAGE_BYTES as usize;
+    let last = (offset + count - 1) / PAGE_BYTES as usize;
+    for page in first..last + 1 {
+        let row = steps.row(page as u64);
+        take_page(&mut part, offset, page, ops, row, members);
     }
     Ok(part)
 }

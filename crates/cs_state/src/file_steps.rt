@@ -1,10 +1,10 @@
-//! Which micro-operations of a trace change a file, and which of its blocks.
-ghost use Rattle.std.specs.Prelude.{◌≡◌, ◌<◌, ◌^◌, ℕ, true, None, Some, length, slice_get, slice_index_or, IfOk, IsSome, OnOk};
+//! Which micro-operations of a trace change a file, and which of its pages.
+ghost use Rattle.std.specs.Prelude.{◌≡◌, ◌+◌, ◌/◌, ◌<◌, ◌≤◌, ◌^◌, ℕ, true, None, Some, length, slice_get, slice_index_or, IfOk, IsSome, OnOk};
 ghost use Rattle.std.specs.BTreeMap.{get};
 ghost use Rattle.std.specs.List.{All};
 ghost use Rattle.std.specs.Ordering.{nat_cmp};
 ghost use Rattle.cs_apm.specs.Atlases.{content_before, AreStarts};
-ghost use Rattle.cs_apm.specs.Contents.{changes};
+ghost use Rattle.cs_apm.specs.Contents.{IsSmall, changes};
 ghost use Rattle.cs_apm.specs.Rules.{op_at};
 ghost use Rattle.cs_state.specs.Shares.{ids};
 ghost use Rattle.cs_state.specs.Steps.{reaches, reaching, resizes, row_at, size_before, AreAllSteps, AreFileSteps, AreRows, HasRow};
@@ -17,16 +17,19 @@ use cs_trace::Trace;
 use std::alloc::{AllocError, Global};
 use std::collections::BTreeMap;
 
+/// The bytes of a page, by which files are read. No write crosses the end of one.
+pub const PAGE_BYTES: u64 = 4_096;
+
 /// The places of the micro-operations that change a file.
 #[derive(Debug, Drop)]
 pub struct FileSteps {
     /// Those that change its size.
     pub sizes: Vec<u32>,
-    /// Those that cut it off: no other reaches a block that none writes into.
+    /// Those that cut it off: no other reaches a page that none writes into.
     pub cuts: Vec<u32>,
-    /// For each block that one writes into, by its number: those that do, and those that cut the file
+    /// For each page that one writes into, by its number: those that do, and those that cut the file
     /// off.
-    pub blocks: BTreeMap<u64, Vec<u32>>,
+    pub pages: BTreeMap<u64, Vec<u32>>,
 }
 
 /// The file's size after a micro-operation.
@@ -58,14 +61,15 @@ fn resizes(file: usize, op: &MicroOp) -> bool
     }
 }
 
-/// Whether the micro-operation cuts off its file, which has this size, or writes into the block, if there
+/// Whether the micro-operation cuts off its file, which has this size, or writes into the page, if there
 /// is one.
-fn reaches(block: Option<u64>, size: u64, op: &MicroOp) -> bool
-    ensures { result ≡ reaches block size op.now }
+fn reaches(page: Option<u64>, size: u64, op: &MicroOp) -> bool
+    requires { IsSmall op.now }
+    ensures { result ≡ reaches page size op.now }
 {
     match op {
         MicroOp::ChangeFileSize { length, .. } => *length < size,
-        MicroOp::WriteBlock { block: other, .. } => block == Some(*other),
+        MicroOp::WriteBlock { start, at, .. } => page == Some((*start + *at) / PAGE_BYTES),
         _ => false,
     }
 }
@@ -125,60 +129,63 @@ fn changing(alloc: Global, file: usize, ops: &[MicroOp]) -> Result<Vec<u32>, All
     Ok(places)
 }
 
-/// Those of the places whose micro-operations reach the block, or cut the file off; its size before each is
+/// Those of the places whose micro-operations reach the page, or cut the file off; its size before each is
 /// given.
 fn reaching(
     alloc: Global,
-    block: Option<u64>,
+    page: Option<u64>,
     sizes: &[u64],
     ops: &[MicroOp],
     places: &[u32],
 ) -> Result<Vec<u32>, AllocError>
     requires few { length ops.now < 2 ^ 20 }
+    requires small { All IsSmall ops.now }
     requires long { length sizes.now ≡ length ops.now }
     requires inside { All (λ place. place < length ops.now) places.now }
-    ensures { IfOk result (λ found. found.items ≡ reaching sizes.now ops.now places.now block) }
+    ensures { IfOk result (λ found. found.items ≡ reaching sizes.now ops.now places.now page) }
 {
     let mut found = Vec::new(alloc);
     for place in places {
         let place = *place as usize;
-        push_if(&mut found, place, reaches(block, sizes[place], &ops[place]))?;
+        push_if(&mut found, place, reaches(page, sizes[place], &ops[place]))?;
     }
     Ok(found)
 }
 
-/// Gives the block a row, if it has none.
+/// Gives the page a row, if it has none.
 fn add_row(
     alloc: Global,
     rows: &mut BTreeMap<u64, Vec<u32>>,
-    block: u64,
+    page: u64,
     sizes: &[u64],
     ops: &[MicroOp],
     places: &[u32],
 ) -> Result<(), AllocError>
     requires few { length ops.now < 2 ^ 20 }
+    requires small { All IsSmall ops.now }
     requires long { length sizes.now ≡ length ops.now }
     requires inside { All (λ place. place < length ops.now) places.now }
     ensures each { OnOk result (AreRows sizes.now ops.now places.now (get nat_cmp rows.old) → AreRows sizes.now ops.now places.now (get nat_cmp rows.new)) }
     ensures keeps { OnOk result ((other : ℕ) → IsSome (get nat_cmp rows.old other) → IsSome (get nat_cmp rows.new other)) }
-    ensures there { OnOk result (IsSome (get nat_cmp rows.new block)) }
+    ensures there { OnOk result (IsSome (get nat_cmp rows.new page)) }
 {
-    if rows.contains_key(&block) {
+    if rows.contains_key(&page) {
         return Ok(());
     }
-    let row = reaching(alloc, Some(block), sizes, ops, places)?;
-    rows.insert(block, row)?;
+    let row = reaching(alloc, Some(page), sizes, ops, places)?;
+    rows.insert(page, row)?;
     Ok(())
 }
 
-/// For each block that one of the places writes into those that reach it.
-fn block_rows(
+/// For each page that one of the places writes into those that reach it.
+fn page_rows(
     alloc: Global,
     sizes: &[u64],
     ops: &[MicroOp],
     places: &[u32],
 ) -> Result<BTreeMap<u64, Vec<u32>>, AllocError>
     requires few { length ops.now < 2 ^ 20 }
+    requires small { All IsSmall ops.now }
     requires long { length sizes.now ≡ length ops.now }
     requires inside { All (λ place. place < length ops.now) places.now }
     ensures each { IfOk result (λ rows. AreRows sizes.now ops.now places.now (get nat_cmp rows)) }
@@ -186,8 +193,9 @@ fn block_rows(
 {
     let mut rows = BTreeMap::new(alloc);
     for place in places {
-        if let MicroOp::WriteBlock { block, .. } = &ops[*place as usize] {
-            add_row(alloc, &mut rows, *block, sizes, ops, places)?;
+        if let MicroOp::WriteBlock { start, at, .. } = &ops[*place as usize] {
+            let page = (*start + *at) / PAGE_BYTES;
+            add_row(alloc, &mut rows, page, sizes, ops, places)?;
         }
     }
     Ok(rows)
@@ -199,7 +207,7 @@ impl FileSteps {
         FileSteps {
             sizes: Vec::new(alloc),
             cuts: Vec::new(alloc),
-            blocks: BTreeMap::new(alloc),
+            pages: BTreeMap::new(alloc),
         }
     }
 
@@ -210,26 +218,23 @@ impl FileSteps {
         start: usize,
         ops: &[MicroOp],
     ) -> Result<FileSteps, AllocError>
-        requires { length ops.now < 2 ^ 20 }
+        requires few { length ops.now < 2 ^ 20 }
+        requires small { All IsSmall ops.now }
         ensures { IfOk result (AreFileSteps file start ops.now) }
     {
         let sizes = sizes_before(alloc, file, start as u64, ops)?;
         let places = changing(alloc, file, ops)?;
         let cuts = reaching(alloc, None, &sizes, ops, &places)?;
-        let blocks = block_rows(alloc, &sizes, ops, &places)?;
+        let pages = page_rows(alloc, &sizes, ops, &places)?;
         let sizes = resizing(alloc, file, ops)?;
-        Ok(FileSteps {
-            sizes,
-            cuts,
-            blocks,
-        })
+        Ok(FileSteps { sizes, cuts, pages })
     }
 
-    /// Those that reach the block.
-    pub fn row(&self, block: u64) -> &[u32]
-        ensures { result.now ≡ row_at self.now block }
+    /// Those that reach the page.
+    pub fn row(&self, page: u64) -> &[u32]
+        ensures { result.now ≡ row_at self.now page }
     {
-        match self.blocks.get(&block) {
+        match self.pages.get(&page) {
             Some(row) => row,
             None => &self.cuts,
         }
@@ -258,6 +263,7 @@ fn steps_of(
     file: usize,
 ) -> Result<FileSteps, AllocError>
     requires few { length ops.now < 2 ^ 20 }
+    requires small { All IsSmall ops.now }
     requires starts { AreStarts trace.now tables.now.starts.items }
     requires known { file < length tables.now.changed.items }
     ensures { IfOk result (λ steps. slice_get tables.now.changed.items file ≡ Some true → AreFileSteps file (length (content_before trace.now ops.now file).bytes) ops.now steps) }
@@ -278,6 +284,7 @@ pub fn all_steps(
     tables: &Tables,
 ) -> Result<Vec<FileSteps>, AllocError>
     requires few { length ops.now < 2 ^ 20 }
+    requires small { All IsSmall ops.now }
     requires starts { AreStarts trace.now tables.now.starts.items }
     ensures { IfOk result (λ all. AreAllSteps trace.now ops.now tables.now.changed.items all.items) }
 {

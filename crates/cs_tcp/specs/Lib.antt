@@ -1,1 +1,2 @@
 pub mod Reloads
+pub mod Summary

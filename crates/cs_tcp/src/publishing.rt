@@ -3,7 +3,7 @@ ghost use Rattle.cs_shared.specs.Serving.{IsOnly};
 
 use crate::log::Log;
 use crate::progress::Progress;
-use cs_publish::{PublishAllFault, publish_into};
+use cs_publish::{PublishAllFault, publish_own_into};
 use cs_serve::ProgramFault;
 use cs_server::Server;
 use cs_shared::Served;
@@ -23,7 +23,7 @@ pub(crate) fn publish<S: Served + Send + Sync, R: Threads + Wait + Sync, E: Writ
     requires { IsOnly S.is_scene server.now }
 {
     let progress = Progress { rt, server, log };
-    let fault = match publish_into(rt, alloc, server.registry(), workers, &progress) {
+    let fault = match publish_own_into(rt, alloc, server.registry(), workers, &progress) {
         Ok(states) => {
             log.published(rt, states);
             return true;

@@ -11,9 +11,9 @@ use crate::publishing::publish;
 use crate::reloading::{ReadsFiles, Reloading};
 use crate::site::Site;
 use crate::slots::{start_slots, start_watch};
-use crate::summary::print_runs;
+use crate::summary::summary_of;
 use cs_plan::Scene;
-use cs_serve::{Inputs, ProgramFault, scene_of, users_of};
+use cs_serve::{Inputs, ProgramFault, print_to, scene_of, users_of};
 use cs_server::Server;
 use cs_shared::{Served, SharedRegistry};
 use std::alloc::Global;
@@ -176,7 +176,9 @@ where
     let served = serve_each(rt, alloc, &site, serving, input, log);
     let failed = site.entrance.failed(rt);
     let (server, passes) = site.into_parts();
-    print_runs(rt, alloc, &server, &passes, out)?;
+    let summary = summary_of(rt, alloc, &server, &passes)?;
+    print_to(out, summary.as_bytes())?;
+    out.flush().map_err(|_| ProgramFault::Output)?;
     Ok(served && !failed)
 }
 

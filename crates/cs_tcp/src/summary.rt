@@ -1,20 +1,23 @@
-//! What is told of the runs at the end.
+//! What is printed of the runs at the end.
+ghost use Rattle.std.specs.Prelude.{◌≡◌, ◌++◌, IfOk, OnOk, Some, string_bytes};
+ghost use Rattle.cs_tcp.specs.Summary.{AreReported, IsReport, IsSummary, run_line, told_text, verdict_text};
 
 use cs_journal::AuditFault;
 use cs_registry::RunKey;
 use cs_serve::ProgramFault;
 use cs_server::{GivenPasses, Server};
-use cs_shared::{AuditBy, NamedRun, Served};
-use std::alloc::Global;
+use cs_shared::{AuditBy, Served, SharedRun};
+use std::alloc::{AllocError, Global};
 use std::fmt;
-use std::io::Write;
 use std::sync::Wait;
 
-/// What an audit comes to, in words.
+/// An audit's result, in words.
 #[derive(Clone, Copy)]
 struct Verdict(Result<(), AuditFault>);
 
 impl fmt::Display for Verdict {
+    ghost output = { λ verdict. Some (verdict_text verdict.0) };
+
     fn fmt<W: fmt::Write>(&self, f: &mut fmt::Formatter<W>) -> fmt::Result {
         match self.0 {
             Ok(()) => f.write_str("ok"),
@@ -25,38 +28,94 @@ impl fmt::Display for Verdict {
     }
 }
 
-/// How many entries the run's journal has, and what its audit comes to.
-fn audit<S: Served, R: Wait>(
-    rt: &R,
-    named: &NamedRun<S>,
-    passes: &GivenPasses,
-) -> (usize, Result<(), AuditFault>) {
-    let passes = match RunKey::read(named.run().number(), named.name().as_bytes()) {
-        Some(key) => passes.of(&key),
-        None => &[],
-    };
-    named.run().inspect(rt, AuditBy { passes })
+/// How many entries a run's journal has, and its audit's result.
+#[derive(Clone, Copy)]
+struct Told(Option<(usize, Result<(), AuditFault>)>);
+
+impl fmt::Display for Told {
+    ghost output = { λ told. Some (told_text told.0) };
+
+    fn fmt<W: fmt::Write>(&self, f: &mut fmt::Formatter<W>) -> fmt::Result {
+        match self.0 {
+            Some((entries, audit)) => {
+                let verdict = Verdict(audit);
+                write!(f, "entries {entries} audit {verdict}")
+            }
+            None => f.write_str("foreign"),
+        }
+    }
 }
 
-/// Prints a line a run, by the numbers of their states and then by name: its key, how many entries
-/// its journal has, and what its audit by these passes comes to.
-pub(crate) fn print_runs<S: Served, R: Wait, W: Write>(
+/// What is printed of a run: its key, how many entries its journal has, and its audit's result;
+/// neither if the run under the lock is of another number.
+#[derive(Drop)]
+pub(crate) struct RunReport {
+    key: RunKey,
+    told: Option<(usize, Result<(), AuditFault>)>,
+}
+
+impl fmt::Display for RunReport {
+    ghost output = { λ report. Some (run_line report) };
+
+    fn fmt<W: fmt::Write>(&self, f: &mut fmt::Formatter<W>) -> fmt::Result {
+        let (number, name, told) = (self.key.number(), self.key.name(), Told(self.told));
+        write!(f, "run {number}/{name} {told}\n")
+    }
+}
+
+/// Audits a run by the passes of its key.
+fn report_of<S: Served, R: Wait>(rt: &R, run: &SharedRun<S>, passes: &GivenPasses) -> RunReport
+    ensures key { result.key ≡ run.now }
+    ensures report { IsReport S.serves passes.now result }
+{
+    let passes = passes.of(run.key());
+    RunReport {
+        key: run.key().again(),
+        told: run.inspect(rt, AuditBy { passes }),
+    }
+}
+
+/// Adds the line of a run.
+fn push_line(alloc: Global, text: &mut String, report: &RunReport) -> Result<(), AllocError>
+    ensures { OnOk result
+        (string_bytes text.new ≡ string_bytes text.old ++ run_line report.now) }
+{
+    let line = format!(in alloc; "{report}")?;
+    text.push_str(line.as_str())
+}
+
+/// The lines of these runs, in their order.
+fn runs_text<S: Served, R: Wait>(
+    rt: &R,
+    alloc: Global,
+    runs: &[SharedRun<S>],
+    passes: &GivenPasses,
+) -> Result<String, AllocError>
+    ensures { IfOk result (λ text. AreReported S.serves passes.now runs.now (string_bytes text)) }
+{
+    let mut text = String::new(alloc);
+    for run in runs {
+        let report = report_of(rt, run, passes);
+        push_line(alloc, &mut text, &report)?;
+    }
+    Ok(text)
+}
+
+/// A line for each run, by the numbers of their states and then by name: its key, how many entries
+/// its journal has, and the result of its audit by the passes of its key.
+pub(crate) fn summary_of<S: Served, R: Wait>(
     rt: &R,
     alloc: Global,
     server: &Server<S>,
     passes: &GivenPasses,
-    out: &mut W,
-) -> Result<(), ProgramFault> {
+) -> Result<String, ProgramFault>
+    ensures { IfOk result (λ text. IsSummary S.serves passes.now (string_bytes text)) }
+{
     let Ok(runs) = server.registry().runs(rt, alloc) else {
         return Err(ProgramFault::Memory);
     };
-    for named in &runs {
-        let (number, name) = (named.run().number(), named.name());
-        let (entries, audit) = audit(rt, named, passes);
-        let verdict = Verdict(audit);
-        writeln!(out, "run {number}/{name} entries {entries} audit {verdict}").map_err(
-            |_| ProgramFault::Output,
-        )?;
+    match runs_text(rt, alloc, &runs, passes) {
+        Ok(text) => Ok(text),
+        Err(_) => Err(ProgramFault::Memory),
     }
-    out.flush().map_err(|_| ProgramFault::Output)
 }

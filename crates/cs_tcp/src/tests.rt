@@ -7,5 +7,7 @@ mod loopback;
 mod refusals;
 mod reloads;
 mod renames;
+mod summary;
 mod telling;
+mod time;
 mod workers;

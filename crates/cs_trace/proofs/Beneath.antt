@@ -38,7 +38,8 @@ below_between (x ∷ d) s (y ∷ q) low high =
           absurd (high (ap (λ o. ordering_then o (path_cmp q (d ++ s))) back))
       | Equal ↦ λ is.
           let back : name_cmp y x ≡ Equal = names_total.antisymm y x ∙ ap ordering_reverse is in
-          let rest = below_between d s q (sym (ap (λ o. ordering_then o (path_cmp d q)) is) ∙ low) (λ g. high (ap (λ o. ordering_then o (path_cmp q (d ++ s))) back ∙ g)) in
+          let rest = below_between d s q (sym (ap (λ o. ordering_then o (path_cmp d q)) is) ∙ low)
+          (λ g. high (ap (λ o. ordering_then o (path_cmp q (d ++ s))) back ∙ g)) in
           (rest.0, (λ i. names_exact y x back i ∷ rest.1 i))
       | Greater ↦ λ is. absurd (false≢true (sym (ap is_gt low) ∙ ap is_gt (ap (λ o. ordering_then o (path_cmp d q)) is)))
     ] refl
@@ -112,16 +113,19 @@ module _ (d : Path) where
     abbrev any_below : List (Path × X) → Bool
     any_below es = list_any (λ e. is_below d e.0) es
 
-    none_by : (k q : Path) (es : List (Path × X)) (b : Bool) → path_cmp d k ≡ Less → starts_with same_bytes k d ≡ false → path_cmp k q ≡ Less → is_below d q ≡ b → any_below es ≡ false → b || any_below es ≡ false
+    none_by : (k q : Path) (es : List (Path × X)) (b : Bool) → path_cmp d k ≡ Less → starts_with same_bytes k d ≡ false
+        → path_cmp k q ≡ Less → is_below d q ≡ b → any_below es ≡ false → b || any_below es ≡ false
     none_by k q es true low starts high is rest = absurd (false≢true (sym starts ∙ between k q low high is))
     none_by k q es false low starts high is rest = rest
 
     -- nothing after the path is below it
-    none_below : (k : Path) → path_cmp d k ≡ Less → starts_with same_bytes k d ≡ false → (es : List (Path × X)) → AllByRecursion (λ l. path_cmp k l ≡ Less) (keys_of es) → any_below es ≡ false
+    none_below : (k : Path) → path_cmp d k ≡ Less → starts_with same_bytes k d ≡ false → (es : List (Path × X))
+        → AllByRecursion (λ l. path_cmp k l ≡ Less) (keys_of es) → any_below es ≡ false
     none_below k low starts [] all = refl
     none_below k low starts (e ∷ es) all = none_by k e.0 es (is_below d e.0) low starts all.0 refl (none_below k low starts es all.1)
 
-    none_after : (e : Path × X) (es : List (Path × X)) (b : Bool) → after e ≡ b → (filter after es ≡ [] → false ≡ any_below es) → (if b then e ∷ filter after es else filter after es) ≡ [] → false ≡ any_below (e ∷ es)
+    none_after : (e : Path × X) (es : List (Path × X)) (b : Bool) → after e ≡ b → (filter after es ≡ [] → false ≡ any_below es)
+        → (if b then e ∷ filter after es else filter after es) ≡ [] → false ≡ any_below (e ∷ es)
     none_after e es true here rest is = absurd (cc)
     none_after e es false here rest is = rest is ∙ ap (λ b. b || any_below es) (sym (not_after e.0 here))
 
@@ -135,7 +139,8 @@ module _ (d : Path) where
     here_by e es true all starts low = ap (λ b. b || any_below es) (sym (below_of e.0 low starts))
     here_by e es false all starts low =
         sym (none_below e.0 low starts es all)
-        ∙ ap (λ b. b || any_below es) (sym (ap (λ b. nat_lt (length d) (length e.0) && b) starts ∙ no_more (nat_lt (length d) (length e.0))))
+        ∙ ap (λ b. b || any_below es) (sym (ap (λ b. nat_lt (length d) (length e.0) && b) starts
+        ∙ no_more (nat_lt (length d) (length e.0))))
 
     first_by : (e : Path × X) (es : List (Path × X)) (k : Path) (v : X) (rest : List (Path × X)) (b : Bool) → after e ≡ b
         → AllByRecursion (λ l. path_cmp e.0 l ≡ Less) (keys_of es)
@@ -147,7 +152,8 @@ module _ (d : Path) where
     first_by e es k v rest false here all later is = later is ∙ ap (λ b. b || any_below es) (sym (not_after e.0 here))
 
     -- the first that comes after the path decides
-    pub below-first : (es : List (Path × X)) (k : Path) (v : X) (rest : List (Path × X)) → IsStrictlySortedBy path_cmp (keys_of es) → filter after es ≡ (k, v) ∷ rest
+    pub below-first : (es : List (Path × X)) (k : Path) (v : X) (rest : List (Path × X)) → IsStrictlySortedBy path_cmp (keys_of es)
+        → filter after es ≡ (k, v) ∷ rest
         → starts_with same_bytes k d ≡ any_below es
     unfolding IsStrictlySortedBy
     below-first [] k v rest sorted is = absurd (cc)

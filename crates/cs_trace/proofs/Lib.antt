@@ -1,17 +1,13 @@
 pub mod Beneath
 pub mod FirstFaults
 pub mod LineByLine
-pub mod Members
-pub mod Octal
 pub mod Past
 pub mod Resolved
 pub mod Sound
 pub mod SoundSteps
 pub mod Spelling
-pub mod Spelled
 pub mod Started
 pub mod Trees
-pub mod Turns
 pub mod Views
 pub mod Whole
 pub mod Within

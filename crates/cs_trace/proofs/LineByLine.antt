@@ -7,25 +7,30 @@ use Rattle.cs_trace.specs.Judging.{and_then}
 use Rattle.cs_trace.specs.Traces.{MayWant, trace_by}
 use Rattle.std.specs.List.{enumerate_from}
 use Rattle.std.specs.Result.{is_ok}
-use Rattle.cs_trace.specs.Lines.{is_blank}
+use Rattle.cs_trace_lines.specs.Lines.{is_blank}
 use Rattle.cs_trace.specs.States.{State, at_line, nothing, state_from, state_in, step}
 use Rattle.cs_trace.specs.declared.fault.TraceFault.{TraceFault}
 use Rattle.cs_trace.specs.declared.fault.TraceFaultKind.{TraceFaultKind}
 
 -- some lines, and then more
 appended_by : (r : Result State TraceFault) (n k : ℕ) (lines more : List (List ℕ)) → n + 1 + length lines ≡ k
-    → ((next : State) → state_from next (n + 1) (lines ++ more) ≡ and_then (state_from next (n + 1) lines) (λ last. state_from last (n + 1 + length lines) more))
-    → and_then r (λ next. state_from next (n + 1) (lines ++ more)) ≡ and_then (and_then r (λ next. state_from next (n + 1) lines)) (λ last. state_from last k more)
-appended_by (Ok next) n k lines more is rest = rest next ∙ ap (λ i. and_then (state_from next (n + 1) lines) (λ last. state_from last i more)) is
+    → ((next : State) → state_from next (n + 1) (lines ++ more) ≡ and_then (state_from next (n + 1) lines)
+    (λ last. state_from last (n + 1 + length lines) more))
+    → and_then r (λ next. state_from next (n + 1) (lines ++ more)) ≡ and_then (and_then r (λ next. state_from next (n + 1) lines))
+    (λ last. state_from last k more)
+appended_by (Ok next) n k lines more is rest =
+    rest next ∙ ap (λ i. and_then (state_from next (n + 1) lines) (λ last. state_from last i more)) is
 appended_by (Err fault) n k lines more is rest = refl
 
 state_from-append : (m : State) (n : ℕ) (lines more : List (List ℕ))
     → state_from m n (lines ++ more) ≡ and_then (state_from m n lines) (λ last. state_from last (n + length lines) more)
 state_from-append m n [] more = let same : n ≡ n + 0 = omega arith in ap (λ i. state_from m i more) same
 state_from-append m n (text ∷ lines) more =
-    appended_by (at_line n (step m text)) n (n + length (text ∷ lines)) lines more (omega arith) (λ next. state_from-append next (n + 1) lines more)
+    appended_by (at_line n (step m text)) n (n + length (text ∷ lines)) lines more (omega arith)
+    (λ next. state_from-append next (n + 1) lines more)
 
-module _ (m : State) (i : ℕ) (all : List (List ℕ)) (line : List ℕ) (low : i < length all) (is : line ≡ get_or all i line) (before : state_in (take i all) ≡ Ok m) where
+module _ (m : State) (i : ℕ) (all : List (List ℕ)) (line : List ℕ) (low : i < length all) (is : line ≡ get_or all i line)
+    (before : state_in (take i all) ≡ Ok m) where
   -- what this line and those before it give
   one_more : (r : Result State TraceFaultKind) → step m line ≡ r → state_in (take (i + 1) all) ≡ and_then (at_line (i + 1) r) Ok
   one_more r does =
@@ -55,7 +60,8 @@ pub record IsTurn (all : List (List ℕ)) (done i : ℕ) (line : List ℕ) : Typ
   pub low : i < length all
   pub is : line ≡ get_or all i line
 
-pub turn : (all : List (List ℕ)) (done i : ℕ) (line : List ℕ) → (done < length (enumerate_from 0 all)) × ((i, line) ≡ get_or (enumerate_from 0 all) done (i, line)) → IsTurn all done i line
+pub turn : (all : List (List ℕ)) (done i : ℕ) (line : List ℕ) → (done < length (enumerate_from 0 all))
+    × ((i, line) ≡ get_or (enumerate_from 0 all) done (i, line)) → IsTurn all done i line
 turn all done i line at =
     let low : done < length all = omega (arith, length-enumerate_from 0 all, at.0) in
     let pair : (i, line) ≡ (0 + done, get_or all done line) = at.1 ∙ get_or-enumerate_from 0 all done (i, line) low in
@@ -74,15 +80,19 @@ prefix_ok i all ok =
     prefix_by (state_in (take i all)) (λ last. state_from last (1 + length (take i all)) (drop i all))
     (ap is_ok (sym (ap state_in (sym (take-append-drop i all)) ∙ state_from-append nothing 1 (take i all) (drop i all))) ∙ ok)
 
-pub MayWant-line : (m : State) (i : ℕ) (all : List (List ℕ)) (line : List ℕ) → i < length all → line ≡ get_or all i line → state_in (take i all) ≡ Ok m → is_blank line ≡ false → MayWant all (i + 1)
+pub MayWant-line : (m : State) (i : ℕ) (all : List (List ℕ)) (line : List ℕ) → i < length all → line ≡ get_or all i line
+    → state_in (take i all) ≡ Ok m → is_blank line ≡ false → MayWant all (i + 1)
 MayWant-line m i all line low is before says =
     let at : i + 1 - 1 ≡ i = omega arith in
     record {
       above = omega arith;
       among = omega arith;
       before = ap (λ k. is_ok (state_in (take k all))) at ∙ ap is_ok before;
-      blank = λ blank. absurd (false≢true (sym says ∙ ap is_blank (is ∙ get_or_default all i line [] low ∙ ap (λ k. get_or all k []) (sym at)) ∙ blank));
+      blank =
+          λ blank. absurd (false≢true (sym says ∙ ap is_blank (is ∙ get_or_default all i line [] low ∙ ap (λ k. get_or all k []) (sym at))
+          ∙ blank));
     }
 
 pub MayWant-last : (all : List (List ℕ)) → 0 < length all → IsOk (state_in all) → IsOk (trace_by all) → MayWant all (length all)
-MayWant-last all some ok start = record { above = some; among = omega arith; before = prefix_ok (length all - 1) all ok; blank = λ _. (refl, start) }
+MayWant-last all some ok start =
+    record { above = some; among = omega arith; before = prefix_ok (length all - 1) all ok; blank = λ _. (refl, start) }

@@ -15,8 +15,10 @@ use Rattle.cs_tree_model.specs.Tree.{Path, path_cmp, parent_path}
 use Rattle.cs_trace.specs.Attributes.{with_directory, with_file}
 use Rattle.cs_trace.specs.Entries.{Entries, node_by, node_of, size_of}
 use Rattle.cs_trace.specs.Judging.{AreShort}
+use Rattle.cs_trace.specs.Kept.{AreShortAtStart}
 use Rattle.cs_trace.specs.Operations.{AreLegal, IsDirectoryAt, Paths, made_by, paths_after_all, sizes_after_all}
-use Rattle.cs_trace.specs.States.{State, nothing, with_entry}
+use Rattle.cs_trace.specs.States.{State, nothing, with_entry, with_link}
+use Rattle.cs_trace.specs.Traces.{AreLinks}
 use Rattle.cs_trace.specs.declared.entry.Entry.{Entry}
 use Rattle.cs_trace.specs.declared.operation.Node.{Node}
 use Rattle.cs_trace.specs.declared.operation.Rights.{Rights}
@@ -39,17 +41,28 @@ sizes_of s = map (λ p. entry_size (get s.start p)) s.files
 abbrev pub AreSmall : Entries → Type 0
 AreSmall m = (p : Path) (e : Entry) → get m p ≡ Some e → size_of e.content ≤ FILE_BYTES
 
+-- the file of an entry was made at a path that has this entry too
+pub record HasOwn (files : List Path) (m : Entries) (e : Entry) : Type 0 where
+  pub own : Path
+  pub at : slice_get files e.number ≡ Some own
+  pub entry : get m own ≡ Some e
+
+abbrev pub AreFound : List Path → Entries → Type 0
+AreFound files m = (p : Path) (e : Entry) → get m p ≡ Some e → (bytes : List ℕ) → e.content ≡ Some bytes → HasOwn files m e
+
 pub record IsSound (s : State) : Type 0 where
   pub fresh : s.made ≡ 0 → s ≡ nothing
   pub rooted : s.made ≢ 0 → IsDirectoryAt (start_of s) []
   pub nested : (p : Path) (node : Node) → get (start_of s) p ≡ Some node → p ≢ [] → IsDirectoryAt (start_of s) (parent_path p)
   pub octal : (p : Path) (e : Entry) → get s.start p ≡ Some e → e.rights.permissions ≤ 511
   pub numbered : (n : ℕ) (p : Path) → slice_get s.files n ≡ Some p → get (start_of s) p ≡ Some (File n)
-  pub found : (n : ℕ) (p : Path) → get (start_of s) p ≡ Some (File n) → slice_get s.files n ≡ Some p
+  pub linked : AreLinks (start_of s) s.links
+  pub found : AreFound s.files s.start
   pub paths : s.paths ≡ paths_after_all (start_of s) s.operations
   pub sizes : s.sizes ≡ sizes_after_all (sizes_of s) s.operations
   pub legal : AreLegal (start_of s) (sizes_of s) s.operations
   pub short : AreShort s.paths
+  pub started : AreShortAtStart s.start
   pub known : AreKnown s.paths s.sizes
   pub few : s.made ≤ TREE_RECORDS
   pub counted : length s.sizes ≤ s.made
@@ -68,16 +81,20 @@ slice_get-push_new : {X : Type 0} (xs : List X) (x : X) → slice_get (xs ++ x �
 slice_get-push_new [] x = refl
 slice_get-push_new (z ∷ xs) x = slice_get-push_new xs x
 
-slice_get-push : {X : Type 0} (xs : List X) (x : X) (n : ℕ) (y : X) → slice_get (xs ++ x ∷ []) n ≡ Some y → (slice_get xs n ≡ Some y) ⊎ ((n ≡ length xs) × (y ≡ x))
+slice_get-push : {X : Type 0} (xs : List X) (x : X) (n : ℕ) (y : X) → slice_get (xs ++ x ∷ []) n ≡ Some y
+    → (slice_get xs n ≡ Some y) ⊎ ((n ≡ length xs) × (y ≡ x))
 slice_get-push [] x zero y is = inr (refl, sym (same_Some x y is))
 slice_get-push [] x (suc n) y is = absurd (cc)
 slice_get-push (z ∷ xs) x zero y is = inl is
 slice_get-push (z ∷ xs) x (suc n) y is = ⊎_elim (λ old. inl old) (λ new. inr (ap suc new.0, new.1)) (slice_get-push xs x n y is)
 
 -- one file's rights more
-pub pushed_octal : (rs : List Rights) (r : Rights) → ((n : ℕ) (q : Rights) → slice_get rs n ≡ Some q → q.permissions ≤ 511) → r.permissions ≤ 511
+pub pushed_octal : (rs : List Rights) (r : Rights) → ((n : ℕ) (q : Rights) → slice_get rs n ≡ Some q → q.permissions ≤ 511)
+    → r.permissions ≤ 511
     → (n : ℕ) (q : Rights) → slice_get (rs ++ r ∷ []) n ≡ Some q → q.permissions ≤ 511
-pushed_octal rs r old octal n q at = ⊎_elim (old n q) (λ (new : (n ≡ length rs) × (q ≡ r)). subst (λ (w : Rights). w.permissions ≤ 511) (sym new.1) octal) (slice_get-push rs r n q at)
+pushed_octal rs r old octal n q at =
+    ⊎_elim (old n q) (λ (new : (n ≡ length rs) × (q ≡ r)). subst (λ (w : Rights). w.permissions ≤ 511) (sym new.1) octal)
+    (slice_get-push rs r n q at)
 
 -- two functions that agree on what is in a list
 map_same : {X Y : Type 0} (f g : X → Y) (xs : List X) → ((n : ℕ) (x : X) → slice_get xs n ≡ Some x → f x ≡ g x) → map f xs ≡ map g xs
@@ -86,23 +103,30 @@ map_same f g (x ∷ xs) same = λ i. same 0 x refl i ∷ map_same f g xs (λ n y
 
 -- ---- one entry more at the start
 
-pub map_values-insert : (m : Entries) (p : Path) (e : Entry) → map_values node_of (insert m p e) ≡ insert (map_values node_of m) p (node_of e)
+pub map_values-insert : (m : Entries) (p : Path) (e : Entry)
+    → map_values node_of (insert m p e) ≡ insert (map_values node_of m) p (node_of e)
 map_values-insert m p e = same_map path_total path_exact _ _ (λ q. ⊎_elim
     (λ (one : (eq_by_cmp path_cmp q p ≡ true) × (q ≡ p)).
-    get-map_values path_cmp node_of (insert m p e) q ∙ ap (λ o. option_map node_of o) (get-insert path_total m p e q ∙ ap (λ b. cond b (Some e) (get m q)) one.0)
-    ∙ sym (get-insert path_total (map_values node_of m) p (node_of e) q ∙ ap (λ b. cond b (Some (node_of e)) (get (map_values {R = path_cmp} node_of m) q)) one.0))
+    get-map_values path_cmp node_of (insert m p e) q ∙ ap (λ o. option_map node_of o)
+    (get-insert path_total m p e q ∙ ap (λ b. cond b (Some e) (get m q)) one.0)
+    ∙ sym (get-insert path_total (map_values node_of m) p (node_of e) q
+    ∙ ap (λ b. cond b (Some (node_of e)) (get (map_values {R = path_cmp} node_of m) q)) one.0))
     (λ (two : (eq_by_cmp path_cmp q p ≡ false) × (q ≢ p)).
-    get-map_values path_cmp node_of (insert m p e) q ∙ ap (λ o. option_map node_of o) (get-insert path_total m p e q ∙ ap (λ b. cond b (Some e) (get m q)) two.0)
-    ∙ sym (get-insert path_total (map_values node_of m) p (node_of e) q ∙ ap (λ b. cond b (Some (node_of e)) (get (map_values {R = path_cmp} node_of m) q)) two.0 ∙ get-map_values path_cmp node_of m q))
+    get-map_values path_cmp node_of (insert m p e) q ∙ ap (λ o. option_map node_of o)
+    (get-insert path_total m p e q ∙ ap (λ b. cond b (Some e) (get m q)) two.0)
+    ∙ sym (get-insert path_total (map_values node_of m) p (node_of e) q
+    ∙ ap (λ b. cond b (Some (node_of e)) (get (map_values {R = path_cmp} node_of m) q)) two.0 ∙ get-map_values path_cmp node_of m q))
     (path_cases q p))
 
 -- what holds of the new value and of each old one holds of each
-pub each_of : {X : Type 0} (m : FinMap path_cmp X) (p : Path) (v : X) (P : Path → X → Type 0) → P p v → ((q : Path) (w : X) → q ≢ p → get m q ≡ Some w → P q w) → (q : Path) (w : X) → get (insert m p v) q ≡ Some w → P q w
+pub each_of : {X : Type 0} (m : FinMap path_cmp X) (p : Path) (v : X) (P : Path → X → Type 0) → P p v
+    → ((q : Path) (w : X) → q ≢ p → get m q ≡ Some w → P q w) → (q : Path) (w : X) → get (insert m p v) q ≡ Some w → P q w
 each_of m p v P new old q w found = ⊎_elim
     (λ (one : (eq_by_cmp path_cmp q p ≡ true) × (q ≡ p)).
     let here : Some v ≡ Some w = sym (get-insert_same path_total path_exact m p v) ∙ ap (get (insert m p v)) (sym one.1) ∙ found in
     subst (λ x. P x w) (sym one.1) (subst (λ x. P p x) (same_Some v w here) new))
-    (λ (two : (eq_by_cmp path_cmp q p ≡ false) × (q ≢ p)). old q w two.1 (sym (get-insert_other path_total path_exact m q p v two.1) ∙ found))
+    (λ (two : (eq_by_cmp path_cmp q p ≡ false) × (q ≢ p)). old q w two.1
+    (sym (get-insert_other path_total path_exact m q p v two.1) ∙ found))
     (path_cases q p)
 
 abbrev AreRooted : Paths → Type 0
@@ -114,9 +138,6 @@ AreInDirectories m = (q : Path) (node : Node) → get m q ≡ Some node → q �
 abbrev HaveNumbers : List Path → Paths → Type 0
 HaveNumbers files m = (n : ℕ) (q : Path) → slice_get files n ≡ Some q → get m q ≡ Some (File n)
 
-abbrev AreFound : List Path → Paths → Type 0
-AreFound files m = (n : ℕ) (q : Path) → get m q ≡ Some (File n) → slice_get files n ≡ Some q
-
 pub not_file : {X : Type 0} (n : ℕ) → Directory ≡ File n → X
 not_file n is = absurd (cc)
 
@@ -125,7 +146,8 @@ file_number a b is = cc
 
 module _ (s : State) (sound : IsSound s) (p : Path) (e : Entry)
     (none : s.operations ≡ []) (free : get (start_of s) p ≡ None) (above : p ≢ [] → IsDirectoryAt (start_of s) (parent_path p))
-    (octal : e.rights.permissions ≤ 511) (short : length p ≤ TRACE_PATH_NAMES) (few : s.made + 1 ≤ TREE_RECORDS) (small : size_of e.content ≤ FILE_BYTES) where
+    (octal : e.rights.permissions ≤ 511) (short : length p ≤ TRACE_PATH_NAMES) (few : s.made + 1 ≤ TREE_RECORDS)
+    (small : size_of e.content ≤ FILE_BYTES) where
   abbrev now : Paths
   now = insert (start_of s) p (node_of e)
 
@@ -140,6 +162,34 @@ module _ (s : State) (sound : IsSound s) (p : Path) (e : Entry)
 
   pub stays : (q : Path) (node : Node) → get (start_of s) q ≡ Some node → get now q ≡ Some node
   stays q node there = get-insert_other path_total path_exact (start_of s) q p (node_of e) (other q node there) ∙ there
+
+  entry_stays : (q : Path) (f : Entry) → get s.start q ≡ Some f → get (insert s.start p e) q ≡ Some f
+  entry_stays q f there =
+      get-insert_other path_total path_exact s.start q p e
+      (other q (node_of f) (get-map_values path_cmp node_of s.start q ∙ ap (option_map node_of) there)) ∙ there
+
+  -- what stood before finds its file, also after new ones
+  still_found : (files : List Path) → ((n : ℕ) (q : Path) → slice_get s.files n ≡ Some q → slice_get files n ≡ Some q)
+      → (q : Path) (f : Entry) → get s.start q ≡ Some f → (bytes : List ℕ) → f.content ≡ Some bytes → HasOwn files (insert s.start p e) f
+  still_found files more q f there bytes content =
+      let old = sound.found q f there bytes content in
+      record { own = old.own; at = more f.number old.own old.at; entry = entry_stays old.own f old.entry }
+
+  abbrev Finds : List Path → Path → Entry → Type 0
+  Finds files q f = (bytes : List ℕ) → f.content ≡ Some bytes → HasOwn files (insert s.start p e) f
+
+  all_found : (files : List Path) → ((n : ℕ) (q : Path) → slice_get s.files n ≡ Some q → slice_get files n ≡ Some q) → Finds files p e
+      → AreFound files (insert s.start p e)
+  all_found files more new = each_of s.start p e (Finds files) new (λ q f apart there. still_found files more q f there)
+
+  old_links : AreLinks now s.links
+  old_links n link at = stays link.0 (File link.1) (sound.linked n link at)
+
+  all_started : AreShortAtStart (insert s.start p e)
+  all_started = each_of s.start p e (λ q f. length q ≤ TRACE_PATH_NAMES) short (λ q f apart there. sound.started q f there)
+
+  no_content : (bytes : List ℕ) → e.content ≡ None → e.content ≡ Some bytes → ⊥
+  no_content bytes none some = not_both e.content bytes none some
 
   in_directories : AreInDirectories now
   in_directories = each_of (start_of s) p (node_of e) (λ q node. q ≢ [] → IsDirectoryAt now (parent_path q))
@@ -169,7 +219,9 @@ module _ (s : State) (sound : IsSound s) (p : Path) (e : Entry)
   all_short = each_of s.paths p (node_of e) (λ q node. length q ≤ TRACE_PATH_NAMES) short (λ q node apart there. sound.short q node there)
 
   paths_now : insert s.paths p (node_of e) ≡ paths_after_all (map_values node_of (insert s.start p e)) s.operations
-  paths_now = ap (λ w. insert w p (node_of e)) same_paths ∙ sym same_start ∙ sym (ap (paths_after_all (map_values node_of (insert s.start p e))) none)
+  paths_now =
+      ap (λ w. insert w p (node_of e)) same_paths ∙ sym same_start
+      ∙ sym (ap (paths_after_all (map_values node_of (insert s.start p e))) none)
 
   none_legal : (m : Paths) (sizes : List ℕ) → AreLegal m sizes s.operations
   none_legal m sizes = subst (λ ops. AreLegal m sizes ops) (sym none) tt
@@ -202,14 +254,13 @@ module _ (s : State) (sound : IsSound s) (p : Path) (e : Entry)
       nested = subst AreInDirectories (sym same_start) in_directories;
       octal = all_octal;
       numbered = subst (HaveNumbers s.files) (sym same_start) old_numbers;
-      found = subst (AreFound s.files) (sym same_start) (λ n q there. each_of (start_of s) p (node_of e) (λ r node. node ≡ File n → slice_get s.files n ≡ Some r)
-          (λ is. not_file n (sym here ∙ is))
-          (λ r node apart at is. sound.found n r (at ∙ ap Some is))
-          q (File n) there refl);
+      linked = subst (λ m. AreLinks m s.links) (sym same_start) old_links;
+      found = all_found s.files (λ n q at. at) (λ bytes content. absurd (no_content bytes directory content));
       paths = paths_now;
       sizes = sizes_by s.files s.sizes (sizes_then ∙ same_sizes);
       legal = none_legal _ _;
       short = all_short;
+      started = all_started;
       known = λ q file there. each_of s.paths p (node_of e) (λ r node. node ≡ File file → file < length s.sizes)
           (λ is. not_file file (sym here ∙ is))
           (λ r node apart at is. sound.known r file (at ∙ ap Some is))
@@ -220,7 +271,9 @@ module _ (s : State) (sound : IsSound s) (p : Path) (e : Entry)
       small = all_small;
       rights = kept_octal s.version s.attributes (with_directory s.attributes p e.rights) sound.rights (record {
         files = sound.rights.files;
-        directories = each_of s.attributes.directories p e.rights (λ q r. r.permissions ≤ 511) octal (λ q r apart there. sound.rights.directories q r there);
+        directories =
+            each_of s.attributes.directories p e.rights (λ q r. r.permissions ≤ 511) octal
+            (λ q r apart there. sound.rights.directories q r there);
       });
     }
       where
@@ -237,14 +290,15 @@ module _ (s : State) (sound : IsSound s) (p : Path) (e : Entry)
       numbered = subst (HaveNumbers (s.files ++ p ∷ [])) (sym same_start) (λ n q at. ⊎_elim
           (λ (old : slice_get s.files n ≡ Some q). old_numbers n q old)
           (λ (new : (n ≡ length s.files) × (q ≡ p)).
-          ap (get now) new.1 ∙ get-insert_same path_total path_exact (start_of s) p (node_of e) ∙ ap Some (here ∙ ap File (count ∙ sym new.0)))
+          ap (get now) new.1 ∙ get-insert_same path_total path_exact (start_of s) p (node_of e)
+          ∙ ap Some (here ∙ ap File (count ∙ sym new.0)))
           (slice_get-push s.files p n q at));
-      found = subst (AreFound (s.files ++ p ∷ [])) (sym same_start) (λ n q there. each_of (start_of s) p (node_of e) (λ r node. node ≡ File n → slice_get (s.files ++ p ∷ []) n ≡ Some r)
-          (λ is.
-          let same : n ≡ length s.files = sym (file_number _ _ (sym here ∙ is)) ∙ count in
-          ap (slice_get (s.files ++ p ∷ [])) same ∙ slice_get-push_new s.files p)
-          (λ r node apart at is. slice_get-push_old s.files p n r (sound.found n r (at ∙ ap Some is)))
-          q (File n) there refl);
+      linked = subst (λ m. AreLinks m s.links) (sym same_start) old_links;
+      found = all_found (s.files ++ p ∷ []) (slice_get-push_old s.files p) (λ bytes content. record {
+        own = p;
+        at = ap (slice_get (s.files ++ p ∷ [])) count ∙ slice_get-push_new s.files p;
+        entry = get-insert_same path_total path_exact s.start p e;
+      });
       paths = paths_now;
       sizes = sizes_by (s.files ++ p ∷ []) (s.sizes ++ length bytes ∷ [])
           (ap (λ sizes. sizes ++ length bytes ∷ []) (sizes_then ∙ same_sizes)
@@ -252,9 +306,11 @@ module _ (s : State) (sound : IsSound s) (p : Path) (e : Entry)
           ∙ sym (map-append (λ q. entry_size (get (insert s.start p e) q)) s.files (p ∷ [])));
       legal = none_legal _ _;
       short = all_short;
+      started = all_started;
       known = λ q file there. each_of s.paths p (node_of e) (λ r node. node ≡ File file → file < length (s.sizes ++ length bytes ∷ []))
           (λ is. let same = file_number _ _ (sym here ∙ is) in omega (arith, same, number, length-append s.sizes (length bytes ∷ [])))
-          (λ r node apart at is. let old = sound.known r file (at ∙ ap Some is) in omega (arith, old, length-append s.sizes (length bytes ∷ [])))
+          (λ r node apart at is. let old = sound.known r file (at ∙ ap Some is) in
+          omega (arith, old, length-append s.sizes (length bytes ∷ [])))
           q (File file) there refl;
       few = few;
       counted = let old = sound.counted in omega (arith, length-append s.sizes (length bytes ∷ []));
@@ -272,3 +328,38 @@ module _ (s : State) (sound : IsSound s) (p : Path) (e : Entry)
 
         new_size : entry_size (get (insert s.start p e) p) ≡ length bytes
         new_size = ap entry_size (get-insert_same path_total path_exact s.start p e) ∙ ap size_of content
+
+    -- one path more for a file
+    pub sound-link : (bytes : List ℕ) → e.content ≡ Some bytes → HasOwn s.files s.start e → e.number < length s.sizes
+        → IsSound (with_link s p e)
+    sound-link bytes content own low = record {
+      fresh = λ zero_made. absurd (not_fresh zero_made);
+      rooted = λ _. subst AreRooted (sym same_start) rooted;
+      nested = subst AreInDirectories (sym same_start) in_directories;
+      octal = all_octal;
+      numbered = subst (HaveNumbers s.files) (sym same_start) old_numbers;
+      linked = subst (λ m. AreLinks m (s.links ++ (p, e.number) ∷ [])) (sym same_start) (λ n link at. ⊎_elim
+          (λ (old : slice_get s.links n ≡ Some link). old_links n link old)
+          (λ (new : (n ≡ length s.links) × (link ≡ (p, e.number))).
+          ap (λ (l : Path × ℕ). get now l.0) new.1 ∙ get-insert_same path_total path_exact (start_of s) p (node_of e)
+          ∙ ap Some (here ∙ ap (λ (l : Path × ℕ). File l.1) (sym new.1)))
+          (slice_get-push s.links (p, e.number) n link at));
+      found = all_found s.files (λ n q at. at) (λ _ _. record { own = own.own; at = own.at; entry = entry_stays own.own e own.entry });
+      paths = paths_now;
+      sizes = sizes_by s.files s.sizes (sizes_then ∙ same_sizes);
+      legal = none_legal _ _;
+      short = all_short;
+      started = all_started;
+      known = λ q file there. each_of s.paths p (node_of e) (λ r node. node ≡ File file → file < length s.sizes)
+          (λ is. let same = file_number _ _ (sym here ∙ is) in omega (arith, same, low))
+          (λ r node apart at is. sound.known r file (at ∙ ap Some is))
+          q (File file) there refl;
+      few = few;
+      counted = let old = sound.counted in omega arith;
+      tallied = tallied_now;
+      small = all_small;
+      rights = sound.rights;
+    }
+      where
+        here : node_of e ≡ File e.number
+        here = ap (λ c. node_by c e.number) content

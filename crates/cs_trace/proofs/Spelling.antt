@@ -1,5 +1,5 @@
 -- The text of a path, cut before its last name.
-use Rattle.std.proofs.Common.{◌≡◌, ◌≢◌, ℕ, ◌<◌, ◌==◌, ◌||◌, Bool, true, false, List, [], ◌∷◌, ◌++◌, length, refl, sym, ap, subst, ◌∙◌, arith, length-append}
+use Rattle.std.proofs.Common.{◌≡◌, ℕ, ◌<◌, ◌==◌, ◌||◌, Bool, true, false, List, [], ◌∷◌, ◌++◌, length, refl, sym, ap, subst, ◌∙◌, arith, length-append}
 use Rattle.std.proofs.lemmas.Bool.{ne_eqb, or_parts}
 use Rattle.std.proofs.lemmas.Option.{same_Some}
 use Rattle.std.specs.List.{list_any}
@@ -35,7 +35,8 @@ step_by x xs more p (Ok name) (Ok q) all later is =
     let whole : name ∷ q ≡ p = cc in
     ap (name_before (Ok name)) (later q refl) ∙ ap (λ (names : Path). Ok (names ++ more)) whole
 
-names_in-push : (texts : Path) (name : List ℕ) (p : Path) → IsLegalName name → names_in texts ≡ Ok p → names_in (texts ++ name ∷ []) ≡ Ok (p ++ name ∷ [])
+names_in-push : (texts : Path) (name : List ℕ) (p : Path) → IsLegalName name → names_in texts ≡ Ok p
+    → names_in (texts ++ name ∷ []) ≡ Ok (p ++ name ∷ [])
 names_in-push [] name p legal is =
     let none : [] ≡ p = cc in
     ap (λ first. name_before first (Ok [])) (name_in-legal name legal) ∙ ap (λ (names : Path). Ok (names ++ name ∷ [])) none
@@ -45,9 +46,11 @@ names_in-push (x ∷ texts) name p legal is =
 some_more : (rest name : List ℕ) → (length (rest ++ 47 ∷ name) == 0) ≡ false
 some_more rest name = ne_eqb (length (rest ++ 47 ∷ name)) 0 (λ none. absurd (omega (arith, none, length-append rest (47 ∷ name))))
 
-push_by : (slash alone : Bool) (c : ℕ) (rest name : List ℕ) (p : Path) → (c == 47) ≡ slash → (length rest == 0) ≡ alone → IsLegalName name → 0 < length p
+push_by : (slash alone : Bool) (c : ℕ) (rest name : List ℕ) (p : Path) → (c == 47) ≡ slash → (length rest == 0) ≡ alone → IsLegalName name
+    → 0 < length p
     → (if slash then (if alone then Ok [] else names_in (pieces 47 rest)) else Err Forbidden) ≡ Ok p
-    → (if slash then (if length (rest ++ 47 ∷ name) == 0 then Ok [] else names_in (pieces 47 (rest ++ 47 ∷ name))) else Err Forbidden) ≡ Ok (p ++ name ∷ [])
+    → (if slash then (if length (rest ++ 47 ∷ name) == 0 then Ok [] else names_in (pieces 47 (rest ++ 47 ∷ name))) else Err Forbidden) ≡ Ok
+    (p ++ name ∷ [])
 push_by false alone c rest name p first none legal some is = absurd (cc)
 push_by true true c rest name p first none legal some is = absurd (let root : [] ≡ p = cc in let count = ap length root in omega arith)
 push_by true false c rest name p first none legal some is =
@@ -55,7 +58,8 @@ push_by true false c rest name p first none legal some is =
     ∙ ap names_in (pieces-append 47 rest name ∙ ap (λ cut. pieces 47 rest ++ cut) (pieces-name name legal))
     ∙ names_in-push (pieces 47 rest) name p legal is
 
-path_in-push : (text name : List ℕ) (p : Path) → path_in text ≡ Ok p → 0 < length p → IsLegalName name → path_in (text ++ 47 ∷ name) ≡ Ok (p ++ name ∷ [])
+path_in-push : (text name : List ℕ) (p : Path) → path_in text ≡ Ok p → 0 < length p → IsLegalName name
+    → path_in (text ++ 47 ∷ name) ≡ Ok (p ++ name ∷ [])
 path_in-push [] name p is some legal = absurd (cc)
 path_in-push (c ∷ rest) name p is some legal = push_by (c == 47) (length rest == 0) c rest name p refl refl legal some is
 
@@ -73,7 +77,8 @@ pub record Pushed (text : List ℕ) (p : Path) (name : List ℕ) : Type 0 where
   pub spelled : spelled_path text ≡ p ++ name ∷ []
   pub entry : entry_path_of text ≡ Some (p ++ name ∷ [])
 
-pub pushed : (text above name : List ℕ) (p : Path) → text ≡ above ++ 47 ∷ name → path_of above ≡ Some p → 0 < length p → IsLegalName name → Pushed text p name
+pub pushed : (text above name : List ℕ) (p : Path) → text ≡ above ++ 47 ∷ name → path_of above ≡ Some p → 0 < length p → IsLegalName name
+    → Pushed text p name
 pushed text above name p is spells some legal =
     let path : path_of text ≡ Some (p ++ name ∷ []) =
     ap path_of is ∙ ap result_ok (path_in-push above name p (ok_by (path_in above) p spells) some legal) in
@@ -98,7 +103,8 @@ pub path_of-entry : (text : List ℕ) (p : Path) → entry_path_of text ≡ Some
 path_of-entry text p entry = let is = path_by (path_of text) p entry in (is, some_by_count (path_of text) p is entry)
 
 -- the path before the last name
-pub above-push : (text above name : List ℕ) (p q : Path) → text ≡ above ++ 47 ∷ name → entry_path_of above ≡ Some q → IsLegalName name → path_of text ≡ Some p → q ≡ parent_path p
+pub above-push : (text above name : List ℕ) (p q : Path) → text ≡ above ++ 47 ∷ name → entry_path_of above ≡ Some q → IsLegalName name
+    → path_of text ≡ Some p → q ≡ parent_path p
 above-push text above name p q is entry legal spells =
     let part = path_of-entry above q entry in
     parent_of-snoc p q name (same_Some p (q ++ name ∷ []) (sym spells ∙ (pushed text above name q is part.0 part.1 legal).legal))

@@ -1,5 +1,5 @@
 -- What the records at the start are, one by one.
-use Rattle.std.proofs.Common.{◌≡◌, ◌≢◌, ℕ, zero, suc, ◌+◌, ◌≤◌, ◌&&◌, Bool, true, false, cond, T, List, [], ◌∷◌, map, ⊎_elim, Option, None, Some, option_map, refl, sym, ap, ◌∙◌, subst, arith}
+use Rattle.std.proofs.Common.{◌≡◌, ◌≢◌, ℕ, zero, suc, ◌+◌, ◌≤◌, Bool, true, false, cond, T, List, [], ◌∷◌, map, ⊎_elim, Option, None, Some, option_map, refl, sym, ap, ◌∙◌, subst, arith}
 use Rattle.std.proofs.lemmas.Bool.{false≢true}
 use Rattle.std.proofs.lemmas.Option.{slice_get-map, same_Some}
 use Rattle.std.specs.Cmp.{tied_itself}
@@ -27,18 +27,21 @@ use Rattle.cs_trace.specs.declared.operation.Node.{Node}
 abbrev pub numbered_from : ℕ → List (Path × Entry) → List (Path × Record)
 numbered_from k es = numbered k (map (λ e. (e.0, record_of e.1)) es)
 
-keys_below : (p : Path) (k : ℕ) (es : List (Path × Entry)) → T (below_all path_cmp p es) → AllByRecursion (λ q. path_cmp p q ≡ Less) (map (λ e. e.0) (numbered_from k es))
+keys_below : (p : Path) (k : ℕ) (es : List (Path × Entry)) → T (below_all path_cmp p es)
+    → AllByRecursion (λ q. path_cmp p q ≡ Less) (map (λ e. e.0) (numbered_from k es))
 keys_below p k [] all = tt
 keys_below p k (e ∷ es) all = (less_of _ (both_first _ _ all), keys_below p (k + 1) es (both_second _ _ all))
 
-pub keys_ascend : (k : ℕ) (es : List (Path × Entry)) → T (is_sorted path_cmp es) → IsStrictlySortedBy path_cmp (map (λ e. e.0) (numbered_from k es))
+pub keys_ascend : (k : ℕ) (es : List (Path × Entry)) → T (is_sorted path_cmp es)
+    → IsStrictlySortedBy path_cmp (map (λ e. e.0) (numbered_from k es))
 unfolding IsStrictlySortedBy
 keys_ascend k [] sorted = tt
 keys_ascend k (e ∷ es) sorted = (keys_below e.0 (k + 1) es (both_first _ _ sorted), keys_ascend (k + 1) es (both_second _ _ sorted))
 
 -- ---- by their places
 
-less_at : (p : Path) (es : List (Path × Entry)) (n : ℕ) (e : Path × Entry) → T (below_all path_cmp p es) → slice_get es n ≡ Some e → path_cmp p e.0 ≡ Less
+less_at : (p : Path) (es : List (Path × Entry)) (n : ℕ) (e : Path × Entry) → T (below_all path_cmp p es) → slice_get es n ≡ Some e
+    → path_cmp p e.0 ≡ Less
 less_at p [] n e all at = absurd (cc)
 less_at p (f ∷ es) zero e all at =
     ap (λ (g : Path × Entry). path_cmp p g.0) (sym (same_Some f e at)) ∙ less_of _ (both_first _ _ all)
@@ -48,7 +51,8 @@ equal_less : Equal ≢ Less
 equal_less is = false≢true (ap is_lt is)
 
 -- the entry at a place is found by its path
-found_at : (es : List (Path × Entry)) → T (is_sorted path_cmp es) → (n : ℕ) (e : Path × Entry) → slice_get es n ≡ Some e → find path_cmp e.0 es ≡ Some e.1
+found_at : (es : List (Path × Entry)) → T (is_sorted path_cmp es) → (n : ℕ) (e : Path × Entry) → slice_get es n ≡ Some e
+    → find path_cmp e.0 es ≡ Some e.1
 found_at [] sorted n e at = absurd (cc)
 found_at (f ∷ es) sorted zero e at =
     let same : f ≡ e = same_Some f e at in
@@ -63,8 +67,10 @@ found_at (f ∷ es) sorted zero e at =
 found_at (f ∷ es) sorted (suc n) e at =
     let low = less_at f.0 es n e (both_first _ _ sorted) at in
     ⊎_elim
-    (λ (one : (eq_by_cmp path_cmp e.0 f.0 ≡ true) × (e.0 ≡ f.0)). absurd (equal_less (sym (tied_itself path_total f.0) ∙ ap (path_cmp f.0) (sym one.1) ∙ low)))
-    (λ (two : (eq_by_cmp path_cmp e.0 f.0 ≡ false) × (e.0 ≢ f.0)). ap (λ b. cond b (Some f.1) (find path_cmp e.0 es)) two.0 ∙ found_at es (both_second _ _ sorted) n e at)
+    (λ (one : (eq_by_cmp path_cmp e.0 f.0 ≡ true) × (e.0 ≡ f.0)). absurd
+    (equal_less (sym (tied_itself path_total f.0) ∙ ap (path_cmp f.0) (sym one.1) ∙ low)))
+    (λ (two : (eq_by_cmp path_cmp e.0 f.0 ≡ false) × (e.0 ≢ f.0)). ap (λ b. cond b (Some f.1) (find path_cmp e.0 es)) two.0
+    ∙ found_at es (both_second _ _ sorted) n e at)
     (path_cases e.0 f.0)
 
 pub get_at : (m : Entries) (n : ℕ) (e : Path × Entry) → slice_get (entries m) n ≡ Some e → get m e.0 ≡ Some e.1
@@ -86,12 +92,18 @@ numbers k zero (e ∷ es) r at =
     record { entry = e; at = refl; is = sym (same_Some _ r at) ∙ ap (λ i. (e.0, fresh_record i (record_of e.1))) none }
 numbers k (suc n) (e ∷ es) r at =
     let rest = numbers (k + 1) n es r at in
-    record { entry = rest.entry; at = rest.at; is = rest.is ∙ ap (λ i. (rest.entry.0, fresh_record i (record_of rest.entry.1))) (one_later k n) }
+    record {
+      entry = rest.entry;
+      at = rest.at;
+      is = rest.is ∙ ap (λ i. (rest.entry.0, fresh_record i (record_of rest.entry.1)))
+          (one_later k n);
+    }
 
 -- ---- what they are
 
 unchanged_by : (n : ℕ) (e : Entry) (r : Record) → e.rights.permissions ≤ 511 → r ≡ fresh_record n (record_of e) → IsUnchanged n r
-unchanged_by n e r low is = subst (IsUnchanged n) (sym is) (record { fresh = refl; permissions = e.rights.permissions; octal = low; mode = refl })
+unchanged_by n e r low is =
+    subst (IsUnchanged n) (sym is) (record { fresh = refl; permissions = e.rights.permissions; octal = low; mode = refl })
 
 kind_by : (content : Option (List ℕ)) (number : ℕ) (r : Record) → r.content ≡ content → IsNodeOf (node_by content number) r
 kind_by None number r is = is
@@ -106,21 +118,26 @@ module _ (m : Entries) (octal : (p : Path) (e : Entry) → get m p ≡ Some e �
       (ap (λ (x : Path × Record). x.1) there.is ∙ ap (λ i. fresh_record i (record_of there.entry.1)) zero_more)
 
 module _ (es : List (Path × Entry)) where
-  node_by_place : (n : ℕ) (node : Node) (e : Path × Entry) → slice_get (map (λ f. node_of f.1) es) n ≡ Some node → slice_get es n ≡ Some e → node ≡ node_of e.1
+  node_by_place : (n : ℕ) (node : Node) (e : Path × Entry) → slice_get (map (λ f. node_of f.1) es) n ≡ Some node → slice_get es n ≡ Some e
+      → node ≡ node_of e.1
   node_by_place n node e at there =
-      let same : option_map (λ (f : Path × Entry). node_of f.1) (slice_get es n) ≡ Some node = sym (slice_get-map (λ f. node_of f.1) es n) ∙ at in
+      let same : option_map (λ (f : Path × Entry). node_of f.1) (slice_get es n) ≡ Some node = sym (slice_get-map (λ f. node_of f.1) es n)
+      ∙ at in
       same_Some node (node_of e.1) (sym same ∙ ap (option_map (λ (f : Path × Entry). node_of f.1)) there)
 
-  pub kind_at : (n : ℕ) (node : Node) (r : Path × Record) → slice_get (map (λ f. node_of f.1) es) n ≡ Some node → slice_get (numbered_from 0 es) n ≡ Some r → IsNodeOf node r.1
+  pub kind_at : (n : ℕ) (node : Node) (r : Path × Record) → slice_get (map (λ f. node_of f.1) es) n ≡ Some node
+      → slice_get (numbered_from 0 es) n ≡ Some r → IsNodeOf node r.1
   kind_at n node r at beside =
       let there = numbers 0 n es r beside in
       let same = node_by_place n node there.entry at there.at in
-      subst (λ w. IsNodeOf w r.1) (sym same) (kind_by there.entry.1.content there.entry.1.number r.1 (ap (λ (x : Path × Record). x.1.content) there.is))
+      subst (λ w. IsNodeOf w r.1) (sym same) (kind_by there.entry.1.content there.entry.1.number r.1
+      (ap (λ (x : Path × Record). x.1.content) there.is))
 
 pub stands_by : (n : ℕ) (o : Option Entry) → StandsAs (option_map node_of o) (option_map (fresh_record n) (option_map record_of o))
 stands_by n None = tt
 stands_by n (Some e) = kind_by e.content e.number (fresh_record n (record_of e)) refl
 
-pub small_by : (o : Option Entry) → ((e : Entry) → o ≡ Some e → size_of e.content ≤ FILE_BYTES) → option_map_or (λ e. size_of e.content) o 0 ≤ FILE_BYTES
+pub small_by : (o : Option Entry) → ((e : Entry) → o ≡ Some e → size_of e.content ≤ FILE_BYTES)
+    → option_map_or (λ e. size_of e.content) o 0 ≤ FILE_BYTES
 small_by None small = omega arith
 small_by (Some e) small = small e refl

@@ -1,5 +1,5 @@
 -- The tree that lines make: one map as long as nothing changed.
-use Rattle.std.proofs.Common.{◌≡◌, ◌≢◌, true, false, ⊎_elim, cond, T, ◌&&◌, ◌||◌, List, [], ◌∷◌, Option, None, Some, option_map, refl, sym, ap, subst, ◌∙◌}
+use Rattle.std.proofs.Common.{◌≡◌, ◌≢◌, true, false, ⊎_elim, cond, T, ◌||◌, List, [], ◌∷◌, Option, None, Some, option_map, refl, sym, ap, subst, ◌∙◌}
 use Rattle.std.proofs.lemmas.Bool.{false≢true}
 use Rattle.std.specs.FinMap.{empty, entries, entries_sorted, find, get, get-empty, get-entries, get-insert, insert, is_sorted, same_map}
 use Rattle.std.specs.FinMap.Entries.{below_all}
@@ -55,10 +55,12 @@ find_later q [] all = refl
 find_later q (e ∷ es) all = ⊎_elim
     (λ (one : (eq_by_cmp path_cmp q e.0 ≡ true) × (q ≡ e.0)).
     absurd (subst (λ o. T (is_lt o)) (tied_itself path_total q) (subst (λ p. T (is_lt (path_cmp q p))) (sym one.1) (both_first _ _ all))))
-    (λ (two : (eq_by_cmp path_cmp q e.0 ≡ false) × (q ≢ e.0)). ap (λ b. cond b (Some e.1) (find path_cmp q es)) two.0 ∙ find_later q es (both_second _ _ all))
+    (λ (two : (eq_by_cmp path_cmp q e.0 ≡ false) × (q ≢ e.0)). ap (λ b. cond b (Some e.1) (find path_cmp q es)) two.0
+    ∙ find_later q es (both_second _ _ all))
     (path_cases q e.0)
 
-get-with_all : (m : Paths) (es : List (Path × Entry)) (q : Path) → T (is_sorted path_cmp es) → get (with_all m es) q ≡ or_else (option_map node_of (find path_cmp q es)) (get m q)
+get-with_all : (m : Paths) (es : List (Path × Entry)) (q : Path) → T (is_sorted path_cmp es)
+    → get (with_all m es) q ≡ or_else (option_map node_of (find path_cmp q es)) (get m q)
 get-with_all m [] q sorted = refl
 get-with_all m (e ∷ es) q sorted =
     get-with_all (insert m e.0 (node_of e.1)) es q (both_second _ _ sorted)
@@ -96,7 +98,8 @@ pub start-view : (s t : Entries) (p : Path) (e : Entry) → t ≡ insert s p e �
 start-view s t p e is = ap (λ start. viewed start None) is ∙ ap (with_nodes (insert s p e)) (map_values-insert s p e)
 
 -- a directory stands after something came to a path where nothing stood
-pub still_stands : (m : Paths) (p d : Path) (node : Node) → is_some (get m p) ≡ false → get m d ≡ Some Directory → get (insert m p node) d ≡ Some Directory
+pub still_stands : (m : Paths) (p d : Path) (node : Node) → is_some (get m p) ≡ false → get m d ≡ Some Directory
+    → get (insert m p node) d ≡ Some Directory
 still_stands m p d node free stands =
     get-insert_other path_total path_exact m d p node (λ same. false≢true (sym free ∙ ap is_some (ap (get m) (sym same) ∙ stands))) ∙ stands
 

@@ -21,7 +21,7 @@ use Rattle.cs_tree_model.specs.declared.record.Record.{Record}
 use Rattle.cs_trace.specs.Entries.{Entries, node_by, node_of, nodes_in, record_of, records_in, size_of}
 use Rattle.cs_trace.specs.Operations.{AreLegal, AreNested, IsDirectoryAt}
 use Rattle.cs_trace.specs.States.{State}
-use Rattle.cs_trace.specs.Traces.{IsNodeOf, IsTrace, IsUnchanged, StandsAs, record_in, records_made, size_at, standing, start_paths, start_sizes, whole}
+use Rattle.cs_trace.specs.Traces.{AreAlikeAt, AreLinks, IsNodeOf, IsPathOf, IsTrace, IsUnchanged, StandsAs, record_in, records_made, size_at, standing, start_paths, start_sizes, whole}
 use Rattle.cs_trace.specs.declared.entry.Entry.{Entry}
 use Rattle.cs_trace.specs.declared.operation.Node.{Node}
 use Rattle.cs_trace.specs.declared.operation.Node.TheVariants.{Directory, File}
@@ -50,27 +50,37 @@ directory_by : (content : Option (List ℕ)) (number : ℕ) → node_by content 
 directory_by None number is = refl
 directory_by (Some bytes) number is = absurd (cc)
 
+-- an entry at which a file stands has bytes, and its number
+file_by : (content : Option (List ℕ)) (number n : ℕ) → node_by content number ≡ File n → (bytes : List ℕ) × (content ≡ Some bytes)
+    × (number ≡ n)
+file_by None number n is = absurd (cc)
+file_by (Some bytes) number n is = (bytes, refl, cc)
+
 module _ (m : Entries) where
-  entry_by : {X : Type 0} (f : Entry → X) (p : Path) (x : X) (o : Option Entry) → get m p ≡ o → option_map f o ≡ Some x → (e : Entry) × (get m p ≡ Some e) × (f e ≡ x)
+  entry_by : {X : Type 0} (f : Entry → X) (p : Path) (x : X) (o : Option Entry) → get m p ≡ o → option_map f o ≡ Some x → (e : Entry)
+      × (get m p ≡ Some e) × (f e ≡ x)
   entry_by f p x None at is = absurd (cc)
   entry_by f p x (Some e) at is = (e, at, cc)
 
   -- the entry that a value of the map comes from
-  entry_at : {X : Type 0} (f : Entry → X) (p : Path) (x : X) → get (map_values f m) p ≡ Some x → (e : Entry) × (get m p ≡ Some e) × (f e ≡ x)
+  entry_at : {X : Type 0} (f : Entry → X) (p : Path) (x : X) → get (map_values f m) p ≡ Some x → (e : Entry) × (get m p ≡ Some e)
+      × (f e ≡ x)
   entry_at f p x there = entry_by f p x (get m p) refl (sym (get-map_values path_cmp f m p) ∙ there)
 
   value_at : {X : Type 0} (f : Entry → X) (p : Path) (e : Entry) → get m p ≡ Some e → get (map_values f m) p ≡ Some (f e)
   value_at f p e there = get-map_values path_cmp f m p ∙ ap (option_map f) there
 
   -- a directory's record
-  directory_record : (p : Path) → IsDirectoryAt (map_values node_of m) p → (d : Record) × (get (map_values record_of m) p ≡ Some d) × (d.content ≡ None)
+  directory_record : (p : Path) → IsDirectoryAt (map_values node_of m) p → (d : Record) × (get (map_values record_of m) p ≡ Some d)
+      × (d.content ≡ None)
   directory_record p there =
       let e = entry_at node_of p Directory there in
       (record_of e.0, value_at record_of p e.0 e.1, directory_by e.0.content e.0.number e.2)
 
   -- ---- what stands, and the sizes
 
-  zipped : (k : ℕ) (es : List (Path × Entry)) → zip (map (λ e. e.0) (numbered k (map_entries record_of es))) (map (λ e. node_of e.1) es) ≡ map_entries node_of es
+  zipped : (k : ℕ) (es : List (Path × Entry))
+      → zip (map (λ e. e.0) (numbered k (map_entries record_of es))) (map (λ e. node_of e.1) es) ≡ map_entries node_of es
   zipped k [] = refl
   zipped k (e ∷ es) = λ i. (e.0, node_of e.1) ∷ zipped (k + 1) es i
 
@@ -81,18 +91,23 @@ module _ (m : Entries) where
   same_standing =
       ap (λ es. from_entries (zip (map (λ e. e.0) es) (nodes_in m))) same_listing
       ∙ ap from_entries (zipped 0 (entries m) ∙ sym (entries-map_values path_cmp node_of m))
-      ∙ same_map path_total path_exact _ _ (λ q. get-from_entries path_total (entries (map_values node_of m)) q ∙ sym (get-entries (map_values node_of m) q))
+      ∙ same_map path_total path_exact _ _ (λ q. get-from_entries path_total (entries (map_values node_of m)) q
+      ∙ sym (get-entries (map_values node_of m) q))
 
   each_node : length (nodes_in m) ≡ length (records_in m)
   each_node =
       length-map (entries m) (λ e. node_of e.1)
-      ∙ sym (ap length same_listing ∙ length-numbered 0 (map_entries record_of (entries m)) ∙ length-map (entries m) (λ e. (e.0, record_of e.1)))
+      ∙ sym (ap length same_listing ∙ length-numbered 0 (map_entries record_of (entries m)) ∙ length-map (entries m)
+      (λ e. (e.0, record_of e.1)))
 
-  size_by : (n : ℕ) (o : Option Entry) → option_map_or (λ r. size_of r.content) (option_map (fresh_record n) (option_map record_of o)) 0 ≡ entry_size o
+  size_by : (n : ℕ) (o : Option Entry)
+      → option_map_or (λ r. size_of r.content) (option_map (fresh_record n) (option_map record_of o)) 0 ≡ entry_size o
   size_by n None = refl
   size_by n (Some e) = refl
 
-  same_record : (p : Path) → record_in (records_in m) p ≡ option_map (fresh_record (place_in p (entries (map_values record_of m)))) (option_map record_of (get m p))
+  same_record : (p : Path)
+      → record_in (records_in m) p ≡ option_map (fresh_record (place_in p (entries (map_values record_of m))))
+      (option_map record_of (get m p))
   unfolding fresh
   same_record p =
       record_at-fresh (map_values record_of m) p
@@ -114,7 +129,9 @@ module _ (s : State) (sound : IsSound s) (made : s.made ≢ 0) where
     nested = λ p r there named.
         let e = entry_at s.start record_of p r there in
         directory_record s.start (parent_path p) (sound.nested p (node_of e.0) (value_at s.start node_of p e.0 e.1) named);
-    marked = λ p r there. let e = entry_at s.start record_of p r there in subst IsMarked e.2 (marked_by e.0 e.0.content (sound.octal p e.0 e.1) refl);
+    marked =
+        λ p r there. let e = entry_at s.start record_of p r there in
+        subst IsMarked e.2 (marked_by e.0 e.0.content (sound.octal p e.0 e.1) refl);
   }
 
   paths_are : start_paths (whole s) ≡ start_of s
@@ -125,28 +142,64 @@ module _ (s : State) (sound : IsSound s) (made : s.made ≢ 0) where
 
   few_records : records_made (whole s) ≤ TREE_RECORDS
   few_records =
-      let count : length (records_in s.start) ≡ len s.start = ap length (same_listing s.start) ∙ length-numbered 0 (map_entries record_of (entries s.start)) ∙ length-map (entries s.start) (λ e. (e.0, record_of e.1)) ∙ sym (len-entries s.start) in
+      let count : length (records_in s.start) ≡ len s.start = ap length (same_listing s.start)
+      ∙ length-numbered 0 (map_entries record_of (entries s.start)) ∙ length-map (entries s.start) (λ e. (e.0, record_of e.1))
+      ∙ sym (len-entries s.start) in
       omega (arith, count, sound.tallied, sound.few)
 
   small_files : All (λ size. size ≤ FILE_BYTES) (start_sizes (whole s))
   small_files = subst (All (λ size. size ≤ FILE_BYTES)) (sym sizes_are)
-      (All-map (λ size. size ≤ FILE_BYTES) (λ p. entry_size (get s.start p)) s.files (λ n p low. small_by (get s.start (get_or s.files n p)) (sound.small (get_or s.files n p))))
+      (All-map (λ size. size ≤ FILE_BYTES) (λ p. entry_size (get s.start p)) s.files
+      (λ n p low. small_by (get s.start (get_or s.files n p)) (sound.small (get_or s.files n p))))
 
   unchanged_records : (n : ℕ) (e : Path × Record) → slice_get (records_in s.start) n ≡ Some e → IsUnchanged n e.1
   unchanged_records n e at = unchanged_at s.start sound.octal n e (ap (λ es. slice_get es n) (sym (same_listing s.start)) ∙ at)
 
-  node_records : (n : ℕ) (node : Node) (e : Path × Record) → slice_get (nodes_in s.start) n ≡ Some node → slice_get (records_in s.start) n ≡ Some e → IsNodeOf node e.1
+  node_records : (n : ℕ) (node : Node) (e : Path × Record) → slice_get (nodes_in s.start) n ≡ Some node
+      → slice_get (records_in s.start) n ≡ Some e → IsNodeOf node e.1
   node_records n node e there at = kind_at (entries s.start) n node e there (ap (λ es. slice_get es n) (sym (same_listing s.start)) ∙ at)
 
   standing_records : (p : Path) → StandsAs (get (start_paths (whole s)) p) (record_in (records_in s.start) p)
   standing_records p =
-      subst (λ o. StandsAs o (record_in (records_in s.start) p)) (sym (ap (λ m. get m p) paths_are ∙ get-map_values path_cmp node_of s.start p))
-      (subst (StandsAs (option_map node_of (get s.start p))) (sym (same_record s.start p)) (stands_by (place_in p (entries (map_values record_of s.start))) (get s.start p)))
+      subst (λ o. StandsAs o (record_in (records_in s.start) p))
+      (sym (ap (λ m. get m p) paths_are ∙ get-map_values path_cmp node_of s.start p))
+      (subst (StandsAs (option_map node_of (get s.start p))) (sym (same_record s.start p))
+      (stands_by (place_in p (entries (map_values record_of s.start))) (get s.start p)))
+
+  -- two paths with one entry have like records
+  alike_by : (k n : ℕ) (e : Entry)
+      → AreAlikeAt (option_map (fresh_record k) (option_map record_of (Some e)))
+      (option_map (fresh_record n) (option_map record_of (Some e)))
+  alike_by k n e = record { content = refl; owner = refl; group = refl; mode = refl }
+
+  record_of_entry : (p : Path) (e : Entry) → get s.start p ≡ Some e
+      → record_in (records_in s.start) p ≡ option_map (fresh_record (place_in p (entries (map_values record_of s.start))))
+      (option_map record_of (Some e))
+  record_of_entry p e there =
+      same_record s.start p ∙ ap (λ o. option_map (fresh_record (place_in p (entries (map_values record_of s.start))))
+      (option_map record_of o)) there
+
+  file_found : (n : ℕ) (p : Path) → get (start_of s) p ≡ Some (File n) → IsPathOf (whole s) n p
+  file_found n p there =
+      let e = entry_at s.start node_of p (File n) there in
+      let file = file_by e.0.content e.0.number n e.2 in
+      let own = sound.found p e.0 e.1 file.0 file.1 in
+      record {
+        own = own.own;
+        at = ap (slice_get s.files) (sym file.2) ∙ own.at;
+        alike =
+            subst (λ o. AreAlikeAt o (record_in (records_in s.start) own.own)) (sym (record_of_entry p e.0 e.1))
+            (subst (AreAlikeAt (option_map (fresh_record (place_in p (entries (map_values record_of s.start))))
+            (option_map record_of (Some e.0)))) (sym (record_of_entry own.own e.0 own.entry))
+            (alike_by _ _ e.0));
+      }
 
   pub whole_is : IsTrace (whole s)
   whole_is = record {
     listing = listing-IsListing (map_values record_of s.start) nested_records;
-    ascending = subst (λ es. IsStrictlySortedBy path_cmp (map (λ e. e.0) es)) (sym (same_listing s.start)) (keys_ascend 0 (entries s.start) (entries_sorted s.start));
+    ascending =
+        subst (λ es. IsStrictlySortedBy path_cmp (map (λ e. e.0) es)) (sym (same_listing s.start))
+        (keys_ascend 0 (entries s.start) (entries_sorted s.start));
     unchanged = unchanged_records;
     few = few_records;
     small = small_files;
@@ -155,6 +208,9 @@ module _ (s : State) (sound : IsSound s) (made : s.made ≢ 0) where
     stands = standing_records;
     nested = subst AreNested (sym paths_are) (record { root = sound.rooted made; nested = sound.nested });
     numbered = subst (λ m. (n : ℕ) (p : Path) → slice_get s.files n ≡ Some p → get m p ≡ Some (File n)) (sym paths_are) sound.numbered;
-    found = subst (λ m. (n : ℕ) (p : Path) → get m p ≡ Some (File n) → slice_get s.files n ≡ Some p) (sym paths_are) sound.found;
-    legal = subst (λ m. AreLegal m (start_sizes (whole s)) s.operations) (sym paths_are) (subst (λ sizes. AreLegal (start_of s) sizes s.operations) (sym sizes_are) sound.legal);
+    linked = subst (λ m. AreLinks m s.links) (sym paths_are) sound.linked;
+    found = λ n p there. file_found n p (ap (λ m. get m p) (sym paths_are) ∙ there);
+    legal =
+        subst (λ m. AreLegal m (start_sizes (whole s)) s.operations) (sym paths_are)
+        (subst (λ sizes. AreLegal (start_of s) sizes s.operations) (sym sizes_are) sound.legal);
   }

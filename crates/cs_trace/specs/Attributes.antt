@@ -10,8 +10,8 @@ use Rattle.cs_trace.specs.declared.operation.Operation.TheVariants.{Creat, Mkdir
 use Rattle.cs_trace.specs.declared.operation.Rights.{Rights}
 use Rattle.cs_trace.specs.declared.operation.Target.{Target}
 use Rattle.cs_trace.specs.declared.operation.Target.TheVariants as targets
-use Rattle.cs_trace.specs.declared.version.Version.{Version}
-use Rattle.cs_trace.specs.declared.version.Version.TheVariants.{First, Second}
+use Rattle.cs_trace_lines.specs.declared.version.Version.{Version}
+use Rattle.cs_trace_lines.specs.declared.version.Version.TheVariants.{First}
 
 -- owner, group and permissions of the last directory at each path
 abbrev pub Directories : Type 0
@@ -57,7 +57,7 @@ attributes_after a _ = a
 -- no line of the first version asks for them, and it keeps none
 abbrev pub kept_in : Version → Attributes → Attributes → Attributes
 kept_in First before after = before
-kept_in (Second profile) before after = after
+kept_in _ before after = after
 
 -- those of what stands at a path
 abbrev pub rights_at : Attributes → Node → Path → Option Rights

@@ -1,14 +1,15 @@
 -- Each line's checks, in their order: the first that it fails is its fault.
 use Rattle.std.specs.Prelude.{◌≡◌, ◌⊎◌, ℕ, ◌-◌, ◌<◌, ◌≤◌, ◌==◌, ◌||◌, not, Bool, true, false, List, [], ◌∷◌, ◌++◌, length, nat_lt, take, Option, Some, None, is_none, is_some, slice_index_or, unwrap_or, if◌then◌else◌, Ok}
 use Rattle.std.specs.FinMap.{get}
+use Rattle.std.specs.Option.{option_map}
 use Rattle.cs_names.specs.declared.limits.TheConstants.{FILE_BYTES, SAY_BYTES}
 use Rattle.cs_tree_model.specs.Tree.{Path, parent_path}
 use Rattle.cs_trace.specs.Attributes.{Attributes}
 use Rattle.cs_trace.specs.Below.{has_below}
-use Rattle.cs_trace.specs.Entries.{size_of}
+use Rattle.cs_trace.specs.Entries.{node_of, size_of}
 use Rattle.cs_trace.specs.Judging.{ends_above, has_too_many_names, held, is_too_much}
-use Rattle.cs_trace.specs.Lines as line
-use Rattle.cs_trace.specs.Lines.{Line, OperationLine, is_blank, line_in}
+use Rattle.cs_trace_lines.specs.Lines as line
+use Rattle.cs_trace_lines.specs.Lines.{Line, OperationLine, is_blank, line_in}
 use Rattle.cs_trace.specs.Names.{are_user_names, entry_path_of, new_path_of, path_of, set_path_of}
 use Rattle.cs_trace.specs.Operations.{Paths}
 use Rattle.cs_trace.specs.States.{State, state_in}
@@ -70,6 +71,10 @@ on_path path checks = (is_none path, BadName) ∷ checks (unwrap_or path [])
 abbrev pub made_checks : Paths → ℕ → Path → List Check
 made_checks m made p = new_checks (get m (parent_path p)) (get m p) ++ limit (is_too_much made p)
 
+-- a file gets one path more, q; what stands at the path that it has
+abbrev pub linked_checks : Paths → ℕ → Option Node → Path → List Check
+linked_checks m made here q = file_checks here ++ made_checks m made q
+
 abbrev pub moved_checks : Paths → Path → Path → List Check
 moved_checks m p q =
     file_checks (get m p)
@@ -79,9 +84,14 @@ abbrev pub written_checks : Paths → Bool → Path → List Check
 written_checks m large p = file_checks (get m p) ++ limit large
 
 abbrev pub operation_checks : Paths → ℕ → Attributes → OperationLine → List Check
-operation_checks m made a (line.Creat text claims) = on_path (new_path_of text claims) (made_checks m made)
-operation_checks m made a (line.Mkdir text claims) = on_path (new_path_of text claims) (made_checks m made)
-operation_checks m made a (line.Unlink text) = on_path (entry_path_of text) (λ p. file_checks (get m p))
+operation_checks m made a (line.Creat text claims) =
+    on_path (new_path_of text claims) (made_checks m made)
+operation_checks m made a (line.Mkdir text claims) =
+    on_path (new_path_of text claims) (made_checks m made)
+operation_checks m made a (line.Link from to) =
+    on_path (entry_path_of from) (λ p. on_path (entry_path_of to) (linked_checks m made (get m p)))
+operation_checks m made a (line.Unlink text) =
+    on_path (entry_path_of text) (λ p. file_checks (get m p))
 operation_checks m made a (line.Rmdir text) =
     on_path (entry_path_of text) (λ p. emptied_checks (get m p) (has_below m p))
 operation_checks m made a (line.Rename from to) =
@@ -94,6 +104,8 @@ operation_checks m made a (line.SetAttr text change) =
     on_path (set_path_of text change) (λ p. (is_none (held m a p), Missing) ∷ [])
 operation_checks m made a (line.Fsync text) =
     on_path (path_of text) (λ p. (is_none (get m p), Missing) ∷ [])
+operation_checks m made a (line.FsyncRange text offset count) =
+    on_path (entry_path_of text) (λ p. file_checks (get m p))
 operation_checks m made a line.Sync = []
 operation_checks m made a (line.Say text) = limit (nat_lt SAY_BYTES (length text))
 
@@ -117,6 +129,10 @@ abbrev pub later_checks : State → Line → List Check
 later_checks s (line.Header version claims) = (true, Syntax) ∷ []
 later_checks s (line.Start l) =
     (is_late s, Syntax) ∷ on_path (new_path_of l.path l.claims) (start_checks s l.content)
+later_checks s (line.StartLink path from) =
+    (is_late s, Syntax)
+    ∷ on_path (entry_path_of path) (λ q. on_path (entry_path_of from) (λ p.
+    linked_checks s.paths s.made (option_map node_of (get s.start p)) q))
 later_checks s line.UnknownStart = (is_late s, Syntax) ∷ (true, UnknownOp) ∷ []
 later_checks s (line.Operation l) = operation_checks s.paths s.made s.attributes l
 later_checks s line.UnknownOperation = (true, UnknownOp) ∷ []

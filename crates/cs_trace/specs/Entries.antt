@@ -18,9 +18,16 @@ Entries = FinMap path_cmp Entry
 abbrev pub entry_code : Coded Entry
 entry_code = code_by
     (ℕ × (List ℕ × (List ℕ × (ℕ × Option (List ℕ)))))
-    (coded× coded_ℕ (coded× (coded_list coded_ℕ) (coded× (coded_list coded_ℕ) (coded× coded_ℕ (coded_option (coded_list coded_ℕ))))))
+    (coded× coded_ℕ
+    (coded× (coded_list coded_ℕ)
+    (coded× (coded_list coded_ℕ)
+    (coded× coded_ℕ (coded_option (coded_list coded_ℕ))))))
     (λ e. (e.number, (e.rights.owner, (e.rights.group, (e.rights.permissions, e.content)))))
-    (λ p. record { number = p.0; rights = record { owner = p.1.0; group = p.1.1.0; permissions = p.1.1.1.0 }; content = p.1.1.1.1 })
+    (λ p. record {
+      number = p.0;
+      rights = record { owner = p.1.0; group = p.1.1.0; permissions = p.1.1.1.0 };
+      content = p.1.1.1.1;
+    })
     (λ _. refl)
 
 abbrev pub entries_code : Coded Entries
@@ -46,7 +53,17 @@ file_mode (Some bytes) permissions = permissions
 
 -- the record of an entry, which nobody changed and which has no number yet
 abbrev pub record_of : Entry → Record
-record_of e = record { number = 0; vers = 0; owner = e.rights.owner; group = e.rights.group; mode = file_mode e.content e.rights.permissions; atime = 0; mtime = 0; muid = e.rights.owner; content = e.content }
+record_of e = record {
+  number = 0;
+  vers = 0;
+  owner = e.rights.owner;
+  group = e.rights.group;
+  mode = file_mode e.content e.rights.permissions;
+  atime = 0;
+  mtime = 0;
+  muid = e.rights.owner;
+  content = e.content;
+}
 
 -- the records in the order of their paths, with fresh numbers
 abbrev pub records_in : Entries → List (Path × Record)

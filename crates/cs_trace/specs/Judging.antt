@@ -1,13 +1,13 @@
 -- What a line needs of what stands, and its first fault.
-use Rattle.std.specs.Prelude.{◌≡◌, ◌≤◌, ℕ, ◌+◌, ◌||◌, ◌&&◌, Bool, true, false, List, length, nat_le, nat_lt, Option, Some, None, slice_index_or, if◌then◌else◌, Result, Ok, Err}
+use Rattle.std.specs.Prelude.{◌≡◌, ◌≤◌, ℕ, ◌+◌, ◌==◌, ◌||◌, ◌&&◌, Bool, true, false, List, length, nat_le, nat_lt, Option, Some, None, slice_index_or, if◌then◌else◌, Result, Ok, Err}
 use Rattle.std.specs.FinMap.{get}
 use Rattle.std.specs.Option.{option_and_then, option_map, option_map_or}
 use Rattle.cs_names.specs.declared.limits.TheConstants.{FILE_BYTES, SAY_BYTES, TRACE_PATH_NAMES, TREE_RECORDS}
 use Rattle.cs_tree_model.specs.Tree.{Path, parent_path}
 use Rattle.cs_trace.specs.Attributes.{Attributes, rights_at, target_of}
 use Rattle.cs_trace.specs.Below.{has_below}
-use Rattle.cs_trace.specs.Lines as line
-use Rattle.cs_trace.specs.Lines.{Change, Claims, Mode, Owner, OperationLine}
+use Rattle.cs_trace_lines.specs.Lines as line
+use Rattle.cs_trace_lines.specs.Lines.{Change, Claims, Mode, Owner, OperationLine}
 use Rattle.cs_trace.specs.Names.{entry_path_of, new_path_of, path_of, rights_of, set_path_of}
 use Rattle.cs_trace.specs.Operations.{Paths}
 use Rattle.cs_trace.specs.declared.fault.TraceFaultKind.{TraceFaultKind}
@@ -16,7 +16,7 @@ use Rattle.cs_trace.specs.declared.operation.Covers.TheVariants as covers
 use Rattle.cs_trace.specs.declared.operation.Node.{Node}
 use Rattle.cs_trace.specs.declared.operation.Node.TheVariants.{Directory, File}
 use Rattle.cs_trace.specs.declared.operation.Operation.{Operation}
-use Rattle.cs_trace.specs.declared.operation.Operation.TheVariants.{Creat, Mkdir, Unlink, Rmdir, Rename, Write, Truncate, SetAttr, Sync, Say}
+use Rattle.cs_trace.specs.declared.operation.Operation.TheVariants.{Creat, Mkdir, Link, Unlink, Rmdir, Rename, Write, Truncate, SetAttr, Sync, Say}
 use Rattle.cs_trace.specs.declared.operation.Rights.{Rights}
 use Rattle.cs_trace.specs.declared.operation.Target.{Target}
 
@@ -106,10 +106,21 @@ unless_too_large large x = if large then Err TooLarge else Ok x
 -- ---- operations, where their names are legal
 
 abbrev pub creat : Paths → ℕ → ℕ → Path → Claims → Result Operation TraceFaultKind
-creat m made file p claims = and_then (free_at m p) (λ _. unless_too_large (is_too_much made p) (Creat p file (rights_of claims)))
+creat m made file p claims =
+    and_then (free_at m p) (λ _.
+    unless_too_large (is_too_much made p) (Creat p file (rights_of claims)))
 
 abbrev pub mkdir : Paths → ℕ → Path → Claims → Result Operation TraceFaultKind
-mkdir m made p claims = and_then (free_at m p) (λ _. unless_too_large (is_too_much made p) (Mkdir p (rights_of claims)))
+mkdir m made p claims =
+    and_then (free_at m p) (λ _.
+    unless_too_large (is_too_much made p) (Mkdir p (rights_of claims)))
+
+-- one path more, q, for the file at p
+abbrev pub link : Paths → ℕ → Path → Path → Result Operation TraceFaultKind
+link m made p q =
+    and_then (file_at m p) (λ file.
+    and_then (free_at m q) (λ _.
+    unless_too_large (is_too_much made q) (Link q file)))
 
 abbrev pub unlink : Paths → Path → Result Operation TraceFaultKind
 unlink m p = and_then (file_at m p) (λ _. Ok (Unlink p))
@@ -117,14 +128,32 @@ unlink m p = and_then (file_at m p) (λ _. Ok (Unlink p))
 abbrev pub rmdir : Paths → Path → Result Operation TraceFaultKind
 rmdir m p = and_then (emptied_at m p) (λ _. Ok (Rmdir p))
 
+-- the file of this number stands here
+abbrev pub is_path_of : ℕ → Option Node → Bool
+is_path_of file None = false
+is_path_of file (Some Directory) = false
+is_path_of file (Some (File other)) = other == file
+
+-- the path that a rename of the file at p to q moves: if q is a path of the same file, it does
+-- nothing, as a rename of q to itself
+abbrev pub rename_source : Paths → ℕ → Path → Path → Path
+rename_source m file p q = if is_path_of file (get m q) then q else p
+
 abbrev pub rename : Paths → Path → Path → Result Operation TraceFaultKind
-rename m p q = and_then (file_at m p) (λ _. and_then (target_at m q) (λ _. unless_too_large (has_too_many_names q) (Rename p q)))
+rename m p q =
+    and_then (file_at m p) (λ file.
+    and_then (target_at m q) (λ _.
+    unless_too_large (has_too_many_names q) (Rename (rename_source m file p q) q)))
 
 abbrev pub write : Paths → List ℕ → Path → ℕ → List ℕ → Result Operation TraceFaultKind
-write m sizes p offset bytes = and_then (file_at m p) (λ file. unless_too_large (ends_above offset bytes) (Write file (size_in sizes file) offset bytes))
+write m sizes p offset bytes =
+    and_then (file_at m p) (λ file.
+    unless_too_large (ends_above offset bytes) (Write file (size_in sizes file) offset bytes))
 
 abbrev pub truncate : Paths → List ℕ → Path → ℕ → Result Operation TraceFaultKind
-truncate m sizes p size = and_then (file_at m p) (λ file. unless_too_large (nat_lt FILE_BYTES size) (Truncate file (size_in sizes file) size))
+truncate m sizes p size =
+    and_then (file_at m p) (λ file.
+    unless_too_large (nat_lt FILE_BYTES size) (Truncate file (size_in sizes file) size))
 
 -- a chmod leaves owner and group as they stand, and a chown the permissions
 abbrev pub changed : Change → Rights → Rights
@@ -132,10 +161,15 @@ changed (Mode permissions) rights = record rights { permissions = permissions }
 changed (Owner owner group) rights = record rights { owner = owner; group = group }
 
 abbrev pub set_attr : Paths → Attributes → Path → Change → Result Operation TraceFaultKind
-set_attr m a p change = and_then (found (held m a p)) (λ h. Ok (SetAttr h.0 h.1 (changed change h.1)))
+set_attr m a p change =
+    and_then (found (held m a p)) (λ h. Ok (SetAttr h.0 h.1 (changed change h.1)))
 
 abbrev pub fsync : Paths → Path → Result Operation TraceFaultKind
 fsync m p = covered_by (get m p) p
+
+abbrev pub fsync_range : Paths → Path → ℕ → ℕ → Result Operation TraceFaultKind
+fsync_range m p offset count =
+    and_then (file_at m p) (λ file. Ok (Sync (covers.Range file offset count)))
 
 abbrev pub say : List ℕ → Result Operation TraceFaultKind
 say text = unless_too_large (nat_lt SAY_BYTES (length text)) Say
@@ -146,28 +180,40 @@ say text = unless_too_large (nat_lt SAY_BYTES (length text)) Say
 abbrev pub legal : Option Path → Result Path TraceFaultKind
 legal path = option_map_or Ok path (Err BadName)
 
-abbrev pub with_path : {A : Type 0} → Option Path → (Path → Result A TraceFaultKind) → Result A TraceFaultKind
+abbrev pub with_path : {A : Type 0}
+    → Option Path → (Path → Result A TraceFaultKind) → Result A TraceFaultKind
 with_path path f = and_then (legal path) f
 
--- the operation of a line, where these paths stand, the files have these sizes, so many records were made,
--- and files and directories have these attributes; or its first fault
-abbrev pub resolve : Paths → List ℕ → ℕ → Attributes → OperationLine → Result Operation TraceFaultKind
-resolve m sizes made a (line.Creat text claims) = with_path (new_path_of text claims) (λ p. creat m made (length sizes) p claims)
-resolve m sizes made a (line.Mkdir text claims) = with_path (new_path_of text claims) (λ p. mkdir m made p claims)
+-- the operation of a line, where these paths stand, the files have these sizes, so many records
+-- were made, and files and directories have these attributes; or its first fault
+abbrev pub resolve :
+    Paths → List ℕ → ℕ → Attributes → OperationLine → Result Operation TraceFaultKind
+resolve m sizes made a (line.Creat text claims) =
+    with_path (new_path_of text claims) (λ p. creat m made (length sizes) p claims)
+resolve m sizes made a (line.Mkdir text claims) =
+    with_path (new_path_of text claims) (λ p. mkdir m made p claims)
+resolve m sizes made a (line.Link from to) =
+    with_path (entry_path_of from) (λ p. with_path (entry_path_of to) (λ q. link m made p q))
 resolve m sizes made a (line.Unlink text) = with_path (entry_path_of text) (unlink m)
 resolve m sizes made a (line.Rmdir text) = with_path (entry_path_of text) (rmdir m)
-resolve m sizes made a (line.Rename from to) = with_path (entry_path_of from) (λ p. with_path (entry_path_of to) (λ q. rename m p q))
-resolve m sizes made a (line.Write text offset bytes) = with_path (entry_path_of text) (λ p. write m sizes p offset bytes)
-resolve m sizes made a (line.Truncate text size) = with_path (entry_path_of text) (λ p. truncate m sizes p size)
-resolve m sizes made a (line.SetAttr text change) = with_path (set_path_of text change) (λ p. set_attr m a p change)
+resolve m sizes made a (line.Rename from to) =
+    with_path (entry_path_of from) (λ p. with_path (entry_path_of to) (λ q. rename m p q))
+resolve m sizes made a (line.Write text offset bytes) =
+    with_path (entry_path_of text) (λ p. write m sizes p offset bytes)
+resolve m sizes made a (line.Truncate text size) =
+    with_path (entry_path_of text) (λ p. truncate m sizes p size)
+resolve m sizes made a (line.SetAttr text change) =
+    with_path (set_path_of text change) (λ p. set_attr m a p change)
 resolve m sizes made a (line.Fsync text) = with_path (path_of text) (fsync m)
+resolve m sizes made a (line.FsyncRange text offset count) =
+    with_path (entry_path_of text) (λ p. fsync_range m p offset count)
 resolve m sizes made a line.Sync = Ok (Sync covers.All)
 resolve m sizes made a (line.Say text) = say text
 
 -- ---- where memory may be wanted
 
--- there is no fault, or one that only what stands shows: it comes after the names are kept, for which
--- memory may be wanted
+-- there is no fault, or one that only what stands shows: it comes after the names are kept, for
+-- which memory may be wanted
 abbrev pub IsPastNames : {A : Type 0} → Result A TraceFaultKind → Type 0
 IsPastNames (Ok x) = Unit {0}
 IsPastNames (Err Syntax) = ⊥

@@ -1,11 +1,14 @@
 -- What a reader keeps of the lines so far; for private clauses.
-use Rattle.std.specs.Prelude.{◌<◌, ◌≤◌, ◌+◌, length}
-use Rattle.cs_names.specs.declared.limits.TheConstants.{FILE_BYTES, TREE_RECORDS}
+use Rattle.std.specs.Prelude.{◌≡◌, ◌<◌, ◌≤◌, ◌+◌, Some, length}
+use Rattle.std.specs.FinMap.{get}
+use Rattle.cs_names.specs.declared.limits.TheConstants.{FILE_BYTES, TRACE_PATH_NAMES, TREE_RECORDS}
 use Rattle.cs_tree_model.specs.Tree.{Path}
 use Rattle.cs_trace.specs.Attributes.{Attributes, with_directory, with_file}
+use Rattle.cs_trace.specs.Entries.{Entries}
 use Rattle.cs_trace.specs.Judging.{AreShort}
 use Rattle.cs_trace.specs.States.{State}
 use Rattle.cs_trace.specs.declared.attributes.Attributes.{Attributes as KeptAttributes}
+use Rattle.cs_trace.specs.declared.entry.Entry.{Entry}
 use Rattle.cs_trace.specs.declared.operation.Node.{Node}
 use Rattle.cs_trace.specs.declared.operation.Node.TheVariants.{Directory, File}
 use Rattle.cs_trace.specs.declared.operation.Operation.{Operation}
@@ -22,15 +25,31 @@ with_node a Directory p rights = with_directory a p rights
 with_node a (File file) p rights = with_file a rights
 
 abbrev pub state_of : KeptState → State
-state_of s = record { version = s.version; start = s.tree.start; files = s.files.items; paths = s.tree.nodes; sizes = s.sizes.items; made = s.made; attributes = attributes_of s.attributes; operations = s.operations.items }
+state_of s = record {
+  version = s.version;
+  start = s.tree.start;
+  files = s.files.items;
+  links = s.links.items;
+  paths = s.tree.nodes;
+  sizes = s.sizes.items;
+  made = s.made;
+  attributes = attributes_of s.attributes;
+  operations = s.operations.items;
+}
 
 -- a write of at least one byte ends within the greatest file
 abbrev pub IsWithin : Operation → Type 0
 IsWithin (Write file size offset bytes) = 0 < length bytes → offset + length bytes ≤ FILE_BYTES
 IsWithin _ = Unit {0}
 
--- no path that stands has too many names, there are not too many records, and each file is one of them
+-- no path at the start has too many names
+abbrev pub AreShortAtStart : Entries → Type 0
+AreShortAtStart m = (p : Path) (e : Entry) → get m p ≡ Some e → length p ≤ TRACE_PATH_NAMES
+
+-- no path, now or at the start, has too many names, there are not too many records, and each file
+-- is one of them
 pub record IsBounded (s : State) : Type 0 where
   pub short : AreShort s.paths
+  pub started : AreShortAtStart s.start
   pub few : s.made ≤ TREE_RECORDS
   pub counted : length s.sizes ≤ s.made

@@ -3,15 +3,11 @@ pub mod Below
 pub mod Checks
 pub mod Entries
 pub mod Faults
-pub mod Fields
 pub mod Judging
 pub mod Kept
-pub mod Lines
 pub mod Names
 pub mod Operations
 pub mod Outcomes
-pub mod Reading
-pub mod Said
 pub mod States
 pub mod Traces
 pub mod Trees

@@ -5,7 +5,7 @@ use Rattle.cs_names.specs.Legal.{user_name_in}
 use Rattle.cs_names.specs.Paths.{path_in}
 use Rattle.cs_names.specs.declared.limits.TheConstants.{TRACE_PATH_NAMES}
 use Rattle.cs_tree_model.specs.Tree.{Path}
-use Rattle.cs_trace.specs.Lines.{Change, Claims, Mode, Owner}
+use Rattle.cs_trace_lines.specs.Lines.{Change, Claims, Mode, Owner}
 use Rattle.cs_trace.specs.declared.operation.Rights.{Rights}
 
 abbrev pub is_user_name : List ℕ → Bool
@@ -16,7 +16,8 @@ abbrev pub are_user_names : Claims → Bool
 are_user_names claims = is_user_name claims.owner && is_user_name claims.group
 
 abbrev pub rights_of : Claims → Rights
-rights_of claims = record { owner = claims.owner; group = claims.group; permissions = claims.permissions }
+rights_of claims =
+    record { owner = claims.owner; group = claims.group; permissions = claims.permissions }
 
 -- the path that a text spells; None where it is not legal
 abbrev pub path_of : List ℕ → Option Path
@@ -37,7 +38,8 @@ entry_path_of text = option_and_then below_root (path_of text)
 
 -- the path of a new entry, with its owner and its group; None where one of them is not legal
 abbrev pub new_path_of : List ℕ → Claims → Option Path
-new_path_of text claims = option_and_then (λ p. if are_user_names claims then Some p else None) (entry_path_of text)
+new_path_of text claims =
+    option_and_then (λ p. if are_user_names claims then Some p else None) (entry_path_of text)
 
 -- what is set has legal names
 abbrev pub are_set_names : Change → Bool
@@ -46,9 +48,11 @@ are_set_names (Owner owner group) = is_user_name owner && is_user_name group
 
 -- the path of what is set; None where a name is not legal
 abbrev pub set_path_of : List ℕ → Change → Option Path
-set_path_of text change = option_and_then (λ p. if are_set_names change then Some p else None) (path_of text)
+set_path_of text change =
+    option_and_then (λ p. if are_set_names change then Some p else None) (path_of text)
 
--- a text that spells a path of so many names, which aren't too many for a directory; none is known to
--- where there are 0 of them
+-- a text that spells a path of so many names, which aren't too many for a directory; none is known
+-- to where there are 0 of them
 abbrev pub MaySpell : ℕ → List ℕ → Path → Type 0
-MaySpell count text p = 0 < count → (path_of text ≡ Some p) × (count ≡ length p) × (count ≤ TRACE_PATH_NAMES + 1)
+MaySpell count text p =
+    0 < count → (path_of text ≡ Some p) × (count ≡ length p) × (count ≤ TRACE_PATH_NAMES + 1)

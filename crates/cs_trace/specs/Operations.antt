@@ -9,7 +9,7 @@ use Rattle.cs_trace.specs.declared.operation.Node.{Node}
 use Rattle.cs_trace.specs.declared.operation.Node.TheVariants.{Directory, File}
 use Rattle.cs_trace.specs.declared.operation.Operation.{Operation}
 use Rattle.cs_trace.specs.declared.operation.Rights.{Rights}
-use Rattle.cs_trace.specs.declared.operation.Operation.TheVariants.{Creat, Mkdir, Unlink, Rmdir, Rename, Write, Truncate, SetAttr, Sync, Say}
+use Rattle.cs_trace.specs.declared.operation.Operation.TheVariants.{Creat, Mkdir, Link, Unlink, Rmdir, Rename, Write, Truncate, SetAttr, Sync, Say}
 use Rattle.cs_trace.specs.declared.operation.Target.TheVariants as targets
 
 -- what stands at each path
@@ -25,6 +25,7 @@ moved p q m = option_map_or (λ node. insert (remove m p) q node) (get m p) m
 abbrev pub paths_after : Paths → Operation → Paths
 paths_after m (Creat p file rights) = insert m p (File file)
 paths_after m (Mkdir p rights) = insert m p Directory
+paths_after m (Link p file) = insert m p (File file)
 paths_after m (Unlink p) = remove m p
 paths_after m (Rmdir p) = remove m p
 paths_after m (Rename p q) = moved p q m
@@ -32,12 +33,14 @@ paths_after m _ = m
 
 -- the size of a file that had so many bytes, after a write
 abbrev pub written_size : ℕ → ℕ → List ℕ → ℕ
-written_size size offset bytes = if length bytes == 0 then size else max size (offset + length bytes)
+written_size size offset bytes =
+    if length bytes == 0 then size else max size (offset + length bytes)
 
 -- each file's size by its number: a new file has no byte
 abbrev pub sizes_after : List ℕ → Operation → List ℕ
 sizes_after sizes (Creat p file rights) = sizes ++ 0 ∷ []
-sizes_after sizes (Write file size offset bytes) = slice_set sizes file (written_size size offset bytes)
+sizes_after sizes (Write file size offset bytes) =
+    slice_set sizes file (written_size size offset bytes)
 sizes_after sizes (Truncate file size to) = slice_set sizes file to
 sizes_after sizes _ = sizes
 
@@ -45,6 +48,7 @@ sizes_after sizes _ = sizes
 abbrev pub made_by : Operation → ℕ
 made_by (Creat p file rights) = 1
 made_by (Mkdir p rights) = 1
+made_by (Link p file) = 1
 made_by _ = 0
 
 -- ---- where an operation is legal
@@ -79,28 +83,35 @@ HasSize sizes file size = slice_get sizes file ≡ Some size
 abbrev pub IsOctal : Rights → Type 0
 IsOctal rights = rights.permissions ≤ 511
 
--- the operation is legal where these paths stand and the files have these sizes: a new file has the next
--- number, a file that is changed or waited for stands, as does a directory, permissions are three octal
--- digits, and no operation leaves a file that is too large
+-- the operation is legal where these paths stand and the files have these sizes: a new file has the
+-- next number, a file that is changed, waited for or gets one more path stands, as does a
+-- directory, permissions are three octal digits, and no operation leaves a file that is too large
 abbrev pub IsLegal : Paths → List ℕ → Operation → Type 0
 IsLegal m sizes (Creat p file rights) = IsFree m p × (file ≡ length sizes) × IsOctal rights
 IsLegal m sizes (Mkdir p rights) = IsFree m p × IsOctal rights
+IsLegal m sizes (Link p file) = IsFree m p × Stands m file × (file < length sizes)
 IsLegal m sizes (Unlink p) = IsFileAt m p
 IsLegal m sizes (Rmdir p) = (p ≢ []) × IsDirectoryAt m p × IsEmptyAt m p
 IsLegal m sizes (Rename p q) = IsFileAt m p × MayTake m q
-IsLegal m sizes (Write file size offset bytes) = Stands m file × HasSize sizes file size × (0 < length bytes → offset + length bytes ≤ FILE_BYTES)
-IsLegal m sizes (Truncate file size to) = Stands m file × HasSize sizes file size × (to ≤ FILE_BYTES)
-IsLegal m sizes (SetAttr (targets.File file) before after) = Stands m file × (file < length sizes) × IsOctal after
+IsLegal m sizes (Write file size offset bytes) =
+    Stands m file × HasSize sizes file size
+    × (0 < length bytes → offset + length bytes ≤ FILE_BYTES)
+IsLegal m sizes (Truncate file size to) =
+    Stands m file × HasSize sizes file size × (to ≤ FILE_BYTES)
+IsLegal m sizes (SetAttr (targets.File file) before after) =
+    Stands m file × (file < length sizes) × IsOctal after
 IsLegal m sizes (SetAttr (targets.Directory p) before after) = IsDirectoryAt m p × IsOctal after
 IsLegal m sizes (Sync covers.All) = Unit {0}
 IsLegal m sizes (Sync (covers.File file)) = Stands m file × (file < length sizes)
+IsLegal m sizes (Sync (covers.Range file offset count)) = Stands m file × (file < length sizes)
 IsLegal m sizes (Sync (covers.Directory p)) = IsDirectoryAt m p
 IsLegal m sizes Say = Unit {0}
 
 -- each operation is legal in what those before it leave
 abbrev pub AreLegal : Paths → List ℕ → List Operation → Type 0
 AreLegal m sizes [] = Unit {0}
-AreLegal m sizes (o ∷ ops) = IsLegal m sizes o × AreLegal (paths_after m o) (sizes_after sizes o) ops
+AreLegal m sizes (o ∷ ops) =
+    IsLegal m sizes o × AreLegal (paths_after m o) (sizes_after sizes o) ops
 
 -- what all of them leave
 abbrev pub paths_after_all : Paths → List Operation → Paths
@@ -114,4 +125,5 @@ sizes_after_all = fold sizes_after
 -- the root is a directory, and each other path is in one
 pub record AreNested (m : Paths) : Type 0 where
   pub root : IsDirectoryAt m []
-  pub nested : (p : Path) (node : Node) → get m p ≡ Some node → p ≢ [] → IsDirectoryAt m (parent_path p)
+  pub nested : (p : Path) (node : Node)
+      → get m p ≡ Some node → p ≢ [] → IsDirectoryAt m (parent_path p)

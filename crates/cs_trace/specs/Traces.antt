@@ -11,7 +11,7 @@ use Rattle.cs_tree_model.specs.Tree.{Path, path_cmp}
 use Rattle.cs_tree_model.specs.declared.record.Record.{Record}
 use Rattle.cs_trace.specs.Entries.{file_mode, nodes_in, records_in, size_of}
 use Rattle.cs_trace.specs.Judging.{and_then}
-use Rattle.cs_trace.specs.Lines.{is_blank, profile_of}
+use Rattle.cs_trace_lines.specs.Lines.{is_blank}
 use Rattle.cs_trace.specs.Operations.{AreLegal, AreNested, Paths, made_by}
 use Rattle.cs_trace.specs.States.{State, lines_in, state_in}
 use Rattle.cs_trace.specs.declared.fault.TraceFault.{TraceFault}
@@ -19,17 +19,19 @@ use Rattle.cs_trace.specs.declared.fault.TraceFaultKind.TheVariants.{Syntax}
 use Rattle.cs_trace.specs.declared.operation.Node.{Node}
 use Rattle.cs_trace.specs.declared.operation.Node.TheVariants.{Directory, File}
 use Rattle.cs_trace.specs.declared.operation.Operation.{Operation}
-use Rattle.cs_trace.specs.declared.profile.Profile.{Profile}
+use Rattle.cs_trace_lines.specs.declared.version.Version.{Version}
 
--- the records of the start tree in the order of their paths, with fresh numbers; what each of them is, in
--- the same order; the paths of the start's files in the order of their numbers; the operations; what the
--- file system keeps in order
+-- the records of the start tree in the order of their paths, with fresh numbers; what each of them
+-- is, in the same order; the path that each of the start's files was made at, in the order of their
+-- numbers; the further paths of these files, in the order of their lines, each with the file's
+-- number; the operations; the version, which says what the file system keeps in order
 pub record Trace : Type 0 where
   pub records : List (Path × Record)
   pub nodes : List Node
   pub files : List Path
+  pub links : List (Path × ℕ)
   pub operations : List Operation
-  pub profile : Profile
+  pub version : Version
 
 -- ---- the start
 
@@ -57,8 +59,8 @@ start_sizes t = map (size_at t.records) t.files
 abbrev pub records_made : Trace → ℕ
 records_made t = length t.records + sum_by made_by t.operations
 
--- a record that nobody changed yet, of this number: its version and its times are 0, its owner is who
--- changed it last, and its mode is three octal digits, with a directory's bit above them
+-- a record that nobody changed yet, of this number: its version and its times are 0, its owner is
+-- who changed it last, and its mode is three octal digits, with a directory's bit above them
 pub record IsUnchanged (number : ℕ) (r : Record) : Type 0 where
   pub fresh : r ≡ fresh_record number r
   pub permissions : ℕ
@@ -67,7 +69,8 @@ pub record IsUnchanged (number : ℕ) (r : Record) : Type 0 where
 
 -- nobody changed any of them yet, and each has the number of its place
 abbrev pub AreUnchanged : List (Path × Record) → Type 0
-AreUnchanged records = (n : ℕ) (e : Path × Record) → slice_get records n ≡ Some e → IsUnchanged n e.1
+AreUnchanged records =
+    (n : ℕ) (e : Path × Record) → slice_get records n ≡ Some e → IsUnchanged n e.1
 
 -- what the record is: a directory has no bytes, and a file has some, or none yet
 abbrev pub IsNodeOf : Node → Record → Type 0
@@ -76,7 +79,9 @@ IsNodeOf (File file) r = (bytes : List ℕ) × (r.content ≡ Some bytes)
 
 -- each node is what the record beside it is
 abbrev pub AreNodesOf : List Node → List (Path × Record) → Type 0
-AreNodesOf nodes records = (n : ℕ) (node : Node) (e : Path × Record) → slice_get nodes n ≡ Some node → slice_get records n ≡ Some e → IsNodeOf node e.1
+AreNodesOf nodes records =
+    (n : ℕ) (node : Node) (e : Path × Record)
+    → slice_get nodes n ≡ Some node → slice_get records n ≡ Some e → IsNodeOf node e.1
 
 -- what stands at a path, beside its record
 abbrev pub StandsAs : Option Node → Option Record → Type 0
@@ -85,9 +90,34 @@ StandsAs (Some node) (Some r) = IsNodeOf node r
 StandsAs None (Some r) = ⊥
 StandsAs (Some node) None = ⊥
 
--- a trace that was read: its start is a tree, whose records nobody changed, in the order of their paths and
--- numbered from 0; what stands there is what the records are, and the n-th path of a file has the file of
--- that number; each operation is legal in what the ones before it leave; and no limit is passed
+-- the records of two paths of one file: the same bytes, owner, group and mode
+pub record AreAlike (r s : Record) : Type 0 where
+  pub content : r.content ≡ s.content
+  pub owner : r.owner ≡ s.owner
+  pub group : r.group ≡ s.group
+  pub mode : r.mode ≡ s.mode
+
+abbrev pub AreAlikeAt : Option Record → Option Record → Type 0
+AreAlikeAt None beside = ⊥
+AreAlikeAt (Some r) None = ⊥
+AreAlikeAt (Some r) (Some s) = AreAlike r s
+
+-- the path is one of the file of that number: its record is like that of the path that the file was
+-- made at
+pub record IsPathOf (t : Trace) (file : ℕ) (p : Path) : Type 0 where
+  pub own : Path
+  pub at : slice_get t.files file ≡ Some own
+  pub alike : AreAlikeAt (record_in t.records p) (record_in t.records own)
+
+-- each of these paths has the file of the number beside it
+abbrev pub AreLinks : Paths → List (Path × ℕ) → Type 0
+AreLinks m links =
+    (n : ℕ) (link : Path × ℕ) → slice_get links n ≡ Some link → get m link.0 ≡ Some (File link.1)
+
+-- a trace that was read: its start is a tree, whose records nobody changed, in the order of their
+-- paths and numbered from 0; what stands there is what the records are; the n-th path of a file has
+-- the file of that number, and each other path of it has a record like its own; each operation is
+-- legal in what the ones before it leave; and no limit is passed
 pub record IsTrace (t : Trace) : Type 0 where
   pub listing : IsListing t.records
   pub ascending : IsStrictlySortedBy path_cmp (map (λ e. e.0) t.records)
@@ -98,15 +128,24 @@ pub record IsTrace (t : Trace) : Type 0 where
   pub kinds : AreNodesOf t.nodes t.records
   pub stands : (p : Path) → StandsAs (get (start_paths t) p) (record_in t.records p)
   pub nested : AreNested (start_paths t)
-  pub numbered : (n : ℕ) (p : Path) → slice_get t.files n ≡ Some p → get (start_paths t) p ≡ Some (File n)
-  pub found : (n : ℕ) (p : Path) → get (start_paths t) p ≡ Some (File n) → slice_get t.files n ≡ Some p
+  pub numbered : (n : ℕ) (p : Path)
+      → slice_get t.files n ≡ Some p → get (start_paths t) p ≡ Some (File n)
+  pub linked : AreLinks (start_paths t) t.links
+  pub found : (n : ℕ) (p : Path) → get (start_paths t) p ≡ Some (File n) → IsPathOf t n p
   pub legal : AreLegal (start_paths t) (start_sizes t) t.operations
 
 -- ---- the trace of a text
 
 -- what the lines leave, as a trace
 abbrev pub whole : State → Trace
-whole s = record { records = records_in s.start; nodes = nodes_in s.start; files = s.files; operations = s.operations; profile = profile_of s.version }
+whole s = record {
+  records = records_in s.start;
+  nodes = nodes_in s.start;
+  files = s.files;
+  links = s.links;
+  operations = s.operations;
+  version = s.version;
+}
 
 -- with no line that says something there is no header
 abbrev pub trace_of : State → Result Trace TraceFault
@@ -120,10 +159,11 @@ unfoldable pub trace_in : List ℕ → Result Trace TraceFault
 trace_in text = trace_by (lines_in text)
 
 -- memory may be wanted at the line of that number: it is one of the lines, those before it have no
--- fault, and it isn't blank, unless it is the last, the whole has no fault, and only the records are left
--- to keep
+-- fault, and it isn't blank, unless it is the last, the whole has no fault, and only the records
+-- are left to keep
 pub record MayWant (lines : List (List ℕ)) (number : ℕ) : Type 0 where
   pub above : 0 < number
   pub among : number ≤ length lines
   pub before : IsOk (state_in (take (number - 1) lines))
-  pub blank : is_blank (slice_index_or lines (number - 1) []) ≡ true → (number ≡ length lines) × IsOk (trace_by lines)
+  pub blank : is_blank (slice_index_or lines (number - 1) []) ≡ true
+      → (number ≡ length lines) × IsOk (trace_by lines)

@@ -14,7 +14,12 @@ pub record Tree : Type 0 where
   pub nodes : Paths
 
 abbrev pub tree_code : Coded Tree
-tree_code = code_by (Entries × Paths) (coded× entries_code paths_code) (λ t. (t.start, t.nodes)) (λ p. record { start = p.0; nodes = p.1 }) (λ _. refl)
+tree_code = code_by
+    (Entries × Paths)
+    (coded× entries_code paths_code)
+    (λ t. (t.start, t.nodes))
+    (λ p. record { start = p.0; nodes = p.1 })
+    (λ _. refl)
 
 -- what stands now; as long as nothing changed, what stood at the start
 abbrev pub nodes_by : Entries → Option Paths → Paths

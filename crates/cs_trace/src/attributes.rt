@@ -143,7 +143,8 @@ impl Attributes {
                     self.set_directory(path.try_clone(alloc)?, after.try_clone()?)
                 }
             },
-            Operation::Unlink { .. }
+            Operation::Link { .. }
+            | Operation::Unlink { .. }
             | Operation::Rmdir { .. }
             | Operation::Rename { .. }
             | Operation::Write { .. }

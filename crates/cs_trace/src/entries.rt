@@ -42,6 +42,13 @@ impl Entries {
         }
     }
 
+    /// The entry at the path. It takes no memory.
+    pub(crate) fn entry(&self, path: &Path) -> Option<&Entry>
+        ensures { option_map (λ entry. entry.now) result ≡ map.get self.now path.now }
+    {
+        self.by_path.get(path)
+    }
+
     /// What stands at the path. It takes no memory.
     pub(crate) fn get(&self, path: &Path) -> Option<Node>
         ensures { result ≡ option_map node_of (map.get self.now path.now) }

@@ -5,7 +5,7 @@ ghost use Rattle.cs_trace.specs.Entries.{file_mode, node_of, record_of};
 
 use crate::operation::{Node, Rights};
 use cs_tree_model::{Content, DMDIR, Kind, Record};
-use std::alloc::AllocError;
+use std::alloc::{AllocError, Global};
 
 /// A file or a directory, without its path.
 #[derive(Debug, Drop)]
@@ -33,6 +33,17 @@ impl Entry {
             Kind::Directory => Node::Directory,
             Kind::File { .. } => Node::File(self.number),
         }
+    }
+
+    /// The same entry again, for another path of the file.
+    pub(crate) fn try_clone(&self, alloc: Global) -> Result<Entry, AllocError>
+        ensures { IfOk result (λ copy. copy ≡ self.now) }
+    {
+        Ok(Entry {
+            number: self.number,
+            rights: self.rights.try_clone()?,
+            content: self.content.try_clone(alloc)?,
+        })
     }
 
     /// The record that nobody changed yet, with that number.

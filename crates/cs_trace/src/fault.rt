@@ -28,7 +28,8 @@ pub enum TraceFaultKind {
     NotFile,
     /// Something stands in the directory.
     NotEmpty,
-    /// A path of too many names, too many files, a file of too many bytes, or a text that is too long.
+    /// A path of too many names, too many files, a file of too many bytes, or a text that is too
+    /// long.
     TooLarge,
     /// No memory to keep what the line says.
     Memory,

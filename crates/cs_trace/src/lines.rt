@@ -1,33 +1,44 @@
 //! The lines of a trace, one after another.
-ghost use Rattle.std.specs.Prelude.{◌≡◌, ◌≢◌, false, IfErr, IfOk, Ok, Err, length};
+ghost use Rattle.std.specs.Prelude.{◌≡◌, ◌≢◌, false, IfErr, IfOk, None, Some, Ok, Err, length};
 ghost use Rattle.cs_trace.specs.Judging.{IsPastNames};
 ghost use Rattle.cs_trace.specs.Kept.{IsBounded, state_of};
-ghost use Rattle.cs_trace.specs.Lines.{is_blank};
+ghost use Rattle.cs_trace_lines.specs.Lines.{is_blank, line_in};
 ghost use Rattle.cs_trace.specs.Outcomes.{Leaves};
-ghost use Rattle.cs_trace.specs.Said.{line_said, operation_said};
-ghost use Rattle.cs_trace.specs.States.{later_step, line_step, lines_in, state_in, step};
-ghost use Rattle.cs_trace.specs.Lines as said;
+ghost use Rattle.cs_trace_lines.specs.Said.{line_said, operation_said};
+ghost use Rattle.cs_trace.specs.States.{first_step, later_step, lines_in, state_in, step};
+ghost use Rattle.cs_trace_lines.specs.Lines as said;
 ghost use Rattle.cs_trace.specs.Traces.{MayWant};
-ghost use Rattle.cs_trace.specs.declared.fault.TraceFaultKind.TheVariants.{Memory};
+ghost use Rattle.cs_trace.specs.declared.fault.TraceFaultKind.TheVariants.{Memory, Syntax};
 
 use crate::fault::{TraceFault, TraceFaultKind};
-use crate::line::{Line, OperationLine, is_blank, line_of};
-use crate::reading::fields_in;
 use crate::resolve::resolve;
-use crate::start::{take_header, take_start};
+use crate::start::{take_header, take_link, take_start};
 use crate::state::State;
-use json::Scratch;
+use cs_trace_lines::{Line, LineFault, OperationLine, Version, is_blank, read_line};
 use std::alloc::Global;
+
+/// What a line that isn't blank says.
+fn read(alloc: Global, version: Version, text: &str) -> Result<Line, TraceFaultKind>
+    ensures read { IfOk result (λ line. line_in version text.now ≡ Some (line_said line)) }
+    ensures fault { IfErr result (λ kind. kind ≢ Memory → kind ≡ Syntax) }
+    ensures none { IfErr result (λ kind. kind ≢ Memory → line_in version text.now ≡ None) }
+{
+    match read_line(alloc, version, text) {
+        Ok(line) => Ok(line),
+        Err(LineFault::Syntax) => Err(TraceFaultKind::Syntax),
+        Err(LineFault::Memory) => Err(TraceFaultKind::Memory),
+    }
+}
 
 /// An operation after the header.
 fn take_operation(
     alloc: Global,
     state: &mut State,
-    line: &OperationLine<'_>,
+    line: OperationLine,
 ) -> Result<(), TraceFaultKind>
     requires { IsBounded (state_of state.old) }
     ensures { Leaves
-        (later_step (state_of state.old) (said.Operation (operation_said line.now)))
+        (later_step (state_of state.old) (said.Operation (operation_said line)))
         result (state_of state.new) IsPastNames }
 {
     let operation = resolve(alloc, state, line)?;
@@ -35,34 +46,42 @@ fn take_operation(
     Ok(())
 }
 
-/// A line that isn't blank: first the header, then the files at the start, and then operations.
-fn take_line(alloc: Global, state: &mut State, line: &Line<'_>) -> Result<(), TraceFaultKind>
+/// The first line that isn't blank, which is the header.
+fn take_first(alloc: Global, state: &mut State, line: Line) -> Result<(), TraceFaultKind>
     requires { IsBounded (state_of state.old) }
     ensures { Leaves
-        (line_step (state_of state.old) (line_said line.now))
+        (first_step (state_of state.old) (line_said line))
         result (state_of state.new) IsPastNames }
 {
-    let is_first = state.made == 0;
+    match line {
+        Line::Header(version, claims) => take_header(alloc, state, version, &claims),
+        _ => Err(TraceFaultKind::Syntax),
+    }
+}
+
+/// A line after the header that isn't blank: first those of the start, and then operations.
+fn take_later(alloc: Global, state: &mut State, line: Line) -> Result<(), TraceFaultKind>
+    requires { IsBounded (state_of state.old) }
+    ensures { Leaves
+        (later_step (state_of state.old) (line_said line))
+        result (state_of state.new) IsPastNames }
+{
     let is_start = state.operations.is_empty();
     match line {
-        Line::Header(version, claims) if is_first => take_header(alloc, state, *version, claims),
-        _ if is_first => Err(TraceFaultKind::Syntax),
+        Line::Header(..) => Err(TraceFaultKind::Syntax),
         Line::Start(line) if is_start => take_start(alloc, state, line),
+        Line::Start(_) => Err(TraceFaultKind::Syntax),
+        Line::StartLink { path, from } if is_start => take_link(alloc, state, &path, &from),
+        Line::StartLink { .. } => Err(TraceFaultKind::Syntax),
         Line::UnknownStart if is_start => Err(TraceFaultKind::UnknownOp),
-        Line::Header(..) | Line::Start(_) | Line::UnknownStart => Err(TraceFaultKind::Syntax),
+        Line::UnknownStart => Err(TraceFaultKind::Syntax),
         Line::Operation(line) => take_operation(alloc, state, line),
         Line::UnknownOperation => Err(TraceFaultKind::UnknownOp),
     }
 }
 
-/// One line more. What `scratch` holds of the line before is written over.
-#[tactic(auto, unfolding(crate::specs::Lines::line_in))]
-fn take(
-    alloc: Global,
-    state: &mut State,
-    text: &str,
-    scratch: &mut Scratch,
-) -> Result<(), TraceFaultKind>
+/// One line more.
+fn take(alloc: Global, state: &mut State, text: &str) -> Result<(), TraceFaultKind>
     requires { IsBounded (state_of state.old) }
     ensures { Leaves
         (step (state_of state.old) text.now)
@@ -71,25 +90,25 @@ fn take(
     if is_blank(text) {
         return Ok(());
     }
-    let Some(fields) = fields_in(text, scratch)? else {
-        return Err(TraceFaultKind::Syntax);
-    };
-    let Some(line) = line_of(state.version, &fields) else {
-        return Err(TraceFaultKind::Syntax);
-    };
-    take_line(alloc, state, &line)
+    let line = read(alloc, state.version, text)?;
+    if state.made == 0 {
+        take_first(alloc, state, line)
+    } else {
+        take_later(alloc, state, line)
+    }
 }
 
 /// What all lines of the text leave.
 pub(crate) fn take_lines(alloc: Global, text: &str) -> Result<State, TraceFault>
     ensures done { IfOk result (λ state. state_in (lines_in text.now) ≡ Ok (state_of state)) }
-    ensures fault { IfErr result (λ fault. fault.kind ≢ Memory → state_in (lines_in text.now) ≡ Err fault) }
-    ensures memory { IfErr result (λ fault. fault.kind ≡ Memory → MayWant (lines_in text.now) fault.line) }
+    ensures fault { IfErr result (λ fault. fault.kind ≢ Memory
+        → state_in (lines_in text.now) ≡ Err fault) }
+    ensures memory { IfErr result (λ fault. fault.kind ≡ Memory
+        → MayWant (lines_in text.now) fault.line) }
 {
     let mut state = State::new(alloc);
-    let mut scratch = Scratch::new(alloc);
     for (i, line) in text.split('\n').enumerate() {
-        if let Err(kind) = take(alloc, &mut state, line, &mut scratch) {
+        if let Err(kind) = take(alloc, &mut state, line) {
             return Err(TraceFault { line: i + 1, kind });
         }
     }

@@ -1,10 +1,10 @@
 //! The names of users and groups in a line: judged without memory, and kept.
 ghost use Rattle.std.specs.Prelude.{◌≡◌, IfOk};
 ghost use Rattle.cs_trace.specs.Names.{are_set_names, are_user_names, is_user_name};
-ghost use Rattle.cs_trace.specs.Said.{change_said, claims_of};
+ghost use Rattle.cs_trace_lines.specs.Said.{change_said, claims_of};
 
-use crate::line::{Change, Claims};
 use cs_names::UserName;
+use cs_trace_lines::{Change, Claims};
 use std::alloc::{AllocError, Global};
 
 fn is_user_name(text: &str) -> bool
@@ -13,14 +13,14 @@ fn is_user_name(text: &str) -> bool
     UserName::check(text.as_bytes()).is_ok()
 }
 
-pub(crate) fn are_user_names(claims: &Claims<'_>) -> bool
+pub(crate) fn are_user_names(claims: &Claims) -> bool
     ensures { result ≡ are_user_names (claims_of claims.now) }
 {
-    is_user_name(claims.owner) && is_user_name(claims.group)
+    is_user_name(&claims.owner) && is_user_name(&claims.group)
 }
 
 /// Whether what is set has legal names.
-pub(crate) fn are_set_names(change: &Change<'_>) -> bool
+pub(crate) fn are_set_names(change: &Change) -> bool
     ensures { result ≡ are_set_names (change_said change.now) }
 {
     match change {

@@ -31,7 +31,8 @@ impl Model for Near {
 
 /// The path before the last name of a text that spells one; None of an entry of the root.
 fn text_above<'a>(text: &'a str) -> Option<PathText<'a>>
-    ensures above { IfSome result (λ above. (p : List (List ℕ)) → path_of text.now ≡ Some p → above ≡ parent_path p) }
+    ensures above { IfSome result (λ above. (p : List (List ℕ))
+        → path_of text.now ≡ Some p → above ≡ parent_path p) }
     ensures some { IfSome result (λ above. 0 < length above) }
 {
     let (above, name) = text.rsplit_once('/')?;
@@ -68,8 +69,8 @@ impl Near {
         &self.path
     }
 
-    /// The path of an entry that the text spells with the directory in front, of which the last name
-    /// alone is judged. None of other texts, which are to be judged whole.
+    /// The path of an entry that the text spells with the directory in front, of which the last
+    /// name alone is judged. None of other texts, which are to be judged whole.
     pub(crate) fn entry<'a>(&self, text: &'a str) -> Option<PathText<'a>>
         ensures { IfSome result (λ path. entry_path_of text.now ≡ Some path) }
     {

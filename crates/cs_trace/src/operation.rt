@@ -3,11 +3,11 @@ ghost use Rattle.std.specs.Prelude.{◌≡◌, IfOk};
 ghost use Rattle.cs_trace.specs.Attributes.{target_of};
 ghost use Rattle.cs_trace.specs.Judging.{changed};
 ghost use Rattle.cs_trace.specs.Names.{rights_of};
-ghost use Rattle.cs_trace.specs.Said.{change_said, claims_of};
+ghost use Rattle.cs_trace_lines.specs.Said.{change_said, claims_of};
 
-use crate::line::{Change, Claims};
 use crate::names::keep_user_name;
 use cs_names::{Bytes, Path, UserName};
+use cs_trace_lines::{Change, Claims};
 use std::alloc::{AllocError, Global};
 
 /// What stands at a path.
@@ -35,6 +35,14 @@ pub enum Covers {
     All,
     /// The file of that number.
     File(u32),
+    /// Some bytes of the file of that number, and its size.
+    Range {
+        file: u32,
+        /// Where they begin.
+        offset: u64,
+        /// How many they are. They may end above the greatest `u64`.
+        length: u64,
+    },
     /// The entries of the directory at that path.
     Directory(Path),
 }
@@ -62,7 +70,12 @@ pub enum Operation {
         path: Path,
         rights: Rights,
     },
-    /// A file's entry is removed.
+    /// One more path for a file.
+    Link {
+        path: Path,
+        file: u32,
+    },
+    /// A file's path is removed. The file stays while it has another.
     Unlink {
         path: Path,
     },
@@ -70,7 +83,8 @@ pub enum Operation {
     Rmdir {
         path: Path,
     },
-    /// A file's entry is moved, over a file that stands there. The two paths may be one.
+    /// A file's entry is moved, over a file that stands there. With one path for both nothing
+    /// changes. A rename onto another path of the same file is read as one of that path to itself.
     Rename {
         from: Path,
         to: Path,
@@ -99,7 +113,7 @@ pub enum Operation {
         /// As they stand after it.
         after: Rights,
     },
-    /// An fsync, or a sync of everything.
+    /// An fsync of a file or of a part of it, or a sync of everything.
     Sync(Covers),
     /// A text that the application tells its users.
     Say,
@@ -107,12 +121,12 @@ pub enum Operation {
 
 impl Rights {
     /// The rights that legal names claim.
-    pub(crate) fn keep(alloc: Global, claims: &Claims<'_>) -> Result<Rights, AllocError>
+    pub(crate) fn keep(alloc: Global, claims: &Claims) -> Result<Rights, AllocError>
         ensures { IfOk result (λ rights. rights ≡ rights_of (claims_of claims.now)) }
     {
         Ok(Rights {
-            owner: keep_user_name(alloc, claims.owner)?,
-            group: keep_user_name(alloc, claims.group)?,
+            owner: keep_user_name(alloc, &claims.owner)?,
+            group: keep_user_name(alloc, &claims.group)?,
             permissions: claims.permissions,
         })
     }
@@ -129,7 +143,7 @@ impl Rights {
     }
 
     /// The rights with other permissions, or with an owner and a group whose names are legal.
-    pub(crate) fn changed(&self, alloc: Global, change: &Change<'_>) -> Result<Rights, AllocError>
+    pub(crate) fn changed(&self, alloc: Global, change: &Change) -> Result<Rights, AllocError>
         ensures { IfOk result (λ rights. rights ≡ changed (change_said change.now) self.now) }
     {
         let mut rights = self.try_clone()?;

@@ -1,8 +1,10 @@
 //! A path that a line spells: judged without memory, and kept.
-ghost use Rattle.std.specs.Prelude.{◌≡◌, ◌<◌, ◌+◌, ◌↔◌, IfOk, IsTrue, MatchOption, Some, length};
+ghost use Rattle.std.specs.Prelude.{◌≡◌, ◌≢◌, ◌<◌, ◌+◌, ◌↔◌, IfErr, IfOk, IsTrue, Some, length};
 ghost use Rattle.cs_names.specs.declared.limits.TheConstants.{TRACE_PATH_NAMES};
 ghost use Rattle.cs_trace.specs.Names.{entry_path_of, path_of, spelled_path};
+ghost use Rattle.cs_trace.specs.declared.fault.TraceFaultKind.TheVariants.{Memory};
 
+use crate::fault::TraceFaultKind;
 use cs_names::Path;
 use cs_names::limits::TRACE_PATH_NAMES;
 use std::alloc::{AllocError, Global};
@@ -23,7 +25,8 @@ impl<'a> Model for PathText<'a> {
 
     ghost view = { λ path. spelled_path path.text.now };
 
-    ghost invariant = { λ path. (path_of path.text.now ≡ Some (spelled_path path.text.now)) × (path.count ≡ length (spelled_path path.text.now)) };
+    ghost invariant = { λ path. (path_of path.text.now ≡ Some (spelled_path path.text.now))
+        × (path.count ≡ length (spelled_path path.text.now)) };
 }
 
 impl<'a> PathText<'a> {
@@ -83,14 +86,21 @@ impl<'a> PathText<'a> {
         self.len() > TRACE_PATH_NAMES + 1
     }
 
-    /// A path that may stand in a trace's tree, or in a directory of it, kept. None of a longer one,
-    /// which takes no memory.
-    pub(crate) fn keep_short(&self, alloc: Global) -> Result<Option<Path>, AllocError>
-        ensures { IfOk result (λ path. MatchOption path (TRACE_PATH_NAMES + 1 < length self.now) (λ path. path ≡ self.now)) }
+    /// A path that may be in a trace's tree, or in a directory of it, kept. A longer one has this
+    /// fault, and takes no memory.
+    pub(crate) fn keep_or(
+        &self,
+        alloc: Global,
+        fault: TraceFaultKind,
+    ) -> Result<Path, TraceFaultKind>
+        ensures path { IfOk result (λ path. path ≡ self.now) }
+        ensures fault { IfErr result (λ kind. kind ≢ Memory → kind ≡ fault) }
+        ensures long { IfErr result (λ kind.
+            kind ≢ Memory → TRACE_PATH_NAMES + 1 < length self.now) }
     {
         if self.is_long() {
-            return Ok(None);
+            return Err(fault);
         }
-        Ok(Some(self.keep(alloc)?))
+        Ok(self.keep(alloc)?)
     }
 }

@@ -1,21 +1,25 @@
-//! An operation's line in what stands: its paths are judged, then kept, and then what it needs is asked.
+//! An operation's line in what stands: its paths are judged, then kept, and then what it needs is
+//! asked.
 ghost use Rattle.std.specs.Prelude.{◌≡◌, ◌<◌, ◌^◌, length};
-ghost use Rattle.cs_trace.specs.Judging.{AreShort, IsPastNames, creat, fsync, legal, mkdir, rename, resolve, rmdir, set_attr, truncate, unlink, write};
+ghost use Rattle.cs_trace.specs.Judging.{AreShort, IsPastNames, creat, fsync, fsync_range, legal, link, mkdir, rename, resolve, rmdir, say, set_attr, truncate, unlink, write};
 ghost use Rattle.cs_trace.specs.Kept.{IsWithin, attributes_of};
 ghost use Rattle.cs_trace.specs.Names.{entry_path_of, new_path_of, path_of, set_path_of};
 ghost use Rattle.cs_trace.specs.Outcomes.{Gives};
-ghost use Rattle.cs_trace.specs.Said.{change_said, claims_of, operation_said};
+ghost use Rattle.cs_trace_lines.specs.Said.{change_said, claims_of, operation_said};
 
-use crate::digits::Digits;
 use crate::fault::TraceFaultKind;
-use crate::judge;
-use crate::line::{Change, Claims, OperationLine};
+use crate::judge::{
+    are_too_many, check_emptied, check_free, check_target, ends_above, file_at, is_path_of,
+    is_too_much, size_in,
+};
 use crate::names::{are_set_names, are_user_names};
-use crate::operation::{Covers, Operation};
+use crate::operation::{Covers, Node, Operation, Rights, Target};
 use crate::path_text::PathText;
 use crate::state::State;
 use crate::tree::Tree;
-use cs_names::Path;
+use cs_names::limits::{FILE_BYTES, SAY_BYTES};
+use cs_names::{Bytes, Path};
+use cs_trace_lines::{Change, Claims, OperationLine};
 use std::alloc::Global;
 
 /// A path, which may be the root's.
@@ -26,17 +30,14 @@ fn any_path(text: &str) -> Result<PathText<'_>, TraceFaultKind>
 }
 
 /// The path of an entry.
-fn entry_path(text: &str) -> Result<PathText<'_>, TraceFaultKind>
+pub(crate) fn entry_path(text: &str) -> Result<PathText<'_>, TraceFaultKind>
     ensures { result ≡ legal (entry_path_of text.now) }
 {
     PathText::of_entry(text).ok_or(TraceFaultKind::BadName)
 }
 
 /// The path of a new entry, whose owner and group are judged with it.
-pub(crate) fn new_path<'a>(
-    text: &'a str,
-    claims: &Claims<'_>,
-) -> Result<PathText<'a>, TraceFaultKind>
+pub(crate) fn new_path<'a>(text: &'a str, claims: &Claims) -> Result<PathText<'a>, TraceFaultKind>
     ensures { result ≡ legal (new_path_of text.now (claims_of claims.now)) }
 {
     let path = entry_path(text)?;
@@ -47,7 +48,7 @@ pub(crate) fn new_path<'a>(
 }
 
 /// The path of what is set, whose names are judged with it.
-fn set_path<'a>(text: &'a str, change: &Change<'_>) -> Result<PathText<'a>, TraceFaultKind>
+fn set_path<'a>(text: &'a str, change: &Change) -> Result<PathText<'a>, TraceFaultKind>
     ensures { result ≡ legal (set_path_of text.now (change_said change.now)) }
 {
     let path = any_path(text)?;
@@ -62,7 +63,7 @@ fn creat(
     alloc: Global,
     state: &State,
     path: &PathText<'_>,
-    claims: &Claims<'_>,
+    claims: &Claims,
 ) -> Result<Operation, TraceFaultKind>
     requires short { AreShort state.now.tree.nodes }
     requires few { length state.now.sizes.items < 2 ^ 32 }
@@ -71,12 +72,15 @@ fn creat(
         path.now (claims_of claims.now))
         result IsPastNames }
 {
-    let Some(path) = path.keep_short(alloc)? else {
-        return Err(TraceFaultKind::NoParent);
-    };
+    let path = path.keep_or(alloc, TraceFaultKind::NoParent)?;
     let above = Path::of(alloc, &path.names().parent())?;
+    check_free(&state.tree, &above, &path)?;
+    if is_too_much(state.made, path.names().len()) {
+        return Err(TraceFaultKind::TooLarge);
+    }
     let file = state.sizes.len() as u32;
-    judge::creat(alloc, &state.tree, state.made, file, path, &above, claims)
+    let rights = Rights::keep(alloc, claims)?;
+    Ok(Operation::Creat { path, file, rights })
 }
 
 #[tactic(auto, using(crate::proofs::Past::nothing_above, crate::proofs::Past::past_mkdir))]
@@ -85,16 +89,42 @@ fn mkdir(
     tree: &Tree,
     made: usize,
     path: &PathText<'_>,
-    claims: &Claims<'_>,
+    claims: &Claims,
 ) -> Result<Operation, TraceFaultKind>
     requires { AreShort tree.now.nodes }
     ensures { Gives (mkdir tree.now.nodes made path.now (claims_of claims.now)) result IsPastNames }
 {
-    let Some(path) = path.keep_short(alloc)? else {
-        return Err(TraceFaultKind::NoParent);
-    };
+    let path = path.keep_or(alloc, TraceFaultKind::NoParent)?;
     let above = Path::of(alloc, &path.names().parent())?;
-    judge::mkdir(alloc, tree, made, path, &above, claims)
+    check_free(tree, &above, &path)?;
+    if is_too_much(made, path.names().len()) {
+        return Err(TraceFaultKind::TooLarge);
+    }
+    let rights = Rights::keep(alloc, claims)?;
+    Ok(Operation::Mkdir { path, rights })
+}
+
+/// One more path, `to`, for the file at `from`.
+#[tactic(auto, using(crate::proofs::Past::nothing_at, crate::proofs::Past::nothing_above, crate::proofs::Past::past_link))]
+fn link(
+    alloc: Global,
+    tree: &Tree,
+    made: usize,
+    from: &PathText<'_>,
+    to: &PathText<'_>,
+) -> Result<Operation, TraceFaultKind>
+    requires { AreShort tree.now.nodes }
+    ensures { Gives (link tree.now.nodes made from.now to.now) result IsPastNames }
+{
+    let from = from.keep_or(alloc, TraceFaultKind::Missing)?;
+    let file = file_at(tree, &from)?;
+    let path = to.keep_or(alloc, TraceFaultKind::NoParent)?;
+    let above = Path::of(alloc, &path.names().parent())?;
+    check_free(tree, &above, &path)?;
+    if is_too_much(made, path.names().len()) {
+        return Err(TraceFaultKind::TooLarge);
+    }
+    Ok(Operation::Link { path, file })
 }
 
 #[tactic(auto, using(crate::proofs::Past::nothing_at, crate::proofs::Past::past_unlink))]
@@ -102,10 +132,9 @@ fn unlink(alloc: Global, tree: &Tree, path: &PathText<'_>) -> Result<Operation, 
     requires { AreShort tree.now.nodes }
     ensures { Gives (unlink tree.now.nodes path.now) result IsPastNames }
 {
-    let Some(path) = path.keep_short(alloc)? else {
-        return Err(TraceFaultKind::Missing);
-    };
-    judge::unlink(tree, path)
+    let path = path.keep_or(alloc, TraceFaultKind::Missing)?;
+    file_at(tree, &path)?;
+    Ok(Operation::Unlink { path })
 }
 
 #[tactic(auto, using(crate::proofs::Past::nothing_at, crate::proofs::Past::past_rmdir))]
@@ -113,10 +142,36 @@ fn rmdir(alloc: Global, tree: &Tree, path: &PathText<'_>) -> Result<Operation, T
     requires { AreShort tree.now.nodes }
     ensures { Gives (rmdir tree.now.nodes path.now) result IsPastNames }
 {
-    let Some(path) = path.keep_short(alloc)? else {
-        return Err(TraceFaultKind::Missing);
+    let path = path.keep_or(alloc, TraceFaultKind::Missing)?;
+    check_emptied(tree, &path)?;
+    Ok(Operation::Rmdir { path })
+}
+
+#[tactic(auto, using(crate::proofs::Past::nothing_at, crate::proofs::Past::nothing_above, crate::proofs::Past::past_rename))]
+fn rename(
+    alloc: Global,
+    tree: &Tree,
+    from: &PathText<'_>,
+    to: &PathText<'_>,
+) -> Result<Operation, TraceFaultKind>
+    requires { AreShort tree.now.nodes }
+    ensures { Gives (rename tree.now.nodes from.now to.now) result IsPastNames }
+{
+    let from = from.keep_or(alloc, TraceFaultKind::Missing)?;
+    let file = file_at(tree, &from)?;
+    let to = to.keep_or(alloc, TraceFaultKind::NoParent)?;
+    let above = Path::of(alloc, &to.names().parent())?;
+    check_target(tree, &above, &to)?;
+    if are_too_many(to.names().len()) {
+        return Err(TraceFaultKind::TooLarge);
+    }
+    // If both are paths of one file, rename(2) does nothing: as if `to` were renamed to itself.
+    let from = if is_path_of(file, tree.get(&to)) {
+        to.try_clone(alloc)?
+    } else {
+        from
     };
-    judge::rmdir(tree, path)
+    Ok(Operation::Rename { from, to })
 }
 
 #[tactic(auto, using(crate::proofs::Past::nothing_at, crate::proofs::Past::past_write))]
@@ -125,17 +180,24 @@ fn write(
     state: &State,
     path: &PathText<'_>,
     offset: u64,
-    bytes: &Digits<'_>,
+    bytes: Vec<u8>,
 ) -> Result<Operation, TraceFaultKind>
     requires { AreShort state.now.tree.nodes }
     ensures { Gives
-        (write state.now.tree.nodes state.now.sizes.items path.now offset bytes.now)
+        (write state.now.tree.nodes state.now.sizes.items path.now offset bytes.items)
         result IsPastNames }
 {
-    let Some(path) = path.keep_short(alloc)? else {
-        return Err(TraceFaultKind::Missing);
-    };
-    judge::write(alloc, &state.tree, &state.sizes, &path, offset, bytes)
+    let path = path.keep_or(alloc, TraceFaultKind::Missing)?;
+    let file = file_at(&state.tree, &path)?;
+    if ends_above(offset, &bytes) {
+        return Err(TraceFaultKind::TooLarge);
+    }
+    Ok(Operation::Write {
+        file,
+        size: size_in(&state.sizes, file),
+        offset,
+        bytes: Bytes::new(bytes),
+    })
 }
 
 #[tactic(auto, using(crate::proofs::Past::nothing_at, crate::proofs::Past::past_truncate))]
@@ -150,18 +212,22 @@ fn truncate(
         (truncate state.now.tree.nodes state.now.sizes.items path.now length)
         result IsPastNames }
 {
-    let Some(path) = path.keep_short(alloc)? else {
-        return Err(TraceFaultKind::Missing);
-    };
-    judge::truncate(&state.tree, &state.sizes, &path, length)
+    let path = path.keep_or(alloc, TraceFaultKind::Missing)?;
+    let file = file_at(&state.tree, &path)?;
+    if length > FILE_BYTES {
+        return Err(TraceFaultKind::TooLarge);
+    }
+    let size = size_in(&state.sizes, file);
+    Ok(Operation::Truncate { file, size, length })
 }
 
+/// Owner and group, or the permissions, of what stands at the path become others.
 #[tactic(auto, using(crate::proofs::Past::nothing_at, crate::proofs::Past::past_set_attr))]
 fn set_attr(
     alloc: Global,
     state: &State,
     path: &PathText<'_>,
-    change: &Change<'_>,
+    change: &Change,
 ) -> Result<Operation, TraceFaultKind>
     requires { AreShort state.now.tree.nodes }
     ensures { Gives
@@ -169,10 +235,20 @@ fn set_attr(
         path.now (change_said change.now))
         result IsPastNames }
 {
-    let Some(path) = path.keep_short(alloc)? else {
+    let path = path.keep_or(alloc, TraceFaultKind::Missing)?;
+    let Some(node) = state.tree.get(&path) else {
         return Err(TraceFaultKind::Missing);
     };
-    judge::set_attr(alloc, &state.tree, &state.attributes, path, change)
+    let Some(rights) = state.attributes.rights(node, &path) else {
+        return Err(TraceFaultKind::Missing);
+    };
+    let before = rights.try_clone()?;
+    let after = rights.changed(alloc, change)?;
+    Ok(Operation::SetAttr {
+        target: Target::of(node, path),
+        before,
+        after,
+    })
 }
 
 #[tactic(auto, using(crate::proofs::Past::nothing_at, crate::proofs::Past::past_fsync))]
@@ -180,30 +256,42 @@ fn fsync(alloc: Global, tree: &Tree, path: &PathText<'_>) -> Result<Operation, T
     requires { AreShort tree.now.nodes }
     ensures { Gives (fsync tree.now.nodes path.now) result IsPastNames }
 {
-    let Some(path) = path.keep_short(alloc)? else {
-        return Err(TraceFaultKind::Missing);
-    };
-    judge::fsync(tree, path)
+    let path = path.keep_or(alloc, TraceFaultKind::Missing)?;
+    match tree.get(&path) {
+        None => Err(TraceFaultKind::Missing),
+        Some(Node::Directory) => Ok(Operation::Sync(Covers::Directory(path))),
+        Some(Node::File(file)) => Ok(Operation::Sync(Covers::File(file))),
+    }
 }
 
-#[tactic(auto, using(crate::proofs::Past::nothing_at, crate::proofs::Past::nothing_above, crate::proofs::Past::past_rename))]
-fn rename(
+/// A sync of so many bytes of a file, from the offset on.
+#[tactic(auto, using(crate::proofs::Past::nothing_at, crate::proofs::Past::past_fsync_range))]
+fn fsync_range(
     alloc: Global,
     tree: &Tree,
-    from: &PathText<'_>,
-    to: &PathText<'_>,
+    path: &PathText<'_>,
+    offset: u64,
+    length: u64,
 ) -> Result<Operation, TraceFaultKind>
     requires { AreShort tree.now.nodes }
-    ensures { Gives (rename tree.now.nodes from.now to.now) result IsPastNames }
+    ensures { Gives (fsync_range tree.now.nodes path.now offset length) result IsPastNames }
 {
-    let Some(from) = from.keep_short(alloc)? else {
-        return Err(TraceFaultKind::Missing);
-    };
-    let Some(to) = to.keep_short(alloc)? else {
-        return judge::rename_far(tree, &from);
-    };
-    let above = Path::of(alloc, &to.names().parent())?;
-    judge::rename(tree, from, to, &above)
+    let path = path.keep_or(alloc, TraceFaultKind::Missing)?;
+    let file = file_at(tree, &path)?;
+    Ok(Operation::Sync(Covers::Range {
+        file,
+        offset,
+        length,
+    }))
+}
+
+fn say(text: &str) -> Result<Operation, TraceFaultKind>
+    ensures { result ≡ say text.now }
+{
+    if text.len() > SAY_BYTES {
+        return Err(TraceFaultKind::TooLarge);
+    }
+    Ok(Operation::Say)
 }
 
 /// The operation of a line where the state stands, or its first fault.
@@ -211,41 +299,55 @@ fn rename(
 pub(crate) fn resolve(
     alloc: Global,
     state: &State,
-    line: &OperationLine<'_>,
+    line: OperationLine,
 ) -> Result<Operation, TraceFaultKind>
     requires short { AreShort state.now.tree.nodes }
     requires few { length state.now.sizes.items < 2 ^ 32 }
     ensures { Gives
         (resolve state.now.tree.nodes state.now.sizes.items state.now.made
-        (attributes_of state.now.attributes) (operation_said line.now))
+        (attributes_of state.now.attributes) (operation_said line))
         result IsPastNames }
 {
     let tree = &state.tree;
     match line {
         OperationLine::Creat { path, claims } => {
-            creat(alloc, state, &new_path(path, claims)?, claims)
+            creat(alloc, state, &new_path(&path, &claims)?, &claims)
         }
         OperationLine::Mkdir { path, claims } => {
-            mkdir(alloc, tree, state.made, &new_path(path, claims)?, claims)
+            mkdir(alloc, tree, state.made, &new_path(&path, &claims)?, &claims)
         }
-        OperationLine::Unlink { path } => unlink(alloc, tree, &entry_path(path)?),
-        OperationLine::Rmdir { path } => rmdir(alloc, tree, &entry_path(path)?),
+        OperationLine::Link { from, to } => {
+            link(
+                alloc,
+                tree,
+                state.made,
+                &entry_path(&from)?,
+                &entry_path(&to)?,
+            )
+        }
+        OperationLine::Unlink { path } => unlink(alloc, tree, &entry_path(&path)?),
+        OperationLine::Rmdir { path } => rmdir(alloc, tree, &entry_path(&path)?),
         OperationLine::Rename { from, to } => {
-            rename(alloc, tree, &entry_path(from)?, &entry_path(to)?)
+            rename(alloc, tree, &entry_path(&from)?, &entry_path(&to)?)
         }
         OperationLine::Write {
             path,
             offset,
             bytes,
-        } => write(alloc, state, &entry_path(path)?, *offset, bytes),
+        } => write(alloc, state, &entry_path(&path)?, offset, bytes),
         OperationLine::Truncate { path, size } => {
-            truncate(alloc, state, &entry_path(path)?, *size)
+            truncate(alloc, state, &entry_path(&path)?, size)
         }
         OperationLine::SetAttr { path, change } => {
-            set_attr(alloc, state, &set_path(path, change)?, change)
+            set_attr(alloc, state, &set_path(&path, &change)?, &change)
         }
-        OperationLine::Fsync { path } => fsync(alloc, tree, &any_path(path)?),
+        OperationLine::Fsync { path } => fsync(alloc, tree, &any_path(&path)?),
+        OperationLine::FsyncRange {
+            path,
+            offset,
+            length,
+        } => fsync_range(alloc, tree, &entry_path(&path)?, offset, length),
         OperationLine::Sync => Ok(Operation::Sync(Covers::All)),
-        OperationLine::Say { text } => judge::say(text),
+        OperationLine::Say { text } => say(&text),
     }
 }

@@ -1,43 +1,41 @@
 //! The header and the start lines, each where the state stands.
 ghost use Rattle.std.specs.Prelude.{◌≡◌, ◌≢◌, ◌<◌, ◌^◌, IfErr, IfOk, IsOk, OnOk, None, Some, Ok, Err, length};
 ghost use Rattle.std.specs.FinMap as map;
-ghost use Rattle.std.specs.Option.{is_some};
+ghost use Rattle.std.specs.Option.{is_some, option_map};
 ghost use Rattle.cs_tree_model.specs.Tree.{parent_path};
 ghost use Rattle.cs_trace.specs.Entries.{node_of, size_of};
 ghost use Rattle.cs_trace.specs.Judging.{IsPastNames, free_at, legal};
 ghost use Rattle.cs_trace.specs.Kept.{IsBounded, state_of};
-ghost use Rattle.cs_trace.specs.Lines.{Header};
+ghost use Rattle.cs_trace_lines.specs.Lines.{Header};
 ghost use Rattle.cs_trace.specs.Names.{new_path_of};
 ghost use Rattle.cs_trace.specs.Outcomes.{Leaves};
-ghost use Rattle.cs_trace.specs.Said.{claims_of, start_of};
-ghost use Rattle.cs_trace.specs.States.{entry_for, first_step, start_at, start_step, with_entry};
+ghost use Rattle.cs_trace_lines.specs.Said.{claims_of, start_of};
+ghost use Rattle.cs_trace.specs.States.{entry_for, first_step, start_at, start_file_at, start_link_at, start_link_step, start_step, with_entry, with_link};
 ghost use Rattle.cs_trace.specs.declared.fault.TraceFaultKind.TheVariants.{Memory};
 ghost use Rattle.cs_trace.specs.declared.operation.Node.TheVariants.{Directory};
 
-use crate::digits::Digits;
 use crate::entry::Entry;
 use crate::fault::TraceFaultKind;
-use crate::judge::is_too_much;
-use crate::line::{Claims, StartLine};
+use crate::judge::{check_free, is_too_much};
 use crate::names::are_user_names;
 use crate::near::Near;
 use crate::operation::{Node, Rights};
 use crate::path_text::PathText;
-use crate::resolve::new_path;
+use crate::resolve::{entry_path, new_path};
 use crate::state::State;
 use crate::tree::Tree;
-use crate::version::Version;
 use cs_names::Path;
 use cs_names::limits::FILE_BYTES;
+use cs_trace_lines::{Claims, StartLine, Version};
 use cs_tree_model::{Content, Kind};
 use std::alloc::{AllocError, Global};
 
-fn size_of(content: &Option<Digits<'_>>) -> u64
-    ensures { result ≡ size_of content.now }
+fn size_of(content: &Option<Vec<u8>>) -> u64
+    ensures { result ≡ size_of (option_map (λ bytes. bytes.items) content.now) }
 {
     match content {
         None => 0,
-        Some(digits) => digits.byte_count() as u64,
+        Some(bytes) => bytes.len() as u64,
     }
 }
 
@@ -45,42 +43,47 @@ fn size_of(content: &Option<Digits<'_>>) -> u64
 fn keep_entry(
     alloc: Global,
     state: &State,
-    claims: &Claims<'_>,
-    content: &Option<Digits<'_>>,
+    claims: &Claims,
+    content: Option<Vec<u8>>,
 ) -> Result<Entry, AllocError>
     requires { length state.now.sizes.items < 2 ^ 32 }
-    ensures { IfOk result (λ entry. entry ≡ entry_for (state_of state.now) (claims_of claims.now) content.now) }
+    ensures { IfOk result (λ entry. entry ≡ entry_for (state_of state.now)
+        (claims_of claims.now) (option_map (λ bytes. bytes.items) content)) }
 {
     let rights = Rights::keep(alloc, claims)?;
-    match content {
-        None => Ok(Entry {
+    Ok(match content {
+        None => Entry {
             number: 0,
             rights,
             content: Content::directory(),
-        }),
-        Some(digits) => Ok(Entry {
+        },
+        Some(bytes) => Entry {
             number: state.sizes.len() as u32,
             rights,
-            content: Content::file(digits.decode(alloc)?),
-        }),
-    }
+            content: Content::file(bytes),
+        },
+    })
 }
 
 /// One entry more at the start. It answers whether something stood there before.
 fn place(alloc: Global, state: &mut State, path: Path, entry: Entry) -> Result<bool, AllocError>
     requires { state.old.made < 2 ^ 32 }
     ensures stood { IfOk result (λ stood. stood ≡ is_some (map.get state.old.tree.nodes path)) }
-    ensures state { OnOk result (state_of state.new ≡ with_entry (state_of state.old) path entry entry.content) }
-    ensures nodes { OnOk result (state.new.tree.nodes ≡ map.insert state.old.tree.nodes path (node_of entry)) }
+    ensures state { OnOk result (state_of state.new
+        ≡ with_entry (state_of state.old) path entry entry.content) }
+    ensures nodes { OnOk result (state.new.tree.nodes
+        ≡ map.insert state.old.tree.nodes path (node_of entry)) }
 {
     if let Kind::File { length } = entry.content.kind() {
         state.files.push(path.try_clone(alloc)?)?;
         state.sizes.push(length)?;
     }
-    if let Version::Second(_) = state.version {
-        state
-            .attributes
-            .add(alloc, entry.node(), &path, &entry.rights)?;
+    match state.version {
+        Version::First => {}
+        Version::Second(_) | Version::Third(..) => {
+            let node = entry.node();
+            state.attributes.add(alloc, node, &path, &entry.rights)?;
+        }
     }
     let stood = state.tree.insert_start(alloc, path, entry)?;
     state.made += 1;
@@ -98,7 +101,8 @@ fn find_above(
     ensures same { tree.new ≡ tree.old }
     ensures above { IfOk result (λ above. above ≡ parent_path path.now) }
     ensures stands { IfOk result (λ above. map.get tree.old.nodes above ≡ Some Directory) }
-    ensures fault { IfErr result (λ kind. kind ≢ Memory → free_at tree.old.nodes path.now ≡ Err kind) }
+    ensures fault { IfErr result (λ kind. kind ≢ Memory
+        → free_at tree.old.nodes path.now ≡ Err kind) }
 {
     if let Some(above) = tree.take_near(path) {
         return Ok(above);
@@ -119,23 +123,25 @@ fn start_in(
     path: Path,
     names: usize,
     above: Near,
-    line: &StartLine<'_>,
+    claims: &Claims,
+    content: Option<Vec<u8>>,
 ) -> Result<(), TraceFaultKind>
     requires bounded { IsBounded (state_of state.old) }
     requires names { names ≡ length path }
     requires above { above ≡ parent_path path }
     requires stands { map.get state.old.tree.nodes above ≡ Some Directory }
     ensures { Leaves
-        (start_at (state_of state.old) path (claims_of line.now.claims) line.now.content)
+        (start_at (state_of state.old) path (claims_of claims.now)
+        (option_map (λ bytes. bytes.items) content))
         result (state_of state.new) IsPastNames }
 {
-    if is_too_much(state.made, names) || size_of(&line.content) > FILE_BYTES {
+    if is_too_much(state.made, names) || size_of(&content) > FILE_BYTES {
         return Err(match state.tree.get(&path) {
             None => TraceFaultKind::TooLarge,
             Some(_) => TraceFaultKind::Exists,
         });
     }
-    let entry = keep_entry(alloc, state, &line.claims, &line.content)?;
+    let entry = keep_entry(alloc, state, claims, content)?;
     let stood = place(alloc, state, path, entry)?;
     if stood {
         return Err(TraceFaultKind::Exists);
@@ -145,36 +151,130 @@ fn start_in(
 }
 
 /// The path of a new entry, whose owner and group are judged with it.
-fn start_path<'a>(tree: &Tree, line: &StartLine<'a>) -> Result<PathText<'a>, TraceFaultKind>
-    ensures { result ≡ legal (new_path_of line.now.path.now (claims_of line.now.claims)) }
+fn start_path<'a>(
+    tree: &Tree,
+    path: &'a str,
+    claims: &Claims,
+) -> Result<PathText<'a>, TraceFaultKind>
+    ensures { result ≡ legal (new_path_of path.now (claims_of claims.now)) }
 {
-    let Some(path) = tree.near_entry(line.path) else {
-        return new_path(line.path, &line.claims);
+    let Some(entry) = tree.near_entry(path) else {
+        return new_path(path, claims);
     };
-    if !are_user_names(&line.claims) {
+    if !are_user_names(claims) {
         return Err(TraceFaultKind::BadName);
     }
-    Ok(path)
+    Ok(entry)
 }
 
-/// A file or a directory after the header.
-#[tactic(auto, using(crate::proofs::Past::nothing_above))]
-pub(crate) fn take_start(
+/// A file or a directory at the path that the text spells.
+#[tactic(auto, using(crate::proofs::Past::nothing_above, crate::proofs::Past::past_start_at))]
+fn start(
     alloc: Global,
     state: &mut State,
-    line: &StartLine<'_>,
+    text: &PathText<'_>,
+    claims: &Claims,
+    content: Option<Vec<u8>>,
 ) -> Result<(), TraceFaultKind>
     requires { IsBounded (state_of state.old) }
     ensures { Leaves
-        (start_step (state_of state.old) (start_of line.now))
+        (start_at (state_of state.old) text.now (claims_of claims.now)
+        (option_map (λ bytes. bytes.items) content))
         result (state_of state.new) IsPastNames }
 {
-    let text = start_path(&state.tree, line)?;
-    let Some(path) = text.keep_short(alloc)? else {
-        return Err(TraceFaultKind::NoParent);
+    let path = text.keep_or(alloc, TraceFaultKind::NoParent)?;
+    let above = find_above(alloc, &mut state.tree, &path, text)?;
+    start_in(alloc, state, path, text.len(), above, claims, content)
+}
+
+/// A file or a directory after the header.
+pub(crate) fn take_start(
+    alloc: Global,
+    state: &mut State,
+    line: StartLine,
+) -> Result<(), TraceFaultKind>
+    requires { IsBounded (state_of state.old) }
+    ensures { Leaves
+        (start_step (state_of state.old) (start_of line))
+        result (state_of state.new) IsPastNames }
+{
+    let StartLine {
+        path,
+        claims,
+        content,
+    } = line;
+    let text = start_path(&state.tree, &path, &claims)?;
+    start(alloc, state, &text, &claims, content)
+}
+
+/// The file at the path of the start.
+fn start_file<'a>(tree: &'a Tree, path: &Path) -> Result<&'a Entry, TraceFaultKind>
+    ensures file { IfOk result (λ entry.
+        start_file_at (map.get tree.now.start path.now) ≡ Ok entry.now) }
+    ensures fault { IfErr result (λ kind.
+        start_file_at (map.get tree.now.start path.now) ≡ Err kind) }
+{
+    let Some(entry) = tree.start_entry(path) else {
+        return Err(TraceFaultKind::Missing);
     };
-    let above = find_above(alloc, &mut state.tree, &path, &text)?;
-    start_in(alloc, state, path, text.len(), above, line)
+    match entry.content.kind() {
+        Kind::Directory => Err(TraceFaultKind::NotFile),
+        Kind::File { .. } => Ok(entry),
+    }
+}
+
+/// One path more for a file of the start, which has this entry.
+fn place_link(alloc: Global, state: &mut State, path: Path, entry: Entry) -> Result<(), AllocError>
+    requires { state.old.made < 2 ^ 32 }
+    ensures { OnOk result (state_of state.new ≡ with_link (state_of state.old) path entry) }
+{
+    state.links.push((path.try_clone(alloc)?, entry.number))?;
+    state.tree.insert_start(alloc, path, entry)?;
+    state.made += 1;
+    Ok(())
+}
+
+/// One path more, `to`, for the file of the start at `from`.
+#[tactic(auto, using(crate::proofs::Past::nothing_above, crate::proofs::Past::no_start_at, crate::proofs::Past::past_start_link_at))]
+fn link(
+    alloc: Global,
+    state: &mut State,
+    from: &PathText<'_>,
+    to: &PathText<'_>,
+) -> Result<(), TraceFaultKind>
+    requires { IsBounded (state_of state.old) }
+    ensures { Leaves
+        (start_link_at (state_of state.old) from.now to.now)
+        result (state_of state.new) IsPastNames }
+{
+    let from = from.keep_or(alloc, TraceFaultKind::Missing)?;
+    let entry = start_file(&state.tree, &from)?;
+    let path = to.keep_or(alloc, TraceFaultKind::NoParent)?;
+    let above = Path::of(alloc, &path.names().parent())?;
+    check_free(&state.tree, &above, &path)?;
+    if is_too_much(state.made, path.names().len()) {
+        return Err(TraceFaultKind::TooLarge);
+    }
+    let entry = entry.try_clone(alloc)?;
+    place_link(alloc, state, path, entry)?;
+    Ok(())
+}
+
+/// A link after the header.
+pub(crate) fn take_link(
+    alloc: Global,
+    state: &mut State,
+    path: &str,
+    from: &str,
+) -> Result<(), TraceFaultKind>
+    requires { IsBounded (state_of state.old) }
+    ensures { Leaves
+        (start_link_step (state_of state.old) path.now from.now)
+        result (state_of state.new) IsPastNames }
+{
+    let path = entry_path(path)?;
+    let from = entry_path(from)?;
+    link(alloc, state, &from, &path)
 }
 
 /// The first line that isn't blank: the header tells the version and gives the root.
@@ -182,7 +282,7 @@ pub(crate) fn take_header(
     alloc: Global,
     state: &mut State,
     version: Version,
-    claims: &Claims<'_>,
+    claims: &Claims,
 ) -> Result<(), TraceFaultKind>
     requires { IsBounded (state_of state.old) }
     ensures { Leaves
@@ -193,7 +293,7 @@ pub(crate) fn take_header(
         return Err(TraceFaultKind::BadName);
     }
     state.version = version;
-    let root = keep_entry(alloc, state, claims, &None)?;
+    let root = keep_entry(alloc, state, claims, None)?;
     place(alloc, state, Path::root(alloc), root)?;
     Ok(())
 }

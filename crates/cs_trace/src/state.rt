@@ -8,8 +8,8 @@ ghost use Rattle.cs_trace.specs.States.{nothing, taken};
 use crate::attributes::Attributes;
 use crate::operation::{Node, Operation};
 use crate::tree::Tree;
-use crate::version::Version;
 use cs_names::{Bytes, Path};
+use cs_trace_lines::Version;
 use std::alloc::{AllocError, Global};
 
 /// What the lines so far leave.
@@ -19,8 +19,10 @@ pub(crate) struct State {
     pub(crate) version: Version,
     /// What stood at the start, and what stands now.
     pub(crate) tree: Tree,
-    /// The paths of the files at the start, by their numbers.
+    /// The path that each file at the start was made at, by their numbers.
     pub(crate) files: Vec<Path>,
+    /// The further paths of files at the start, each with the file's number.
+    pub(crate) links: Vec<(Path, u32)>,
     /// The size of each file, by its number.
     pub(crate) sizes: Vec<u64>,
     /// How many records were ever made.
@@ -33,7 +35,8 @@ pub(crate) struct State {
 /// What stands after a file's entry was moved.
 fn rename(alloc: Global, tree: &mut Tree, from: &Path, to: &Path) -> Result<(), AllocError>
     ensures start { OnOk result (tree.new.start ≡ tree.old.start) }
-    ensures nodes { OnOk result (tree.new.nodes ≡ paths_after tree.old.nodes (Operation.Rename from.now to.now)) }
+    ensures nodes { OnOk result (tree.new.nodes
+        ≡ paths_after tree.old.nodes (Operation.Rename from.now to.now)) }
 {
     let Some(node) = tree.get(from) else {
         return Ok(());
@@ -53,6 +56,9 @@ fn move_paths(alloc: Global, tree: &mut Tree, operation: &Operation) -> Result<(
         }
         Operation::Mkdir { path, .. } => {
             tree.insert(alloc, path.try_clone(alloc)?, Node::Directory)
+        }
+        Operation::Link { path, file } => {
+            tree.insert(alloc, path.try_clone(alloc)?, Node::File(*file))
         }
         Operation::Unlink { path } | Operation::Rmdir { path } => tree.remove(alloc, path),
         Operation::Rename { from, to } => rename(alloc, tree, from, to),
@@ -99,6 +105,7 @@ fn change_sizes(sizes: &mut Vec<u64>, operation: &Operation) -> Result<(), Alloc
         } => set_size(sizes, *file, written_size(*size, *offset, bytes)),
         Operation::Truncate { file, length, .. } => set_size(sizes, *file, *length),
         Operation::Mkdir { .. }
+        | Operation::Link { .. }
         | Operation::Unlink { .. }
         | Operation::Rmdir { .. }
         | Operation::Rename { .. }
@@ -115,7 +122,7 @@ fn made_by(operation: &Operation) -> usize
     ensures one { result ≤ 1 }
 {
     match operation {
-        Operation::Creat { .. } | Operation::Mkdir { .. } => 1,
+        Operation::Creat { .. } | Operation::Mkdir { .. } | Operation::Link { .. } => 1,
         Operation::Unlink { .. }
         | Operation::Rmdir { .. }
         | Operation::Rename { .. }
@@ -136,6 +143,7 @@ impl State {
             version: Version::First,
             tree: Tree::new(alloc),
             files: Vec::new(alloc),
+            links: Vec::new(alloc),
             sizes: Vec::new(alloc),
             made: 0,
             attributes: Attributes::new(alloc),
@@ -152,8 +160,9 @@ impl State {
         move_paths(alloc, &mut self.tree, &operation)?;
         change_sizes(&mut self.sizes, &operation)?;
         self.made += made_by(&operation);
-        if let Version::Second(_) = self.version {
-            self.attributes.change(alloc, &operation)?;
+        match self.version {
+            Version::First => {}
+            Version::Second(_) | Version::Third(..) => self.attributes.change(alloc, &operation)?,
         }
         self.operations.push(operation)?;
         Ok(())

@@ -10,15 +10,15 @@ ghost use Rattle.cs_trace.specs.Checks.{IsFaultOf};
 ghost use Rattle.cs_trace.specs.Kept.{state_of};
 ghost use Rattle.cs_trace.specs.Operations.{AreLegal, AreNested};
 ghost use Rattle.cs_trace.specs.States.{lines_in};
-ghost use Rattle.cs_trace.specs.Traces.{AreNodesOf, AreUnchanged, IsTrace, MayWant, StandsAs, record_in, records_made, start_paths, start_sizes, trace_in, whole};
+ghost use Rattle.cs_trace.specs.Traces.{AreLinks, AreNodesOf, AreUnchanged, IsPathOf, IsTrace, MayWant, StandsAs, record_in, records_made, start_paths, start_sizes, trace_in, whole};
 ghost use Rattle.cs_trace.specs.declared.fault.TraceFaultKind.TheVariants.{Memory};
 
 use crate::fault::{TraceFault, TraceFaultKind};
 use crate::lines::{line_count, take_lines};
 use crate::operation::{Node, Operation};
-use crate::profile::Profile;
 use crate::state::State;
 use cs_names::Path;
+use cs_trace_lines::Version;
 use cs_tree_model::Record;
 use std::alloc::{AllocError, Global};
 use std::marker::Model;
@@ -30,8 +30,9 @@ pub struct Trace {
     records: Vec<(Path, Record)>,
     nodes: Vec<Node>,
     files: Vec<Path>,
+    links: Vec<(Path, u32)>,
     operations: Vec<Operation>,
-    profile: Profile,
+    version: Version,
 }
 
 impl Model for Trace {
@@ -43,22 +44,24 @@ impl Model for Trace {
       records = trace.records.items;
       nodes = trace.nodes.items;
       files = trace.files.items;
+      links = trace.links.items;
       operations = trace.operations.items;
-      profile = trace.profile;
+      version = trace.version;
     } };
 
     ghost invariant = { λ trace. model.IsTrace (record {
       records = trace.records.items;
       nodes = trace.nodes.items;
       files = trace.files.items;
+      links = trace.links.items;
       operations = trace.operations.items;
-      profile = trace.profile;
+      version = trace.version;
     }) };
 }
 
 impl Trace {
-    /// The start tree: its records with their paths, in the order of the paths, each numbered by its
-    /// place there.
+    /// The start tree: its records with their paths, in the order of the paths, each numbered by
+    /// its place there.
     pub fn records(&self) -> &[(Path, Record)]
         ensures value { result.now ≡ self.now.records }
         ensures listing { IsListing self.now.records }
@@ -74,19 +77,32 @@ impl Trace {
         ensures value { result.now ≡ self.now.nodes }
         ensures each { length self.now.nodes ≡ length self.now.records }
         ensures kinds { AreNodesOf self.now.nodes self.now.records }
-        ensures stands { (p : List (List ℕ)) → StandsAs (get (start_paths self.now) p) (record_in self.now.records p) }
+        ensures stands { (p : List (List ℕ))
+            → StandsAs (get (start_paths self.now) p) (record_in self.now.records p) }
     {
         &self.nodes
     }
 
-    /// The paths of the start's files, in the order of their numbers.
+    /// The path of each of the start's files, in the order of their numbers. A file that has
+    /// further paths has there a record like the one here.
     pub fn files(&self) -> &[Path]
         ensures value { result.now ≡ self.now.files }
-        ensures numbered { (n : ℕ) (p : List (List ℕ)) → slice_get self.now.files n ≡ Some p → get (start_paths self.now) p ≡ Some (Node.File n) }
-        ensures found { (n : ℕ) (p : List (List ℕ)) → get (start_paths self.now) p ≡ Some (Node.File n) → slice_get self.now.files n ≡ Some p }
+        ensures numbered { (n : ℕ) (p : List (List ℕ)) → slice_get self.now.files n ≡ Some p
+            → get (start_paths self.now) p ≡ Some (Node.File n) }
+        ensures found { (n : ℕ) (p : List (List ℕ))
+            → get (start_paths self.now) p ≡ Some (Node.File n) → IsPathOf self.now n p }
         ensures small { All (λ size. size ≤ FILE_BYTES) (start_sizes self.now) }
     {
         &self.files
+    }
+
+    /// The further paths of the start's files, in the order of their lines, each with the file's
+    /// number.
+    pub fn links(&self) -> &[(Path, u32)]
+        ensures value { result.now ≡ self.now.links }
+        ensures linked { AreLinks (start_paths self.now) self.now.links }
+    {
+        &self.links
     }
 
     /// The operations, in the order of their lines.
@@ -99,11 +115,11 @@ impl Trace {
         &self.operations
     }
 
-    /// What the file system of the trace keeps in order.
-    pub fn profile(&self) -> Profile
-        ensures value { result ≡ self.now.profile }
+    /// The version, which says what the file system of the trace keeps in order.
+    pub fn version(&self) -> Version
+        ensures value { result ≡ self.now.version }
     {
-        self.profile
+        self.version
     }
 
     /// The start tree alone, for a store.
@@ -125,16 +141,17 @@ fn finish(alloc: Global, state: State) -> Result<Trace, AllocError>
         records,
         nodes,
         files: state.files,
+        links: state.links,
         operations: state.operations,
-        profile: state.version.profile(),
+        version: state.version,
     })
 }
 
 /// The trace that a text spells, or the fault of its first line that has one.
 ///
-/// Lines are cut at line feeds and counted from 1; those of JSON's blanks alone are skipped. The first
-/// is the header, which gives the root; start lines follow, each of which gives a file or a directory;
-/// and then operations:
+/// Lines are cut at line feeds and counted from 1; those of JSON's blanks alone are skipped. The
+/// first is the header, which gives the root; start lines follow, each of which gives a file or a
+/// directory; and then operations:
 ///
 /// ```text
 /// {"trace":1,"owner":O,"group":G,"mode":M}
@@ -161,20 +178,37 @@ fn finish(alloc: Global, state: State) -> Result<Trace, AllocError>
 /// {"op":"chown","path":P,"owner":O,"group":G}
 /// ```
 ///
-/// The keys may stand in any order, with no others. P has a name after each `/`, and is `/` for an
-/// fsync, a chmod and a chown alone; O and G are the names of a user and a group; M is three octal
-/// digits, H is hexadecimal, N a whole number below 2^64, and T any text. A text without a header is
-/// Syntax at line 1. Each line is judged in what the lines before it leave.
+/// Version 3 has the lines of version 2, and three more. B is 512, 1024, 2048 or 4096; a start line
+/// of a file and a write may have `"text":T` in place of `bytes`, whose bytes are those of T in
+/// UTF-8; and any line may have a `"note":T`, which says nothing:
 ///
-/// A fault is that of the first check that its line fails, and the lines before it have none.
-/// Want of memory is a fault of kind Memory, at a line before which there is no fault. It is the line
+/// ```text
+/// {"trace":3,"profile":F,"block":B,"owner":O,"group":G,"mode":M}
+/// {"start":"link","path":P,"from":P}
+/// {"op":"link","from":P,"to":P}
+/// {"op":"fsync_range","path":P,"offset":N,"length":N}
+/// ```
+///
+/// A link is one more path of the file at `from`. What is done by one path of a file is done to the
+/// file. An unlink removes one of its paths, and a rename from one path of a file to another does
+/// nothing.
+///
+/// The keys may be in any order, with no others. P has a name after each `/`, and is `/` for an
+/// fsync, a chmod and a chown only; O and G are the names of a user and a group; M is three octal
+/// digits, H is hexadecimal, N a whole number below 2^64, and T any text. A text without a header
+/// is Syntax at line 1. Each line is judged in what the lines before it leave.
+///
+/// A fault is that of the first check that its line fails, and the lines before it have none. Want
+/// of memory is a fault of kind Memory, at a line before which there is no fault. It is the line
 /// that was read, or the last one where only the records were left to keep.
 pub fn read_trace(alloc: Global, text: &str) -> Result<Trace, TraceFault>
     ensures done { IfOk result (λ trace. trace_in text.now ≡ Ok trace) }
-    ensures fault { IfErr result (λ fault. fault.kind ≢ Memory → trace_in text.now ≡ Err fault) }
+    ensures fault { IfErr result (λ fault. fault.kind ≢ Memory
+        → trace_in text.now ≡ Err fault) }
     ensures first { IfErr result (λ fault. fault.kind ≢ Memory
         → IsFaultOf (lines_in text.now) fault) }
-    ensures memory { IfErr result (λ fault. fault.kind ≡ Memory → MayWant (lines_in text.now) fault.line) }
+    ensures memory { IfErr result (λ fault. fault.kind ≡ Memory
+        → MayWant (lines_in text.now) fault.line) }
 {
     let state = take_lines(alloc, text)?;
     if state.made == 0 {

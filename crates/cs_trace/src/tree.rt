@@ -1,7 +1,7 @@
 //! The tree that the lines of a trace make: what stood at the start, and what stands now.
 ghost use Rattle.std.specs.Prelude.{◌≡◌, Some, IfOk, IfSome, OnOk};
 ghost use Rattle.std.specs.FinMap as map;
-ghost use Rattle.std.specs.Option.{is_some};
+ghost use Rattle.std.specs.Option.{is_some, option_map};
 ghost use Rattle.cs_tree_model.specs.Tree.{parent_path};
 ghost use Rattle.cs_trace.specs.Below.{has_below};
 ghost use Rattle.cs_trace.specs.Entries.{nodes_in, records_in};
@@ -20,8 +20,8 @@ use cs_tree_model::Record;
 use std::alloc::{AllocError, Global};
 use std::marker::Model;
 
-/// What stands at each path. Contracts see two finite maps: what stood at the start, and what stands
-/// now. As long as they are the same, only the first is kept.
+/// What stands at each path. Contracts see two finite maps: what stood at the start, and what
+/// stands now. As long as they are the same, only the first is kept.
 #[derive(Drop)]
 pub(crate) struct Tree {
     /// The files at the start.
@@ -42,9 +42,13 @@ impl Model for Tree {
 
     ghost coded = { model.tree_code };
 
-    ghost view = { λ tree. record { start = tree.start; nodes = model.nodes_by tree.start tree.changed } };
+    ghost view = { λ tree. record {
+      start = tree.start;
+      nodes = model.nodes_by tree.start tree.changed;
+    } };
 
-    ghost invariant = { λ tree. IfSome tree.near (λ near. map.get (model.nodes_by tree.start tree.changed) near ≡ Some Directory) };
+    ghost invariant = { λ tree. IfSome tree.near (λ near.
+        map.get (model.nodes_by tree.start tree.changed) near ≡ Some Directory) };
 }
 
 impl Tree {
@@ -66,6 +70,13 @@ impl Tree {
             Some(changed) => changed.get(path),
             None => self.start.get(path),
         }
+    }
+
+    /// The entry at the path at the start. It takes no memory.
+    pub(crate) fn start_entry(&self, path: &Path) -> Option<&Entry>
+        ensures { option_map (λ entry. entry.now) result ≡ map.get self.now.start path.now }
+    {
+        self.start.entry(path)
     }
 
     /// Whether something stands below the path. It takes no memory.
@@ -168,7 +179,8 @@ impl Tree {
         Ok(())
     }
 
-    /// The start's records in the order of their paths, with fresh numbers; and what each of them is.
+    /// The start's records in the order of their paths, with fresh numbers; and what each of them
+    /// is.
     pub(crate) fn into_start(
         self,
         alloc: Global,

@@ -7,3 +7,4 @@ mod operations;
 mod second;
 mod shown;
 mod start_lines;
+mod third;

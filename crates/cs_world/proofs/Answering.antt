@@ -1,10 +1,10 @@
--- What the answer to a connection's question makes of a reachable world.
-use Rattle.std.proofs.Common.{◌≡◌, ◌≢◌, ◌∙◌, ℕ, ◌+◌, ◌<◌, ◌≤◌, ◌==◌, Bool, true, false, Option, Some, IsSome, refl, sym, ap, subst, arith, ◌⊎◌, inl, inr}
+-- What the answer to a connection's question makes of a consistent world.
+use Rattle.std.proofs.Common.{◌≡◌, ◌≢◌, ◌∙◌, ℕ, ◌+◌, ◌<◌, ◌≤◌, ◌==◌, Bool, true, false, List, Option, Some, IsSome, refl, sym, ap, subst, arith, ◌⊎◌, inl, inr}
 use Rattle.std.specs.Prelude.{slice_get}
 use Rattle.std.specs.Option.{option_map_or}
 use Rattle.std.proofs.lemmas.Bool.{eqb-true, eqb-false}
 use Rattle.cs_fids.specs.declared.entry.Entry.{Entry}
-use Rattle.cs_fids.specs.Entries.{pass_of, run_of}
+use Rattle.cs_fids.specs.Entries.{pass_of, run_of, user_of}
 use Rattle.cs_journal.specs.Runs.{RunOf}
 use Rattle.cs_names.specs.declared.limits.TheConstants.{RUN_ATTACHES}
 use Rattle.cs_registry.specs.declared.found.Found.{Found}
@@ -12,16 +12,16 @@ use Rattle.cs_registry.specs.Keys.{Key}
 use Rattle.cs_registry.specs.Registries.{Registry}
 use Rattle.cs_registry.specs.Runs.{change, held_at}
 use Rattle.cs_session.specs.Sessions.{Awaited, Sess, entry_at}
-use Rattle.cs_world.specs.Reachable.{Gave, HasAllThatIsNamed, awaits}
+use Rattle.cs_world.specs.Consistent.{HasConsistentRuns, HasAttached, IsAttachedAs, awaits}
 use Rattle.cs_world.specs.Worlds.{World, connection}
 use Rattle.cs_world.proofs.Judging.{IsSound}
 use Rattle.cs_world.proofs.Placing.{get_set_same}
 use Rattle.cs_world.proofs.Reached.{change_other}
-use Rattle.cs_world.proofs.Standing.{Came, Moves, Stood, gave, given, is_there, one_if, stands}
+use Rattle.cs_world.proofs.Standing.{Came, Moves, Stood, given, has_attached, is_there, one_if, stands}
 
 -- ---- the registry stays, and no fid is new
 
-module _ (w : World) (ok : HasAllThatIsNamed w) (conn : ℕ) (s' : Sess) (same : s'.awaited ≡ (connection w conn).awaited) where
+module _ (w : World) (ok : HasConsistentRuns w) (conn : ℕ) (s' : Sess) (same : s'.awaited ≡ (connection w conn).awaited) where
   same_count : (place : ℕ) → one_if (awaits place s') ≡ one_if (awaits place (connection w conn))
   same_count place = ap (λ (o : Option Awaited). one_if (option_map_or (λ (p : Awaited). p.run == place) o false)) same
 
@@ -30,7 +30,7 @@ module _ (w : World) (ok : HasAllThatIsNamed w) (conn : ℕ) (s' : Sess) (same :
     scene = refl;
     published = refl;
     runs = λ place key run there. Stood run there refl (λ h. h) (let c = same_count place in omega (arith, c)) (λ f. f);
-    gave = λ place pass h. h;
+    attached = λ place pass user h. h;
     there = λ place h. h;
     awaited = λ p waits. ok.awaited conn p (sym same ∙ waits);
     fids = λ fid e there. ok.fids conn fid e (kept fid e there);
@@ -38,7 +38,13 @@ module _ (w : World) (ok : HasAllThatIsNamed w) (conn : ℕ) (s' : Sess) (same :
 
 -- ---- one run changes
 
-module _ (w : World) (ok : HasAllThatIsNamed w) (conn n : ℕ) (key : Key) (run : Found RunOf) (is : slice_get w.registry.runs n ≡ Some (key, run)) (new : Found RunOf → Found RunOf) (s' : Sess) where
+-- the fid is of the run at that place, which gave its pass and attached its user under it
+pub record IsOfRun (place : ℕ) (run : RunOf) (e : Entry) : Type 0 where
+  pub here : run_of e ≡ place
+  pub gave : pass_of e < run.passes
+  pub attached : IsAttachedAs run (pass_of e) (user_of e)
+
+module _ (w : World) (ok : HasConsistentRuns w) (conn n : ℕ) (key : Key) (run : Found RunOf) (is : slice_get w.registry.runs n ≡ Some (key, run)) (new : Found RunOf → Found RunOf) (s' : Sess) where
   abbrev after : Registry RunOf
   after = record w.registry { runs = change new n w.registry.runs }
 
@@ -53,11 +59,12 @@ module _ (w : World) (ok : HasAllThatIsNamed w) (conn n : ℕ) (key : Key) (run 
     pub fresh : (new run).held.fresh ≡ run.held.fresh
     pub room : IsSound run.held → IsSound (new run).held
     pub more : run.held.passes ≤ (new run).held.passes
+    pub attached : (pass : ℕ) (user : List ℕ) → IsAttachedAs run.held pass user → IsAttachedAs (new run).held pass user
     pub own : (new run).held.passes + one_if (awaits n s') + run.finds ≤ run.held.passes + one_if (awaits n (connection w conn)) + (new run).finds
     pub others : (place : ℕ) → place ≢ n → one_if (awaits place s') ≤ one_if (awaits place (connection w conn))
     pub few : run.finds ≤ RUN_ATTACHES → (new run).finds ≤ RUN_ATTACHES
     pub awaited : (p : Awaited) → s'.awaited ≡ Some p → ((connection w conn).awaited ≡ Some p) ⊎ (p.run ≡ n)
-    pub fids : (fid : ℕ) (e : Entry) → entry_at s' fid ≡ Some e → Gave w.registry (run_of e) (pass_of e) ⊎ ((run_of e ≡ n) × (pass_of e < (new run).held.passes))
+    pub fids : (fid : ℕ) (e : Entry) → entry_at s' fid ≡ Some e → HasAttached w.registry (run_of e) (pass_of e) (user_of e) ⊎ IsOfRun n (new run).held e
 
   module _ (c : Changes) where
     came_by : (place : ℕ) (b : Bool) → (place == n) ≡ b → (key' : Key) (run' : Found RunOf) → slice_get after.runs place ≡ Some (key', run') → Came w conn s' after place key' run'
@@ -77,17 +84,18 @@ module _ (w : World) (ok : HasAllThatIsNamed w) (conn n : ℕ) (key : Key) (run 
         let ne : place ≢ n = eqb-false place n e in
         Stood run' (sym (elsewhere place ne) ∙ there) refl (λ h. h) (let few = c.others place ne in omega (arith, few)) (λ f. f)
 
-    gave_by : (place pass : ℕ) (b : Bool) → (place == n) ≡ b → Gave w.registry place pass → Gave after place pass
-    gave_by place pass true e h =
+    attached_by : (place pass : ℕ) (user : List ℕ) (b : Bool) → (place == n) ≡ b → HasAttached w.registry place pass user → HasAttached after place pass user
+    attached_by place pass user true e h =
         let same : place ≡ n = eqb-true place n e in
-        let g = given w.registry place pass h in
+        let g = given w.registry place pass user h in
         let at : slice_get w.registry.runs n ≡ Some (g.key, g.run) = ap (slice_get w.registry.runs) (sym same) ∙ g.there in
         let its : ◌≡◌ {A = Key × Found RunOf} (g.key, g.run) (key, run) = let stood = is in cc in
         let passes : g.run.held.passes ≡ run.held.passes = ap (λ (x : Key × Found RunOf). x.1.held.passes) its in
-        subst (λ q. Gave after q pass) (sym same) (gave after n pass key (new run) there_now (omega (arith, passes, g.gave, c.more)))
-    gave_by place pass false e h =
-        let g = given w.registry place pass h in
-        gave after place pass g.key g.run (elsewhere place (eqb-false place n e) ∙ g.there) g.gave
+        let attached : IsAttachedAs run.held pass user = subst (λ (x : Key × Found RunOf). IsAttachedAs x.1.held pass user) its g.attached in
+        subst (λ q. HasAttached after q pass user) (sym same) (has_attached after n pass user key (new run) there_now (omega (arith, passes, g.gave, c.more)) (c.attached pass user attached))
+    attached_by place pass user false e h =
+        let g = given w.registry place pass user h in
+        has_attached after place pass user g.key g.run (elsewhere place (eqb-false place n e) ∙ g.there) g.gave g.attached
 
     there_by : (place : ℕ) (b : Bool) → (place == n) ≡ b → IsSome (held_at w.registry.runs place) → IsSome (held_at after.runs place)
     there_by place true e h = is_there after place key (new run) (ap (slice_get after.runs) (eqb-true place n e) ∙ there_now)
@@ -99,16 +107,16 @@ module _ (w : World) (ok : HasAllThatIsNamed w) (conn n : ℕ) (key : Key) (run 
     awaited_by p (inl was) = there_by p.run (p.run == n) refl (ok.awaited conn p was)
     awaited_by p (inr same) = is_there after p.run key (new run) (ap (slice_get after.runs) same ∙ there_now)
 
-    fids_by : (e : Entry) → Gave w.registry (run_of e) (pass_of e) ⊎ ((run_of e ≡ n) × (pass_of e < (new run).held.passes)) → Gave after (run_of e) (pass_of e)
-    fids_by e (inl was) = gave_by (run_of e) (pass_of e) (run_of e == n) refl was
-    fids_by e (inr its) = gave after (run_of e) (pass_of e) key (new run) (ap (slice_get after.runs) its.0 ∙ there_now) its.1
+    fids_by : (e : Entry) → HasAttached w.registry (run_of e) (pass_of e) (user_of e) ⊎ IsOfRun n (new run).held e → HasAttached after (run_of e) (pass_of e) (user_of e)
+    fids_by e (inl was) = attached_by (run_of e) (pass_of e) (user_of e) (run_of e == n) refl was
+    fids_by e (inr its) = has_attached after (run_of e) (pass_of e) (user_of e) key (new run) (ap (slice_get after.runs) its.here ∙ there_now) its.gave its.attached
 
     pub changes : Moves w conn s' after
     changes = record {
       scene = refl;
       published = refl;
       runs = λ place key' run' there. came_by place (place == n) refl key' run' there;
-      gave = λ place pass h. gave_by place pass (place == n) refl h;
+      attached = λ place pass user h. attached_by place pass user (place == n) refl h;
       there = λ place h. there_by place (place == n) refl h;
       awaited = λ p waits. awaited_by p (c.awaited p waits);
       fids = λ fid e there. fids_by e (c.fids fid e there);

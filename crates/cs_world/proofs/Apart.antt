@@ -39,12 +39,13 @@ use Rattle.cs_world.specs.Groups.{NoneMeetsLimit, first_replies, first_steps, is
 use Rattle.cs_world.specs.Lists.{steps_of}
 use Rattle.cs_world.specs.ConnectionSteps.{session_step}
 use Rattle.cs_world.specs.Marks.{WorldMark, RunMark, below, in_run, refuses_keeping, refuses_state, refuses_own, refuses_users}
+use Rattle.cs_world.specs.Places.{with_places}
 use Rattle.cs_world.specs.Questions.{question_of_front}
 use Rattle.cs_world.specs.Runs.{attached, called}
 use Rattle.cs_world.specs.Steps.{by_registry, from_front, step_of}
 use Rattle.cs_world.specs.Worlds.{World, connection, new_world, with_both}
 use Rattle.cs_world.proofs.Invariant.{attach_asks}
-use Rattle.cs_world.proofs.Moved.{blank_moved, moved, moved_front, moved_question, moved_reply, moved_told}
+use Rattle.cs_world.proofs.Moved.{blank_moved, moved_front, moved_question, moved_reply, moved_told}
 use Rattle.cs_world.proofs.MovedSteps.{after_moved, front_moved}
 use Rattle.cs_world.proofs.Within.{Within, after_within, asks_fixed, done_within, more_within, moved_alike, out, within_out}
 use Rattle.cs_world.proofs.Placing.{index_replicate}
@@ -89,51 +90,51 @@ module _ (mine : ℕ → Bool) (ours : Key → Bool) where
     pub runs : AgreeRuns ours f w.registry v.registry
     pub all : length w.connections ≡ CONNECTIONS
     pub rest : length v.connections ≡ CONNECTIONS
-    pub own : (n : ℕ) → mine n ≡ true → connection w n ≡ moved f (connection v n)
+    pub own : (n : ℕ) → mine n ≡ true → connection w n ≡ with_places f (connection v n)
     pub inside : (n : ℕ) → mine n ≡ true → Within (there v.registry) (connection v n)
     pub theirs : (n : ℕ) → mine n ≡ false → Within (their ours w.registry) (connection w n)
 
-  record Alike (x y : Reply × World) : Type 0 where
-    to : ℕ → ℕ
-    said : x.0 ≡ y.0
-    agree : Agree to x.1 y.1
+  pub record Alike (x y : Reply × World) : Type 0 where
+    pub to : ℕ → ℕ
+    pub said : x.0 ≡ y.0
+    pub agree : Agree to x.1 y.1
 
   -- ---- a step of the first group
 
   module _ (f : ℕ → ℕ) (w v : World) (a : Agree f w v) (conn : ℕ) (is : mine conn ≡ true) (low : conn < CONNECTIONS) where
     set_own : (to : ℕ → ℕ) (w' v' : Registry RunOf) (s' : Sess) → AgreeRuns ours to w' v' → ((p : ℕ) → there v.registry p ≡ true → f p ≡ to p) → ((p : ℕ) → there v.registry p ≡ true → there v' p ≡ true) → ((p : ℕ) → their ours w.registry p ≡ true → their ours w' p ≡ true)
-        → Within (there v') s' → Agree to (with_both w conn (moved to s') w') (with_both v conn s' v')
+        → Within (there v') s' → Agree to (with_both w conn (with_places to s') w') (with_both v conn s' v')
     set_own to w' v' s' runs alike more still within = record {
       runs = runs;
-      all = length-set w.connections conn (moved to s') ∙ a.all;
+      all = length-set w.connections conn (with_places to s') ∙ a.all;
       rest = length-set v.connections conn s' ∙ a.rest;
       own = λ n m. own_by n m (n == conn) refl;
       inside = λ n m. inside_by n m (n == conn) refl;
       theirs = λ n m. theirs_by n m;
     }
       where
-        same_w : connection (with_both w conn (moved to s') w') conn ≡ moved to s'
-        same_w = get_or-set_same w.connections conn (moved to s') (blank None) (omega (arith, low, a.all))
+        same_w : connection (with_both w conn (with_places to s') w') conn ≡ with_places to s'
+        same_w = get_or-set_same w.connections conn (with_places to s') (blank None) (omega (arith, low, a.all))
 
         same_v : connection (with_both v conn s' v') conn ≡ s'
         same_v = get_or-set_same v.connections conn s' (blank None) (omega (arith, low, a.rest))
 
-        own_by : (n : ℕ) → mine n ≡ true → (b : Bool) → (n == conn) ≡ b → connection (with_both w conn (moved to s') w') n ≡ moved to (connection (with_both v conn s' v') n)
+        own_by : (n : ℕ) → mine n ≡ true → (b : Bool) → (n == conn) ≡ b → connection (with_both w conn (with_places to s') w') n ≡ with_places to (connection (with_both v conn s' v') n)
         own_by n m true e =
             let at : n ≡ conn = eqb-true n conn e in
-            ap (connection (with_both w conn (moved to s') w')) at ∙ same_w ∙ ap (moved to) (sym same_v ∙ ap (connection (with_both v conn s' v')) (sym at))
+            ap (connection (with_both w conn (with_places to s') w')) at ∙ same_w ∙ ap (with_places to) (sym same_v ∙ ap (connection (with_both v conn s' v')) (sym at))
         own_by n m false e =
-            get_or-set_other w.connections conn n (moved to s') (blank None) (eqb-false n conn e) ∙ a.own n m ∙ moved_alike (there v.registry) f to alike (connection v n) (a.inside n m)
-            ∙ ap (moved to) (sym (get_or-set_other v.connections conn n s' (blank None) (eqb-false n conn e)))
+            get_or-set_other w.connections conn n (with_places to s') (blank None) (eqb-false n conn e) ∙ a.own n m ∙ moved_alike (there v.registry) f to alike (connection v n) (a.inside n m)
+            ∙ ap (with_places to) (sym (get_or-set_other v.connections conn n s' (blank None) (eqb-false n conn e)))
 
         inside_by : (n : ℕ) → mine n ≡ true → (b : Bool) → (n == conn) ≡ b → Within (there v') (connection (with_both v conn s' v') n)
         inside_by n m true e = subst (Within (there v')) (sym (ap (connection (with_both v conn s' v')) (eqb-true n conn e) ∙ same_v)) within
         inside_by n m false e = subst (Within (there v')) (sym (get_or-set_other v.connections conn n s' (blank None) (eqb-false n conn e))) (more_within (there v.registry) (there v') more (connection v n) (a.inside n m))
 
-        theirs_by : (n : ℕ) → mine n ≡ false → Within (their ours w') (connection (with_both w conn (moved to s') w') n)
+        theirs_by : (n : ℕ) → mine n ≡ false → Within (their ours w') (connection (with_both w conn (with_places to s') w') n)
         theirs_by n m =
             let other : n ≢ conn = λ same. (let e : mine n ≡ mine conn = ap mine same in absurd (cc)) in
-            subst (Within (their ours w')) (sym (get_or-set_other w.connections conn n (moved to s') (blank None) other)) (more_within (their ours w.registry) (their ours w') still (connection w n) (a.theirs n m))
+            subst (Within (their ours w')) (sym (get_or-set_other w.connections conn n (with_places to s') (blank None) other)) (more_within (their ours w.registry) (their ours w') still (connection w n) (a.theirs n m))
 
     module _ (now : ℕ) (x : c.Step) (refused : Bool) (m : RunMark) (own : (k : Key) → key_found x ≡ Some k → ours k ≡ true) (few : option_map_or (needs_room w.registry) (question_of_front (front_by now (connection w conn) x refused)) false ≡ false) where
       find_asks : (state_name run_name : List ℕ) (o : Option Key) → key_in state_name run_name ≡ o → key_found x ≡ o → NeedsNone w.registry o
@@ -315,10 +316,10 @@ module _ (mine : ℕ → Bool) (ours : Key → Bool) where
     on_other conn now x mark is own false low = a
 
     -- a step finds a run of its own group
-    abbrev Owned : Step → Type 0
+    abbrev pub Owned : Step → Type 0
     Owned x = (k : Key) → key_of x ≡ Some k → ours k ≡ is_first mine x
 
-    step_both : (x : Step) (mark : WorldMark) → is_first mine x ≡ true → Owned x → meets_limit w x mark ≡ false → Alike (step_of w x mark) (step_of v x mark)
+    pub step_both : (x : Step) (mark : WorldMark) → is_first mine x ≡ true → Owned x → meets_limit w x mark ≡ false → Alike (step_of w x mark) (step_of v x mark)
     step_both (t.Publish number) mark is own few = publish_both number mark
     step_both (t.Reload users) mark is own few = reload_both users (refuses_users mark)
     step_both (t.On conn now x) mark is own few = on_both conn now (session_step x) mark is own (nat_lt conn CONNECTIONS) refl few
@@ -334,15 +335,22 @@ module _ (mine : ℕ → Bool) (ours : Key → Bool) where
   AllOwned [] = Unit {0}
   AllOwned (x ∷ xs) = ((k : Key) → key_of x.0 ≡ Some k → ours k ≡ is_first mine x.0) × AllOwned xs
 
-  pub groups_from : (f : ℕ → ℕ) (w v : World) (xs : List (Step × WorldMark)) → Agree f w v → AllOwned xs → NoneMeetsLimit w xs → (steps_of v (first_steps mine xs)).0 ≡ first_replies mine xs (steps_of w xs).0
-  groups_from f w v [] a own few = refl
+  -- the replies are those of the first group, and the worlds then agree
+  pub record Without (all : World) (alone : List Reply × World) (had : List Reply) : Type 0 where
+    pub replies : alone.0 ≡ had
+    pub to : ℕ → ℕ
+    pub agree : Agree to all alone.1
+
+  pub groups_from : (f : ℕ → ℕ) (w v : World) (xs : List (Step × WorldMark)) → Agree f w v → AllOwned xs → NoneMeetsLimit w xs → Without (steps_of w xs).1 (steps_of v (first_steps mine xs)) (first_replies mine xs (steps_of w xs).0)
+  groups_from f w v [] a own few = record { replies = refl; to = f; agree = a }
   groups_from f w v (x ∷ xs) a own few = by (is_first mine x.0) refl (λ to v' b. groups_from to (step_of w x.0 x.1).1 v' xs b own.1 few.1)
     where
-      by : (b : Bool) → is_first mine x.0 ≡ b → ((to : ℕ → ℕ) (v' : World) → Agree to (step_of w x.0 x.1).1 v' → (steps_of v' (first_steps mine xs)).0 ≡ first_replies mine xs (steps_of (step_of w x.0 x.1).1 xs).0)
-          → (steps_of v (cond b (x ∷ first_steps mine xs) (first_steps mine xs))).0 ≡ cond b ((step_of w x.0 x.1).0 ∷ first_replies mine xs (steps_of (step_of w x.0 x.1).1 xs).0) (first_replies mine xs (steps_of (step_of w x.0 x.1).1 xs).0)
+      by : (b : Bool) → is_first mine x.0 ≡ b → ((to : ℕ → ℕ) (v' : World) → Agree to (step_of w x.0 x.1).1 v' → Without (steps_of (step_of w x.0 x.1).1 xs).1 (steps_of v' (first_steps mine xs)) (first_replies mine xs (steps_of (step_of w x.0 x.1).1 xs).0))
+          → Without (steps_of (step_of w x.0 x.1).1 xs).1 (steps_of v (cond b (x ∷ first_steps mine xs) (first_steps mine xs))) (cond b ((step_of w x.0 x.1).0 ∷ first_replies mine xs (steps_of (step_of w x.0 x.1).1 xs).0) (first_replies mine xs (steps_of (step_of w x.0 x.1).1 xs).0))
       by true is rest =
           let both = step_both f w v a x.0 x.1 is own.0 few.0 in
-          (λ i. sym both.said i ∷ rest both.to (step_of v x.0 x.1).1 both.agree i)
+          let more = rest both.to (step_of v x.0 x.1).1 both.agree in
+          record { replies = λ i. sym both.said i ∷ more.replies i; to = more.to; agree = more.agree }
       by false is rest = rest f v (step_other f w v a x.0 x.1 is own.0)
 
 -- ---- from a new world
@@ -374,7 +382,7 @@ module _ (scene : Scene) (users : List Row) where
     };
     all = length-replicate CONNECTIONS (blank None);
     rest = length-replicate CONNECTIONS (blank None);
-    own = λ n m. blank_there n ∙ sym (blank_moved (λ p. p) None) ∙ ap (moved (λ p. p)) (sym (blank_there n));
+    own = λ n m. blank_there n ∙ sym (blank_moved (λ p. p) None) ∙ ap (with_places (λ p. p)) (sym (blank_there n));
     inside = λ n m. subst (Within _) (sym (blank_there n)) (blank_within _);
     theirs = λ n m. subst (Within _) (sym (blank_there n)) (blank_within _);
   }

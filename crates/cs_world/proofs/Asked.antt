@@ -1,11 +1,11 @@
--- What a connection of a reachable world asks can be asked.
+-- What a connection of a consistent world asks can be asked.
 use Rattle.std.proofs.Common.{◌≡◌, ◌∙◌, ℕ, ◌+◌, ◌<◌, Bool, false, length, Option, None, Some, IsSome, refl, sym, ap, subst, arith}
 use Rattle.std.specs.Prelude.{IsSomeAnd, nat_lt, slice_set}
 use Rattle.std.proofs.lemmas.Bool.{eq-eqb}
 use Rattle.std.proofs.lemmas.Bool.Decides.{nat_tests}
 use Rattle.cs_fids.specs.declared.entry.Entry.TheVariants as entry
 use Rattle.cs_fids.specs.declared.fid.Opened.{Opened}
-use Rattle.cs_fids.specs.Entries.{pass_of, run_of}
+use Rattle.cs_fids.specs.Entries.{pass_of, run_of, user_of}
 use Rattle.cs_fids.specs.FidOf.{FidOf}
 use Rattle.cs_journal.specs.Calls.{is_full}
 use Rattle.cs_journal.specs.Journals.{HasRoom, RunState}
@@ -19,7 +19,7 @@ use Rattle.cs_run.specs.Outcomes.{closes}
 use Rattle.cs_session.specs.Questions.{Question}
 use Rattle.cs_session.specs.Sessions.{Awaited, blank, entry_at}
 use Rattle.cs_session.specs.Steps.{Asks, Step, FindStep, AttachStep, CallStep, CloseStep, Table, front_by}
-use Rattle.cs_world.specs.Reachable.{CanBeAsked, HasOpen, IsReachable, awaits, waiting}
+use Rattle.cs_world.specs.Consistent.{CanBeAsked, HasOpen, IsConsistent, awaits, waiting}
 use Rattle.cs_world.specs.Worlds.{World, connection}
 use Rattle.cs_world.proofs.Invariant.{attach_asks, find_by}
 use Rattle.cs_world.proofs.Standing.{counted, given, held_there, one_if, stands}
@@ -33,7 +33,7 @@ free_by s pass asked number is stands room =
 
 -- ---- what is asked can be asked
 
-module _ (w : World) (ok : IsReachable w) (conn : ℕ) (inside : conn < CONNECTIONS) where
+module _ (w : World) (ok : IsConsistent w) (conn : ℕ) (inside : conn < CONNECTIONS) where
   attach_can : (p : Awaited) → (connection w conn).awaited ≡ Some p → IsSomeAnd (held_at w.registry.runs p.run) (λ run. run.passes < RUN_ATTACHES)
   attach_can p waits =
       let its = stands w.registry p.run (ok.there.awaited conn p waits) in
@@ -46,7 +46,7 @@ module _ (w : World) (ok : IsReachable w) (conn : ℕ) (inside : conn < CONNECTI
   -- the run of an entry gave its pass, and a call that ends the entry's open has room
   asks_can : (fid : ℕ) (freed : Option ℕ) (q : Question) (now : ℕ) → IsAsked (connection w conn).fids now fid freed q → CanBeAsked w.registry q
   asks_can fid freed q now its =
-      let g = given w.registry (run_of its.held) (pass_of its.held) (ok.there.fids conn fid its.held its.there) in
+      let g = given w.registry (run_of its.held) (pass_of its.held) (user_of its.held) (ok.there.fids conn fid its.held its.there) in
       let held : held_at w.registry.runs (run_of its.held) ≡ Some g.run.held = held_there w.registry (run_of its.held) g.key g.run g.there in
       let room : HasRoom (state_of g.run.held) = (ok.there.runs (run_of its.held) g.key g.run g.there).room in
       let ends : (o : Option ℕ) → closes its.call ≡ o → IsSome o → is_full (state_of g.run.held) (pass_of its.held) its.call ≡ false = ends_by fid freed q now its g.run.held held room in

@@ -1,4 +1,4 @@
--- What a step of a connection comes to in a reachable world.
+-- What a step of a connection comes to in a consistent world.
 use Rattle.std.proofs.Common.{◌≡◌, ℕ, ◌<◌, Bool, true, false, Option, None, Some, refl, sym, subst, arith}
 use Rattle.std.specs.Prelude.{IsSome, IsSomeAnd, nat_le, nat_lt}
 use Rattle.std.proofs.lemmas.Bool.Decides.{nat_tests}
@@ -17,7 +17,7 @@ use Rattle.cs_session.specs.Steps.{Front, Done, Asks, Step, FindStep, AttachStep
 use Rattle.cs_world.specs.Asking.{answered}
 use Rattle.cs_world.specs.Comes.{ConnectionStepComesTo, Nobody, OwnReply, AsksRegistry, AttachShort, AttachOnRun, CallOnRun}
 use Rattle.cs_world.specs.Marks.{WorldMark, RunMark, below, in_run, refuses_pass, refuses_own}
-use Rattle.cs_world.specs.Reachable.{IsReachable}
+use Rattle.cs_world.specs.Consistent.{IsConsistent}
 use Rattle.cs_world.specs.Steps.{from_front, on_connection, continued_from}
 use Rattle.cs_world.specs.Worlds.{World, connection}
 use Rattle.cs_world.proofs.Ending.{on_ends}
@@ -26,7 +26,7 @@ use Rattle.cs_world.proofs.Invariant.{attach_asks, find_by}
 use Rattle.cs_world.proofs.Judging.{judged}
 use Rattle.cs_world.proofs.Tables.{call_asks, close_asks, judged_asks}
 
-module _ (w : World) (ok : IsReachable w) (conn : ℕ) (inside : conn < CONNECTIONS) (now : ℕ) (x : Step) (refused : Bool) where
+module _ (w : World) (ok : IsConsistent w) (conn : ℕ) (inside : conn < CONNECTIONS) (now : ℕ) (x : Step) (refused : Bool) where
   -- by the question and its answer
   abbrev Its : Question → RunMark → Type 0
   Its q mark = ConnectionStepComesTo w conn now x refused (continued_from w conn x (answered w.registry q mark)).0 (continued_from w conn x (answered w.registry q mark)).1
@@ -63,7 +63,7 @@ module _ (w : World) (ok : IsReachable w) (conn : ℕ) (inside : conn < CONNECTI
       let known : nat_lt pass run.passes ≡ true = grind (arith, nat_tests) in
       rw (there, known) (CallOnRun place pass asked run _ _ e there low (judged run now pass asked (in_run mark)) refl)
 
-module _ (w : World) (ok : IsReachable w) (conn : ℕ) (inside : conn < CONNECTIONS) (now : ℕ) where
+module _ (w : World) (ok : IsConsistent w) (conn : ℕ) (inside : conn < CONNECTIONS) (now : ℕ) where
   by_question : (x : Step) (refused : Bool) (q : Question) (mark : RunMark) → front_by now (connection w conn) x refused ≡ Asks q → Its w ok conn inside now x refused q mark
   by_question (FindStep m) refused q mark e =
       let its = find_by (tree_name_in m.aname) q (judged_asks (connection w conn) _ refused _ q e) in
@@ -83,7 +83,7 @@ module _ (w : World) (ok : IsReachable w) (conn : ℕ) (inside : conn < CONNECTI
   by_front x refused mark (Done reply s) e = OwnReply reply s e refl refl
   by_front x refused mark (Asks q) e = by_question x refused q mark e
 
-module _ (w : World) (ok : IsReachable w) (conn now : ℕ) (x : Step) (mark : WorldMark) where
+module _ (w : World) (ok : IsConsistent w) (conn now : ℕ) (x : Step) (mark : WorldMark) where
   -- each step of a connection comes to one of these
   pub comes : ConnectionStepComesTo w conn now x (refuses_own mark) (on_connection w conn now x mark).0 (on_connection w conn now x mark).1
   comes = on_ends w conn now x mark (λ q y. ConnectionStepComesTo w conn now x (refuses_own mark) y.0 y.1) (λ low. by_front w ok conn low now x (refuses_own mark) (below mark) (front_by now (connection w conn) x (refuses_own mark)) refl) (λ high. Nobody high refl refl)

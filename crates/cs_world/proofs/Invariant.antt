@@ -1,11 +1,11 @@
--- Runs, passes and fids of reachable worlds are there, and every step keeps that.
+-- Runs, passes and fids of consistent worlds are there, and every step keeps that.
 use Rattle.std.proofs.Common.{◌≡◌, ◌∙◌, ℕ, zero, suc, ◌<◌, Bool, true, false, List, [], ◌∷◌, length, length-set, Option, None, Some, refl, sym, ap, subst, rules}
 use Rattle.std.specs.Prelude.{is_some, option_map, slice_index_or, slice_set}
 use Rattle.std.specs.FinMap.{empty, get, gets}
 use Rattle.std.proofs.lemmas.List.{length-replicate}
 use Rattle.cs_fids.specs.declared.entry.Entry.{Entry}
 use Rattle.cs_fids.specs.declared.entry.Entry.TheVariants as entry
-use Rattle.cs_fids.specs.Entries.{pass_of, run_of}
+use Rattle.cs_fids.specs.Entries.{pass_of, run_of, user_of}
 use Rattle.cs_names.specs.declared.limits.TheConstants.{CONNECTIONS}
 use Rattle.cs_plan.specs.Scenes.{Scene}
 use Rattle.cs_run.specs.declared.answer.Answer.{Answer}
@@ -31,7 +31,7 @@ use Rattle.cs_registry.specs.Naming.{key_in}
 use Rattle.cs_world.specs.Asking.{answered}
 use Rattle.cs_world.specs.ConnectionSteps.{session_step}
 use Rattle.cs_world.specs.Marks.{WorldMark, RunMark, below, refuses_own}
-use Rattle.cs_world.specs.Reachable.{Gave, HasAllThatIsNamed}
+use Rattle.cs_world.specs.Consistent.{HasConsistentRuns, HasAttached}
 use Rattle.cs_world.specs.Steps.{by_registry, from_front, on_connection, step_of}
 use Rattle.cs_world.specs.Worlds.{World, connection, new_world}
 use Rattle.cs_world.proofs.Ending.{on_ends, publish_ends, reload_ends}
@@ -72,13 +72,13 @@ attach_asks now s (Some p) is q e = record { awaited = p; waits = is; is = cc }
 
 -- ---- a step of a connection
 
-module _ (w : World) (ok : HasAllThatIsNamed w) (conn : ℕ) where
+module _ (w : World) (ok : HasConsistentRuns w) (conn : ℕ) where
   -- the entries that a call leaves stand on runs that are there
-  source_gave : (of : ℕ) (answer : Answer) (fid : ℕ) (e : Entry) → Source (connection w conn).fids of answer fid e → Gave w.registry (run_of e) (pass_of e)
-  source_gave of answer fid e (Kept there) = ok.fids conn fid e there
-  source_gave of answer fid e (Walks j from number there is) = subst (λ x. Gave w.registry (run_of x) (pass_of x)) (sym is) (ok.fids conn j (entry.Walked from) there)
-  source_gave of answer fid e (Opens from mode open_number number qid same there told is) = subst (λ x. Gave w.registry (run_of x) (pass_of x)) (sym is) (ok.fids conn fid (entry.Walked from) there)
-  source_gave of answer fid e (Reads from place there is) = subst (λ x. Gave w.registry (run_of x) (pass_of x)) (sym is) (ok.fids conn fid (entry.Opened from) there)
+  source_attached : (of : ℕ) (answer : Answer) (fid : ℕ) (e : Entry) → Source (connection w conn).fids of answer fid e → HasAttached w.registry (run_of e) (pass_of e) (user_of e)
+  source_attached of answer fid e (Kept there) = ok.fids conn fid e there
+  source_attached of answer fid e (Walks j from number there is) = subst (λ x. HasAttached w.registry (run_of x) (pass_of x) (user_of x)) (sym is) (ok.fids conn j (entry.Walked from) there)
+  source_attached of answer fid e (Opens from mode open_number number qid same there told is) = subst (λ x. HasAttached w.registry (run_of x) (pass_of x) (user_of x)) (sym is) (ok.fids conn fid (entry.Walked from) there)
+  source_attached of answer fid e (Reads from place there is) = subst (λ x. HasAttached w.registry (run_of x) (pass_of x) (user_of x)) (sym is) (ok.fids conn fid (entry.Opened from) there)
 
   unmoved : (s' : Sess) → s' ≡ connection w conn → Moves w conn s' w.registry
   unmoved s' same = stays w ok conn s' (ap (λ (s : Sess). s.awaited) same) (λ fid e there. ap (λ s. entry_at s fid) (sym same) ∙ there)
@@ -106,20 +106,20 @@ module _ (w : World) (ok : HasAllThatIsNamed w) (conn : ℕ) where
       subst (Leads AttachStep mark) (sym its.is) (attaches w ok conn its.awaited its.waits now mark)
   asks_moves now (CallStep m) refused q mark e =
       let its = call_asks now (connection w conn) q m refused e in
-      subst (Leads (CallStep m) mark) (sym its.is) (calls w ok conn now (run_of its.held) (pass_of its.held) its.call (ok.fids conn (fid_in m) its.held its.there) mark (λ told. (after (connection w conn) (CallStep m) told).1) (λ answer. refl)
-      (λ answer fid x there. source_gave (fid_in m) answer fid x (call_source (connection w conn).fids fid x m answer there)))
+      subst (Leads (CallStep m) mark) (sym its.is) (calls w ok conn now (run_of its.held) (pass_of its.held) its.call (user_of its.held) (ok.fids conn (fid_in m) its.held its.there) mark (λ told. (after (connection w conn) (CallStep m) told).1) (λ answer. refl)
+      (λ answer fid x there. source_attached (fid_in m) answer fid x (call_source (connection w conn).fids fid x m answer there)))
   asks_moves now (CloseStep fid) refused q mark e =
       let its = close_asks now (connection w conn) q fid refused e in
-      subst (Leads (CloseStep fid) mark) (sym its.is) (calls w ok conn now (run_of its.held) (pass_of its.held) its.call (ok.fids conn fid its.held its.there) mark (λ told. (after (connection w conn) (CloseStep fid) told).1) (λ answer. refl)
+      subst (Leads (CloseStep fid) mark) (sym its.is) (calls w ok conn now (run_of its.held) (pass_of its.held) its.call (user_of its.held) (ok.fids conn fid its.held its.there) mark (λ told. (after (connection w conn) (CloseStep fid) told).1) (λ answer. refl)
       (λ answer n x there. ok.fids conn n x (left (connection w conn).fids fid n x there).1))
   asks_moves now (Table change) refused q mark e = absurd (cc)
 
-  by_front : conn < CONNECTIONS → (now : ℕ) (x : Step) (refused : Bool) (mark : RunMark) (f : Front) → front_by now (connection w conn) x refused ≡ f → HasAllThatIsNamed (from_front w conn x mark f).1
+  by_front : conn < CONNECTIONS → (now : ℕ) (x : Step) (refused : Bool) (mark : RunMark) (f : Front) → front_by now (connection w conn) x refused ≡ f → HasConsistentRuns (from_front w conn x mark f).1
   by_front inside now x refused mark (Done reply s') e = moved w ok conn inside s' w.registry (done_moves now x refused reply s' e)
   by_front inside now x refused mark (Asks q) e = moved w ok conn inside _ _ (asks_moves now x refused q mark e)
 
-  pub connection_keeps : (now : ℕ) (x : Step) (mark : WorldMark) → HasAllThatIsNamed (on_connection w conn now x mark).1
-  connection_keeps now x mark = on_ends w conn now x mark (λ q y. HasAllThatIsNamed y.1) (λ low. by_front low now x (refuses_own mark) (below mark) (front_by now (connection w conn) x (refuses_own mark)) refl) (λ high. ok)
+  pub connection_keeps : (now : ℕ) (x : Step) (mark : WorldMark) → HasConsistentRuns (on_connection w conn now x mark).1
+  connection_keeps now x mark = on_ends w conn now x mark (λ q y. HasConsistentRuns y.1) (λ low. by_front low now x (refuses_own mark) (below mark) (front_by now (connection w conn) x (refuses_own mark)) refl) (λ high. ok)
 
 -- ---- a publish
 
@@ -130,8 +130,8 @@ index_set_true (x ∷ xs) zero (suc k) is = is
 index_set_true (x ∷ xs) (suc n) zero is = is
 index_set_true (x ∷ xs) (suc n) (suc k) is = index_set_true xs n k is
 
-module _ (w : World) (ok : HasAllThatIsNamed w) where
-  more_published : (number : ℕ) → HasAllThatIsNamed (record w { registry = with_published w.registry number })
+module _ (w : World) (ok : HasConsistentRuns w) where
+  more_published : (number : ℕ) → HasConsistentRuns (record w { registry = with_published w.registry number })
   more_published number = record {
     all = ok.all;
     states = length-set w.registry.published number true ∙ ok.states;
@@ -147,7 +147,7 @@ module _ (w : World) (ok : HasAllThatIsNamed w) where
     fids = ok.fids;
   }
 
-  other_users : (users : List Row) → HasAllThatIsNamed (record w { registry = with_users w.registry users })
+  other_users : (users : List Row) → HasConsistentRuns (record w { registry = with_users w.registry users })
   other_users users = record {
     all = ok.all;
     states = ok.states;
@@ -164,9 +164,9 @@ module _ (w : World) (ok : HasAllThatIsNamed w) where
   }
 
   -- each step keeps it
-  pub step_keeps : (x : t.Step) (mark : WorldMark) → HasAllThatIsNamed (step_of w x mark).1
-  step_keeps (s.Publish number) mark = publish_ends w.registry (λ (y : Reply × Registry RunOf). HasAllThatIsNamed (by_registry w y).1) number mark (λ fault. ok) (more_published number)
-  step_keeps (s.Reload users) mark = reload_ends w.registry (λ (y : Reply × Registry RunOf). HasAllThatIsNamed (by_registry w y).1) users mark ok (other_users users)
+  pub step_keeps : (x : t.Step) (mark : WorldMark) → HasConsistentRuns (step_of w x mark).1
+  step_keeps (s.Publish number) mark = publish_ends w.registry (λ (y : Reply × Registry RunOf). HasConsistentRuns (by_registry w y).1) number mark (λ fault. ok) (more_published number)
+  step_keeps (s.Reload users) mark = reload_ends w.registry (λ (y : Reply × Registry RunOf). HasConsistentRuns (by_registry w y).1) users mark ok (other_users users)
   step_keeps (s.On conn now x) mark = connection_keeps w ok conn now (session_step x) mark
 
 -- ---- a new world
@@ -178,7 +178,7 @@ nothing_there : (fid : ℕ) → get no_fids fid ≡ None
 nothing_there fid = search (rules, gets)
 
 -- a new world is so
-pub new_is : (scene : Scene) (users : List Row) → HasAllThatIsNamed (new_world scene users)
+pub new_is : (scene : Scene) (users : List Row) → HasConsistentRuns (new_world scene users)
 new_is scene users =
     let none : (conn : ℕ) → connection (new_world scene users) conn ≡ blank None = λ conn. index_replicate CONNECTIONS conn (blank None) in
     record {

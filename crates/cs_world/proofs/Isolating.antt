@@ -92,49 +92,63 @@ module _ (scene : Scene) (users : List Row) (key : Key) where
       ap (λ (x : List PortAnswer × Option RunOf). x.0) (ends marked own stood (start own) refl) ∙ ap (λ (l : List (RunCall × RunMark)). (from (start own) l).0) none
       ∙ ap (λ (x : List PortAnswer × Option RunOf). x.0) (sym (from_none (start own)))
 
-  module _ (xs ys : List (Step × WorldMark)) (have : HaveSameUsers w xs ys key) (alike : puts xs ≡ puts ys) where
-    -- both runs began the same
-    same_fresh : (run other : RunOf) → run_after w xs key ≡ Some run → run_after w ys key ≡ Some other → (one : IsFrom xs run) (two : IsFrom ys other) → two.fresh ≡ one.fresh
-    same_fresh run other found there one two =
-        let own : two.own ≡ one.own = sym (own_users ys other two) ∙ sym (have run other found there) ∙ own_users xs run one in
-        let both : Some two.fresh ≡ Some one.fresh = sym two.begins ∙ ap start own ∙ one.begins in
-        cc
+module _ (scene : Scene) (users others : List Row) (key : Key) (xs ys : List (Step × WorldMark)) (have : HaveSameUsers (new_world scene users) xs (new_world scene others) ys key)
+    (alike : projection_of (new_world scene users) xs key ≡ projection_of (new_world scene others) ys key) where
+  abbrev one_world : World
+  one_world = new_world scene users
 
-    runs_same : (run other : RunOf) → run_after w xs key ≡ Some run → run_after w ys key ≡ Some other → (answers_of w xs key ≡ answers_of w ys key) × (run ≡ other)
-    runs_same run other found there =
-        let one = its_from xs run found in
-        let two = its_from ys other there in
-        let fresh = same_fresh run other found there one two in
-        let both : alone one.fresh (puts xs) ≡ alone two.fresh (puts ys) = λ i. alone (sym fresh i) (alike i) in (
-          one.answers ∙ ap (λ (x : List PortAnswer × RunOf). x.0) both ∙ sym two.answers,
-          one.ends ∙ ap (λ (x : List PortAnswer × RunOf). x.1) both ∙ sym two.ends,
-        )
+  abbrev other_world : World
+  other_world = new_world scene others
 
-    answers_by : (o p : Option (List Row)) → users_made_with w xs key ≡ o → users_made_with w ys key ≡ p → answers_of w xs key ≡ answers_of w ys key
-    answers_by None p is js =
-        let its = never key w xs refl is in
-        its.answers ∙ sym (untold ys p js (sym alike ∙ its.puts))
-    answers_by (Some own) None is js =
-        let its = never key w ys refl js in
-        untold xs (Some own) is (alike ∙ its.puts) ∙ sym its.answers
-    answers_by (Some own) (Some other) is js =
-        let one = stands key own w xs is in
-        let two = stands key other w ys js in
-        (runs_same one.0 two.0 one.1 two.1).0
+  abbrev puts_one : List (RunCall × RunMark)
+  puts_one = projection_of one_world xs key
 
-    pub same : AreSame w xs ys key
-    same = record {
-      answers = answers_by (users_made_with w xs key) (users_made_with w ys key) refl refl;
-      runs = λ run other found there. (runs_same run other found there).1;
-    }
+  abbrev puts_other : List (RunCall × RunMark)
+  puts_other = projection_of other_world ys key
+
+  -- both runs began the same
+  same_fresh : (run other : RunOf) → run_after one_world xs key ≡ Some run → run_after other_world ys key ≡ Some other → (one : IsFrom scene users key xs run) (two : IsFrom scene others key ys other)
+      → two.fresh ≡ one.fresh
+  same_fresh run other found there one two =
+      let own : two.own ≡ one.own = sym (own_users scene others key ys other two) ∙ sym (have run other found there) ∙ own_users scene users key xs run one in
+      let both : Some two.fresh ≡ Some one.fresh = sym two.begins ∙ ap (λ (list : List Row). option_map (λ tree. fresh_run tree list) (state_at scene key.number)) own ∙ one.begins in
+      cc
+
+  runs_same : (run other : RunOf) → run_after one_world xs key ≡ Some run → run_after other_world ys key ≡ Some other → (answers_of one_world xs key ≡ answers_of other_world ys key) × (run ≡ other)
+  runs_same run other found there =
+      let one = its_from scene users key xs run found in
+      let two = its_from scene others key ys other there in
+      let fresh = same_fresh run other found there one two in
+      let both : alone one.fresh puts_one ≡ alone two.fresh puts_other = λ i. alone (sym fresh i) (alike i) in (
+        one.answers ∙ ap (λ (x : List PortAnswer × RunOf). x.0) both ∙ sym two.answers,
+        one.ends ∙ ap (λ (x : List PortAnswer × RunOf). x.1) both ∙ sym two.ends,
+      )
+
+  answers_by : (o p : Option (List Row)) → users_made_with one_world xs key ≡ o → users_made_with other_world ys key ≡ p → answers_of one_world xs key ≡ answers_of other_world ys key
+  answers_by None p is js =
+      let its = never key one_world xs refl is in
+      its.answers ∙ sym (untold scene others key ys p js (sym alike ∙ its.puts))
+  answers_by (Some own) None is js =
+      let its = never key other_world ys refl js in
+      untold scene users key xs (Some own) is (alike ∙ its.puts) ∙ sym its.answers
+  answers_by (Some own) (Some other) is js =
+      let one = stands key own one_world xs is in
+      let two = stands key other other_world ys js in
+      (runs_same one.0 two.0 one.1 two.1).0
+
+  pub same : AreSame one_world xs other_world ys key
+  same = record {
+    answers = answers_by (users_made_with one_world xs key) (users_made_with other_world ys key) refl refl;
+    runs = λ run other found there. (runs_same run other found there).1;
+  }
 
 module _ (scene : Scene) (users : List Row) where
   -- all three, of every list
   pub none_reaches : (marked : List (Step × WorldMark)) → NoneReachesAnother (new_world scene users) marked
   none_reaches marked = record {
     alone = λ key run found. is_alone scene users key marked run found;
-    same = λ others key have alike. same scene users key marked others have alike;
-    apart = λ first apart few. groups first marked apart scene users few;
+    same = λ second others key have alike. same scene users second key marked others have alike;
+    apart = λ first apart few. groups first scene users marked few apart;
   }
 
   -- and of one that was run

@@ -1,13 +1,16 @@
 -- How a call ends, by its rules and by what memory gives.
-use Rattle.std.proofs.Common.{◌≡◌, ◌∙◌, ℕ, ◌+◌, ◌≤◌, Bool, true, false, not, ◌&&◌, length, Option, None, Some, refl, sym, ap, subst, arith}
+use Rattle.std.proofs.Common.{◌≡◌, ◌∙◌, ℕ, ◌+◌, ◌≤◌, Bool, true, false, not, ◌&&◌, List, [], ◌∷◌, length, Option, None, Some, refl, sym, ap, subst, arith}
 use Rattle.std.specs.Prelude.{is_some}
 use Rattle.std.proofs.lemmas.Bool.Decides.{nat_tests}
 use Rattle.cs_names.specs.declared.limits.TheConstants.{JOURNAL_ENTRIES}
 use Rattle.cs_names.specs.declared.rule_id.RuleId.{RuleId}
 use Rattle.cs_permit.specs.Calls.{failing_rule}
+use Rattle.cs_permit.specs.declared.call.AttachCall.{AttachCall}
 use Rattle.cs_permit.specs.declared.call.Call.{Call}
+use Rattle.cs_permit.specs.declared.call.Call.TheVariants as calls
 use Rattle.cs_permit.specs.declared.call.OpenFile.{OpenFile}
 use Rattle.cs_run.specs.declared.answer.Answer.{Answer}
+use Rattle.cs_run.specs.declared.answer.Answer.TheVariants as a
 use Rattle.cs_run.specs.declared.answer.Outcome.{Outcome}
 use Rattle.cs_run.specs.declared.answer.Outcome.TheVariants as o
 use Rattle.cs_run.specs.Marks.{Ample, NoGrant, is_refused}
@@ -20,7 +23,10 @@ use Rattle.cs_journal.specs.Steps.{run_with_entry, step}
 use Rattle.cs_journal.proofs.Journals.{IsLegal-push, replay-push}
 use Rattle.cs_journal.proofs.Moves.{call_moves}
 use Rattle.cs_world.specs.Ends.{HasEntry, CallComesTo, entry_by, Full, ShortBefore, Denied, Short, Granted}
+use Rattle.cs_world.specs.Consistent.{IsAttachedAs}
 use Rattle.cs_world.specs.Runs.{run_step}
+use Rattle.cs_wire.specs.declared.message.Qid.{Qid}
+use Rattle.cs_world.proofs.Placing.{get_end, get_kept}
 
 ends_none : (x : Option OpenFile) (b : Bool) → (b && not (is_some x)) ≡ true → x ≡ None
 ends_none None b e = refl
@@ -66,6 +72,14 @@ entered_sound run e answer run' room its m h =
     let there : HasRoom (apply (state_of run) e) = omega (arith, limit, more.room) in
     subst IsSound (sym m.run_is) (subst HasRoom (sym (replay-push (first_state run) run.journal e)) there, IsLegal-push (first_state run) run.journal e h.1 its there)
 
+-- one entry more
+entered_attached : (run : RunOf) (e : EntryOf) (number : ℕ) (user : List ℕ) → IsAttachedAs run number user → IsAttachedAs (run_with_entry run e) number user
+entered_attached run e number user h = record {
+  place = h.place;
+  moment = h.moment;
+  entry = get_kept run.journal (e ∷ []) h.place _ h.entry;
+}
+
 module _ (run : RunOf) (now pass : ℕ) (call : Call) (answer : Answer) (run' : RunOf) where
   pub keeps_sound : CallComesTo run now pass call answer run' → IsSound run → IsSound run'
   unfolding outcome
@@ -91,3 +105,24 @@ module _ (run : RunOf) (now pass : ℕ) (call : Call) (answer : Answer) (run' : 
 
   pub keeps_passes : CallComesTo run now pass call answer run' → run'.passes ≡ run.passes
   keeps_passes = keeps (λ (r : RunOf). r.passes) (λ e. refl)
+
+  -- who was attached, was attached
+  pub keeps_attached : (number : ℕ) (user : List ℕ) → CallComesTo run now pass call answer run' → IsAttachedAs run number user → IsAttachedAs run' number user
+  keeps_attached number user (Full f is same) h = subst (λ r. IsAttachedAs r number user) (sym same) h
+  keeps_attached number user (ShortBefore f none is same) h = subst (λ r. IsAttachedAs r number user) (sym same) h
+  keeps_attached number user (Denied rule f fails m) h = subst (λ r. IsAttachedAs r number user) (sym m.run_is) (entered_attached run (entry_by now pass call (o.Denied rule)) number user h)
+  keeps_attached number user (Short f fails takes m) h = subst (λ r. IsAttachedAs r number user) (sym m.run_is) (entered_attached run (entry_by now pass call o.Short) number user h)
+  keeps_attached number user (Granted f fails m) h = subst (λ r. IsAttachedAs r number user) (sym m.run_is) (entered_attached run (entry_by now pass call o.Granted) number user h)
+
+-- an attach that is answered so was granted
+module _ (run : RunOf) (now pass : ℕ) (asked : AttachCall) (qid : Qid) (run' : RunOf) where
+  pub now_attached : CallComesTo run now pass (calls.Attach asked) (a.Attached qid) run' → IsAttachedAs run' pass asked.user
+  now_attached (Full f is same) = absurd (cc)
+  now_attached (ShortBefore f none is same) = absurd (cc)
+  now_attached (Denied rule f fails m) = absurd (let no = m.answer_is in cc)
+  now_attached (Short f fails takes m) = absurd (let no = m.answer_is in cc)
+  now_attached (Granted f fails m) = subst (λ r. IsAttachedAs r pass asked.user) (sym m.run_is) (record {
+    place = length run.journal;
+    moment = now;
+    entry = get_end run.journal (entry_by now pass (calls.Attach asked) o.Granted);
+  })

@@ -20,6 +20,7 @@ pub mod Keyed
 pub mod Leaving
 pub mod Listing
 pub mod Making
+pub mod Messaging
 pub mod Moved
 pub mod MovedSteps
 pub mod Moving
@@ -31,7 +32,7 @@ pub mod Placing
 pub mod Projected
 pub mod Proper
 pub mod Reached
-pub mod Reaching
+pub mod Staying
 pub mod Remarked
 pub mod Standing
 pub mod Stepping

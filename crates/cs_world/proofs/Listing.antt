@@ -1,5 +1,5 @@
 -- The steps of a message are steps of the world.
-use Rattle.std.proofs.Common.{◌≡◌, ◌∙◌, ℕ, ◌<◌, Bool, true, false, List, [], ◌∷◌, ◌++◌, length, length-set, None, refl, sym, ap, subst, arith}
+use Rattle.std.proofs.Common.{◌≡◌, ◌∙◌, ℕ, ◌<◌, Bool, true, false, List, [], ◌∷◌, ◌++◌, length, length-set, None, Err, refl, sym, ap, subst, arith}
 use Rattle.std.specs.Prelude.{nat_lt}
 use Rattle.std.proofs.lemmas.Bool.Decides.{nat_tests}
 use Rattle.std.proofs.lemmas.List.{get_or-set_same, set-get_or}
@@ -10,20 +10,21 @@ use Rattle.cs_session.specs.declared.message.Message.{Message}
 use Rattle.cs_session.specs.declared.reply.Reply.{Reply as Said}
 use Rattle.cs_session.specs.Marks as c
 use Rattle.cs_session.specs.Messages.{Answers, Either, IsAnswered, goes_on, next_step}
-use Rattle.cs_session.specs.Receiving.{IsReplied, Receives, Barred, Malformed, Short, Alone, Asked, wire_of, tag_in}
+use Rattle.cs_session.specs.Receiving.{IsReplied, Receives, Barred, Malformed, Short, Alone, Asked, rules_before_decoding, wire_of, tag_in}
 use Rattle.cs_session.specs.Sessions.{Sess, blank}
+use Rattle.cs_session.proofs.OwnRules.{first_to_fail}
 use Rattle.cs_session.specs.Steps.{Step, FindStep, AttachStep, CallStep, CloseStep, Table}
 use Rattle.cs_wire.specs.Messages.{Message as Spelled, replies}
 use Rattle.cs_world.specs.declared.reply.Reply.{Reply}
 use Rattle.cs_world.specs.declared.reply.Reply.TheVariants.{Connection}
 use Rattle.cs_world.specs.Asking.{IsGiven}
-use Rattle.cs_world.specs.Lists.{AreOwnSteps, IsStepList, IsRepliedBySteps, IsByOwnSteps, ByItself, BySteps, reply_before, step_on, steps_of, steps_on}
+use Rattle.cs_world.specs.Lists.{AreOwnSteps, IsStepList, IsRepliedBySteps, IsByOwnSteps, ByItself, BySteps, FailsARule, IsNoMessage, IsOutOfMemory, TakesNoStep, reply_before, step_on, steps_of, steps_on}
 use Rattle.cs_world.specs.Marks.{WorldMark}
-use Rattle.cs_world.specs.Reachable.{IsReachable}
+use Rattle.cs_world.specs.Consistent.{IsConsistent}
 use Rattle.cs_world.specs.Steps.{IsStep, on_connection, step_of}
 use Rattle.cs_world.specs.declared.step.Step as t
 use Rattle.cs_world.specs.Worlds.{World, connection, with_both}
-use Rattle.cs_world.proofs.Reaching.{reaches}
+use Rattle.cs_world.proofs.Staying.{stays_consistent}
 use Rattle.cs_world.proofs.Placing.{set_again}
 use Rattle.cs_world.proofs.Stepping.{takes}
 
@@ -105,22 +106,24 @@ module _ (w : World) (conn now : ℕ) (low : conn < CONNECTIONS) (inside : conn 
   stays same there = (λ i. with_both w conn (same i) (there i)) ∙ ap (λ (c : List Sess). record { registry = w.registry; connections = c }) (set-get_or w.connections conn (blank None))
 
   received : (bytes : List ℕ) (told : Spelled replies) (reply : Said) → told ≡ wire_of (tag_in bytes) reply → (mark : c.MessageMark) → Receives IsGiven now bytes (connection w conn) w.registry reply s' r' mark → IsRepliedBySteps w conn now bytes told (with_both w conn s' r')
-  received bytes told reply is mark (Barred rule fails (r, s, p)) = ByItself reply is (stays s p)
-  received bytes told reply is mark (Malformed in_front bad (r, s, p)) = ByItself reply is (stays s p)
-  received bytes told reply is mark (Short in_front takes_some (r, s, p)) = ByItself reply is (stays s p)
-  received bytes told reply is mark (Alone message alone in_front spelled none (r, s, p)) = ByItself reply is (stays s p)
+  received bytes told reply is mark (Barred rule fails (r, s, p)) =
+      ByItself reply (FailsARule rule (first_to_fail (rules_before_decoding (connection w conn).msize bytes) rule fails) r) is (stays s p)
+  received bytes told reply is mark (Malformed in_front bad (r, s, p)) = ByItself reply (IsNoMessage in_front bad r) is (stays s p)
+  received bytes told reply is mark (Short in_front takes_some (r, s, p)) = ByItself reply (IsOutOfMemory in_front takes_some r) is (stays s p)
+  received bytes told reply is mark (Alone message alone in_front spelled none (r, s, p)) =
+      ByItself reply (TakesNoStep message in_front spelled (none ∙ ap (λ (own : Said). Err own) (sym r))) is (stays s p)
   received bytes told reply is mark (Asked message asks marks in_front spelled some answers) = BySteps message asks reply spelled some is (answered_by_steps asks reply (record { marks = marks; answers = answers }))
 
   -- and one of bytes
   pub told_by_steps : (bytes : List ℕ) (told : Spelled replies) → IsReplied IsGiven now bytes (connection w conn) w.registry told s' r' → IsRepliedBySteps w conn now bytes told (with_both w conn s' r')
   told_by_steps bytes told r = received bytes told r.reply r.wire_reply_is r.received.mark r.received.received
 
--- ---- reachable worlds
+-- ---- consistent worlds
 
--- a list of steps leads from a reachable world to a reachable one
-pub steps_keep : (w : World) → IsReachable w → (marked : List (t.Step × WorldMark)) → IsReachable (steps_of w marked).1
+-- a list of steps leads from a consistent world to a consistent one
+pub steps_keep : (w : World) → IsConsistent w → (marked : List (t.Step × WorldMark)) → IsConsistent (steps_of w marked).1
 steps_keep w ok [] = ok
-steps_keep w ok (x ∷ xs) = steps_keep (step_of w x.0 x.1).1 (reaches w ok x.0 x.1) xs
+steps_keep w ok (x ∷ xs) = steps_keep (step_of w x.0 x.1).1 (stays_consistent w ok x.0 x.1) xs
 
 -- ---- lists of steps
 
@@ -141,28 +144,28 @@ one_before w x reply next s steps rest w' r = record {
   leads = ap (reply_before reply) r.leads ∙ ap (λ (y : Reply × World). reply_before y.0 (steps_of y.1 r.marked)) s.1;
 }
 
--- ---- where calls lead from a reachable world
+-- ---- where calls lead from a consistent world
 
-pub by_step : (w w' : World) (x : t.Step) (reply : Reply) → IsStep w x reply w' → IsReachable w → IsReachable w'
-by_step w w' x reply s ok = subst IsReachable (sym (ap (λ (y : Reply × World). y.1) s.1)) (reaches w ok x s.0)
+pub by_step : (w w' : World) (x : t.Step) (reply : Reply) → IsStep w x reply w' → IsConsistent w → IsConsistent w'
+by_step w w' x reply s ok = subst IsConsistent (sym (ap (λ (y : Reply × World). y.1) s.1)) (stays_consistent w ok x s.0)
 
-pub by_run : (w w' : World) (steps : List t.Step) (said : List Reply) → IsStepList w steps said w' → IsReachable w → IsReachable w'
-by_run w w' steps said r ok = subst IsReachable (sym (ap (λ (y : List Reply × World). y.1) r.leads)) (steps_keep w ok r.marked)
+pub by_run : (w w' : World) (steps : List t.Step) (said : List Reply) → IsStepList w steps said w' → IsConsistent w → IsConsistent w'
+by_run w w' steps said r ok = subst IsConsistent (sym (ap (λ (y : List Reply × World). y.1) r.leads)) (steps_keep w ok r.marked)
 
-by_own_steps : (w : World) (conn now : ℕ) (message : Message) (reply : Said) (w' : World) → IsByOwnSteps w conn now message reply w' → IsReachable w → IsReachable w'
-by_own_steps w conn now message reply w' t ok = subst IsReachable (sym (ap (λ (y : List Reply × World). y.1) t.leads)) (steps_keep w ok (steps_on conn now t.marked))
+by_own_steps : (w : World) (conn now : ℕ) (message : Message) (reply : Said) (w' : World) → IsByOwnSteps w conn now message reply w' → IsConsistent w → IsConsistent w'
+by_own_steps w conn now message reply w' t ok = subst IsConsistent (sym (ap (λ (y : List Reply × World). y.1) t.leads)) (steps_keep w ok (steps_on conn now t.marked))
 
-by_told : (w : World) (conn now : ℕ) (bytes : List ℕ) (told : Spelled replies) (w' : World) → IsRepliedBySteps w conn now bytes told w' → IsReachable w → IsReachable w'
-by_told w conn now bytes told w' (ByItself reply is same) ok = subst IsReachable (sym same) ok
+by_told : (w : World) (conn now : ℕ) (bytes : List ℕ) (told : Spelled replies) (w' : World) → IsRepliedBySteps w conn now bytes told w' → IsConsistent w → IsConsistent w'
+by_told w conn now bytes told w' (ByItself reply own is same) ok = subst IsConsistent (sym same) ok
 by_told w conn now bytes told w' (BySteps message asks reply spelled some is t) ok = by_own_steps w conn now asks reply w' t ok
 
 module _ (w : World) (conn now : ℕ) (low : conn < CONNECTIONS) (s s' : Sess) (its : connection w conn ≡ s) (r' : Registry RunOf) where
-  pub by_message : (bytes : List ℕ) (told : Spelled replies) → IsReplied IsGiven now bytes s w.registry told s' r' → IsReachable w → IsReachable (with_both w conn s' r')
+  pub by_message : (bytes : List ℕ) (told : Spelled replies) → IsReplied IsGiven now bytes s w.registry told s' r' → IsConsistent w → IsConsistent (with_both w conn s' r')
   by_message bytes told r ok =
       let own : IsReplied IsGiven now bytes (connection w conn) w.registry told s' r' = rw its r in
       by_told w conn now bytes told (with_both w conn s' r') (told_by_steps w conn now low (omega (arith, ok.there.all)) s' r' bytes told own) ok
 
-  pub by_answer : (message : Message) (reply : Said) → IsAnswered IsGiven now message s w.registry reply s' r' → IsReachable w → IsReachable (with_both w conn s' r')
+  pub by_answer : (message : Message) (reply : Said) → IsAnswered IsGiven now message s w.registry reply s' r' → IsConsistent w → IsConsistent (with_both w conn s' r')
   by_answer message reply a ok =
       let own : IsAnswered IsGiven now message (connection w conn) w.registry reply s' r' = rw its a in
       by_own_steps w conn now message reply (with_both w conn s' r') (answered_by_steps w conn now low (omega (arith, ok.there.all)) s' r' message reply own) ok

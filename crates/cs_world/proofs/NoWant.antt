@@ -1,4 +1,4 @@
--- In a reachable world a step in which memory refuses nothing doesn't tell want of memory: each question is answered in its kind.
+-- In a consistent world a step in which memory refuses nothing doesn't tell want of memory: each question is answered in its kind.
 use Rattle.std.proofs.Common.{◌≡◌, ℕ, zero, suc, ◌<◌, Bool, true, false, not, cond, List, [], ◌∷◌, length, Option, None, Some, Result, Ok, Err, refl, subst, arith}
 use Rattle.std.specs.Prelude.{is_none, is_some, nat_le, nat_lt, option_and_then, option_map, slice_get, slice_index_or}
 use Rattle.std.specs.FinMap.{get}
@@ -65,7 +65,7 @@ use Rattle.cs_world.specs.Ample.{ample, tells_want, session_tells_want}
 use Rattle.cs_world.specs.Asking.{answered, call_answer, attach_answer, find_answer, found_by, given_run}
 use Rattle.cs_world.specs.ConnectionSteps.{session_step}
 use Rattle.cs_world.specs.Marks.{InRun}
-use Rattle.cs_world.specs.Reachable.{IsReachable}
+use Rattle.cs_world.specs.Consistent.{IsConsistent}
 use Rattle.cs_world.specs.Runs.{attached, called, run_step}
 use Rattle.cs_world.specs.Steps.{from_front, step_of}
 use Rattle.cs_world.specs.Worlds.{World, connection}
@@ -244,7 +244,7 @@ module _ (w : World) (number : ℕ) where
   publish_by false false = refl
 
 -- the state of a number that is published is there
-module _ (w : World) (ok : IsReachable w) where
+module _ (w : World) (ok : IsConsistent w) where
   shown_below : (xs : List Bool) (number : ℕ) → slice_index_or xs number false ≡ true → number < length xs
   shown_below [] number is = absurd (cc)
   shown_below (x ∷ xs) zero is = omega arith

@@ -11,7 +11,7 @@ use Rattle.cs_fids.specs.declared.entry.Entry.{Entry}
 use Rattle.cs_fids.specs.declared.entry.Entry.TheVariants as entry
 use Rattle.cs_fids.specs.declared.fid.Opened.{Opened}
 use Rattle.cs_fids.specs.declared.fid.Walked.{Walked}
-use Rattle.cs_fids.specs.Entries.{pass_of, run_of}
+use Rattle.cs_fids.specs.Entries.{pass_of, run_of, user_of}
 use Rattle.cs_fids.specs.FidOf.{FidOf}
 use Rattle.cs_fids.specs.Fids.{moved_to, opened, walked_fid, with_place}
 use Rattle.cs_fids.specs.Tables.{FidMap}
@@ -34,7 +34,7 @@ use Rattle.cs_session.specs.Sessions.{Awaited, Sess, blank, entry_at}
 use Rattle.cs_world.specs.Asking.{answered, with_run_at}
 use Rattle.cs_world.specs.Ends.{CallComesTo}
 use Rattle.cs_world.specs.Marks.{RunMark, in_run, refuses_pass}
-use Rattle.cs_world.specs.Reachable.{HasAllThatIsNamed, HasOpen, OpensStand}
+use Rattle.cs_world.specs.Consistent.{HasConsistentRuns, HasOpen, OpensStand}
 use Rattle.cs_world.specs.Runs.{attached, run_step}
 use Rattle.cs_world.specs.Worlds.{World, connection, with_both}
 use Rattle.cs_world.proofs.Judging.{judged}
@@ -174,7 +174,7 @@ module _ (registry : Registry RunOf) (now n : ℕ) (attach : _) (mark : RunMark)
 
 -- ---- a call
 
-module _ (w : World) (there : HasAllThatIsNamed w) (ok : OpensStand w) (conn now at : ℕ) (freed : Option ℕ) (question : Question) (its : IsAsked (connection w conn).fids now at freed question) (mark : RunMark) where
+module _ (w : World) (there : HasConsistentRuns w) (ok : OpensStand w) (conn now at : ℕ) (freed : Option ℕ) (question : Question) (its : IsAsked (connection w conn).fids now at freed question) (mark : RunMark) where
   place : ℕ
   place = run_of its.held
 
@@ -235,7 +235,7 @@ module _ (w : World) (there : HasAllThatIsNamed w) (ok : OpensStand w) (conn now
       → (told_after : PortAnswer → Sess) → ((answer : Answer) → told_after (CallAnswer answer) ≡ after answer)
       → KeepsOpens w conn at freed (told_after (answered w.registry (CallOn now (run_of its.held) (pass_of its.held) its.call) mark).0) (answered w.registry (CallOn now (run_of its.held) (pass_of its.held) its.call) mark).1
   called_keeps after sources free told_after is =
-      let g = given w.registry (run_of its.held) (pass_of its.held) (there.fids conn at its.held its.there) in
+      let g = given w.registry (run_of its.held) (pass_of its.held) (user_of its.held) (there.fids conn at its.held its.there) in
       let run : RunOf = g.run.held in
       let held : held_at w.registry.runs (run_of its.held) ≡ Some run = held_there w.registry (run_of its.held) g.key g.run g.there in
       let low : pass_of its.held < run.passes = g.gave in

@@ -1,4 +1,4 @@
--- A step of a connection keeps what is true of reachable worlds.
+-- A step of a connection keeps what is true of consistent worlds.
 use Rattle.std.proofs.Common.{◌≡◌, ◌≢◌, ◌∙◌, ℕ, zero, suc, ◌+◌, ◌<◌, ◌≤◌, ◌==◌, Bool, true, false, cond, List, [], ◌∷◌, length, length-set, Option, None, Some, IsSome, refl, sym, ap, subst, arith}
 use Rattle.std.specs.Prelude.{IsSomeAnd, filter, slice_get, slice_set, slice_index_or}
 use Rattle.std.specs.Option.{option_map}
@@ -6,7 +6,7 @@ use Rattle.std.proofs.lemmas.Option.{slice_get_past}
 use Rattle.std.proofs.lemmas.Bool.{eqb-true, eqb-false}
 use Rattle.std.proofs.lemmas.List.{get_or-set_other, get_or-set_same}
 use Rattle.cs_fids.specs.declared.entry.Entry.{Entry}
-use Rattle.cs_fids.specs.Entries.{pass_of, run_of}
+use Rattle.cs_fids.specs.Entries.{pass_of, run_of, user_of}
 use Rattle.cs_journal.specs.Journals.{HasRoom, IsLegal}
 use Rattle.cs_journal.specs.Runs.{RunOf, first_state, state_of}
 use Rattle.cs_names.specs.declared.limits.TheConstants.{CONNECTIONS, RUN_ATTACHES}
@@ -16,7 +16,7 @@ use Rattle.cs_registry.specs.Keys.{Key}
 use Rattle.cs_registry.specs.Registries.{Registry}
 use Rattle.cs_registry.specs.Runs.{held_at}
 use Rattle.cs_session.specs.Sessions.{Awaited, Sess, blank, entry_at}
-use Rattle.cs_world.specs.Reachable.{Gave, HasAllThatIsNamed, IsRunOfReachable, awaits, waiting}
+use Rattle.cs_world.specs.Consistent.{HasConsistentRuns, HasAttached, IsAttachedAs, IsConsistentRun, awaits, waiting}
 use Rattle.cs_world.specs.Reaching.{IsMade}
 use Rattle.cs_world.specs.Worlds.{World, connection, with_both}
 use Rattle.cs_world.proofs.Judging.{IsSound}
@@ -43,23 +43,24 @@ none_counted P (a ∷ xs) d none =
 
 -- ---- the run at a place
 
-module _ (registry : Registry RunOf) (place pass : ℕ) where
-  -- a run with its key, that gave the pass
+module _ (registry : Registry RunOf) (place pass : ℕ) (user : List ℕ) where
+  -- a run with its key, that gave the pass and attached the user under it
   pub record Given : Type 0 where
     pub key : Key
     pub run : Found RunOf
     pub there : slice_get registry.runs place ≡ Some (key, run)
     pub gave : pass < run.held.passes
+    pub attached : IsAttachedAs run.held pass user
 
-  given_by : (o : Option (Key × Found RunOf)) → slice_get registry.runs place ≡ o → IsSomeAnd (option_map (λ (run : Key × Found RunOf). run.1.held) o) (λ run. pass < run.passes) → Given
+  given_by : (o : Option (Key × Found RunOf)) → slice_get registry.runs place ≡ o → IsSomeAnd (option_map (λ (run : Key × Found RunOf). run.1.held) o) (λ run. (pass < run.passes) × IsAttachedAs run pass user) → Given
   given_by None is h = absurd h
-  given_by (Some (key, run)) is h = record { key = key; run = run; there = is; gave = h }
+  given_by (Some (key, run)) is h = record { key = key; run = run; there = is; gave = h.0; attached = h.1 }
 
-  pub given : Gave registry place pass → Given
+  pub given : HasAttached registry place pass user → Given
   given h = given_by (slice_get registry.runs place) refl h
 
-  pub gave : (key : Key) (run : Found RunOf) → slice_get registry.runs place ≡ Some (key, run) → pass < run.held.passes → Gave registry place pass
-  gave key run there h = rw there h
+  pub has_attached : (key : Key) (run : Found RunOf) → slice_get registry.runs place ≡ Some (key, run) → pass < run.held.passes → IsAttachedAs run.held pass user → HasAttached registry place pass user
+  has_attached key run there gave attached = rw there (gave, attached)
 
 pub held_there : (registry : Registry RunOf) (place : ℕ) (key : Key) (run : Found RunOf) → slice_get registry.runs place ≡ Some (key, run) → held_at registry.runs place ≡ Some run.held
 held_there registry place key run there = rw there refl
@@ -96,12 +97,12 @@ module _ (w : World) (conn : ℕ) (s' : Sess) (r' : Registry RunOf) where
     pub scene : r'.scene ≡ w.registry.scene
     pub published : r'.published ≡ w.registry.published
     pub runs : (place : ℕ) (key : Key) (run' : Found RunOf) → slice_get r'.runs place ≡ Some (key, run') → Came place key run'
-    pub gave : (place pass : ℕ) → Gave w.registry place pass → Gave r' place pass
+    pub attached : (place pass : ℕ) (user : List ℕ) → HasAttached w.registry place pass user → HasAttached r' place pass user
     pub there : (place : ℕ) → IsSome (held_at w.registry.runs place) → IsSome (held_at r'.runs place)
     pub awaited : (p : Awaited) → s'.awaited ≡ Some p → IsSome (held_at r'.runs p.run)
-    pub fids : (fid : ℕ) (e : Entry) → entry_at s' fid ≡ Some e → Gave r' (run_of e) (pass_of e)
+    pub fids : (fid : ℕ) (e : Entry) → entry_at s' fid ≡ Some e → HasAttached r' (run_of e) (pass_of e) (user_of e)
 
-module _ (w : World) (ok : HasAllThatIsNamed w) (conn : ℕ) (inside : conn < CONNECTIONS) (s' : Sess) (r' : Registry RunOf) (m : Moves w conn s' r') where
+module _ (w : World) (ok : HasConsistentRuns w) (conn : ℕ) (inside : conn < CONNECTIONS) (s' : Sess) (r' : Registry RunOf) (m : Moves w conn s' r') where
   abbrev next : World
   next = with_both w conn s' r'
 
@@ -135,7 +136,7 @@ module _ (w : World) (ok : HasAllThatIsNamed w) (conn : ℕ) (inside : conn < CO
   at_most_one true = omega arith
   at_most_one false = omega arith
 
-  run_by : (place : ℕ) (key : Key) (run' : Found RunOf) → Came w conn s' r' place key run' → IsRunOfReachable next place key run'
+  run_by : (place : ℕ) (key : Key) (run' : Found RunOf) → Came w conn s' r' place key run' → IsConsistentRun next place key run'
   run_by place key run' (Stood run there fresh room more few) =
       let was = ok.runs place key run there in
       record {
@@ -163,11 +164,11 @@ module _ (w : World) (ok : HasAllThatIsNamed w) (conn : ℕ) (inside : conn < CO
   awaited_by c true is p waits = m.awaited p (ap (λ (s : Sess). s.awaited) (sym (ap (connection next) (eqb-true c conn is) ∙ same_conn)) ∙ waits)
   awaited_by c false is p waits = m.there p.run (ok.awaited c p (ap (λ (s : Sess). s.awaited) (sym (other_conn c (eqb-false c conn is))) ∙ waits))
 
-  fids_by : (c : ℕ) (b : Bool) → (c == conn) ≡ b → (fid : ℕ) (e : Entry) → entry_at (connection next c) fid ≡ Some e → Gave r' (run_of e) (pass_of e)
+  fids_by : (c : ℕ) (b : Bool) → (c == conn) ≡ b → (fid : ℕ) (e : Entry) → entry_at (connection next c) fid ≡ Some e → HasAttached r' (run_of e) (pass_of e) (user_of e)
   fids_by c true is fid e there = m.fids fid e (ap (λ s. entry_at s fid) (sym (ap (connection next) (eqb-true c conn is) ∙ same_conn)) ∙ there)
-  fids_by c false is fid e there = m.gave (run_of e) (pass_of e) (ok.fids c fid e (ap (λ s. entry_at s fid) (sym (other_conn c (eqb-false c conn is))) ∙ there))
+  fids_by c false is fid e there = m.attached (run_of e) (pass_of e) (user_of e) (ok.fids c fid e (ap (λ s. entry_at s fid) (sym (other_conn c (eqb-false c conn is))) ∙ there))
 
-  pub moved : HasAllThatIsNamed next
+  pub moved : HasConsistentRuns next
   moved = record {
     all = length-set w.connections conn s' ∙ ok.all;
     states = ap length m.published ∙ ok.states ∙ ap (λ (s : Scene). length s.plan) (sym m.scene);

@@ -24,7 +24,7 @@ use Rattle.cs_world.specs.Steps.{continued_from, on_connection}
 use Rattle.cs_world.specs.Worlds.{World, connection, with_both}
 
 -- what a step of a connection comes to, by whether memory for what it takes of its own is refused;
--- in a reachable world each step comes to one of these
+-- in a consistent world each step comes to one of these
 pub data ConnectionStepComesTo (world : World) (conn now : ℕ) (step : SessionStep) (refused : Bool)
     (reply : Reply) (after : World) : Type 0 where
   -- no connection has the number: S5

@@ -1,20 +1,24 @@
 -- Runs don't reach one another.
-use Rattle.std.specs.Prelude.{◌≡◌, ℕ, Bool, false, List, [], ◌∷◌, Option, None, Some, is_some}
-use Rattle.std.specs.Prelude.{option_map, if◌then◌else◌}
+use Rattle.std.specs.Prelude.{◌≡◌, ℕ, Bool, true, false, List, [], ◌∷◌, ◌++◌, Option, None, Some}
+use Rattle.std.specs.Prelude.{is_some, option_map, if◌then◌else◌}
 use Rattle.cs_journal.specs.Runs.{RunOf, fresh_run}
 use Rattle.cs_plan.specs.Scenes.{state_at}
 use Rattle.cs_registry.specs.Keys.{Key}
 use Rattle.cs_registry.specs.Runs.{place_of}
+use Rattle.cs_session.specs.declared.message.Message.{Message}
+use Rattle.cs_session.specs.declared.reply.Reply.{Reply as SessionReply}
+use Rattle.cs_session.specs.Steps.{Step as SessionStep}
 use Rattle.cs_users.specs.Rows.{Row}
 use Rattle.cs_world.specs.declared.reply.Reply.{Reply}
 use Rattle.cs_world.specs.declared.step.Step.{Step}
 use Rattle.cs_world.specs.Ample.{ample, tells_want}
 use Rattle.cs_world.specs.Groups.{AreApart, NoneMeetsLimit, first_replies, first_steps}
-use Rattle.cs_world.specs.Lists.{IsStepList, steps_of}
+use Rattle.cs_world.specs.Lists.{AreOwnSteps, IsStepList, steps_of, steps_on}
 use Rattle.cs_world.specs.Marks.{WorldMark}
+use Rattle.cs_world.specs.Places.{with_places}
 use Rattle.cs_world.specs.Projections.{alone, answers_of, projection_of, run_with_key}
 use Rattle.cs_world.specs.Steps.{step_of}
-use Rattle.cs_world.specs.Worlds.{World}
+use Rattle.cs_world.specs.Worlds.{World, connection, new_world}
 
 -- the run of a key after steps, if it was found
 abbrev pub run_after : World → List (Step × WorldMark) → Key → Option RunOf
@@ -44,19 +48,41 @@ pub record IsAlone (world : World) (marked : List (Step × WorldMark)) (key : Ke
 
 -- ---- the same calls leave the same run
 
--- where both lists found the run of the key, it has the same users
-abbrev pub HaveSameUsers : World → List (Step × WorldMark) → List (Step × WorldMark) → Key
-    → Type 0
-HaveSameUsers world ones others key = (run other : RunOf) → run_after world ones key ≡ Some run
-    → run_after world others key ≡ Some other → run.users ≡ other.users
+-- if both lists found the run of the key, each from its world, it has the same users
+abbrev pub HaveSameUsers : World → List (Step × WorldMark) → World → List (Step × WorldMark)
+    → Key → Type 0
+HaveSameUsers world ones second others key =
+    (run other : RunOf) → run_after world ones key ≡ Some run
+    → run_after second others key ≡ Some other → run.users ≡ other.users
 
--- what both lists put to the run of the key is answered the same, and where both found it, it is
--- the same run
-pub record AreSame (world : World) (ones others : List (Step × WorldMark)) (key : Key)
-    : Type 0 where
-  pub answers : answers_of world ones key ≡ answers_of world others key
+-- what both lists put to the run of the key is answered the same, and if both found it, it is the
+-- same run
+pub record AreSame (world : World) (ones : List (Step × WorldMark)) (second : World)
+    (others : List (Step × WorldMark)) (key : Key) : Type 0 where
+  pub answers : answers_of world ones key ≡ answers_of second others key
   pub runs : (run other : RunOf) → run_after world ones key ≡ Some run
-      → run_after world others key ≡ Some other → run ≡ other
+      → run_after second others key ≡ Some other → run ≡ other
+
+-- ---- the first group doesn't notice the second
+
+-- without the second group the first has the same replies; its connections are then the same but
+-- for the places of their runs; and if a message comes next on one of these, whose finds name no
+-- run of the second group and don't meet the limit of runs, it takes the same steps and has the
+-- same reply
+pub record IsSameWithoutSecond (first : ℕ → Bool) (world : World)
+    (marked : List (Step × WorldMark)) : Type 0 where
+  pub replies : (steps_of world (first_steps first marked)).0
+      ≡ first_replies first marked (steps_of world marked).0
+  pub places : ℕ → ℕ
+  pub connections : (conn : ℕ) → first conn ≡ true
+      → connection (steps_of world marked).1 conn
+      ≡ with_places places (connection (steps_of world (first_steps first marked)).1 conn)
+  pub messages : (conn now : ℕ) (message : Message) (own : List (SessionStep × WorldMark))
+      (reply : SessionReply) → first conn ≡ true
+      → AreApart first (marked ++ steps_on conn now own)
+      → NoneMeetsLimit (steps_of world marked).1 (steps_on conn now own)
+      → AreOwnSteps message conn now (steps_of world marked).1 own reply
+      → AreOwnSteps message conn now (steps_of world (first_steps first marked)).1 own reply
 
 -- ---- the three laws
 
@@ -65,15 +91,17 @@ pub record NoneReachesAnother (world : World) (marked : List (Step × WorldMark)
   -- each run that was found is what reached it
   pub alone : (key : Key) (run : RunOf) → run_after world marked key ≡ Some run
       → IsAlone world marked key run
-  -- any other list that puts the same to a run leaves the same run
-  pub same : (others : List (Step × WorldMark)) (key : Key) → HaveSameUsers world marked others key
-      → projection_of world marked key ≡ projection_of world others key
-      → AreSame world marked others key
-  -- of two groups of connections that find no run in common, where no find meets the limit of runs,
-  -- the first has the replies that it has without the second
+  -- any other list that puts the same to a run leaves the same run; it may begin with other users,
+  -- in a new world of the same scene
+  pub same : (users : List Row) (others : List (Step × WorldMark)) (key : Key)
+      → HaveSameUsers world marked (new_world world.registry.scene users) others key
+      → projection_of world marked key
+      ≡ projection_of (new_world world.registry.scene users) others key
+      → AreSame world marked (new_world world.registry.scene users) others key
+  -- of two groups of connections that find no run in common, if no find meets the limit of runs,
+  -- the first doesn't notice the second
   pub apart : (first : ℕ → Bool) → AreApart first marked → NoneMeetsLimit world marked
-      → (steps_of world (first_steps first marked)).0
-      ≡ first_replies first marked (steps_of world marked).0
+      → IsSameWithoutSecond first world marked
 
 -- ---- of a list that was run
 

@@ -1,12 +1,20 @@
 -- Steps of a world, one after the other.
-use Rattle.std.specs.Prelude.{◌≡◌, ℕ, List, [], ◌∷◌, ◌++◌, map, Ok}
+use Rattle.std.specs.Prelude.{◌≡◌, ℕ, List, [], ◌∷◌, ◌++◌, map, IsErr, Ok, Err}
+use Rattle.cs_names.specs.declared.rule_id.RuleId.{RuleId}
+use Rattle.cs_names.specs.declared.rule_id.RuleId.TheVariants.{S2}
+use Rattle.cs_permit.specs.Refusals.{IsFirstToFail}
 use Rattle.cs_session.specs.declared.message.Message.{Message}
 use Rattle.cs_session.specs.declared.reply.Reply.{Reply as SessionReply}
+use Rattle.cs_session.specs.declared.reply.Reply.TheVariants.{Error, Memory}
 use Rattle.cs_session.specs.Messages.{Either, goes_on, next_step}
-use Rattle.cs_session.specs.Receiving.{IsSpelled, message_in, tag_in, wire_of}
+use Rattle.cs_session.specs.Receiving.{IsLetIn, IsSpelled, message_in, rules_before_decoding}
+use Rattle.cs_session.specs.Receiving.{tag_in, wire_of}
+use Rattle.cs_session.specs.Sessions.{Sess}
 use Rattle.cs_session.specs.Steps.{Step as SessionStep}
 use Rattle.cs_wire.specs.declared.message.TMessage.{TMessage}
-use Rattle.cs_wire.specs.Messages.{Message as Spelled, replies as reply_side}
+use Rattle.cs_wire.specs.Answers.{TakesMemory}
+use Rattle.cs_wire.specs.Messages.{Message as Spelled, replies as reply_side, requests}
+use Rattle.cs_wire.specs.Reading.{message_of}
 use Rattle.cs_world.specs.declared.reply.Reply.{Reply}
 use Rattle.cs_world.specs.declared.reply.Reply.TheVariants.{Connection}
 use Rattle.cs_world.specs.declared.step.Step.{Step}
@@ -70,11 +78,25 @@ pub record IsByOwnSteps (world : World) (conn now : ℕ) (message : Message) (re
   pub leads : (earlier ++ Connection reply ∷ [], after) ≡ steps_of world (steps_on conn now marked)
   pub own : AreOwnSteps message conn now world marked reply
 
+-- the reply to bytes that take no step: the first of the rules before decoding that fails; S2 if
+-- they are no message; out of memory, only if they are a message with something to copy; or the
+-- reply of a message that takes no step
+pub data IsOwnReply (session : Sess) (bytes : List ℕ) (reply : SessionReply) : Type 0 where
+  FailsARule : (rule : RuleId) → IsFirstToFail (rules_before_decoding session.msize bytes) rule
+      → reply ≡ Error rule → IsOwnReply session bytes reply
+  IsNoMessage : IsLetIn session.msize bytes → IsErr (message_of requests bytes)
+      → reply ≡ Error S2 → IsOwnReply session bytes reply
+  IsOutOfMemory : IsLetIn session.msize bytes → TakesMemory requests bytes
+      → reply ≡ Memory → IsOwnReply session bytes reply
+  TakesNoStep : (spelled : TMessage) → IsLetIn session.msize bytes → IsSpelled bytes spelled
+      → message_in spelled.body ≡ Err reply → IsOwnReply session bytes reply
+
 -- the reply on the wire to bytes is that of the last of the steps of the message that they spell;
--- or no step was taken
+-- or the connection's own, and no step was taken
 pub data IsRepliedBySteps (world : World) (conn now : ℕ) (bytes : List ℕ)
     (wire_reply : Spelled reply_side) (after : World) : Type 0 where
-  ByItself : (reply : SessionReply) → wire_reply ≡ wire_of (tag_in bytes) reply → after ≡ world
+  ByItself : (reply : SessionReply) → IsOwnReply (connection world conn) bytes reply
+      → wire_reply ≡ wire_of (tag_in bytes) reply → after ≡ world
       → IsRepliedBySteps world conn now bytes wire_reply after
   BySteps : (spelled : TMessage) (message : Message) (reply : SessionReply)
       → IsSpelled bytes spelled

@@ -10,7 +10,7 @@ use cs_names::limits::RUN_ATTACHES;
 use cs_names::{RuleId, Text};
 use cs_permit::{AttachCall, Call};
 use cs_plan::Built;
-use cs_registry::Held;
+use cs_registry::{Held, RunKey};
 use cs_run::Answer;
 use cs_session::PassFault;
 use cs_users::Users;
@@ -46,11 +46,11 @@ impl Held for AttendedRun {
 
     ghost admits = { λ number tree. CanGrow tree };
 
-    ghost is_fresh = { λ number tree users run. run ≡ fresh_run tree users };
+    ghost is_fresh = { λ key tree users run. run ≡ fresh_run tree users };
 
     fn fresh(
         alloc: Global,
-        _number: u32,
+        _key: &RunKey,
         lower: Arc<Built>,
         users: Arc<Users>,
     ) -> Result<AttendedRun, AllocError> {

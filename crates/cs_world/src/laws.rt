@@ -16,7 +16,7 @@ ghost use Rattle.cs_world.specs.Isolation.{NoneReachesAnother};
 ghost use Rattle.cs_world.specs.Ends.{CallComesTo};
 ghost use Rattle.cs_world.specs.Lists.{follow_on, steps_of};
 ghost use Rattle.cs_world.specs.Marks.{WorldMark};
-ghost use Rattle.cs_world.specs.Reachable.{AsksWhatCanBeAsked, IsReachable};
+ghost use Rattle.cs_world.specs.Consistent.{AsksWhatCanBeAsked, IsConsistent};
 ghost use Rattle.cs_world.specs.Reaching.{ChangesWhatItAsks, KeepsRuns, NewRunIsState};
 ghost use Rattle.cs_world.specs.Replies.{AreAnsweredBySteps, AreRepliedBySteps};
 ghost use Rattle.cs_world.specs.Runs.{run_step};
@@ -56,29 +56,30 @@ pub fn new_runs_are_states()
         NewRunIsState world (on_connection world conn now step mark).1 }
 {}
 
-/// A new world is reachable, and each step leads from a reachable world to a reachable one. In a
-/// reachable world a connection attaches to a run that is there and can give a pass, and calls on a
+/// A new world is consistent, and each step leads from a consistent world to a consistent one. In
+/// such a world a connection attaches to a run that is there and can give a pass, and calls on a
 /// run that is there, under a pass that it gave: so no attach to a run that was found is A5 or S5,
-/// nor a call S5 for want of a run or a pass. Each of its runs began as the crash state of its
-/// number's set, which is allowed: that its plan is one says `World::scene`.
-pub fn reachable_worlds()
-    ensures new { (scene : Scene) (users : List Row) → IsReachable (new_world scene users) }
-    ensures step { (world : World) → IsReachable world → (step : Step) (mark : WorldMark) →
-        IsReachable (step_of world step mark).1 }
-    ensures steps { (world : World) → IsReachable world → (marked : List (Step × WorldMark)) →
-        IsReachable (steps_of world marked).1 }
-    ensures asked { (world : World) → IsReachable world → (conn : ℕ) → conn < CONNECTIONS →
+/// and no call is S5 because there is no run or no pass. Each fid's user is one that a granted
+/// attach of its pass named. Each run began as the crash state of its number's set, which is
+/// allowed: that the plan is one says `World::scene`.
+pub fn worlds_are_consistent()
+    ensures new { (scene : Scene) (users : List Row) → IsConsistent (new_world scene users) }
+    ensures step { (world : World) → IsConsistent world → (step : Step) (mark : WorldMark) →
+        IsConsistent (step_of world step mark).1 }
+    ensures steps { (world : World) → IsConsistent world → (marked : List (Step × WorldMark)) →
+        IsConsistent (steps_of world marked).1 }
+    ensures asked { (world : World) → IsConsistent world → (conn : ℕ) → conn < CONNECTIONS →
         AsksWhatCanBeAsked world conn }
-    ensures began { (world : World) → IsReachable world →
+    ensures began { (world : World) → IsConsistent world →
         IsPlan (order_in world.registry.scene) world.registry.scene.plan → AllBegan world }
 {}
 
-/// What a step of a connection comes to in a reachable world: it is S5 where nobody has the number;
-/// the connection answers by itself, and no run changes; the registry finds a run; or the call,
-/// which an attach is too, is judged on its run under its pass, no other run changes, and the
+/// What a step of a connection results in, in a consistent world: it is S5 if nobody has the
+/// number; the connection answers by itself, and no run changes; the registry finds a run; or the
+/// call, which an attach is too, is judged on its run under its pass, no other run changes, and the
 /// connection goes on from the answer.
 pub fn steps_are_judged()
-    ensures { (world : World) → IsReachable world →
+    ensures { (world : World) → IsConsistent world →
         (conn now : ℕ) (step : SessionStep) (mark : WorldMark) →
         ConnectionStepComes world conn now step mark }
 {}
@@ -96,12 +97,12 @@ pub fn messages_are_steps()
 {}
 
 /// A step whose reply doesn't tell want of memory is the one in which memory refuses nothing; and
-/// in a reachable world the reply of that one doesn't tell it.
+/// in a consistent world the reply of that one doesn't tell it.
 pub fn only_want_of_memory_differs()
     ensures differs { (world : World) (step : Step) (mark : WorldMark) →
         tells_want (step_of world step mark).0 ≡ false →
         step_of world step mark ≡ step_of world step ample }
-    ensures suffices { (world : World) → IsReachable world → (step : Step) →
+    ensures suffices { (world : World) → IsConsistent world → (step : Step) →
         tells_want (step_of world step ample).0 ≡ false }
 {}
 

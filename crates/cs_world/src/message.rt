@@ -10,7 +10,7 @@ ghost use Rattle.cs_session.specs.Receiving.{tag_in, wire_of};
 ghost use Rattle.cs_session.specs.Sessions.{blank};
 ghost use Rattle.cs_session.specs.Sizes.{FitsWithin, room_of};
 ghost use Rattle.cs_wire.specs.Messages.{r_view};
-ghost use Rattle.cs_world.specs.Reachable.{IsReachable};
+ghost use Rattle.cs_world.specs.Consistent.{IsConsistent};
 ghost use Rattle.cs_world.specs.Replies.{IsAnsweredOn, IsRepliedOn};
 ghost use Rattle.cs_world.specs.Worlds.{connection};
 
@@ -52,7 +52,7 @@ impl World {
             (r_view result ≡ wire_of (tag_in bytes.now) (reply.Error S5)) × (self.new ≡ self.old) }
         ensures others { self.new.connections
             ≡ slice_set self.old.connections conn (connection self.new conn) }
-        ensures reachable { IsReachable self.old → IsReachable self.new }
+        ensures consistent { IsConsistent self.old → IsConsistent self.new }
         ensures fits { FitsWithin (room_of (connection self.old conn).msize) (r_view result) }
     {
         let session = &mut self.sessions[conn as usize];
@@ -78,7 +78,7 @@ impl World {
             (result ≡ reply.Error S5) × (self.new ≡ self.old) }
         ensures others { self.new.connections
             ≡ slice_set self.old.connections conn (connection self.new conn) }
-        ensures reachable { IsReachable self.old → IsReachable self.new }
+        ensures consistent { IsConsistent self.old → IsConsistent self.new }
     {
         let session = &mut self.sessions[conn as usize];
         if session.awaits() {

@@ -4,7 +4,7 @@ ghost use Rattle.cs_plan.specs.Scenes.{Scene};
 ghost use Rattle.cs_users.specs.Rows.{Row};
 ghost use Rattle.cs_world.specs.Isolation.{IsIsolated};
 ghost use Rattle.cs_world.specs.Lists.{IsStepList};
-ghost use Rattle.cs_world.specs.Reachable.{IsReachable};
+ghost use Rattle.cs_world.specs.Consistent.{IsConsistent};
 ghost use Rattle.cs_world.specs.Theorem.{AllBegan, ListIsJudged};
 ghost use Rattle.cs_world.specs.Worlds.{new_world};
 
@@ -27,13 +27,13 @@ impl World {
     ) -> Result<Vec<Reply>, (Vec<Step>, AllocError)>
         ensures runs { IfOk result (λ replies.
             IsStepList self.old steps.items replies.items self.new) }
-        ensures judged { IsReachable self.old → IfOk result (λ replies.
+        ensures judged { IsConsistent self.old → IfOk result (λ replies.
             ListIsJudged self.old steps.items replies.items self.new) }
-        ensures began { IsReachable self.old → IfOk result (λ replies. AllBegan self.new) }
+        ensures began { IsConsistent self.old → IfOk result (λ replies. AllBegan self.new) }
         ensures isolated { IfOk result (λ replies. (scene : Scene) (users : List Row) →
             self.old ≡ new_world scene users →
             IsIsolated self.old steps.items replies.items self.new) }
-        ensures reachable { IsReachable self.old → IsReachable self.new }
+        ensures consistent { IsConsistent self.old → IsConsistent self.new }
         ensures refused { IfErr result (λ back. (back.0 ≡ steps) × (self.new ≡ self.old)) }
     {
         let mut replies = match Vec::with_capacity(alloc, steps.len()) {

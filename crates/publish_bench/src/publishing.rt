@@ -4,7 +4,7 @@ ghost use Rattle.cs_shared.specs.Serving.{IsOnly, ServesAll};
 
 use cs_bench::{Row, Total};
 use cs_plan::Scene;
-use cs_publish::{NoGate, publish_into};
+use cs_publish::{NoGate, publish_own_into};
 use cs_shared::{Served, SharedRegistry};
 use cs_users::Users;
 use std::alloc::Global;
@@ -30,7 +30,7 @@ fn published<S: Served, R: Threads + Wait + Sync>(
     let users = Users::read(alloc, b"1:ann::\n").ok()?;
     let users = Arc::new(alloc, users).ok()?;
     let registry = SharedRegistry::<S>::new(alloc, scene, users).ok()?;
-    publish_into(rt, alloc, &registry, workers, &NoGate).ok()?;
+    publish_own_into(rt, alloc, &registry, workers, &NoGate).ok()?;
     if registry.missing(rt) > 0 {
         return None;
     }

@@ -1,7 +1,7 @@
 //! An overlay over a crash state, in which nothing was changed, beside the same state as a plain store.
 ghost use Rattle.std.specs.Prelude.{◌≡◌, length};
 ghost use Rattle.cs_micro.specs.Legal.{AreLegal};
-ghost use Rattle.cs_micro.specs.Micros.{micros_in};
+ghost use Rattle.cs_micro.specs.Micros.{block_of_version, micros_in};
 ghost use Rattle.cs_trace.specs.Traces.{start_paths};
 
 use crate::store::Store;
@@ -47,7 +47,8 @@ fn first_places(alloc: Global, count: usize) -> Option<Vec<u32>> {
 /// The state of a set, which is to be allowed, as a plain store.
 pub fn plain(alloc: Global, trace: &Trace, micros: &Micros, places: &[u32]) -> Option<PlainTree>
     requires broken { micros.now ≡ micros_in trace.now }
-    requires legal { AreLegal (start_paths trace.now) (length micros.now.starts) micros.now.ops }
+    requires legal { AreLegal (block_of_version trace.now.version) (start_paths trace.now)
+        (length micros.now.starts) micros.now.ops }
 {
     let order = Order::of(alloc, micros).ok()?;
     rules_are_sentences(micros);

@@ -1,7 +1,7 @@
 //! The states of traces: planned, listed, made and kept; and the order of micro-operations.
 ghost use Rattle.std.specs.Prelude.{◌≡◌, length};
 ghost use Rattle.cs_micro.specs.Legal.{AreLegal};
-ghost use Rattle.cs_micro.specs.Micros.{micros_in};
+ghost use Rattle.cs_micro.specs.Micros.{block_of_version, micros_in};
 ghost use Rattle.cs_trace.specs.Traces.{start_paths};
 
 use crate::levels::plain;
@@ -83,7 +83,8 @@ struct AsPlain<'a> {
 /// How many of them are made.
 fn plain_states(alloc: Global, trace: &Trace, micros: &Micros) -> Option<u64>
     requires broken { micros.now ≡ micros_in trace.now }
-    requires legal { AreLegal (start_paths trace.now) (length micros.now.starts) micros.now.ops }
+    requires legal { AreLegal (block_of_version trace.now.version) (start_paths trace.now)
+        (length micros.now.starts) micros.now.ops }
 {
     let mut places = Vec::new(alloc);
     let mut done = 0u64;

@@ -2,7 +2,7 @@
 use Rattle.std.proofs.Common.{◌≡◌, ◌<◌, ℕ, Bool, true, List, inl, refl, sym, ap, ◌∙◌}
 use Rattle.std.proofs.lemmas.Bool.{false≢true}
 use Rattle.cs_tree_model.specs.Tree.{Path, parent_path}
-use Rattle.cs_trace.specs.declared.profile.Profile.{Profile}
+use Rattle.cs_trace_lines.specs.declared.version.Version.{Version}
 use Rattle.cs_micro.specs.declared.micro_op.MicroOp.{MicroOp}
 use Rattle.cs_micro.specs.declared.sync_point.SyncPoint.{SyncPoint}
 use Rattle.cs_apm.specs.Legal.{HasNeeds}
@@ -12,11 +12,11 @@ use Rattle.cs_apm.specs.Sets.{IsAllowed, is_member}
 use Rattle.cs_apm.specs.Laws.Members.{contains_has, found_has}
 use Rattle.cs_apm.specs.Laws.Reasons.{creates_says, says_creates, says_needs, touches_says}
 
-module _ (ops : List MicroOp) (syncs : List SyncPoint) (profile : Profile) (n : ℕ) (places : List ℕ) (allowed : IsAllowed (needs ops syncs profile) n places) where
-  closed : (i j : ℕ) → is_member places j ≡ true → Needs ops syncs profile i j → is_member places i ≡ true
+module _ (ops : List MicroOp) (syncs : List SyncPoint) (version : Version) (n : ℕ) (places : List ℕ) (allowed : IsAllowed (needs ops syncs version) n places) where
+  closed : (i j : ℕ) → is_member places j ≡ true → Needs ops syncs version i j → is_member places i ≡ true
   closed i j member w =
       (let at = found_has places j member in
-      contains_has places i (allowed.closed at.0 i at.1 (ap (needs ops syncs profile i) at.2 ∙ says_needs ops syncs profile i j w)))
+      contains_has places i (allowed.closed at.0 i at.1 (ap (needs ops syncs version i) at.2 ∙ says_needs ops syncs version i j w)))
 
   name : (k : ℕ) (p : Path) → touches (op_at ops k) p ≡ true → Names (op_at ops k) p
   name k p h = inl (touches_says (op_at ops k) p h)

@@ -15,7 +15,7 @@ use Rattle.cs_trace.specs.declared.operation.Node.TheVariants as nodes
 use Rattle.cs_trace.specs.declared.operation.Rights.{Rights}
 use Rattle.cs_trace.specs.declared.operation.Target.TheVariants as targets
 use Rattle.cs_micro.specs.declared.micro_op.MicroOp.{MicroOp}
-use Rattle.cs_micro.specs.declared.micro_op.MicroOp.TheVariants.{CreateDirEntry, DeleteDirEntry, MoveDirEntry, ChangeFileSize, WriteBlock, SetAttr, Say}
+use Rattle.cs_micro.specs.declared.micro_op.MicroOp.TheVariants.{CreateDirEntry, DeleteDirEntry, MoveDirEntry, LinkDirEntry, ChangeFileSize, WriteBlock, SetAttr, Say}
 use Rattle.cs_apm.specs.Rules.{op_at}
 use Rattle.cs_apm.specs.States.{Entries, Entry, entries_after, moved, owned}
 use Rattle.cs_apm.specs.States as states
@@ -129,8 +129,9 @@ module _ (rights : List Rights) where
     step_mirror (CreateDirEntry p (nodes.File n) r) (Set i (File k)) h = set_mirror i p h.0 (File k) (insert m p (states.File n)) (λ q. get_inserted m p q (states.File n) ∙ ap (λ w. cond (path_eq p q) (Some (states.File w)) (get m q)) (sym h.1))
     step_mirror (DeleteDirEntry p kind) (Set i Nothing) h = set_mirror i p h Nothing (remove m p) (λ q. get_removed m p q)
     step_mirror (MoveDirEntry p q) (Move i j) h = move_mirror i j p q h.0 h.1 (slot_at slots i) refl
+    step_mirror (LinkDirEntry p n) (Set i (File k)) h = set_mirror i p h.0 (File k) (insert m p (states.File n)) (λ q. get_inserted m p q (states.File n) ∙ ap (λ w. cond (path_eq p q) (Some (states.File w)) (get m q)) (sym h.1))
     step_mirror (ChangeFileSize n size) Other h = mirror
-    step_mirror (WriteBlock n block at bytes) Other h = mirror
+    step_mirror (WriteBlock n block start at bytes) Other h = mirror
     step_mirror (SetAttr (targets.Directory p) r) (Own i k) h = own_mirror i k p r h.0 h.1 (slot_at slots i) refl
     step_mirror (SetAttr (targets.File n) r) Other h = mirror
     step_mirror Say Other h = mirror

@@ -1,5 +1,5 @@
 -- A set that has what its members need leaves a tree.
-use Rattle.std.proofs.Common.{◌≡◌, ◌≢◌, ℕ, zero, suc, ◌<◌, ◌≤◌, Bool, true, false, ◌&&◌, List, [], ◌⊎◌, Some, refl, sym, ap, ◌∙◌, arith, ⊎_elim, length}
+use Rattle.std.proofs.Common.{◌≡◌, ◌≢◌, ℕ, zero, suc, ◌<◌, ◌≤◌, Bool, true, false, ◌&&◌, List, [], Some, refl, sym, ap, ◌∙◌, arith, ⊎_elim, length}
 use Rattle.std.proofs.lemmas.Bool.{cases_eq, false≢true, cases_lt}
 use Rattle.std.specs.FinMap.{get}
 use Rattle.cs_tree_model.specs.Laws.Fresh.{not_both}

@@ -14,7 +14,7 @@ use Rattle.cs_trace.specs.declared.operation.Rights.{Rights}
 use Rattle.cs_trace.specs.Operations.{AreNested, IsDirectoryAt, IsEmptyAt, IsFileAt, IsFree, Paths, moved}
 use Rattle.cs_micro.specs.declared.micro_op.EntryKind.TheVariants as kinds
 use Rattle.cs_micro.specs.declared.micro_op.MicroOp.{MicroOp}
-use Rattle.cs_micro.specs.declared.micro_op.MicroOp.TheVariants.{CreateDirEntry, DeleteDirEntry, MoveDirEntry, ChangeFileSize, WriteBlock, SetAttr, Say}
+use Rattle.cs_micro.specs.declared.micro_op.MicroOp.TheVariants.{CreateDirEntry, DeleteDirEntry, MoveDirEntry, LinkDirEntry, ChangeFileSize, WriteBlock, SetAttr, Say}
 use Rattle.cs_micro.specs.Legal.{IsLegal, paths_after}
 use Rattle.cs_apm.specs.Legal.{IsLegalThere}
 use Rattle.cs_apm.specs.Rules.{creates, touches}
@@ -89,8 +89,9 @@ untouched m (MoveDirEntry a b) q h =
     let from = first_apart (path_eq a q) (path_eq b q || false) h in
     let to = first_apart (path_eq b q) false (second_apart (path_eq a q) (path_eq b q || false) h) in
     get-moved m a b q ∙ (λ i. move_look (to i) (from i) (get m a) (get m q)) ∙ move_apart (get m a) (get m q)
+untouched m (LinkDirEntry p file) q h = get-insert_other m q p (File file) (one_apart p q h)
 untouched m (ChangeFileSize file size) q h = refl
-untouched m (WriteBlock file block at bytes) q h = refl
+untouched m (WriteBlock file block start at bytes) q h = refl
 untouched m (SetAttr target rights) q h = refl
 untouched m Say q h = refl
 
@@ -102,8 +103,9 @@ agree m n (MoveDirEntry a b) same q h =
     get-moved m a b q
     ∙ (λ i. move_look (path_eq b q) (path_eq a q) (same a (ap (λ t. t || (path_eq b a || false)) (same_path a)) i) (same q h i))
     ∙ sym (get-moved n a b q)
+agree m n (LinkDirEntry p file) same q h = ap (get (insert m p (File file))) (sym (one_touched p q h)) ∙ get-insert_same m p (File file) ∙ sym (get-insert_same n p (File file)) ∙ ap (get (insert n p (File file))) (one_touched p q h)
 agree m n (ChangeFileSize file size) same q h = same q h
-agree m n (WriteBlock file block at bytes) same q h = same q h
+agree m n (WriteBlock file block start at bytes) same q h = same q h
 agree m n (SetAttr target rights) same q h = same q h
 agree m n Say same q h = same q h
 
@@ -111,8 +113,9 @@ pub created_touched : (o : MicroOp) (q : Path) → touches o q ≡ false → cre
 created_touched (CreateDirEntry p node rights) q h = first_apart (path_eq p q) false h
 created_touched (DeleteDirEntry p kind) q h = refl
 created_touched (MoveDirEntry a b) q h = refl
+created_touched (LinkDirEntry a file) q h = refl
 created_touched (ChangeFileSize file size) q h = refl
-created_touched (WriteBlock file block at bytes) q h = refl
+created_touched (WriteBlock file block start at bytes) q h = refl
 created_touched (SetAttr target rights) q h = refl
 created_touched Say q h = refl
 
@@ -136,24 +139,25 @@ not_taken m q d h directory = ⊎_elim
 abbrev pub Deletes : Paths → MicroOp → Path → Type 0
 Deletes m o d = (o ≡ DeleteDirEntry d kinds.Directory) × IsEmptyAt m d × (d ≢ [])
 
-free_entry : (m : Paths) (count : ℕ) (p : Path) (node : Node) (rights : Rights) → IsLegal m count (CreateDirEntry p node rights) → IsFree m p
-free_entry m count p Directory rights h = h.0
-free_entry m count p (File file) rights h = h.0
+free_entry : (m : Paths) (size count : ℕ) (p : Path) (node : Node) (rights : Rights) → IsLegal size m count (CreateDirEntry p node rights) → IsFree m p
+free_entry m size count p Directory rights h = h.0
+free_entry m size count p (File file) rights h = h.0
 
 -- a legal operation touches a directory only to delete it, and then it is empty
 pub apart : (m : Paths) (o : MicroOp) (d : Path) → IsLegalThere m o → IsDirectoryAt m d → (touches o d ≡ false) ⊎ Deletes m o d
-apart m (CreateDirEntry p node rights) d h directory = inl (apart_one p d (λ e. not_both (get m p) _ (free_entry m h.0 p node rights h.1).0 (ap (get m) e ∙ directory)))
+apart m (CreateDirEntry p node rights) d h directory = inl (apart_one p d (λ e. not_both (get m p) _ (free_entry m h.0 h.1 p node rights h.2).0 (ap (get m) e ∙ directory)))
 apart m (DeleteDirEntry p kinds.Directory) d h directory = ⊎_elim
-    (λ (one : (path_eq p d ≡ true) × (p ≡ d)). inr (ap (λ w. DeleteDirEntry w kinds.Directory) one.1, subst (IsEmptyAt m) one.1 h.1.2, subst (λ w. w ≢ []) one.1 h.1.0))
+    (λ (one : (path_eq p d ≡ true) × (p ≡ d)). inr (ap (λ w. DeleteDirEntry w kinds.Directory) one.1, subst (IsEmptyAt m) one.1 h.2.2, subst (λ w. w ≢ []) one.1 h.2.0))
     (λ (two : (path_eq p d ≡ false) × (p ≢ d)). inl (ap (λ b. b || false) two.0))
     (same_cases p d)
-apart m (DeleteDirEntry p kinds.File) d h directory = inl (apart_one p d (not_file m p d h.1 directory))
+apart m (DeleteDirEntry p kinds.File) d h directory = inl (apart_one p d (not_file m p d h.2 directory))
 apart m (MoveDirEntry a b) d h directory =
-    let from = apart_one a d (not_file m a d h.1.1 directory) in
-    let to = apart_one b d (not_taken m b d h.1.2.0 directory) in
+    let from = apart_one a d (not_file m a d h.2.1 directory) in
+    let to = apart_one b d (not_taken m b d h.2.2.0 directory) in
     inl ((λ i. first_apart (path_eq a d) false from i || (path_eq b d || false)) ∙ to)
+apart m (LinkDirEntry p file) d h directory = inl (apart_one p d (λ e. not_both (get m p) _ h.2.0.0 (ap (get m) e ∙ directory)))
 apart m (ChangeFileSize file size) d h directory = inl refl
-apart m (WriteBlock file block at bytes) d h directory = inl refl
+apart m (WriteBlock file block start at bytes) d h directory = inl refl
 apart m (SetAttr target rights) d h directory = inl refl
 apart m Say d h directory = inl refl
 
@@ -161,7 +165,7 @@ apart m Say d h directory = inl refl
 pub made : (m : Paths) (o : MicroOp) (d : Path) → IsLegalThere m o → touches o d ≡ true → IsDirectoryAt (paths_after m o) d → creates o d ≡ true
 made m (CreateDirEntry p node rights) d h t directory = ap (path_eq p) (sym (one_touched p d t)) ∙ same_path p
 made m (DeleteDirEntry p kind) d h t directory = absurd (not_both (get (remove m p) d) _ (ap (get (remove m p)) (sym (one_touched p d t)) ∙ get-remove_same m p) directory)
-made m (MoveDirEntry a b) d h t directory = absurd (false≢true (sym (moves_no_directory m a b d h.1.1 t) ∙ ap is_directory directory))
+made m (MoveDirEntry a b) d h t directory = absurd (false≢true (sym (moves_no_directory m a b d h.2.1 t) ∙ ap is_directory directory))
   where
     none_of : (f : Option Node) (at_to : Bool) → is_directory f ≡ false → is_directory (cond at_to f None) ≡ false
     none_of f true h = h
@@ -172,8 +176,9 @@ made m (MoveDirEntry a b) d h t directory = absurd (false≢true (sym (moves_no_
         (λ (e : a ≡ d). ap (λ k. is_directory (cond (path_eq b d) (Some (File file.0)) (cond k None (get m d)))) (ap (path_eq a) (sym e) ∙ same_path a) ∙ none_of (Some (File file.0)) (path_eq b d) refl)
         (λ (e : b ≡ d). ap (λ k. is_directory (cond k (Some (File file.0)) (cond (path_eq a d) None (get m d)))) (ap (path_eq b) (sym e) ∙ same_path b))
         (two_touched a b d t)
+made m (LinkDirEntry p file) d h t directory = absurd (false≢true (ap is_directory (sym (ap (get (insert m p (File file))) (sym (one_touched p d t)) ∙ get-insert_same m p (File file)) ∙ directory)))
 made m (ChangeFileSize file size) d h t directory = absurd (false≢true t)
-made m (WriteBlock file block at bytes) d h t directory = absurd (false≢true t)
+made m (WriteBlock file block start at bytes) d h t directory = absurd (false≢true t)
 made m (SetAttr target rights) d h t directory = absurd (false≢true t)
 made m Say d h t directory = absurd (false≢true t)
 
@@ -185,17 +190,18 @@ above m o h nested q e is named = ⊎_elim
     (cases_Bool (touches o q))
   where
     at_touched : (o : MicroOp) → IsLegalThere m o → touches o q ≡ true → get (paths_after m o) q ≡ Some e → IsDirectoryAt m (parent_path q)
-    at_touched (CreateDirEntry p node rights) h t is = subst (λ w. IsDirectoryAt m (parent_path w)) (one_touched p q t) (free_entry m h.0 p node rights h.1).1
+    at_touched (CreateDirEntry p node rights) h t is = subst (λ w. IsDirectoryAt m (parent_path w)) (one_touched p q t) (free_entry m h.0 h.1 p node rights h.2).1
     at_touched (DeleteDirEntry p kind) h t is = absurd (not_both (get (remove m p) q) e (ap (get (remove m p)) (sym (one_touched p q t)) ∙ get-remove_same m p) is)
     at_touched (MoveDirEntry a b) h t is = ⊎_elim
-        (λ (one : (path_eq b q ≡ true) × (b ≡ q)). subst (λ w. IsDirectoryAt m (parent_path w)) one.1 h.1.2.1)
+        (λ (one : (path_eq b q ≡ true) × (b ≡ q)). subst (λ w. IsDirectoryAt m (parent_path w)) one.1 h.2.2.1)
         (λ (two : (path_eq b q ≡ false) × (b ≢ q)). ⊎_elim
-        (λ (from : a ≡ q). absurd (not_both (get (moved a b m) q) e (get-moved m a b q ∙ (λ i. move_look (two.0 i) (((ap (path_eq a) (sym from)) ∙ same_path a) i) (h.1.1.1 i) (get m q))) is))
+        (λ (from : a ≡ q). absurd (not_both (get (moved a b m) q) e (get-moved m a b q ∙ (λ i. move_look (two.0 i) (((ap (path_eq a) (sym from)) ∙ same_path a) i) (h.2.1.1 i) (get m q))) is))
         (λ (to : b ≡ q). absurd (two.1 to))
         (two_touched a b q t))
         (same_cases b q)
+    at_touched (LinkDirEntry p file) h t is = subst (λ w. IsDirectoryAt m (parent_path w)) (one_touched p q t) h.2.0.1
     at_touched (ChangeFileSize file size) h t is = absurd (false≢true t)
-    at_touched (WriteBlock file block at bytes) h t is = absurd (false≢true t)
+    at_touched (WriteBlock file block start at bytes) h t is = absurd (false≢true t)
     at_touched (SetAttr target rights) h t is = absurd (false≢true t)
     at_touched Say h t is = absurd (false≢true t)
 

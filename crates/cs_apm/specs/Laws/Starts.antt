@@ -32,12 +32,12 @@ start_nodes records nodes = same_map path_total path_exact (nodes_in (start_entr
     ∙ find_start q records nodes
     ∙ sym (get-from_entries path_total (zip (map (λ e. e.0) records) nodes) q))
 
-module _ (t : Trace) (m : Micros) (nested : AreNested (start_paths t)) (made : ℕ) (legal : AreLegal (start_paths t) made m.ops) where
+module _ (t : Trace) (m : Micros) (nested : AreNested (start_paths t)) (size made : ℕ) (legal : AreLegal size (start_paths t) made m.ops) where
   pub nested_start : AreNested (nodes_in (start_state t).paths)
   nested_start = subst AreNested (sym (start_nodes t.records t.nodes)) nested
 
-  pub legal_start : AreLegal (nodes_in (start_state t).paths) made m.ops
-  legal_start = subst (λ n. AreLegal n made m.ops) (sym (start_nodes t.records t.nodes)) legal
+  pub legal_start : AreLegal size (nodes_in (start_state t).paths) made m.ops
+  legal_start = subst (λ n. AreLegal size n made m.ops) (sym (start_nodes t.records t.nodes)) legal
 
   pub crash_states_are_trees : (places : List ℕ) → IsAllowed (needs_of m) (length m.ops) places → IsTree (crash_state_of t m places)
-  crash_states_are_trees places allowed = state_is_tree (start_state t) m.ops m.syncs m.profile places nested_start made legal_start allowed
+  crash_states_are_trees places allowed = state_is_tree (start_state t) m.ops m.syncs m.version places nested_start size made legal_start allowed

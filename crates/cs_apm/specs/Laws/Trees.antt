@@ -18,10 +18,10 @@ use Rattle.cs_trace.specs.declared.operation.Node.{Node}
 use Rattle.cs_trace.specs.declared.operation.Node.TheVariants as nodes
 use Rattle.cs_trace.specs.declared.operation.Rights.{Rights}
 use Rattle.cs_trace.specs.declared.operation.Target.TheVariants as targets
-use Rattle.cs_trace.specs.declared.profile.Profile.{Profile}
+use Rattle.cs_trace_lines.specs.declared.version.Version.{Version}
 use Rattle.cs_trace.specs.Operations.{AreNested, IsDirectoryAt, Paths}
 use Rattle.cs_micro.specs.declared.micro_op.MicroOp.{MicroOp}
-use Rattle.cs_micro.specs.declared.micro_op.MicroOp.TheVariants.{CreateDirEntry, DeleteDirEntry, MoveDirEntry, ChangeFileSize, WriteBlock, SetAttr, Say}
+use Rattle.cs_micro.specs.declared.micro_op.MicroOp.TheVariants.{CreateDirEntry, DeleteDirEntry, MoveDirEntry, LinkDirEntry, ChangeFileSize, WriteBlock, SetAttr, Say}
 use Rattle.cs_micro.specs.declared.sync_point.SyncPoint.{SyncPoint}
 use Rattle.cs_micro.specs.Legal.{AreLegal, made_after, paths_after}
 use Rattle.cs_apm.specs.Legal.{IsLegalThere, nodes_of}
@@ -48,17 +48,17 @@ same_first : (start : Paths) (o : MicroOp) (ops : List MicroOp) (k : ℕ) → no
 same_first start o ops zero = refl
 same_first start o ops (suc k) = ap (λ w. paths_after w (op_at ops k)) (same_first start o ops k)
 
-pub legal_at : (start : Paths) (made : ℕ) (ops : List MicroOp) → AreLegal start made ops → (k : ℕ) → k < length ops → IsLegalThere (nodes_of all start ops k) (op_at ops k)
-legal_at start made [] h k lt = absurd (omega (arith, lt))
-legal_at start made (o ∷ ops) h zero lt = (made, h.0)
-legal_at start made (o ∷ ops) h (suc k) lt = subst (λ w. IsLegalThere w (op_at ops k)) (sym (same_first start o ops k)) (legal_at (paths_after start o) (made_after made o) ops h.1 k (omega (arith, lt)))
+pub legal_at : (size : ℕ) (start : Paths) (made : ℕ) (ops : List MicroOp) → AreLegal size start made ops → (k : ℕ) → k < length ops → IsLegalThere (nodes_of all start ops k) (op_at ops k)
+legal_at size start made [] h k lt = absurd (omega (arith, lt))
+legal_at size start made (o ∷ ops) h zero lt = (size, made, h.0)
+legal_at size start made (o ∷ ops) h (suc k) lt = subst (λ w. IsLegalThere w (op_at ops k)) (sym (same_first start o ops k)) (legal_at size (paths_after start o) (made_after made o) ops h.1 k (omega (arith, lt)))
 
 -- the nodes that an allowed set leaves are nested
-pub fold_nested : (start : Paths) (made : ℕ) (ops : List MicroOp) (syncs : List SyncPoint) (profile : Profile) (places : List ℕ) → AreNested start → AreLegal start made ops
-    → IsAllowed (needs ops syncs profile) (length ops) places → AreNested (fold paths_after start (map (op_at ops) places))
-fold_nested start made ops syncs profile places nested legal allowed =
+pub fold_nested : (size : ℕ) (start : Paths) (made : ℕ) (ops : List MicroOp) (syncs : List SyncPoint) (version : Version) (places : List ℕ) → AreNested start → AreLegal size start made ops
+    → IsAllowed (needs ops syncs version) (length ops) places → AreNested (fold paths_after start (map (op_at ops) places))
+fold_nested size start made ops syncs version places nested legal allowed =
     subst AreNested (sym (members_run paths_after start ops (length ops) places allowed.ascending allowed.in_range ∙ same_run (is_member places) start ops (length ops)))
-    (set_nested ops start (is_member places) nested (legal_at start made ops legal) (allowed_has ops syncs profile (length ops) places allowed))
+    (set_nested ops start (is_member places) nested (legal_at size start made ops legal) (allowed_has ops syncs version (length ops) places allowed))
 
 -- ---- the nodes of a state's entries
 
@@ -116,8 +116,9 @@ nodes_step m (MoveDirEntry p q) = ⊎_elim
     (λ (some : (e : Entry) × (get m p ≡ Some e)). (let there = some.1 in let known : get (nodes_in m) p ≡ Some (node_of some.0) = get_nodes m p ∙ ap (option_map node_of) some.1 in
     rw (there, known) (nodes_inserted (remove m p) q some.0 ∙ ap (λ w. insert w q (node_of some.0)) (nodes_removed m p))))
     (option_cases (get m p))
+nodes_step m (LinkDirEntry p file) = nodes_inserted m p (File file)
 nodes_step m (ChangeFileSize file size) = refl
-nodes_step m (WriteBlock file block at bytes) = refl
+nodes_step m (WriteBlock file block start at bytes) = refl
 nodes_step m (SetAttr (targets.File file) rights) = refl
 nodes_step m (SetAttr (targets.Directory p) rights) = nodes_owned m p rights (get m p) refl
 nodes_step m Say = refl
@@ -180,16 +181,16 @@ module _ (owners : List Rights) (files : List Content) (m : Entries) (h : AreNes
 
 -- ---- the tree
 
-module _ (start : State) (ops : List MicroOp) (syncs : List SyncPoint) (profile : Profile) (places : List ℕ)
-    (nested : AreNested (nodes_in start.paths)) (made : ℕ) (legal : AreLegal (nodes_in start.paths) made ops)
-    (allowed : IsAllowed (needs ops syncs profile) (length ops) places) where
+module _ (start : State) (ops : List MicroOp) (syncs : List SyncPoint) (version : Version) (places : List ℕ)
+    (nested : AreNested (nodes_in start.paths)) (size made : ℕ) (legal : AreLegal size (nodes_in start.paths) made ops)
+    (allowed : IsAllowed (needs ops syncs version) (length ops) places) where
   pub paths_left : (state_of start ops places).paths ≡ fold entries_after start.paths (map (op_at ops) places)
   unfolding state_of
   paths_left = paths_fold _ (map (op_at ops) places)
 
   pub state_nested : IsNested (records_of (state_of start ops places))
   state_nested = nested_records (state_of start ops places).owners (state_of start ops places).files (state_of start ops places).paths
-      (subst AreNested (sym (ap nodes_in paths_left ∙ nodes_fold start.paths (map (op_at ops) places))) (fold_nested (nodes_in start.paths) made ops syncs profile places nested legal allowed))
+      (subst AreNested (sym (ap nodes_in paths_left ∙ nodes_fold start.paths (map (op_at ops) places))) (fold_nested size (nodes_in start.paths) made ops syncs version places nested legal allowed))
 
   pub state_is_tree : IsTree (tree_of_state (state_of start ops places))
   state_is_tree = fresh_is_tree (records_of (state_of start ops places)) state_nested

@@ -31,15 +31,17 @@ struct Note {
 impl Held for Note {
     ghost admits = { λ number tree. Unit {0} };
 
-    ghost is_fresh = { λ number tree users note. note ≡ record { number = number } };
+    ghost is_fresh = { λ key tree users note. note ≡ record { number = key.number } };
 
     fn fresh(
         _alloc: Global,
-        number: u32,
+        key: &RunKey,
         _lower: Arc<Built>,
         _users: Arc<Users>,
     ) -> Result<Note, AllocError> {
-        Ok(Note { number })
+        Ok(Note {
+            number: key.number(),
+        })
     }
 }
 

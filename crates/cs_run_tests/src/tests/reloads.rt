@@ -7,7 +7,7 @@ use cs_fids::Place;
 use cs_journal::{Pass, Run, can_grow};
 use cs_names::RunName;
 use cs_plan::{Built, Scene};
-use cs_registry::{Held, States};
+use cs_registry::{Held, RunKey, States};
 use cs_run::Answer;
 use cs_trace::read_trace;
 use cs_users::Users;
@@ -32,11 +32,11 @@ struct Own {
 impl Held for Own {
     ghost admits = { λ number tree. Unit {0} };
 
-    ghost is_fresh = { λ number tree users own. Unit {0} };
+    ghost is_fresh = { λ key tree users own. Unit {0} };
 
     fn fresh(
         alloc: Global,
-        _number: u32,
+        _key: &RunKey,
         lower: Arc<Built>,
         users: Arc<Users>,
     ) -> Result<Own, AllocError> {

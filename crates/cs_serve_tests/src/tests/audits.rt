@@ -1,12 +1,12 @@
 //! Audits of a run by the passes that the connections of a server gave back.
 use crate::tests::server::{
-    ANN_TO_X, BOB_TO_X, STAT, VERSION, WALK, served, served_at_once, server_of,
+    ANN_TO_X, BOB_TO_X, STAT, VERSION, WALK, audit, served, served_at_once, server_of,
 };
 use cs_journal::AuditFault;
 use cs_names::RunName;
 use cs_registry::RunKey;
 use cs_server::{Connection, GivenPasses, Server};
-use cs_shared::{AnyScene, AuditBy};
+use cs_shared::AnyScene;
 use std::alloc::Global;
 use std::process::Abort;
 use std::sync::Wait;
@@ -31,22 +31,30 @@ fn passes_of(
     passes
 }
 
-/// What the audit of the run `0/x` by these passes comes to.
+/// How many entries the run of that name of state 0 has, and its audit by these passes.
+fn audit_named<R: Wait + Abort>(
+    rt: &R,
+    alloc: Global,
+    server: &Server<AnyScene>,
+    passes: &GivenPasses,
+    name: &[u8],
+) -> (usize, Result<(), AuditFault>) {
+    let name = RunName::read(alloc, name).expect(rt, "a value");
+    let run = server
+        .registry()
+        .find(rt, alloc, 0, &name)
+        .expect(rt, "memory");
+    audit(rt, &run, passes.of(&RunKey::new(0, &name)))
+}
+
+/// The audit of the run `0/x` by these passes.
 fn audit_of<R: Wait + Abort>(
     rt: &R,
     alloc: Global,
     server: &Server<AnyScene>,
     passes: &GivenPasses,
 ) -> Result<(), AuditFault> {
-    let name = RunName::read(alloc, b"x").expect(rt, "a value");
-    let key = RunKey::new(0, &name);
-    let run = server
-        .registry()
-        .find(rt, alloc, 0, &name)
-        .expect(rt, "memory");
-    let passes = passes.of(&key);
-    let told: (usize, Result<(), AuditFault>) = run.inspect(rt, AuditBy { passes });
-    told.1
+    audit_named(rt, alloc, server, passes, b"x").1
 }
 
 /// Serves three streams, of which the first and the last attach to `0/x`, and looks for the audit by the
@@ -112,4 +120,22 @@ fn a_run_put_in_the_place_of_a_servers_own_is_seen(rt: HostRuntime) {
     let other = Ended::of(&rt, alloc, &BOB_WALKS);
     let audit = audit_of(&rt, alloc, &other.server, &own.passes);
     assert!(rt; audit == Err(AuditFault::Changed(3)));
+}
+
+/// An attach of ann to `0/y` as the fid 3.
+const ANN_TO_Y: &[u8] = b"\x19\0\0\0h\x01\0\x03\0\0\0\xff\xff\xff\xff\x03\0ann\x03\00/y";
+
+const STAT_Y: &[u8] = b"\x0b\0\0\0|\x02\0\x03\0\0\0";
+
+const ANN_ON_TWO_RUNS: [&[u8]; 6] = [VERSION, ANN_TO_X, ANN_TO_Y, STAT_Y, STAT, STAT_Y];
+
+#[test]
+fn a_connection_gives_back_the_passes_of_each_of_its_runs(rt: HostRuntime) {
+    let alloc = rt.alloc();
+    let mut ended = Ended::of(&rt, alloc, &BOB_STATS);
+    ended.serve(&rt, alloc, &ANN_ON_TWO_RUNS);
+    let x = audit_named(&rt, alloc, &ended.server, &ended.passes, b"x");
+    assert!(rt; x == (6, Ok(())));
+    let y = audit_named(&rt, alloc, &ended.server, &ended.passes, b"y");
+    assert!(rt; y == (3, Ok(())));
 }

@@ -25,7 +25,7 @@ pub const TRACE: &str = r#"{"trace":1,"owner":"cat","group":"staff","mode":"775"
 pub const HEADER: &str = r#"{"trace":1,"owner":"cat","group":"staff","mode":"775"}
 "#;
 
-fn scene_of(rt: &impl Abort, alloc: Global, trace: &str) -> Scene {
+pub fn scene_of(rt: &impl Abort, alloc: Global, trace: &str) -> Scene {
     let trace = read_trace(alloc, trace).expect(rt, "a value");
     Scene::of(alloc, trace, false, Vec::new(alloc)).expect(rt, "memory")
 }

@@ -6,11 +6,11 @@ use std::alloc::Global;
 use std::process::Abort;
 
 /// A connection, its user, and the run that it attaches to.
-struct Client(&'static str, &'static str, &'static str);
+pub struct Client(pub &'static str, pub &'static str, pub &'static str);
 
 /// What each connection does, one line after the other. An attach goes on with its user and its
 /// run.
-const LINES: &str = "\
+pub const LINES: &str = "\
 stat 0
 version 8192 9P2000
 auth 0 ann 0/x
@@ -50,7 +50,7 @@ stat 0
 ";
 
 /// What a connection sends by a line.
-fn sent(rt: &impl Abort, alloc: Global, client: &Client, line: &str) -> String {
+pub fn sent(rt: &impl Abort, alloc: Global, client: &Client, line: &str) -> String {
     let Client(conn, user, run) = client;
     if line == "attach 0" {
         return format!(in alloc; "{conn} {line} {user} {run}").expect(rt, "memory");

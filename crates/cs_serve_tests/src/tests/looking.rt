@@ -37,7 +37,8 @@ fn look<R: Wait>(
     looking: &AtomicU32,
     replied: &AtomicU32,
 ) -> bool {
-    run.inspect(rt, UntilReplied { looking, replied })
+    let looked: Option<bool> = run.inspect(rt, UntilReplied { looking, replied });
+    looked == Some(true)
 }
 
 const BOB_ELSEWHERE: [&[u8]; 3] = [VERSION, BOB_TO_B, STAT];

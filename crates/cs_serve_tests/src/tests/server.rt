@@ -1,10 +1,10 @@
 //! Connections over runs that they share, of a state that is published.
 
-use cs_journal::AuditFault;
+use cs_journal::{AuditFault, Pass};
 use cs_plan::Scene;
 use cs_server::{Connection, Server, serve_connection, serve_streams};
 use cs_session::{Clock, ServeFault, TwoEnded};
-use cs_shared::{AnyScene, AuditBy, NamedRun, SharedRegistry};
+use cs_shared::{AnyScene, AuditBy, SharedRegistry, SharedRun};
 use cs_trace::read_trace;
 use cs_users::Users;
 use std::alloc::Global;
@@ -150,11 +150,20 @@ pub fn server_of<R: Wait + Abort>(rt: &R, alloc: Global) -> Server<AnyScene> {
     Server::new(registry)
 }
 
-fn push_run<R: Wait + Abort>(rt: &R, text: &mut String, run: &NamedRun<AnyScene>) {
-    let told: (usize, Result<(), AuditFault>) = run.run().inspect(rt, AuditBy { passes: &[] });
-    let entries = told.0;
-    let number = run.run().number();
-    write!(text, "{number}/{} {entries}\n", run.name()).expect(rt, "memory")
+/// How many entries a run has, and its audit by these passes.
+pub fn audit<R: Wait + Abort>(
+    rt: &R,
+    run: &SharedRun<AnyScene>,
+    passes: &[Pass],
+) -> (usize, Result<(), AuditFault>) {
+    let told: Option<(usize, Result<(), AuditFault>)> = run.inspect(rt, AuditBy { passes });
+    told.expect(rt, "the run of its own number")
+}
+
+fn push_run<R: Wait + Abort>(rt: &R, text: &mut String, run: &SharedRun<AnyScene>) {
+    let (entries, _audit) = audit(rt, run, &[]);
+    let key = run.key();
+    write!(text, "{}/{} {entries}\n", key.number(), key.name()).expect(rt, "memory")
 }
 
 /// The runs' keys with their entries, a line each.
@@ -190,7 +199,7 @@ fn told_of(rt: &impl Abort, alloc: Global, connections: &[Connection<AnyScene>])
 
 const ANN: [&[u8]; 3] = [VERSION, ANN_TO_X, STAT];
 
-const BOB: [&[u8]; 3] = [VERSION, BOB_TO_X, STAT];
+const BOB: [&[u8]; 4] = [VERSION, BOB_TO_X, STAT, STAT];
 
 /// A version, and a size that no message has.
 const NOBODY: [&[u8]; 2] = [VERSION, b"\x05\0\0\0"];
@@ -219,7 +228,7 @@ pub fn served_at_once<R: thread::Threads + Wait + Sync + Abort>(
 const SERVED: &str = "\
 Ok(()) 0/x 2
 Err(FrameFault(Undersize))
-Ok(()) 0/x 2
+Ok(()) 0/x 3
 ";
 
 #[test]
@@ -229,7 +238,7 @@ fn streams_are_served_at_once_and_told_in_their_order(rt: HostRuntime) {
     let told = told_of(&rt, rt.alloc(), &connections);
     assert!(rt; told.as_str() == SERVED, "{told}");
     let runs = runs_of(&rt, rt.alloc(), &server);
-    assert!(rt; runs.as_str() == "0/x 4\n", "{runs}");
+    assert!(rt; runs.as_str() == "0/x 5\n", "{runs}");
 }
 
 fn joined(rt: &impl Abort, alloc: Global, requests: &[&[u8]]) -> Vec<u8> {

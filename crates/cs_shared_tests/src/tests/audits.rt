@@ -1,11 +1,11 @@
 //! Whether the journal of a shared run is the one that its users were answered from.
 
-use super::side::{attach, find, open, published, read, stat, walk, write};
+use super::side::{attach, audit, find, open, published, read, stat, walk, write};
 use cs_journal::{AuditFault, Pass, Run};
 use cs_permit::Call;
 use cs_plan::Built;
 use cs_run::Answer;
-use cs_shared::{AnyScene, AuditBy, Look, SharedRegistry, SharedRun};
+use cs_shared::{AnyScene, Look, SharedRegistry, SharedRun};
 use std::alloc::{AllocError, Global};
 use std::process::Abort;
 use std::sync::Wait;
@@ -84,24 +84,27 @@ impl Pair {
         }
     }
 
-    fn audit<R: Wait>(&self, rt: &R, passes: &[Pass]) -> Result<(), AuditFault> {
-        let told: (usize, Result<(), AuditFault>) = self.run.inspect(rt, AuditBy { passes });
-        told.1
+    fn audit<R: Wait + Abort>(&self, rt: &R, passes: &[Pass]) -> Result<(), AuditFault> {
+        audit(rt, &self.run, passes).1
     }
 
-    /// What the journal tells of the call at a place.
-    fn answer_at<R: Wait + Abort>(&self, rt: &R, alloc: Global, place: usize) -> Answer {
-        let answer: Result<Option<Answer>, AllocError> = self
+    /// What the journal tells of the call at a place, if there is one.
+    fn answer_at<R: Wait + Abort>(&self, rt: &R, alloc: Global, place: usize) -> Option<Answer> {
+        let answer: Option<Result<Option<Answer>, AllocError>> = self
             .run
             .inspect(rt, AnswerAt { alloc, place });
-        answer.expect(rt, "memory").expect(rt, "an answer")
+        let found: Result<Option<Answer>, AllocError> = answer.expect(
+            rt,
+            "the run of its own number",
+        );
+        found.expect(rt, "memory")
     }
 
     /// What the journal tells of the calls behind the attaches, a line each.
     fn told_again<R: Wait + Abort>(&self, rt: &R, alloc: Global) -> String {
         let mut told = String::new(alloc);
         for place in 2..4 {
-            let answer = self.answer_at(rt, alloc, place);
+            let answer = self.answer_at(rt, alloc, place).expect(rt, "an answer");
             write!(told, "{answer:?}\n").expect(rt, "memory");
         }
         told
@@ -142,8 +145,7 @@ fn no_answer_is_invented_under_the_lock(rt: HostRuntime) {
     let x = after(&rt, alloc, &registry, "x", "ann stat\nbob stat");
     let told = x.told_again(&rt, alloc);
     assert!(rt; told.as_str() == x.told.as_str(), "{told}");
-    let past: Result<Option<Answer>, AllocError> = x.run.inspect(&rt, AnswerAt { alloc, place: 4 });
-    assert!(rt; past.expect(&rt, "memory").is_none());
+    assert!(rt; x.answer_at(&rt, alloc, 4).is_none());
 }
 
 /// Whether bob reads this.

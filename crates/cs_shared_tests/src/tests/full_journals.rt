@@ -1,11 +1,11 @@
 //! A journal that two threads fill.
 
-use super::side::{attach, find, open, published, stat, walk};
-use cs_journal::{AuditFault, Pass};
+use super::side::{attach, audit, find, open, published, stat, walk};
+use cs_journal::Pass;
 use cs_names::{RuleId, UserName};
 use cs_permit::{Call, CloseCall};
 use cs_run::Answer;
-use cs_shared::{AnyScene, AuditBy, SharedRun};
+use cs_shared::{AnyScene, SharedRun};
 use std::alloc::Global;
 use std::process::Abort;
 use std::sync::Wait;
@@ -82,6 +82,5 @@ fn two_threads_fill_a_journal_up_to_a_close(rt: HostRuntime) {
     let closed = run.call(&rt, alloc, &mut ann, 4, close);
     assert!(rt; matches!(closed, Answer::Closed));
     let passes = [ann, bob];
-    let told: (usize, Result<(), AuditFault>) = run.inspect(&rt, AuditBy { passes: &passes });
-    assert!(rt; told == (65_536, Ok(())));
+    assert!(rt; audit(&rt, &run, &passes) == (65_536, Ok(())));
 }

@@ -4,8 +4,8 @@ ghost use Rattle.std.specs.Arc.{arc_value};
 ghost use Rattle.cs_shared.specs.Serving.{IsOnly, ServesAll};
 
 use cs_plan::{Built, Published, Scene};
-use cs_publish::{Gate, NoGate, PublishAllFault, publish_all, publish_into};
-use cs_registry::{Held, PublishFault};
+use cs_publish::{Gate, NoGate, PublishAllFault, publish_all, publish_own_into};
+use cs_registry::{Held, PublishFault, RunKey};
 use cs_shared::{Served, SharedRegistry};
 use cs_trace::read_trace;
 use cs_users::Users;
@@ -35,11 +35,11 @@ struct Nothing;
 impl Held for Nothing {
     ghost admits = { λ number tree. Unit {0} };
 
-    ghost is_fresh = { λ number tree users nothing. Unit {0} };
+    ghost is_fresh = { λ key tree users nothing. Unit {0} };
 
     fn fresh(
         _alloc: Global,
-        _number: u32,
+        _key: &RunKey,
         _lower: Arc<Built>,
         _users: Arc<Users>,
     ) -> Result<Nothing, AllocError> {
@@ -120,7 +120,7 @@ fn scene_of(rt: &impl Abort, alloc: Global, text: &str) -> Arc<Scene> {
     Arc::new(alloc, scene).expect(rt, "memory")
 }
 
-fn users_of(rt: &impl Abort, alloc: Global) -> Arc<Users> {
+pub fn users_of(rt: &impl Abort, alloc: Global) -> Arc<Users> {
     Arc::new(
         alloc,
         Users::read(alloc, b"1:ann::\n").expect(rt, "a value"),
@@ -128,7 +128,7 @@ fn users_of(rt: &impl Abort, alloc: Global) -> Arc<Users> {
     .expect(rt, "a value")
 }
 
-fn moved(rt: &impl Abort, alloc: Global) -> Arc<Scene> {
+pub fn moved(rt: &impl Abort, alloc: Global) -> Arc<Scene> {
     scene_of(rt, alloc, text_of(rt, alloc).as_str())
 }
 
@@ -190,7 +190,7 @@ fn publishes<S: Served, R: Threads + Wait + Sync + Abort, G: Gate>(
 )
     requires { IsOnly S.is_scene registry.now }
 {
-    assert!(rt; publish_into(rt, alloc, registry, workers, gate) == wanted);
+    assert!(rt; publish_own_into(rt, alloc, registry, workers, gate) == wanted);
 }
 
 /// A state of that scene is not published, for this fault.

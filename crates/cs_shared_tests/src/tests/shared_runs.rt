@@ -1,13 +1,13 @@
 //! Runs that users share, of a state that is published.
 
-use super::side::{F, attach, comes, find, open, published, read, registry_of, write};
-use cs_journal::{AuditFault, Pass, Run};
+use super::side::{F, attach, audit, comes, find, open, published, read, registry_of, write};
+use cs_journal::{Pass, Run};
 use cs_names::{RuleId, RunName};
 use cs_permit::{Call, StatCall};
 use cs_plan::Built;
 use cs_registry::FindFault;
 use cs_run::Answer;
-use cs_shared::{AnyScene, AuditBy, Look, NamedRun, SharedRegistry, SharedRun};
+use cs_shared::{AnyScene, Look, SharedRegistry, SharedRun};
 use std::alloc::Global;
 use std::process::Abort;
 use std::sync::Wait;
@@ -90,9 +90,10 @@ fn a_pass_calls_its_own_run_alone(rt: HostRuntime) {
 }
 
 /// Adds each run's state and name.
-fn push_runs(rt: &impl Abort, text: &mut String, runs: &[NamedRun<AnyScene>]) {
+fn push_runs(rt: &impl Abort, text: &mut String, runs: &[SharedRun<AnyScene>]) {
     for run in runs {
-        write!(text, "{} {}, ", run.run().number(), run.name()).expect(rt, "memory");
+        let key = run.key();
+        write!(text, "{} {}, ", key.number(), key.name()).expect(rt, "memory");
     }
 }
 
@@ -109,10 +110,9 @@ fn runs_are_told_by_their_names(rt: HostRuntime) {
 }
 
 /// How many entries each run has.
-fn push_entries<R: Wait + Abort>(rt: &R, text: &mut String, runs: &[NamedRun<AnyScene>]) {
+fn push_entries<R: Wait + Abort>(rt: &R, text: &mut String, runs: &[SharedRun<AnyScene>]) {
     for run in runs {
-        let told: (usize, Result<(), AuditFault>) = run.run().inspect(rt, AuditBy { passes: &[] });
-        let entries = told.0;
+        let (entries, _audit) = audit(rt, run, &[]);
         write!(text, "{entries}, ").expect(rt, "memory");
     }
 }
@@ -155,7 +155,8 @@ fn look<R: Wait>(
     looking: &AtomicBool,
     answered: &AtomicBool,
 ) -> bool {
-    run.inspect(rt, UntilAnswered { looking, answered })
+    let looked: Option<bool> = run.inspect(rt, UntilAnswered { looking, answered });
+    looked == Some(true)
 }
 
 /// Asks for a stat once the flag came.

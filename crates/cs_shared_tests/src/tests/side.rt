@@ -1,12 +1,12 @@
 //! A registry whose one state has a file, and calls on its runs.
 
 use cs_fids::Place;
-use cs_journal::Pass;
+use cs_journal::{AuditFault, Pass};
 use cs_names::{RunName, Text, Texts, UserName};
 use cs_permit::{Call, OpenCall, ReadCall, SentBytes, StatCall, WalkCall, WriteCall};
 use cs_plan::{Published, Scene};
 use cs_run::Answer;
-use cs_shared::{AnyScene, SharedRegistry, SharedRun};
+use cs_shared::{AnyScene, AuditBy, SharedRegistry, SharedRun};
 use cs_trace::read_trace;
 use cs_users::Users;
 use std::alloc::Global;
@@ -61,6 +61,16 @@ pub fn attach<R: Wait + Abort>(
         Ok((pass, Answer::Attached(_))) => pass,
         _ => panic!(rt; "another answer"),
     }
+}
+
+/// How many entries a run has, and its audit by these passes.
+pub fn audit<R: Wait + Abort>(
+    rt: &R,
+    run: &SharedRun<AnyScene>,
+    passes: &[Pass],
+) -> (usize, Result<(), AuditFault>) {
+    let told: Option<(usize, Result<(), AuditFault>)> = run.inspect(rt, AuditBy { passes });
+    told.expect(rt, "the run of its own number")
 }
 
 /// A registry whose one state is published.

@@ -30,7 +30,7 @@ fn bytes_at(rt: &impl Abort, alloc: Global, tree: &Built, path: &str) -> Vec<u8>
 }
 
 /// The file at the path has these bytes in the state of that number.
-fn has_bytes(
+pub fn has_bytes(
     rt: &impl Abort,
     alloc: Global,
     scene: &Arc<Scene>,
@@ -44,12 +44,12 @@ fn has_bytes(
 }
 
 /// So many files stand in the state of that number, the root among them.
-fn has_files(rt: &impl Abort, alloc: Global, scene: &Arc<Scene>, number: u32, count: usize) {
+pub fn has_files(rt: &impl Abort, alloc: Global, scene: &Arc<Scene>, number: u32, count: usize) {
     let state = made(rt, alloc, scene, number);
     assert!(rt; state.into_store().count() == count);
 }
 
-fn shared(rt: &impl Abort, alloc: Global, scene: Scene) -> Arc<Scene> {
+pub fn shared(rt: &impl Abort, alloc: Global, scene: Scene) -> Arc<Scene> {
     Arc::new(alloc, scene).expect(rt, "memory")
 }
 

@@ -1,6 +1,6 @@
 //! Owner, group and mode that are set, and directory operations that are kept in order.
 use super::lists::is_listed;
-use super::scenes::{fault_of, scene_of};
+use super::scenes::{HEADER, THIRD, fault_of, scene_of};
 use super::states::{lines, state_of};
 use cs_plan::{Recipe, SceneFault};
 use std::alloc::Global;
@@ -188,6 +188,19 @@ fn a_scene_of_the_other_profile_is_another(rt: HostRuntime) {
     assert!(rt; scene.plan().len() == kept.plan().len());
     assert!(rt; !scene.has_content_of(&kept));
     assert!(rt; scene.has_content_of(&again));
+}
+
+/// The same operations with the same plan are another scene in another version.
+#[test]
+fn a_scene_of_another_version_is_another(rt: HostRuntime) {
+    let alloc = rt.alloc();
+    let first = scene_of(&rt, alloc, &[HEADER, MADE_A], true, &[]);
+    let second = scene_of(&rt, alloc, &[BLOCKS, MADE_A], true, &[]);
+    let third = scene_of(&rt, alloc, &[THIRD, MADE_A], true, &[]);
+    assert!(rt; first.plan().len() == second.plan().len());
+    assert!(rt; second.plan().len() == third.plan().len());
+    assert!(rt; !first.has_content_of(&second));
+    assert!(rt; !second.has_content_of(&third));
 }
 
 /// A store makes a table, waits for it, and only then gives it to its readers and moves it to its name.

@@ -4,6 +4,10 @@ use cs_trace::{Trace, read_trace};
 use std::alloc::Global;
 use std::process::Abort;
 
+/// The header of a trace of version 3.
+pub const THIRD: &str =
+    r#"{"trace":3,"profile":"blocks","block":4096,"owner":"cat","group":"staff","mode":"775"}"#;
+
 pub const HEADER: &str = r#"{"trace":1,"owner":"cat","group":"staff","mode":"775"}"#;
 
 /// The trace that has these lines.

@@ -6,6 +6,7 @@ ghost use Rattle.cs_apm.specs.Contents.{IsSmall};
 use cs_apm::Order;
 use cs_apm::content::FileContent;
 use cs_micro::{MicroOp, Micros, break_up};
+use cs_names::limits::FILE_BYTES;
 use cs_trace::read_trace;
 use std::alloc::Global;
 use std::process::Abort;
@@ -74,19 +75,19 @@ fn a_set_has_what_its_places_need(rt: HostRuntime) {
     }
 }
 
-/// Whether a block's bytes lie in the block, and the block in the largest file.
+/// Whether written bytes lie within the largest file.
 fn is_small(op: &MicroOp) -> bool
     ensures { IsTrue result → IsSmall op.now }
 {
     match op {
         MicroOp::WriteBlock {
-            block,
+            start,
             at,
             bytes,
             ..
         } => {
             let count = bytes.as_slice().len() as u64;
-            *block < 256 && *at <= 4_096 && count <= 4_096 - *at
+            *start <= FILE_BYTES && *at <= FILE_BYTES - *start && count <= FILE_BYTES - *start - *at
         }
         _ => true,
     }

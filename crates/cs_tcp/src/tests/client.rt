@@ -43,7 +43,7 @@ const PATIENCE_SECONDS: u64 = 30;
 const ATTACHES: u32 = 100_000;
 
 /// A connection to the port, once it is there.
-fn connect<R: Net<Stream = TcpStream> + Abort>(rt: &R, port: &AtomicU64) -> TcpStream {
+pub fn connect<R: Net<Stream = TcpStream> + Abort>(rt: &R, port: &AtomicU64) -> TcpStream {
     assert!(rt; comes(|| port.load(Ordering::SeqCst) != 0));
     let port = u16::try_from(port.load(Ordering::SeqCst)).expect(rt, "a port");
     let stream = TcpStream::connect(rt, (Ipv4Addr::LOCALHOST, port)).expect(rt, "a stream");
@@ -54,7 +54,7 @@ fn connect<R: Net<Stream = TcpStream> + Abort>(rt: &R, port: &AtomicU64) -> TcpS
 }
 
 /// Sends a message, and reads its reply, from its type on.
-fn ask(alloc: Global, stream: &mut TcpStream, message: &[u8]) -> io::Result<Vec<u8>> {
+pub fn ask(alloc: Global, stream: &mut TcpStream, message: &[u8]) -> io::Result<Vec<u8>> {
     stream.write_all(message)?;
     let mut size = [0u8; 4];
     stream.read_exact(&mut size)?;
@@ -182,16 +182,20 @@ pub fn hang_up_early<R: Net<Stream = TcpStream> + Abort>(rt: &R, port: &AtomicU6
     assert!(rt; stream.read(&mut none).expect(rt, "the end") == 0);
 }
 
-/// Attaches ann, as soon as the state is published.
+/// Attaches ann to `0/x`, as soon as the state is published.
 pub fn attached_at_last<R: Net<Stream = TcpStream> + Abort>(
     rt: &R,
     alloc: Global,
     port: &AtomicU64,
 ) {
-    let mut stream = connect(rt, port);
-    granted(rt, alloc, &mut stream, VERSION);
+    let mut stream = session(rt, alloc, port);
+    attach_at_last(rt, alloc, &mut stream, ATTACH_ANN);
+}
+
+/// Asks for an attach until its state is published.
+pub fn attach_at_last(rt: &impl Abort, alloc: Global, stream: &mut TcpStream, attach: &[u8]) {
     for _ in 0..ATTACHES {
-        let reply = ask(alloc, &mut stream, ATTACH_ANN).expect(rt, "a reply");
+        let reply = ask(alloc, stream, attach).expect(rt, "a reply");
         if reply.first().copied() == Some(ATTACHED) {
             return;
         }

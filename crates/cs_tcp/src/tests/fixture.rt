@@ -35,9 +35,9 @@ pub fn comes<F: Fn() -> bool>(holds: F) -> bool
 
 /// Standard output, which tells the port once it is printed.
 #[derive(Drop)]
-struct Output<'a> {
-    text: Vec<u8>,
-    port: &'a AtomicU64,
+pub struct Output<'a> {
+    pub text: Vec<u8>,
+    pub port: &'a AtomicU64,
 }
 
 /// The port at the end of the first line.

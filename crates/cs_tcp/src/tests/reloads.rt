@@ -25,8 +25,8 @@ const ATTACH_DAN_TO_Y: &[u8] = b"\x19\0\0\0h\x01\0\0\0\0\0\xff\xff\xff\xff\x03\0
 
 const ATTACH_DAN_TO_Z: &[u8] = b"\x19\0\0\0h\x01\0\0\0\0\0\xff\xff\xff\xff\x03\0dan\x03\00/z";
 
-/// An attach of dan to `1/x`.
-const ATTACH_DAN_TO_1: &[u8] = b"\x19\0\0\0h\x01\0\0\0\0\0\xff\xff\xff\xff\x03\0dan\x03\01/x";
+/// An attach of dan to `1/x`, as the fid 2.
+const ATTACH_DAN_TO_1: &[u8] = b"\x19\0\0\0h\x01\0\x02\0\0\0\xff\xff\xff\xff\x03\0dan\x03\01/x";
 
 /// What the file becomes, None where it goes away, and what the next client then asks.
 struct Later {
@@ -142,6 +142,22 @@ const OFTEN: [Often; 3] = [
     Often("crashfs: reloads.users: cannot read\n", 1),
 ];
 
+/// What is printed of the runs, behind the line of the address.
+const RUNS: &[u8] = b"\
+run 0/x entries 6 audit ok
+run 0/y entries 6 audit ok
+run 0/z entries 4 audit ok
+run 1/x entries 1 audit ok
+";
+
+/// What follows the first line.
+fn lines_behind_the_first(text: &[u8]) -> &[u8] {
+    match text.iter().position(|byte| *byte == b'\n') {
+        Some(end) => text.get(end.saturating_add(1)..).unwrap_or(&[]),
+        None => &[],
+    }
+}
+
 /// Looks at what was answered and told while the file changed.
 fn expect_reloaded<R>(rt: &R, alloc: Global, again: bool)
 where
@@ -157,6 +173,7 @@ where
     let (told, types) = reloaded(rt, alloc, again);
     assert!(rt; types.as_slice() == b"ikkiokqiiiikoqu".as_slice());
     assert!(rt; told.status == 0);
+    assert!(rt; lines_behind_the_first(told.out.as_slice()) == RUNS);
     let err = std::str::from_utf8(told.err.as_slice()).expect(rt, "a text");
     for row in &OFTEN {
         assert_eq!(rt; err.matches(row.0).count(), row.1, "{}", row.0);

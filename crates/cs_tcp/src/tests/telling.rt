@@ -35,7 +35,7 @@ const TOLD: &str = "7 <- Tversion tag 65535 msize 8192 version \"9P2000\"
 ";
 
 #[derive(Clone, Copy)]
-struct Standing;
+pub struct Standing;
 
 impl Clock for Standing {
     fn now(&mut self) -> u32 {

@@ -5,7 +5,7 @@ ghost use Rattle.cs_shared.specs.Serving.{IsOnly, ServesAll};
 use super::fixture::{TRACE, comes, inputs_of, scene_in};
 use crate::serving::server_of;
 use cs_plan::Scene;
-use cs_publish::{Gate, publish_into};
+use cs_publish::{Gate, publish_own_into};
 use cs_shared::Served;
 use std::alloc::Global;
 use std::marker::Brand;
@@ -46,7 +46,7 @@ fn two_publish<S: Served, R: Threads + Wait + Sync + Abort>(
     let server = server_of::<S>(alloc, scene, &inputs_of(TRACE, false)).ok();
     let server = server.expect(rt, "the server");
     let registry = server.registry();
-    assert!(rt; publish_into(rt, alloc, registry, 2, gate) == Ok(2));
+    assert!(rt; publish_own_into(rt, alloc, registry, 2, gate) == Ok(2));
     assert!(rt; registry.missing(rt) == 0);
 }
 

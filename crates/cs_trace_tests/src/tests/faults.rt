@@ -143,3 +143,106 @@ pub const OPERATION_FAULTS: [Faulty; 10] = [
         ],
     },
 ];
+
+/// Operations of the third version, after a directory `/d`, a file in it and a file `/q` next to it.
+pub const LINK_FAULTS: [Faulty; 8] = [
+    Faulty {
+        kind: TraceFaultKind::Syntax,
+        lines: &[
+            r#"{"op":"link","from":"/q"}"#,
+            r#"{"op":"link","from":"/q","to":"/r","path":"/q"}"#,
+            r#"{"op":"link","from":"/q","to":"/r","note":1}"#,
+            r#"{"op":"fsync_range","path":"/q","offset":0}"#,
+            r#"{"op":"fsync_range","path":"/q","offset":0,"length":-1}"#,
+            r#"{"op":"write","path":"/q","offset":0,"bytes":"61","text":"a"}"#,
+            r#"{"op":"write","path":"/q","offset":0,"text":7}"#,
+            r#"{"op":"sync","block":512}"#,
+            r#"{"start":"link","path":"/r","from":"/q"}"#,
+        ],
+    },
+    Faulty {
+        kind: TraceFaultKind::UnknownOp,
+        lines: &[r#"{"op":"symlink","note":1}"#],
+    },
+    Faulty {
+        kind: TraceFaultKind::BadName,
+        lines: &[
+            r#"{"op":"link","from":"/","to":"/r"}"#,
+            r#"{"op":"link","from":"/s","to":"/"}"#,
+            r#"{"op":"link","from":"/q","to":"/../r"}"#,
+            r#"{"op":"fsync_range","path":"/","offset":0,"length":1}"#,
+        ],
+    },
+    Faulty {
+        kind: TraceFaultKind::Missing,
+        lines: &[
+            r#"{"op":"link","from":"/s","to":"/t/u"}"#,
+            r#"{"op":"fsync_range","path":"/s","offset":0,"length":1}"#,
+        ],
+    },
+    Faulty {
+        kind: TraceFaultKind::NotFile,
+        lines: &[
+            r#"{"op":"link","from":"/d","to":"/q"}"#,
+            r#"{"op":"fsync_range","path":"/d","offset":0,"length":1}"#,
+        ],
+    },
+    Faulty {
+        kind: TraceFaultKind::NoParent,
+        lines: &[r#"{"op":"link","from":"/q","to":"/e/q"}"#],
+    },
+    Faulty {
+        kind: TraceFaultKind::NotDir,
+        lines: &[r#"{"op":"link","from":"/q","to":"/q/r"}"#],
+    },
+    Faulty {
+        kind: TraceFaultKind::Exists,
+        lines: &[
+            r#"{"op":"link","from":"/q","to":"/d/x"}"#,
+            r#"{"op":"link","from":"/q","to":"/q"}"#,
+            r#"{"op":"link","from":"/q","to":"/d"}"#,
+        ],
+    },
+];
+
+/// Start lines of the third version, after a directory `/d` and a file `/f`.
+pub const START_LINK_FAULTS: [Faulty; 7] = [
+    Faulty {
+        kind: TraceFaultKind::Syntax,
+        lines: &[
+            r#"{"start":"link","path":"/g"}"#,
+            r#"{"start":"link","path":"/g","from":"/f","mode":"644"}"#,
+            r#"{"start":"link","path":"/g","from":"/f","note":[]}"#,
+        ],
+    },
+    Faulty {
+        kind: TraceFaultKind::BadName,
+        lines: &[
+            r#"{"start":"link","path":"/","from":"/f"}"#,
+            r#"{"start":"link","path":"/f","from":"/"}"#,
+        ],
+    },
+    Faulty {
+        kind: TraceFaultKind::Missing,
+        lines: &[r#"{"start":"link","path":"/d","from":"/e/f"}"#],
+    },
+    Faulty {
+        kind: TraceFaultKind::NotFile,
+        lines: &[r#"{"start":"link","path":"/e/g","from":"/d"}"#],
+    },
+    Faulty {
+        kind: TraceFaultKind::NoParent,
+        lines: &[r#"{"start":"link","path":"/e/g","from":"/f"}"#],
+    },
+    Faulty {
+        kind: TraceFaultKind::NotDir,
+        lines: &[r#"{"start":"link","path":"/f/g","from":"/f"}"#],
+    },
+    Faulty {
+        kind: TraceFaultKind::Exists,
+        lines: &[
+            r#"{"start":"link","path":"/d","from":"/f"}"#,
+            r#"{"start":"link","path":"/f","from":"/f"}"#,
+        ],
+    },
+];

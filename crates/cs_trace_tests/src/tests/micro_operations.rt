@@ -1,19 +1,20 @@
 //! Values from outside: traces, and what they break into.
 use super::lines::{HEADER, START};
 use cs_micro::{MicroFault, MicroOp, Micros, SyncPoint, break_up};
-use cs_trace::{Covers, Profile, Rights, read_trace};
+use cs_names::Path;
+use cs_trace::{Covers, Profile, Rights, Version, read_trace};
 use std::alloc::{AllocError, Global};
 use std::process::Abort;
 
 /// What these operations break into, behind that start.
-fn broken(rt: &impl Abort, alloc: Global, start: &str, operations: &str) -> Micros {
+pub fn broken(rt: &impl Abort, alloc: Global, start: &str, operations: &str) -> Micros {
     let text = [start, operations].join(alloc, "\n").expect(rt, "memory");
     let trace = read_trace(alloc, text.as_str()).expect(rt, "a trace");
     break_up(alloc, &trace).expect(rt, "micro-operations")
 }
 
 /// Looks at the micro-operations, a line each.
-fn are_shown(rt: &impl Abort, alloc: Global, ops: &[MicroOp], wanted: &str) {
+pub fn are_shown(rt: &impl Abort, alloc: Global, ops: &[MicroOp], wanted: &str) {
     let mut text = String::new(alloc);
     for op in ops {
         write!(text, "{op}\n").expect(rt, "memory");
@@ -60,12 +61,17 @@ fn show_sync(text: &mut String, sync: &SyncPoint) -> Result<(), AllocError> {
     match &sync.covers {
         Covers::All => write!(text, "{at} all\n"),
         Covers::File(file) => write!(text, "{at} file {file}\n"),
+        Covers::Range {
+            file,
+            offset,
+            length,
+        } => write!(text, "{at} range {file} {offset} {length}\n"),
         Covers::Directory(path) => write!(text, "{at} directory {path}\n"),
     }
 }
 
 /// Looks at the sync points, a line each.
-fn are_syncs(rt: &impl Abort, alloc: Global, syncs: &[SyncPoint], wanted: &str) {
+pub fn are_syncs(rt: &impl Abort, alloc: Global, syncs: &[SyncPoint], wanted: &str) {
     let mut text = String::new(alloc);
     for sync in syncs {
         show_sync(&mut text, sync).expect(rt, "memory");
@@ -73,11 +79,19 @@ fn are_syncs(rt: &impl Abort, alloc: Global, syncs: &[SyncPoint], wanted: &str) 
     assert_eq!(rt; text.as_str(), wanted);
 }
 
-/// Looks at the files that stand at the start, one after the other.
-fn are_starts(rt: &impl Abort, alloc: Global, micros: &Micros, wanted: &str) {
+fn show_paths(text: &mut String, paths: &[Path]) -> Result<(), AllocError> {
+    text.push_str("file")?;
+    for path in paths {
+        write!(text, " {path}")?;
+    }
+    text.push_str("\n")
+}
+
+/// Looks at the paths of each file at the start, a line for each.
+pub fn are_starts(rt: &impl Abort, alloc: Global, micros: &Micros, wanted: &str) {
     let mut text = String::new(alloc);
-    for path in micros.starts() {
-        write!(text, "{path} ").expect(rt, "memory");
+    for paths in micros.starts() {
+        show_paths(&mut text, paths).expect(rt, "memory");
     }
     assert_eq!(rt; text.as_str(), wanted);
 }
@@ -114,7 +128,7 @@ fn seven_operations_are_six_micro_operations(rt: HostRuntime) {
     are_shown(&rt, rt.alloc(), micros.ops(), SIX);
     are_beside(&rt, rt.alloc(), micros.ops(), BESIDE_SIX);
     assert_eq!(rt; micros.syncs().len(), 0);
-    are_starts(&rt, rt.alloc(), &micros, "/d/s/z /f /n ");
+    are_starts(&rt, rt.alloc(), &micros, "file /d/s/z\nfile /f\nfile /n\n");
 }
 
 /// A file is made, written with 5,000 bytes 0x61, waited for and renamed.
@@ -181,7 +195,7 @@ set_attr dir / 007 cat staff
 fn what_changes_rights_is_one_micro_operation(rt: HostRuntime) {
     let micros = broken(&rt, rt.alloc(), SECOND, SET);
     are_shown(&rt, rt.alloc(), micros.ops(), SET_MADE);
-    assert_eq!(rt; micros.profile(), Profile::Ordered);
+    assert_eq!(rt; micros.version(), Version::Second(Profile::Ordered));
 }
 
 const ENTRIES: &str = r#"{"op":"sync"}

@@ -14,7 +14,10 @@ const FIRST: &str = r#"{"trace":1,"owner":"cat","group":"staff","mode":"775"}"#;
 
 /// The profile of a header alone.
 fn profile_of(rt: &impl Abort, alloc: Global, header: &str) -> Profile {
-    read_trace(alloc, header).expect(rt, "a trace").profile()
+    read_trace(alloc, header)
+        .expect(rt, "a trace")
+        .version()
+        .profile()
 }
 
 #[test]

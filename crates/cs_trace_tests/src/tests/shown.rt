@@ -51,6 +51,11 @@ fn show_sync(text: &mut String, covers: &Covers) -> Result<(), AllocError> {
     match covers {
         Covers::All => text.push_str("sync"),
         Covers::File(file) => write!(text, "sync file {file}"),
+        Covers::Range {
+            file,
+            offset,
+            length,
+        } => write!(text, "sync range {file} {offset} {length}"),
         Covers::Directory(path) => write!(text, "sync directory {path}"),
     }
 }
@@ -59,6 +64,7 @@ fn show(text: &mut String, operation: &Operation) -> Result<(), AllocError> {
     match operation {
         Operation::Creat { path, file, rights } => show_made(text, path, *file, rights),
         Operation::Mkdir { path, rights } => show_made_directory(text, path, rights),
+        Operation::Link { path, file } => write!(text, "link {path} {file}"),
         Operation::Unlink { path } => write!(text, "unlink {path}"),
         Operation::Rmdir { path } => write!(text, "rmdir {path}"),
         Operation::Rename { from, to } => write!(text, "rename {from} {to}"),

@@ -45,7 +45,7 @@ fn show(text: &mut String, path: &Path, record: &Record) -> Result<(), AllocErro
 }
 
 /// Looks at the records of the trace's start tree.
-fn has_records(rt: &impl Abort, alloc: Global, text: &str, wanted: &str) {
+pub fn has_records(rt: &impl Abort, alloc: Global, text: &str, wanted: &str) {
     let trace = read_trace(alloc, text).expect(rt, "a trace");
     let mut shown = String::new(alloc);
     for (path, record) in trace.records() {

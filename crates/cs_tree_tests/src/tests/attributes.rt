@@ -1,7 +1,7 @@
 //! Owner, group and mode as a crash leaves them, and what a file system that orders its entries allows.
 ghost use Rattle.std.specs.Prelude.{◌≡◌, length};
 ghost use Rattle.cs_micro.specs.Legal.{AreLegal};
-ghost use Rattle.cs_micro.specs.Micros.{micros_in};
+ghost use Rattle.cs_micro.specs.Micros.{block_of_version, micros_in};
 ghost use Rattle.cs_trace.specs.Traces.{start_paths};
 
 use super::shown::same_lines;
@@ -22,7 +22,8 @@ fn state_of(
     places: &[u32],
 ) -> Option<PlainTree>
     requires broken { micros.now ≡ micros_in trace.now }
-    requires legal { AreLegal (start_paths trace.now) (length micros.now.starts) micros.now.ops }
+    requires legal { AreLegal (block_of_version trace.now.version) (start_paths trace.now)
+        (length micros.now.starts) micros.now.ops }
 {
     let order = Order::of(alloc, micros).expect(rt, "memory");
     rules_are_sentences(micros);

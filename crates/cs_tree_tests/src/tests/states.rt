@@ -1,7 +1,8 @@
 //! Crash states as lower trees.
 
-use super::runs::{BEFORE, cut_over, run_and_look};
-use super::shown::{has_numbers, same_lines};
+use super::calls::{Call, must_make};
+use super::runs::{BEFORE, cut_over, over, run_and_look};
+use super::shown::{has_bytes_from, has_numbers, same_lines};
 use super::start::shared;
 use cs_apm::Order;
 use cs_apm::laws::rules_are_sentences;
@@ -89,4 +90,23 @@ fn with_letters(rt: &impl Abort, alloc: Global) -> Arc<StateTree> {
 fn a_cut_over_a_states_file_grows_by_zeros(rt: HostRuntime) {
     let state = with_letters(&rt, rt.alloc());
     cut_over(&rt, rt.alloc(), &state);
+}
+
+/// A file with two paths.
+const LINKED: &str =
+    r#"{"trace":3,"profile":"blocks","block":4096,"owner":"cat","group":"staff","mode":"775"}
+{"start":"file","path":"/f","owner":"ann","group":"staff","mode":"644","text":"x"}
+{"start":"link","path":"/g","from":"/f"}
+"#;
+
+/// In a run the paths of one file are two files.
+#[test]
+fn a_run_writes_one_path_of_a_file_and_leaves_the_other(rt: HostRuntime) {
+    let alloc = rt.alloc();
+    let state = state_of(&rt, alloc, LINKED, &[]);
+    let mut run = over(&rt, alloc, &state);
+    must_make(&rt, alloc, &mut run, Call::Write(1, 0, b"y"), 10, "ann");
+    has_bytes_from(&rt, alloc, &run, 1, 0, b"y");
+    has_bytes_from(&rt, alloc, &run, 2, 0, b"x");
+    has_bytes_from(&rt, alloc, &*state, 1, 0, b"x");
 }

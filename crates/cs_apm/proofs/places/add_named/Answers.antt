@@ -1,4 +1,4 @@
-use Rattle.std.proofs.Common.{◌≡◌, [], ◌∷◌, ◌⊎◌, inl, inr, ⊎_elim, sym, ap, subst, arith, rules}
+use Rattle.std.proofs.Common.{◌≡◌, [], ◌∷◌, inl, inr, ⊎_elim, sym, ap, subst, arith, rules}
 use Rattle.std.specs.List.{Contains}
 use Rattle.cs_tree_model.specs.Tree.{Path}
 use Rattle.cs_micro.specs.declared.micro_op.MicroOp.{MicroOp}
@@ -45,6 +45,12 @@ returns-in_ok-add_path-in-MoveDirEntry-2-clause-only c = λ p h. ⊎_elim
     (c.add_path-in-MoveDirEntry.ensures.only p mid))
     (λ (same : c.in-MoveDirEntry.to ≡ p). inr (second c.args.op.now c.in-MoveDirEntry.from c.in-MoveDirEntry.to p (ap named c.in-MoveDirEntry.is) same))
     (c.add_path-in-MoveDirEntry-2.ensures.only p h)
+
+pub returns-in_ok-add_path-in-LinkDirEntry-clause-only : goal.returns-in_ok-add_path-in-LinkDirEntry-clause-only
+returns-in_ok-add_path-in-LinkDirEntry-clause-only c = λ p h. ⊎_elim
+    (λ (old : Contains c.args.paths.now.items p). inl old)
+    (λ (same : c.in-LinkDirEntry.path ≡ p). inr (here c.args.op.now c.in-LinkDirEntry.path p (ap named c.in-LinkDirEntry.is) same))
+    (c.add_path-in-LinkDirEntry.ensures.only p h)
 
 pub returns-in_ok-add_path-in-SetAttr-Directory-default-clause-only : goal.returns-in_ok-add_path-in-SetAttr-Directory-default-clause-only
 returns-in_ok-add_path-in-SetAttr-Directory-default-clause-only c =

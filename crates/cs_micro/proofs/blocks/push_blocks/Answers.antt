@@ -1,13 +1,16 @@
 use Rattle.std.proofs.Common.{◌≡◌, ◌++◌, ◌∷◌, [], ◌+◌, ◌-◌, ap, sym, ◌∙◌, arith, map, length, append_assoc}
 use Rattle.std.proofs.lemmas.List.FromFn.{map-range_with_len_more}
 use Rattle.std.specs.List.{range_with_len}
+use Rattle.cs_trace_lines.specs.Versions.{block_bytes}
 use Rattle.cs_micro.specs.Blocks.{block_of, block_write, block_writes}
+use Rattle.cs_micro.proofs.Divisions.{blocks_ascend}
 use Rattle.cs_micro.proofs.blocks.push_blocks.Goals as goal
 
 pub loop-block-preserved : goal.loop-block-preserved
 loop-block-preserved c =
-    let f = block_write c.args.file c.args.offset c.args.bytes.now in
-    let first = block_of c.args.offset in
+    let size = block_bytes c.args.size in
+    let f = block_write size c.args.file c.args.offset c.args.bytes.now in
+    let first = block_of size c.args.offset in
     let block = c.loop-block.block in
     let n = block - first in
     let op = c.in_ok-write_block.field-0 in
@@ -23,8 +26,10 @@ loop-block-preserved c =
 pub returns : goal.returns
 unfolding block_writes
 returns c =
-    let f = block_write c.args.file c.args.offset c.args.bytes.now in
-    let first = block_of c.args.offset in
-    let last = block_of (c.args.offset + length c.args.bytes.now - 1) in
-    let whole : c.loop-block.block - first ≡ last + 1 - first = omega (arith, c.loop-block-test.false, c.loop-block.auto.block-end) in
+    let size = block_bytes c.args.size in
+    let f = block_write size c.args.file c.args.offset c.args.bytes.now in
+    let first = block_of size c.args.offset in
+    let last = block_of size (c.args.offset + length c.args.bytes.now - 1) in
+    let ascend = blocks_ascend c.args.size c.args.offset (c.args.offset + length c.args.bytes.now - 1) (omega (arith, c.requires.some)) in
+    let whole : c.loop-block.block - first ≡ last + 1 - first = omega (arith, c.loop-block-test.false, c.loop-block.auto.block-end, ascend) in
     c.loop-block.invariant ∙ ap (λ n. c.args.ops.now.items ++ map f (range_with_len first n)) whole

@@ -4,7 +4,7 @@ use Rattle.std.specs.Prelude.{slice_get}
 use Rattle.cs_apm.specs.Atlases.{content_before}
 use Rattle.cs_state.specs.Steps.{AreFileSteps}
 use Rattle.cs_state.specs.declared.file_steps.FileSteps.{FileSteps}
-use Rattle.cs_state.proofs.Blocks.{each_more}
+use Rattle.cs_state.proofs.Pages.{each_more}
 use Rattle.cs_state.proofs.file_steps.all_steps.Goals as goal
 
 pub loop-file-preserved : goal.loop-file-preserved

@@ -4,4 +4,6 @@ use Rattle.std.proofs.lemmas.Iterator.Consumers.{count_from_yields_List}
 use Rattle.cs_trace.proofs.lines.line_count.Goals as goal
 
 pub returns : goal.returns
-returns c = count_from_yields_List c.split.result _ c.count.ensures.ran (YieldsList-from_str_split 10 c.args.text.now (lit< tt) c.split.ensures.text c.split.ensures.has_more c.split.ensures.pattern)
+returns c =
+    count_from_yields_List c.split.result _ c.count.ensures.ran
+    (YieldsList-from_str_split 10 c.args.text.now (lit< tt) c.split.ensures.text c.split.ensures.has_more c.split.ensures.pattern)

@@ -8,12 +8,12 @@ use Rattle.cs_apm.proofs.order.Order.of.Goals as goal
 
 pub returns : goal.returns
 returns c =
-    let need = needs c.ops.result.now c.syncs.result.now c.profile.result in
+    let need = needs c.ops.result.now c.syncs.result.now c.version.result in
     let n = length c.ops.result.now in
     let rows = c.in_ok-rows.rows.items in
     ap (table (bit_in rows)) c.in_ok-rows.ensures.long
     ∙ table_same (bit_in rows) need n (bits_say need n rows (record { words = [] }) c.in_ok-rows.ensures)
-    ∙ (λ w. table (needs (c.ops.ensures.value w) (c.syncs.ensures w) (c.profile.ensures w)) (length (c.ops.ensures.value w)))
+    ∙ (λ w. table (needs (c.ops.ensures.value w) (c.syncs.ensures w) (c.version.ensures w)) (length (c.ops.ensures.value w)))
 
 pub invariant_of-result : goal.invariant_of-result
 invariant_of-result c =
@@ -22,6 +22,6 @@ invariant_of-result c =
     record {
       few = subst (λ n. n ≤ 1024) (sym c.in_ok-rows.ensures.long) c.ops.ensures.few;
       same = c.in_ok-reach.ensures.long ∙ ap length same;
-      backward = rows_backward c.ops.result.now c.syncs.result.now c.profile.result rows (record { words = [] }) c.in_ok-rows.ensures;
+      backward = rows_backward c.ops.result.now c.syncs.result.now c.version.result rows (record { words = [] }) c.in_ok-rows.ensures;
       reached = subst (λ v. AreReach v c.in_ok-reach.reach.items (length v)) same c.in_ok-reach.ensures.reached;
     }

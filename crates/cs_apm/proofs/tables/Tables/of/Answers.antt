@@ -5,6 +5,8 @@ use Rattle.std.specs.Prelude.{slice_index_or}
 use Rattle.cs_tree_model.specs.Tree.{Path}
 use Rattle.cs_trace.specs.Traces.{start_paths}
 use Rattle.cs_micro.specs.Legal.{AreLegal}
+use Rattle.cs_micro.specs.Laws.Starts.{length-paths_of_files}
+use Rattle.cs_micro.specs.Micros.{block_of_version}
 use Rattle.cs_apm.specs.Atlases.{AreChanged, no_record}
 use Rattle.cs_apm.specs.Making.{FindsFiles, HasAllNamed, HasFirst, IsKnownPath}
 use Rattle.cs_apm.specs.Slots.{AreKnownSteps, AreSteps, HaveRights, Mirror, slot_at}
@@ -60,7 +62,8 @@ returns c =
     let have_all : HaveRights (length rights) slots = λ i. more_rights (length old) (length rights) (slot_at slots i) grows.long (have i) in
     let slots_long = c.in_ok-slots.ensures.long ∙ ap length c.deref.ensures.value in
     let steps_are : AreSteps rights paths m.ops steps = subst (λ ps. AreSteps rights ps m.ops steps) c.deref-2.ensures.value (subst (λ os. AreSteps rights c.deref-2.result.now os steps) ops c.in_ok-steps.ensures.steps) in
-    let legal = subst (λ n. AreLegal (start_paths t) n m.ops) (ap (λ v. length v.starts) c.requires.broken) c.requires.legal in
+    let size = block_of_version t.version in
+    let legal = subst (λ n. AreLegal size (start_paths t) n m.ops) (ap (λ v. length v.starts) c.requires.broken ∙ length-paths_of_files t.files t.links) c.requires.legal in
     let owners_are : owners ≡ owners_of t m.ops =
     c.in_ok-owners.ensures
     ∙ (λ w. map (λ place. rights_of (slice_index_or (records w) place no_record).1) (c.deref-3.ensures.value w) ++ owners_made (ops w))
@@ -74,17 +77,17 @@ returns c =
     record {
       ascending = up;
       few = subst (λ os. length paths ≤ length t.records + 2 * length os) ops (subst (λ es. length paths ≤ length es + 2 * length c.ops-ops.result.now) records c.in_ok-paths.ensures.few);
-      rooted = root_there t m.ops rights paths slots (length t.files) start nested legal named;
-      closed = λ p there. parent_there t m.ops rights paths slots (length t.files) start nested legal named sorted c.nodes-nodes.ensures.each p (known p there);
+      rooted = root_there t m.ops rights paths slots size (length t.files) start nested legal named;
+      closed = λ p there. parent_there t m.ops rights paths slots size (length t.files) start nested legal named sorted c.nodes-nodes.ensures.each p (known p there);
       long = slots_long;
       start = start;
       steps = steps_are;
       known = known_start t c.files.ensures.found rights paths slots up slots_long start have_all (length owners) (omega (arith, count));
-      known_steps = subst (λ f. AreKnownSteps (length slots) (length rights) f steps) count (known_steps (start_paths t) (length t.files) rights paths (length slots) m.ops steps slots_long legal c.in_ok-steps.ensures.there steps_are);
+      known_steps = subst (λ f. AreKnownSteps (length slots) (length rights) f steps) count (known_steps size (start_paths t) (length t.files) rights paths (length slots) m.ops steps slots_long legal c.in_ok-steps.ensures.there steps_are);
       owners = owners_are;
       starts = are_starts t c.nodes-nodes.ensures.each sorted c.files.ensures.numbered c.files.ensures.found starts long finds;
       changed = subst (λ n. AreChanged m.ops n c.in_ok-changed.changed.items) (c.len.ensures ∙ c.in_ok-owners.owners.ok.0 ∙ ap length owners_are) (subst (λ os. AreChanged os c.len.result c.in_ok-changed.changed.items) ops c.in_ok-changed.ensures);
       nested = nested;
       legal = legal;
-      small = small_steps (start_paths t) (length m.starts) m.ops c.requires.legal;
+      small = small_steps size (start_paths t) (length m.starts) m.ops c.requires.legal;
     }

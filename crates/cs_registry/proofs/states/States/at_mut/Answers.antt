@@ -1,4 +1,4 @@
-use Rattle.std.proofs.Common.{◌≡◌, ◌∙◌, refl, sym, ap}
+use Rattle.std.proofs.Common.{◌≡◌, ◌∙◌, refl, sym, ap, arith, length}
 use Rattle.indexmap.specs.Layout.{set_value_at, length-set_value_at}
 use Rattle.cs_registry.specs.Registries.{Registry}
 use Rattle.cs_registry.specs.Runs.{held_at, with_held}
@@ -8,6 +8,12 @@ use Rattle.cs_registry.specs.declared.found.Found.{Found}
 use Rattle.cs_registry.proofs.Changing.{changed}
 use Rattle.cs_registry.proofs.Keeping.{runs_kept}
 use Rattle.cs_registry.proofs.states.States.at_mut.Goals as goal
+
+pub pair_mut-run-requires : goal.pair_mut-run-requires
+pair_mut-run-requires g c =
+    let H : Type 0 = g.row.H.Denot in
+    let count = ap (λ (r : Registry H). length r.runs) c.self.view_is in
+    omega (arith, c.requires, count)
 
 pub invariant_of-self-lent : goal.invariant_of-self-lent
 invariant_of-self-lent g c w = runs_kept c.self.inside.runs.entries _ (length-set_value_at c.self.inside.runs.entries c.args.place _) c.self.invariant

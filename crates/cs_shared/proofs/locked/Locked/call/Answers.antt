@@ -1,11 +1,22 @@
-use Rattle.std.proofs.Common.{refl, inl}
-use Rattle.cs_shared.proofs.Telling.{served_after, told}
+use Rattle.std.proofs.Common.{◌≢◌, ℕ, refl, subst, inl, inr, ◌∙◌, sym, ap}
+use Rattle.cs_shared.specs.Locks.{Locked}
+use Rattle.cs_shared.proofs.Telling.{another, served_after, told, unfit}
 use Rattle.cs_shared.proofs.locked.Locked.call.Goals as goal
 
 pub invariant_of-self : goal.invariant_of-self
 invariant_of-self g c = served_after g.S.Served.serves c.self.inside.number c.self.inside.run c.step.new.self c.args.pass.now c.step.new.pass c.args.now c.args.call c.step.result c.self.invariant c.step.ensures.stepped
 
+pub returns-then-not-is_of-clause-told : goal.returns-then-not-is_of-clause-told
+returns-then-not-is_of-clause-told g c =
+    let differs : c.self.inside.number ≢ c.args.number = λ own. (let no = c.if-not-is_of.ensures.1 (sym (ap (λ (l : Locked). l.number) c.self.view_is) ∙ own) in cc) in
+    inr (inl (another g.S.Served.serves c.args.number c.self.inside.number c.self.inside.run c.self.invariant c.entries-legal.ensures.legal differs), refl, refl)
+
+pub returns-then-not-fits-clause-told : goal.returns-then-not-fits-clause-told
+returns-then-not-fits-clause-told g c =
+    inr (inr (unfit g.S.Served.serves c.args.number c.self.inside.number c.self.inside.run c.self.invariant c.entries-legal.ensures.legal (ap (λ (l : Locked). l.number) c.self.view_is ∙ c.if-not-is_of.ensures.0 refl) c.args.pass.now (λ fits. (let no = c.if-not-fits.ensures.1 fits in cc))), refl, refl)
+
 pub returns-clause-told : goal.returns-clause-told
 returns-clause-told g c =
+    let served = subst (λ (n : ℕ). g.S.Served.serves n c.self.inside.run.fresh) (ap (λ (l : Locked). l.number) c.self.view_is ∙ c.if-not-is_of.ensures.0 refl) c.self.invariant in
     inl (told g.S.Served.serves c.args.number c.self.inside.run c.step.new.self c.args.pass.now c.step.new.pass c.args.now c.args.call c.step.result
-    (rw (← c.if-self-number.false) c.self.invariant) c.step.ensures.stepped c.entries-legal.ensures.legal (c.if-not-fits.ensures.0 refl) c.step.ensures.legal c.step.ensures.fits)
+    served c.step.ensures.stepped c.entries-legal.ensures.legal (c.if-not-fits.ensures.0 refl) c.step.ensures.legal c.step.ensures.fits)

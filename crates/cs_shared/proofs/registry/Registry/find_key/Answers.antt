@@ -1,6 +1,6 @@
 use Rattle.std.proofs.Common.{◌∙◌, Some, refl, sym, ap}
 use Rattle.std.specs.Prelude.{Ok}
-use Rattle.cs_shared.proofs.Numbers.{found_number}
+use Rattle.cs_shared.proofs.Keyed.{found_key}
 use Rattle.cs_shared.proofs.Scenes.{found_of_server}
 use Rattle.cs_shared.proofs.registry.Registry.find_key.Goals as goal
 use Rattle.cs_shared.proofs.registry.Registry.find_key.Goals.{in-Ok, in-Err}
@@ -19,10 +19,10 @@ returns-clause-finds g c =
       ];
     })
 
-pub returns-clause-number : goal.returns-clause-number
-returns-clause-number g c =
+pub returns-clause-key : goal.returns-clause-key
+returns-clause-key g c =
     let left = found_of_server g.S.Served.is_scene c.self.inside.states c.find_key.new.self c.self.invariant c.args.key c.in_ok-place.place c.in_ok-place.ensures.finds in
     elim c.match-again.branch [
-      | in-Ok w ↦ rw w.result-is (w.in-Ok.ensures ∙ found_number c.find_key.new.self.runs c.in_ok-place.place left.numbered c.args.key c.at.result.now c.in_ok-place.ensures.found.here c.at.ensures)
+      | in-Ok w ↦ rw w.result-is (w.in-Ok.ensures ∙ found_key c.find_key.new.self.runs c.in_ok-place.place left.keyed c.args.key c.at.result.now c.in_ok-place.ensures.found.here c.at.ensures)
       | in-Err w ↦ rw w.result-is tt
     ]

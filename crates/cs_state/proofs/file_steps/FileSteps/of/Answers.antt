@@ -8,7 +8,7 @@ use Rattle.cs_apm.specs.Contents.{changes}
 use Rattle.cs_apm.specs.Rules.{op_at}
 use Rattle.cs_state.specs.Shares.{ids}
 use Rattle.cs_state.specs.Steps.{reaching, HasRow}
-use Rattle.cs_state.proofs.Blocks.{rows_are}
+use Rattle.cs_state.proofs.Pages.{rows_are}
 use Rattle.cs_state.proofs.Listing.{ids_are}
 use Rattle.cs_state.proofs.file_steps.FileSteps.of.Goals as goal
 
@@ -21,13 +21,13 @@ places_inside n ops places is =
 pub reaching-requires-clause-inside : goal.reaching-requires-clause-inside
 reaching-requires-clause-inside c = places_inside c.args.file c.args.ops.now c.deref-2.result.now (c.deref-2.ensures.value ∙ c.in_ok-places.ensures)
 
-pub block_rows-requires-clause-inside : goal.block_rows-requires-clause-inside
-block_rows-requires-clause-inside c = places_inside c.args.file c.args.ops.now c.deref-4.result.now (c.deref-4.ensures.value ∙ c.in_ok-places.ensures)
+pub page_rows-requires-clause-inside : goal.page_rows-requires-clause-inside
+page_rows-requires-clause-inside c = places_inside c.args.file c.args.ops.now c.deref-4.result.now (c.deref-4.ensures.value ∙ c.in_ok-places.ensures)
 
 pub returns : goal.returns
 returns c =
     let ops = c.args.ops.now in
-    let rows = get nat_cmp c.in_ok-blocks.blocks in
+    let rows = get nat_cmp c.in_ok-pages.pages in
     let s1 = c.deref.ensures.value in
     let p1 = c.deref-2.ensures.value ∙ c.in_ok-places.ensures in
     let s2 = c.deref-3.ensures.value in
@@ -35,7 +35,7 @@ returns c =
     record {
       sizes = c.in_ok-sizes-2.ensures;
       rows = rows_are c.args.file c.args.start ops c.in_ok-sizes.sizes.items c.in_ok-sizes.ensures.each rows
-          (subst (All (λ k. HasRow rows (op_at ops k))) p2 c.in_ok-blocks.ensures.written)
-          (λ block row there. c.in_ok-blocks.ensures.each block row there ∙ (λ i. reaching (s2 i) ops (p2 i) (Some block)))
+          (subst (All (λ k. HasRow rows (op_at ops k))) p2 c.in_ok-pages.ensures.written)
+          (λ page row there. c.in_ok-pages.ensures.each page row there ∙ (λ i. reaching (s2 i) ops (p2 i) (Some page)))
           c.in_ok-cuts.cuts.items (c.in_ok-cuts.ensures ∙ (λ i. reaching (s1 i) ops (p1 i) None));
     }

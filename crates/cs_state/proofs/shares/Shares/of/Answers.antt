@@ -1,6 +1,6 @@
 use Rattle.std.proofs.Common.{◌≡◌, ℕ, ◌<◌, [], List, sym, ap, ◌∙◌, subst, arith, length, get_or}
 use Rattle.std.specs.List.{All}
-use Rattle.cs_trace.specs.declared.profile.Profile.TheVariants.{Blocks}
+use Rattle.cs_trace_lines.specs.declared.version.Version.TheVariants.{First}
 use Rattle.cs_micro.specs.Micros.{Micros}
 use Rattle.cs_apm.specs.Atlases.{atlas_in}
 use Rattle.cs_apm.specs.Slots.{FitsIn}
@@ -13,7 +13,7 @@ use Rattle.cs_state.proofs.shares.Shares.of.Goals as goal
 pub marks_of-requires : goal.marks_of-requires
 marks_of-requires c =
     let tables = c.args.tables.now in
-    let m : Micros = record { ops = c.args.ops.now; syncs = []; starts = []; profile = Blocks } in
+    let m : Micros = record { ops = c.args.ops.now; syncs = []; starts = []; version = First } in
     let long : c.len.result ≡ length tables.slots.items = c.len.ensures ∙ tables.slots.ok.0 in
     subst (λ (ss : List Step). (k : ℕ) (d : Step) → k < length ss → FitsIn c.len.result (get_or ss k d)) (sym c.deref.ensures.value)
     (subst (λ n. All (FitsIn n) tables.steps.items) (sym long) (fits c.args.trace.now m (atlas_in tables) c.requires.atlas))

@@ -9,8 +9,10 @@ use Rattle.cs_trace.proofs.Spelling.{Pushed, pushed}
 use Rattle.cs_trace.proofs.near.Near.entry.Goals as goal
 
 -- the directory's text, a slash and a name
-entry_by : (text bytes near_text near_bytes rest slash name : List ℕ) (p : Path) (count : ℕ) → bytes ≡ text → near_bytes ≡ near_text → slash ≡ 47 ∷ []
-    → bytes ≡ near_bytes ++ rest → rest ≡ slash ++ name → MaySpell count near_text p → count ≢ 0 → name_in name ≡ Ok name → Pushed text p name
+entry_by : (text bytes near_text near_bytes rest slash name : List ℕ) (p : Path) (count : ℕ) → bytes ≡ text → near_bytes ≡ near_text
+    → slash ≡ 47 ∷ []
+    → bytes ≡ near_bytes ++ rest → rest ≡ slash ++ name → MaySpell count near_text p → count ≢ 0 → name_in name ≡ Ok name
+    → Pushed text p name
 entry_by text bytes near_text near_bytes rest slash name p count is near one front back may some legal =
     let spelled = may (omega (arith, some)) in
     let cut : text ≡ near_text ++ 47 ∷ name = sym is ∙ front ∙ (λ k. near k ++ (back ∙ ap (λ (s : List ℕ). s ++ name) one) k) in
@@ -21,8 +23,10 @@ count_by text name p count is entry = omega (arith, is, ap length entry.spelled,
 
 entry_of : (c : goal.In-Ok) → Pushed c.args.text.now c.self.inside.path c.in_ok-name.name.now
 entry_of c =
-    let front = strip_prefix_is Decides-eqb c.as_bytes.result.now c.as_bytes-2.result.now (Some c.in_ok-rest.rest) c.in_ok-rest.ensures.cases in
-    let back = strip_prefix_is Decides-eqb c.in_ok-rest.rest.now c.as_slice.result.now (Some c.in_ok-name.name) c.in_ok-name.ensures.cases in
+    let front = strip_prefix_is Decides-eqb c.as_bytes.result.now c.as_bytes-2.result.now
+    (Some c.in_ok-rest.rest) c.in_ok-rest.ensures.cases in
+    let back = strip_prefix_is Decides-eqb c.in_ok-rest.rest.now c.as_slice.result.now
+    (Some c.in_ok-name.name) c.in_ok-name.ensures.cases in
     entry_by c.args.text.now _ _ _ _ _ c.in_ok-name.name.now c.self.inside.path c.self.inside.count
     c.as_bytes.ensures.value c.as_bytes-2.ensures.value c.as_slice.ensures front back c.self.invariant c.if-self-eq0.false c.in-Ok.ensures.1
 
@@ -36,8 +40,10 @@ known-requires-clause-count c =
 
 pub returns-in-Ok : goal.returns-in-Ok
 returns-in-Ok c =
-    let front = strip_prefix_is Decides-eqb c.as_bytes.result.now c.as_bytes-2.result.now (Some c.in_ok-rest.rest) c.in_ok-rest.ensures.cases in
-    let back = strip_prefix_is Decides-eqb c.in_ok-rest.rest.now c.as_slice.result.now (Some c.in_ok-name.name) c.in_ok-name.ensures.cases in
+    let front = strip_prefix_is Decides-eqb c.as_bytes.result.now c.as_bytes-2.result.now
+    (Some c.in_ok-rest.rest) c.in_ok-rest.ensures.cases in
+    let back = strip_prefix_is Decides-eqb c.in_ok-rest.rest.now c.as_slice.result.now
+    (Some c.in_ok-name.name) c.in_ok-name.ensures.cases in
     let entry = entry_by c.args.text.now _ _ _ _ _ c.in_ok-name.name.now c.self.inside.path c.self.inside.count
     c.as_bytes.ensures.value c.as_bytes-2.ensures.value c.as_slice.ensures front back c.self.invariant c.if-self-eq0.false c.in-Ok.ensures.1 in
     entry.entry ∙ ap Some (sym entry.spelled ∙ sym c.known.ensures)

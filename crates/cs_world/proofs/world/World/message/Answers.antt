@@ -11,5 +11,5 @@ returns-then-awaits-clause-fits c = rw (← c.self.view_is, get_or_default c.sel
 pub returns-clause-replied : goal.returns-clause-replied
 returns-clause-replied c = λ idle. rw (← c.self.view_is) (replied c.args.now c.args.bytes.now _ _ _ _ _ _ _ (get_or_default c.self.inside.sessions.items c.args.conn _ _ (search rules) ∙ sym c.index_mut-session.ensures.value) (search rules) c.reply.ensures.replied)
 
-pub returns-clause-reachable : goal.returns-clause-reachable
-returns-clause-reachable c = rw (← c.self.view_is) (λ ok. by_message _ c.args.conn c.args.now c.requires.connection c.index_mut-session.result.now c.reply.new.self (get_or_default c.self.inside.sessions.items c.args.conn _ _ (search rules) ∙ sym c.index_mut-session.ensures.value) c.reply.new.port c.args.bytes.now _ c.reply.ensures.replied ok)
+pub returns-clause-consistent : goal.returns-clause-consistent
+returns-clause-consistent c = rw (← c.self.view_is) (λ ok. by_message _ c.args.conn c.args.now c.requires.connection c.index_mut-session.result.now c.reply.new.self (get_or_default c.self.inside.sessions.items c.args.conn _ _ (search rules) ∙ sym c.index_mut-session.ensures.value) c.reply.new.port c.args.bytes.now _ c.reply.ensures.replied ok)

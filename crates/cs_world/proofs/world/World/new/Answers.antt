@@ -1,9 +1,9 @@
 use Rattle.cs_world.proofs.Growing.{can_grow}
-use Rattle.cs_world.proofs.Reaching.{by_new}
+use Rattle.cs_world.proofs.Staying.{by_new}
 use Rattle.cs_world.proofs.world.World.new.Goals as goal
 
 pub new-requires : goal.new-requires
 new-requires c = λ state is its. can_grow state is
 
-pub returns-clause-reachable : goal.returns-clause-reachable
-returns-clause-reachable c = by_new _ _ c.in_ok-states.states c.in_ok-blanks.field-0.items c.in_ok-states.ensures c.in_ok-blanks.ensures
+pub returns-clause-consistent : goal.returns-clause-consistent
+returns-clause-consistent c = by_new _ _ c.in_ok-states.states c.in_ok-blanks.field-0.items c.in_ok-states.ensures c.in_ok-blanks.ensures

@@ -2,8 +2,8 @@ use Rattle.cs_world.proofs.Listing.{by_step}
 use Rattle.cs_world.proofs.Theorem as theorem
 use Rattle.cs_world.proofs.world.World.step.Goals as goal
 
-pub returns-clause-reachable : goal.returns-clause-reachable
-returns-clause-reachable c = λ ok. by_step c.args.self.now c.do_step.new.self c.args.step c.do_step.result c.do_step.ensures ok
+pub returns-clause-consistent : goal.returns-clause-consistent
+returns-clause-consistent c = λ ok. by_step c.args.self.now c.do_step.new.self c.args.step c.do_step.result c.do_step.ensures ok
 
 pub returns-clause-judged : goal.returns-clause-judged
 returns-clause-judged c = λ ok. theorem.by_step c.args.self.now ok c.args.step c.do_step.result c.do_step.new.self c.do_step.ensures

@@ -1,0 +1,47 @@
+-- The versions of a trace, as data.
+use Rattle.std.specs.Prelude.{ℕ, ◌==◌, Bool, false, true, Option, None, Some, if◌then◌else◌}
+use Rattle.cs_trace_lines.specs.declared.profile.Profile.{Profile}
+use Rattle.cs_trace_lines.specs.declared.profile.Profile.TheVariants.{Blocks}
+use Rattle.cs_trace_lines.specs.declared.version.BlockSize.{BlockSize}
+use Rattle.cs_trace_lines.specs.declared.version.BlockSize.TheVariants.{Bytes512, Bytes1024, Bytes2048, Bytes4096}
+use Rattle.cs_trace_lines.specs.declared.version.Version.{Version}
+use Rattle.cs_trace_lines.specs.declared.version.Version.TheVariants.{First, Second, Third}
+
+abbrev pub block_bytes : BlockSize → ℕ
+block_bytes Bytes512 = 512
+block_bytes Bytes1024 = 1024
+block_bytes Bytes2048 = 2048
+block_bytes Bytes4096 = 4096
+
+-- the block size of so many bytes
+abbrev pub block_size_of_bytes : ℕ → Option BlockSize
+block_size_of_bytes bytes =
+    if bytes == 512 then Some Bytes512
+    else (if bytes == 1024 then Some Bytes1024
+    else (if bytes == 2048 then Some Bytes2048
+    else (if bytes == 4096 then Some Bytes4096
+    else None)))
+
+-- the first version has the profile of blocks
+abbrev pub profile_of : Version → Profile
+profile_of First = Blocks
+profile_of (Second profile) = profile
+profile_of (Third profile block) = profile
+
+-- before the third version a block has 4,096 bytes
+abbrev pub block_size_of : Version → BlockSize
+block_size_of First = Bytes4096
+block_size_of (Second profile) = Bytes4096
+block_size_of (Third profile block) = block
+
+-- what was acknowledged comes before all that follows it
+abbrev pub says_first : Version → Bool
+says_first First = false
+says_first (Second profile) = false
+says_first (Third profile block) = true
+
+-- lines may have notes, links, and texts in the place of digits
+abbrev pub is_third : Version → Bool
+is_third First = false
+is_third (Second profile) = false
+is_third (Third profile block) = true

@@ -1,0 +1,68 @@
+//! The header of a trace.
+ghost use Rattle.std.specs.Prelude.{◌≡◌, option_map};
+ghost use Rattle.cs_trace_lines.specs.Faults.{IsRead};
+ghost use Rattle.cs_trace_lines.specs.Lines.{block_size_in, header_in, header_key_count, profile_in, profile_named, version_in};
+ghost use Rattle.cs_trace_lines.specs.Reading.{field_said, fields_said};
+ghost use Rattle.cs_trace_lines.specs.Said.{line_said};
+
+use crate::fault::LineFault;
+use crate::fields::{Field, Fields};
+use crate::line::Line;
+use crate::profile::Profile;
+use crate::values::{has_only, take_claims, text_of, whole_in};
+use crate::version::{BlockSize, Version};
+
+fn profile_named(name: &str) -> Option<Profile>
+    ensures { result ≡ profile_named name.now }
+{
+    match name {
+        "blocks" => Some(Profile::Blocks),
+        "ordered" => Some(Profile::Ordered),
+        _ => None,
+    }
+}
+
+fn profile_in(profile: &Option<Field>) -> Result<Profile, LineFault>
+    ensures { IsRead (λ profile. profile) (profile_in (option_map field_said profile.now)) result }
+{
+    profile_named(text_of(profile)?).ok_or(LineFault::Syntax)
+}
+
+fn block_size_in(block: &Option<Field>) -> Result<BlockSize, LineFault>
+    ensures { IsRead (λ block. block) (block_size_in (option_map field_said block.now)) result }
+{
+    BlockSize::of_bytes(whole_in(block)?).ok_or(LineFault::Syntax)
+}
+
+/// The version of a header.
+fn version_in(fields: &Fields) -> Result<Version, LineFault>
+    ensures { IsRead (λ version. version) (version_in (fields_said fields.now)) result }
+{
+    match whole_in(&fields.trace)? {
+        1 => Ok(Version::First),
+        2 => Ok(Version::Second(profile_in(&fields.profile)?)),
+        3 => Ok(Version::Third(profile_in(&fields.profile)?, block_size_in(&fields.block)?)),
+        _ => Err(LineFault::Syntax),
+    }
+}
+
+/// How many keys a header has, beside a note.
+fn header_key_count(version: Version) -> usize
+    ensures { result ≡ header_key_count version }
+{
+    match version {
+        Version::First => 4,
+        Version::Second(_) => 5,
+        Version::Third(..) => 6,
+    }
+}
+
+pub(crate) fn header_in(fields: &mut Fields) -> Result<Line, LineFault>
+    ensures { IsRead line_said (header_in (fields_said fields.old)) result }
+{
+    let version = version_in(fields)?;
+    if !has_only(version, header_key_count(version), fields) {
+        return Err(LineFault::Syntax);
+    }
+    Ok(Line::Header(version, take_claims(fields)?))
+}

@@ -1,0 +1,159 @@
+//! What a line of a trace says by itself.
+ghost use Rattle.std.specs.Prelude.{◌≡◌, IfErr, IfOk, None, Some, option_and_then};
+ghost use Rattle.serde_json.specs.Read.{read};
+ghost use Rattle.cs_trace_lines.specs.Faults.{IsRead};
+ghost use Rattle.cs_trace_lines.specs.Fields.{fields_in};
+ghost use Rattle.cs_trace_lines.specs.Lines.{is_blank, line_in, line_of};
+ghost use Rattle.cs_trace_lines.specs.Reading.{fields_said};
+ghost use Rattle.cs_trace_lines.specs.Said.{line_said};
+ghost use Rattle.cs_trace_lines.specs.declared.fault.LineFault.TheVariants.{Syntax};
+
+use crate::fault::LineFault;
+use crate::fields::Fields;
+use crate::header::header_in;
+use crate::operation::operation_in;
+use crate::start::start_line_in;
+use crate::version::Version;
+use serde_json::Value;
+use std::alloc::Global;
+
+/// What a line says. The texts in it are not yet judged as names and paths.
+#[derive(Drop)]
+pub enum Line {
+    /// The header: the version, and who has the root.
+    Header(Version, Claims),
+    /// A file or a directory at the start.
+    Start(StartLine),
+    /// One more path of a file at the start, and a path that it has.
+    StartLink { path: String, from: String },
+    Operation(OperationLine),
+    /// A start line of no known kind.
+    UnknownStart,
+    /// An operation of no known name.
+    UnknownOperation,
+}
+
+/// Owner, group and permissions as a line has them.
+#[derive(Drop)]
+pub struct Claims {
+    pub owner: String,
+    pub group: String,
+    pub permissions: u16,
+}
+
+/// A file or a directory at the start.
+#[derive(Drop)]
+pub struct StartLine {
+    pub path: String,
+    pub claims: Claims,
+    /// The bytes of a file; a directory has none.
+    pub content: Option<Vec<u8>>,
+}
+
+/// What a chmod or a chown sets.
+#[derive(Drop)]
+pub enum Change {
+    /// The permissions.
+    Mode(u16),
+    Owner { owner: String, group: String },
+}
+
+/// An operation.
+#[derive(Drop)]
+pub enum OperationLine {
+    Creat {
+        path: String,
+        claims: Claims,
+    },
+    Mkdir {
+        path: String,
+        claims: Claims,
+    },
+    Unlink {
+        path: String,
+    },
+    Rmdir {
+        path: String,
+    },
+    Rename {
+        from: String,
+        to: String,
+    },
+    /// One more path, `to`, of the file at `from`.
+    Link {
+        from: String,
+        to: String,
+    },
+    Write {
+        path: String,
+        offset: u64,
+        bytes: Vec<u8>,
+    },
+    Truncate {
+        path: String,
+        size: u64,
+    },
+    SetAttr {
+        path: String,
+        change: Change,
+    },
+    Fsync {
+        path: String,
+    },
+    /// A sync of so many bytes from the offset on.
+    FsyncRange {
+        path: String,
+        offset: u64,
+        length: u64,
+    },
+    Sync,
+    Say {
+        text: String,
+    },
+}
+
+/// Whether the line has JSON's blanks only: it is skipped, and counted.
+pub fn is_blank(line: &str) -> bool
+    ensures { result ≡ is_blank line.now }
+{
+    line.as_bytes()
+        .iter()
+        .all(|c| *c == b' ' || *c == b'\t' || *c == b'\r')
+}
+
+/// The fields of a line's object.
+fn fields_in(alloc: Global, text: &str) -> Result<Fields, LineFault>
+    ensures { IsRead fields_said (option_and_then fields_in (read text.now)) result }
+{
+    match Value::from_str(alloc, text) {
+        Ok(value) => Fields::of_value(value).ok_or(LineFault::Syntax),
+        Err(error) => {
+            if error.is_memory() {
+                return Err(LineFault::Memory);
+            }
+            Err(LineFault::Syntax)
+        }
+    }
+}
+
+/// What the line with these fields says.
+fn line_of(alloc: Global, version: Version, fields: &mut Fields) -> Result<Line, LineFault>
+    ensures { IsRead line_said (line_of version (fields_said fields.old)) result }
+{
+    match (&fields.trace, &fields.start, &fields.op) {
+        (Some(_), None, None) => header_in(fields),
+        (None, Some(_), None) => start_line_in(alloc, version, fields),
+        (None, None, Some(_)) => operation_in(alloc, version, fields),
+        _ => Err(LineFault::Syntax),
+    }
+}
+
+/// What the text of a line says in a trace of this version.
+#[tactic(auto, unfolding(crate::specs::Lines::line_in))]
+pub fn read_line(alloc: Global, version: Version, text: &str) -> Result<Line, LineFault>
+    ensures read { IfOk result (λ line. line_in version text.now ≡ Some (line_said line)) }
+    ensures fault { IfErr result (λ fault. fault ≡ Syntax → line_in version text.now ≡ None) }
+{
+    let mut fields = fields_in(alloc, text)?;
+    line_of(alloc, version, &mut fields)
+}

@@ -1,0 +1,190 @@
+//! The lines of operations. Of a known one only a write depends on the version.
+ghost use Rattle.std.specs.Prelude.{◌≡◌};
+ghost use Rattle.cs_trace_lines.specs.Faults.{IsRead};
+ghost use Rattle.cs_trace_lines.specs.Lines.{operation_in, operation_of};
+ghost use Rattle.cs_trace_lines.specs.Reading.{fields_said};
+ghost use Rattle.cs_trace_lines.specs.Said.{line_said, operation_said};
+ghost use Rattle.cs_trace_lines.specs.declared.verb.Verb.TheVariants as verb;
+ghost use Rattle.cs_trace_lines.specs.declared.version.Version.TheVariants.{First};
+
+use crate::fault::LineFault;
+use crate::fields::Fields;
+use crate::line::{Change, Line, OperationLine};
+use crate::values::{has_only, mode_in, take_claims, take_content, take_text, text_of, whole_in};
+use crate::verb::Verb;
+use crate::version::Version;
+use std::alloc::Global;
+
+fn creat(fields: &mut Fields) -> Result<OperationLine, LineFault>
+    ensures { IsRead operation_said
+        (operation_of First verb.Creat (fields_said fields.old)) result }
+{
+    Ok(OperationLine::Creat {
+        path: take_text(&mut fields.path)?,
+        claims: take_claims(fields)?,
+    })
+}
+
+fn mkdir(fields: &mut Fields) -> Result<OperationLine, LineFault>
+    ensures { IsRead operation_said
+        (operation_of First verb.Mkdir (fields_said fields.old)) result }
+{
+    Ok(OperationLine::Mkdir {
+        path: take_text(&mut fields.path)?,
+        claims: take_claims(fields)?,
+    })
+}
+
+fn unlink(fields: &mut Fields) -> Result<OperationLine, LineFault>
+    ensures { IsRead operation_said
+        (operation_of First verb.Unlink (fields_said fields.old)) result }
+{
+    Ok(OperationLine::Unlink {
+        path: take_text(&mut fields.path)?,
+    })
+}
+
+fn rmdir(fields: &mut Fields) -> Result<OperationLine, LineFault>
+    ensures { IsRead operation_said
+        (operation_of First verb.Rmdir (fields_said fields.old)) result }
+{
+    Ok(OperationLine::Rmdir {
+        path: take_text(&mut fields.path)?,
+    })
+}
+
+fn rename(fields: &mut Fields) -> Result<OperationLine, LineFault>
+    ensures { IsRead operation_said
+        (operation_of First verb.Rename (fields_said fields.old)) result }
+{
+    Ok(OperationLine::Rename {
+        from: take_text(&mut fields.from)?,
+        to: take_text(&mut fields.to)?,
+    })
+}
+
+fn link(fields: &mut Fields) -> Result<OperationLine, LineFault>
+    ensures { IsRead operation_said
+        (operation_of First verb.Link (fields_said fields.old)) result }
+{
+    Ok(OperationLine::Link {
+        from: take_text(&mut fields.from)?,
+        to: take_text(&mut fields.to)?,
+    })
+}
+
+fn write(alloc: Global, version: Version, fields: &mut Fields) -> Result<OperationLine, LineFault>
+    ensures { IsRead operation_said
+        (operation_of version verb.Write (fields_said fields.old)) result }
+{
+    Ok(OperationLine::Write {
+        path: take_text(&mut fields.path)?,
+        offset: whole_in(&fields.offset)?,
+        bytes: take_content(alloc, version, &fields.bytes, &mut fields.text)?,
+    })
+}
+
+fn truncate(fields: &mut Fields) -> Result<OperationLine, LineFault>
+    ensures { IsRead operation_said
+        (operation_of First verb.Truncate (fields_said fields.old)) result }
+{
+    Ok(OperationLine::Truncate {
+        path: take_text(&mut fields.path)?,
+        size: whole_in(&fields.length)?,
+    })
+}
+
+fn chmod(fields: &mut Fields) -> Result<OperationLine, LineFault>
+    ensures { IsRead operation_said
+        (operation_of First verb.Chmod (fields_said fields.old)) result }
+{
+    Ok(OperationLine::SetAttr {
+        path: take_text(&mut fields.path)?,
+        change: Change::Mode(mode_in(&fields.mode)?),
+    })
+}
+
+fn chown(fields: &mut Fields) -> Result<OperationLine, LineFault>
+    ensures { IsRead operation_said
+        (operation_of First verb.Chown (fields_said fields.old)) result }
+{
+    Ok(OperationLine::SetAttr {
+        path: take_text(&mut fields.path)?,
+        change: Change::Owner {
+            owner: take_text(&mut fields.owner)?,
+            group: take_text(&mut fields.group)?,
+        },
+    })
+}
+
+fn fsync(fields: &mut Fields) -> Result<OperationLine, LineFault>
+    ensures { IsRead operation_said
+        (operation_of First verb.Fsync (fields_said fields.old)) result }
+{
+    Ok(OperationLine::Fsync {
+        path: take_text(&mut fields.path)?,
+    })
+}
+
+fn fsync_range(fields: &mut Fields) -> Result<OperationLine, LineFault>
+    ensures { IsRead operation_said
+        (operation_of First verb.FsyncRange (fields_said fields.old)) result }
+{
+    Ok(OperationLine::FsyncRange {
+        path: take_text(&mut fields.path)?,
+        offset: whole_in(&fields.offset)?,
+        length: whole_in(&fields.length)?,
+    })
+}
+
+fn say(fields: &mut Fields) -> Result<OperationLine, LineFault>
+    ensures { IsRead operation_said
+        (operation_of First verb.Say (fields_said fields.old)) result }
+{
+    Ok(OperationLine::Say {
+        text: take_text(&mut fields.text)?,
+    })
+}
+
+/// What the operation has under its keys.
+fn operation_of(
+    alloc: Global,
+    version: Version,
+    verb: Verb,
+    fields: &mut Fields,
+) -> Result<OperationLine, LineFault>
+    ensures { IsRead operation_said (operation_of version verb (fields_said fields.old)) result }
+{
+    match verb {
+        Verb::Creat => creat(fields),
+        Verb::Mkdir => mkdir(fields),
+        Verb::Unlink => unlink(fields),
+        Verb::Rmdir => rmdir(fields),
+        Verb::Rename => rename(fields),
+        Verb::Link => link(fields),
+        Verb::Write => write(alloc, version, fields),
+        Verb::Truncate => truncate(fields),
+        Verb::Chmod => chmod(fields),
+        Verb::Chown => chown(fields),
+        Verb::Fsync => fsync(fields),
+        Verb::FsyncRange => fsync_range(fields),
+        Verb::Sync => Ok(OperationLine::Sync),
+        Verb::Say => say(fields),
+    }
+}
+
+pub(crate) fn operation_in(
+    alloc: Global,
+    version: Version,
+    fields: &mut Fields,
+) -> Result<Line, LineFault>
+    ensures { IsRead line_said (operation_in version (fields_said fields.old)) result }
+{
+    let Some(verb) = Verb::of(version, text_of(&fields.op)?) else {
+        return Ok(Line::UnknownOperation);
+    };
+    if !has_only(version, verb.key_count(), fields) {
+        return Err(LineFault::Syntax);
+    }
+    Ok(Line::Operation(operation_of(alloc, version, verb, fields)?))
+}

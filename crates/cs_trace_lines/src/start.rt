@@ -1,0 +1,108 @@
+//! The lines of what is there at the start.
+ghost use Rattle.std.specs.Prelude.{◌≡◌, option_map};
+ghost use Rattle.cs_trace_lines.specs.Faults.{IsRead};
+ghost use Rattle.cs_trace_lines.specs.Lines.{kind_in, start_key_count, start_line_in, start_under, start_with};
+ghost use Rattle.cs_trace_lines.specs.Reading.{fields_said};
+ghost use Rattle.cs_trace_lines.specs.Said.{line_said};
+ghost use Rattle.cs_trace_lines.specs.declared.start.StartKind.TheVariants.{File, Link};
+ghost use Rattle.cs_trace_lines.specs.declared.version.Version.TheVariants.{First};
+
+use crate::fault::LineFault;
+use crate::fields::Fields;
+use crate::line::{Line, StartLine};
+use crate::values::{has_only, take_claims, take_content, take_text, text_of};
+use crate::version::Version;
+use std::alloc::Global;
+
+/// What a line with `start` adds.
+#[derive(Clone, Copy, Debug, PartialEq, Eq)]
+pub(crate) enum StartKind {
+    Directory,
+    File,
+    Link,
+}
+
+impl StartKind {
+    /// The kind of this name in a trace of this version.
+    fn of(version: Version, name: &str) -> Option<StartKind>
+        ensures { result ≡ kind_in version name.now }
+    {
+        match name {
+            "dir" => Some(StartKind::Directory),
+            "file" => Some(StartKind::File),
+            "link" if version.is_third() => Some(StartKind::Link),
+            _ => None,
+        }
+    }
+
+    /// How many keys its line has beside a note, `start` among them.
+    fn key_count(self) -> usize
+        ensures { result ≡ start_key_count self }
+    {
+        match self {
+            StartKind::Link => 3,
+            StartKind::Directory => 5,
+            StartKind::File => 6,
+        }
+    }
+}
+
+/// A file with these bytes, or a directory.
+fn start_with(fields: &mut Fields, content: Option<Vec<u8>>) -> Result<Line, LineFault>
+    ensures { IsRead line_said
+        (start_with (fields_said fields.old) (option_map (λ bytes. bytes.items) content)) result }
+{
+    Ok(Line::Start(StartLine {
+        path: take_text(&mut fields.path)?,
+        claims: take_claims(fields)?,
+        content,
+    }))
+}
+
+fn file(alloc: Global, version: Version, fields: &mut Fields) -> Result<Line, LineFault>
+    ensures { IsRead line_said (start_under version (fields_said fields.old) File) result }
+{
+    let bytes = take_content(alloc, version, &fields.bytes, &mut fields.text)?;
+    start_with(fields, Some(bytes))
+}
+
+fn link(fields: &mut Fields) -> Result<Line, LineFault>
+    ensures { IsRead line_said (start_under First (fields_said fields.old) Link) result }
+{
+    Ok(Line::StartLink {
+        path: take_text(&mut fields.path)?,
+        from: take_text(&mut fields.from)?,
+    })
+}
+
+/// What a line of this kind has under its keys.
+fn start_of(
+    alloc: Global,
+    version: Version,
+    kind: StartKind,
+    fields: &mut Fields,
+) -> Result<Line, LineFault>
+    ensures { IsRead line_said (start_under version (fields_said fields.old) kind) result }
+{
+    match kind {
+        StartKind::Directory => start_with(fields, None),
+        StartKind::File => file(alloc, version, fields),
+        StartKind::Link => link(fields),
+    }
+}
+
+pub(crate) fn start_line_in(
+    alloc: Global,
+    version: Version,
+    fields: &mut Fields,
+) -> Result<Line, LineFault>
+    ensures { IsRead line_said (start_line_in version (fields_said fields.old)) result }
+{
+    let Some(kind) = StartKind::of(version, text_of(&fields.start)?) else {
+        return Ok(Line::UnknownStart);
+    };
+    if !has_only(version, kind.key_count(), fields) {
+        return Err(LineFault::Syntax);
+    }
+    start_of(alloc, version, kind, fields)
+}

@@ -1,0 +1,131 @@
+//! What the values of a line's keys say.
+ghost use Rattle.std.specs.Prelude.{◌≡◌, None, option_map};
+ghost use Rattle.std.specs.String.{string_bytes};
+ghost use Rattle.cs_trace_lines.specs.Faults.{IsRead};
+ghost use Rattle.cs_trace_lines.specs.Lines.{bytes_in, claims_in, content_by, has_only, is_octal, may_note, mode_in, permissions_in, text_in, whole_in};
+ghost use Rattle.cs_trace_lines.specs.Reading.{field_said, fields_said};
+ghost use Rattle.cs_trace_lines.specs.Said.{claims_of};
+
+use crate::fault::LineFault;
+use crate::fields::{Field, Fields};
+use crate::line::Claims;
+use crate::version::Version;
+use hex::FromHexError;
+use std::alloc::Global;
+
+/// The text of a field, lent.
+pub(crate) fn text_of(field: &Option<Field>) -> Result<&str, LineFault>
+    ensures { IsRead (λ text. text.now) (text_in (option_map field_said field.now)) result }
+{
+    match field {
+        Some(Field::Text(text)) => Ok(text.as_str()),
+        _ => Err(LineFault::Syntax),
+    }
+}
+
+/// Takes the text of a field.
+pub(crate) fn take_text(field: &mut Option<Field>) -> Result<String, LineFault>
+    ensures { IsRead string_bytes (text_in (option_map field_said field.old)) result }
+{
+    match field.take() {
+        Some(Field::Text(text)) => Ok(text),
+        _ => Err(LineFault::Syntax),
+    }
+}
+
+/// The whole number of a field.
+pub(crate) fn whole_in(field: &Option<Field>) -> Result<u64, LineFault>
+    ensures { IsRead (λ n. n) (whole_in (option_map field_said field.now)) result }
+{
+    match field {
+        Some(Field::Number(number)) => number.as_u64().ok_or(LineFault::Syntax),
+        _ => Err(LineFault::Syntax),
+    }
+}
+
+fn is_octal(digit: u8) -> bool
+    ensures { result ≡ is_octal digit }
+{
+    digit >= b'0' && digit <= b'7'
+}
+
+/// The permissions that three octal digits spell.
+fn permissions_in(text: &str) -> Option<u16>
+    ensures { result ≡ permissions_in text.now }
+{
+    let [a, b, c] = text.as_bytes() else {
+        return None;
+    };
+    if !(is_octal(*a) && is_octal(*b) && is_octal(*c)) {
+        return None;
+    }
+    Some(u16::from(*a - b'0') * 64 + u16::from(*b - b'0') * 8 + u16::from(*c - b'0'))
+}
+
+/// The permissions of a mode.
+pub(crate) fn mode_in(mode: &Option<Field>) -> Result<u16, LineFault>
+    ensures { IsRead (λ n. n) (mode_in (option_map field_said mode.now)) result }
+{
+    permissions_in(text_of(mode)?).ok_or(LineFault::Syntax)
+}
+
+/// Takes owner, group and mode.
+pub(crate) fn take_claims(fields: &mut Fields) -> Result<Claims, LineFault>
+    ensures { IsRead claims_of (claims_in (fields_said fields.old)) result }
+{
+    Ok(Claims {
+        owner: take_text(&mut fields.owner)?,
+        group: take_text(&mut fields.group)?,
+        permissions: mode_in(&fields.mode)?,
+    })
+}
+
+/// The bytes that hexadecimal digits of either case spell.
+fn bytes_in(alloc: Global, field: &Option<Field>) -> Result<Vec<u8>, LineFault>
+    ensures { IsRead (λ bytes. bytes.items) (bytes_in (option_map field_said field.now)) result }
+{
+    let digits = text_of(field)?;
+    match hex::decode(alloc, digits) {
+        Ok(bytes) => Ok(bytes),
+        Err(FromHexError::OutOfMemory) => Err(LineFault::Memory),
+        Err(_) => Err(LineFault::Syntax),
+    }
+}
+
+/// Takes the bytes under one of two keys: digits, or a text if the version has them.
+pub(crate) fn take_content(
+    alloc: Global,
+    version: Version,
+    digits: &Option<Field>,
+    text: &mut Option<Field>,
+) -> Result<Vec<u8>, LineFault>
+    ensures { IsRead (λ bytes. bytes.items)
+        (content_by version (option_map field_said digits.now) (option_map field_said text.old))
+        result }
+{
+    if digits.is_some() {
+        return bytes_in(alloc, digits);
+    }
+    if !version.is_third() {
+        return Err(LineFault::Syntax);
+    }
+    Ok(take_text(text)?.into_bytes())
+}
+
+/// Whether a note is a text, in a version that has notes.
+fn may_note(version: Version, note: &Option<Field>) -> bool
+    ensures { result ≡ may_note version (option_map field_said note.now) }
+{
+    match note {
+        None => true,
+        Some(Field::Text(_)) => version.is_third(),
+        Some(_) => false,
+    }
+}
+
+/// Whether there are exactly so many keys, beside a note.
+pub(crate) fn has_only(version: Version, count: usize, fields: &Fields) -> bool
+    ensures { result ≡ has_only version count (fields_said fields.now) }
+{
+    fields.has_keys(count) && may_note(version, &fields.note)
+}

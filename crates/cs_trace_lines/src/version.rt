@@ -1,0 +1,86 @@
+//! The version of a trace, which its header says.
+ghost use Rattle.std.specs.Prelude.{◌≡◌};
+ghost use Rattle.cs_trace_lines.specs.Versions.{block_bytes, block_size_of, block_size_of_bytes, is_third, profile_of, says_first};
+
+use crate::profile::Profile;
+
+/// How many bytes a block has.
+#[derive(Clone, Copy, Debug, PartialEq, Eq)]
+pub enum BlockSize {
+    Bytes512,
+    Bytes1024,
+    Bytes2048,
+    Bytes4096,
+}
+
+impl BlockSize {
+    pub fn bytes(self) -> u64
+        ensures { result ≡ block_bytes self }
+    {
+        match self {
+            BlockSize::Bytes512 => 512,
+            BlockSize::Bytes1024 => 1024,
+            BlockSize::Bytes2048 => 2048,
+            BlockSize::Bytes4096 => 4096,
+        }
+    }
+
+    /// The size of so many bytes, if blocks may have it.
+    pub(crate) fn of_bytes(bytes: u64) -> Option<BlockSize>
+        ensures { result ≡ block_size_of_bytes bytes }
+    {
+        match bytes {
+            512 => Some(BlockSize::Bytes512),
+            1024 => Some(BlockSize::Bytes1024),
+            2048 => Some(BlockSize::Bytes2048),
+            4096 => Some(BlockSize::Bytes4096),
+            _ => None,
+        }
+    }
+}
+
+/// Which form the lines of a trace have, and which rules order its operations.
+#[derive(Clone, Copy, Debug, PartialEq, Eq)]
+pub enum Version {
+    First,
+    /// With `chmod` and `chown`, on a file system of that profile.
+    Second(Profile),
+    /// With links, syncs of a range, notes and texts, and blocks of that size. What was acknowledged
+    /// comes before all that follows it.
+    Third(Profile, BlockSize),
+}
+
+impl Version {
+    /// The profile of the file system: the first version has `blocks` only.
+    pub fn profile(self) -> Profile
+        ensures { result ≡ profile_of self }
+    {
+        match self {
+            Version::First => Profile::Blocks,
+            Version::Second(profile) | Version::Third(profile, _) => profile,
+        }
+    }
+
+    /// The size of a block: 4,096 bytes before the third version.
+    pub fn block_size(self) -> BlockSize
+        ensures { result ≡ block_size_of self }
+    {
+        match self {
+            Version::First | Version::Second(_) => BlockSize::Bytes4096,
+            Version::Third(_, block) => block,
+        }
+    }
+
+    /// Whether what was acknowledged comes before all that follows it.
+    pub fn says_first(self) -> bool
+        ensures { result ≡ says_first self }
+    {
+        self.is_third()
+    }
+
+    pub(crate) fn is_third(self) -> bool
+        ensures { result ≡ is_third self }
+    {
+        matches!(self, Version::Third(..))
+    }
+}
