@@ -14,11 +14,17 @@ CURRENT_DIRECTORY = -100
 
 @dataclass(frozen=True)
 class Descriptor:
-    """A descriptor's number, the path that strace shows for it, and whether that is unlinked."""
+    """A descriptor's number, what strace shows for it, as a path or `pipe:[7]`, and whether that
+    is unlinked."""
 
     number: int
-    path: Optional[str]
+    text: Optional[str]
     deleted: bool
+
+    @property
+    def path(self) -> Optional[str]:
+        """The path; None for a socket, a pipe and such."""
+        return self.text if self.text is not None and self.text.startswith('/') else None
 
 
 def split(text: str) -> List[str]:
@@ -55,12 +61,15 @@ def path(word: str) -> Optional[str]:
     return None if raw is None else raw.decode('utf-8', 'surrogateescape')
 
 
-def shown_path(text: Optional[str]) -> Optional[str]:
-    """The path between `<` and `>` behind a descriptor; None for a socket, a pipe and such."""
+def shown_text(text: Optional[str]) -> Optional[str]:
+    """What is between `<` and `>` after a descriptor."""
     if not text or not text.startswith('\\x'):
-        return None
-    shown = from_numbers(text).decode('utf-8', 'surrogateescape')
-    return shown if shown.startswith('/') else None
+        return text
+    return from_numbers(text).decode('utf-8', 'surrogateescape')
+
+
+def shown_path(text: Optional[str]) -> Optional[str]:
+    return Descriptor(-1, shown_text(text), False).path
 
 
 def integer(word: str) -> int:
@@ -73,7 +82,7 @@ def descriptor(word: str) -> Descriptor:
     if not match:
         return Descriptor(-1, None, False)
     number = CURRENT_DIRECTORY if match[1] == 'AT_FDCWD' else integer(match[1])
-    return Descriptor(number, shown_path(match[2]), bool(match[3]))
+    return Descriptor(number, shown_text(match[2]), bool(match[3]))
 
 
 def vector(word: str) -> Optional[bytes]:
@@ -81,6 +90,17 @@ def vector(word: str) -> Optional[bytes]:
     pieces = [b'' if text == 'NULL' else data(text) for text in PIECE.findall(word)]
     whole = [piece for piece in pieces if piece is not None]
     return b''.join(whole) if len(whole) == len(pieces) else None
+
+
+def vectors(word: str) -> Optional[bytes]:
+    """The bytes of sendmmsg's messages, each as far as it was sent, or None where one is cut."""
+    found = b''
+    for one in word.split('msg_hdr=')[1:]:
+        data, sent = vector(one), re.search(r'msg_len=(\d+)', one)
+        if data is None or sent is None:
+            return None
+        found += data[:int(sent[1])]
+    return found
 
 
 def offset_cell(word: str) -> Optional[int]:

@@ -17,7 +17,7 @@ PERMISSIONS = 0o777
 
 
 def chmod(session: Session, process: Process, call: Call) -> None:
-    mode_set(session, session.tree.get(session.path(process, call, 0)), call.word(1))
+    mode_set(session, session.node(process, call, 0), call.word(1))
 
 
 def fchmod(session: Session, process: Process, call: Call) -> None:
@@ -26,22 +26,24 @@ def fchmod(session: Session, process: Process, call: Call) -> None:
 
 
 def fchmodat(session: Session, process: Process, call: Call) -> None:
-    mode_set(session, session.tree.get(session.path_at(process, call, 0)), call.word(2))
+    mode_set(session, session.node_at(process, call, 0), call.word(2))
 
 
 def mode_set(session: Session, node: Optional[Node], word: str) -> None:
+    mode = int(word, 8)
+    if node is not None:
+        node.mode = mode & PERMISSIONS
     path = told_path(node)
     if path is None:
         return
-    mode = int(word, 8)
     if mode & ~PERMISSIONS:
-        session.trouble(f'it gets the mode bits {mode & ~PERMISSIONS:o}, beyond 777', path)
+        session.note(f'it gets the mode bits {mode & ~PERMISSIONS:o}, beyond 777', path)
     if mode & PERMISSIONS != session.told.entries[path].mode:
         session.tell(Chmod(path, mode & PERMISSIONS))
 
 
 def chown(session: Session, process: Process, call: Call) -> None:
-    node = session.tree.get(session.path(process, call, 0))
+    node = session.node(process, call, 0)
     owner_set(session, node, call.word(1), call.word(2))
 
 
@@ -51,7 +53,7 @@ def fchown(session: Session, process: Process, call: Call) -> None:
 
 
 def fchownat(session: Session, process: Process, call: Call) -> None:
-    node = session.tree.get(session.path_at(process, call, 0))
+    node = session.node_at(process, call, 0)
     owner_set(session, node, call.word(2), call.word(3))
 
 
@@ -71,6 +73,15 @@ def told_path(node: Optional[Node]) -> Optional[str]:
     return node.told_path if node is not None and node.names else None
 
 
+def attribute(session: Session, process: Process, call: Call) -> None:
+    """Extended attributes, which no trace has."""
+    named = call.name.startswith('f')
+    file = session.open_file(process, call) if named else None
+    path = told_path(file.node if file else None if named else session.node(process, call, 0))
+    if path is not None:
+        session.note('its extended attributes change, which no trace has', path)
+
+
 HANDLERS = {
     'chmod': chmod,
     'fchmod': fchmod,
@@ -80,4 +91,9 @@ HANDLERS = {
     'lchown': chown,
     'fchown': fchown,
     'fchownat': fchownat,
+    'chown32': chown,
+    'lchown32': chown,
+    'fchown32': fchown,
+    **{f'{kind}{name}': attribute for kind in ('', 'l', 'f')
+       for name in ('setxattr', 'removexattr')},
 }

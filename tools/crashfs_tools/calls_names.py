@@ -8,7 +8,7 @@ from .live import Node
 from .processes import Process
 from .session import Session
 from .strace_log import Call
-from .trace import Rename, Rmdir, Unlink
+from .trace import Link, Rename, Rmdir, Unlink
 from .tree import parent_of
 
 
@@ -29,32 +29,35 @@ def unlinkat(session: Session, process: Process, call: Call) -> None:
 
 
 def unlinked(session: Session, path: Optional[str]) -> None:
-    """A name that goes. Where the file has another by a link, the trace has that as a rename."""
+    """A name that goes. A file that has another which the trace lacks is renamed to that."""
     if path is None or path not in session.tree.nodes:
         return
     node = session.tree.remove(path)
-    if node.told_path != path:
-        if node.names and node.told_path is not None:
+    if path not in node.told:
+        if node.names and node.told:
             session.trouble('a hard link was made, and removed again', path)
-    elif node.names:
+        return
+    node.told.discard(path)
+    if node.names and not node.told:
         take_name(session, node, path, node.name)
     else:
         session.tell(Unlink(path))
-        node.told_path = None
 
 
 def take_name(session: Session, node: Node, source: str, target: str) -> None:
     """The trace has a file at source; from here on at target."""
-    node.told_path = target if session.tell(Rename(source, target)) else None
+    node.told.discard(source)
+    if session.tell(Rename(source, target)):
+        node.told.add(target)
 
 
 def removed(session: Session, path: Optional[str]) -> None:
     if path is None or path not in session.tree.nodes:
         return
     node = session.tree.remove(path)
-    if node.told_path == path:
+    if path in node.told:
         session.tell(Rmdir(path))
-        node.told_path = None
+        node.told.discard(path)
 
 
 def mkdir(session: Session, process: Process, call: Call) -> None:
@@ -84,6 +87,8 @@ def moved(session: Session, source: Optional[str], target: Optional[str], flags:
     if source is None and target is None:
         return
     node = session.tree.get(source)
+    if source is not None and 'RENAME_WHITEOUT' in flags:
+        session.trouble('RENAME_WHITEOUT left a device', source)
     if source is None or node is None:
         comes_in(session, target)
     elif target is None:
@@ -116,9 +121,9 @@ def goes_out(session: Session, source: str, node: Node) -> None:
 
 
 def leave(session: Session, path: str) -> None:
-    """What stands at a path and below it has gone, and the trace keeps it."""
+    """What is at a path and below it has gone, and the trace keeps it."""
     for gone in [path] + session.tree.below(path):
-        session.tree.remove(gone).told_path = None
+        session.tree.remove(gone).told.discard(gone)
 
 
 def exchanged(session: Session, source: str, target: str) -> None:
@@ -129,7 +134,7 @@ def exchanged(session: Session, source: str, target: str) -> None:
         if node is not None and node.is_directory:
             leave(session, path)
         elif node is not None:
-            node.told_path = None
+            node.told.discard(path)
     one, other = session.tree.get(source), session.tree.get(target)
     if one is not None and other is not None:
         session.tree.remove(source)
@@ -144,17 +149,17 @@ def renamed(session: Session, source: str, target: str, node: Node) -> None:
     session.tree.move(source, target)
     if node.is_directory:
         directory_renamed(session, source, target)
-    elif node.told_path == source:
+    elif source in node.told:
         take_name(session, node, source, target)
-    elif node.told_path is None:
+    elif not node.told:
         session.trouble('renamed to from a file that is not in the trace', target)
 
 
 def replaced(session: Session, node: Node, path: str) -> None:
     """A file that another takes the name of."""
-    if node.told_path == path:
-        node.told_path = None
-        if node.names:
+    if path in node.told:
+        node.told.discard(path)
+        if node.names and not node.told:
             session.trouble('a file was replaced that has another name by a link', path)
 
 
@@ -163,31 +168,42 @@ def directory_renamed(session: Session, source: str, target: str) -> None:
                     'below it is left out', source)
     session.differing.add(target)
     for path in [target] + session.tree.below(target):
-        session.tree.nodes[path].told_path = None
+        session.tree.nodes[path].told.discard(source + path[len(target):])
 
 
 def link(session: Session, process: Process, call: Call) -> None:
-    linked(session, session.path(process, call, 0), session.path(process, call, 1))
+    linked(session, session.node(process, call, 0), session.path(process, call, 1))
 
 
 def linkat(session: Session, process: Process, call: Call) -> None:
-    shown = call.descriptor(0)
-    source = session.path_at(process, call, 0)
-    target = session.path_at(process, call, 2)
-    if shown.path is not None and 'AT_EMPTY_PATH' in call.word(4):
-        source = session.below(shown.path)
-    linked(session, source, target)
+    linked(session, session.node_at(process, call, 0), session.path_at(process, call, 2))
 
 
-def linked(session: Session, source: Optional[str], target: Optional[str]) -> None:
-    """A second name. It is told where the first one goes: together they are a rename."""
+def linked(session: Session, node: Optional[Node], target: Optional[str]) -> None:
+    """A second name, or the first one of a file of O_TMPFILE."""
     if target is None:
         return
-    node = session.tree.get(source)
     if node is None:
         session.trouble('a link to a file without a name, or from outside the directory', target)
-        node = Node.unknown()
-    session.tree.add(target, node)
+        session.tree.add(target, Node.unknown())
+    elif node.is_temporary and not node.names:
+        named(session, node, target)
+    else:
+        session.tree.add(target, node)
+        source = node.told_path
+        if source is not None and session.tell(Link(source, target)):
+            node.told.add(target)
+
+
+def named(session: Session, node: Node, path: str) -> None:
+    """A file of O_TMPFILE gets its first name: it is made there, with all its bytes."""
+    session.appear(path, node)
+    if node.data and path in node.told:
+        session.store(node, 0, bytes(node.data))
+    if node.was_synced:
+        session.trouble('a file of O_TMPFILE that was synced before it had this name: the trace '
+                        'has the sync after the name', path)
+        session.fsync(node)
 
 
 def symlink(session: Session, process: Process, call: Call) -> None:

@@ -14,45 +14,65 @@ from .strace_log import Call
 
 def open_call(session: Session, process: Process, call: Call) -> None:
     path = session.path(process, call, 0)
-    opened(session, process, call, path, call.word(1), call.word(2))
+    opened(session, process, call, call.word(0), path, call.word(1), call.word(2))
 
 
 def openat(session: Session, process: Process, call: Call) -> None:
     path = session.path_at(process, call, 0)
-    opened(session, process, call, path, call.word(2), call.word(3))
+    opened(session, process, call, call.word(1), path, call.word(2), call.word(3))
 
 
 def openat2(session: Session, process: Process, call: Call) -> None:
     how = call.word(2)
     mode = re.search(r'mode=(0[0-7]*)', how)
     path = session.path_at(process, call, 0)
-    opened(session, process, call, path, how, mode[1] if mode else '')
+    opened(session, process, call, call.word(1), path, how, mode[1] if mode else '')
 
 
 def creat(session: Session, process: Process, call: Call) -> None:
     path = session.path(process, call, 0)
-    opened(session, process, call, path, 'O_WRONLY|O_CREAT|O_TRUNC', call.word(1))
+    opened(session, process, call, call.word(0), path, 'O_WRONLY|O_CREAT|O_TRUNC', call.word(1))
 
 
-def opened(session: Session, process: Process, call: Call,
+def opened(session: Session, process: Process, call: Call, word: str,
            path: Optional[str], flags: str, mode: str) -> None:
-    if call.result_path is not None:
-        path = session.below(call.result_path)
-    file = None
-    if 'O_PATH' not in flags and path is not None:
+    """word is the path as the call has it."""
+    known = session.by_descriptor(process, word)
+    if known is not None and known.node is None:
+        process.descriptors.put(call.result, OpenFile(None, voice=known.voice),
+                                'O_CLOEXEC' in flags)
+        return
+    if known is not None:
+        node = reopened(session, known, flags)
+    elif call.made.text is not None and not call.made.deleted:
+        made = call.made.path and session.below(call.made.path)
+        node = opened_node(session, process, made, flags, mode)
+    else:
         node = opened_node(session, process, path, flags, mode)
-        file = None if node is None else OpenFile.of(node, flags)
+    file = None if node is None or 'O_PATH' in flags else OpenFile.of(node, flags)
     process.descriptors.put(call.result, file, 'O_CLOEXEC' in flags)
 
 
+def reopened(session: Session, known: OpenFile, flags: str) -> Optional[Node]:
+    """A file that is opened again by its descriptor, also one that has no name any more."""
+    node = known.node
+    if node is not None and 'O_TRUNC' in flags and node.size:
+        session.cut(node, 0)
+    return node
+
+
 def opened_node(session: Session, process: Process,
-                path: str, flags: str, mode: str) -> Optional[Node]:
+                path: Optional[str], flags: str, mode: str) -> Optional[Node]:
     """The file that an open gives, made or emptied as its flags say."""
+    if path is None or 'O_PATH' in flags:
+        return None
+    bits = int(mode or '0', 8) & ~process.place.umask & 0o777
     if 'O_TMPFILE' in flags:
-        return Node.unknown()
+        made = Node.file(bits)
+        made.is_temporary = True
+        return made
     node = session.tree.get(path)
     if node is None and 'O_CREAT' in flags:
-        bits = int(mode or '0', 8) & ~process.place.umask & 0o777
         made = Node.file(bits)
         session.appear(path, made)
         return made
@@ -113,4 +133,5 @@ HANDLERS = {
     'dup2': dup,
     'dup3': dup,
     'fcntl': fcntl,
+    'fcntl64': fcntl,
 }

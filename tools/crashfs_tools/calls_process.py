@@ -12,12 +12,11 @@ from .strace_log import Call
 
 def clone(session: Session, process: Process, call: Call) -> None:
     if call.result > 0 and call.result not in session.processes:
-        session.processes[call.result] = process.child(' '.join(call.words))
+        session.processes[call.result] = process.child(call)
 
 
 def execve(session: Session, process: Process, call: Call) -> None:
-    process.descriptors = process.descriptors.after_exec()
-    process.place = process.place.copy()
+    process.exec()
 
 
 def chdir(session: Session, process: Process, call: Call) -> None:

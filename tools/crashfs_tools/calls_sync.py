@@ -3,10 +3,14 @@
 from __future__ import annotations
 
 from .arguments import integer
+from .memory import Mapping, rounded
 from .processes import Process
-from .session import Mapping, Session
+from .session import Session
 from .strace_log import Call
 from .trace import Sync
+
+NOT_FOLLOWED = ('mapped for writing: what is stored through the mapping is left out '
+                '(--mapped follows it)')
 
 
 def fsync(session: Session, process: Process, call: Call) -> None:
@@ -20,7 +24,7 @@ def sync(session: Session, process: Process, call: Call) -> None:
 
 
 def syncfs(session: Session, process: Process, call: Call) -> None:
-    """The file system of some file: all of the directory, where the file stands in it."""
+    """The file system of some file: all of the directory, where the file is in it."""
     path = call.descriptor().path
     if path is not None and session.below(path) is not None:
         session.tell(Sync())
@@ -28,42 +32,55 @@ def syncfs(session: Session, process: Process, call: Call) -> None:
         session.trouble('syncfs by a file outside the directory is left out', '/')
 
 
+def sync_file_range(session: Session, process: Process, call: Call) -> None:
+    file = session.open_file(process, call)
+    if file is not None and file.node is not None and file.node.told_path is not None:
+        session.note('sync_file_range: it promises nothing of a crash, and is left out',
+                     file.node.told_path)
+
+
 def mmap(session: Session, process: Process, call: Call) -> None:
+    """Whatever was mapped at that place is mapped no more."""
+    length = rounded(integer(call.word(1)))
+    process.memory.unmap(call.result, length)
     file = process.descriptors.files.get(call.descriptor(4).number)
     if file is None or file.node is None or 'MAP_SHARED' not in call.word(3):
         return
-    session.map(Mapping(
-        address=call.result,
-        length=integer(call.word(1)),
-        node=file.node,
-        writable='PROT_WRITE' in call.word(2),
-    ))
+    process.memory.map(Mapping(call.result, length, file.node, integer(call.word(5, '0'))))
+    if 'PROT_WRITE' in call.word(2):
+        note_mapped(session, process, call.result, length)
 
 
 def munmap(session: Session, process: Process, call: Call) -> None:
-    first, length = integer(call.word(0)), integer(call.word(1))
-    session.mappings = [
-        mapping for mapping in session.mappings
-        if not first <= mapping.address < first + length
-    ]
+    process.memory.unmap(integer(call.word(0)), integer(call.word(1)))
+
+
+def mremap(session: Session, process: Process, call: Call) -> None:
+    old, old_length, new_length = [integer(call.word(place)) for place in range(3)]
+    process.memory.move(old, old_length, call.result, new_length, 'DONTUNMAP' in call.word(3))
 
 
 def mprotect(session: Session, process: Process, call: Call) -> None:
-    if 'PROT_WRITE' not in call.word(2):
+    if 'PROT_WRITE' in call.word(2):
+        note_mapped(session, process, integer(call.word(0)), integer(call.word(1)))
+
+
+def note_mapped(session: Session, process: Process, address: int, length: int) -> None:
+    """Files that stores may change: with copies of them they are told, else they can't be."""
+    if session.has_copies:
         return
-    for mapping in session.mappings:
-        if not mapping.writable and mapping.covers(integer(call.word(0))):
-            mapping.writable = True
-            session.note_mapped(mapping.node)
+    for part, _ in process.memory.parts(address, length):
+        if part.node.told_path is not None:
+            session.trouble(NOT_FOLLOWED, part.node.told_path)
 
 
 def msync(session: Session, process: Process, call: Call) -> None:
+    """A sync of just the pages that it names."""
     if 'MS_SYNC' not in call.word(2):
         return
-    address = integer(call.word(0))
-    covering = [mapping.node for mapping in session.mappings if mapping.covers(address)]
-    for node in dict.fromkeys(covering):
-        session.fsync(node)
+    length = rounded(integer(call.word(1)))
+    for part, (offset, covered) in process.memory.parts(integer(call.word(0)), length):
+        session.fsync_part(part.node, offset, covered)
 
 
 HANDLERS = {
@@ -71,8 +88,12 @@ HANDLERS = {
     'fdatasync': fsync,
     'sync': sync,
     'syncfs': syncfs,
+    'sync_file_range': sync_file_range,
+    'sync_file_range2': sync_file_range,
     'mmap': mmap,
+    'mmap2': mmap,
     'munmap': munmap,
+    'mremap': mremap,
     'mprotect': mprotect,
     'msync': msync,
 }

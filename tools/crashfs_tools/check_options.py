@@ -7,24 +7,29 @@ import os
 from dataclasses import dataclass
 from typing import List, Optional
 
-from .command import halves
+from . import VERSION
+from .command import parse
 from .mounts import Address
-from .report import Shard
+from .results import Shard
 
 NAME = 'crashfs-check'
 
 DESCRIPTION = """\
-Runs COMMAND in every crash state of a trace, and tells in which states it fails, and why.
+Runs COMMAND in the crash states of a trace, and reports in which states it fails, and why.
 
 COMMAND runs in a directory that has the files as the crash left them; it may change them. Its
 variable CRASHFS_STATE is the state's number, CRASHFS_SAYS how many lines the recorded program had
-told its user by then, and these lines are its standard input. Status 0 means that the state is
-good; any other that it isn't, and the last line that COMMAND printed is the cause: the word before
-a colon in it is counted in the report's first line."""
+printed by then (exactly so many), and these lines are its standard input. Exit status 0 means that
+the state is good; any other that it isn't, and the last line that COMMAND printed is the cause: the
+word before a colon in it is counted in the report's first line.
+
+COMMAND is first run in the tree at the session's end and in the start tree: it must find both good.
+The states are all prefixes of the session, those with one hole, and the families --lost and
+--files."""
 
 EPILOG = """\
-status: 0 none fails; 1 some fail; 2 bad input; 3 a command gave no answer, or states could not be
-tried; 130 or 143 it was stopped.
+status: 0 none fails; 1 some fail; 2 bad input, or COMMAND fails though nothing is lost; 3 a command
+gave no answer, or states were not tried; 130 or 143 it was stopped: the report has what was tried.
 
 example: crashfs-check --jobs 4 store.trace -- ./recover.sh"""
 
@@ -36,15 +41,35 @@ class Options:
     jobs: int
     shard: Shard
     prefixes: bool
+    quick: bool
     lost: bool
     files: bool
     state: Optional[int]
+    fail_fast: bool
+    time_limit: Optional[float]
     json: Optional[str]
+    resume: Optional[str]
+    junit: Optional[str]
+    html: Optional[str]
     timeout: float
     crashfs: Optional[str]
+    unproved: bool
     serve: Optional[Address]
     uname: Optional[str]
     merge: Optional[List[str]]
+
+    @property
+    def leaves_families_out(self) -> bool:
+        """A server has the plan that it was given: prefixes and holes, unless it has picks."""
+        return self.quick or self.prefixes or self.serve is not None
+
+    @property
+    def has_lost(self) -> bool:
+        return self.lost or not self.leaves_families_out
+
+    @property
+    def has_files(self) -> bool:
+        return self.files or not self.leaves_families_out
 
 
 def shard(text: str) -> Shard:
@@ -77,29 +102,57 @@ def seconds(text: str) -> float:
     return value
 
 
+def add_states(made: argparse.ArgumentParser) -> None:
+    """Which states are tried."""
+    made.add_argument('--prefixes', action='store_true',
+                      help='the prefixes only: nothing is lost but from the end')
+    made.add_argument('--quick', action='store_true',
+                      help='the prefixes and those with one hole; --lost and --files only if given')
+    made.add_argument('--lost', action='store_true',
+                      help='for each operation the smallest disk that still has it '
+                           '(a default, but with --prefixes, --quick and --serve)')
+    made.add_argument('--files', action='store_true',
+                      help='for each file the disk without any of its changes that were not synced '
+                           '(a default as --lost)')
+    made.add_argument('--state', metavar='N', type=int,
+                      help='try the state N only, and leave it laid out as the crash left it')
+    made.add_argument('--fail-fast', action='store_true', help='stop at the first failing state')
+    made.add_argument('--time-limit', metavar='S', type=seconds,
+                      help='stop after so many seconds, and report what was tried')
+    made.add_argument('--resume', metavar='FILE',
+                      help='go on from the --json file of a check that was stopped; if there is no '
+                           'such file, begin')
+
+
+def add_files(made: argparse.ArgumentParser) -> None:
+    """What is written beside the report."""
+    made.add_argument('--json', metavar='FILE',
+                      help='write the outcomes, for --merge, --resume and other tools')
+    made.add_argument('--junit', metavar='FILE', help='write the report as JUnit XML')
+    made.add_argument('--html', metavar='FILE',
+                      help='write the report as one page, to be opened in a browser')
+
+
 def parser() -> argparse.ArgumentParser:
     made = argparse.ArgumentParser(
         prog=NAME, description=DESCRIPTION, epilog=EPILOG,
         usage='crashfs-check [OPTION].. TRACE -- COMMAND [ARG]..\n'
-              '       crashfs-check --merge REPORT.json.. [--json FILE]',
+              '       crashfs-check --merge REPORT.json.. [--json FILE] [--junit FILE] '
+              '[--html FILE]',
         formatter_class=argparse.RawDescriptionHelpFormatter)
+    made.add_argument('--version', action='version', version=f'{NAME} {VERSION}')
     made.add_argument('trace', metavar='TRACE', nargs='?', help='the trace')
     made.add_argument('--jobs', metavar='N', type=positive, default=len(os.sched_getaffinity(0)),
-                      help='so many commands at once (default: one a processor, %(default)s)')
+                      help='run N commands at once (default: one a processor, %(default)s)')
     made.add_argument('--shard', metavar='I/N', type=shard, default=Shard(),
-                      help='try the part I of N alone; --merge puts the reports together')
-    made.add_argument('--prefixes', action='store_true',
-                      help='the prefixes alone: nothing is lost but from the end')
-    made.add_argument('--lost', action='store_true',
-                      help='also, for each operation, all lost that it does not need')
-    made.add_argument('--files', action='store_true',
-                      help="also, for each file, all its changes lost that no sync covers")
-    made.add_argument('--state', metavar='N', type=int,
-                      help='try the state N alone, and leave it laid out as the crash left it')
-    made.add_argument('--json', metavar='FILE', help='write the outcomes, for --merge and tools')
+                      help='try the part I of N only; --merge puts the reports together')
+    add_states(made)
+    add_files(made)
     made.add_argument('--timeout', metavar='S', type=seconds, default=10,
                       help='end a command after so many seconds (default 10)')
     made.add_argument('--crashfs', metavar='PATH', help='the program (else that of PATH)')
+    made.add_argument('--unproved', action='store_true',
+                      help='use the second reading of the tools, as if there is no crashfs')
     made.add_argument('--serve', metavar='ADDR', type=address,
                       help='mount each state from the `crashfs serve --again --client linux` that '
                            'listens at this host and port, with the same trace and plan (as root)')
@@ -111,13 +164,14 @@ def parser() -> argparse.ArgumentParser:
 
 
 def read_options(arguments: List[str]) -> Options:
-    before, command = halves(arguments)
     made = parser()
-    values = made.parse_args(before)
+    values, command = parse(made, arguments)
+    if values.merge is not None and command:
+        made.error('--merge goes with no COMMAND')
     if values.merge is None and values.trace is None:
         made.error('TRACE is missing')
     if values.merge is None and not command:
-        made.error('COMMAND is missing behind --')
+        made.error('COMMAND is missing: put -- before it')
     if values.uname is not None and values.serve is None:
         made.error('--uname goes with --serve')
     return Options(command=command, **vars(values))

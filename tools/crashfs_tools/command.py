@@ -1,13 +1,18 @@
-"""What both commands share: the command line's two halves, and finding COMMAND."""
+"""What both commands share: the command line's two halves, finding COMMAND, and writing files."""
 
 from __future__ import annotations
 
+import argparse
 import os
 import shutil
 import signal
 import sys
+import tempfile
 from contextlib import contextmanager
-from typing import Iterable, Iterator, List, Tuple
+from typing import Any, Dict, Iterable, Iterator, List, Tuple
+
+# How every file of text is written.
+TEXT: Dict[str, Any] = {'encoding': 'utf-8', 'errors': 'surrogateescape', 'newline': '\n'}
 
 
 class Refused(Exception):
@@ -22,13 +27,25 @@ def halves(words: List[str]) -> Tuple[List[str], List[str]]:
     return words[:place], words[place + 1:]
 
 
+def parse(parser: argparse.ArgumentParser,
+          words: List[str]) -> Tuple[argparse.Namespace, List[str]]:
+    """The options and arguments before the first `--`, and COMMAND."""
+    before, command = halves(words)
+    values, more = parser.parse_known_args(before)
+    if more and not command and not more[0].startswith('-'):
+        parser.error(f'put -- before COMMAND ({more[0]})')
+    if more:
+        parser.error(f'unrecognized arguments: {" ".join(more)}')
+    return values, command
+
+
 def found(command: List[str]) -> List[str]:
     """COMMAND with its program's whole path: it is started in another directory."""
     name = command[0]
     path = shutil.which(name)
     if path is None:
         there = '/' in name and os.path.exists(name)
-        raise Refused(f'{name} ' + ('is no program that may be run' if there else 'is not there'))
+        raise Refused(f'{name}: ' + ('not executable' if there else 'command not found'))
     return [os.path.abspath(path)] + command[1:]
 
 
@@ -37,25 +54,54 @@ def folder_of(path: str) -> str:
     folder = os.path.dirname(os.path.realpath(path))
     if not os.path.isdir(folder):
         raise Refused(f'{path}: its directory is not there')
-    if not os.access(folder, os.W_OK):
-        raise Refused(f'{path}: its directory may not be written')
     if os.path.isdir(path):
         raise Refused(f'{path} is a directory')
+    in_place = path == '-' or os.path.exists(path) and not os.path.isfile(path)
+    if not in_place and not os.access(folder, os.W_OK):
+        raise Refused(f'{path}: its directory may not be written')
     return folder
 
 
 def write_whole(path: str, pieces: Iterable[str]) -> None:
-    """Writes the whole file, or none of it; an OSError has its name."""
-    part = f'{path}.part'
+    """Writes the whole file, or none of it; an OSError has its name. `-` is standard output, and
+    what is there and is no plain file, as a device or a pipe, is written in place."""
+    if path == '-':
+        with standard_output():
+            sys.stdout.writelines(pieces)
+        return
     try:
-        with open(part, 'w', encoding='utf-8', errors='surrogateescape', newline='\n') as file:
-            file.writelines(pieces)
-        os.replace(part, path)
+        if os.path.exists(path) and not os.path.isfile(path):
+            with open(path, 'w', **TEXT) as file:
+                file.writelines(pieces)
+        else:
+            replace_file(os.path.realpath(path), pieces)
     except OSError as error:
         raise OSError(error.errno, error.strerror, path) from error
-    finally:
-        if os.path.exists(part):
-            os.unlink(part)
+
+
+def replace_file(path: str, pieces: Iterable[str]) -> None:
+    """A new file takes the path when it is whole and synced."""
+    number, part = tempfile.mkstemp(prefix='.' + os.path.basename(path)[:100],
+                                    dir=os.path.dirname(path))
+    try:
+        with open(number, 'w', **TEXT) as file:
+            file.writelines(pieces)
+            file.flush()
+            os.fchmod(number, mode_of(path))
+            os.fsync(number)
+        os.replace(part, path)
+    except BaseException:
+        os.unlink(part)
+        raise
+
+
+def mode_of(path: str) -> int:
+    """The mode of a file that is there, or that of a new one."""
+    if os.path.exists(path):
+        return os.stat(path).st_mode & 0o777
+    umask = os.umask(0)
+    os.umask(umask)
+    return 0o666 & ~umask
 
 
 @contextmanager

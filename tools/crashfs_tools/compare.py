@@ -3,12 +3,13 @@
 from __future__ import annotations
 
 from abc import ABC, abstractmethod
-from typing import Iterable, List, Set
+from typing import Dict, Iterable, List, Optional, Set
 
 from .directory import Scan
 from .program import Crashfs
-from .trace import read_trace
-from .tree import Entries, Entry, replay
+from .trace_read import read_trace
+from .tree import Entries, Entry, Tree, replay
+from .troubles import Trouble
 
 
 class LastState(ABC):
@@ -22,13 +23,19 @@ class LastState(ABC):
 
 
 class Replayed(LastState):
-    """By an own reading of the trace."""
+    """By an own reading of the trace, from its text where that can't be read from a file."""
 
     name = 'an own replay'
 
+    def __init__(self, text: Optional[str] = None) -> None:
+        self.text = text
+
     def entries(self, trace: str) -> Entries:
-        with open(trace, encoding='utf-8', newline='\n') as file:
-            entries = dict(replay(read_trace(file.read())).entries)
+        text = self.text
+        if text is None:
+            with open(trace, encoding='utf-8', newline='\n') as file:
+                text = file.read()
+        entries = dict(replay(read_trace(text)).entries)
         del entries['/']
         return entries
 
@@ -42,9 +49,7 @@ class ByProgram(LastState):
         self.program = program
 
     def entries(self, trace: str) -> Entries:
-        listed = self.program.text(['list', '--trace', trace])
-        last = listed.count('\nop ') + listed.startswith('op ')
-        return self.program.tree(trace, last)
+        return self.program.tree(trace, self.program.states(trace, holes=False) - 1)
 
 
 def differences(directory: Scan, last: Entries, told: Iterable[str]) -> List[str]:
@@ -82,3 +87,38 @@ def entry_differences(real: Entry, said: Entry) -> List[str]:
         found.append(f'its owner is {real.owner}:{real.group} at the end, and '
                      f'{said.owner}:{said.group} in the trace')
     return found
+
+
+def links_that_differ(directory: Scan, last: Tree, told: Iterable[str]) -> List[str]:
+    """Lines on paths that are one file in the directory, and two in the trace, or the other way."""
+    known = set(told)
+    groups: Dict[int, List[str]] = {}
+    for path, entry in last.entries.items():
+        groups.setdefault(id(entry), []).append(path)
+    said = {path: min(group) for group in groups.values() for path in group}
+    lines = []
+    for path in sorted(said.keys() & {entry.path for entry in directory.entries}):
+        real = directory.links.get(path, path)
+        if real != said[path] and not stands_below(path, known):
+            what = 'a link to' if real != path else 'no link to'
+            lines.append(f'{path}: it is {what} {min(real, said[path])} at the end, and not so in '
+                         'the trace')
+    return lines
+
+
+def notes_on(before: Scan, now: Scan, troubles: List[Trouble]) -> List[str]:
+    """What a scan sees and no trace has words for, where nothing was reported of it."""
+    told = {trouble.where for trouble in troubles}
+    changed = [path for path in sorted(before.attributes.keys() | now.attributes.keys())
+               if before.attributes.get(path) != now.attributes.get(path)]
+    lines = [f'{path}: its extended attributes differ, which no trace has' for path in changed]
+    lines += [f'{path}: it has {why} at the end' for path, why in now.noted
+              if (path, why) not in before.noted and 'mode bits' not in why]
+    return [f'not in the trace: {line}' for line in lines if line.partition(':')[0] not in told]
+
+
+def left_out_at_the_end(before: Scan, now: Scan, told: Iterable[str]) -> List[str]:
+    """Lines on devices, links and such that were not there before, and nothing was said of."""
+    known = set(told)
+    return [f'{path}: at the end it is {why}, which no trace has' for path, why in now.left_out
+            if (path, why) not in before.left_out and not stands_below(path, known)]

@@ -7,7 +7,7 @@ import os
 import pwd
 import stat
 from dataclasses import dataclass, field
-from typing import Callable, List, Tuple
+from typing import Callable, Dict, List, Tuple
 
 from . import limits
 from .trace import Header, Start
@@ -18,11 +18,16 @@ Ignored = Callable[[str], bool]
 
 @dataclass
 class Scan:
-    """The entries of a directory, each behind its own directory; left_out has (path, why)."""
+    """The entries of a directory, each after its own directory. links gives the first path of a
+    file that has several; left_out and noted have (path, why), and noted changes no verdict;
+    attributes has the extended ones of each path that has some."""
 
     header: Header
     entries: List[Start] = field(default_factory=list)
+    links: Dict[str, str] = field(default_factory=dict)
     left_out: List[Tuple[str, str]] = field(default_factory=list)
+    noted: List[Tuple[str, str]] = field(default_factory=list)
+    attributes: Dict[str, Dict[str, bytes]] = field(default_factory=dict)
 
 
 def user_name(number: int) -> str:
@@ -45,33 +50,66 @@ def permission_bits(status: os.stat_result) -> int:
 
 def scan(top: str, ignored: Ignored) -> Scan:
     """Reads a directory; OSError where it can't be read."""
-    status = os.stat(top)
-    found = Scan(Header(user_name(status.st_uid), group_name(status.st_gid),
-                        permission_bits(status)))
-    scan_below(top, '', ignored, found)
-    return found
+    return Scanner(top, ignored).scan()
 
 
-def scan_below(top: str, base: str, ignored: Ignored, found: Scan) -> None:
-    with os.scandir(top + base) as listed:
-        names = sorted(entry.name for entry in listed)
-    for name in names:
-        path = f'{base}/{name}'
-        if ignored(path):
-            continue
-        status = os.lstat(top + path)
+class Scanner:
+    """Reads a directory; firsts has the first path of each file that has several."""
+
+    def __init__(self, top: str, ignored: Ignored) -> None:
+        self.top, self.ignored = top, ignored
+        status = os.stat(top)
+        self.found = Scan(Header(user_name(status.st_uid), group_name(status.st_gid),
+                                 permission_bits(status)))
+        self.firsts: Dict[Tuple[int, int], str] = {}
+        self.seen: Dict[Tuple[int, int], int] = {}
+
+    def scan(self) -> Scan:
+        self.below('')
+        for inode, path in self.firsts.items():
+            if self.seen[inode] > 0:
+                self.found.noted.append((path, 'that it has a name outside the directory'))
+        return self.found
+
+    def below(self, base: str) -> None:
+        with os.scandir(self.top + base) as listed:
+            names = sorted(entry.name for entry in listed)
+        for name in names:
+            path = f'{base}/{name}'
+            if not self.ignored(path):
+                self.entry(path, os.lstat(self.top + path))
+
+    def entry(self, path: str, status: os.stat_result) -> None:
         fault = path_fault(path) or kind_fault(status)
         if fault:
-            found.left_out.append((path, fault))
-            continue
+            self.found.left_out.append((path, fault))
+            return
         odd_bits = stat.S_IMODE(status.st_mode) & ~0o777
         if odd_bits:
-            found.left_out.append((path, f'its mode bits {odd_bits:o}, beyond 777'))
+            self.found.noted.append((path, f'its mode bits {odd_bits:o}, beyond 777'))
+        attributes = attributes_of(self.top + path)
+        if attributes:
+            self.found.attributes[path] = attributes
         if stat.S_ISREG(status.st_mode) and status.st_nlink > 1:
-            found.left_out.append((path, 'that it is one file with another name, by a link'))
-        found.entries.append(entry_of(top, path, status))
+            self.link(path, status)
+        self.found.entries.append(entry_of(self.top, path, status))
         if stat.S_ISDIR(status.st_mode):
-            scan_below(top, path, ignored, found)
+            self.below(path)
+
+    def link(self, path: str, status: os.stat_result) -> None:
+        inode = status.st_dev, status.st_ino
+        first = self.firsts.setdefault(inode, path)
+        self.seen[inode] = self.seen.get(inode, status.st_nlink) - 1
+        if first != path:
+            self.found.links[path] = first
+
+
+def attributes_of(path: str) -> Dict[str, bytes]:
+    """The extended attributes of a file; none where they can't be read."""
+    try:
+        return {name: os.getxattr(path, name) for name in os.listxattr(path)}
+    except OSError:
+        return {}
 
 
 def kind_fault(status: os.stat_result) -> str:

@@ -13,8 +13,9 @@ import signal
 import subprocess
 import tempfile
 import time
+from contextlib import contextmanager
 from types import TracebackType
-from typing import Dict, List, Optional, Type
+from typing import Dict, Iterator, List, Optional, Tuple, Type
 
 VARIABLE = 'CRASHFS_GUARD'
 STOPS = (signal.SIGINT, signal.SIGTERM, signal.SIGHUP)
@@ -57,6 +58,19 @@ class Guard:
     def end_processes(self) -> None:
         """Ends all that was started with the environment, and all that came of it."""
         end_all(self.mark)
+
+    def signal(self, number: int, spared: int) -> int:
+        """Sends a signal to all that was started with the environment, but for one process, and
+        returns to how many."""
+        sent = 0
+        for process in bearers(self.mark):
+            if process != spared:
+                try:
+                    os.kill(process, number)
+                    sent += 1
+                except OSError:
+                    pass
+        return sent
 
     def __exit__(self, kind: Optional[Type[BaseException]], error: Optional[BaseException],
                  trace: Optional[TracebackType]) -> None:
@@ -163,13 +177,42 @@ class Stopped(Exception):
         return 128 + self.number
 
 
+class TimeUp(Exception):
+    """A time limit has passed."""
+
+
+@contextmanager
+def time_limit(seconds: Optional[float]) -> Iterator[None]:
+    """Within this, TimeUp is raised in the main thread after so many seconds."""
+
+    def end(_: int, __: object) -> None:
+        raise TimeUp
+
+    if seconds is not None:
+        signal.signal(signal.SIGALRM, end)
+        signal.setitimer(signal.ITIMER_REAL, seconds)
+    try:
+        yield
+    finally:
+        if seconds is not None:
+            signal.setitimer(signal.ITIMER_REAL, 0)
+
+
+def stops_heard() -> Tuple[signal.Signals, ...]:
+    """The signals that stop a command: not SIGHUP if it is ignored, as `nohup` has it."""
+    if signal.getsignal(signal.SIGHUP) is signal.SIG_IGN:
+        return tuple(stop for stop in STOPS if stop != signal.SIGHUP)
+    return STOPS
+
+
 def stop_by_exception() -> None:
-    """From here on SIGINT, SIGTERM and SIGHUP raise Stopped in the main thread."""
+    """From here on each signal that stops a command raises Stopped in the main thread."""
 
     def stop(number: int, _: object) -> None:
+        signal.setitimer(signal.ITIMER_REAL, 0)
         for later in STOPS:
             signal.signal(later, signal.SIG_IGN)
         raise Stopped(number)
 
-    for number in STOPS:
+    for number in stops_heard():
         signal.signal(number, stop)

@@ -10,7 +10,7 @@ from contextlib import contextmanager
 from typing import ContextManager, Dict, Iterator, List, Set, Tuple
 
 from .guard import remove_tree
-from .program import Crashfs, path_of
+from .program import Crashfs, ProgramFault, path_of
 
 
 class Layout(ABC):
@@ -50,10 +50,8 @@ class Archive(Layout):
             for number, path in self.lay_out(members, wanted):
                 left.remove(number)
                 yield number, path
-        # A tree without an entry may stand in the archive by nothing at all.
-        for number in sorted(left):
-            os.mkdir(self.path(number))
-            yield number, self.path(number)
+        if left:
+            raise ProgramFault(0, f'crashfs tar wrote no state {min(left)}'.encode())
 
     def lay_out(self, members: tarfile.TarFile, wanted: Set[int]) -> Iterator[Tuple[int, str]]:
         number = -1

@@ -5,24 +5,53 @@ from __future__ import annotations
 from dataclasses import dataclass, field
 from typing import Dict, List, Optional, Set
 
+# What a write floats on that goes where the file ends.
+END = 'end'
+
 from . import limits
 from .tree import resize
+
+
+@dataclass(frozen=True)
+class Change:
+    """A change of a file's bytes, by the log's lines at which its call began and ended. floats is
+    what gave it its place: END, an open file whose offset is shared, or None."""
+
+    process: int
+    begin: int
+    end: int
+    first: int
+    last: int
+    floats: object
+    grows: bool
+
+    def is_unordered(self, other: Change) -> bool:
+        """Whether two changes ran at once, and their order decides what the file has."""
+        if self.process == other.process or self.begin > other.end or other.begin > self.end:
+            return False
+        meet = self.first < other.last and other.first < self.last
+        at_end = self.floats == END and other.grows or other.floats == END and self.grows
+        return meet or at_end or self.floats is not None and self.floats is other.floats
 
 
 @dataclass(eq=False)
 class Node:
     """A file or directory.
 
-    told_path is where the trace has it, and None where the trace has it not. data is None for a
-    directory, and for a file whose bytes are lost: no more of them can be told. size is kept.
+    told has the paths at which the trace has it. data is None for a directory, and for a file
+    whose bytes are lost: no more of them can be told. size is kept. was_synced counts for a file
+    that has no name yet.
     """
 
     is_directory: bool
     mode: int
     data: Optional[bytearray] = None
     size: int = 0
-    told_path: Optional[str] = None
+    told: Set[str] = field(default_factory=set)
     names: Set[str] = field(default_factory=set)
+    is_temporary: bool = False
+    was_synced: bool = False
+    recent: List[Change] = field(default_factory=list)
 
     @staticmethod
     def file(mode: int, data: bytes = b'') -> Node:
@@ -40,6 +69,11 @@ class Node:
     @property
     def name(self) -> str:
         return min(self.names) if self.names else '(a file without a name)'
+
+    @property
+    def told_path(self) -> Optional[str]:
+        """One of the paths at which the trace has it, or None."""
+        return min(self.told, default=None)
 
     @property
     def path_of_told_bytes(self) -> Optional[str]:
@@ -62,6 +96,13 @@ class Node:
             self.lose_bytes()
         if self.data is not None:
             resize(self.data, length)
+
+    def is_unordered(self, change: Change) -> bool:
+        """Takes a change in, and tells whether another ran at once whose order counts."""
+        self.recent = [one for one in self.recent if one.end >= change.begin]
+        unordered = any(change.is_unordered(one) for one in self.recent)
+        self.recent.append(change)
+        return unordered
 
 
 class LiveTree:
@@ -87,7 +128,7 @@ class LiveTree:
         return [other for other in self.nodes if other.startswith(path + '/')]
 
     def move(self, source: str, target: str) -> None:
-        """Moves a node, and what stands below it."""
+        """Moves a node, and what is below it."""
         below = self.below(source)
         self.add(target, self.remove(source))
         for path in below:

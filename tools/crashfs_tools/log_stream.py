@@ -8,11 +8,15 @@ import re
 import signal
 import threading
 import time
-from typing import Iterable, Optional, TextIO
+from typing import List, Optional, Set, TextIO
 
+from . import stopping
 from .mapped import MappedFiles
+from .pipe_lines import PipeLines
 from .strace_log import Log, LogReader
 
+# Seconds in which strace says of all threads of a process that they are stopped.
+SAME_STOP = 0.005
 STOPPED = re.compile(r'^(\d+) +--- stopped by SIGSTOP ---')
 
 
@@ -25,6 +29,9 @@ class LogStream:
         self.kept = None if keep is None else open(keep, 'w', encoding='ascii')
         self.mapped = mapped
         self.reader = LogReader()
+        self.lines = 0
+        # Whether threads ran while the newest copy was taken: the next one isn't sure either.
+        self.was_late = False
         self.fault: Optional[OSError] = None
         self.opened = threading.Event()
         self.thread = threading.Thread(target=self.read, daemon=True)
@@ -49,37 +56,71 @@ class LogStream:
                 # The thread is not waiting yet.
                 time.sleep(0.001)
 
-    def drop_kept(self) -> None:
-        """Removes the file of a log that is not whole."""
-        if self.kept is not None and os.path.exists(self.kept.name):
-            os.unlink(self.kept.name)
-
     def read(self) -> None:
-        with open(self.pipe, encoding='ascii', errors='replace') as lines:
-            self.opened.set()
-            self.take_all(lines)
+        descriptor = os.open(self.pipe, os.O_RDONLY)
+        self.opened.set()
+        try:
+            lines = PipeLines(descriptor)
+            while self.take(lines.next(), lines):
+                pass
+        finally:
+            os.close(descriptor)
         if self.mapped is not None:
-            self.mapped.end()
+            self.mapped.end(self.lines)
         self.close_kept()
 
-    def take_all(self, lines: Iterable[str]) -> None:
-        for number, line in enumerate(lines, 1):
-            self.keep(line)
-            self.reader.line(number, line.rstrip('\n'))
-            if self.mapped is not None:
-                self.mapped.note(line)
-            stopped = STOPPED.match(line)
-            if stopped:
-                self.go_on(int(stopped[1]))
+    def take(self, line: Optional[str], lines: PipeLines) -> bool:
+        """One line, and what it asks for; False for the end."""
+        stopped = self.note(line)
+        if stopped is not None and self.mapped is not None:
+            self.go_on(self.mapped, stopped, lines)
+        return line is not None
 
-    def go_on(self, process: int) -> None:
-        """A process that was stopped is copied from, and goes on."""
-        if self.mapped is not None and self.mapped.copy():
-            self.reader.copied(process, len(self.mapped.copies) - 1)
+    def note(self, line: Optional[str]) -> Optional[int]:
+        """Takes a line in, and returns the thread that it says is stopped."""
+        if line is None:
+            return None
+        self.lines += 1
+        self.keep(line)
+        self.reader.line(self.lines, line.rstrip('\n'))
+        if self.mapped is not None:
+            self.mapped.note(line, self.lines)
+        stopped = STOPPED.match(line)
+        return int(stopped[1]) if stopped else None
+
+    def go_on(self, mapped: MappedFiles, thread: int, lines: PipeLines) -> None:
+        """A process whose threads are all stopped is copied from, and goes on."""
+        process = stopping.group_of(thread)
+        stopped = None if process is None else stopping.wait_until_stopped(thread, process)
+        if process is None or stopped is None:
+            return
+        threads = stopping.threads_of(process)
+        later = self.note_stops({thread}, set(threads), lines)
+        is_alone = stopped and not self.was_late and len(threads) == 1
+        self.was_late = not stopped
+        others = self.reader.processes - set(self.reader.log.ended) - {process}
+        mapped.copy(self.lines, thread, is_alone, others)
         try:
             os.kill(process, signal.SIGCONT)
         except ProcessLookupError:
             pass
+        for other in later:
+            self.go_on(mapped, other, lines)
+
+    def note_stops(self, seen: Set[int], threads: Set[int], lines: PipeLines) -> List[int]:
+        """Takes the lines by which a process's other threads say that they are stopped too, so
+        that none is taken for a later stop; returns the stopped threads of other processes."""
+        later = []
+        while not threads <= seen:
+            line = lines.next(SAME_STOP)
+            if line is None:
+                break
+            stopped = self.note(line)
+            if stopped in threads:
+                seen.add(stopped)
+            elif stopped is not None:
+                later.append(stopped)
+        return later
 
     def keep(self, line: str) -> None:
         """A line that can't be kept is the last that is tried: the program runs to its end."""
@@ -90,15 +131,12 @@ class LogStream:
             self.fault = named(error, self.kept)
 
     def close_kept(self) -> None:
-        """A log that could not be kept whole isn't kept."""
         if self.kept is None:
             return
         try:
             self.kept.close()
         except OSError as error:
             self.fault = self.fault or named(error, self.kept)
-        if self.fault is not None:
-            self.drop_kept()
 
 
 def named(error: OSError, file: Optional[TextIO]) -> OSError:

@@ -16,31 +16,36 @@ from . import arguments
 from .strace_log import Call
 
 DATA_CHANGES = {
-    'write', 'writev', 'pwrite64', 'pwritev', 'pwritev2', 'ftruncate', 'fallocate', 'sendfile',
-    'copy_file_range',
+    'write', 'writev', 'pwrite64', 'pwritev', 'pwritev2', 'ftruncate', 'ftruncate64', 'fallocate',
+    'sendfile', 'sendfile64', 'copy_file_range', 'splice', 'tee', 'vmsplice', 'sendto', 'sendmsg',
+    'sendmmsg',
 }
 NAME_CHANGES = {
     'rename', 'renameat', 'renameat2', 'unlink', 'unlinkat', 'rmdir', 'mkdir', 'mkdirat', 'link',
-    'linkat', 'symlink', 'symlinkat', 'mknod', 'mknodat', 'truncate',
+    'linkat', 'symlink', 'symlinkat', 'mknod', 'mknodat', 'truncate', 'truncate64',
 }
-RIGHT_CHANGES = {'chmod', 'fchmodat', 'fchmodat2', 'chown', 'lchown', 'fchownat'}
+RIGHT_CHANGES = {
+    'chmod', 'fchmodat', 'fchmodat2', 'chown', 'lchown', 'fchownat', 'chown32', 'lchown32',
+}
 # The changes of a descriptor's file, beside those of its bytes.
-DESCRIPTOR_CHANGES = DATA_CHANGES | {'fchmod', 'fchown'}
+DESCRIPTOR_CHANGES = DATA_CHANGES | {'fchmod', 'fchown', 'fchown32'}
 FILE_SYNCS = {'fsync', 'fdatasync', 'msync'}
 WHOLE_SYNCS = {'sync', 'syncfs'}
-TARGET_PLACES = {'copy_file_range': 2}
+TARGET_PLACES = {'copy_file_range': 2, 'splice': 2, 'tee': 1}
 
 Moment = Tuple[int, int]
 
 
-def in_order(calls: List[Call]) -> List[Call]:
-    """The calls in the order in which their operations stand in the trace."""
+def in_order(calls: List[Call]) -> List[Tuple[int, Call]]:
+    """The calls in the order of their operations in the trace, each with the log's line that it
+    counts from."""
     moments: Dict[int, Moment] = {id(call): moment_of(call) for call in calls}
     changes = Changes([call for call in calls if is_change(call)])
     for sync in calls:
         if sync.name in FILE_SYNCS or sync.name in WHOLE_SYNCS:
             stand_apart(sync, changes.beside(sync), moments)
-    return sorted(calls, key=lambda call: moments[id(call)])
+    ordered = sorted(calls, key=lambda call: moments[id(call)])
+    return [(moments[id(call)][0], call) for call in ordered]
 
 
 def is_change(call: Call) -> bool:

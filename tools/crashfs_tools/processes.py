@@ -1,4 +1,4 @@
-"""What each process has: its descriptors, its directory and its umask."""
+"""What each process has: its descriptors, its directory, its umask and its memory."""
 
 from __future__ import annotations
 
@@ -6,6 +6,9 @@ from dataclasses import dataclass, field
 from typing import Dict, Optional, Set
 
 from .live import Node
+from .memory import Memory
+from .strace_log import Call
+from .voices import Voice
 
 
 @dataclass(eq=False)
@@ -16,7 +19,7 @@ class OpenFile:
     position: int = 0
     appends: bool = False
     syncs: bool = False
-    tells: bool = False
+    voice: Optional[Voice] = None
 
     @staticmethod
     def of(node: Node, flags: str) -> OpenFile:
@@ -69,10 +72,19 @@ class Place:
 class Process:
     descriptors: Descriptors
     place: Place
+    memory: Memory = field(default_factory=Memory)
 
-    def child(self, flags: str) -> Process:
-        """What a clone with these flags begins with."""
+    def child(self, fork: Call) -> Process:
+        """What a process begins with that a fork makes."""
+        flags = ' '.join(fork.words)
+        shares_memory = 'CLONE_VM' in flags or fork.name == 'vfork'
         return Process(
             self.descriptors if 'CLONE_FILES' in flags else self.descriptors.copy(),
             self.place if 'CLONE_FS' in flags else self.place.copy(),
+            self.memory if shares_memory else self.memory.copy(),
         )
+
+    def exec(self) -> None:
+        self.descriptors = self.descriptors.after_exec()
+        self.place = self.place.copy()
+        self.memory = Memory()

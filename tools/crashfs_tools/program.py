@@ -1,10 +1,12 @@
-"""The program `crashfs`: where it is, and what it is asked."""
+"""The program `crashfs`: where it is, and what it is asked. If there is none, the second reading of
+this package takes its place."""
 
 from __future__ import annotations
 
 import os
 import shutil
 import subprocess
+import sys
 import tarfile
 from contextlib import contextmanager
 from typing import Dict, Iterator, List, Optional
@@ -14,8 +16,10 @@ from .tree import Entries, Entry
 
 TOP = os.path.dirname(os.path.dirname(os.path.dirname(os.path.realpath(__file__))))
 BUILT = os.path.join(TOP, 'crates', 'crashfs', 'out', 'crashfs')
+READING = os.path.join(os.path.dirname(os.path.realpath(__file__)), 'reading', '__main__.py')
 # The status of a command line that the program doesn't know.
 UNKNOWN_OPTION = 2
+PIECE_BYTES = 1 << 16
 # A shell's status for a program that can't be started.
 NOT_STARTED = 126
 
@@ -36,10 +40,17 @@ class ProgramFault(Exception):
 
 
 class Crashfs:
-    """One program file."""
+    """One program file; or, unproved, the second reading."""
 
-    def __init__(self, path: str) -> None:
+    def __init__(self, path: str, unproved: bool = False) -> None:
         self.path = path
+        self.unproved = unproved
+
+    @staticmethod
+    def find_or_read(given: Optional[str], unproved: bool) -> Crashfs:
+        """The program, or the second reading if there is none or it is asked for."""
+        program = None if unproved else Crashfs.find(given)
+        return program or Crashfs(READING, unproved=True)
 
     @staticmethod
     def find(given: Optional[str]) -> Optional[Crashfs]:
@@ -61,8 +72,9 @@ class Crashfs:
 
     def start(self, words: List[str],
               environment: Optional[Dict[str, str]]) -> subprocess.Popen[bytes]:
+        interpreter = [sys.executable, '-S'] if self.unproved else []
         try:
-            return subprocess.Popen([self.path, *words], stdin=subprocess.DEVNULL,
+            return subprocess.Popen([*interpreter, self.path, *words], stdin=subprocess.DEVNULL,
                                     stdout=subprocess.PIPE, stderr=subprocess.PIPE,
                                     env=environment)
         except OSError as error:
@@ -79,29 +91,51 @@ class Crashfs:
             with tarfile.open(fileobj=child.stdout, mode='r|', encoding='utf-8') as members:
                 yield members
         except tarfile.ReadError as error:
-            child.kill()
-            told = child.stderr.read() or f'what it wrote is no archive: {error}'.encode()
-            raise ProgramFault(child.wait(), told) from error
+            fault: Optional[str] = f'what it wrote is no archive: {error}'
         except BaseException:
             child.kill()
             child.wait()
-            raise
-        finally:
             child.stdout.close()
-        told = child.stderr.read()
-        child.stderr.close()
-        if child.wait() != 0:
-            raise ProgramFault(child.returncode, told)
+            child.stderr.close()
+            raise
+        else:
+            fault = None
+        told = read_to_end(child)
+        if child.returncode != 0 or fault is not None:
+            how = f'crashfs tar {ended(child.returncode)}'
+            raise ProgramFault(child.returncode,
+                               told or (f'{how}; {fault}' if fault else how).encode())
+
+    def states(self, trace: str, holes: bool = True) -> int:
+        """How many states a trace has: its prefixes, and with a hole each."""
+        lines = self.text(['list', '--trace', trace, *(['--holes'] if holes else [])])
+        return int(f'\n{lines}'.rpartition('\nstate ')[2].split()[0]) + 1
 
     def tree(self, trace: str, state: int) -> Entries:
         """The tree of a state, but for the root."""
-        with self.archive(['--trace', trace, '--state', str(state)]) as members:
+        return self.tree_of(['--trace', trace, '--state', str(state)])
+
+    def tree_of(self, words: List[str], environment: Optional[Dict[str, str]] = None) -> Entries:
+        """The tree of the one state that options name, but for the root."""
+        with self.archive(words, environment) as members:
             return {path_of(member): entry_of(members, member)
                     for member in members if path_of(member) != '/'}
 
 
-def last_line(output: bytes) -> str:
-    lines = output.decode('utf-8', 'replace').strip().splitlines()
+def read_to_end(child: subprocess.Popen[bytes]) -> bytes:
+    """Waits for a program's end, so that it can write all; what it printed as an error."""
+    assert child.stdout is not None and child.stderr is not None
+    while child.stdout.read(PIECE_BYTES):
+        pass
+    told = child.stderr.read()
+    child.stdout.close()
+    child.stderr.close()
+    child.wait()
+    return told
+
+
+def last_line(output: str) -> str:
+    lines = output.strip().splitlines()
     return lines[-1] if lines else ''
 
 

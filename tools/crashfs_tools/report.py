@@ -1,194 +1,149 @@
-"""What came of a check: as text, and as JSON that shards are merged from."""
+"""The report of a check as text."""
 
 from __future__ import annotations
 
-import json
+import textwrap
 from collections import Counter
-from dataclasses import dataclass, field
-from typing import Any, Dict, List, Optional, Tuple
+from dataclasses import dataclass
+from typing import Any, Dict, List
 
-from .command import Refused, write_whole
-from .pairs import Kind, Needs, Pair, Pairs, kind_of
-from .plan import MicroOperation, Plan, Trial, read_plan
-from .runner import BAD, GOOD, NO_ANSWER, Outcome
+from .advice import Advice, advice_of
+from .groups import Group, Groups
+from .results import Results
+from .runner import BAD, NO_ANSWER
+from .trace_lines import TraceLine
 
-FORMAT = 1
-GROUPS = 20
-NONE_FAILS, SOME_FAIL, NO_ANSWERS = 0, 1, 3
+SHOWN_GROUPS = 20
+WIDTH = 100
+CAUSE_WIDTH = 52
+NONE_FAILS, SOME_FAIL, NOT_ALL_TRIED = 0, 1, 3
+UNPROVED = ('unproved: these states are of a second reading in Python, not of crashfs '
+            '(tools/build makes it)')
 
 
 @dataclass(frozen=True)
-class Shard:
-    """One of so many parts, from 1."""
+class Difference:
+    """How the example of a group differs from a good state: a line for each path."""
 
-    part: int = 1
-    parts: int = 1
-
-    def has(self, place: int) -> bool:
-        return place % self.parts == self.part - 1
-
-
-@dataclass
-class Results:
-    """A trace's plan as `crashfs list` printed it, and the outcomes by the states tried."""
-
-    trace: str
-    digest: str
-    listed: str
-    command: List[str]
-    shard: Shard = Shard()
-    outcomes: Dict[int, Outcome] = field(default_factory=dict)
-    needs: Needs = field(default_factory=lambda: Needs([]))
-
-    def write_json(self, path: str) -> None:
-        fields = {
-            'crashfs-check': FORMAT,
-            'trace': self.trace,
-            'sha256': self.digest,
-            'command': self.command,
-            'shard': [self.shard.part, self.shard.parts],
-            'outcomes': {str(state): [one.result, one.cause]
-                         for state, one in sorted(self.outcomes.items())},
-            'needs': [f'{mask:x}' for mask in self.needs.masks],
-            'list': self.listed.rstrip('\n').split('\n'),
-        }
-        write_whole(path, [json.dumps(fields, indent=1, ensure_ascii=False), '\n'])
-
-
-def read_json(path: str) -> Results:
-    """Refused for a file that write_json didn't write."""
-    try:
-        with open(path, encoding='utf-8', errors='surrogateescape') as file:
-            return results_of(json.load(file))
-    except OSError as error:
-        raise Refused(f'{path}: {error.strerror}') from error
-    except (ValueError, KeyError, TypeError, AttributeError) as error:
-        raise Refused(f'{path} is no report of crashfs-check') from error
-
-
-def results_of(fields: Dict[str, Any]) -> Results:
-    if fields['crashfs-check'] != FORMAT:
-        raise ValueError('another format')
-    return Results(
-        trace=fields['trace'],
-        digest=fields['sha256'],
-        listed='\n'.join(fields['list']) + '\n',
-        command=fields['command'],
-        shard=Shard(*fields['shard']),
-        outcomes={int(state): Outcome(*one) for state, one in fields['outcomes'].items()},
-        needs=Needs([int(mask, 16) for mask in fields['needs']]),
-    )
-
-
-def merged(all_results: List[Results]) -> Results:
-    """The shards of one check together; Refused where they aren't all shards of one."""
-    first = all_results[0]
-    for one in all_results[1:]:
-        if (one.digest, one.listed, one.shard.parts) != (first.digest, first.listed,
-                                                         first.shard.parts):
-            raise Refused('the reports are not shards of one check')
-    parts = sorted(one.shard.part for one in all_results)
-    if parts != list(range(1, first.shard.parts + 1)):
-        raise Refused(f'of {first.shard.parts} shards these are given: '
-                      + ', '.join(map(str, parts)))
-    whole = Results(first.trace, first.digest, first.listed, first.command,
-                    needs=first.needs)
-    for one in all_results:
-        whole.outcomes.update(one.outcomes)
-    return whole
-
-
-@dataclass
-class Group:
-    """Failing states of one cause whose pairs agree in kind and file; shown by the first."""
-
-    cause: str
-    result: str
-    state: int
-    pair: Pair
-    count: int = 0
+    good: int
+    lines: List[str]
 
 
 class Report:
-    """The text."""
+    """What is told of the results: the groups of failing states, each with its advice."""
 
     def __init__(self, results: Results) -> None:
         self.results = results
-        self.plan: Plan = read_plan(results.listed)
-        trials = self.trials = self.plan.trials()
-        self.by_state: Dict[int, Outcome] = {}
-        for state in self.plan.states:
-            outcome = results.outcomes.get(trials[Trial(state.same, state.says)])
-            if outcome is not None:
-                self.by_state[state.number] = outcome
-        self.tried = sum(first in results.outcomes for first in trials.values())
+        self.plan = results.plan
+        self.finder = Groups(results)
+        self.by_state = self.finder.outcomes
+        self.groups: List[Group] = self.finder.all()
+        self.advice: Dict[int, Advice] = {
+            place: advice_of(group, results.lines) for place, group in enumerate(self.groups)}
+        self.differences: Dict[int, Difference] = {}
 
     @property
     def status(self) -> int:
         found = {outcome.result for outcome in self.by_state.values()}
         if NO_ANSWER in found:
-            return NO_ANSWERS
-        return SOME_FAIL if BAD in found else NONE_FAILS
+            return NOT_ALL_TRIED
+        if BAD in found:
+            return SOME_FAIL
+        return NOT_ALL_TRIED if self.results.stopped else NONE_FAILS
 
     def lines(self) -> List[str]:
-        groups = self.groups()
-        lines = [self.summary()]
-        for group in groups[:GROUPS]:
-            lines += self.group_lines(group)
-        if len(groups) > GROUPS:
-            more = sum(group.count for group in groups[GROUPS:])
-            lines.append(f'  and {more:,} states more, of {len(groups) - GROUPS} other kinds '
+        """None but the first is longer than WIDTH: the JSON has all of it."""
+        lines = []
+        for place, group in enumerate(self.groups[:SHOWN_GROUPS]):
+            lines += self.group_lines(group, self.advice[place])
+        if len(self.groups) > SHOWN_GROUPS:
+            more = sum(len(group.states) for group in self.groups[SHOWN_GROUPS:])
+            lines.append(f'  and {number_of(more, "more state")} of '
+                         f'{number_of(len(self.groups) - SHOWN_GROUPS, "other kind")} '
                          '(all are in the file of --json)')
-        return lines
+        return self.first_lines() + [cut(line) for line in lines]
+
+    def first_lines(self) -> List[str]:
+        return [UNPROVED, self.summary()] if self.results.unproved else [self.summary()]
 
     def summary(self) -> str:
-        plan, shard = self.plan, self.results.shard
+        plan, shard, trials = self.plan, self.results.shard, self.results.trials
+        tried = sum(first in self.results.outcomes for first in trials.values())
         line = (f'{self.results.trace}: {len(plan.operations):,} micro-operations, '
-                f'{len(plan.states):,} states, {len(self.trials):,} different')
+                f'{len(plan.states):,} states, {len(trials):,} different')
         if shard.parts > 1:
-            line += f', {self.tried:,} tried by shard {shard.part}/{shard.parts}'
+            line += f', {tried:,} tried by shard {shard.part}/{shard.parts}'
+        elif self.results.stopped:
+            line += f', {tried:,} tried'
+        if self.results.stopped:
+            line += f' (stopped by {self.results.stopped})'
         return f'{line}: {self.verdict()}'
 
     def verdict(self) -> str:
         outcomes = list(self.by_state.values())
-        bad = Counter(one.kind for one in outcomes if one.result == BAD)
+        bad = Counter(one.word for one in outcomes if one.result == BAD)
         silent = sum(one.result == NO_ANSWER for one in outcomes)
-        kinds = ', '.join(f'{cause} {count:,}' for cause, count in bad.most_common(5))
-        line = f'{sum(bad.values()):,} fail ({kinds})' if bad else 'none fails'
+        words = ', '.join(f'{word} {count:,}' for word, count in bad.most_common(5))
+        failing = sum(bad.values())
+        line = f'{failing:,} fail{"s" if failing == 1 else ""} ({words})' if bad else 'none fails'
         return f'{line}, {silent:,} gave no answer' if silent else line
 
-    def groups(self) -> List[Group]:
-        """The largest first."""
-        pairs = Pairs(self.plan, self.by_state, self.results.needs)
-        found: Dict[Tuple[str, Kind, Kind], Group] = {}
-        for state in self.plan.states:
-            outcome = self.by_state.get(state.number)
-            if outcome is None or outcome.result == GOOD:
-                continue
-            pair = pairs.of(state)
-            key = (outcome.cause, kind_of(self.operation(pair.kept)),
-                   kind_of(self.operation(pair.lost)))
-            first = Group(outcome.cause, outcome.result, state.number, pair)
-            found.setdefault(key, first).count += 1
-        return sorted(found.values(), key=lambda group: (-group.count, group.state))
-
-    def operation(self, place: Optional[int]) -> Optional[MicroOperation]:
-        return None if place is None else self.plan.operations[place]
-
-    def group_lines(self, group: Group) -> List[str]:
-        states = 'state, ' if group.count == 1 else 'states, as'
-        head = f'  {group.cause:<52} {group.count:,} {states} --state {group.state}'
-        kept, lost = self.operation(group.pair.kept), self.operation(group.pair.lost)
-        shown = [one.text if one else '' for one in (kept, lost)]
-        width = max(map(len, shown))
-        return [
-            head.replace('state,  --', 'state: --').replace('as --', 'as: --'),
-            self.pair_line('kept', kept, width, 'nothing: it is the start tree'),
-            self.pair_line('but not', lost, width, 'nothing that mends it'),
-        ]
+    def group_lines(self, group: Group, advice: Advice) -> List[str]:
+        states = self.states_text(group)
+        cause = cut(group.cause, max(CAUSE_WIDTH, WIDTH - len(states) - 3))
+        lines = [f'  {cause:<{CAUSE_WIDTH}} {states}']
+        for line in self.details(group, advice):
+            lines += textwrap.wrap(line, WIDTH, initial_indent='    ', subsequent_indent='      ',
+                                   break_long_words=False, break_on_hyphens=False)
+        return lines
 
     @staticmethod
-    def pair_line(word: str, operation: Optional[MicroOperation], width: int, none: str) -> str:
-        if operation is None:
-            return f'    {word:<9} {none}'
-        return f'    {word:<9} {operation.text:<{width}}  line {operation.line}'
+    def states_text(group: Group) -> str:
+        example = f'--state {group.example.number}'
+        if len(group.states) == 1:
+            return f'1 state: {example}'
+        return f'{len(group.states):,} states, e.g. {example}'
+
+    def details(self, group: Group, advice: Advice) -> List[str]:
+        """The sentence, what was tried, and what the example lacks beside the line that it
+        names."""
+        lines = [f'line {line.number}: {line.note}'
+                 for line in (group.lost, group.kept) if line and line.note]
+        lines += advice.lines()
+        for sync in self.finder.other_syncs(group):
+            if advice.syncs:
+                lines.append(f'line {sync.number} is {sync.text}, which is not enough')
+        named = group.lost.number if group.lost else 0
+        lost = [number for number in self.finder.lost_lines(group) if number != named]
+        if lost and not group.is_span:
+            lines.append(f'state {group.example.number} also lacks '
+                         + ', '.join(map(self.shown_line, lost)))
+        return lines
+
+    def fields(self) -> Dict[str, Any]:
+        """The results, and the groups with what they say, for the JSON."""
+        return {**self.results.fields(),
+                'groups': [self.group_fields(place) for place in range(len(self.groups))]}
+
+    def group_fields(self, place: int) -> Dict[str, Any]:
+        group, advice = self.groups[place], self.advice[place]
+        fields = {'cause': group.cause, 'states': [state.number for state in group.states],
+                  'example': group.example.number, 'lines': group.places,
+                  'lost': self.finder.lost_lines(group), 'text': self.details(group, advice),
+                  'syncs': advice.syncs}
+        if place in self.differences:
+            difference = self.differences[place]
+            fields.update(good=difference.good, differences=difference.lines)
+        return fields
+
+    def shown_line(self, number: int) -> str:
+        line = self.results.lines.get(number, TraceLine(number, ''))
+        return f'line {number} ({line.text})'
+
+
+def number_of(count: int, noun: str) -> str:
+    return f'{count:,} {noun}' if count == 1 else f'{count:,} {noun}s'
+
+
+def cut(text: str, width: int = WIDTH) -> str:
+    return text if len(text) <= width else text[:width - 2] + '..'

@@ -15,29 +15,34 @@ from typing import BinaryIO, Callable, Dict, List, Optional, Set, Tuple
 from .command import Refused, ended
 from .layout import Layout
 from .program import last_line
+from .trace_lines import without_numbers
 
 GOOD, BAD, NO_ANSWER = 'good', 'bad', 'no answer'
 TAIL_BYTES = 65_536
 CAUSE_LETTERS = 200
+OUTPUT_LETTERS = 2_000
 ENDING_SECONDS = 5
+TURN_SECONDS = 0.5
 
 
 @dataclass(frozen=True)
 class Outcome:
-    """What a command said of a state; the cause is its last line, or why there is none."""
+    """What a command found in a state; the cause is its last line, or why there is none. output is
+    the end of what it printed, of a state that isn't good."""
 
     result: str
     cause: str = ''
+    output: str = ''
 
     @property
-    def kind(self) -> str:
+    def word(self) -> str:
         """The word before the cause's first colon."""
         return self.cause.partition(':')[0]
 
-    def fails_like(self, other: Optional[Outcome]) -> bool:
-        """Whether another outcome is no good one, and of the same kind."""
-        return (other is not None and self.result != GOOD
-                and (self.result, self.kind) == (other.result, other.kind))
+    @property
+    def kind(self) -> str:
+        """The whole cause, but for its numbers."""
+        return without_numbers(self.cause)
 
 
 class Says:
@@ -74,7 +79,8 @@ class Checker:
             status = wait(child, self.timeout)
             end_group(child.pid)
             child.wait()
-            return self.outcome(status, tail(output.fileno()))
+            printed = tail(output.fileno()).replace(os.fsencode(directory), b'.')
+            return self.outcome(status, printed.decode('utf-8', 'replace'))
 
     def start(self, directory: str, environment: Dict[str, str], told: BinaryIO,
               output: BinaryIO) -> subprocess.Popen[bytes]:
@@ -87,16 +93,17 @@ class Checker:
                 raise Refused(f'{self.command[0]}: {error.strerror}') from error
             raise
 
-    def outcome(self, status: Optional[int], output: bytes) -> Outcome:
+    def outcome(self, status: Optional[int], printed: str) -> Outcome:
+        output = printed[-OUTPUT_LETTERS:]
         if status is None:
-            return Outcome(NO_ANSWER, f'it had not ended after {self.timeout:g} seconds')
+            return Outcome(NO_ANSWER, f'it had not ended after {self.timeout:g} seconds', output)
         if status == 0:
             return Outcome(GOOD)
         how = f'status {status}' if status > 0 else ended(status).replace('was ', '')
-        line = last_line(output)[:CAUSE_LETTERS]
+        line = last_line(printed)[:CAUSE_LETTERS]
         if status < 0:
             line = f'{how}: {line}' if line else how
-        return Outcome(BAD, line or how)
+        return Outcome(BAD, line or how, output)
 
 
 def wait(child: subprocess.Popen[bytes], timeout: float) -> Optional[int]:
@@ -118,7 +125,10 @@ def wait_for_end(process: int, timeout: float) -> None:
         return
     poll = select.poll()
     poll.register(descriptor, select.POLLIN)
-    poll.poll(timeout * 1000)
+    deadline = time.monotonic() + timeout
+    left = timeout
+    while left > 0 and not poll.poll(min(left, TURN_SECONDS) * 1000):
+        left = deadline - time.monotonic()
     os.close(descriptor)
 
 
@@ -158,15 +168,25 @@ class Pool:
         for thread in self.threads:
             thread.start()
         for state in self.layout.states(wanted):
-            self.waiting.put(state)
-            if self.faults:
+            self.put(state)
+            if self.faults or self.ending:
                 break
         for _ in self.threads:
-            self.waiting.put(None)
+            self.put(None)
         for thread in self.threads:
-            thread.join()
+            while thread.is_alive():
+                thread.join(TURN_SECONDS)
         if self.faults:
             raise self.faults[0]
+
+    def put(self, state: Optional[Tuple[int, str]]) -> None:
+        """Waits for room by turns: Python sees a signal that comes just as it begins to wait, or
+        that another thread takes, only when the wait is over."""
+        while True:
+            try:
+                return self.waiting.put(state, timeout=TURN_SECONDS)
+            except queue.Full:
+                continue
 
     def end(self, end_processes: Callable[[], None]) -> None:
         """No more commands are started, and those that run are ended by what is handed over. It

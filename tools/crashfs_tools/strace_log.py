@@ -4,7 +4,7 @@ from __future__ import annotations
 
 import re
 from dataclasses import dataclass, field
-from typing import Dict, Iterable, List, Optional
+from typing import Dict, Iterable, List, Optional, Set
 
 from . import arguments
 
@@ -13,7 +13,12 @@ UNFINISHED = re.compile(r'^(\d+)\s+(\w+)\((.*?)\s*<unfinished \.\.\.>$', re.S)
 RESUMED = re.compile(r'^(\d+)\s+<\.\.\. (\w+) resumed>(.*)$', re.S)
 ENDED = re.compile(r'^(\d+)\s+\+\+\+ (?:exited with|killed by) ')
 SUPERSEDED = re.compile(r'^(\d+)\s+\+\+\+ superseded by execve in pid (\d+) \+\+\+')
-RESULT_PATH = re.compile(r'^<((?:\\x[0-9a-f]{2})*)>')
+SHOWN_RESULT = re.compile(r'^<([^>]*)>(\(deleted\))?')
+
+# What strace -k has before each frame, after the call's line.
+FRAME = ' > '
+
+FORKS = ('clone', 'clone3', 'fork', 'vfork')
 
 # Names for what is no call, and stands among the calls all the same.
 EXIT = '+exit'
@@ -26,15 +31,19 @@ class LogError(Exception):
 
 @dataclass
 class Call:
-    """A call that returned. Lines count from 1; they order all calls of all threads."""
+    """A call that returned, or was cut by its thread's end. Lines count from 1; they order all
+    calls of all threads. made is the descriptor that a call gave."""
 
     process: int
     name: str
     words: List[str]
     result: int
-    result_path: Optional[str]
+    made: arguments.Descriptor
     begin: int
     end: int
+    is_cut: bool = False
+    frames: List[str] = field(default_factory=list)
+    note: str = ''
 
     def word(self, place: int, default: str = '') -> str:
         return self.words[place] if place < len(self.words) else default
@@ -45,11 +54,9 @@ class Call:
 
 @dataclass
 class Log:
-    """A whole log. copies gives, by the line of a call's end, which copy of the mapped files
-    was taken there. first is the process that strace started, and ended all that ended."""
+    """A whole log. first is the process that strace started, and ended all that ended."""
 
     calls: List[Call] = field(default_factory=list)
-    copies: Dict[int, int] = field(default_factory=dict)
     ended: List[int] = field(default_factory=list)
     first: Optional[int] = None
 
@@ -76,7 +83,7 @@ class LogReader:
     def __init__(self) -> None:
         self.log = Log()
         self.waiting: Dict[str, _Waiting] = {}
-        self.newest: Dict[int, int] = {}
+        self.processes: Set[int] = set()
 
     def read(self, lines: Iterable[str]) -> Log:
         for number, line in enumerate(lines, 1):
@@ -100,23 +107,30 @@ class LogReader:
         match = LINE.match(line)
         if match:
             self.call(match, begin, number)
+        elif line.startswith(FRAME):
+            self.log.calls[-1].frames.append(line[len(FRAME):])
         else:
             self.event(number, line)
 
     def call(self, match: re.Match[str], begin: int, end: int) -> None:
         process, name, text, result, tail = match.groups()
+        self.processes.add(int(process))
         if self.log.first is None:
             self.log.first = int(process)
-        self.newest[int(process)] = end
-        shown = RESULT_PATH.match(tail)
+        if name in FORKS and result.isdigit():
+            self.processes.add(int(result))
+        shown = SHOWN_RESULT.match(tail)
+        number = -1 if result == '?' else arguments.integer(result)
+        text_shown = arguments.shown_text(shown[1]) if shown else None
         self.log.calls.append(Call(
             process=int(process),
             name=name,
             words=arguments.split(text),
-            result=-1 if result == '?' else arguments.integer(result),
-            result_path=arguments.shown_path(shown[1]) if shown else None,
+            result=number,
+            made=arguments.Descriptor(number, text_shown, bool(shown and shown[2])),
             begin=begin,
             end=end,
+            is_cut=result == '?',
         ))
 
     def event(self, number: int, line: str) -> None:
@@ -127,13 +141,9 @@ class LogReader:
         elif superseded:
             self.mark(number, int(superseded[1]), SUPERSEDE, int(superseded[2]))
 
-    def copied(self, process: int, copy: int) -> None:
-        """A copy of the mapped files was taken at the process's newest call."""
-        if process in self.newest:
-            self.log.copies[self.newest[process]] = copy
-
     def mark(self, number: int, process: int, name: str, result: int) -> None:
-        self.log.calls.append(Call(process, name, [], result, None, number, number))
+        nothing = arguments.Descriptor(-1, None, False)
+        self.log.calls.append(Call(process, name, [], result, nothing, number, number))
 
 
 def read_log(lines: Iterable[str]) -> Log:

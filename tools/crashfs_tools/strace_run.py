@@ -4,19 +4,29 @@ from __future__ import annotations
 
 import os
 import re
+import select
 import shutil
+import signal
 import subprocess
 import sys
-from typing import Callable, Dict, List
+import time
+from typing import Callable, List, Optional
 
+from . import frames
 from .command import Refused, standard_output
+from .guard import Guard, stops_heard
 from .log_stream import LogStream
 from .mapped import STOPPING_CALLS
-from .translate import FORKS, HANDLERS
+from .record_options import NAME, Options
+from .strace_log import FORKS
+from .translate import HANDLERS, SOCKET_HANDLERS
+from .while_running import Progress
 
 OLDEST = (5, 18)
 # Longer texts than the largest file are cut by strace; a cut text is told as a trouble.
 TEXT_BYTES = 1 << 25
+# For so many seconds a second signal is the same stop: `timeout` sends its signal twice.
+SAME_STOP = 1.0
 
 
 def find_strace() -> str:
@@ -24,46 +34,122 @@ def find_strace() -> str:
     path = shutil.which('strace')
     if path is None:
         raise Refused('strace is not there; it is in the package strace of most systems')
-    told = subprocess.run([path, '-V'], stdout=subprocess.PIPE, text=True, check=False).stdout
+    told = subprocess.run([path, '-V'], stdin=subprocess.DEVNULL, check=False, text=True,
+                          stdout=subprocess.PIPE).stdout
     version = re.search(r'version (\d+)\.(\d+)', told)
     if version and (int(version[1]), int(version[2])) < OLDEST:
         raise Refused(f'strace is {version[1]}.{version[2]}; 5.18 or later is needed')
     return path
 
 
-def words(strace: str, log: str, mapped: bool) -> List[str]:
-    calls = ','.join(f'?{name}' for name in dict.fromkeys([*FORKS, *HANDLERS]))
-    common = [strace, '-f', '-y', '-xx', '-s', str(TEXT_BYTES), '-e', 'raw=read,readv',
-              '-e', f'trace={calls}', '-o', log]
-    if not mapped:
-        return common + ['--seccomp-bpf', '-e', 'signal=none']
-    # Signals that are injected don't arrive together with --seccomp-bpf.
-    stops = ','.join(f'?{name}' for name in STOPPING_CALLS)
-    return common + ['-e', 'signal=STOP', '-e', f'inject={stops}:signal=SIGSTOP']
+def words(strace: str, log: str, options: Options) -> List[str]:
+    """The command line of strace, with COMMAND."""
+    heard = [] if set(options.said) <= {'1', '2'} else SOCKET_HANDLERS
+    marks = frames.MARKS if options.stacks else ()
+    traced = dict.fromkeys([*FORKS, *HANDLERS, *heard, *marks])
+    calls = ','.join(f'?{name}' for name in traced)
+    line = [strace, '-f', '-y', '-xx', '-s', str(TEXT_BYTES), '-e', 'raw=read,readv',
+            '-e', f'trace={calls}', '-o', log]
+    if options.stacks and not frames.is_python(options.command[0]):
+        line.append('-k')
+    if options.mapped:
+        # Signals that are injected don't arrive together with --seccomp-bpf.
+        stops = ','.join(f'?{name}' for name in STOPPING_CALLS)
+        line += ['-e', f'inject={stops}:signal=SIGSTOP']
+    else:
+        line.append('--seccomp-bpf')
+    return line + options.command
 
 
-def run(strace: str, command: List[str], top: str, stream: LogStream,
-        environment: Dict[str, str]) -> int:
-    """Runs COMMAND in a directory, hands its standard output on, and returns its status.
+class Running:
+    """COMMAND while it runs under strace. SIGINT, SIGTERM and SIGHUP are passed on to it, and a
+    second one kills it: what it did up to there is recorded."""
 
-    Its standard output is a pipe: a program that writes by stdio has to flush its lines itself.
-    """
-    line = words(strace, stream.pipe, stream.mapped is not None) + command
-    child = subprocess.Popen(line, cwd=top, stdout=subprocess.PIPE, env=environment)
-    stream.begin()
-    assert child.stdout is not None
-    hand_on(child.stdout.fileno(), sys.stdout.buffer.write)
-    return child.wait()
+    def __init__(self, line: List[str], options: Options, stream: LogStream, guard: Guard) -> None:
+        self.line, self.options, self.stream, self.guard = line, options, stream, guard
+        self.stops: List[int] = []
+        self.first_stop = 0.0
+        self.wanted: Optional[int] = None
+        self.output: Optional[str] = None
+        self.strace = 0
 
+    def run(self) -> int:
+        """Runs to the end, hands standard output on, and returns COMMAND's status.
 
-def hand_on(source: int, write: Callable[[bytes], object]) -> None:
-    """Copies a pipe to standard output; where nobody reads that any more, it is read all the
-    same, so that COMMAND isn't disturbed."""
-    open_end = True
-    for piece in iter(lambda: os.read(source, 65_536), b''):
-        if open_end:
+        Its standard output is a pipe: a program that writes by stdio has to flush its lines.
+        """
+        before = {number: signal.signal(number, self.stop) for number in stops_heard()}
+        try:
+            environment = self.guard.environment
+            if self.options.stacks:
+                environment = frames.environment(environment)
+            child = subprocess.Popen(self.line, cwd=self.options.directory,
+                                     stdout=subprocess.PIPE, env=environment)
+            self.strace = child.pid
+            assert child.stdout is not None
+            self.output = f'pipe:[{os.fstat(child.stdout.fileno()).st_ino}]'
+            self.stream.begin()
+            with Progress(NAME, lambda: len(self.stream.reader.log.calls)):
+                self.hand_on(child.stdout.fileno())
+                return self.status_of(child)
+        finally:
+            signal.set_wakeup_fd(-1)
+            for number, handler in before.items():
+                signal.signal(number, handler)
+
+    def hand_on(self, source: int) -> None:
+        """Copies a pipe to standard output; where nobody reads that any more, it is read all the
+        same, so that COMMAND isn't disturbed. A signal ends the wait, whichever thread takes it."""
+        waiting, wake = os.pipe2(os.O_NONBLOCK | os.O_CLOEXEC)
+        signal.set_wakeup_fd(wake, warn_on_full_buffer=False)
+        write: Callable[[bytes], object] = sys.stdout.buffer.write
+        while True:
+            seconds = None if self.wanted is None else 0.1
+            ready = select.select([source, waiting], [], [], seconds)[0]
+            if waiting in ready:
+                os.read(waiting, 64)
+            self.send()
+            piece = os.read(source, 65_536) if source in ready else None
+            if piece == b'':
+                break
             try:
                 with standard_output():
-                    write(piece)
+                    write(piece or b'')
             except BrokenPipeError:
-                open_end = False
+                write = len
+        signal.set_wakeup_fd(-1)
+        os.close(waiting)
+        os.close(wake)
+
+    def status_of(self, child: subprocess.Popen[bytes]) -> int:
+        """COMMAND's status, when it has ended; until then signals are passed on."""
+        while True:
+            try:
+                return child.wait(0.2)
+            except subprocess.TimeoutExpired:
+                self.send()
+
+    def stop(self, number: int, _: object) -> None:
+        """The first signal goes to COMMAND, unless the terminal sent it there too."""
+        if self.stops and time.monotonic() < self.first_stop + SAME_STOP:
+            return
+        self.stops.append(number)
+        if len(self.stops) > 1:
+            self.wanted = signal.SIGKILL
+            return
+        self.first_stop = time.monotonic()
+        if number != signal.SIGINT or not is_on_terminal():
+            self.wanted = number
+
+    def send(self) -> None:
+        """Sends COMMAND the signal that is wanted, as soon as it has begun."""
+        if self.wanted is not None and self.guard.signal(self.wanted, spared=self.strace):
+            self.wanted = None
+
+
+def is_on_terminal() -> bool:
+    """Whether Ctrl-C goes to all processes of this group."""
+    try:
+        return os.tcgetpgrp(0) == os.getpgrp()
+    except OSError:
+        return False

@@ -1,4 +1,4 @@
-"""The lines of a trace: written and read as docs/FORMATS.md has them."""
+"""The lines of a trace, as docs/FORMATS.md has them: what they are, and how they are written."""
 
 from __future__ import annotations
 
@@ -7,8 +7,14 @@ import json
 from dataclasses import dataclass, field
 from typing import Any, Dict, Iterator, List, Optional, Type, Union
 
+from . import limits
+
 BLOCKS, ORDERED = 'blocks', 'ordered'
 PROFILES = (BLOCKS, ORDERED)
+BLOCK_SIZES = (512, 1_024, 2_048, 4_096)
+# The version that the recorder writes. Version 2 has no links, no syncs of a part and no notes:
+# what a session has of them is then reported.
+WRITTEN_VERSION = 3
 
 
 class TraceError(Exception):
@@ -33,6 +39,14 @@ class Start:
     group: str
     mode: int
     data: Optional[bytes]
+
+
+@dataclass(frozen=True)
+class StartLink:
+    """A second path of a file of the start tree."""
+
+    path: str
+    source: str
 
 
 @dataclass(frozen=True)
@@ -63,6 +77,12 @@ class Rmdir:
 
 @dataclass(frozen=True)
 class Rename:
+    source: str
+    target: str
+
+
+@dataclass(frozen=True)
+class Link:
     source: str
     target: str
 
@@ -99,6 +119,13 @@ class Fsync:
 
 
 @dataclass(frozen=True)
+class FsyncRange:
+    path: str
+    offset: int
+    length: int
+
+
+@dataclass(frozen=True)
 class Sync:
     pass
 
@@ -107,9 +134,15 @@ class Sync:
 class Say:
     text: str
 
+    @staticmethod
+    def cut(line: bytes) -> Say:
+        """The text of a line, as far as a trace can have it."""
+        text = line.decode('utf-8', 'replace').encode()[:limits.SAY_BYTES]
+        return Say(text.decode('utf-8', 'ignore'))
 
-Operation = Union[Creat, Mkdir, Unlink, Rmdir, Rename, Write, Truncate, Chmod, Chown, Fsync, Sync,
-                  Say]
+
+Operation = Union[Creat, Mkdir, Unlink, Rmdir, Rename, Link, Write, Truncate, Chmod, Chown, Fsync,
+                  FsyncRange, Sync, Say]
 
 KINDS: Dict[str, Type[Any]] = {
     'creat': Creat,
@@ -117,139 +150,101 @@ KINDS: Dict[str, Type[Any]] = {
     'unlink': Unlink,
     'rmdir': Rmdir,
     'rename': Rename,
+    'link': Link,
     'write': Write,
     'truncate': Truncate,
     'chmod': Chmod,
     'chown': Chown,
     'fsync': Fsync,
+    'fsync_range': FsyncRange,
     'sync': Sync,
     'say': Say,
 }
-# What a trace of version 1 hasn't.
-NEW_KINDS = (Chmod, Chown)
+# The first version that has a kind of line, where that isn't version 1.
+SINCE: Dict[Type[Any], int] = {Chmod: 2, Chown: 2, Link: 3, FsyncRange: 3, StartLink: 3}
 KIND_OF = {made: kind for kind, made in KINDS.items()}
 # The keys of a line that have another name in Python.
-KEYS = {'source': 'from', 'target': 'to', 'data': 'bytes'}
+KEYS = {'source': 'from', 'target': 'to'}
 
 
 @dataclass
 class Trace:
     """A whole trace. One of version 1 has no profile: its directory operations are in no order
-    but that of `blocks`."""
+    but that of `blocks`. notes has the texts of lines by the operation's place, from 0."""
 
     header: Header
-    start: List[Start] = field(default_factory=list)
+    start: List[Union[Start, StartLink]] = field(default_factory=list)
     operations: List[Operation] = field(default_factory=list)
-    profile: Optional[str] = None
+    version: int = WRITTEN_VERSION
+    profile: str = BLOCKS
+    block: int = BLOCK_SIZES[-1]
+    notes: Dict[int, str] = field(default_factory=dict)
 
-    def add(self, operation: Operation) -> None:
-        """Adds an operation; one that version 1 hasn't makes the trace one of version 2."""
-        if isinstance(operation, NEW_KINDS) and self.profile is None:
-            self.profile = BLOCKS
-        self.operations.append(operation)
+    def has(self, kind: Type[Any]) -> bool:
+        """Whether the trace's version has a kind of line."""
+        return SINCE.get(kind, 1) <= self.version
 
     def lines(self) -> Iterator[str]:
         """The trace's lines, each without its line feed."""
-        version = {'trace': 1} if self.profile is None else {'trace': 2, 'profile': self.profile}
-        yield as_json({**version, **values_of(self.header)})
+        yield as_json({**self.version_values(), **values_of(self.header)})
         for entry in self.start:
-            yield start_line(entry)
-        for operation in self.operations:
-            yield as_json({'op': KIND_OF[type(operation)], **values_of(operation)})
+            yield start_line(entry, self.version)
+        for place, operation in enumerate(self.operations):
+            yield as_json(self.operation_values(place, operation))
+
+    def version_values(self) -> Dict[str, Any]:
+        values: Dict[str, Any] = {'trace': self.version}
+        if self.version >= 2:
+            values['profile'] = self.profile
+        if self.version >= 3:
+            values['block'] = self.block
+        return values
+
+    def operation_values(self, place: int, operation: Operation) -> Dict[str, Any]:
+        values = {'op': KIND_OF[type(operation)], **values_of(operation, self.version)}
+        if self.version >= 3 and place in self.notes:
+            values['note'] = self.notes[place]
+        return values
 
     def line_of_operation(self, place: int) -> int:
         """The line, from 1, of an operation in a trace that has no empty lines."""
         return 2 + len(self.start) + place
 
 
-def start_line(entry: Start) -> str:
-    values = values_of(entry)
+def start_line(entry: Union[Start, StartLink], version: int) -> str:
+    values = values_of(entry, version)
+    if isinstance(entry, StartLink):
+        return as_json({'start': 'link', **values})
     if entry.data is None:
-        del values['bytes']
-    return as_json({'start': 'dir' if entry.data is None else 'file', **values})
+        return as_json({'start': 'dir', **{key: values[key] for key in DIRECTORY_KEYS}})
+    return as_json({'start': 'file', **values})
 
 
-def values_of(item: Any) -> Dict[str, Any]:
+DIRECTORY_KEYS = ('path', 'owner', 'group', 'mode')
+
+
+def values_of(item: Any, version: int = 1) -> Dict[str, Any]:
     """The keys and values of a line, in the order of its fields."""
-    return {
-        KEYS.get(part.name, part.name): written(part.name, getattr(item, part.name))
-        for part in dataclasses.fields(item)
-    }
+    values: Dict[str, Any] = {}
+    for part in dataclasses.fields(item):
+        value = getattr(item, part.name)
+        if part.name == 'data':
+            values.update(bytes_value(value or b'', version))
+        else:
+            key = KEYS.get(part.name, part.name)
+            values[key] = f'{value:03o}' if part.name == 'mode' else value
+    return values
 
 
-def written(name: str, value: Any) -> Any:
-    if name == 'mode':
-        return f'{value:03o}'
-    return value.hex() if isinstance(value, bytes) else value
+def bytes_value(data: bytes, version: int) -> Dict[str, str]:
+    """Bytes as a text if the version has texts and people can read it, else by numbers."""
+    if version >= 3:
+        text = data.decode('utf-8', 'replace')
+        readable = all(sign.isprintable() or sign == '\n' for sign in text)
+        if data and readable and text.encode() == data:
+            return {'text': text}
+    return {'bytes': data.hex()}
 
 
 def as_json(fields: Dict[str, Any]) -> str:
     return json.dumps(fields, separators=(',', ':'), ensure_ascii=False)
-
-
-def read_trace(text: str) -> Trace:
-    """Reads a trace's text. `crashfs` judges it; a line that makes no sense is a TraceError."""
-    trace: Optional[Trace] = None
-    for number, line in enumerate(text.split('\n'), 1):
-        if not line.strip(' \t\r'):
-            continue
-        try:
-            trace = with_line(trace, json.loads(line))
-        except (ValueError, KeyError, TypeError, AttributeError) as error:
-            raise TraceError(f'line {number} is no line of a trace ({error})') from error
-    if trace is None:
-        raise TraceError('it has no header')
-    return trace
-
-
-def told_texts(text: str) -> List[str]:
-    """The texts of all `say` lines of a trace of any version, which `crashfs` has judged."""
-    lines = [json.loads(line) for line in text.split('\n') if line.strip(' \t\r')]
-    return [fields['text'] for fields in lines if fields.get('op') == 'say']
-
-
-def root_owner(text: str) -> str:
-    """The owner of the root in a trace's header, which `crashfs` has judged."""
-    header = next(line for line in text.split('\n') if line.strip(' \t\r'))
-    return str(json.loads(header)['owner'])
-
-
-def with_line(trace: Optional[Trace], fields: Dict[str, Any]) -> Trace:
-    if trace is None:
-        return Trace(Header(fields['owner'], fields['group'], int(fields['mode'], 8)),
-                     profile=read_profile(fields))
-    if 'start' in fields:
-        values = read_values(fields, Start) if 'bytes' in fields else directory_values(fields)
-        trace.start.append(Start(**values))
-    else:
-        made = KINDS[fields['op']]
-        if made in NEW_KINDS and trace.profile is None:
-            raise ValueError(f"{fields['op']} in a trace of version 1")
-        trace.add(made(**read_values(fields, made)))
-    return trace
-
-
-def read_profile(fields: Dict[str, Any]) -> Optional[str]:
-    """The profile of a header of version 2, and None of one of version 1."""
-    if fields['trace'] == 1 and 'profile' not in fields:
-        return None
-    if fields['trace'] != 2 or fields['profile'] not in PROFILES:
-        raise ValueError(f"a header of version {fields['trace']}, profile {fields.get('profile')}")
-    return str(fields['profile'])
-
-
-def directory_values(fields: Dict[str, Any]) -> Dict[str, Any]:
-    return {**read_values({**fields, 'bytes': ''}, Start), 'data': None}
-
-
-def read_values(fields: Dict[str, Any], made: Type[Any]) -> Dict[str, Any]:
-    return {
-        part.name: read_value(part.name, fields[KEYS.get(part.name, part.name)])
-        for part in dataclasses.fields(made)
-    }
-
-
-def read_value(name: str, value: Any) -> Any:
-    if name == 'mode':
-        return int(value, 8)
-    return bytes.fromhex(value) if name == 'data' else value

@@ -2,7 +2,7 @@
 
 from __future__ import annotations
 
-from typing import Callable, Dict, List
+from typing import Callable, Dict, List, Optional
 
 from . import (
     calls_bytes,
@@ -12,14 +12,15 @@ from . import (
     calls_process,
     calls_sync,
     order,
+    stores,
 )
+from .live import Node
+from .mapped import Copies, Copy
 from .processes import Descriptors, Place, Process
 from .session import Session
-from .strace_log import EXIT, SUPERSEDE, Call, Log, LogError
+from .strace_log import EXIT, FORKS, SUPERSEDE, Call, Log, LogError
 
 Handler = Callable[[Session, Process, Call], None]
-# The bytes of each mapped file that changed since the copy before, by path.
-Copy = Dict[str, bytes]
 
 HANDLERS: Dict[str, Handler] = {
     **calls_process.HANDLERS,
@@ -29,16 +30,19 @@ HANDLERS: Dict[str, Handler] = {
     **calls_sync.HANDLERS,
     **calls_mode.HANDLERS,
 }
-FORKS = ('clone', 'clone3', 'fork', 'vfork')
+SOCKET_HANDLERS: Dict[str, Handler] = dict(calls_bytes.SOCKET_HANDLERS)
 
 
 class Translator:
     """Takes the calls one by one; a process is known from its parent's state at its first call."""
 
-    def __init__(self, session: Session, log: Log, copies: List[Copy]) -> None:
+    def __init__(self, session: Session, log: Log, copies: Optional[Copies] = None) -> None:
         self.session = session
         self.log = log
-        self.copies = copies
+        self.copies = copies or Copies()
+        self.session.has_copies = copies is not None
+        self.stores: Dict[int, List[Copy]] = {}
+        self.mapped: Dict[int, Node] = {}
         self.parents: Dict[int, List[Call]] = {}
         for call in log.calls:
             if call.name in FORKS and call.result > 0:
@@ -46,19 +50,30 @@ class Translator:
 
     def run(self) -> None:
         session = self.session
-        session.has_copies = bool(self.copies)
         try:
-            for call in order.in_order(self.log.calls):
+            ordered = order.in_order(self.log.calls)
+            self.stores = stores.by_call(self.log.calls, [call for _, call in ordered],
+                                         self.copies)
+            for line, call in ordered:
+                session.end_syncs(line)
                 session.call = call
                 self.step(call)
-        except (ValueError, IndexError) as error:
+            session.end_syncs(None)
+        except (ValueError, IndexError, KeyError) as error:
             where = f', in line {session.call.end}' if session.call else ''
             raise LogError(f'the log is not as strace -f -y -xx writes it{where}') from error
         session.call = None
-        if session.untold_text:
-            session.say(b'\n')
-        if self.copies:
-            self.store(self.copies[-1], None)
+        self.end()
+
+    def end(self) -> None:
+        for voice in self.session.voices.all():
+            if voice.text:
+                self.session.hear(voice, b'\n')
+        for copy in self.copies.taken:
+            if copy.process == 0:
+                self.store(copy, None, False)
+        for path in self.copies.missed:
+            self.session.trouble('mapped, and it could not be opened to be followed', path)
         self.note_links()
 
     def step(self, call: Call) -> None:
@@ -66,27 +81,58 @@ class Translator:
             self.session.processes.pop(call.process, None)
         elif call.name == SUPERSEDE:
             self.supersede(call)
+        elif call.is_cut:
+            self.cut(call)
         elif call.result >= 0:
             self.call(call)
 
-    def call(self, call: Call) -> None:
+    def cut(self, call: Call) -> None:
+        """A change that its thread's end cut: the log has not whether it was made."""
+        if not order.is_change(call):
+            return
         process = self.process(call.process, call.end)
-        handler = HANDLERS.get(call.name)
-        number = self.log.copies.get(call.end)
-        copy = {} if number is None else self.copies[number]
-        changed = call.descriptor().path if call.name in order.DATA_CHANGES else None
-        own = self.session.below(changed) if changed else None
+        voice = self.session.voice(process, call)
+        path = call.descriptor().path
+        below = self.session.below(path) if path else None
+        where = voice.name if voice else below
+        if where is not None:
+            self.session.trouble(f'{call.name} was cut by the end of its thread: whether it was '
+                                 'done is not in the log', where)
+
+    def call(self, call: Call) -> None:
+        session = self.session
+        process = self.process(call.process, call.end)
+        handler = HANDLERS.get(call.name) or SOCKET_HANDLERS.get(call.name)
+        own = self.changed(process, call)
         # What was stored before the call is told before it; but a copy of the file that the
         # call itself changed has that change in it already.
-        self.store({path: data for path, data in copy.items() if path != own}, own)
+        for copy in self.stores.get(id(call), []):
+            self.store(copy, own, False)
         if handler is not None:
-            handler(self.session, process, call)
-        self.store({path: data for path, data in copy.items() if path == own}, None)
+            handler(session, process, call)
+        if call.begin in self.copies.numbers:
+            file = process.descriptors.files.get(call.descriptor(4).number)
+            if file is not None and file.node is not None:
+                self.mapped[self.copies.numbers[call.begin]] = file.node
+        for copy in self.stores.get(id(call), []):
+            self.store(copy, own, True)
 
-    def store(self, copy: Copy, own: object) -> None:
-        for path, data in copy.items():
-            if path != own:
-                self.session.stored(path, data)
+    def changed(self, process: Process, call: Call) -> Optional[Node]:
+        """The file whose bytes a call changes."""
+        if call.name in ('truncate', 'truncate64'):
+            return self.session.node(process, call, 0)
+        if call.name not in order.DATA_CHANGES:
+            return None
+        number = call.descriptor(order.TARGET_PLACES.get(call.name, 0)).number
+        file = process.descriptors.files.get(number)
+        return file.node if file else None
+
+    def store(self, copy: Copy, own: Optional[Node], is_own: bool) -> None:
+        """What a copy shows of the call's own file, or of all others."""
+        for number, data in copy.files.items():
+            node = self.mapped.get(number)
+            if node is not None and (node is own) == is_own:
+                stores.stored(self.session, node, data, copy.is_sure(number))
 
     def process(self, number: int, moment: int) -> Process:
         """The process of a call. A child may call before its parent's fork has returned."""
@@ -104,8 +150,7 @@ class Translator:
             self.session.trouble('a process whose parent is not in the log', '/')
             begin = self.session.begin
             return Process(Descriptors(), Place(begin.top, begin.umask))
-        fork = forks[-1]
-        return self.process(fork.process, moment).child(' '.join(fork.words))
+        return self.process(forks[-1].process, moment).child(forks[-1])
 
     def supersede(self, call: Call) -> None:
         """A thread's exec takes the number of its process."""
@@ -115,7 +160,5 @@ class Translator:
 
     def note_links(self) -> None:
         for node in set(self.session.tree.nodes.values()):
-            if len(node.names) > 1 and node.told_path is not None:
-                for name in sorted(node.names - {node.told_path}):
-                    self.session.trouble(f'stays another name of {node.told_path}, by a link',
-                                         name)
+            for name in sorted(node.names - node.told) if node.told else []:
+                self.session.trouble(f'stays another name of {node.told_path}, by a link', name)

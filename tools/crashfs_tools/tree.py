@@ -11,12 +11,15 @@ from .trace import (
     Chown,
     Creat,
     Fsync,
+    FsyncRange,
+    Link,
     Mkdir,
     Operation,
     Rename,
     Rmdir,
     Say,
     Start,
+    StartLink,
     Trace,
     Truncate,
     Unlink,
@@ -58,14 +61,19 @@ def path_fault(path: str) -> Optional[str]:
 
 
 class Tree:
-    """The entries by path; micro_operations counts what `crashfs` makes of the operations."""
+    """The entries by path, where two paths of one file have one entry; micro_operations counts
+    what `crashfs` makes of the operations."""
 
-    def __init__(self, owner: str, group: str, mode: int) -> None:
+    def __init__(self, owner: str, group: str, mode: int, block: int = 4_096) -> None:
         self.entries: Entries = {'/': Entry(owner, group, mode, None)}
         self.records = 1
+        self.block = block
         self.micro_operations = 0
 
-    def start(self, entry: Start) -> None:
+    def start(self, entry: Union[Start, StartLink]) -> None:
+        if isinstance(entry, StartLink):
+            self.make(entry.path, self.entries[entry.source])
+            return
         data = None if entry.data is None else bytearray(entry.data)
         self.make(entry.path, Entry(entry.owner, entry.group, entry.mode, data))
 
@@ -81,11 +89,13 @@ class Tree:
             return self.new_fault(operation.path)
         if isinstance(operation, Rename):
             return self.rename_fault(operation)
+        if isinstance(operation, Link):
+            return self.file_fault(operation.source) or self.new_fault(operation.target)
         if isinstance(operation, Rmdir):
             return self.rmdir_fault(operation.path)
         if isinstance(operation, (Chmod, Chown, Fsync)):
             return None if operation.path in self.entries else f'{operation.path} is not there'
-        if isinstance(operation, (Unlink, Write, Truncate)):
+        if isinstance(operation, (Unlink, Write, Truncate, FsyncRange)):
             return self.file_fault(operation.path) or self.size_fault(operation)
         return None
 
@@ -140,9 +150,18 @@ class Tree:
             self.make(operation.path, entry)
         elif isinstance(operation, (Unlink, Rmdir)):
             del self.entries[operation.path]
+        elif isinstance(operation, Link):
+            self.make(operation.target, self.entries[operation.source])
         elif isinstance(operation, Rename):
-            self.entries[operation.target] = self.entries.pop(operation.source)
+            self.rename(operation)
         self.micro_operations += self.steps(operation)
+
+    def rename(self, operation: Rename) -> None:
+        """A rename onto another path of the same file does nothing."""
+        source, target = operation.source, operation.target
+        if self.entries[source] is not self.entries.get(target):
+            self.entries[target] = self.entries.pop(source)
+            self.micro_operations += 1
 
     def steps(self, operation: Operation) -> int:
         """The number of micro-operations, with the bytes of a write or truncate put in place, and
@@ -151,11 +170,9 @@ class Tree:
             return self.write(operation)
         if isinstance(operation, Truncate):
             return self.truncate(operation)
-        if isinstance(operation, Rename):
-            return int(operation.source != operation.target)
         if isinstance(operation, (Chmod, Chown)):
             return self.set_rights(operation)
-        return int(isinstance(operation, (Creat, Mkdir, Unlink, Rmdir, Say)))
+        return int(isinstance(operation, (Creat, Mkdir, Unlink, Rmdir, Link, Say)))
 
     def write(self, operation: Write) -> int:
         data = self.entries[operation.path].data
@@ -166,7 +183,7 @@ class Tree:
         grows = end > len(data)
         resize(data, max(end, len(data)))
         data[operation.offset:end] = operation.data
-        first, last = operation.offset // limits.BLOCK_BYTES, (end - 1) // limits.BLOCK_BYTES
+        first, last = operation.offset // self.block, (end - 1) // self.block
         return int(grows) + last - first + 1
 
     def truncate(self, operation: Truncate) -> int:
@@ -194,7 +211,7 @@ def resize(data: bytearray, length: int) -> None:
 
 def replay(trace: Trace) -> Tree:
     """The tree at a trace's end; a trace that `crashfs` would refuse is a ValueError."""
-    tree = Tree(trace.header.owner, trace.header.group, trace.header.mode)
+    tree = Tree(trace.header.owner, trace.header.group, trace.header.mode, trace.block)
     for entry in trace.start:
         tree.start(entry)
     for place, operation in enumerate(trace.operations):

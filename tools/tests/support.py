@@ -19,18 +19,19 @@ from typing import Any, Callable, Dict, List, Optional, Sequence
 
 from crashfs_tools.directory import Scan
 from crashfs_tools.session import Beginning, Session
-from crashfs_tools.strace_log import read_log
-from crashfs_tools.trace import Creat, Header, Mkdir, Start
+from crashfs_tools.strace_log import Call, read_log
+from crashfs_tools.trace import WRITTEN_VERSION, Creat, Header, Mkdir, Start
 from crashfs_tools.translate import Translator
 
 TOOLS = Path(__file__).resolve().parents[1]
 EXAMPLES = TOOLS.parent / 'examples'
-FAKE = str(TOOLS / 'tests' / 'fake_crashfs.py')
+FAKE = str(TOOLS / 'crashfs_tools' / 'reading' / '__main__.py')
 # First on PATH, so that scripts are run by the Python that runs the tests.
 PYTHON_FOLDER = os.path.dirname(sys.executable)
 # How long a test waits for what has to come: so long only where a machine is overloaded.
-PATIENCE = 120
-QUOTED = re.compile(r'"([^"]*)"|<(/[^>]*)>')
+PATIENCE = 600
+PROGRESS = re.compile(r'crashfs-check: [\d,]+ of [\d,]+ tried, .* left\n')
+QUOTED = re.compile(r'"([^"]*)"|<(/[^>]*|\w+:\[\d+\])>')
 
 
 def numbers(text: str) -> str:
@@ -43,11 +44,15 @@ def as_strace(line: str) -> str:
                       else f'<{numbers(match[2])}>', line)
 
 
-def session_of(lines: List[str], start: Optional[List[Start]] = None, ignored=None) -> Session:
+def session_of(lines: List[str], start: Optional[List[Start]] = None, ignored=None,
+               note: Optional[Callable[[Call], str]] = None) -> Session:
     """The session that a log gives, for the directory /d with the umask 022 and the user u."""
     scan = Scan(Header('u', 'u', 0o755), list(start or []))
     session = Session(Beginning('/d', 0o022, 'u', 'u'), scan, ignored or (lambda path: False))
-    Translator(session, read_log(map(as_strace, lines)), []).run()
+    log = read_log(map(as_strace, lines))
+    for call in log.calls if note else []:
+        call.note = note(call)
+    Translator(session, log).run()
     return session
 
 
@@ -92,13 +97,18 @@ class InFolder(unittest.TestCase):
             return file.read()
 
     def start(self, command: str, *words: str, path: Optional[str] = None,
-              file_bytes: Optional[int] = None, output: Any = subprocess.PIPE) -> subprocess.Popen:
+              file_bytes: Optional[int] = None, output: Any = subprocess.PIPE,
+              ignored: str = '') -> subprocess.Popen:
         """Starts one of the two commands, with the test's folder for what it lays down; with
-        file_bytes no file may become larger, as on a disk that is full."""
+        file_bytes no file may become larger, as on a disk that is full; a signal may be ignored."""
         # The standard library is all that is needed, and starts faster without `site`.
         line = [sys.executable, '-S', str(TOOLS / command), *words]
         if file_bytes is not None:
             line = ['prlimit', f'--fsize={file_bytes}', *line]
+        if ignored:
+            line = ['sh', '-c', f'trap "" {ignored}; exec "$@"', 'sh', *line]
+        else:  # The tests may themselves run under `nohup`.
+            line = ['env', '--default-signal=HUP', *line]
         return subprocess.Popen(line, cwd=self.folder, stdout=output,
                                 stderr=subprocess.PIPE, text=True, stdin=subprocess.DEVNULL,
                                 env={**os.environ, **self.environment(path)})
@@ -140,7 +150,9 @@ def forked(command: str, words: Sequence[str], folder: str,
              'seconds': PATIENCE}
     print(json.dumps(asked), file=_own.forker.stdin, flush=True)
     told = json.loads(_own.forker.stdout.readline())
-    return subprocess.CompletedProcess(words, told['status'], told['out'], told['err'])
+    # On a machine with other work a check may take so long that it shows how far it is.
+    err = PROGRESS.sub('', told['err'])
+    return subprocess.CompletedProcess(words, told['status'], told['out'], err)
 
 
 def end_forker(forker: subprocess.Popen) -> None:
@@ -173,5 +185,7 @@ def needed(there: bool, what: str) -> Callable[[Any], Any]:
     return unittest.skipUnless(there, what)
 
 
+# What the tests of the recorder say of its traces is said in lines of version 3.
+needs_version_3 = needed(WRITTEN_VERSION == 3, 'traces are written in an older version than 3')
 needs_strace = needed(strace_works(), 'strace is not there, or may not trace')
 needs_sqlite = needed(shutil.which('sqlite3') is not None, 'sqlite3 is not there')

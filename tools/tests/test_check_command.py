@@ -1,9 +1,16 @@
 """crashfs-check as its users run it, on the fake program."""
 
+import ctypes
 import json
 import os
+import platform
+import re
 import signal
+import sys
+import time
 import unittest
+
+from crashfs_tools import program
 
 from .support import EXAMPLES, FAKE, PATIENCE, InFolder, long_time
 
@@ -16,6 +23,16 @@ echo some more
 echo 'lost: a=2 was told'
 exit 1
 """
+
+# The system call that sends a signal to one thread.
+TGKILL = 234
+RIGHTS = '"owner":"u","group":"u","mode":"755"'
+# Two copies of a value, of which neither is synced.
+DOUBLE = '\n'.join([
+    f'{{"trace":3,"profile":"blocks","block":4096,{RIGHTS}}}',
+    f'{{"op":"creat","path":"/a",{RIGHTS}}}', f'{{"op":"creat","path":"/b",{RIGHTS}}}',
+    '{"op":"fsync","path":"/"}', '{"op":"write","path":"/a","offset":0,"text":"v1"}',
+    '{"op":"write","path":"/b","offset":0,"text":"v1"}', '{"op":"say","text":"stored"}', ''])
 
 
 class InStore(InFolder):
@@ -44,7 +61,7 @@ class Checks(InStore):
     def test_a_store_that_is_right_fails_nowhere(self):
         ran = self.check(self.good)
         self.assertEqual((ran.returncode, ran.stderr), (0, ''))
-        self.assertEqual(ran.stdout, 'store.trace: 11 micro-operations, 26 states, 20 different: '
+        self.assertEqual(ran.stdout, 'store.trace: 11 micro-operations, 20 states, 13 different: '
                                      'none fails\n')
         self.assert_nothing_left()
 
@@ -52,35 +69,68 @@ class Checks(InStore):
         ran = self.check(self.bad)
         self.assertEqual(ran.returncode, 1, ran.stderr)
         self.assertEqual(ran.stdout.splitlines(), [
-            'bad.trace: 11 micro-operations, 29 states, 23 different: 3 fail (lost 3)',
-            '  lost: a=2 was told                                   '
-            '3 states, as: --state 25',
-            '    kept      op 10 change_file_size /log 0          line 15',
-            '    but not   op 8 move_dir_entry /tmp/table /table  line 13',
+            'bad.trace: 11 micro-operations, 23 states, 16 different: 3 fail (lost 3)',
+            '  lost: a=2 was told                                   3 states, e.g. --state 20',
+            '    line 13: put the new table in place',
+            '    line 15: the table has all of it',
+            '    line 13 (rename /tmp/table to /table) was not durable when line 15 (truncate '
+            '/log, 0 bytes) was:',
+            '    fsync the directory / between them',
+            '    tried: with that sync 0 of these 3 states are left, and no other fails',
+            '    state 20 also lacks line 14 (rmdir /tmp)',
         ])
         self.assert_nothing_left()
+
+    def test_without_a_program_the_second_reading_is_used_and_the_report_says_so(self):
+        whole = self.check(self.bad)
+        for words in [('--unproved', '--crashfs', FAKE), ('--unproved',)]:
+            ran = self.run_tool('crashfs-check', *words, '--json', 'r.json', self.bad, '--',
+                                './recover.sh')
+            first, _, rest = ran.stdout.partition('\n')
+            self.assertEqual((ran.returncode, rest), (1, whole.stdout), ran.stderr)
+            self.assertTrue(first.startswith('unproved: ') and 'tools/build' in first, first)
+        ran = self.run_tool('crashfs-check', '--merge', 'r.json')
+        self.assertTrue(ran.stdout.startswith('unproved: '), ran.stdout)
+
+    def test_a_program_on_the_path_comes_before_the_second_reading(self):
+        os.mkdir(self.path('bin'))
+        search = f"{self.path('bin')}:/usr/bin:/bin"
+        for is_there in (False, True):
+            if is_there:
+                self.write('bin/crashfs',
+                           f'#!/bin/sh\nexec {sys.executable} -S {FAKE} "$@"\n', 0o755)
+            elif program.Crashfs.find(None) is not None:
+                continue  # One is built here, or there is one on PATH.
+            ran = self.run_tool('crashfs-check', self.good, '--', 'true', path=search)
+            self.assertEqual((ran.returncode, ran.stderr), (0, ''))
+            self.assertEqual(ran.stdout.startswith('unproved: '), not is_there, ran.stdout)
 
     def test_prefixes_alone_find_nothing_of_it(self):
         ran = self.check('--prefixes', self.bad)
         self.assertEqual((ran.returncode, ran.stdout.split(', ')[1]), (0, '12 states'))
 
-    def test_families_of_picks_are_tried_too(self):
-        for families, states in ([['--lost'], 23], [['--files'], 15],
-                                 [['--lost', '--files'], 25]):
-            ran = self.check('--prefixes', *families, self.good,
-                             command=['sh', '-c', 'test $CRASHFS_STATE -lt 12'])
+    def test_families_find_a_sync_that_a_second_copy_hides(self):
+        trace = self.write('double.trace', DOUBLE)
+        both_gone = ['sh', '-c', 'test $CRASHFS_SAYS = 0 || grep -qs v1 a b || exit 1']
+        for families, failing in [([], 1), (['--quick'], 0), (['--prefixes'], 0),
+                                  (['--quick', '--lost'], 1), (['--prefixes', '--files'], 0)]:
+            ran = self.check(*families, trace, command=both_gone)
+            self.assertEqual(ran.returncode, failing, f'{families} {ran.stdout}{ran.stderr}')
+
+    def test_families_add_what_the_plan_has_not(self):
+        for families, states in [(['--prefixes'], 12), (['--prefixes', '--lost'], 23),
+                                 (['--prefixes', '--files'], 15), (['--quick'], 19), ([], 20)]:
+            ran = self.check(*families, self.good, command=['true'])
             self.assertIn(f', {states} states, ', ran.stdout)
-            # What --files has in this trace are trees of prefixes, which are tried already.
-            self.assertEqual(ran.returncode, int('--lost' in families), ran.stdout)
 
     def test_a_state_is_left_as_the_crash_left_it(self):
-        ran = self.check('--state', '27', self.bad,
+        ran = self.check('--state', '20', self.bad,
                          command=['sh', '-c', 'cat log table; ls; rm log; echo "$CRASHFS_STATE"; '
                                               'exit 1'])
         self.assertEqual((ran.returncode, ran.stderr), (1, ''))
-        self.assertIn('state 27, hole 8 11, says 1: bad: 27\n', ran.stdout)
+        self.assertIn('state 20, hole 8 11, says 1: bad: 20\n', ran.stdout)
         folder, = os.listdir(self.temporary)
-        left = os.path.join(self.temporary, folder, '27')
+        left = os.path.join(self.temporary, folder, '20')
         self.assertIn(f'It is laid out in {left}.', ran.stdout)
         self.assertEqual(sorted(os.listdir(left)), ['log', 'table', 'tmp'])
         with open(os.path.join(left, 'table'), encoding='utf-8') as file:
@@ -97,31 +147,36 @@ class Checks(InStore):
             ran = self.check('--shard', f'{part}/2', '--json', files[-1], self.bad)
             self.assertIn(f'tried by shard {part}/2', ran.stdout)
         ran = self.run_tool('crashfs-check', '--json', 'all.json', '--merge', *files)
-        self.assertEqual((ran.returncode, ran.stdout), (1, whole.stdout), ran.stderr)
+        # What was tried of the advice is known only where COMMAND runs.
+        untried = re.sub(' *tried: .*\n', '', whole.stdout)
+        self.assertEqual((ran.returncode, ran.stdout), (1, untried), ran.stderr)
         parts = [json.loads(self.read(f'{part}.json'))['outcomes'] for part in (1, 2)]
         merged = json.loads(self.read('all.json'))['outcomes']
         self.assertEqual(merged, {**parts[0], **parts[1]})
         self.assertEqual(len(merged), sum(map(len, parts)))
-        ran = self.run_tool('crashfs-check', '--merge', files[1], files[1])
-        self.assertEqual(ran.returncode, 2)
-        self.assertEqual(ran.stderr, 'crashfs-check: of 2 shards these are given: 2, 2\n')
+        for given, told in [((1, 1), 'shard 1/2 is missing'), ((0,), 'shard 2/2 is missing'),
+                            ((0, 1, 0), 'shard 1/2 was given 2 times')]:
+            ran = self.run_tool('crashfs-check', '--merge', *(files[one] for one in given))
+            self.assertEqual((ran.returncode, ran.stderr), (2, f'crashfs-check: {told}\n'))
 
     def test_causes_are_last_lines_signals_and_statuses(self):
         for script, told in [('echo a; echo "b: c"; echo', 'b: c'), ('true', 'status 7'),
                              ('kill -9 $$', 'ended by SIGKILL')]:
             with self.subTest(script):
-                ran = self.check('--prefixes', self.good, command=['sh', '-c', f'{script}; exit 7'])
+                ran = self.check('--prefixes', self.good, command=[
+                    'sh', '-c', f'test $CRASHFS_STATE != 3 || {{ {script}; exit 7; }}'])
                 self.assertEqual(ran.stdout.splitlines()[1].strip().split('  ')[0], told)
                 self.assertEqual(ran.returncode, 1)
 
     def test_a_command_that_hangs_is_ended_and_has_no_answer(self):
         ran = self.check('--prefixes', '--timeout', '0.3', '--jobs', '4', '--json', 'r.json',
-                         self.good, command=['sh', '-c', 'test $CRASHFS_STATE != 3 || sleep 60'])
+                         self.good, command=['sh', '-c', 'test $CRASHFS_STATE != 3 || '
+                                             '{ echo begun; sleep 60; }'])
         self.assertEqual(ran.returncode, 3, ran.stderr)
         self.assertIn(' gave no answer', ran.stdout)
         # On a machine that is loaded others may be ended too.
         self.assertEqual(json.loads(self.read('r.json'))['outcomes']['3'],
-                         ['no answer', 'it had not ended after 0.3 seconds'])
+                         ['no answer', 'it had not ended after 0.3 seconds', 'begun\n'])
         self.assert_nothing_left()
 
     def test_what_a_command_leaves_running_is_ended(self):
@@ -132,11 +187,8 @@ class Checks(InStore):
 
     def test_an_empty_tree_is_an_empty_directory(self):
         trace = self.write('empty.trace', '{"trace":1,"owner":"u","group":"u","mode":"755"}\n')
-        no_root = self.write('no_root', f'#!/bin/sh\ntest $1 != tar || exec head -c 10240 /dev/zero'
-                                        f'\nexec {FAKE} "$@"\n', 0o755)
-        for program in (FAKE, no_root):
-            ran = self.check('--crashfs', program, trace, command=['sh', '-c', 'test -z "$(ls)"'])
-            self.assertEqual((ran.returncode, ran.stderr), (0, ''))
+        ran = self.check(trace, command=['sh', '-c', 'test -z "$(ls)"'])
+        self.assertEqual((ran.returncode, ran.stderr), (0, ''))
 
     def test_modes_that_forbid_everything_are_no_hindrance(self):
         trace = self.write('modes.trace', '\n'.join([
@@ -158,7 +210,7 @@ class Room(InStore):
                             ((), f'{self.temporary}: File too large')]:
             ran = self.run_tool('crashfs-check', '--crashfs', FAKE, *words, self.good, '--', 'true',
                                 file_bytes=300 if words else 4)
-            # The report comes first: no want of room takes it away.
+            # The report is printed all the same.
             self.assertEqual((ran.returncode, 'none fails' in ran.stdout), (3, bool(words)))
             self.assertEqual(ran.stderr, f'crashfs-check: {told}\n')
             self.assertFalse(os.path.exists(self.path('r.json')))
@@ -175,22 +227,45 @@ class Room(InStore):
 
 class Stops(InStore):
 
-    def begin(self):
-        child = self.start('crashfs-check', '--crashfs', FAKE, self.good, '--', 'sh', '-c',
-                           f'echo > {self.path("begun")}; sleep {self.long}')
+    def begin(self, *words, ignored=''):
+        """Starts a check of which all but the first two commands hang."""
+        child = self.start('crashfs-check', '--crashfs', FAKE, *words, self.good, '--', 'sh', '-c',
+                           'case $CRASHFS_STATE in 0|11) exit;; esac; '
+                           f'echo > {self.path("begun")}; sleep {self.long}', ignored=ignored)
         self.wait_until(lambda: os.path.exists(self.path('begun')), 'a command has begun')
         return child
 
     def test_a_stop_leaves_nothing(self):
-        for number in (signal.SIGINT, signal.SIGTERM):
+        for number in (signal.SIGINT, signal.SIGTERM, signal.SIGHUP):
             child = self.begin()
             child.send_signal(number)
             out, err = child.communicate(timeout=PATIENCE)
-            self.assertEqual((child.returncode, out), (128 + number, ''))
+            self.assertEqual(child.returncode, 128 + number)
+            self.assertIn(f', 2 tried (stopped by {signal.Signals(number).name}): none fails', out)
             self.assertEqual(err, f'crashfs-check: stopped by {signal.Signals(number).name}\n')
             self.assert_ended()
             self.assert_nothing_left()
             os.unlink(self.path('begun'))
+
+    def test_a_hangup_that_is_ignored_stops_nothing(self):
+        child = self.begin(ignored='HUP')
+        child.send_signal(signal.SIGHUP)
+        time.sleep(0.5)
+        child.send_signal(signal.SIGTERM)
+        child.communicate(timeout=PATIENCE)
+        self.assertEqual(child.returncode, 128 + signal.SIGTERM)
+        self.assert_ended()
+
+    @unittest.skipUnless(platform.machine() == 'x86_64', 'tgkill has another number')
+    def test_a_stop_that_another_thread_takes_is_heard(self):
+        child = self.begin('--jobs', '1', '--timeout', '300')
+        other, = [int(one) for one in os.listdir(f'/proc/{child.pid}/task')
+                  if int(one) != child.pid]
+        time.sleep(1)  # The first thread waits by now, for room in the queue.
+        ctypes.CDLL(None).syscall(TGKILL, child.pid, other, signal.SIGTERM)
+        child.communicate(timeout=PATIENCE)
+        self.assertEqual(child.returncode, 128 + signal.SIGTERM)
+        self.assert_ended()
 
     def test_a_kill_leaves_nothing(self):
         child = self.begin()
@@ -216,7 +291,7 @@ class Refuses(InStore):
                               '"list":[],"command":[],"shard":[1,1],"outcomes":[],"needs":[]}')
         for told, *words in [
                 ('none: No such file or directory', '--crashfs', FAKE, 'none', '--', 'true'),
-                ('no-such is not there', '--crashfs', FAKE, self.good, '--', 'no-such'),
+                ('no-such: command not found', '--crashfs', FAKE, self.good, '--', 'no-such'),
                 ('--crashfs /none: no such program', '--crashfs', '/none', self.good, '--', 'true'),
                 ('no such state: 99', '--crashfs', FAKE, '--state', '99', self.good, '--', 'true'),
                 ('x/r.json: its directory is not there', '--json', 'x/r.json', '--crashfs', FAKE,
@@ -237,7 +312,7 @@ class Refuses(InStore):
     def test_a_program_without_the_options_is_told(self):
         old = self.write('old', f'#!/bin/sh\nexec {FAKE} "$@" --old\n', 0o755)
         err = self.refusal('--crashfs', old, self.good, '--', 'true')
-        self.assertIn('has no `list --lines --same` yet', err)
+        self.assertIn('has no `picks` yet', err)
         no_tar = self.write('no_tar', f'#!/bin/sh\ntest $1 = tar && set -- --old\n'
                                       f'exec {FAKE} "$@"\n', 0o755)
         err = self.refusal('--crashfs', no_tar, self.good, '--', 'true')
@@ -248,6 +323,8 @@ class Refuses(InStore):
                       ('--shard', '3/2', self.good, '--', 'x'),
                       ('--timeout', 'x', self.good, '--', 'x')]:
             self.assertIn('error: ', self.refusal(*words))
+        self.assertIn('error: put -- before COMMAND (./check.sh)',
+                      self.refusal(self.good, './check.sh'))
 
     def test_a_trace_that_the_program_refuses_is_told_with_its_line(self):
         refusing = self.write('refusing', '#!/bin/sh\necho "crashfs: trace line 3: Exists" >&2\n'

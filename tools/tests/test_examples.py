@@ -4,9 +4,12 @@ import os
 import re
 import unittest
 
+from crashfs_tools.trace import WRITTEN_VERSION
+from crashfs_tools.trace_read import read_trace
+
 from .support import EXAMPLES, FAKE, InFolder, needs_sqlite, needs_strace
 
-OWNERS = re.compile(r'"(owner|group)":"[^"]*"')
+OWNERS, NOBODY = re.compile(r'"(owner|group)":"[^"]*"'), r'"\1":"nobody"'
 
 
 def example(*names: str) -> str:
@@ -60,9 +63,10 @@ class Recorded(InFolder):
         os.mkdir(self.path('store'))
         self.write('store/config', 'version=0\n')
         with open(example('config', 'config.trace'), encoding='utf-8') as file:
-            wanted = OWNERS.sub('', file.read()).splitlines()
-        found = self.record(example('config', 'save.py'))
-        self.assertEqual([OWNERS.sub('', line) for line in found], wanted)
+            wanted = read_trace(OWNERS.sub(NOBODY, file.read()))
+        found = read_trace(OWNERS.sub(NOBODY, '\n'.join(self.record(example('config', 'save.py')))))
+        self.assertEqual((found.version, found.start, found.operations),
+                         (WRITTEN_VERSION, wanted.start, wanted.operations))
 
     @needs_sqlite
     def test_a_session_of_sqlite_has_its_rows_told_and_its_journals_removed(self):

@@ -4,6 +4,7 @@ take it away again."""
 
 import argparse
 import os
+import re
 import signal
 import unittest
 
@@ -65,17 +66,18 @@ class Mounts(InMounts):
     def test_the_report_is_that_of_a_check_without_mounts(self):
         self.mount_trees()
         mounted = self.check(self.bad)
-        plain = InStore.check(self, self.bad)
+        # A server has the prefixes and holes of its own plan, so that no advice is tried.
+        plain = InStore.check(self, '--quick', self.bad)
         self.assertEqual((mounted.returncode, mounted.stdout, mounted.stderr),
-                         (1, plain.stdout, ''))
+                         (1, re.sub(' *tried: .*\n', '', plain.stdout), ''))
         self.assert_nothing_left()
 
     def test_each_state_is_mounted_once_and_unmounted(self):
         self.check(self.bad, command=['true'])
         mounted, unmounted = self.logged('mount'), self.logged('umount')
-        self.assertEqual(len(mounted), 23)
+        self.assertEqual(len(mounted), 16)
         self.assertEqual(sorted(mounted), sorted(unmounted))
-        self.assertEqual(len(set(mounted)), 23)
+        self.assertEqual(len(set(mounted)), 16)
 
     def test_a_mount_has_the_user_and_a_run_that_no_other_check_has(self):
         runs = set()
@@ -95,13 +97,13 @@ class Mounts(InMounts):
 
     def test_one_state_is_tried_on_a_mount_and_left_as_files(self):
         self.mount_trees()
-        ran = self.check('--state', '27', self.bad)
+        ran = self.check('--state', '20', self.bad)
         self.assertEqual((ran.returncode, ran.stderr), (1, ''))
-        self.assertIn('state 27, hole 8 11, says 1: bad: lost: a=2 was told\n', ran.stdout)
+        self.assertIn('state 20, hole 8 11, says 1: bad: lost: a=2 was told\n', ran.stdout)
         self.assertEqual(len(self.logged('mount')), 1)
         self.assertEqual(self.logged('mount'), self.logged('umount'))
         folder, = os.listdir(self.temporary)
-        self.assertEqual(sorted(os.listdir(os.path.join(self.temporary, folder, '27'))),
+        self.assertEqual(sorted(os.listdir(os.path.join(self.temporary, folder, '20'))),
                          ['log', 'table', 'tmp'])
 
     def test_what_is_in_use_is_unmounted_lazily(self):
@@ -160,7 +162,8 @@ class Stops(InMounts):
         child = self.begin()
         child.send_signal(signal.SIGINT)
         out, err = child.communicate(timeout=PATIENCE)
-        self.assertEqual((child.returncode, out), (130, ''))
+        self.assertEqual(child.returncode, 130)
+        self.assertIn(', 0 tried (stopped by SIGINT): none fails', out)
         self.assertEqual(err, 'crashfs-check: stopped by SIGINT\n')
         self.assert_unmounted()
         self.assert_nothing_left()

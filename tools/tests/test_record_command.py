@@ -1,13 +1,21 @@
 """crashfs-record as its users run it, with strace."""
 
+import ctypes
 import os
+import platform
 import shutil
 import signal
 import sys
+import threading
+import time
 import unittest
 
-from .support import FAKE, PATIENCE, TOOLS, InFolder, needs_strace
+from crashfs_tools import strace_run
 
+from .support import FAKE, PATIENCE, TOOLS, InFolder, needs_strace, needs_version_3
+
+# The call that signals one thread.
+TGKILL = 234
 STORE_MAPPED = """
 import mmap, os
 f = os.open('map', os.O_RDWR | os.O_CREAT, 0o600)
@@ -32,6 +40,10 @@ class Records(InFolder):
             file.write('1\n')
 
     def record(self, script, *options):
+        """A script that mostly prints nothing."""
+        return self.record_aloud(script, '--no-say', *options)
+
+    def record_aloud(self, script, *options):
         return self.run_tool('crashfs-record', *options, 'd', 'out.trace', '--',
                              'sh', '-c', script)
 
@@ -47,6 +59,7 @@ class Records(InFolder):
         self.assertEqual(names, ['creat', 'write', 'say', 'rename', 'mkdir', 'sync', 'write'])
         self.assert_nothing_left()
 
+    @needs_version_3
     def test_random_sessions_end_as_their_directories(self):
         program = str(TOOLS / 'tests' / 'random_session.py')
         for seed in (1, 2, 3):
@@ -59,10 +72,83 @@ class Records(InFolder):
                 self.assertEqual(ran.returncode, 0, ran.stderr)
                 self.assertGreater(len(self.operations()), 40)
 
+    def test_names_of_every_kind_go_through(self):
+        ran = self.record("""printf x > "$(printf 'a\nstate 9 b')"; echo x > 'q"\\ '; rm 'q"\\ '""",
+                          '--crashfs', FAKE)
+        self.assertIn('(by crashfs tar)', ran.stderr)
+        self.assertEqual(ran.returncode, 0, ran.stderr)
+        self.assertIn('{"op":"creat","path":"/a\\nstate 9 b",', self.read('out.trace'))
+        self.assertIn('{"op":"unlink","path":"/q\\"\\\\ "}', self.operations())
+
     def test_the_program_tells_the_last_state_where_it_can(self):
         ran = self.record('echo 2 > new; rm old', '--crashfs', FAKE)
         self.assertIn('(by crashfs tar)', ran.stderr)
         self.assertEqual(ran.returncode, 0, ran.stderr)
+
+    def test_where_no_loss_could_be_seen_it_is_told(self):
+        for script, told in [
+                ('echo 2 > new', 'no line was acknowledged: no loss can be seen; --no-say'),
+                ('echo 2 > new; echo no >&2',
+                 'no line was acknowledged, and 1 line on standard error: no loss can be seen '
+                 '(--say-fd 2 takes these)'),
+                ('printf "1\n2\n"; echo 2 > new', 'all 2 acknowledged lines came in one write')]:
+            with self.subTest(script):
+                ran = self.record_aloud(script)
+                self.assertEqual(ran.returncode, 3)
+                self.assertIn('crashfs-record: ' + told, ran.stderr)
+                self.assertEqual(self.record(script).returncode, 0)
+        ran = self.record_aloud('echo 2 > new; echo no >&2', '--say-fd', '2')
+        self.assertEqual(ran.returncode, 0, ran.stderr)
+        self.assertIn('1 acknowledged line (standard error)', ran.stderr)
+
+    @needs_version_3
+    def test_the_last_line_counts_what_there_is(self):
+        ran = self.record_aloud('echo 2 > new; echo one; rm old; echo two')
+        self.assertIn('1 start line, 5 operations, 6 micro-operations, 20 states, '
+                      '2 acknowledged lines (standard output); its last state is that of the '
+                      'directory', ran.stderr)
+
+    def test_what_is_only_noted_has_status_4(self):
+        ran = self.record('mkdir s; chmod 2755 s')
+        self.assertEqual(ran.returncode, 4, ran.stderr)
+        self.assertIn('/s: it gets the mode bits 2000, beyond 777', ran.stderr)
+        self.assertEqual(self.record('echo 2 > s/new').returncode, 4)
+        self.assertEqual(self.record('ln -s x link').returncode, 3)
+
+    @needs_version_3
+    def test_a_trace_begins_after_a_line(self):
+        script = 'echo 2 > old; ln old new; echo up; echo 3 > s; echo one; rm s; echo two'
+        for line in ('up', 'u*', '1'):
+            ran = self.record_aloud('rm -f new s; ' + script, '--begin-after', line)
+            self.assertEqual(ran.returncode, 0, ran.stderr)
+            self.assertIn('what was not yet synced then counts as durable', ran.stderr)
+            self.assertIn('"text":"2\\n"}', self.read('out.trace').splitlines()[1])
+            self.assertEqual(self.read('out.trace').splitlines()[2],
+                             '{"start":"link","path":"/old","from":"/new"}')
+            names = [one.split('"')[3] for one in self.operations()]
+            self.assertEqual(names, ['creat', 'write', 'say', 'unlink', 'say'])
+        ran = self.record_aloud('rm -f new s; ' + script, '--begin-after', 'down')
+        self.assertEqual(ran.returncode, 3)
+        self.assertIn('no acknowledged line is down', ran.stderr)
+
+    def test_the_trace_may_be_standard_output_or_what_is_no_plain_file(self):
+        ran = self.run_tool('crashfs-record', '--no-say', 'd', '-', '--', 'sh', '-c',
+                            'echo 2 > new')
+        self.assertEqual(ran.returncode, 0, ran.stderr)
+        self.assertEqual(len(ran.stdout.splitlines()), 4)
+        os.mkfifo(self.path('pipe'))
+        reader = threading.Thread(target=lambda: seen.append(self.read('pipe')))
+        seen = []
+        reader.start()
+        ran = self.run_tool('crashfs-record', '--no-say', 'd', 'pipe', '--', 'sh', '-c', 'rm new')
+        reader.join()
+        self.assertIn('{"op":"unlink","path":"/new"}', seen[0])
+
+    def test_a_link_to_the_trace_stays_a_link(self):
+        os.symlink('real.trace', self.path('out.trace'))
+        self.assertEqual(self.record('echo 2 > new').returncode, 0)
+        self.assertTrue(os.path.islink(self.path('out.trace')))
+        self.assertEqual(len(self.read('real.trace').splitlines()), 4)
 
     def test_what_no_trace_says_is_told_and_the_rest_is_written(self):
         ran = self.record('ln -s old link; chmod 600 old; echo 2 > new; exit 4')
@@ -71,14 +157,17 @@ class Records(InFolder):
             self.assertIn(told, ran.stderr)
         self.assertEqual(len(self.operations()), 3)
 
-    def test_modes_that_change_make_a_trace_of_version_2(self):
+    @needs_version_3
+    def test_modes_profiles_and_blocks(self):
         ran = self.record('umask 077; echo 2 > new; chmod 640 new; chmod 700 .; mv new old')
         self.assertEqual(ran.returncode, 0, ran.stderr)
-        self.assertTrue(self.read('out.trace').startswith('{"trace":2,"profile":"blocks",'))
+        start = '{"trace":3,"profile":"blocks","block":4096,'
+        self.assertTrue(self.read('out.trace').startswith(start))
         self.assertIn('{"op":"chmod","path":"/new","mode":"640"}', self.operations())
         self.assertIn('{"op":"chmod","path":"/","mode":"700"}', self.operations())
-        ran = self.record('echo 3 > old', '--profile', 'ordered')
-        self.assertTrue(self.read('out.trace').startswith('{"trace":2,"profile":"ordered",'))
+        ran = self.record('echo 3 > old', '--profile', 'ordered', '--block', '512')
+        start = '{"trace":3,"profile":"ordered","block":512,'
+        self.assertTrue(self.read('out.trace').startswith(start), ran.stderr)
 
     def test_a_start_tree_leaves_out_what_no_trace_says(self):
         os.symlink('old', self.path('d', 'link'))
@@ -88,17 +177,42 @@ class Records(InFolder):
         self.assertEqual(len(self.operations()), 1)
 
     def test_ignored_files_stand_nowhere(self):
-        ran = self.record('mkdir log; echo 2 > log/a; echo 3 > b', '--ignore', 'lo*')
+        ran = self.record('mkdir -p s/log; echo 2 > s/log/a; echo 3 > b', '--ignore', 'lo*/',
+                          '--ignore', 's/', '--ignore', '!/b')
         self.assertEqual((ran.returncode, len(self.operations())), (0, 2), ran.stderr)
 
     def test_a_difference_at_the_end_is_told(self):
-        child = self.start('crashfs-record', 'd', 'out.trace', '--', 'sh', '-c',
+        child = self.start('crashfs-record', '--no-say', 'd', 'out.trace', '--', 'sh', '-c',
                            'echo $$ > ../pid; until test -e other; do sleep 0.05; done')
         self.pid_of('pid')
         self.write('d/other', 'made by the test, which strace does not follow')
         _, err = child.communicate(timeout=PATIENCE)
         self.assertEqual(child.returncode, 3)
         self.assertIn('/other: it is there at the end, and the trace has it not', err)
+
+    def test_what_a_scan_sees_and_no_trace_says_is_reported(self):
+        self.write('d/one', '1')
+        self.write('d/two', '1')
+        child = self.start('crashfs-record', '--no-say', 'd', 'out.trace', '--', 'sh', '-c',
+                           'echo $$ > ../pid; until test -e other; do sleep 0.05; done; rm other')
+        self.pid_of('pid')
+        os.unlink(self.path('d', 'two'))
+        os.link(self.path('d', 'one'), self.path('d', 'two'))
+        os.mkfifo(self.path('d', 'pipe'))
+        os.setxattr(self.path('d', 'old'), 'user.a', b'1')
+        self.write('d/other', 'made by the test, which strace does not follow')
+        _, err = child.communicate(timeout=PATIENCE)
+        self.assertEqual(child.returncode, 3)
+        for told in ['/two: it is a link to /one at the end, and not so in the trace',
+                     '/pipe: at the end it is a named pipe, which no trace has',
+                     '/old: its extended attributes differ, which no trace has']:
+            self.assertIn(told, err)
+
+    def test_a_program_that_refuses_the_trace_compares_nothing(self):
+        self.write('tmp/crashfs', '#!/bin/sh\necho "trace line 1: Syntax" >&2; exit 1\n', 0o755)
+        ran = self.record('echo 2 > new', '--crashfs', self.path('tmp', 'crashfs'))
+        self.assertEqual(ran.returncode, 0, ran.stderr)
+        self.assertIn('its last state is that of the directory (by an own replay)', ran.stderr)
 
     def test_a_log_is_converted_as_it_was_recorded(self):
         before = self.read('d/old')
@@ -107,8 +221,8 @@ class Records(InFolder):
         recorded = self.read('out.trace')
         os.mkdir(self.path('copy'))
         self.write('copy/old', before)
-        ran = self.run_tool('crashfs-record', '--from-log', 'log', '--log-dir', self.path('d'),
-                            'copy', 'second.trace')
+        ran = self.run_tool('crashfs-record', '--no-say', '--from-log', 'log', '--log-dir',
+                            self.path('d'), 'copy', 'second.trace')
         self.assertEqual(ran.returncode, 0, ran.stderr)
         self.assertEqual(self.read('second.trace'), recorded)
 
@@ -121,16 +235,17 @@ class Records(InFolder):
         self.assertRegex(ran.stderr, 'log changes nothing below .*/copy: --log-dir is the path')
         self.assertFalse(os.path.exists(self.path('second.trace')))
 
+    @needs_version_3
     def test_stores_through_a_mapping_are_told_with_mapped(self):
         script = self.write('mapped.py', STORE_MAPPED)
         ran = self.record(f'{sys.executable} {script}', '--mapped')
         self.assertEqual(ran.returncode, 0, ran.stderr)
         self.assertEqual([line.partition(',')[2] for line in self.operations()[1:]], [
             '"path":"/map","length":8192}',
-            '"path":"/map","offset":5,"bytes":"6869"}',
-            '"path":"/map","offset":4096,"bytes":"78"}',
-            '"path":"/map"}',
-            '"path":"/map","offset":0,"bytes":"79"}',
+            '"path":"/map","offset":5,"text":"hi"}',
+            '"path":"/map","offset":4096,"text":"x"}',
+            '"path":"/map","offset":0,"length":8192}',
+            '"path":"/map","offset":0,"text":"y"}',
             '"text":"told"}',
         ])
         self.assert_nothing_left()
@@ -169,23 +284,61 @@ class Records(InFolder):
                                 'for i in 1 2 3 4 5; do echo $i > f$i; done', file_bytes=300)
             self.assertEqual(ran.returncode, 1)
             self.assertEqual(ran.stderr, f'crashfs-record: {told}\n')
-            self.assertEqual(sorted(os.listdir(self.folder)), ['d', 'tmp'])
+            self.assertEqual(sorted(os.listdir(self.folder)), ['d', *keep[1:], 'tmp'])
             self.assert_nothing_left()
 
-    def test_a_stop_leaves_nothing(self):
-        for number, told in [(signal.SIGINT, 'SIGINT'), (signal.SIGTERM, 'SIGTERM')]:
-            with self.subTest(told):
+    def test_a_command_that_a_signal_ends_is_recorded(self):
+        for name in ('KILL', 'TERM', 'SEGV'):
+            with self.subTest(name):
+                ran = self.record_aloud(f'echo 2 > new; echo told; kill -{name} $$',
+                                        '--keep-log', 'log')
+                self.assertEqual((ran.returncode, ran.stdout), (3, 'told\n'))
+                self.assertIn(f'COMMAND was ended by SIG{name}\n', ran.stderr)
+                self.assertIn(f'+++ killed by SIG{name}', self.read('log'))
+                self.assertEqual(len(self.operations()), 3)
+
+    def test_a_stop_ends_the_command_and_what_was_recorded_is_written(self):
+        for number in (signal.SIGINT, signal.SIGTERM):
+            with self.subTest(number):
                 child = self.start('crashfs-record', 'd', 'out.trace', '--', 'sh', '-c',
-                                   'echo $$ > ../pid; echo 2 > new; sleep 60')
+                                   'echo $$ > ../pid; echo 2 > new; echo told; '
+                                   'echo 1 > ../after; sleep 60')
                 pid = self.pid_of('pid')
+                self.wait_until(lambda: os.path.exists(self.path('after')), 'the line is told')
                 child.send_signal(number)
-                out, err = child.communicate(timeout=PATIENCE)
-                self.assertEqual((child.returncode, out), (128 + number, ''))
-                self.assertEqual(err, f'crashfs-record: stopped by {told}; nothing is written\n')
+                _, err = child.communicate(timeout=PATIENCE)
+                self.assertEqual(child.returncode, 0, err)
                 self.assert_gone(pid)
-                self.assertFalse(os.path.exists(self.path('out.trace')))
+                self.assertIn('1 acknowledged line', err)
                 self.assert_nothing_left()
                 os.unlink(self.path('pid'))
+                os.unlink(self.path('after'))
+
+    @unittest.skipUnless(platform.machine() == 'x86_64', 'tgkill has another number')
+    def test_a_stop_that_another_thread_takes_is_passed_on(self):
+        child = self.start('crashfs-record', '--no-say', 'd', 'out.trace', '--', 'sh', '-c',
+                           'echo $$ > ../pid; exec sleep 300')
+        pid = self.pid_of('pid')
+        other, = [int(one) for one in os.listdir(f'/proc/{child.pid}/task')
+                  if int(one) != child.pid]
+        time.sleep(0.5)  # The first thread waits by now for standard output.
+        ctypes.CDLL(None).syscall(TGKILL, child.pid, other, signal.SIGTERM)
+        _, err = child.communicate(timeout=PATIENCE)
+        self.assertEqual(child.returncode, 0, err)
+        self.assert_gone(pid)
+
+    def test_a_second_stop_kills_a_command_that_goes_on(self):
+        script = 'trap "echo 3 > ../trapped" TERM; echo $$ > ../pid; while :; do sleep 0.1; done'
+        child = self.start('crashfs-record', '--no-say', 'd', 'out.trace', '--', 'sh', '-c', script)
+        pid = self.pid_of('pid')
+        child.terminate()
+        self.wait_until(lambda: os.path.exists(self.path('trapped')), 'COMMAND has the signal')
+        time.sleep(strace_run.SAME_STOP)
+        child.terminate()
+        _, err = child.communicate(timeout=PATIENCE)
+        self.assertEqual(child.returncode, 3)
+        self.assertIn('COMMAND was ended by SIGKILL', err)
+        self.assert_gone(pid)
 
     def test_a_kill_leaves_nothing(self):
         child = self.start('crashfs-record', 'd', 'out.trace', '--', 'sh', '-c',
@@ -221,10 +374,10 @@ class Refuses(InFolder):
     def test_bad_input_is_told_in_one_line(self):
         for told, *words in [
                 ('x is no directory', 'x', 'o', '--', 'true'),
-                ('no-such-command is not there', 'd', 'o', '--', 'no-such-command'),
-                ('./d is no program that may be run', 'd', 'o', '--', './d'),
+                ('no-such-command: command not found', 'd', 'o', '--', 'no-such-command'),
+                ('./d: not executable', 'd', 'o', '--', './d'),
                 ('x/o: its directory is not there', 'd', 'x/o', '--', 'true'),
-                ('d/o would stand in ', 'd', 'd/o', '--', 'true'),
+                ('d/o would be in ', 'd', 'd/o', '--', 'true'),
                 ('--crashfs /none: no such program', '--crashfs', '/none', 'd', 'o', '--',
                  'true'),
                 ('tmp is a directory', 'd', 'tmp', '--', 'true'),
@@ -253,7 +406,7 @@ class Refuses(InFolder):
                                 path=os.path.dirname(strace))
             self.assertEqual(ran.returncode, 1)
             self.assertIn(told, ran.stderr)
-            self.assertEqual(sorted(os.listdir(self.folder)), ['d', 'tmp'])
+            self.assertFalse(os.path.exists(self.path('o')))
 
     def test_the_command_line_is_refused_with_status_2(self):
         for words in [('d',), ('d', 'o'), ('d', 'o', '--'),

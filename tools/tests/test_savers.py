@@ -5,7 +5,7 @@ import os
 import sys
 import unittest
 
-from .support import FAKE, InFolder, needs_strace
+from .support import FAKE, InFolder, needs_strace, needs_version_3
 
 
 def text_of(version):
@@ -48,14 +48,15 @@ if whole[0] < int(os.environ['CRASHFS_SAYS']):
 
 # The way, its micro-operations, states, different trees, and states that fail.
 WAYS = [
-    ('in place', 15, 43, 28, 30),
-    ('by a rename', 18, 154, 89, 72),
-    ('synced before it', 18, 82, 49, 30),
-    ('with both syncs', 18, 52, 37, 0),
+    ('in place', 15, 34, 25, 24),
+    ('by a rename', 18, 177, 74, 98),
+    ('synced before it', 18, 73, 34, 34),
+    ('with both syncs', 18, 43, 22, 0),
 ]
 
 
 @needs_strace
+@needs_version_3
 class Savers(InFolder):
 
     def first_line(self, way: str) -> str:

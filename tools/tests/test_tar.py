@@ -9,8 +9,8 @@ import unittest
 from crashfs_tools import limits
 from crashfs_tools.directory import scan
 from crashfs_tools.program import Crashfs
+from crashfs_tools.reading import plan_of, read
 
-from . import fake_crashfs
 from .support import EXAMPLES, FAKE, InFolder, needed
 
 # As `tar -tv` prints an entry: its kind, mode, owner, group, size, time and name.
@@ -59,18 +59,16 @@ class Wanted:
     """The states of a trace, by the second reading."""
 
     def __init__(self, text):
-        self.model = fake_crashfs.Model(text.split('\n'))
-        self.states = fake_crashfs.plan(self.model, True, [])
+        self.plan = plan_of(read(text.encode()), holes=True)
 
     def __len__(self):
-        return len(self.states)
+        return len(self.plan.states)
 
     def entries(self, number):
         """(kind, mode, owner, group, bytes) by path, the root's among them."""
-        tree = self.model.tree(self.states[number][1])
-        return {path: ('d' if data is None else '-', int(fields['mode'], 8), fields['owner'],
-                       fields['group'], data or b'')
-                for path, (fields, data) in tree.items()}
+        tree = self.plan.trees.tree(self.plan.states[number][1])
+        return {path: ('d' if data is None else '-', int(mode, 8), owner, group, data or b'')
+                for path, ((owner, group, mode), data) in tree.items()}
 
 
 @needs_tar
@@ -135,7 +133,7 @@ class Archives(InFolder):
     def test_what_tar_lays_out_is_the_state(self):
         trace = self.write('wide.trace', WIDE)
         wanted = Wanted(WIDE)
-        last = len(wanted.model.ops)
+        last = len(wanted.plan.reading.operations)
         os.mkdir(self.path('out'))
         with open(self.path('archive'), 'wb') as out:
             subprocess.run([self.program, 'tar', '--trace', trace, '--state', str(last)],

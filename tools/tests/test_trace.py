@@ -11,17 +11,21 @@ from crashfs_tools.trace import (
     Chmod,
     Chown,
     Creat,
+    FsyncRange,
     Header,
+    Link,
     Mkdir,
     Rename,
     Rmdir,
     Start,
+    StartLink,
+    Trace,
     TraceError,
     Truncate,
     Unlink,
     Write,
-    read_trace,
 )
+from crashfs_tools.trace_read import read_trace
 from crashfs_tools.tree import Tree, replay
 
 from .support import EXAMPLES, FAKE, InFolder
@@ -51,6 +55,20 @@ state 6 hole 0 3 says 0
 state 7 hole 1 4 says 0
 state 8 hole 2 4 says 0
 """
+HEADER_3 = HEADER_2.replace('2', '3', 1).replace('"owner"', '"block":4096,"owner"', 1)
+# All that version 3 has and version 2 has not.
+LINKED = HEADER_3 + """\
+{"start":"dir","path":"/d","owner":"ann","group":"staff","mode":"755"}
+{"start":"file","path":"/d/f","owner":"ann","group":"staff","mode":"644","text":"x"}
+{"start":"link","path":"/g","from":"/d/f"}
+{"op":"write","path":"/g","offset":0,"text":"é \\"\\n"}
+{"op":"write","path":"/g","offset":4094,"bytes":"610000"}
+{"op":"fsync_range","path":"/d/f","offset":0,"length":3}
+{"op":"say","text":"1","note":"main.c:7"}
+{"op":"link","from":"/g","to":"/h"}
+{"op":"unlink","path":"/g"}
+{"op":"rename","from":"/h","to":"/d/f"}
+"""
 TWO_FILES = """\
 {"op":"creat","path":"/a","owner":"ann","group":"staff","mode":"644"}
 {"op":"creat","path":"/b","owner":"ann","group":"staff","mode":"644"}
@@ -67,7 +85,27 @@ class Traces(unittest.TestCase):
         for name in EXAMPLE_TRACES:
             lines = [line for line in example(name).split('\n') if line]
             self.assertEqual(list(read_trace(example(name)).lines()), lines)
-        self.assertEqual('\n'.join(read_trace(RIGHTS).lines()) + '\n', RIGHTS)
+        for text in (RIGHTS, LINKED):
+            self.assertEqual('\n'.join(read_trace(text).lines()) + '\n', text)
+
+    def test_two_paths_of_a_file_are_one_file(self):
+        tree = replay(read_trace(LINKED))
+        self.assertEqual(sorted(tree.entries), ['/', '/d', '/d/f', '/h'])
+        self.assertEqual(tree.entries['/d/f'].data, b'\xc3\xa9 "\n'.ljust(4094, b'\0') + b'a\0\0')
+        self.assertIs(tree.entries['/d/f'], tree.entries['/h'])
+        # A size and a block, a size and two blocks, a say, a link, an unlink, and no rename.
+        self.assertEqual((tree.micro_operations, tree.records), (8, 5))
+        small = replay(read_trace(LINKED.replace('4096', '512')))
+        self.assertEqual(small.micro_operations, 8)
+
+    def test_bytes_are_a_text_where_people_can_read_them(self):
+        for data, shown in [(b'a b\n', '"text":"a b\\n"'), (b'', '"bytes":""'),
+                            (b'\xff', '"bytes":"ff"'), (b'a\0', '"bytes":"6100"'),
+                            ('\u00e4'.encode(), '"text":"\u00e4"'), (b'a\r', '"bytes":"610d"')]:
+            trace = Trace(Header('u', 'u', 0o755), operations=[Write('/f', 0, data)], version=3)
+            self.assertIn(shown, list(trace.lines())[1])
+            trace.version = 2
+            self.assertIn(f'"bytes":"{data.hex()}"', list(trace.lines())[1])
 
     def test_what_is_no_trace_is_refused_with_its_line(self):
         header = '{"trace":1,"owner":"u","group":"u","mode":"755"}\n'
@@ -76,6 +114,10 @@ class Traces(unittest.TestCase):
                 (header + '\n{"op":"chown","path":"/a"}', 'line 3 '),
                 (header + '{"op":"write","path":"/a","offset":0,"bytes":"4"}', 'line 2 '),
                 (header.replace('1', '3', 1), 'line 1 '),
+                (header.replace('1', '4', 1), 'line 1 '),
+                (HEADER_3.replace('4096', '8192'), 'line 1 '),
+                (HEADER_2 + '{"op":"link","from":"/a","to":"/b"}', 'line 2 '),
+                (HEADER_2 + '{"op":"write","path":"/a","offset":0,"text":"4"}', 'line 2 '),
                 (header + '{"op":"chmod","path":"/","mode":"700"}', 'line 2 '),
                 (header.replace('1,', '1,"profile":"blocks",'), 'line 1 '),
                 (header.replace('1', '2', 1), 'line 1 '),
@@ -105,6 +147,7 @@ class Traces(unittest.TestCase):
         tree = Tree('u', 'u', 0o755)
         tree.start(Start('/d', 'u', 'u', 0o755, None))
         tree.start(Start('/d/f', 'u', 'u', 0o644, b''))
+        tree.start(StartLink('/d/g', '/d/f'))
         deep = '/d' * (limits.PATH_NAMES + 1)
         for operation, told in [
                 (Creat('/d/f', 'u', 'u', 0), 'there already'),
@@ -114,6 +157,11 @@ class Traces(unittest.TestCase):
                 (Creat('/d/\udcff', 'u', 'u', 0), 'not UTF-8'),
                 (Chmod('/x', 0), 'not there'),
                 (Chown('/x', 'u', 'u'), 'not there'),
+                (Link('/x', '/y'), 'not there'),
+                (Link('/d', '/y'), 'is a directory'),
+                (Link('/d/f', '/x/y'), 'no directory'),
+                (Link('/d/f', '/d/f'), 'there already'),
+                (FsyncRange('/d', 0, 1), 'is a directory'),
                 (Unlink('/d'), 'is a directory'),
                 (Unlink('/x'), 'not there'),
                 (Rmdir('/d'), 'has entries'),
@@ -163,7 +211,7 @@ class Fake(InFolder):
                               (8, {'b': ('ann', 0o600)})]:
             words = ['--trace', trace, '--holes', '--state', str(state)]
             with self.subTest(state), Crashfs(FAKE).archive(words) as members:
-                found = {one.name: (one.uname, one.mode) for one in members}
+                found = {one.name: (one.uname, one.mode) for one in members if one.name != '.'}
                 self.assertEqual(found, wanted)
 
     def test_ordered_takes_states_away(self):

@@ -1,0 +1,54 @@
+"""How far a check is: a line on a terminal, else one every half a minute."""
+
+from __future__ import annotations
+
+import sys
+import threading
+import time
+from typing import Callable, TextIO
+
+from .check_options import NAME
+from .runner import BAD, Outcome
+
+EVERY_SECONDS = 30.0
+
+
+class Progress:
+
+    def __init__(self, total: int, stream: TextIO = sys.stderr,
+                 clock: Callable[[], float] = time.monotonic) -> None:
+        self.total = total
+        self.tried = self.failed = 0
+        self.stream = stream
+        self.clock = clock
+        self.begun = self.told = clock()
+        self.terminal = stream.isatty()
+        self.lock = threading.Lock()
+
+    def step(self, outcome: Outcome) -> None:
+        with self.lock:
+            self.tried += 1
+            self.failed += outcome.result == BAD
+            if self.terminal:
+                print(f'\r{self.line()}\033[K', end='', file=self.stream, flush=True)
+            elif self.clock() - self.told >= EVERY_SECONDS:
+                self.told = self.clock()
+                print(f'{NAME}: {self.line()}', file=self.stream, flush=True)
+
+    def line(self) -> str:
+        """The estimate takes the states that are left for as slow as those that were tried."""
+        seconds = (self.clock() - self.begun) / self.tried * (self.total - self.tried)
+        return (f'{self.tried:,} of {self.total:,} tried, {self.failed:,} fail, '
+                f'about {duration(seconds)} left')
+
+    def end(self) -> None:
+        if self.terminal and self.tried:
+            print('\r\033[K', end='', file=self.stream, flush=True)
+
+
+def duration(seconds: float) -> str:
+    for size, unit in ((3600, 'hour'), (60, 'minute')):
+        if seconds >= size:
+            count = round(seconds / size)
+            return f'{count:,} {unit}{"s" if count != 1 else ""}'
+    return f'{seconds:.0f} seconds'

@@ -1,0 +1,20 @@
+"""A second reading of docs/FORMATS.md: the states of a trace, and what `list`, `picks` and `tar`
+write of them.
+
+Nothing here is proved, and nothing is shared with the program `crashfs`. The tools use it if there
+is no program, and the tests compare the two.
+"""
+
+from __future__ import annotations
+
+from .faults import ReadingFault
+from .plan import Plan, plan_of
+from .trace import Reading, read
+
+__all__ = ['Plan', 'Reading', 'ReadingFault', 'count_states', 'plan_of', 'read']
+
+
+def count_states(text: str) -> int:
+    """How many states the prefixes and holes of a trace are; ReadingFault for a trace or a plan
+    that is refused."""
+    return len(plan_of(read(text.encode('utf-8', 'surrogateescape')), holes=True).states)

@@ -1,0 +1,30 @@
+"""What the second reading refuses."""
+
+from __future__ import annotations
+
+from typing import Optional
+
+
+class ReadingFault(Exception):
+    """The text is the program's for the same fault; `line` and `why` say more about a trace."""
+
+    def __init__(self, text: str, line: Optional[int] = None, why: str = '') -> None:
+        super().__init__(text)
+        self.line = line
+        self.why = why
+
+
+class LineFault(Exception):
+    """A fault of one line of a trace: its kind, and why."""
+
+    def __init__(self, kind: str, why: str) -> None:
+        super().__init__(kind)
+        self.kind = kind
+        self.why = why
+
+    def at(self, line: int) -> ReadingFault:
+        return ReadingFault(f'trace line {line}: {self.kind}', line, self.why)
+
+
+def syntax(why: str) -> LineFault:
+    return LineFault('Syntax', why)

@@ -1,0 +1,75 @@
+"""One line's JSON, as strictly as the program reads it."""
+
+from __future__ import annotations
+
+import json
+import math
+from typing import Any, Dict, List
+
+from .faults import syntax
+
+DEPTH = 127
+# Digits of the largest number of eight bytes.
+DIGITS = 20
+LARGEST = 2 ** 64 - 1
+
+
+def read_object(line: str) -> Dict[str, Any]:
+    """The keys and values of a line; of two equal keys the last one counts."""
+    try:
+        value = json.loads(line, parse_int=integer, parse_float=finite, parse_constant=refuse)
+    except (ValueError, RecursionError) as error:
+        raise syntax(f'no JSON: {error}') from error
+    if not isinstance(value, dict):
+        raise syntax('no JSON object')
+    if line.count('[') + line.count('{') > DEPTH and depth(value) > DEPTH:
+        raise syntax(f'values nested deeper than {DEPTH} levels')
+    if '\\u' in line:
+        refuse_surrogates(value)
+    return value
+
+
+def integer(text: str) -> float:
+    """What has a sign, or more digits than any number that a trace may have, is no integer."""
+    return int(text) if text[0] != '-' and len(text) <= DIGITS else finite(text)
+
+
+def finite(text: str) -> float:
+    value = float(text)
+    if math.isinf(value):
+        raise ValueError(f'the number {text} is too large')
+    return value
+
+
+def refuse(text: str) -> None:
+    raise ValueError(f'{text} is no number')
+
+
+def depth(value: Any) -> int:
+    if not isinstance(value, (dict, list)):
+        return 0
+    below = value.values() if isinstance(value, dict) else value
+    return 1 + max(map(depth, below), default=0)
+
+
+def refuse_surrogates(value: Any) -> None:
+    try:
+        json.dumps(value, ensure_ascii=False).encode('utf-8')
+    except UnicodeEncodeError as error:
+        raise syntax('half of a surrogate pair') from error
+
+
+def is_number(value: Any) -> bool:
+    return type(value) is int and 0 <= value <= LARGEST
+
+
+def read_array(line: bytes) -> List[Any]:
+    """The values of a line that is an array."""
+    try:
+        value = json.loads(line.decode('utf-8'), parse_int=integer, parse_float=finite,
+                           parse_constant=refuse)
+    except (ValueError, RecursionError) as error:
+        raise syntax(f'no JSON: {error}') from error
+    if not isinstance(value, list):
+        raise syntax('no JSON array')
+    return value

@@ -1,0 +1,161 @@
+"""The lines of a trace: what each says by itself, or its first fault."""
+
+from __future__ import annotations
+
+import re
+from typing import Any, Dict, Iterator, Tuple
+
+from .faults import LineFault, syntax
+from .json_lines import is_number, read_object
+
+NAME_BYTES, USER_BYTES = 255, 64
+BLOCK_SIZES = (512, 1024, 2048, 4096)
+PROFILES = ('blocks', 'ordered')
+HEADERS = {1: (), 2: ('profile',), 3: ('profile', 'block')}
+RIGHTS = ('owner', 'group', 'mode')
+# The kinds of lines: the first version that has each, and its keys.
+KINDS: Dict[str, Dict[str, Tuple[int, Tuple[str, ...]]]] = {
+    'start': {
+        'dir': (1, ('path', *RIGHTS)),
+        'file': (1, ('path', *RIGHTS, 'bytes')),
+        'link': (3, ('path', 'from')),
+    },
+    'op': {
+        'creat': (1, ('path', *RIGHTS)),
+        'mkdir': (1, ('path', *RIGHTS)),
+        'unlink': (1, ('path',)),
+        'rmdir': (1, ('path',)),
+        'rename': (1, ('from', 'to')),
+        'link': (3, ('from', 'to')),
+        'write': (1, ('path', 'offset', 'bytes')),
+        'truncate': (1, ('path', 'length')),
+        'chmod': (2, ('path', 'mode')),
+        'chown': (2, ('path', 'owner', 'group')),
+        'fsync': (1, ('path',)),
+        'fsync_range': (3, ('path', 'offset', 'length')),
+        'sync': (1, ()),
+        'say': (1, ('text',)),
+    },
+}
+TAKE_ROOT = ('fsync', 'chmod', 'chown')
+PATHS = ('path', 'from', 'to')
+MODE = re.compile('[0-7]{3}')
+HEXADECIMAL = '0123456789abcdefABCDEF'
+
+Fields = Dict[str, Any]
+
+
+class Line:
+    """A line that is well formed: the key that says what it is, its word, and its values."""
+
+    def __init__(self, number: int, key: str, word: str, fields: Fields) -> None:
+        self.number = number
+        self.key = key
+        self.word = word
+        self.fields = fields
+
+    def paths(self) -> Iterator[str]:
+        return (self.fields[key] for key in PATHS if key in self.fields)
+
+    @property
+    def rights(self) -> Tuple[str, str, str]:
+        return self.fields['owner'], self.fields['group'], self.fields['mode']
+
+    @property
+    def data(self) -> bytes:
+        """The bytes of a file or a write, which version 3 may have as a text."""
+        if 'text' in self.fields:
+            return str(self.fields['text']).encode('utf-8')
+        return bytes.fromhex(self.fields['bytes'])
+
+
+class Lines:
+    """Judges line after line. The version is that of the header."""
+
+    def __init__(self) -> None:
+        self.version = 0
+        self.has_operation = False
+
+    def read(self, number: int, text: str) -> Line:
+        """LineFault for a line with a fault of its own."""
+        fields = read_object(text)
+        keys = [key for key in ('trace', 'start', 'op') if key in fields]
+        if len(keys) != 1:
+            raise syntax('it needs one of the keys trace, start and op')
+        line = Line(number, keys[0], '', fields)
+        if (line.key == 'trace') != (self.version == 0):
+            raise syntax('the first line, and no other, is the header')
+        if line.key == 'trace':
+            self.judge_header(line)
+        else:
+            self.judge_word(line)
+        judge_names(line)
+        return line
+
+    def judge_header(self, line: Line) -> None:
+        version = line.fields['trace']
+        if not is_number(version) or version not in HEADERS:
+            raise syntax(f'version {version} is not known (1, 2, 3)')
+        self.version = version
+        self.judge_keys(line, (*HEADERS[version], *RIGHTS))
+
+    def judge_word(self, line: Line) -> None:
+        if line.key == 'start' and self.has_operation:
+            raise syntax('a start line after an operation')
+        self.has_operation = line.key == 'op'
+        word = line.fields[line.key]
+        if not isinstance(word, str):
+            raise syntax(f'{line.key} is no text')
+        since, keys = KINDS[line.key].get(word, (self.version + 1, ()))
+        if since > self.version:
+            raise LineFault('UnknownOp', f'unknown {line.key} "{word}" in version {self.version}')
+        line.word = word
+        self.judge_keys(line, keys)
+
+    def judge_keys(self, line: Line, keys: Tuple[str, ...]) -> None:
+        wanted, found = {line.key, *keys}, set(line.fields)
+        if self.version == 3:
+            wanted |= found & {'note'}
+            if 'bytes' in wanted and 'bytes' not in found and 'text' in found:
+                wanted = wanted - {'bytes'} | {'text'}
+        for key in sorted(found - wanted):
+            raise syntax(f'unknown key "{key}"')
+        for key in sorted(wanted - found):
+            raise syntax(f'no key "{key}"')
+        for key in sorted(wanted - {line.key}):
+            judge_value(key, line.fields[key])
+
+
+def judge_value(key: str, value: Any) -> None:
+    """Syntax for a value that isn't of its key's kind."""
+    if key in ('offset', 'length', 'block'):
+        if not is_number(value) or key == 'block' and value not in BLOCK_SIZES:
+            raise syntax(f'{key} {value} is no number that it may have')
+    elif not isinstance(value, str):
+        raise syntax(f'{key} is no text')
+    elif key == 'mode' and not MODE.fullmatch(value):
+        raise syntax(f'mode "{value}" is not three octal digits')
+    elif key == 'bytes' and value.strip(HEXADECIMAL):
+        raise syntax('bytes has a character that is no hexadecimal digit')
+    elif key == 'bytes' and len(value) % 2:
+        raise syntax('bytes has an odd number of digits')
+    elif key == 'profile' and value not in PROFILES:
+        raise syntax(f'profile "{value}" is not known (blocks, ordered)')
+
+
+def judge_names(line: Line) -> None:
+    """BadName for a path, an owner or a group that no file has."""
+    for path in line.paths():
+        if path == '/' and line.word in TAKE_ROOT:
+            continue
+        if not path.startswith('/') or not all(map(is_name, path[1:].split('/'))):
+            raise LineFault('BadName', f'the path "{path}"')
+    for key in ('owner', 'group'):
+        name = line.fields.get(key, 'a')
+        if not 1 <= len(name.encode('utf-8')) <= USER_BYTES or '\0' in name:
+            raise LineFault('BadName', f'the {key} "{name}"')
+
+
+def is_name(name: str) -> bool:
+    return (1 <= len(name.encode('utf-8')) <= NAME_BYTES and '\0' not in name
+            and name not in ('.', '..'))

@@ -1,0 +1,103 @@
+"""The plan: which sets are tried, and the families of further sets."""
+
+from __future__ import annotations
+
+from typing import Iterator, List, Sequence, Tuple
+
+from .faults import LineFault, ReadingFault
+from .json_lines import is_number, read_array
+from .order import Order, bits
+from .states import States
+from .trace import Reading
+
+STATES = 16_384
+LARGEST_PLACE = 2 ** 32 - 1
+
+
+class Plan:
+    """states: what `list` prints of each, and its set."""
+
+    def __init__(self, reading: Reading) -> None:
+        self.reading = reading
+        self.order = Order(reading)
+        self.trees = States(reading)
+        self.states: List[Tuple[str, int]] = []
+
+    def add(self, text: str, places: int) -> None:
+        if len(self.states) >= STATES:
+            raise ReadingFault('plan too large')
+        self.states.append((text, places))
+
+    def add_holes(self) -> None:
+        for end in range(self.order.count + 1):
+            for lost in range(end - 1):
+                kept = self.order.without((1 << end) - 1, 1 << lost)
+                if kept >> (end - 1):
+                    self.add(f'hole {lost} {end}', kept)
+
+    def judge_pick(self, number: int, pick: Sequence[int]) -> None:
+        ascending = all(one < other for one, other in zip(pick, pick[1:]))
+        if not (ascending and all(place < self.order.count for place in pick)
+                and self.order.is_allowed(set_of(pick))):
+            raise ReadingFault(f'pick {number} not allowed')
+
+
+def plan_of(reading: Reading, holes: bool = False,
+            picks: Sequence[Sequence[int]] = ()) -> Plan:
+    plan = Plan(reading)
+    for count in range(plan.order.count + 1):
+        plan.add(f'prefix {count}', (1 << count) - 1)
+    if holes:
+        plan.add_holes()
+    if len(plan.states) + len(picks) > STATES:
+        raise ReadingFault('plan too large')
+    for number, pick in enumerate(picks):
+        plan.judge_pick(number, pick)
+        plan.add(f'pick {",".join(map(str, pick)) or "-"}', set_of(pick))
+    return plan
+
+
+def set_of(places: Sequence[int]) -> int:
+    return sum(1 << place for place in places)
+
+
+def read_picks(data: bytes) -> List[List[int]]:
+    """The sets of a picks file."""
+    picks = []
+    for number, line in enumerate(data.split(b'\n'), 1):
+        if not line:
+            continue
+        try:
+            pick = read_array(line)
+        except (LineFault, UnicodeDecodeError) as fault:
+            raise ReadingFault(f'picks line {number}: Syntax') from fault
+        if not all(is_number(place) and place <= LARGEST_PLACE for place in pick):
+            raise ReadingFault(f'picks line {number}: Syntax')
+        picks.append(pick)
+    return picks
+
+
+def lost_sets(plan: Plan) -> Iterator[int]:
+    """The family --lost: for each micro-operation the least set that has it."""
+    return (plan.order.needs[place] | 1 << place for place in range(plan.order.count))
+
+
+def file_sets(plan: Plan) -> Iterator[int]:
+    """The family --files: each prefix without those changes of a file that no sync covers."""
+    order, trees = plan.order, plan.trees
+    for count in range(1, order.count + 1):
+        # A sync after the prefix's last micro-operation hasn't ended yet.
+        pending = (1 << count) - 1 & ~order.synced[count - 1]
+        for number in sorted(trees.change_places):
+            lost = pending & trees.change_places[number]
+            if lost:
+                yield order.without((1 << count) - 1, lost)
+
+
+def different(sets: Iterator[int]) -> Iterator[List[int]]:
+    """Each set once, as its places."""
+    seen = set()
+    for places in sets:
+        if places not in seen:
+            seen.add(places)
+            yield list(bits(places))

@@ -1,0 +1,46 @@
+"""--state N: tries one state in a copy, and leaves another that nothing ran in."""
+
+from __future__ import annotations
+
+import shlex
+import tempfile
+from typing import Tuple
+
+from .command import Refused, standard_output
+from .guard import remove_tree
+from .plan import State
+from .report import NONE_FAILS, NOT_ALL_TRIED, SOME_FAIL
+from .runner import BAD, GOOD, NO_ANSWER, Says
+from .trying import Trying
+
+STATUSES = {GOOD: NONE_FAILS, BAD: SOME_FAIL, NO_ANSWER: NOT_ALL_TRIED}
+
+
+def show(trying: Trying, number: int) -> int:
+    states = trying.plan.listed
+    if not 0 <= number < len(states):
+        raise Refused(f'no such state: {number} (there are {len(states):,})')
+    state = states[number]
+    outcome = trying.try_one(state)
+    left, told = leave(trying, state)
+    command = shlex.join(trying.options.command)
+    with standard_output():
+        print(f'state {number}, {state.text}, says {state.says}: '
+              f'{outcome.result}{": " if outcome.cause else ""}{outcome.cause}')
+        print(f'It is laid out in {left}. To try it there:\n'
+              f'    cd {shlex.quote(left)}\n'
+              f'    CRASHFS_STATE={number} CRASHFS_SAYS={state.says} '
+              f'{command} < {shlex.quote(told)}')
+    return STATUSES[outcome.result]
+
+
+def leave(trying: Trying, state: State) -> Tuple[str, str]:
+    """Lays a state out where nothing removes it: its directory, and the file of its lines. That is
+    no mount, also with --serve: none is left."""
+    folder = tempfile.mkdtemp(prefix=f'crashfs-state-{state.number}-')
+    try:
+        (_, directory), = trying.archive(folder).states({state.number})
+        return directory, Says(trying.checker().says.texts, folder).path(state.says)
+    except BaseException:
+        remove_tree(folder)
+        raise

@@ -1,0 +1,299 @@
+"""The second reading: rows of version 3, the faults of lines, and random traces beside the
+program's reading of them."""
+
+import itertools
+import os
+import subprocess
+import unittest
+from pathlib import Path
+
+from crashfs_tools.program import Crashfs
+from crashfs_tools.reading import ReadingFault, count_states, plan_of, read
+from crashfs_tools.reading.listing import listing
+from crashfs_tools.reading.plan import different, file_sets, lost_sets, read_picks
+
+from .random_traces import RandomTrace
+from .support import EXAMPLES, FAKE, InFolder, needed
+
+ROWS = Path(__file__).with_name('data') / 'version-3'
+TRACES = 300
+ROOT = '"owner":"cat","group":"staff","mode":"775"'
+HEADERS = {1: f'{{"trace":1,{ROOT}}}\n', 2: f'{{"trace":2,"profile":"blocks",{ROOT}}}\n',
+           3: f'{{"trace":3,"profile":"blocks","block":4096,{ROOT}}}\n'}
+RIGHTS = '"owner":"ann","group":"staff","mode":"644"'
+CREAT = f'{{"op":"creat","path":"%s",{RIGHTS}}}\n'
+A, B = CREAT % '/a', CREAT % '/b'
+
+NEEDS_LOST = HEADERS[3] + A + """\
+{"op":"write","path":"/a","offset":0,"text":"aaaa"}
+{"op":"write","path":"/a","offset":4,"text":"bb"}
+{"op":"fsync_range","path":"/a","offset":4,"length":2}
+{"op":"say","text":"1"}
+{"op":"say","text":"2"}
+"""
+
+
+def row(name):
+    return (ROWS / name).read_text(encoding='utf-8')
+
+
+def listed(text, picks=(), **options):
+    return ''.join(listing(plan_of(read(text.encode()), True, picks), **options))
+
+
+def fault_of(text):
+    try:
+        read(text.encode('utf-8', 'surrogateescape'))
+    except ReadingFault as fault:
+        return str(fault).replace('trace line ', '')
+    return None
+
+
+class Rows(unittest.TestCase):
+
+    def test_the_rows_of_version_3_are_listed_byte_for_byte(self):
+        for path in sorted(ROWS.glob('*.trace')):
+            with self.subTest(path.name):
+                self.assertEqual(listed(row(path.name)), row(f'{path.stem}.list'))
+
+    def test_as_version_1_a_session_has_states_that_lack_a_say_and_keep_what_follows(self):
+        text = row('row43.trace').replace('"text":"hi"', '"bytes":"6869"')
+        text = text.replace(',"note":"main (kv.py:85)"', '').replace(
+            '"trace":3,"profile":"blocks","block":4096', '"trace":1')
+        self.assertEqual(count_states(text), 25)
+        plan = plan_of(read(text.encode()), True)
+        lacking = [name for name, places in plan.states
+                   for say in (3, 6) if not places >> say & 1 and places >> (say + 1)]
+        self.assertEqual(len(set(lacking)), 4)
+
+    def test_an_end_of_a_range_that_cuts_a_write_covers_nothing_of_it(self):
+        text = row('row45.trace').replace('"length":3', '"length":2')
+        self.assertIn(' hole 4 6 ', listed(text))
+        self.assertNotIn(' hole 4 6 ', listed(row('row45.trace')))
+
+    def test_picks_that_a_rule_of_version_3_forbids(self):
+        for name, pick in [('row43.trace', [0, 1, 2, 4]), ('row46.trace', [3])]:
+            with self.assertRaisesRegex(ReadingFault, '^pick 0 not allowed$'):
+                listed(row(name), [pick])
+
+    def test_two_paths_of_a_file_are_two_files_of_a_state(self):
+        def contents(name, number):
+            plan = plan_of(read(row(name).encode()), True)
+            tree = plan.trees.tree(plan.states[number][1])
+            return {path: data for path, (_, data) in tree.items() if path != '/'}
+
+        self.assertEqual(contents('row46.trace', 4), {'/t': b'm', '/m': b'm'})
+        self.assertEqual(contents('row46.trace', 15), {})
+        self.assertEqual(contents('row47.trace', 1), {'/f': b'y', '/g': b'y'})
+        self.assertEqual(contents('row47.trace', 3), {'/g': b'x'})
+        self.assertEqual(contents('row44.trace', 6), {'/f': b'x' + bytes(511) + b'cd'})
+
+    def test_a_block_is_as_large_as_the_header_has_it(self):
+        text = row('row44.trace').replace('"block":512', '"block":4096')
+        self.assertIn('op 1 write_block 0 0 510 4\n', listed(text))
+
+    def test_a_change_is_listed_with_the_oldest_path_that_its_file_has(self):
+        text = listed(row('row46.trace'), lines=True)
+        self.assertIn('op 3 link_dir_entry /m 0 line 4\n', text)
+        self.assertIn('op 6 write_block 0 0 1 1 line 7 /m\n', text)
+        renamed = row('row46.trace').replace('{"op":"unlink","path":"/t"}',
+                                             '{"op":"rename","from":"/t","to":"/z"}')
+        self.assertIn(' line 7 /z\n', listed(renamed, lines=True))
+        text = listed(row('row47.trace'), lines=True)
+        self.assertIn('op 0 write_block 0 0 0 1 line 4 /f\n', text)
+
+    def test_a_sync_of_a_range_takes_away_what_it_covers_from_the_files_family(self):
+        sets = list(different(file_sets(plan_of(read(row('row45.trace').encode())))))
+        self.assertIn([0, 1, 3, 4, 5], sets)
+        self.assertNotIn([0, 5], sets)
+
+    def test_a_set_of_the_files_family_is_given_once(self):
+        """The second write is synced and needs the first, so that both prefixes leave the same."""
+        sets = different(file_sets(plan_of(read(NEEDS_LOST.encode()))))
+        self.assertEqual(list(sets), [[0], [0, 1, 3]])
+
+    def test_a_sync_after_a_prefix_has_not_ended_in_it(self):
+        text = HEADERS[3] + A + '{"op":"write","path":"/a","offset":0,"text":"row"}\n' + B
+        text += '{"op":"fsync","path":"/a"}\n{"op":"say","text":"row"}\n'
+        self.assertEqual(list(different(file_sets(plan_of(read(text.encode()))))),
+                         [[0], [0, 3]])
+
+
+class Faults(unittest.TestCase):
+
+    def test_the_first_fault_of_a_line_counts(self):
+        directory = '{"op":"mkdir","path":"/d",%s}\n' % RIGHTS
+        for version, lines, wanted in [
+                (3, A + B + '{"op":"link","from":"/a","to":"/b"}', '4: Exists'),
+                (3, '{"op":"link","from":"/d","to":"/e"}', '2: Missing'),
+                (3, directory + '{"op":"link","from":"/d","to":"/e"}', '3: NotFile'),
+                (3, A + '{"op":"link","from":"/a","to":"/d/e"}', '3: NoParent'),
+                (3, A + '{"op":"link","from":"/a","to":"/a/b"}', '3: NotDir'),
+                (3, A + '{"op":"link","from":"/","to":"/b"}', '3: BadName'),
+                (3, A + '{"start":"link","from":"/a","path":"/b"}', '3: Syntax'),
+                (3, '{"start":"link","from":"/a","path":"/b"}', '2: Missing'),
+                (3, directory + '{"op":"fsync_range","path":"/d","offset":0,"length":0}',
+                 '3: NotFile'),
+                (3, A + '{"op":"fsync_range","path":"/","offset":0,"length":0}', '3: BadName'),
+                (3, A + '{"op":"fsync_range","path":"/a","offset":0}', '3: Syntax'),
+                (3, '{"op":"sync","note":1}', '2: Syntax'),
+                (3, '{"op":"synk","note":1}', '2: UnknownOp'),
+                (3, A + '{"op":"write","path":"/a","offset":0,"bytes":"","text":""}', '3: Syntax'),
+                (3, A + '{"op":"write","path":"/a","offset":0,"text":1}', '3: Syntax'),
+                (3, A + '{"op":"unlink","path":"/a","text":"a"}', '3: Syntax'),
+                (2, '{"op":"link"}', '2: UnknownOp'),
+                (2, '{"start":"link"}', '2: UnknownOp'),
+                (2, '{"op":"sync","note":""}', '2: Syntax'),
+                (1, '{"op":"chmod"}', '2: UnknownOp')]:
+            with self.subTest(lines):
+                self.assertEqual(fault_of(HEADERS[version] + lines), wanted)
+
+    def test_headers(self):
+        third = HEADERS[3]
+        for text, wanted in [
+                (third, None), (third.replace('4096', '512'), None),
+                (third.replace('{', '{"note":"a",'), None),
+                (third.replace('{', '{"note":1,'), '1: Syntax'),
+                (third.replace('4096', '8192'), '1: Syntax'),
+                (third.replace('4096', '4096.0'), '1: Syntax'),
+                (third.replace('4096', '"4096"'), '1: Syntax'),
+                (third.replace('"block":4096,', ''), '1: Syntax'),
+                (third.replace('"trace":3', '"trace":4'), '1: Syntax'),
+                (third.replace('"trace":3', '"trace":2'), '1: Syntax'),
+                (third.replace('cat', ''), '1: BadName'),
+                (third + third, '2: Syntax'), ('', '1: Syntax'), ('\n \r\n', '1: Syntax'),
+                ('\udcff', 'trace: NotText'), ('\ufeff' + third, '1: Syntax')]:
+            with self.subTest(text):
+                self.assertEqual(fault_of(text), wanted)
+
+    def test_a_rename_onto_a_path_of_the_same_file_is_no_micro_operation(self):
+        text = HEADERS[3] + A + B + ('{"op":"link","from":"/a","to":"/c"}\n'
+                                     '{"op":"rename","from":"/a","to":"/c"}\n')
+        self.assertEqual(len(read(text.encode()).operations), 3)
+
+    def test_json_is_read_as_strictly_as_the_program_reads_it(self):
+        say = HEADERS[1] + '{"op":"say","text":%s}'
+        for text, wanted in [
+                ('"a"', None), ('"\\ud83d\\ude00"', None), ('"\\ud83d"', '2: Syntax'),
+                ('"\t"', '2: Syntax'), ('NaN', '2: Syntax'), ('"a","text":"b"', None)]:
+            with self.subTest(text):
+                self.assertEqual(fault_of(say % text), wanted)
+        odd = HEADERS[1] + '{"op":"x","y":%s}'
+        self.assertEqual(fault_of(odd % ('[' * 126 + ']' * 126)), '2: UnknownOp')
+        self.assertEqual(fault_of(odd % ('[' * 127 + ']' * 127)), '2: Syntax')
+        self.assertEqual(fault_of(odd % '1e400'), '2: Syntax')
+        write = HEADERS[1] + A + '{"op":"truncate","path":"/a","length":%s}'
+        for number, wanted in [('7', None), ('-0', '3: Syntax'), ('7.0', '3: Syntax'),
+                               ('true', '3: Syntax'), ('18446744073709551615', '3: TooLarge'),
+                               ('18446744073709551616', '3: Syntax')]:
+            self.assertEqual(fault_of(write % number), wanted, number)
+
+    def test_a_plan_and_a_trace_may_be_too_large(self):
+        says = HEADERS[1] + '{"op":"say","text":""}\n' * 1025
+        self.assertEqual(fault_of(says), 'too many micro-operations')
+        many = HEADERS[1] + A + '{"op":"write","path":"/a","offset":0,"bytes":"00"}\n'
+        self.assertEqual(count_states(many), 7)
+        wide = HEADERS[1] + ''.join(CREAT % f'/{number}' for number in range(200))
+        with self.assertRaisesRegex(ReadingFault, '^plan too large$'):
+            count_states(wide)
+
+    def test_picks_are_arrays_of_places(self):
+        self.assertEqual(read_picks(b'[0,1]\r\n\n[]\n'), [[0, 1], []])
+        for line in (b' ', b'[1.0]', b'[-1]', b'{}', b'[4294967296]', b'\xff'):
+            with self.assertRaisesRegex(ReadingFault, '^picks line 2: Syntax$'):
+                read_picks(b'[]\n' + line)
+
+
+def program_of(version):
+    """The program that is built here or on PATH, if it takes traces of the version."""
+    program = Crashfs.find(None)
+    if program is None:
+        return None
+    row_43 = str(ROWS / 'row43.trace')
+    ran = subprocess.run([program.path, 'list', '--trace', row_43], check=False,
+                         stdout=subprocess.DEVNULL, stderr=subprocess.DEVNULL)
+    return program.path if version < 3 or ran.returncode == 0 else None
+
+
+class BesideTheProgram(InFolder):
+    """What the program prints for random traces, and what the second reading does."""
+
+    def compare(self, version, program):
+        texts = [RandomTrace(version, seed).text() for seed in range(TRACES)]
+        for seed, text in enumerate(texts + ([NEEDS_LOST] if version == 3 else [])):
+            trace = self.write('random.trace', text)
+            with self.subTest(version=version, seed=seed):
+                for words in (['list', '--holes', '--lines', '--same'], ['picks', '--lost'],
+                              ['picks', '--files']):
+                    self.assertEqual(self.printed(program, words, trace), wanted(words, text))
+
+    @staticmethod
+    def printed(program, words, trace):
+        ran = subprocess.run([program, *words, '--trace', trace], stdout=subprocess.PIPE,
+                             stderr=subprocess.PIPE, text=True, check=False)
+        return ran.stdout or ran.stderr.partition('\n')[0].replace('crashfs: ', '')
+
+    @needed(program_of(1) is not None, 'crashfs is not built')
+    def test_random_traces_of_versions_1_and_2(self):
+        for version in (1, 2):
+            self.compare(version, program_of(version))
+
+    @needed(program_of(3) is not None, 'a crashfs that takes traces of version 3 is not there')
+    def test_random_traces_of_version_3(self):
+        self.compare(3, program_of(3))
+
+
+def wanted(words, text):
+    try:
+        plan = plan_of(read(text.encode()), words[0] == 'list')
+    except ReadingFault as fault:
+        return str(fault)
+    if words[0] == 'list':
+        return ''.join(listing(plan, True, True))
+    sets = different(lost_sets(plan) if '--lost' in words else file_sets(plan))
+    return ''.join(f'{places}\n'.replace(' ', '') for places in sets)
+
+
+class AsAProgram(InFolder):
+
+    def run_reading(self, *words):
+        return subprocess.run([FAKE, *words], cwd=self.folder, stdout=subprocess.PIPE,
+                              stderr=subprocess.PIPE, text=True, check=False)
+
+    def test_random_traces_are_read_in_all_versions(self):
+        for version, seed in itertools.product((1, 2, 3), range(20)):
+            text = RandomTrace(version, seed).text()
+            self.assertEqual(text, RandomTrace(version, seed).text())
+            for words in (['list'], ['--lost'], ['--files']):
+                wanted(words, text)
+
+    def test_faults_are_printed_as_the_program_prints_them_and_then_why(self):
+        mode = HEADERS[1].replace('775', '0775')
+        ran = self.run_reading('list', '--trace', self.write('mode.trace', mode))
+        self.assertEqual((ran.returncode, ran.stdout), (1, ''))
+        self.assertEqual(ran.stderr.splitlines(), [
+            'crashfs: trace line 1: Syntax',
+            f'crashfs: {self.path("mode.trace")}:1: mode "0775" is not three octal digits'])
+        ran = self.run_reading('list', '--trace', 'none')
+        self.assertEqual((ran.returncode, ran.stderr), (1, 'crashfs: none: cannot read\n'))
+
+    def test_command_lines_that_the_program_refuses_are_refused(self):
+        for words in ([], ['serve'], ['list'], ['list', '--trace', 'a', '--lost'],
+                      ['tar', '--trace', str(EXAMPLES / 'store.trace'), '--states', '3']):
+            ran = self.run_reading(*words)
+            self.assertEqual((ran.returncode, ran.stdout), (2, ''), words)
+            self.assertTrue(ran.stderr.startswith('error: '), ran.stderr)
+        ran = self.run_reading('tar', '--trace', str(EXAMPLES / 'store.trace'), '--state', '99')
+        self.assertEqual((ran.returncode, ran.stderr), (1, 'crashfs: no such state\n'))
+
+    def test_a_reader_that_leaves_is_no_fault_to_tell(self):
+        reader, writer = os.pipe()
+        os.close(reader)
+        with os.fdopen(writer, 'w') as closed:
+            ran = subprocess.run([FAKE, 'list', '--trace', str(EXAMPLES / 'store.trace')],
+                                 stdout=closed, stderr=subprocess.PIPE, check=False)
+        self.assertEqual((ran.returncode, ran.stderr), (1, b''))
+
+
+if __name__ == '__main__':
+    unittest.main()
