@@ -8,7 +8,7 @@ CRATES = pathlib.Path(__file__).parents[2] / 'crates'
 
 # the crates whose calls are run with each growth refused in its turn
 SWEPT = ['cs_tree', 'cs_overlay', 'cs_fids', 'cs_run', 'cs_journal', 'cs_registry', 'cs_session',
-         'cs_world', 'cs_shared', 'cs_server']
+         'cs_world']
 
 ROW = re.compile(r'"(cs_\w+) ([\w:]+)"')
 
@@ -22,8 +22,6 @@ BLOCK = re.compile(r'^(?:impl(?:<[^{]*?>)? (?:(\w+)(?:<[^{]*?>)? for )?(\w+)|pub
 
 NO_GROWTH = 'takes no memory: its faults are others'
 BY_STEP = 'a part of a step of a run, whose rows make it'
-BY_LOCK = 'made under the lock of a SharedRegistry, whose rows make it'
-HANDLES = 'only more handles than there are numbers could be refused'
 
 # calls without a row, and why
 EXCEPTIONS = {
@@ -42,21 +40,9 @@ EXCEPTIONS = {
     'cs_run act_remove': BY_STEP,
     'cs_run act_write': BY_STEP,
     'cs_run act_wstat': BY_STEP,
-    'cs_journal Run::fresh': HANDLES,
+    'cs_journal Run::fresh': 'only more handles than there are numbers could be refused',
     'cs_session Session::table_step': 'has no allocator',
-    'cs_session serve_stream': 'takes its buffers once: `a_stream_without_memory_for_its_buffers_is_not_read`',
-    'cs_shared SharedRun::fresh': 'made by a find, whose rows make it',
-    'cs_shared SharedRun::again': HANDLES,
-    'cs_shared SharedRegistry::of': HANDLES,
-    'cs_shared SharedRegistry::publish_own': 'asks the type for its scene, and else is `publish`',
-    'cs_shared Registry::new': BY_LOCK,
-    'cs_shared Registry::publish': BY_LOCK,
-    'cs_shared Registry::publish_own': BY_LOCK,
-    'cs_shared Registry::find_key': BY_LOCK,
-    'cs_shared Registry::runs': BY_LOCK,
-    'cs_server Connection::result': 'tells what came of a stream',
-    'cs_server GivenPasses::keep': 'drops what it has no memory for: an audit counts too few',
-    'cs_server serve_streams': 'starts threads: a hoard is for a process of one',
+    'cs_session serve_stream': 'takes its buffers once, before it reads: its messages are replied to',
 }
 
 
