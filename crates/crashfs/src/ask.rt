@@ -1,7 +1,7 @@
 //! What the command line asks for.
 use cs_archive::States;
 use cs_families::Family;
-use cs_lists::ListOptions;
+use cs_list_lines::ListOptions;
 use cs_tcp::Serving;
 
 /// Which crash states a command is about.
@@ -16,7 +16,7 @@ pub struct Wanted<'a> {
 }
 
 /// What is to be done with these states.
-#[derive(Clone, Copy, Debug)]
+#[derive(Debug, Drop)]
 pub enum Job<'a> {
     /// To list the micro-operations and the states.
     List(ListOptions),
@@ -31,12 +31,12 @@ pub enum Job<'a> {
 }
 
 /// What the command line asks for.
-#[derive(Clone, Copy, Debug)]
+#[derive(Debug, Drop)]
 pub struct Ask<'a> {
     pub wanted: Wanted<'a>,
     /// The path of the users file, of a command that has users.
     pub users: Option<&'a str>,
-    /// Whether messages are told as text on standard error.
+    /// Whether messages are printed as text on standard error.
     pub verbose: bool,
     pub job: Job<'a>,
 }

@@ -3,15 +3,26 @@ use crate::ask::{Ask, Job, Wanted};
 use crate::commands::{command, tar_command};
 use clap::error::ErrorKind;
 use clap::{ArgMatches, Error};
-use cs_archive::States;
+use cs_archive::{StateRange, States};
 use cs_families::Family;
-use cs_lists::ListOptions;
+use cs_list_lines::ListOptions;
 use cs_tcp::{Client, Serving};
 use std::alloc::{AllocError, Global};
 
+/// How many connections are served if the command line doesn't say.
+const CONNECTIONS: u32 = 64;
+
+/// The path of the trace, as an argument or as an option.
+fn trace_of<'a>(matches: &ArgMatches<'a>) -> &'a str {
+    match matches.get_str("file") {
+        Some(path) => path,
+        None => matches.get_str("trace").unwrap_or(""),
+    }
+}
+
 fn wanted_of<'a>(matches: &ArgMatches<'a>) -> Wanted<'a> {
     Wanted {
-        trace: matches.get_str("trace").unwrap_or(""),
+        trace: trace_of(matches),
         holes: matches.get_flag("holes"),
         picks: matches.get_str("picks"),
     }
@@ -21,26 +32,39 @@ fn options_of(matches: &ArgMatches) -> ListOptions {
     ListOptions {
         lines: matches.get_flag("lines"),
         same: matches.get_flag("same"),
+        json: matches.get_flag("json"),
     }
 }
 
-/// The states of a text `A-B`, if it is one.
-fn range_of(text: &str) -> Option<States> {
-    let (first, last) = text.split_once('-')?;
+/// The numbers of a text `N` or `A-B`, if it is one.
+fn range_of(text: &str) -> Option<StateRange> {
+    let (first, last) = text.split_once('-').unwrap_or((text, text));
     let first = first.parse().ok()?;
     let last = last.parse().ok()?;
     if first > last {
         return None;
     }
-    Some(States::Range(first, last))
+    Some(StateRange { first, last })
 }
 
-/// The states behind `tar`, if it has some.
-fn states_of(matches: &ArgMatches) -> Option<States> {
-    if let Some(text) = matches.get_str("states") {
-        return range_of(text);
+/// The ranges of a text with commas between them, if it is one.
+fn ranges_of(alloc: Global, text: &str) -> Result<Option<Vec<StateRange>>, AllocError> {
+    let mut ranges = Vec::new(alloc);
+    for item in text.split(',') {
+        let Some(range) = range_of(item) else {
+            return Ok(None);
+        };
+        ranges.push(range)?;
     }
-    matches.get_one("state").map(States::One)
+    Ok(Some(ranges))
+}
+
+/// The states of `tar`, if it has some.
+fn states_of(alloc: Global, matches: &ArgMatches) -> Result<Option<States>, AllocError> {
+    match matches.get_str("states") {
+        Some(text) => Ok(ranges_of(alloc, text)?.map(States::Each)),
+        None => Ok(matches.get_one("state").map(States::One)),
+    }
 }
 
 fn family_of(matches: &ArgMatches) -> Family {
@@ -51,12 +75,12 @@ fn family_of(matches: &ArgMatches) -> Family {
     }
 }
 
-/// What is served. The counts were read before, so that 1 stands for none.
+/// What is served. No workers are as many as there are processors.
 fn serving_of<'a>(matches: &ArgMatches<'a>) -> Serving<'a> {
     Serving {
         listen: matches.get_str("listen").unwrap_or(""),
-        workers: matches.get_one("workers").unwrap_or(1),
-        connections: matches.get_one("connections").unwrap_or(1),
+        workers: matches.get_one("workers").unwrap_or(0),
+        connections: matches.get_one("connections").unwrap_or(CONNECTIONS),
         again: matches.get_flag("again"),
         ready: matches.get_flag("ready"),
         reload: if matches.get_flag("reload") {
@@ -72,33 +96,40 @@ fn serving_of<'a>(matches: &ArgMatches<'a>) -> Serving<'a> {
     }
 }
 
-fn job_of<'a>(name: &str, matches: &ArgMatches<'a>) -> Option<Job<'a>> {
-    Some(match name {
-        "list" => Job::List(options_of(matches)),
-        "tar" => Job::Tar(states_of(matches)?),
-        "picks" => Job::Picks(family_of(matches)),
-        "script" => Job::Script,
-        _ => Job::Serve(serving_of(matches)),
+fn job_of<'a>(
+    alloc: Global,
+    name: &str,
+    matches: &ArgMatches<'a>,
+) -> Result<Option<Job<'a>>, AllocError> {
+    Ok(match name {
+        "list" => Some(Job::List(options_of(matches))),
+        "tar" => match states_of(alloc, matches)? {
+            Some(states) => Some(Job::Tar(states)),
+            None => None,
+        },
+        "picks" => Some(Job::Picks(family_of(matches))),
+        "script" => Some(Job::Script),
+        _ => Some(Job::Serve(serving_of(matches))),
     })
 }
 
-/// What is told where the text behind `--states` is no range.
-fn no_range(alloc: Global, text: &str) -> Result<Error, AllocError> {
+/// What is printed if the text after `--states` is no list.
+fn no_list(alloc: Global, text: &str) -> Result<Error, AllocError> {
     let text = format!(in alloc;
-        "invalid value '{text}' for '--states <A-B>': two numbers, the first not above the second"
+        "invalid value '{text}' for '--states <LIST>': numbers N and ranges A-B, with commas"
     )?;
     let mut tar = tar_command(alloc)?.bin_name("crashfs tar")?;
     tar.error(ErrorKind::ValueValidation, text.as_str())
 }
 
-/// What the words ask for, the program's name first. The error is a text for the user: the help, the
-/// version, or what is wrong with the words.
+/// What the words ask for, the program's name first. The error is a text for the user: the help,
+/// the version, or what is wrong with the words.
 pub fn ask_of<'a>(alloc: Global, words: &'a [&'a str]) -> Result<Ask<'a>, Error> {
     let matches = command(alloc)?.try_get_matches_from(words)?;
     // a command line without a command was refused
     let (name, inner) = matches.subcommand().unwrap_or(("list", &matches));
-    let Some(job) = job_of(name, inner) else {
-        return Err(no_range(alloc, inner.get_str("states").unwrap_or(""))?);
+    let Some(job) = job_of(alloc, name, inner)? else {
+        return Err(no_list(alloc, inner.get_str("states").unwrap_or(""))?);
     };
     Ok(Ask {
         wanted: wanted_of(inner),

@@ -1,6 +1,11 @@
 //! The commands and their options, as the command line has them.
+use crate::version::VERSION;
 use clap::{Arg, ArgAction, ArgGroup, Command, value_parser};
 use std::alloc::{AllocError, Global};
+
+/// What the statuses mean.
+const STATUSES: &str =
+    "Exit status: 0 success; 1 a fault, which standard error names; 2 the command line is refused.";
 
 /// The names of clients.
 const CLIENTS: [&str; 2] = ["plan9", "linux"];
@@ -17,9 +22,7 @@ fn value_argument<'a>(alloc: Global, name: &'a str, shown: &'a str, help: &'a st
 }
 
 fn count_argument<'a>(alloc: Global, name: &'a str, help: &'a str) -> Arg<'a> {
-    value_argument(alloc, name, "N", help)
-        .required(true)
-        .value_parser(value_parser!(u32).range(1..=MOST))
+    value_argument(alloc, name, "N", help).value_parser(value_parser!(u32).range(1..=MOST))
 }
 
 fn flag<'a>(alloc: Global, name: &'a str, help: &'a str) -> Arg<'a> {
@@ -40,9 +43,17 @@ fn one_of<'a>(
     group.arg(first)?.arg(second)
 }
 
+/// The command with its trace, as an argument or as an option.
 fn with_trace<'a>(alloc: Global, command: Command<'a>) -> Result<Command<'a>, AllocError> {
-    let help = "The trace, one JSON object a line";
-    command.arg(value_argument(alloc, "trace", "FILE", help).required(true))
+    let help = "The trace, one JSON object a line; - is standard input";
+    let file = Arg::new(alloc, "file")
+        .value_name("TRACE")
+        .help(help)
+        .action(ArgAction::Set);
+    command
+        .arg(file)?
+        .arg(value_argument(alloc, "trace", "FILE", "The same as TRACE"))?
+        .group(one_of(alloc, "input", "file", "trace")?)
 }
 
 /// The command with the arguments that say which states are wanted.
@@ -61,11 +72,13 @@ fn with_users<'a>(alloc: Global, command: Command<'a>) -> Result<Command<'a>, Al
 fn list_command<'a>(alloc: Global) -> Result<Command<'a>, AllocError> {
     let lines = "Adds each operation's line of the trace, and the path of a file that changes";
     let same = "Adds to each state the first one that has an equal tree";
+    let json = "Prints one JSON object a line, with lines, files, needs and equal states";
     let list = Command::new(alloc, "list")
         .about("Prints the micro-operations and the crash states")
-        .after_help("Example: crashfs list --trace store.trace --holes --lines --same")
+        .after_help("Example: crashfs list store.trace --holes --lines --same")
         .arg(flag(alloc, "lines", lines))?
-        .arg(flag(alloc, "same", same))?;
+        .arg(flag(alloc, "same", same))?
+        .arg(flag(alloc, "json", json))?;
     with_states(alloc, list)
 }
 
@@ -74,12 +87,12 @@ pub fn tar_command<'a>(alloc: Global) -> Result<Command<'a>, AllocError> {
     let state = value_argument(alloc, "state", "N", "The state of that number").value_parser(
         value_parser!(u32),
     );
-    let help = "The states from A to B, each below a directory of its number";
-    let states = value_argument(alloc, "states", "A-B", help);
+    let help = "The states of a list, as 3,7-9, each below a directory of its number";
+    let states = value_argument(alloc, "states", "LIST", help);
     let one_of = one_of(alloc, "which", "state", "states")?;
     let tar = Command::new(alloc, "tar")
         .about("Writes the files of crash states as a tar archive")
-        .after_help("Example: crashfs tar --trace store.trace --holes --state 25 | tar -x -C dir")
+        .after_help("Example: crashfs tar store.trace --holes --state 25 | tar -x -C dir")
         .arg(state)?
         .arg(states)?
         .group(one_of)?;
@@ -87,12 +100,12 @@ pub fn tar_command<'a>(alloc: Global) -> Result<Command<'a>, AllocError> {
 }
 
 fn picks_command<'a>(alloc: Global) -> Result<Command<'a>, AllocError> {
-    let lost = "For each operation the least that is there where it is";
-    let files = "Each prefix without what no sync covers of one file";
+    let lost = "For each operation the smallest disk that still has it";
+    let files = "For each prefix and each file, the disk without its changes that no sync covers";
     let one_of = one_of(alloc, "family", "lost", "files")?;
     let picks = Command::new(alloc, "picks")
         .about("Prints a family of sets as a file for --picks")
-        .after_help("Example: crashfs picks --trace store.trace --lost > lost.picks")
+        .after_help("Example: crashfs picks store.trace --lost > lost.picks")
         .arg(flag(alloc, "lost", lost))?
         .arg(flag(alloc, "files", files))?
         .group(one_of)?;
@@ -103,7 +116,7 @@ fn script_command<'a>(alloc: Global) -> Result<Command<'a>, AllocError> {
     let verbose = "Prints each message and its reply as text on standard error";
     let script = Command::new(alloc, "script")
         .about("Runs the 9P2000 messages of standard input, one a line, and prints the replies")
-        .after_help("Example: crashfs script --users users --trace store.trace < messages")
+        .after_help("Example: crashfs script store.trace --users users < messages")
         .arg(flag(alloc, "verbose", verbose))?;
     with_states(alloc, with_users(alloc, script)?)
 }
@@ -111,8 +124,9 @@ fn script_command<'a>(alloc: Global) -> Result<Command<'a>, AllocError> {
 /// The address, and how many workers and connections there are.
 fn with_counts<'a>(alloc: Global, command: Command<'a>) -> Result<Command<'a>, AllocError> {
     let listen = "The address and port to listen on; port 0 lets the system choose one";
-    let workers = "How many threads make the states, 1 to 64";
-    let connections = "How many connections are served: before the end, or at once; 1 to 64";
+    let workers = "How many threads make the states, 1 to 64; default: one a processor";
+    let connections =
+        "How many connections are served: before the end, or at once; 1 to 64, default 64";
     command
         .arg(value_argument(alloc, "listen", "ADDR", listen).required(true))?
         .arg(count_argument(alloc, "workers", workers))?
@@ -131,7 +145,7 @@ fn serve_command<'a>(alloc: Global) -> Result<Command<'a>, AllocError> {
     let serve = Command::new(alloc, "serve")
         .about("Serves the states over TCP, each connection in a thread of its own")
         .after_help(
-            "Examples:\n  crashfs serve --users users --trace store.trace --listen localhost:5640 --workers 2 --connections 4\n  sleep infinity | crashfs serve --users users --trace store.trace --listen localhost:5640 --workers 2 --connections 4 --again --reload",
+            "Examples:\n  crashfs serve store.trace --users users --listen localhost:5640 --connections 4\n  sleep infinity | crashfs serve store.trace --users users --listen localhost:5640 --again --reload",
         )
         .arg(flag(alloc, "again", again))?
         .arg(flag(alloc, "ready", ready))?
@@ -148,7 +162,8 @@ pub fn command<'a>(alloc: Global) -> Result<Command<'a>, AllocError> {
         .about(
             "Shows the states in which a crash may leave an application's files, and serves them over 9P2000",
         )
-        .version("0.1.0")
+        .version(VERSION)
+        .after_help(STATUSES)
         .subcommand_required(true)
         .subcommand(list_command(alloc)?)?
         .subcommand(tar_command(alloc)?)?

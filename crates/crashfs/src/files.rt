@@ -12,13 +12,13 @@ pub const FAULT: u8 = 1;
 
 /// The bytes of each file that the command line names, none of one that it doesn't name.
 #[derive(Drop)]
-pub struct Given {
+pub struct InputFiles {
     trace: Vec<u8>,
     picks: Vec<u8>,
     users: Vec<u8>,
 }
 
-/// Tells that memory ran out, and gives the status.
+/// Prints that memory ran out, and gives the status.
 pub fn out_of_memory(rt: &impl Eprint) -> u8
     ensures { result ≡ 1 }
 {
@@ -36,53 +36,79 @@ fn read_bytes<R: Files + AllocGlobal>(rt: &R, path: &str) -> io::Result<Vec<u8>>
     Ok(bytes)
 }
 
-/// The file's bytes, or the status if it can't be read, which a line on `err` reports.
-fn read_file<R: Files + Eprint + AllocGlobal, E: Write>(
+/// These bytes, or the status if they can't be read, which two lines on `err` report: that it can't
+/// be read, and why.
+fn read_of<R: Eprint, E: Write>(
     rt: &R,
     path: &str,
+    bytes: io::Result<Vec<u8>>,
     err: &mut E,
 ) -> Result<Vec<u8>, u8> {
-    match read_bytes(rt, path) {
+    match bytes {
         Ok(bytes) => Ok(bytes),
         Err(error) if error.kind() == io::ErrorKind::OutOfMemory => Err(out_of_memory(rt)),
-        Err(_) => {
-            let _unheard = writeln!(err, "crashfs: {path}: cannot read");
+        Err(error) => {
+            let _unheard = writeln!(
+                err,
+                "crashfs: {path}: cannot read\ncrashfs: {path}: {error}"
+            );
             Err(FAULT)
         }
     }
 }
 
-/// As `read_file`; of no file no bytes.
+/// The bytes of standard input.
+fn read_input<R: Input + AllocGlobal>(rt: &R) -> io::Result<Vec<u8>> {
+    let mut bytes = Vec::new(rt.alloc());
+    rt.reader().read_to_end(&mut bytes)?;
+    Ok(bytes)
+}
+
+/// The bytes of the trace: of standard input, if its path is `-`.
+fn read_trace<R: Files + Input + Eprint + AllocGlobal, E: Write>(
+    rt: &R,
+    path: &str,
+    err: &mut E,
+) -> Result<Vec<u8>, u8> {
+    let bytes = if path == "-" {
+        read_input(rt)
+    } else {
+        read_bytes(rt, path)
+    };
+    read_of(rt, path, bytes, err)
+}
+
+/// The bytes of a file; of no file no bytes.
 fn read_if<R: Files + Eprint + AllocGlobal, E: Write>(
     rt: &R,
     path: Option<&str>,
     err: &mut E,
 ) -> Result<Vec<u8>, u8> {
     match path {
-        Some(path) => read_file(rt, path, err),
+        Some(path) => read_of(rt, path, read_bytes(rt, path), err),
         None => Ok(Vec::new(rt.alloc())),
     }
 }
 
-impl Given {
+impl InputFiles {
     /// Reads the trace, the picks and the users, in this order. Or the status if one can't be read,
-    /// which a line on `err` reports.
-    pub fn read<R: Files + Eprint + AllocGlobal, E: Write>(
+    /// which `err` reports.
+    pub fn read<R: Files + Input + Eprint + AllocGlobal, E: Write>(
         rt: &R,
         ask: &Ask,
         err: &mut E,
-    ) -> Result<Given, u8> {
-        let trace = read_file(rt, ask.wanted.trace, err)?;
+    ) -> Result<InputFiles, u8> {
+        let trace = read_trace(rt, ask.wanted.trace, err)?;
         let picks = read_if(rt, ask.wanted.picks, err)?;
         let users = read_if(rt, ask.users, err)?;
-        Ok(Given {
+        Ok(InputFiles {
             trace,
             picks,
             users,
         })
     }
 
-    /// The files, with what else the command line says of the states and of what is told.
+    /// The files, with what else the command line says of the states and of what is printed.
     pub fn inputs(&self, ask: &Ask) -> Inputs<'_> {
         Inputs {
             users: &self.users,

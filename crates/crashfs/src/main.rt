@@ -5,8 +5,11 @@ mod ask;
 mod command_line;
 mod commands;
 mod files;
+mod line_reason;
+mod reason;
 #[cfg(test)]
 mod tests;
+mod version;
 
 use ask::{Ask, Job};
 use clap::Error;
@@ -14,19 +17,37 @@ use clap::error::ErrorKind;
 use command_line::ask_of;
 use cs_archive::tar_of;
 use cs_families::picks_of;
-use cs_lists::list_with;
+use cs_list_lines::list_with;
 use cs_serve::{Inputs, script_of};
 use cs_tcp::{ReadsFiles, Serving, serve_of};
-use files::{Given, out_of_memory};
+use files::{FAULT, InputFiles, out_of_memory};
+use reason::explain;
 use std::io::{self, BufWriter, IsTerminal, Write};
 use std::net::{Net, TcpListener, TcpStream};
 use std::process::ExitCode;
 use std::rt::{Clock, Env, Files};
 use std::sync::{Mutex, Wait};
+use std::thread;
 use std::thread::Threads;
 
 /// The status of a command line that is refused.
 const REFUSED: u8 = 2;
+
+/// The most workers.
+const WORKERS: u32 = 64;
+
+/// So many workers, or one a processor.
+fn workers_of(rt: &impl Threads, workers: u32) -> u32 {
+    if workers > 0 {
+        return workers;
+    }
+    match thread::available_parallelism(rt) {
+        Ok(processors) => u32::try_from(processors.get())
+            .unwrap_or(WORKERS)
+            .min(WORKERS),
+        Err(_) => 1,
+    }
+}
 
 /// Serves the states.
 fn run_serve<R, W: Write, E: Write + Send>(
@@ -48,42 +69,54 @@ where
     serve_of(rt, rt.alloc(), inputs, serving, rt.reader(), out, &err)
 }
 
-/// Does what is asked for, once its files are read. Err where one of them can't be.
+/// Does what is asked for, once its files are read. Err if one of them can't be.
 fn run_job<R, E: Write + Send>(rt: &R, err: &mut E, on_terminal: bool, ask: &Ask) -> Result<u8, u8>
 where
     R: Files + ReadsFiles + Input + Print + Eprint + AllocGlobal + Clock + Threads + Wait + Sync,
     R: Net<Listener = TcpListener, Stream = TcpStream>,
     R::Reader: Send,
 {
-    let given = Given::read(rt, ask, err)?;
+    let given = InputFiles::read(rt, ask, err)?;
     let inputs = given.inputs(ask);
     let alloc = rt.alloc();
     let Ok(mut out) = BufWriter::new(alloc, io::writer(rt)) else {
         return Err(out_of_memory(rt));
     };
-    Ok(match ask.job {
-        Job::List(options) => list_with(alloc, &inputs, options, &mut io::writer(rt), err),
+    let status = match &ask.job {
+        Job::List(options) => list_with(alloc, &inputs, *options, &mut io::writer(rt), err),
         Job::Tar(states) => tar_of(alloc, &inputs, states, &mut out, err),
-        Job::Picks(family) => picks_of(alloc, &inputs, family, &mut out, err),
+        Job::Picks(family) => picks_of(alloc, &inputs, *family, &mut out, err),
         // these have no buffer: their writes are counted
         Job::Script => script_of(alloc, &inputs, &mut rt.reader(), &mut io::writer(rt), err),
         Job::Serve(serving) => {
             let serving = Serving {
+                workers: workers_of(rt, serving.workers),
                 progress: on_terminal,
-                ..serving
+                ..*serving
             };
             run_serve(rt, &inputs, serving, &mut out, err)
         }
-    })
+    };
+    if status == FAULT {
+        explain(alloc, &inputs, ask, err);
+    }
+    Ok(status)
 }
 
-/// The status of a command line that asks for nothing; what it is told is printed.
+/// The status of a command line that asks for nothing, after its text is printed: a help that can't
+/// be printed is a fault.
 fn unasked<R: Print + Eprint>(rt: &R, error: &Error) -> u8 {
     if error.kind() == ErrorKind::OutOfMemory {
         return out_of_memory(rt);
     }
-    let _unheard = error.print(rt);
-    if error.use_stderr() { REFUSED } else { 0 }
+    let printed = error.print(rt);
+    if error.use_stderr() {
+        REFUSED
+    } else if printed.is_err() {
+        FAULT
+    } else {
+        0
+    }
 }
 
 fn run<R, E: Write + Send>(rt: &R, err: &mut E, on_terminal: bool, words: &[&str]) -> u8

@@ -3,7 +3,7 @@ use Rattle.std.proofs.Common.{◌≡◌, ℕ, ◌+◌, ◌<◌, ◌≤◌, ◌==
 use Rattle.std.proofs.lemmas.Bool.{cases_eq, cases_lt, false≢true, or_cases, or_left, or_right, eqb-true, eq-eqb}
 use Rattle.std.proofs.lemmas.List.{get_or_default}
 use Rattle.cs_apm.specs.declared.row.Row.{Row}
-use Rattle.cs_apm.specs.Bits.{has}
+use Rattle.cs_apm.specs.Bits.{has_place}
 use Rattle.cs_apm.specs.Chains.{IsBackward}
 use Rattle.cs_apm.specs.Sets.{IsAllowed}
 
@@ -12,12 +12,13 @@ pub record IsSoFar (needs : ℕ → ℕ → Bool) (n : ℕ) (places : List ℕ) 
   pub ascending : (a b : ℕ) → a < b → b < at → get_or places a 0 < get_or places b 0
   pub below : (a : ℕ) → a < at → get_or places a 0 < next
   pub in_range : (a : ℕ) → a < at → get_or places a 0 < n
-  pub closed : (a i : ℕ) → a < at → needs i (get_or places a 0) ≡ true → has members i ≡ true
-  pub from_places : (i : ℕ) → has members i ≡ true → (a : ℕ) × ((a < at) × (get_or places a 0 ≡ i))
+  pub closed : (a i : ℕ) → a < at → needs i (get_or places a 0) ≡ true → has_place members i ≡ true
+  pub from_places : (i : ℕ) → has_place members i ≡ true → (a : ℕ) × ((a < at) × (get_or places a 0 ≡ i))
   pub last : 0 < next → (a : ℕ) × ((a < at) × (get_or places a 0 + 1 ≡ next))
-  pub to_members : (a : ℕ) → a < at → has members (get_or places a 0) ≡ true
+  pub to_members : (a : ℕ) → a < at → has_place members (get_or places a 0) ≡ true
 
-pub none_so_far : (needs : ℕ → ℕ → Bool) (n : ℕ) (places : List ℕ) (members : Row) → ((k : ℕ) → has members k ≡ false) → IsSoFar needs n places members 0 0
+pub none_so_far : (needs : ℕ → ℕ → Bool) (n : ℕ) (places : List ℕ) (members : Row) → ((k : ℕ) → has_place members k ≡ false)
+    → IsSoFar needs n places members 0 0
 none_so_far needs n places members empty = record {
   ascending = λ a b x y. absurd (omega (arith, y));
   below = λ a x. absurd (omega (arith, x));
@@ -29,11 +30,13 @@ none_so_far needs n places members empty = record {
 }
 
 pub one_more : (needs : ℕ → ℕ → Bool) (n : ℕ) (places : List ℕ) (members more : Row) (next at p : ℕ) → p ≡ get_or places at 0
-    → next ≤ p → p < n → ((i : ℕ) → needs i p ≡ true → has members i ≡ true) → ((k : ℕ) → has more k ≡ (k == p || has members k))
+    → next ≤ p → p < n → ((i : ℕ) → needs i p ≡ true → has_place members i ≡ true)
+    → ((k : ℕ) → has_place more k ≡ (k == p || has_place members k))
     → IsSoFar needs n places members next at → IsSoFar needs n places more (p + 1) (at + 1)
 one_more needs n places members more next at p is after inside needed set so_far = record {
   ascending = λ a b x y. ⊎_elim
-      (λ (e : b ≡ at). let h = so_far.below a (omega (arith, x, y)) in let f : get_or places b 0 ≡ p = ap (λ v. get_or places v 0) e ∙ sym is in omega (arith, h, f, after))
+      (λ (e : b ≡ at). let h = so_far.below a (omega (arith, x, y)) in let f : get_or places b 0 ≡ p =
+      ap (λ v. get_or places v 0) e ∙ sym is in omega (arith, h, f, after))
       (λ (e : b ≡ at → ⊥). so_far.ascending a b x (omega (arith, y, e)))
       (cases_eq b at);
   below = λ a x. ⊎_elim
@@ -44,22 +47,25 @@ one_more needs n places members more next at p is after inside needed set so_far
       (λ (e : a ≡ at). let f : get_or places a 0 ≡ p = ap (λ v. get_or places v 0) e ∙ sym is in omega (arith, f, inside))
       (λ (e : a ≡ at → ⊥). so_far.in_range a (omega (arith, x, e)))
       (cases_eq a at);
-  closed = λ a i x t. set i ∙ or_right (i == p) (has members i) (⊎_elim
+  closed = λ a i x t. set i ∙ or_right (i == p) (has_place members i) (⊎_elim
       (λ (e : a ≡ at). let f : get_or places a 0 ≡ p = ap (λ v. get_or places v 0) e ∙ sym is in needed i (sym (ap (λ v. needs i v) f) ∙ t))
       (λ (e : a ≡ at → ⊥). so_far.closed a i (omega (arith, x, e)) t)
       (cases_eq a at));
   from_places = λ i t. ⊎_elim
       (λ (e : (i == p) ≡ true). (at, (omega arith, sym is ∙ sym (eqb-true i p e))))
-      (λ (e : has members i ≡ true). let w = so_far.from_places i e in (w.0, (omega (arith, w.1.0), w.1.1)))
-      (or_cases (i == p) (has members i) (sym (set i) ∙ t));
+      (λ (e : has_place members i ≡ true). let w = so_far.from_places i e in (w.0, (omega (arith, w.1.0), w.1.1)))
+      (or_cases (i == p) (has_place members i) (sym (set i) ∙ t));
   last = λ x. (at, (omega arith, ap (λ v. v + 1) (sym is)));
   to_members = λ a x. ⊎_elim
-      (λ (e : a ≡ at). let f : get_or places a 0 ≡ p = ap (λ v. get_or places v 0) e ∙ sym is in set (get_or places a 0) ∙ or_left (get_or places a 0 == p) (has members (get_or places a 0)) (eq-eqb _ _ f))
-      (λ (e : a ≡ at → ⊥). set (get_or places a 0) ∙ or_right (get_or places a 0 == p) (has members (get_or places a 0)) (so_far.to_members a (omega (arith, x, e))))
+      (λ (e : a ≡ at). let f : get_or places a 0 ≡ p = ap (λ v. get_or places v 0) e ∙ sym is in
+      set (get_or places a 0) ∙ or_left (get_or places a 0 == p) (has_place members (get_or places a 0)) (eq-eqb _ _ f))
+      (λ (e : a ≡ at → ⊥). set (get_or places a 0) ∙ or_right (get_or places a 0 == p) (has_place members (get_or places a 0))
+      (so_far.to_members a (omega (arith, x, e))))
       (cases_eq a at);
 }
 
-pub all_so_far : (needs : ℕ → ℕ → Bool) (n : ℕ) (places : List ℕ) (members : Row) (next : ℕ) → IsSoFar needs n places members next (length places) → IsAllowed needs n places
+pub all_so_far : (needs : ℕ → ℕ → Bool) (n : ℕ) (places : List ℕ) (members : Row) (next : ℕ)
+    → IsSoFar needs n places members next (length places) → IsAllowed needs n places
 all_so_far needs n places members next so_far = record {
   ascending = so_far.ascending;
   in_range = so_far.in_range;
@@ -67,7 +73,8 @@ all_so_far needs n places members next so_far = record {
 }
 
 -- what an allowed set says of the place that comes next
-module _ (needs : ℕ → ℕ → Bool) (n : ℕ) (places : List ℕ) (members : Row) (next at p : ℕ) (inside : at < length places) (is : p ≡ get_or places at 0)
+module _ (needs : ℕ → ℕ → Bool) (n : ℕ) (places : List ℕ) (members : Row) (next at p : ℕ) (inside : at < length places)
+    (is : p ≡ get_or places at 0)
     (so_far : IsSoFar needs n places members next at) (allowed : IsAllowed needs n places) where
   pub after_too : next ≤ p
   after_too = ⊎_elim
@@ -78,15 +85,17 @@ module _ (needs : ℕ → ℕ → Bool) (n : ℕ) (places : List ℕ) (members :
   pub in_range_too : p < n
   in_range_too = let h = allowed.in_range at inside in omega (arith, h, is)
 
-  pub needed_too : IsBackward needs → (i : ℕ) → needs i p ≡ true → has members i ≡ true
+  pub needed_too : IsBackward needs → (i : ℕ) → needs i p ≡ true → has_place members i ≡ true
   needed_too back i t =
       let w = allowed.closed at i inside (ap (λ v. needs i v) (sym is) ∙ t) in
       let low = back i p t in
       let there : get_or places w.0 0 ≡ i = get_or_default places w.0 0 i w.1 ∙ w.2 in
       ⊎_elim
-      (λ (l : w.0 < at). ap (λ v. has members v) (sym there) ∙ so_far.to_members w.0 l)
+      (λ (l : w.0 < at). ap (λ v. has_place members v) (sym there) ∙ so_far.to_members w.0 l)
       (λ (h : at ≤ w.0). ⊎_elim
-      (λ (e : w.0 ≡ at). let f : get_or places w.0 0 ≡ get_or places at 0 = ap (λ v. get_or places v 0) e in absurd (omega (arith, f, there, is, low)))
-      (λ (e : w.0 ≡ at → ⊥). let later = allowed.ascending at w.0 (omega (arith, h, e)) w.1 in absurd (omega (arith, later, there, is, low)))
+      (λ (e : w.0 ≡ at). let f : get_or places w.0 0 ≡ get_or places at 0 = ap (λ v. get_or places v 0) e in
+      absurd (omega (arith, f, there, is, low)))
+      (λ (e : w.0 ≡ at → ⊥). let later = allowed.ascending at w.0 (omega (arith, h, e)) w.1 in
+      absurd (omega (arith, later, there, is, low)))
       (cases_eq w.0 at))
       (cases_lt w.0 at)

@@ -1,5 +1,6 @@
 -- A file before any operation.
-use Rattle.std.proofs.Common.{◌≡◌, ℕ, zero, suc, ◌+◌, ◌<◌, ◌≤◌, Bool, true, false, List, [], ◌∷◌, ◌++◌, length, get_or, refl, sym, ap, ◌∙◌, subst, ⊎_elim, arith, length-append, map}
+use Rattle.std.proofs.Common.{◌≡◌, ℕ, zero, suc, ◌+◌, ◌<◌, ◌≤◌, Bool, true, false, List, [], ◌∷◌, ◌++◌, length, get_or, refl, sym, ap, ◌∙◌}
+use Rattle.std.proofs.Common.{subst, ⊎_elim, arith, length-append, map}
 use Rattle.std.proofs.lemmas.Bool.{cases_lt, cases_Bool, false≢true}
 use Rattle.std.proofs.lemmas.List.{get_or_append_left, get_or-map, get_or_past, length-map}
 use Rattle.std.proofs.lemmas.List.Folds.{list_any_at}
@@ -11,9 +12,10 @@ use Rattle.cs_trace.specs.Traces.{Trace}
 use Rattle.cs_micro.specs.declared.micro_op.MicroOp.{MicroOp}
 use Rattle.cs_micro.specs.declared.micro_op.MicroOp.TheVariants.{Say}
 use Rattle.cs_apm.specs.Atlases.{AreChanged, AreStarts, content_before, files_left, no_record}
-use Rattle.cs_apm.specs.Contents.{changes, content_left}
+use Rattle.cs_apm.specs.Contents.{changes_file, content_left}
 use Rattle.cs_apm.specs.Rules.{op_at}
-use Rattle.cs_apm.specs.States.{Content, bytes_of, content_at, content_of, created, no_content, owner_at, owners_made, owners_of, start_state, state_of, with_created}
+use Rattle.cs_apm.specs.States.{Content, bytes_of, content_at, content_of, empty_files, no_content, owner_at, owners_made, owners_of}
+use Rattle.cs_apm.specs.States.{start_state, state_of, with_created}
 use Rattle.cs_apm.proofs.Contents.{content_idle, file_left}
 
 all_same : {X Y : Type 0} (d : Y) (xs : List X) (n : ℕ) → get_or (map (λ _. d) xs) n d ≡ d
@@ -27,12 +29,17 @@ behind d (y ∷ ys) xs zero high = absurd (omega (arith, high))
 behind d (y ∷ ys) xs (suc n) high = behind d ys xs n (omega (arith, high))
 
 module _ (t : Trace) (ops : List MicroOp) (starts : List ℕ) (are : AreStarts t starts) (n : ℕ) where
-  pub made_before : (items : List ℕ) (content : Content) → length starts ≤ n → items ≡ [] → content ≡ record { size = length items; bytes = items } → content ≡ content_before t ops n
+  pub made_before : (items : List ℕ) (content : Content) → length starts ≤ n → items ≡ [] → content ≡ record {
+    size = length items;
+    bytes = items;
+  } → content ≡ content_before t ops n
   made_before items content high none is =
       is ∙ ap (λ (v : List ℕ). let c : Content = record { size = length v; bytes = v } in c) none
-      ∙ sym (behind no_content (map (content_at t.records) t.files) (owners_made ops) n (let long = are.long in let same = length-map t.files (content_at t.records) in omega (arith, high, long, same)))
+      ∙ sym (behind no_content (map (content_at t.records) t.files) (owners_made ops) n
+      (let long = are.long in let same = length-map t.files (content_at t.records) in omega (arith, high, long, same)))
 
-  pub start_before : (e : Path × Record) (items : List ℕ) (content : Content) → n < length starts → e ≡ get_or t.records (get_or starts n 0) no_record → items ≡ bytes_of e.1
+  pub start_before : (e : Path × Record) (items : List ℕ) (content : Content) → n < length starts
+      → e ≡ get_or t.records (get_or starts n 0) no_record → items ≡ bytes_of e.1
       → content ≡ record { size = length items; bytes = items } → content ≡ content_before t ops n
   start_before e items content low read same is =
       let inside : n < length t.files = (let long = are.long in omega (arith, low, long)) in
@@ -40,19 +47,21 @@ module _ (t : Trace) (ops : List MicroOp) (starts : List ℕ) (are : AreStarts t
       ∙ ap (λ (w : Path × Record). content_of w.1) read
       ∙ are.content n low
       ∙ sym (get_or-map (content_at t.records) t.files n [] no_content inside)
-      ∙ sym (get_or_append_left (map (content_at t.records) t.files) (created ops) no_content n (let same_length = length-map t.files (content_at t.records) in omega (arith, inside, same_length)))
+      ∙ sym (get_or_append_left (map (content_at t.records) t.files) (empty_files ops) no_content n
+      (let same_length = length-map t.files (content_at t.records) in omega (arith, inside, same_length)))
 
-none_changed : (n : ℕ) (ops : List MicroOp) (k : ℕ) → list_any (changes n) ops ≡ false → changes n (op_at ops k) ≡ false
+none_changed : (n : ℕ) (ops : List MicroOp) (k : ℕ) → list_any (changes_file n) ops ≡ false → changes_file n (op_at ops k) ≡ false
 none_changed n ops k none = ⊎_elim
     (λ (low : k < length ops). ⊎_elim
-    (λ (yes : changes n (op_at ops k) ≡ true). absurd (false≢true (sym none ∙ list_any_at (changes n) ops k Say low yes)))
-    (λ (no_change : changes n (op_at ops k) ≡ false). no_change)
-    (cases_Bool (changes n (op_at ops k))))
-    (λ (high : length ops ≤ k). ap (changes n) (get_or_past ops k Say high))
+    (λ (yes : changes_file n (op_at ops k) ≡ true). absurd (false≢true (sym none ∙ list_any_at (changes_file n) ops k Say low yes)))
+    (λ (no_change : changes_file n (op_at ops k) ≡ false). no_change)
+    (cases_Bool (changes_file n (op_at ops k))))
+    (λ (high : length ops ≤ k). ap (changes_file n) (get_or_past ops k Say high))
     (cases_lt k (length ops))
 
 -- a file whose flag isn't set stays
-pub unflagged : (n count : ℕ) (ops : List MicroOp) (changed : List Bool) (flag : Bool) (f : Content) (places : List ℕ) → AreChanged ops count changed → n < length changed → flag ≡ get_or changed n false
+pub unflagged : (n count : ℕ) (ops : List MicroOp) (changed : List Bool) (flag : Bool) (f : Content) (places : List ℕ)
+    → AreChanged ops count changed → n < length changed → flag ≡ get_or changed n false
     → flag ≡ false → f ≡ content_left n f ops places
 unflagged n count ops changed flag f places are low read is =
     let said = are.each n (get_or changed n false) (slice_get-get_or changed n false low) in
@@ -61,12 +70,14 @@ unflagged n count ops changed flag f places are low read is =
 -- ---- what a set leaves of each file
 
 module _ (t : Trace) (ops : List MicroOp) (places : List ℕ) where
-  as_many : length (map (content_at t.records) t.files ++ created ops) ≡ length (owners_of t ops)
+  as_many : length (map (content_at t.records) t.files ++ empty_files ops) ≡ length (owners_of t ops)
   as_many =
-      length-append (map (content_at t.records) t.files) (created ops)
+      length-append (map (content_at t.records) t.files) (empty_files ops)
       ∙ (λ w. length-map t.files (content_at t.records) w + length-map (owners_made ops) (λ _. no_content) w)
-      ∙ sym (length-append (map (owner_at t.records) t.files) (owners_made ops) ∙ ap (λ k. k + length (owners_made ops)) (length-map t.files (owner_at t.records)))
+      ∙ sym (length-append (map (owner_at t.records) t.files) (owners_made ops) ∙ ap (λ k. k + length (owners_made ops))
+      (length-map t.files (owner_at t.records)))
 
-  pub left_file : (n : ℕ) → n < length (owners_of t ops) → content_left n (content_before t ops n) ops places ≡ get_or (files_left t ops places) n no_content
+  pub left_file : (n : ℕ) → n < length (owners_of t ops)
+      → content_left n (content_before t ops n) ops places ≡ get_or (files_left t ops places) n no_content
   unfolding files_left state_of
   left_file n low = sym (file_left (with_created (start_state t) ops) ops places n (subst (λ k. n < k) (sym as_many) low))

@@ -3,8 +3,9 @@ use Rattle.std.specs.Option.{option_map_or}
 use Rattle.std.proofs.lemmas.Option.{slice_get-get_or, slice_get_read, slice_get_past}
 use Rattle.cs_trace_lines.specs.declared.version.Version.{Version}
 use Rattle.cs_apm.specs.declared.row.Row.{Row}
-use Rattle.cs_apm.specs.Bits.{has}
-use Rattle.std.proofs.Common.{◌≡◌, ℕ, zero, suc, ◌∷◌, ◌+◌, ◌<◌, ◌≤◌, Bool, false, List, [], length, map, get_or, refl, sym, ap, ◌∙◌, subst, ⊎_elim, arith}
+use Rattle.cs_apm.specs.Bits.{has_place}
+use Rattle.std.proofs.Common.{◌≡◌, ℕ, zero, suc, ◌∷◌, ◌+◌, ◌<◌, ◌≤◌, Bool, false, List, [], length, map, get_or, refl, sym, ap, ◌∙◌, subst}
+use Rattle.std.proofs.Common.{⊎_elim, arith}
 use Rattle.std.proofs.lemmas.Bool.{cases_lt}
 use Rattle.std.proofs.lemmas.List.{get_or_past}
 use Rattle.std.proofs.lemmas.List.FromFn.{get_or-map-range_with_len, length-map-range_with_len}
@@ -26,30 +27,38 @@ entry need n i j later low =
     ap (λ r. get_or r i false) (get_or-map-range_with_len (λ j. map (λ i. need i j) (range_with_len 0 j)) 0 n j j [] low (omega arith))
     ∙ ⊎_elim
     (λ (l : i < j). get_or-map-range_with_len (λ i. need i j) 0 j i i false l (omega arith))
-    (λ (h : j ≤ i). get_or_past (map (λ i. need i j) (range_with_len 0 j)) i false (omega (arith, h, length-map-range_with_len (λ i. need i j) 0 j)) ∙ sym (later i j h))
+    (λ (h : j ≤ i). get_or_past (map (λ i. need i j) (range_with_len 0 j)) i false
+    (omega (arith, h, length-map-range_with_len (λ i. need i j) 0 j)) ∙ sym (later i j h))
     (cases_lt i j)
 
-pub entry_of_rules : (ops : List MicroOp) (syncs : List SyncPoint) (version : Version) (n i j : ℕ) → j < n → needs_in (table (needs ops syncs version) n) i j ≡ needs ops syncs version i j
+pub entry_of_rules : (ops : List MicroOp) (syncs : List SyncPoint) (version : Version) (n i j : ℕ) → j < n
+    → needs_in (table (needs ops syncs version) n) i j ≡ needs ops syncs version i j
 entry_of_rules ops syncs version n i j low = entry (needs ops syncs version) n i j (λ a b h. needs_later ops syncs version a b h) low
 
-map_same : {X : Type 0} (f g : ℕ → X) (a n : ℕ) → ((k : ℕ) → k < a + n → f k ≡ g k) → map f (range_with_len a n) ≡ map g (range_with_len a n)
+map_same : {X : Type 0} (f g : ℕ → X) (a n : ℕ) → ((k : ℕ) → k < a + n → f k ≡ g k)
+    → map f (range_with_len a n) ≡ map g (range_with_len a n)
 map_same f g a zero same = refl
-map_same f g a (suc n) same = ap (λ x. x ∷ map f (range_with_len (a + 1) n)) (same a (omega arith)) ∙ ap (λ xs. g a ∷ xs) (map_same f g (a + 1) n (λ k l. same k (omega (arith, l))))
+map_same f g a (suc n) same =
+    ap (λ x. x ∷ map f (range_with_len (a + 1) n)) (same a (omega arith)) ∙ ap (λ xs. g a ∷ xs)
+    (map_same f g (a + 1) n (λ k l. same k (omega (arith, l))))
 
 pub table_same : (p q : ℕ → ℕ → Bool) (n : ℕ) → ((i j : ℕ) → j < n → p i j ≡ q i j) → table p n ≡ table q n
 unfolding table
-table_same p q n same = map_same (λ j. map (λ i. p i j) (range_with_len 0 j)) (λ j. map (λ i. q i j) (range_with_len 0 j)) 0 n (λ j l. map_same (λ i. p i j) (λ i. q i j) 0 j (λ i m. same i j (omega (arith, l))))
+table_same p q n same =
+    map_same (λ j. map (λ i. p i j) (range_with_len 0 j)) (λ j. map (λ i. q i j) (range_with_len 0 j)) 0 n
+    (λ j l. map_same (λ i. p i j) (λ i. q i j) 0 j (λ i m. same i j (omega (arith, l))))
 
-pub bits_say : (need : ℕ → ℕ → Bool) (n : ℕ) (rows : List Row) (d : Row) → AreRows need n rows → (i j : ℕ) → j < n → bit_in rows i j ≡ need i j
+pub bits_say : (need : ℕ → ℕ → Bool) (n : ℕ) (rows : List Row) (d : Row) → AreRows need n rows → (i j : ℕ) → j < n
+    → bit_in rows i j ≡ need i j
 unfolding bit_in
 bits_say need n rows d are i j low =
     let there = slice_get-get_or rows j d (subst (λ m. j < m) (sym are.long) low) in
-    ap (λ o. option_map_or (λ r. has r i) o false) there ∙ are.each j (get_or rows j d) there i
+    ap (λ o. option_map_or (λ r. has_place r i) o false) there ∙ are.each j (get_or rows j d) there i
 
-pub bit_read : (rows : List Row) (j i : ℕ) (x : Row) → j < length rows → x ≡ get_or rows j x → bit_in rows i j ≡ has x i
+pub bit_read : (rows : List Row) (j i : ℕ) (x : Row) → j < length rows → x ≡ get_or rows j x → bit_in rows i j ≡ has_place x i
 unfolding bit_in
-bit_read rows j i x low is = ap (λ o. option_map_or (λ r. has r i) o false) (slice_get_read rows (length rows) j x refl low is)
+bit_read rows j i x low is = ap (λ o. option_map_or (λ r. has_place r i) o false) (slice_get_read rows (length rows) j x refl low is)
 
 pub bits_past : (rows : List Row) (i j : ℕ) → length rows ≤ j → bit_in rows i j ≡ false
 unfolding bit_in
-bits_past rows i j high = ap (λ o. option_map_or (λ r. has r i) o false) (slice_get_past rows j high)
+bits_past rows i j high = ap (λ o. option_map_or (λ r. has_place r i) o false) (slice_get_past rows j high)

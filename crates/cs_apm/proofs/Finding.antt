@@ -1,5 +1,6 @@
 -- What is found once: the latest create of a path, and the first sync that covers an operation.
-use Rattle.std.proofs.Common.{◌≡◌, ◌≢◌, ℕ, suc, ◌+◌, ◌-◌, ◌<◌, ◌≤◌, ◌&&◌, ◌||◌, not, Bool, true, false, List, [], ◌∷◌, ◌++◌, Option, Some, take, refl, sym, ap, ◌∙◌, subst, ⊎_elim, arith}
+use Rattle.std.proofs.Common.{◌≡◌, ◌≢◌, ℕ, suc, ◌+◌, ◌-◌, ◌<◌, ◌≤◌, ◌&&◌, ◌||◌, not, Bool, true, false, List, [], ◌∷◌, ◌++◌, Option, Some}
+use Rattle.std.proofs.Common.{take, refl, sym, ap, ◌∙◌, subst, ⊎_elim, arith}
 use Rattle.std.specs.Prelude.{nat_lt, nat_le}
 use Rattle.std.proofs.lemmas.Bool.{cases_eq, eq-eqb, ne_eqb}
 use Rattle.std.proofs.lemmas.List.Folds.{list_any-append}
@@ -7,14 +8,14 @@ use Rattle.std.specs.List.{list_any, range_with_len}
 use Rattle.cs_tree_model.specs.Tree.{Path}
 use Rattle.cs_micro.specs.declared.micro_op.MicroOp.{MicroOp}
 use Rattle.cs_micro.specs.declared.sync_point.SyncPoint.{SyncPoint}
-use Rattle.cs_apm.specs.Rules.{op_at, creates, between, is_latest, is_covered}
+use Rattle.cs_apm.specs.Rules.{op_at, creates, places_between, is_latest, is_covered}
 use Rattle.cs_apm.specs.Finding.{is_at, is_by}
 use Rattle.cs_apm.specs.Laws.Chains.{range_end}
 
-between_none : (k : ℕ) → between k (k + 1) ≡ []
+between_none : (k : ℕ) → places_between k (k + 1) ≡ []
 between_none k = let e : k + 1 - (k + 1) ≡ 0 = omega arith in ap (range_with_len (k + 1)) e
 
-between_more : (i k : ℕ) → i < k → between i (k + 1) ≡ between i k ++ k ∷ []
+between_more : (i k : ℕ) → i < k → places_between i (k + 1) ≡ places_between i k ++ k ∷ []
 between_more i k low =
     let e : k + 1 - (i + 1) ≡ suc (k - (i + 1)) = omega (arith, low) in
     ap (range_with_len (i + 1)) e ∙ range_end (i + 1) (k - (i + 1)) k (omega (arith, low))
@@ -38,28 +39,33 @@ module _ (ops : List MicroOp) (q : Path) where
   abbrev makes : ℕ → Bool
   makes m = creates (op_at ops m) q
 
-  latest_between : (i k : ℕ) (b : Bool) → i < k → makes k ≡ b → is_latest ops i (k + 1) q ≡ (makes i && not (list_any makes (between i k) || b))
+  latest_between : (i k : ℕ) (b : Bool) → i < k → makes k ≡ b
+      → is_latest ops i (k + 1) q ≡ (makes i && not (list_any makes (places_between i k) || b))
   unfolding is_latest
   latest_between i k true low is =
-      (λ w. makes i && not (list_any makes (between_more i k low w))) ∙ ap (λ v. makes i && not v) (list_any-append makes (between i k) (k ∷ []))
-      ∙ ap (λ v. makes i && not (list_any makes (between i k) || (v || false))) is
+      (λ w. makes i && not (list_any makes (between_more i k low w))) ∙ ap (λ v. makes i && not v)
+      (list_any-append makes (places_between i k) (k ∷ []))
+      ∙ ap (λ v. makes i && not (list_any makes (places_between i k) || (v || false))) is
   latest_between i k false low is =
-      (λ w. makes i && not (list_any makes (between_more i k low w))) ∙ ap (λ v. makes i && not v) (list_any-append makes (between i k) (k ∷ []))
-      ∙ ap (λ v. makes i && not (list_any makes (between i k) || (v || false))) is
+      (λ w. makes i && not (list_any makes (between_more i k low w))) ∙ ap (λ v. makes i && not v)
+      (list_any-append makes (places_between i k) (k ∷ []))
+      ∙ ap (λ v. makes i && not (list_any makes (places_between i k) || (v || false))) is
 
   latest_last : (k : ℕ) → is_latest ops k (k + 1) q ≡ (makes k && true)
   unfolding is_latest
   latest_last k = λ w. makes k && not (list_any makes (between_none k w))
 
-  unfolded : (i k : ℕ) → (makes i && not (list_any makes (between i k) || false)) ≡ is_latest ops i k q
+  unfolded : (i k : ℕ) → (makes i && not (list_any makes (places_between i k) || false)) ≡ is_latest ops i k q
   unfolding is_latest
-  unfolded i k = still (makes i) (list_any makes (between i k))
+  unfolded i k = still (makes i) (list_any makes (places_between i k))
 
   pub latest_here : (latest : Option ℕ) (k : ℕ) → makes k ≡ true → IsLatestSoFar ops q latest k → IsLatestSoFar ops q (Some k) (k + 1)
   latest_here latest k is so_far = record {
     found = λ i low. ⊎_elim
-        (λ (e : k ≡ i). subst (λ v. is_at (Some k) v ≡ is_latest ops v (k + 1) q) e (eq-eqb k k refl ∙ sym (latest_last k ∙ ap (λ b. b && true) is)))
-        (λ (e : k ≢ i). ne_eqb k i e ∙ sym (latest_between i k true (omega (arith, low, e)) is ∙ never (makes i) (list_any makes (between i k))))
+        (λ (e : k ≡ i). subst (λ v. is_at (Some k) v ≡ is_latest ops v (k + 1) q) e
+        (eq-eqb k k refl ∙ sym (latest_last k ∙ ap (λ b. b && true) is)))
+        (λ (e : k ≢ i). ne_eqb k i e ∙ sym
+        (latest_between i k true (omega (arith, low, e)) is ∙ never (makes i) (list_any makes (places_between i k))))
         (cases_eq k i);
     low = λ i h. (let other : k ≢ i = omega (arith, h) in ne_eqb k i other);
   }
@@ -67,7 +73,8 @@ module _ (ops : List MicroOp) (q : Path) where
   pub latest_same : (latest : Option ℕ) (k : ℕ) → makes k ≡ false → IsLatestSoFar ops q latest k → IsLatestSoFar ops q latest (k + 1)
   latest_same latest k is so_far = record {
     found = λ i low. ⊎_elim
-        (λ (e : k ≡ i). subst (λ v. is_at latest v ≡ is_latest ops v (k + 1) q) e (so_far.low k (omega arith) ∙ sym (latest_last k ∙ ap (λ b. b && true) is)))
+        (λ (e : k ≡ i). subst (λ v. is_at latest v ≡ is_latest ops v (k + 1) q) e
+        (so_far.low k (omega arith) ∙ sym (latest_last k ∙ ap (λ b. b && true) is)))
         (λ (e : k ≢ i). so_far.found i (omega (arith, low, e)) ∙ sym (latest_between i k false (omega (arith, low, e)) is ∙ unfolded i k))
         (cases_eq k i);
     low = λ i h. so_far.low i (omega (arith, h));

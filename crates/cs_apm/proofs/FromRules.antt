@@ -5,7 +5,7 @@ use Rattle.std.proofs.lemmas.Option.{slice_get-get_or, slice_get_past}
 use Rattle.std.specs.Option.{option_map_or}
 use Rattle.cs_trace_lines.specs.declared.version.Version.{Version}
 use Rattle.cs_apm.specs.declared.row.Row.{Row}
-use Rattle.cs_apm.specs.Bits.{has}
+use Rattle.cs_apm.specs.Bits.{has_place}
 use Rattle.cs_micro.specs.declared.micro_op.MicroOp.{MicroOp}
 use Rattle.cs_micro.specs.declared.sync_point.SyncPoint.{SyncPoint}
 use Rattle.cs_apm.specs.Rules.{needs}
@@ -13,17 +13,19 @@ use Rattle.cs_apm.specs.Rows.{AreRows, bit_in}
 use Rattle.cs_apm.proofs.Filling.{needs_later}
 use Rattle.cs_apm.specs.Chains.{IsBackward}
 
-pub row_says : (need : ℕ → ℕ → Bool) (n : ℕ) (rows : List Row) (d : Row) → AreRows need n rows → (i j : ℕ) → j < n → bit_in rows i j ≡ need i j
+pub row_says : (need : ℕ → ℕ → Bool) (n : ℕ) (rows : List Row) (d : Row) → AreRows need n rows → (i j : ℕ) → j < n
+    → bit_in rows i j ≡ need i j
 unfolding bit_in
 row_says need n rows d are i j low =
     let there = slice_get-get_or rows j d (subst (λ m. j < m) (sym are.long) low) in
-    ap (λ o. option_map_or (λ r. has r i) o false) there ∙ are.each j (get_or rows j d) there i
+    ap (λ o. option_map_or (λ r. has_place r i) o false) there ∙ are.each j (get_or rows j d) there i
 
 past_none : (rows : List Row) (i j : ℕ) → length rows ≤ j → bit_in rows i j ≡ false
 unfolding bit_in
-past_none rows i j high = ap (λ o. option_map_or (λ r. has r i) o false) (slice_get_past rows j high)
+past_none rows i j high = ap (λ o. option_map_or (λ r. has_place r i) o false) (slice_get_past rows j high)
 
-pub rows_backward : (ops : List MicroOp) (syncs : List SyncPoint) (version : Version) (rows : List Row) (d : Row) → AreRows (needs ops syncs version) (length ops) rows → IsBackward (bit_in rows)
+pub rows_backward : (ops : List MicroOp) (syncs : List SyncPoint) (version : Version) (rows : List Row) (d : Row)
+    → AreRows (needs ops syncs version) (length ops) rows → IsBackward (bit_in rows)
 rows_backward ops syncs version rows d are i k is = ⊎_elim
     (λ (l : k < length ops).
     let said = sym (row_says (needs ops syncs version) (length ops) rows d are i k l) ∙ is in

@@ -1,5 +1,6 @@
 -- Flags, and owners, one operation after the other.
-use Rattle.std.proofs.Common.{◌≡◌, ◌≢◌, ℕ, ◌<◌, ◌||◌, ◌==◌, Bool, true, false, List, [], ◌∷◌, ◌++◌, Some, refl, sym, ap, ◌∙◌, subst, ⊎_elim, length, take, drop, get_or}
+use Rattle.std.proofs.Common.{◌≡◌, ◌≢◌, ℕ, ◌<◌, ◌||◌, ◌==◌, Bool, true, false, List, [], ◌∷◌, ◌++◌, Some, refl, sym, ap, ◌∙◌, subst, ⊎_elim}
+use Rattle.std.proofs.Common.{length, take, drop, get_or}
 use Rattle.std.proofs.Math.Seq.{drop-length, take-length}
 use Rattle.std.proofs.lemmas.Bool.{cases_eq, eq-eqb, ne_eqb}
 use Rattle.std.proofs.lemmas.List.{append-nil, get_or-set_other, get_or-set_same, length-set}
@@ -9,18 +10,21 @@ use Rattle.std.specs.List.{list_any}
 use Rattle.std.specs.Prelude.{slice_get, slice_set}
 use Rattle.cs_trace.specs.declared.operation.Node.TheVariants as nodes
 use Rattle.cs_micro.specs.declared.micro_op.MicroOp.{MicroOp}
-use Rattle.cs_micro.specs.declared.micro_op.MicroOp.TheVariants.{CreateDirEntry, DeleteDirEntry, MoveDirEntry, LinkDirEntry, ChangeFileSize, WriteBlock, SetAttr, Say}
+use Rattle.cs_micro.specs.declared.micro_op.MicroOp.TheVariants.{CreateDirEntry, DeleteDirEntry, MoveDirEntry, LinkDirEntry, ChangeFileSize}
+use Rattle.cs_micro.specs.declared.micro_op.MicroOp.TheVariants.{WriteBlock, SetAttr, Say}
 use Rattle.cs_apm.specs.Atlases.{AreChanged}
-use Rattle.cs_apm.specs.Making.{marked}
-use Rattle.cs_apm.specs.Contents.{changes}
+use Rattle.cs_apm.specs.Making.{with_file_marked}
+use Rattle.cs_apm.specs.Contents.{changes_file}
 use Rattle.cs_apm.specs.Laws.Chains.{or_false}
 use Rattle.cs_apm.specs.States.{owners_made}
 
 -- a slice that was changed is put back
 pub put_back : {X : Type 0} (xs ys : List X) (n : ℕ) → length xs ≡ length ys → n ≡ length ys → take n (xs ++ drop (length xs) ys) ≡ xs
-put_back xs ys n same is = (λ i. take ((is ∙ sym same) i) (xs ++ drop (same i) ys)) ∙ ap (λ r. take (length xs) (xs ++ r)) (drop-length ys) ∙ ap (take (length xs)) (append-nil xs) ∙ take-length xs
+put_back xs ys n same is =
+    (λ i. take ((is ∙ sym same) i) (xs ++ drop (same i) ys)) ∙ ap (λ r. take (length xs) (xs ++ r)) (drop-length ys) ∙ ap (take (length xs))
+    (append-nil xs) ∙ take-length xs
 
-pub length-marked : (flags : List Bool) (o : MicroOp) → length (marked flags o) ≡ length flags
+pub length-marked : (flags : List Bool) (o : MicroOp) → length (with_file_marked flags o) ≡ length flags
 length-marked flags (CreateDirEntry p node rights) = refl
 length-marked flags (DeleteDirEntry p kind) = refl
 length-marked flags (MoveDirEntry p q) = refl
@@ -35,32 +39,38 @@ or_true true = refl
 or_true false = refl
 
 -- one flag is set
-set_flag : (flags : List Bool) (file n : ℕ) (flag was : Bool) → ((f : Bool) → slice_get flags n ≡ Some f → f ≡ was) → slice_get (slice_set flags file true) n ≡ Some flag → flag ≡ (was || ((file == n) || false))
+set_flag : (flags : List Bool) (file n : ℕ) (flag was : Bool) → ((f : Bool) → slice_get flags n ≡ Some f → f ≡ was)
+    → slice_get (slice_set flags file true) n ≡ Some flag → flag ≡ (was || ((file == n) || false))
 set_flag flags file n flag was so_far there =
-    let low : n < length flags = subst (λ k. n < k) (length-set flags file true) (slice_get_within (slice_set flags file true) n flag there) in
+    let low : n < length flags =
+    subst (λ k. n < k) (length-set flags file true) (slice_get_within (slice_set flags file true) n flag there) in
     let got : get_or (slice_set flags file true) n false ≡ flag = get_or_from_slice_get (slice_set flags file true) n flag false there in
     ⊎_elim
-    (λ (e : n ≡ file). sym got ∙ ap (λ k. get_or (slice_set flags file true) k false) e ∙ get_or-set_same flags file true false (subst (λ k. k < length flags) e low)
+    (λ (e : n ≡ file). sym got ∙ ap (λ k. get_or (slice_set flags file true) k false) e ∙ get_or-set_same flags file true false
+    (subst (λ k. k < length flags) e low)
     ∙ sym (ap (λ b. was || (b || false)) (eq-eqb file n (sym e)) ∙ or_true was))
-    (λ (e : n ≢ file). sym got ∙ get_or-set_other flags file n true false e ∙ so_far (get_or flags n false) (slice_get-get_or flags n false low)
+    (λ (e : n ≢ file). sym got ∙ get_or-set_other flags file n true false e ∙ so_far (get_or flags n false)
+    (slice_get-get_or flags n false low)
     ∙ sym (ap (λ b. was || (b || false)) (ne_eqb file n (λ s. e (sym s))) ∙ or_false was))
     (cases_eq n file)
 
-pub changed_more : (ops : List MicroOp) (count : ℕ) (flags : List Bool) (o : MicroOp) → AreChanged ops count flags → AreChanged (ops ++ o ∷ []) count (marked flags o)
+pub changed_more : (ops : List MicroOp) (count : ℕ) (flags : List Bool) (o : MicroOp) → AreChanged ops count flags
+    → AreChanged (ops ++ o ∷ []) count (with_file_marked flags o)
 changed_more ops count flags o are = record {
   long = length-marked flags o ∙ are.long;
-  each = λ n flag there. one o n flag there ∙ sym (list_any-append (changes n) ops (o ∷ []));
+  each = λ n flag there. one o n flag there ∙ sym (list_any-append (changes_file n) ops (o ∷ []));
 }
   where
-    one : (o : MicroOp) (n : ℕ) (flag : Bool) → slice_get (marked flags o) n ≡ Some flag → flag ≡ (list_any (changes n) ops || list_any (changes n) (o ∷ []))
-    one (CreateDirEntry p node rights) n flag there = are.each n flag there ∙ sym (or_false (list_any (changes n) ops))
-    one (DeleteDirEntry p kind) n flag there = are.each n flag there ∙ sym (or_false (list_any (changes n) ops))
-    one (MoveDirEntry p q) n flag there = are.each n flag there ∙ sym (or_false (list_any (changes n) ops))
-    one (LinkDirEntry p file) n flag there = are.each n flag there ∙ sym (or_false (list_any (changes n) ops))
-    one (ChangeFileSize file size) n flag there = set_flag flags file n flag (list_any (changes n) ops) (are.each n) there
-    one (WriteBlock file block start at bytes) n flag there = set_flag flags file n flag (list_any (changes n) ops) (are.each n) there
-    one (SetAttr target rights) n flag there = are.each n flag there ∙ sym (or_false (list_any (changes n) ops))
-    one Say n flag there = are.each n flag there ∙ sym (or_false (list_any (changes n) ops))
+    one : (o : MicroOp) (n : ℕ) (flag : Bool) → slice_get (with_file_marked flags o) n ≡ Some flag
+        → flag ≡ (list_any (changes_file n) ops || list_any (changes_file n) (o ∷ []))
+    one (CreateDirEntry p node rights) n flag there = are.each n flag there ∙ sym (or_false (list_any (changes_file n) ops))
+    one (DeleteDirEntry p kind) n flag there = are.each n flag there ∙ sym (or_false (list_any (changes_file n) ops))
+    one (MoveDirEntry p q) n flag there = are.each n flag there ∙ sym (or_false (list_any (changes_file n) ops))
+    one (LinkDirEntry p file) n flag there = are.each n flag there ∙ sym (or_false (list_any (changes_file n) ops))
+    one (ChangeFileSize file size) n flag there = set_flag flags file n flag (list_any (changes_file n) ops) (are.each n) there
+    one (WriteBlock file block start at bytes) n flag there = set_flag flags file n flag (list_any (changes_file n) ops) (are.each n) there
+    one (SetAttr target rights) n flag there = are.each n flag there ∙ sym (or_false (list_any (changes_file n) ops))
+    one Say n flag there = are.each n flag there ∙ sym (or_false (list_any (changes_file n) ops))
 
 pub owners_made-append : (xs ys : List MicroOp) → owners_made (xs ++ ys) ≡ owners_made xs ++ owners_made ys
 owners_made-append [] ys = refl

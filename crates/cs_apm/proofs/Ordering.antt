@@ -6,7 +6,7 @@ use Rattle.cs_apm.specs.declared.row.Row.{Row}
 use Rattle.cs_apm.specs.Chains.{IsBackward, by_chain}
 use Rattle.cs_apm.specs.Orders.{needs_in, table}
 use Rattle.cs_apm.specs.Rows.{IsOrder, bit_in}
-use Rattle.cs_apm.specs.Bits.{has}
+use Rattle.cs_apm.specs.Bits.{has_place}
 use Rattle.cs_apm.proofs.Entries.{bit_read, bits_past, entry, length_table}
 
 past_table : (need : ℕ → ℕ → Bool) (n i j : ℕ) → n ≤ j → needs_in (table need n) i j ≡ false
@@ -42,14 +42,15 @@ module _ (rows reach : List Row) (is : IsOrder rows reach) where
     pub low : (j : ℕ) → j < length order → j < length rows
     low j h = subst (λ n. j < n) (sym long) h
 
-    pub needs_read : (j i : ℕ) (row : Row) → j < length order → row ≡ get_or rows j row → has row i ≡ needs_in order i j
+    pub needs_read : (j i : ℕ) (row : Row) → j < length order → row ≡ get_or rows j row → has_place row i ≡ needs_in order i j
     needs_read j i row h read = sym (bit_read rows j i row (low j h) read) ∙ (λ w. bits_are w i j)
 
     pub reach_low : (j : ℕ) → j < length order → j < length reach
     reach_low j h = subst (λ n. j < n) (sym is.same) (low j h)
 
-    pub chain_read : (j i : ℕ) (row : Row) → j < length order → row ≡ get_or reach j row → has row i ≡ by_chain (needs_in order) i j
-    chain_read j i row h read = sym (bit_read reach j i row (reach_low j h) read) ∙ is.reached j i (low j h) ∙ (λ w. by_chain (bits_are w) i j)
+    pub chain_read : (j i : ℕ) (row : Row) → j < length order → row ≡ get_or reach j row → has_place row i ≡ by_chain (needs_in order) i j
+    chain_read j i row h read =
+        sym (bit_read reach j i row (reach_low j h) read) ∙ is.reached j i (low j h) ∙ (λ w. by_chain (bits_are w) i j)
 
     pub few : (i : ℕ) → i < length order → i < 1024
     few i h = (let l = low i h in let f = is.few in omega (arith, l, f))

@@ -1,5 +1,6 @@
 -- Bits of words.
-use Rattle.std.proofs.Common.{◌≡◌, ◌≢◌, ℕ, ◌+◌, ◌*◌, ◌/◌, ◌%◌, ◌^◌, ◌<◌, ◌≤◌, ◌==◌, ◌||◌, true, false, List, length, get_or, set, max, bit_or, refl, sym, ap, ◌∙◌, ⊎_elim, arith, get_or-set_other, get_or-set_same}
+use Rattle.std.proofs.Common.{◌≡◌, ◌≢◌, ℕ, ◌+◌, ◌*◌, ◌/◌, ◌%◌, ◌^◌, ◌<◌, ◌≤◌, ◌==◌, ◌||◌, true, false, List, length, get_or, set, max}
+use Rattle.std.proofs.Common.{bit_or, refl, sym, ap, ◌∙◌, ⊎_elim, arith, get_or-set_other, get_or-set_same}
 use Rattle.std.proofs.lemmas.Bool.{cases_eq, cases_lt, eq-eqb, ne_eqb, eqb-true, false≢true}
 use Rattle.std.proofs.lemmas.List.{get_or_past, get_or-replicate}
 use Rattle.std.proofs.lemmas.Nat.Bits.{bit_at-zero, bit_at_or, bit_at_set_same, bit_at_set_other, bit_at-lt, same_from_bits, bit_at_above}
@@ -17,7 +18,8 @@ zero_word m = ⊎_elim
     (cases_lt m 16)
 
 pub no_bit : (k : ℕ) → has_bit zeros k ≡ false
-no_bit k = let z = zero_word (k / 64) in let e : bit_at (get_or zeros (k / 64) 0) (k % 64) ≡ 0 = ap (λ v. bit_at v (k % 64)) z ∙ bit_at-zero (k % 64) in ap (λ v. v == 1) e
+no_bit k = let z = zero_word (k / 64) in let e : bit_at (get_or zeros (k / 64) 0) (k % 64) ≡ 0 =
+    ap (λ v. bit_at v (k % 64)) z ∙ bit_at-zero (k % 64) in ap (λ v. v == 1) e
 
 pub set_bit : (ws : List ℕ) (p k : ℕ) → length ws ≡ 16 → p < 1024
     → has_bit (set ws (p / 64) (bit_or (get_or ws (p / 64) 0) (1 * 2 ^ (p % 64) % 2 ^ 64))) k ≡ (k == p || has_bit ws k)
@@ -26,7 +28,8 @@ set_bit ws p k long low =
     let inside : p / 64 < length ws = omega arith in
     ⊎_elim
     (λ (q : k / 64 ≡ p / 64).
-    let word : get_or (set ws (p / 64) v) (k / 64) 0 ≡ v = ap (λ m. get_or (set ws (p / 64) v) m 0) q ∙ get_or-set_same ws (p / 64) v 0 inside in
+    let word : get_or (set ws (p / 64) v) (k / 64) 0 ≡ v =
+    ap (λ m. get_or (set ws (p / 64) v) m 0) q ∙ get_or-set_same ws (p / 64) v 0 inside in
     ⊎_elim
     (λ (r : k % 64 ≡ p % 64).
     let same : k ≡ p = omega arith in
@@ -35,8 +38,10 @@ set_bit ws p k long low =
     ap (λ x. bit_at x (k % 64) == 1) word ∙ ap (λ b. b == 1) bit ∙ sym (ap (λ t. t || has_bit ws k) t))
     (λ (r : k % 64 ≡ p % 64 → ⊥).
     let t : (k == p) ≡ false = ne_eqb k p (λ e. r (ap (λ x. x % 64) e)) in
-    let bit : bit_at v (k % 64) ≡ bit_at (get_or ws (p / 64) 0) (k % 64) = bit_at_set_other w64 (get_or ws (p / 64) 0) (p % 64) (omega arith) (k % 64) r in
-    ap (λ x. bit_at x (k % 64) == 1) word ∙ ap (λ b. b == 1) (bit ∙ ap (λ m. bit_at (get_or ws m 0) (k % 64)) (sym q)) ∙ sym (ap (λ t. t || has_bit ws k) t))
+    let bit : bit_at v (k % 64) ≡ bit_at (get_or ws (p / 64) 0) (k % 64) =
+    bit_at_set_other w64 (get_or ws (p / 64) 0) (p % 64) (omega arith) (k % 64) r in
+    ap (λ x. bit_at x (k % 64) == 1) word ∙ ap (λ b. b == 1) (bit ∙ ap (λ m. bit_at (get_or ws m 0) (k % 64)) (sym q)) ∙ sym
+    (ap (λ t. t || has_bit ws k) t))
     (cases_eq (k % 64) (p % 64)))
     (λ (q : k / 64 ≡ p / 64 → ⊥).
     let t : (k == p) ≡ false = ne_eqb k p (λ e. q (ap (λ x. x / 64) e)) in
@@ -68,7 +73,8 @@ join_more now before other w long low so_far = record {
   done = λ m h. ⊎_elim
       (λ (e : m ≡ w). let inside : w < length now = omega arith in
       ap (λ i. get_or (set now w (bit_or (get_or now w 0) (get_or other w 0))) i 0) e ∙ get_or-set_same now w _ 0 inside
-      ∙ ap (λ x. bit_or x (get_or other w 0)) (so_far.left w (omega arith)) ∙ ap (λ i. bit_or (get_or before i 0) (get_or other i 0)) (sym e))
+      ∙ ap (λ x. bit_or x (get_or other w 0)) (so_far.left w (omega arith)) ∙ ap (λ i. bit_or (get_or before i 0) (get_or other i 0))
+      (sym e))
       (λ (e : m ≡ w → ⊥). get_or-set_other now w m _ 0 e ∙ so_far.done m (omega (arith, h, e)))
       (cases_eq m w);
   left = λ m h. let e : m ≢ w = omega (arith, h) in get_or-set_other now w m _ 0 e ∙ so_far.left m (omega (arith, h));
@@ -102,7 +108,9 @@ pub adds_none : (a b : List ℕ) → length a ≡ 16 → AddsNone a b 16 → (k 
 adds_none a b long none k is = ⊎_elim
     (λ (l : k / 64 < 16).
     let bits = sym (bit_at_or (get_or a (k / 64) 0) (get_or b (k / 64) 0) (k % 64)) ∙ ap (λ x. bit_at x (k % 64)) (none (k / 64) l) in
-    let e : bit_at (get_or b (k / 64) 0) (k % 64) ≡ 1 = one_bit (bit_at (get_or a (k / 64) 0) (k % 64)) (bit_at (get_or b (k / 64) 0) (k % 64)) (bit_at-lt (get_or a (k / 64) 0) (k % 64)) (bit_at-lt (get_or b (k / 64) 0) (k % 64)) bits (eqb-true _ 1 is) in
+    let e : bit_at (get_or b (k / 64) 0) (k % 64) ≡ 1 =
+    one_bit (bit_at (get_or a (k / 64) 0) (k % 64)) (bit_at (get_or b (k / 64) 0) (k % 64)) (bit_at-lt (get_or a (k / 64) 0) (k % 64))
+    (bit_at-lt (get_or b (k / 64) 0) (k % 64)) bits (eqb-true _ 1 is) in
     ap (λ x. x == 1) e)
     (λ (h : 16 ≤ k / 64).
     let z : get_or a (k / 64) 0 ≡ 0 = get_or_past a (k / 64) 0 (omega (arith, long, h)) in
@@ -118,7 +126,8 @@ max_right a b x h = ⊎_elim
 
 pub adds_one : (a b : List ℕ) (w : ℕ) → get_or a w 0 < 2 ^ 64 → get_or b w 0 < 2 ^ 64 → ((k : ℕ) → has_bit a k ≡ true → has_bit b k ≡ true)
     → bit_or (get_or a w 0) (get_or b w 0) ≡ get_or b w 0
-adds_one a b w x y within = same_from_bits (bit_or (get_or a w 0) (get_or b w 0)) (get_or b w 0) (λ i. bit_at_or (get_or a w 0) (get_or b w 0) i ∙ ⊎_elim
+adds_one a b w x y within =
+    same_from_bits (bit_or (get_or a w 0) (get_or b w 0)) (get_or b w 0) (λ i. bit_at_or (get_or a w 0) (get_or b w 0) i ∙ ⊎_elim
     (λ (l : i < 64).
     let q : (64 * w + i) / 64 ≡ w = omega (arith, l) in
     let r : (64 * w + i) % 64 ≡ i = omega (arith, l) in

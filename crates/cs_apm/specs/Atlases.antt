@@ -1,5 +1,6 @@
 -- What is found once of a trace, for the states of all its sets.
-use Rattle.std.specs.Prelude.{◌≡◌, ◌≢◌, ◌<◌, ◌≤◌, ℕ, ◌+◌, ◌*◌, ◌++◌, Bool, List, [], Some, None, length, map, slice_get, slice_index_or}
+use Rattle.std.specs.Prelude.{◌≡◌, ◌≢◌, ◌<◌, ◌≤◌, ℕ, ◌+◌, ◌*◌, ◌++◌, Bool, List, [], Some, None}
+use Rattle.std.specs.Prelude.{length, map, slice_get, slice_index_or}
 use Rattle.std.specs.List.{All, Contains, list_any}
 use Rattle.cs_tree_model.specs.declared.record.Record.{Record}
 use Rattle.cs_tree_model.specs.Tree.{Path, parent_path}
@@ -7,10 +8,11 @@ use Rattle.cs_trace.specs.declared.operation.Rights.{Rights}
 use Rattle.cs_trace.specs.Operations.{AreNested}
 use Rattle.cs_trace.specs.Traces.{Trace, start_paths}
 use Rattle.cs_micro.specs.declared.micro_op.MicroOp.{MicroOp}
-use Rattle.cs_apm.specs.Contents.{IsSmall, changes}
+use Rattle.cs_apm.specs.Contents.{IsSmall, changes_file}
 use Rattle.cs_micro.specs.Legal.{AreLegal}
 use Rattle.cs_micro.specs.Micros.{block_of_version}
-use Rattle.cs_apm.specs.States.{Content, content_at, content_of, created, no_content, owners_of, start_state, state_of}
+use Rattle.cs_apm.specs.States.{Content, content_at, content_of, empty_files, no_content, owners_of}
+use Rattle.cs_apm.specs.States.{start_state, state_of}
 use Rattle.cs_apm.specs.Slots.{AreAscending, AreKnown, AreKnownSteps, AreSteps, Mirror}
 use Rattle.cs_apm.specs.declared.tables.Tables.{Tables}
 use Rattle.cs_apm.specs.declared.slot.Slot.{Slot}
@@ -30,7 +32,20 @@ pub record Atlas : Type 0 where
 
 -- a record that no place has
 abbrev pub no_record : Path × Record
-no_record = ([], record { number = 0; vers = 0; owner = []; group = []; mode = 0; atime = 0; mtime = 0; muid = []; content = None })
+no_record = (
+  [],
+  record {
+    number = 0;
+    vers = 0;
+    owner = [];
+    group = [];
+    mode = 0;
+    atime = 0;
+    mtime = 0;
+    muid = [];
+    content = None;
+  },
+)
 
 -- the record of each of the start's files has its content
 pub record AreStarts (t : Trace) (starts : List ℕ) : Type 0 where
@@ -44,7 +59,7 @@ pub record AreStarts (t : Trace) (starts : List ℕ) : Type 0 where
 pub record AreChanged (ops : List MicroOp) (n : ℕ) (changed : List Bool) : Type 0 where
   pub long : length changed ≡ n
   pub each : (file : ℕ) (flag : Bool) → slice_get changed file ≡ Some flag
-      → flag ≡ list_any (changes file) ops
+      → flag ≡ list_any (changes_file file) ops
 
 -- the atlas is of the trace, whose micro-operations these are
 pub record IsAtlas (t : Trace) (ops : List MicroOp) (a : Atlas) : Type 0 where
@@ -75,8 +90,16 @@ owners_left t ops places = (state_of (start_state t) ops places).owners
 -- the file of the number at the start, or as it is made
 abbrev pub content_before : Trace → List MicroOp → ℕ → Content
 content_before t ops n =
-    slice_index_or (map (content_at t.records) t.files ++ created ops) n no_content
+    slice_index_or (map (content_at t.records) t.files ++ empty_files ops) n no_content
 
 -- the tables as an atlas
 abbrev pub atlas_in : Tables → Atlas
-atlas_in t = record { paths = t.paths.items; slots = t.slots.items; steps = t.steps.items; rights = t.rights.items; owners = t.owners.items; starts = t.starts.items; changed = t.changed.items }
+atlas_in t = record {
+  paths = t.paths.items;
+  slots = t.slots.items;
+  steps = t.steps.items;
+  rights = t.rights.items;
+  owners = t.owners.items;
+  starts = t.starts.items;
+  changed = t.changed.items;
+}

@@ -8,5 +8,5 @@ abbrev pub has_bit : List ℕ → ℕ → Bool
 has_bit words place = bit_at (slice_index words (place / 64)) (place % 64) == 1
 
 -- whether the row has a place
-unfoldable pub has : Row → ℕ → Bool
-has row place = has_bit row.words place
+unfoldable pub has_place : Row → ℕ → Bool
+has_place row place = has_bit row.words place

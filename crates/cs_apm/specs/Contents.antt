@@ -1,25 +1,26 @@
 -- What a set leaves of one file.
-use Rattle.std.specs.Prelude.{ℕ, ◌+◌, ◌≤◌, ◌==◌, if◌then◌else◌, Bool, false, List, length, fold, map}
+use Rattle.std.specs.Prelude.{ℕ, ◌+◌, ◌≤◌, ◌==◌, if◌then◌else◌, Bool, false, List, length, fold}
+use Rattle.std.specs.Prelude.{map}
 use Rattle.cs_names.specs.declared.limits.TheConstants.{FILE_BYTES}
 use Rattle.cs_micro.specs.declared.micro_op.MicroOp.{MicroOp}
 use Rattle.cs_micro.specs.declared.micro_op.MicroOp.TheVariants.{ChangeFileSize, WriteBlock}
 use Rattle.cs_apm.specs.Rules.{op_at}
-use Rattle.cs_apm.specs.States.{Content, overwritten, resized}
+use Rattle.cs_apm.specs.States.{Content, overwritten, content_with_size}
 
 -- it changes the file of the number
-abbrev pub changes : ℕ → MicroOp → Bool
-changes n (ChangeFileSize file size) = file == n
-changes n (WriteBlock file block start at bytes) = file == n
-changes n _ = false
+abbrev pub changes_file : ℕ → MicroOp → Bool
+changes_file n (ChangeFileSize file size) = file == n
+changes_file n (WriteBlock file block start at bytes) = file == n
+changes_file n _ = false
 
 -- what it does to a file, if it is the file's
-abbrev pub change : Content → MicroOp → Content
-change f (ChangeFileSize file size) = resized size f
-change f (WriteBlock file block start at bytes) = overwritten (start + at) bytes f
-change f _ = f
+abbrev pub content_after_op : Content → MicroOp → Content
+content_after_op f (ChangeFileSize file size) = content_with_size size f
+content_after_op f (WriteBlock file block start at bytes) = overwritten (start + at) bytes f
+content_after_op f _ = f
 
 abbrev pub content_after : ℕ → Content → MicroOp → Content
-content_after n f o = if changes n o then change f o else f
+content_after n f o = if changes_file n o then content_after_op f o else f
 
 -- the file of the number after the members of a set
 unfoldable pub content_left : ℕ → Content → List MicroOp → List ℕ → Content

@@ -1,5 +1,7 @@
 pub mod Chains
 pub mod Paths
+pub mod Pairs
+pub mod Syncs
 pub mod Reasons
 pub mod Earlier
 pub mod Search

@@ -8,7 +8,7 @@ use Rattle.cs_trace.specs.declared.operation.Node.TheVariants as nodes
 use Rattle.cs_micro.specs.declared.micro_op.MicroOp.{MicroOp}
 use Rattle.cs_micro.specs.declared.micro_op.MicroOp.TheVariants.{ChangeFileSize, WriteBlock}
 use Rattle.cs_apm.specs.Atlases.{no_record}
-use Rattle.cs_apm.specs.Rules.{named, op_at}
+use Rattle.cs_apm.specs.Rules.{paths_named, op_at}
 
 -- the paths of the first n records are among these
 abbrev pub HasFirst : List Path → List (Path × Record) → ℕ → Type 0
@@ -16,7 +16,7 @@ HasFirst paths records n = (k : ℕ) → k < n → Contains paths (slice_index_o
 
 -- the paths that a micro-operation names are among these
 abbrev pub HasNamed : List Path → MicroOp → Type 0
-HasNamed paths o = (p : Path) → Contains (named o) p → Contains paths p
+HasNamed paths o = (p : Path) → Contains (paths_named o) p → Contains paths p
 
 abbrev pub HasAllNamed : List Path → List MicroOp → ℕ → Type 0
 HasAllNamed paths ops n = (k : ℕ) → k < n → HasNamed paths (op_at ops k)
@@ -25,15 +25,15 @@ HasAllNamed paths ops n = (k : ℕ) → k < n → HasNamed paths (op_at ops k)
 abbrev pub IsKnownPath : List (Path × Record) → List MicroOp → ℕ → Path → Type 0
 IsKnownPath records ops n p =
     ((k : ℕ) × (k < length records) × ((slice_index_or records k no_record).0 ≡ p))
-    ⊎ ((k : ℕ) × (k < n) × Contains (named (op_at ops k)) p)
+    ⊎ ((k : ℕ) × (k < n) × Contains (paths_named (op_at ops k)) p)
 
 abbrev pub node_at : List Node → ℕ → Node
 node_at ns i = slice_index_or ns i nodes.Directory
 
 -- the place is noted, if the node is a file's
-abbrev pub noted : List ℕ → Node → ℕ → List ℕ
-noted starts nodes.Directory place = starts
-noted starts (nodes.File file) place = slice_set starts file place
+abbrev pub with_file_noted : List ℕ → Node → ℕ → List ℕ
+with_file_noted starts nodes.Directory place = starts
+with_file_noted starts (nodes.File file) place = slice_set starts file place
 
 -- of the files, those among the first k nodes are found
 abbrev pub FindsFiles : List Node → ℕ → List ℕ → Type 0
@@ -41,7 +41,7 @@ FindsFiles ns k starts = (n i : ℕ) → n < length starts → i < k → node_at
     → (slice_index_or starts n 0 < k) × (node_at ns (slice_index_or starts n 0) ≡ nodes.File n)
 
 -- the flag of the file that is changed is set
-abbrev pub marked : List Bool → MicroOp → List Bool
-marked changed (ChangeFileSize file size) = slice_set changed file true
-marked changed (WriteBlock file block start at bytes) = slice_set changed file true
-marked changed _ = changed
+abbrev pub with_file_marked : List Bool → MicroOp → List Bool
+with_file_marked changed (ChangeFileSize file size) = slice_set changed file true
+with_file_marked changed (WriteBlock file block start at bytes) = slice_set changed file true
+with_file_marked changed _ = changed

@@ -13,13 +13,16 @@ use Rattle.cs_trace_lines.specs.declared.profile.Profile.TheVariants as profiles
 use Rattle.cs_trace_lines.specs.declared.version.Version.{Version}
 use Rattle.cs_micro.specs.declared.micro_op.EntryKind.TheVariants as kinds
 use Rattle.cs_micro.specs.declared.micro_op.MicroOp.{MicroOp}
-use Rattle.cs_micro.specs.declared.micro_op.MicroOp.TheVariants.{CreateDirEntry, DeleteDirEntry, MoveDirEntry, LinkDirEntry, ChangeFileSize, WriteBlock, SetAttr, Say}
+use Rattle.cs_micro.specs.declared.micro_op.MicroOp.TheVariants.{CreateDirEntry, DeleteDirEntry}
+use Rattle.cs_micro.specs.declared.micro_op.MicroOp.TheVariants.{MoveDirEntry, LinkDirEntry}
+use Rattle.cs_micro.specs.declared.micro_op.MicroOp.TheVariants.{ChangeFileSize, WriteBlock}
+use Rattle.cs_micro.specs.declared.micro_op.MicroOp.TheVariants.{SetAttr, Say}
 use Rattle.cs_micro.specs.declared.sync_point.SyncPoint.{SyncPoint}
-use Rattle.cs_apm.specs.Rules.{op_at, touched}
+use Rattle.cs_apm.specs.Rules.{op_at, paths_touched}
 
 -- it touches the path
 abbrev pub Touches : MicroOp → Path → Type 0
-Touches o p = Contains (touched o) p
+Touches o p = Contains (paths_touched o) p
 
 -- it touches an entry of the directory
 pub record TouchesEntryOf (o : MicroOp) (d : Path) : Type 0 where
@@ -45,7 +48,8 @@ abbrev pub WritesBlock : MicroOp → ℕ → ℕ → Type 0
 WritesBlock o file block =
     (start : ℕ) × (at : ℕ) × (bytes : List ℕ) × (o ≡ WriteBlock file block start at bytes)
 
--- it writes into a block of the file, and its bytes all lie in the range of so many from the offset on
+-- it writes into a block of the file, and its bytes all lie in the range of so many from the offset
+-- on
 pub record WritesWithin (o : MicroOp) (file offset count : ℕ) : Type 0 where
   pub block : ℕ
   pub start : ℕ

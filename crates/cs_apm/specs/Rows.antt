@@ -2,15 +2,15 @@
 use Rattle.std.specs.Prelude.{◌≡◌, ℕ, ◌<◌, ◌≤◌, Bool, false, Some, List, length, slice_get}
 use Rattle.std.specs.Option.{option_map_or}
 use Rattle.cs_apm.specs.declared.row.Row.{Row}
-use Rattle.cs_apm.specs.Bits.{has}
+use Rattle.cs_apm.specs.Bits.{has_place}
 use Rattle.cs_apm.specs.Chains.{by_chain, IsBackward}
 
 -- row j has i
 unfoldable pub bit_in : List Row → ℕ → ℕ → Bool
-bit_in rows i j = option_map_or (λ row. has row i) (slice_get rows j) false
+bit_in rows i j = option_map_or (λ row. has_place row i) (slice_get rows j) false
 
 abbrev pub IsRow : (ℕ → ℕ → Bool) → ℕ → Row → Type 0
-IsRow needs j row = (i : ℕ) → has row i ≡ needs i j
+IsRow needs j row = (i : ℕ) → has_place row i ≡ needs i j
 
 -- a row for each of the first n places
 pub record AreRows (needs : ℕ → ℕ → Bool) (n : ℕ) (rows : List Row) : Type 0 where

@@ -1,5 +1,6 @@
 -- Which micro-operation of a trace needs which: the ten rules, as tests.
-use Rattle.std.specs.Prelude.{ℕ, ◌+◌, ◌-◌, ◌==◌, ◌&&◌, ◌||◌, not, nat_lt, nat_le, Bool, true, false, List, [], ◌∷◌, length, slice_index_or}
+use Rattle.std.specs.Prelude.{ℕ, ◌+◌, ◌-◌, ◌==◌, ◌&&◌, ◌||◌, not, nat_lt, nat_le, Bool, true, false}
+use Rattle.std.specs.Prelude.{List, [], ◌∷◌, length, slice_index_or}
 use Rattle.std.specs.List.{list_any, range_with_len}
 use Rattle.cs_names.specs.Paths.{path_eq}
 use Rattle.cs_tree_model.specs.Tree.{Path, parent_path}
@@ -13,7 +14,10 @@ use Rattle.cs_trace_lines.specs.declared.profile.Profile.TheVariants as profiles
 use Rattle.cs_trace_lines.specs.declared.version.Version.{Version}
 use Rattle.cs_micro.specs.declared.micro_op.EntryKind.TheVariants as kinds
 use Rattle.cs_micro.specs.declared.micro_op.MicroOp.{MicroOp}
-use Rattle.cs_micro.specs.declared.micro_op.MicroOp.TheVariants.{CreateDirEntry, DeleteDirEntry, MoveDirEntry, LinkDirEntry, ChangeFileSize, WriteBlock, SetAttr, Say}
+use Rattle.cs_micro.specs.declared.micro_op.MicroOp.TheVariants.{CreateDirEntry, DeleteDirEntry}
+use Rattle.cs_micro.specs.declared.micro_op.MicroOp.TheVariants.{MoveDirEntry, LinkDirEntry}
+use Rattle.cs_micro.specs.declared.micro_op.MicroOp.TheVariants.{ChangeFileSize, WriteBlock}
+use Rattle.cs_micro.specs.declared.micro_op.MicroOp.TheVariants.{SetAttr, Say}
 use Rattle.cs_micro.specs.declared.sync_point.SyncPoint.{SyncPoint}
 
 -- the micro-operation at a place
@@ -21,28 +25,28 @@ abbrev pub op_at : List MicroOp → ℕ → MicroOp
 op_at ops place = slice_index_or ops place Say
 
 -- the paths that it touches
-abbrev pub touched : MicroOp → List Path
-touched (CreateDirEntry p node rights) = p ∷ []
-touched (DeleteDirEntry p kind) = p ∷ []
-touched (MoveDirEntry p q) = p ∷ q ∷ []
-touched (LinkDirEntry p file) = p ∷ []
-touched _ = []
+abbrev pub paths_touched : MicroOp → List Path
+paths_touched (CreateDirEntry p node rights) = p ∷ []
+paths_touched (DeleteDirEntry p kind) = p ∷ []
+paths_touched (MoveDirEntry p q) = p ∷ q ∷ []
+paths_touched (LinkDirEntry p file) = p ∷ []
+paths_touched _ = []
 
 abbrev pub touches : MicroOp → Path → Bool
-touches o q = list_any (λ p. path_eq p q) (touched o)
+touches o q = list_any (λ p. path_eq p q) (paths_touched o)
 
 -- the paths that it names: those that it touches, and that of the directory whose owner, group and
 -- permissions it sets
-abbrev pub named : MicroOp → List Path
-named (SetAttr (targets.Directory p) rights) = p ∷ []
-named o = touched o
+abbrev pub paths_named : MicroOp → List Path
+paths_named (SetAttr (targets.Directory p) rights) = p ∷ []
+paths_named o = paths_touched o
 
 abbrev pub names : MicroOp → Path → Bool
-names o q = list_any (λ p. path_eq p q) (named o)
+names o q = list_any (λ p. path_eq p q) (paths_named o)
 
 -- it touches an entry of the directory
 abbrev pub touches_entry_of : MicroOp → Path → Bool
-touches_entry_of o d = list_any (λ p. path_eq d (parent_path p)) (touched o)
+touches_entry_of o d = list_any (λ p. path_eq d (parent_path p)) (paths_touched o)
 
 -- it makes the entry
 abbrev pub creates : MicroOp → Path → Bool
@@ -65,33 +69,34 @@ is_entry_operation _ = false
 -- ---- the rules
 
 -- P1: both write one block of one file, or both change the size of one file
-abbrev pub same_place : MicroOp → MicroOp → Bool
-same_place (WriteBlock file block start at bytes) (WriteBlock other number begin from more) =
+abbrev pub same_block_or_size : MicroOp → MicroOp → Bool
+same_block_or_size (WriteBlock file block start at bytes)
+    (WriteBlock other number begin from more) =
     file == other && block == number
-same_place (ChangeFileSize file to) (ChangeFileSize other size) = file == other
-same_place _ _ = false
+same_block_or_size (ChangeFileSize file to) (ChangeFileSize other size) = file == other
+same_block_or_size _ _ = false
 
 -- P2: both name one path
 abbrev pub shares_path : MicroOp → MicroOp → Bool
-shares_path a b = list_any (names a) (named b)
+shares_path a b = list_any (names a) (paths_named b)
 
 -- the places after i and before j
-abbrev pub between : ℕ → ℕ → List ℕ
-between i j = range_with_len (i + 1) (j - (i + 1))
+abbrev pub places_between : ℕ → ℕ → List ℕ
+places_between i j = range_with_len (i + 1) (j - (i + 1))
 
 -- i is the latest create of the path before j
 unfoldable pub is_latest : List MicroOp → ℕ → ℕ → Path → Bool
 is_latest ops i j q =
-    creates (op_at ops i) q && not (list_any (λ k. creates (op_at ops k) q) (between i j))
+    creates (op_at ops i) q && not (list_any (λ k. creates (op_at ops k) q) (places_between i j))
 
 -- P3: i is the latest create, before j, of the parent directory of a path that j names
 abbrev pub makes_parent : List MicroOp → ℕ → ℕ → Bool
-makes_parent ops i j = list_any (λ p. is_latest ops i j (parent_path p)) (named (op_at ops j))
+makes_parent ops i j = list_any (λ p. is_latest ops i j (parent_path p)) (paths_named (op_at ops j))
 
 -- P4: b deletes a directory, and a touches an entry in it
-abbrev pub empties : MicroOp → MicroOp → Bool
-empties a (DeleteDirEntry d kinds.Directory) = touches_entry_of a d
-empties a _ = false
+abbrev pub touches_deleted_directory : MicroOp → MicroOp → Bool
+touches_deleted_directory a (DeleteDirEntry d kinds.Directory) = touches_entry_of a d
+touches_deleted_directory a _ = false
 
 -- bytes from one place of a file to another lie in the range of so many bytes from an offset on
 abbrev pub lies_within : ℕ → ℕ → ℕ → ℕ → Bool
@@ -146,7 +151,8 @@ creates_linked _ _ = false
 -- the rules of all versions that look at the two alone
 abbrev pub common_pair_needs : Profile → MicroOp → MicroOp → Bool
 common_pair_needs profile a b =
-    same_place a b || shares_path a b || empties a b || both_say a b || sets_same_file a b
+    same_block_or_size a b || shares_path a b || touches_deleted_directory a b || both_say a b
+    || sets_same_file a b
     || keeps_order profile a b
 
 -- and with them those that only version 3 knows

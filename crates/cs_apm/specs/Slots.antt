@@ -1,5 +1,6 @@
 -- The paths of a state as slots: one for each path that ever stands, in the order of paths.
-use Rattle.std.specs.Prelude.{◌≡◌, ◌<◌, ◌≤◌, ℕ, cond, List, [], ◌∷◌, Option, None, Some, length, slice_set, slice_index_or}
+use Rattle.std.specs.Prelude.{◌≡◌, ◌<◌, ◌≤◌, ℕ, cond, List, [], ◌∷◌, Option, None, Some, length}
+use Rattle.std.specs.Prelude.{slice_set, slice_index_or}
 use Rattle.std.specs.FinMap.{get, from_sorted}
 use Rattle.std.specs.Option.{option_map_or}
 use Rattle.std.specs.declared.cmp.Ordering.TheVariants.{Less}
@@ -9,8 +10,11 @@ use Rattle.cs_trace.specs.declared.operation.Node.TheVariants as nodes
 use Rattle.cs_trace.specs.declared.operation.Rights.{Rights}
 use Rattle.cs_trace.specs.declared.operation.Target.TheVariants as targets
 use Rattle.cs_micro.specs.declared.micro_op.MicroOp.{MicroOp}
-use Rattle.cs_micro.specs.declared.micro_op.MicroOp.TheVariants.{CreateDirEntry, DeleteDirEntry, MoveDirEntry, LinkDirEntry, ChangeFileSize, WriteBlock, SetAttr, Say}
-use Rattle.cs_apm.specs.States.{Entries, Entry, nobody}
+use Rattle.cs_micro.specs.declared.micro_op.MicroOp.TheVariants.{CreateDirEntry, DeleteDirEntry}
+use Rattle.cs_micro.specs.declared.micro_op.MicroOp.TheVariants.{MoveDirEntry, LinkDirEntry}
+use Rattle.cs_micro.specs.declared.micro_op.MicroOp.TheVariants.{ChangeFileSize, WriteBlock}
+use Rattle.cs_micro.specs.declared.micro_op.MicroOp.TheVariants.{SetAttr, Say}
+use Rattle.cs_apm.specs.States.{Entries, Entry, no_rights}
 use Rattle.cs_apm.specs.States as states
 use Rattle.cs_apm.specs.declared.slot.Slot.{Slot}
 use Rattle.cs_apm.specs.declared.slot.Slot.TheVariants.{Nothing, Directory, File}
@@ -61,7 +65,7 @@ abbrev pub path_at : List Path → ℕ → Path
 path_at paths i = slice_index_or paths i []
 
 abbrev pub rights_at : List Rights → ℕ → Rights
-rights_at rights k = slice_index_or rights k nobody
+rights_at rights k = slice_index_or rights k no_rights
 
 abbrev pub entry_of : List Rights → Slot → Option Entry
 entry_of rights Nothing = None
@@ -80,15 +84,16 @@ abbrev pub Mirror : List Rights → List Path → List Slot → Entries → Type
 Mirror rights paths slots m = (p : Path) → get m p ≡ slot_entry rights paths slots p
 
 -- the paths at which something stands, in order
-abbrev pub present : List Rights → List Path → List Slot → List (Path × Entry)
-present rights [] slots = []
-present rights (p ∷ ps) [] = []
-present rights (p ∷ ps) (s ∷ ss) =
-    option_map_or (λ e. (p, e) ∷ present rights ps ss) (entry_of rights s) (present rights ps ss)
+abbrev pub entries_in_slots : List Rights → List Path → List Slot → List (Path × Entry)
+entries_in_slots rights [] slots = []
+entries_in_slots rights (p ∷ ps) [] = []
+entries_in_slots rights (p ∷ ps) (s ∷ ss) =
+    option_map_or (λ e. (p, e) ∷ entries_in_slots rights ps ss) (entry_of rights s)
+    (entries_in_slots rights ps ss)
 
 -- the map of what the slots have
-unfoldable pub mirrored : List Rights → List Path → List Slot → Entries
-mirrored rights paths slots = from_sorted (present rights paths slots)
+unfoldable pub entries_of_slots : List Rights → List Path → List Slot → Entries
+entries_of_slots rights paths slots = from_sorted (entries_in_slots rights paths slots)
 
 -- ---- steps
 

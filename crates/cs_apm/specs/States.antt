@@ -1,5 +1,7 @@
 -- The state of a set of micro-operations: plain maps, and the tree that they are read as.
-use Rattle.std.specs.Prelude.{ℕ, ◌+◌, ◌-◌, ◌%◌, nat_lt, if◌then◌else◌, List, [], ◌∷◌, ◌++◌, Option, None, Some, unwrap_or, length, take, drop, replicate, fold, map, slice_set, slice_index_or, refl}
+use Rattle.std.specs.Prelude.{ℕ, ◌+◌, ◌-◌, ◌%◌, nat_lt, if◌then◌else◌, List, [], ◌∷◌, ◌++◌, Option}
+use Rattle.std.specs.Prelude.{None, Some, unwrap_or, length, take, drop, replicate, fold, map}
+use Rattle.std.specs.Prelude.{slice_set, slice_index_or, refl}
 use Rattle.std.specs.Coded.{Coded, code_by, coded×, coded_ℕ, coded_list}
 use Rattle.std.specs.FinMap.{FinMap, from_entries, get, insert, remove}
 use Rattle.std.specs.List.{zip}
@@ -15,7 +17,10 @@ use Rattle.cs_trace.specs.declared.operation.Rights.{Rights}
 use Rattle.cs_trace.specs.declared.operation.Target.TheVariants as targets
 use Rattle.cs_trace.specs.Traces.{Trace, record_in}
 use Rattle.cs_micro.specs.declared.micro_op.MicroOp.{MicroOp}
-use Rattle.cs_micro.specs.declared.micro_op.MicroOp.TheVariants.{CreateDirEntry, DeleteDirEntry, MoveDirEntry, LinkDirEntry, ChangeFileSize, WriteBlock, SetAttr}
+use Rattle.cs_micro.specs.declared.micro_op.MicroOp.TheVariants.{CreateDirEntry, DeleteDirEntry}
+use Rattle.cs_micro.specs.declared.micro_op.MicroOp.TheVariants.{MoveDirEntry, LinkDirEntry}
+use Rattle.cs_micro.specs.declared.micro_op.MicroOp.TheVariants.{ChangeFileSize, WriteBlock}
+use Rattle.cs_micro.specs.declared.micro_op.MicroOp.TheVariants.{SetAttr}
 use Rattle.cs_micro.specs.Micros.{Micros}
 use Rattle.cs_apm.specs.Rules.{op_at}
 
@@ -34,7 +39,9 @@ pub record Content : Type 0 where
 
 -- a content is stored as the pair of its fields
 abbrev pub content_code : Coded Content
-content_code = code_by (ℕ × List ℕ) (coded× coded_ℕ (coded_list coded_ℕ)) (λ c. (c.size, c.bytes)) (λ p. record { size = p.0; bytes = p.1 }) (λ _. refl)
+content_code =
+    code_by (ℕ × List ℕ) (coded× coded_ℕ (coded_list coded_ℕ)) (λ c. (c.size, c.bytes))
+    (λ p. record { size = p.0; bytes = p.1 }) (λ _. refl)
 
 -- what stands at each path, and of the files by their numbers what is in them, and owner, group and
 -- permissions
@@ -46,8 +53,8 @@ pub record State : Type 0 where
 -- ---- one operation
 
 -- what stands at p comes to q
-abbrev pub moved : {X : Type 0} → Path → Path → FinMap path_cmp X → FinMap path_cmp X
-moved p q m = option_map_or (λ e. insert (remove m p) q e) (get m p) m
+abbrev pub with_entry_moved : {X : Type 0} → Path → Path → FinMap path_cmp X → FinMap path_cmp X
+with_entry_moved p q m = option_map_or (λ e. insert (remove m p) q e) (get m p) m
 
 -- the entry that is made
 abbrev pub entry_made : Node → Rights → Entry
@@ -55,21 +62,21 @@ entry_made nodes.Directory rights = Directory rights
 entry_made (nodes.File file) rights = File file
 
 -- what stands at p has these rights, if it is a directory
-abbrev pub owned : Entries → Path → Rights → Option Entry → Entries
-owned m p rights (Some (Directory old)) = insert m p (Directory rights)
-owned m p rights _ = m
+abbrev pub with_rights_at : Entries → Path → Rights → Option Entry → Entries
+with_rights_at m p rights (Some (Directory old)) = insert m p (Directory rights)
+with_rights_at m p rights _ = m
 
 abbrev pub entries_after : Entries → MicroOp → Entries
 entries_after m (CreateDirEntry p node rights) = insert m p (entry_made node rights)
 entries_after m (DeleteDirEntry p kind) = remove m p
-entries_after m (MoveDirEntry p q) = moved p q m
+entries_after m (MoveDirEntry p q) = with_entry_moved p q m
 entries_after m (LinkDirEntry p file) = insert m p (File file)
-entries_after m (SetAttr (targets.Directory p) rights) = owned m p rights (get m p)
+entries_after m (SetAttr (targets.Directory p) rights) = with_rights_at m p rights (get m p)
 entries_after m _ = m
 
 -- a size that shrinks drops every byte past it, hidden ones too
-abbrev pub resized : ℕ → Content → Content
-resized size f =
+abbrev pub content_with_size : ℕ → Content → Content
+content_with_size size f =
     record f { size = size; bytes = (if nat_lt size f.size then take size f.bytes else f.bytes) }
 
 -- zeros up to an end, where the bytes end before it
@@ -77,15 +84,15 @@ abbrev pub padded : ℕ → List ℕ → List ℕ
 padded end old = old ++ replicate (end - length old) 0
 
 -- others put over the bytes from an offset on
-abbrev pub put : ℕ → List ℕ → List ℕ → List ℕ
-put at new old = take at old ++ (new ++ drop (at + length new) old)
+abbrev pub bytes_over : ℕ → List ℕ → List ℕ → List ℕ
+bytes_over at new old = take at old ++ (new ++ drop (at + length new) old)
 
 -- others placed at an offset, whatever the size; bytes that nothing wrote are zero
-abbrev pub placed : ℕ → List ℕ → List ℕ → List ℕ
-placed at new old = put at new (padded (at + length new) old)
+abbrev pub padded_bytes_over : ℕ → List ℕ → List ℕ → List ℕ
+padded_bytes_over at new old = bytes_over at new (padded (at + length new) old)
 
 abbrev pub overwritten : ℕ → List ℕ → Content → Content
-overwritten at new f = record f { bytes = placed at new f.bytes }
+overwritten at new f = record f { bytes = padded_bytes_over at new f.bytes }
 
 -- a file without a byte
 abbrev pub no_content : Content
@@ -95,7 +102,7 @@ abbrev pub with_file : ℕ → (Content → Content) → List Content → List C
 with_file file change files = slice_set files file (change (slice_index_or files file no_content))
 
 abbrev pub files_after : List Content → MicroOp → List Content
-files_after files (ChangeFileSize file size) = with_file file (resized size) files
+files_after files (ChangeFileSize file size) = with_file file (content_with_size size) files
 files_after files (WriteBlock file block start at bytes) =
     with_file file (overwritten (start + at) bytes) files
 files_after files _ = files
@@ -104,8 +111,12 @@ abbrev pub owners_after : List Rights → MicroOp → List Rights
 owners_after owners (SetAttr (targets.File file) rights) = slice_set owners file rights
 owners_after owners _ = owners
 
-abbrev pub after : State → MicroOp → State
-after s o = record { paths = entries_after s.paths o; files = files_after s.files o; owners = owners_after s.owners o }
+abbrev pub state_after : State → MicroOp → State
+state_after s o = record {
+  paths = entries_after s.paths o;
+  files = files_after s.files o;
+  owners = owners_after s.owners o;
+}
 
 -- ---- the state of a set
 
@@ -116,17 +127,21 @@ owners_made (CreateDirEntry p (nodes.File file) rights ∷ ops) = rights ∷ own
 owners_made (_ ∷ ops) = owners_made ops
 
 -- each of these files without a byte
-abbrev pub created : List MicroOp → List Content
-created ops = map (λ _. no_content) (owners_made ops)
+abbrev pub empty_files : List MicroOp → List Content
+empty_files ops = map (λ _. no_content) (owners_made ops)
 
 -- all files as they are made, those of the start first; no set is without its number
 abbrev pub with_created : State → List MicroOp → State
 with_created start ops =
-    record start { files = start.files ++ created ops; owners = start.owners ++ owners_made ops }
+    record start {
+      files = start.files ++ empty_files ops;
+      owners =
+          start.owners ++ owners_made ops;
+    }
 
 -- the members of the set in the trace's order
 unfoldable pub state_of : State → List MicroOp → List ℕ → State
-state_of start ops places = fold after (with_created start ops) (map (op_at ops) places)
+state_of start ops places = fold state_after (with_created start ops) (map (op_at ops) places)
 
 -- ---- the start
 
@@ -145,8 +160,8 @@ abbrev pub start_entries : List (Path × Record) → List Node → Entries
 start_entries records nodes =
     from_entries (map (λ x. (x.0.0, start_entry x.1 x.0.1)) (zip records nodes))
 
-abbrev pub nobody : Rights
-nobody = record { owner = []; group = []; permissions = 0 }
+abbrev pub no_rights : Rights
+no_rights = record { owner = []; group = []; permissions = 0 }
 
 abbrev pub bytes_of : Record → List ℕ
 bytes_of r = unwrap_or r.content []
@@ -159,7 +174,7 @@ abbrev pub content_at : List (Path × Record) → Path → Content
 content_at records p = option_map_or content_of (record_in records p) no_content
 
 abbrev pub owner_at : List (Path × Record) → Path → Rights
-owner_at records p = option_map_or rights_of (record_in records p) nobody
+owner_at records p = option_map_or rights_of (record_in records p) no_rights
 
 -- owner, group and permissions of each file by its number as it is made: those of the start, and
 -- those that are made
@@ -195,7 +210,7 @@ record_with rights bit content = record {
 abbrev pub record_of : List Rights → List Content → Entry → Record
 record_of owners files (Directory rights) = record_with rights DMDIR None
 record_of owners files (File file) =
-    record_with (slice_index_or owners file nobody) 0
+    record_with (slice_index_or owners file no_rights) 0
     (Some (visible (slice_index_or files file no_content)))
 
 abbrev pub records_of : State → FinMap path_cmp Record

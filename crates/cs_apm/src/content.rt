@@ -1,8 +1,9 @@
 //! What is in a file of a crash state: its size, and its bytes with those that are hidden past it.
 ghost use Rattle.std.specs.Prelude.{◌≡◌, ℕ, ◌+◌, ◌<◌, ◌≤◌, List, length, OnOk, IfOk};
 ghost use Rattle.std.specs.List.{All};
-ghost use Rattle.cs_apm.specs.Contents.{IsSmall, change, changes, content_after, content_left};
-ghost use Rattle.cs_apm.specs.States.{overwritten, padded, put, resized, visible};
+ghost use Rattle.cs_apm.specs.Contents.{IsSmall, content_after_op, changes_file, content_after};
+ghost use Rattle.cs_apm.specs.Contents.{content_left};
+ghost use Rattle.cs_apm.specs.States.{overwritten, padded, bytes_over, content_with_size, visible};
 
 use cs_micro::MicroOp;
 use cs_names::limits::FILE_BYTES;
@@ -40,7 +41,7 @@ impl FileContent {
 
     /// Changes the size. A size that shrinks drops every byte past it, hidden ones too.
     fn resize(&mut self, size: u64)
-        ensures { self.new ≡ resized size self.old }
+        ensures { self.new ≡ content_with_size size self.old }
     {
         if size < self.size {
             self.bytes.truncate(size as usize);
@@ -61,7 +62,7 @@ impl FileContent {
     /// What the micro-operation does to the file, if it is the file's.
     fn change(&mut self, op: &MicroOp) -> Result<(), AllocError>
         requires { IsSmall op.now }
-        ensures { OnOk result (self.new ≡ change self.old op.now) }
+        ensures { OnOk result (self.new ≡ content_after_op self.old op.now) }
     {
         match op {
             MicroOp::ChangeFileSize { length, .. } => self.resize(*length),
@@ -84,7 +85,7 @@ impl FileContent {
     {
         for place in places {
             let op = &ops[*place as usize];
-            if changes(file, op) {
+            if changes_file(file, op) {
                 self.change(op)?;
             }
         }
@@ -115,14 +116,14 @@ fn pad(bytes: &mut Vec<u8>, end: usize) -> Result<(), AllocError>
 /// Puts the piece over the bytes from an offset on.
 pub fn put_at(bytes: &mut [u8], at: usize, piece: &[u8])
     requires { at + length piece.now ≤ length bytes.old }
-    ensures { bytes.new ≡ put at piece.now bytes.old }
+    ensures { bytes.new ≡ bytes_over at piece.now bytes.old }
 {
     bytes[at..at + piece.len()].copy_from_slice(piece);
 }
 
 /// Whether the micro-operation changes the file of the number.
-pub fn changes(file: u32, op: &MicroOp) -> bool
-    ensures { result ≡ changes file op.now }
+pub fn changes_file(file: u32, op: &MicroOp) -> bool
+    ensures { result ≡ changes_file file op.now }
 {
     match op {
         MicroOp::ChangeFileSize { file: other, .. } => *other == file,

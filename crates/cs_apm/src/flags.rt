@@ -1,14 +1,14 @@
 //! Which files an operation changes.
 ghost use Rattle.std.specs.Prelude.{◌≡◌, IfOk};
 ghost use Rattle.cs_apm.specs.Atlases.{AreChanged};
-ghost use Rattle.cs_apm.specs.Making.{marked};
+ghost use Rattle.cs_apm.specs.Making.{with_file_marked};
 
 use cs_micro::MicroOp;
 use std::alloc::{AllocError, Global};
 
 /// Sets the flag of the file that the operation changes, if it changes one.
 fn mark(changed: &mut [bool], op: &MicroOp)
-    ensures { changed.new ≡ marked changed.old op.now }
+    ensures { changed.new ≡ with_file_marked changed.old op.now }
 {
     if let MicroOp::ChangeFileSize { file, .. } | MicroOp::WriteBlock { file, .. } = op {
         if (*file as usize) < changed.len() {

@@ -15,6 +15,7 @@ ghost use Rattle.cs_tree_model.specs.Tree.{IsTree};
 
 use crate::order::Order;
 use cs_micro::Micros;
+use cs_names::laws::know;
 use cs_trace::Trace;
 
 /// The tests of the rules are the rules as sentences, and the order of a trace says what they say.
@@ -46,7 +47,7 @@ pub fn chains_are_chains(order: &Order)
     ensures { (i j : ℕ) → (by_chain (needs_in order.now) i j ≡ true)
         ↔ ((n : ℕ) × Chain (needs_in order.now) n i j) }
 {
-    let _count = order.len();
+    know(order.len());
 }
 
 /// The state of every allowed set of a trace's micro-operations is a tree.
@@ -56,5 +57,5 @@ pub fn states_are_trees(trace: &Trace, micros: &Micros)
     ensures { (places : List ℕ) → IsAllowed (needs_of micros.now) (length micros.now.ops) places
         → IsTree (crash_state_of trace.now micros.now places) }
 {
-    let _operations = trace.operations();
+    know(trace.operations());
 }

@@ -2,12 +2,13 @@
 ghost use Rattle.std.specs.Prelude.{◌≡◌, ◌<◌, ◌≤◌, length, map, IfOk};
 ghost use Rattle.std.specs.List.{All};
 ghost use Rattle.std.specs.Option.{option_map};
-ghost use Rattle.cs_tree_model.specs.Fresh.{IsNested, fresh, fresh_record, numbered};
+ghost use Rattle.cs_tree_model.specs.Fresh.{IsNested, fresh, fresh_record, with_numbers_from};
 ghost use Rattle.cs_tree_model.specs.Maps.Values.{map_entries, map_values};
 ghost use Rattle.cs_apm.specs.Atlases.{files_left, owners_left};
 ghost use Rattle.cs_apm.specs.Files.{AreFiles};
 ghost use Rattle.cs_apm.specs.Contents.{IsSmall};
-ghost use Rattle.cs_apm.specs.Slots.{AreAscending, AreKnown, IsKnown, entry_of, mirrored, present};
+ghost use Rattle.cs_apm.specs.Slots.{AreAscending, AreKnown, IsKnown, entry_of, entries_of_slots};
+ghost use Rattle.cs_apm.specs.Slots.{entries_in_slots};
 ghost use Rattle.cs_apm.specs.States.{record_of, record_with};
 
 use crate::files::bytes_left;
@@ -106,11 +107,11 @@ fn records(
     requires small { All IsSmall ops.now }
     requires inside { All (λ place. place < length ops.now) places.now }
     ensures { IfOk result (λ records. records.items
-        ≡ numbered 0
+        ≡ with_numbers_from 0
         (map_entries
         (record_of (owners_left trace.now ops.now places.now)
         (files_left trace.now ops.now places.now))
-        (present tables.now.rights.items tables.now.paths.items slots.now))) }
+        (entries_in_slots tables.now.rights.items tables.now.paths.items slots.now))) }
 {
     let mut records = Vec::new(alloc);
     for (i, slot) in slots.iter().enumerate() {
@@ -143,12 +144,12 @@ pub fn store_of(
         (map_values
         (record_of (owners_left trace.now ops.now places.now)
         (files_left trace.now ops.now places.now))
-        (mirrored tables.now.rights.items tables.now.paths.items slots.now)) }
+        (entries_of_slots tables.now.rights.items tables.now.paths.items slots.now)) }
     ensures { IfOk result (λ tree. tree
         ≡ fresh (map_values
         (record_of (owners_left trace.now ops.now places.now)
         (files_left trace.now ops.now places.now))
-        (mirrored tables.now.rights.items tables.now.paths.items slots.now))) }
+        (entries_of_slots tables.now.rights.items tables.now.paths.items slots.now))) }
 {
     let records = records(alloc, trace, ops, tables, places, slots)?;
     PlainTree::from_records(alloc, records)

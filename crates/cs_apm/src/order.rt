@@ -1,6 +1,6 @@
 //! The order of a trace's micro-operations, and the sets of them that a crash may leave.
 ghost use Rattle.std.specs.Prelude.{◌≡◌, ◌↔◌, ℕ, ◌<◌, ◌≤◌, length, IfOk, IsTrue, true};
-ghost use Rattle.cs_apm.specs.Bits.{has, has_bit};
+ghost use Rattle.cs_apm.specs.Bits.{has_place, has_bit};
 ghost use Rattle.cs_apm.specs.Chains.{IsBackward, by_chain};
 ghost use Rattle.cs_apm.specs.Orders.{needs_in, order_of};
 ghost use Rattle.cs_apm.specs.Sets.{IsAllowed};
@@ -83,7 +83,7 @@ impl Order {
         requires { j < length self.now }
         ensures backward { IsBackward (needs_in self.now) }
         ensures value { IsTrue result
-            ↔ ((i : ℕ) → needs_in self.now i j ≡ true → has members.now i ≡ true) }
+            ↔ ((i : ℕ) → needs_in self.now i j ≡ true → has_place members.now i ≡ true) }
     {
         self.rows[j].within(members)
     }

@@ -2,7 +2,7 @@
 ghost use Rattle.std.specs.Prelude.{◌≡◌, ◌<◌, length, slice_index_or};
 ghost use Rattle.std.specs.List.{All};
 ghost use Rattle.cs_apm.specs.Owners.{owner_after, owner_left};
-ghost use Rattle.cs_apm.specs.States.{nobody};
+ghost use Rattle.cs_apm.specs.States.{no_rights};
 
 use cs_micro::MicroOp;
 use cs_trace::{Rights, Target};
@@ -31,7 +31,7 @@ pub fn owner_left<'a>(
     requires known { file < length owners.now }
     requires inside { All (λ place. place < length ops.now) places.now }
     ensures { result.now
-        ≡ owner_left file (slice_index_or owners.now file nobody) ops.now places.now }
+        ≡ owner_left file (slice_index_or owners.now file no_rights) ops.now places.now }
 {
     let mut owner = &owners[file as usize];
     for place in places {

@@ -1,10 +1,11 @@
 //! Every path that ever stands, in order, each with its place.
-ghost use Rattle.std.specs.Prelude.{◌≡◌, ◌<◌, ◌≤◌, ◌+◌, ◌*◌, ◌⊎◌, ℕ, length, slice_index_or, IfOk, OnOk};
+ghost use Rattle.std.specs.Prelude.{◌≡◌, ◌<◌, ◌≤◌, ◌+◌, ◌*◌, ◌⊎◌, ℕ, length, slice_index_or, IfOk};
+ghost use Rattle.std.specs.Prelude.{OnOk};
 ghost use Rattle.std.specs.List.{Contains};
 ghost use Rattle.cs_tree_model.specs.Tree.{Path as Names};
 ghost use Rattle.cs_apm.specs.Atlases.{no_record};
 ghost use Rattle.cs_apm.specs.Making.{HasAllNamed, HasFirst, HasNamed, IsKnownPath};
-ghost use Rattle.cs_apm.specs.Rules.{named};
+ghost use Rattle.cs_apm.specs.Rules.{paths_named};
 ghost use Rattle.cs_apm.specs.Slots.{AreAscending, IsPlace};
 
 use cs_micro::MicroOp;
@@ -58,7 +59,7 @@ fn add_named(alloc: Global, paths: &mut Vec<Path>, op: &MicroOp) -> Result<(), A
     ensures there { OnOk result (HasNamed paths.new.items op.now) }
     ensures others { (p : Names) → Contains paths.old.items p → Contains paths.new.items p }
     ensures only { OnOk result ((p : Names) → Contains paths.new.items p
-        → Contains paths.old.items p ⊎ Contains (named op.now) p) }
+        → Contains paths.old.items p ⊎ Contains (paths_named op.now) p) }
     ensures few { OnOk result (length paths.new.items ≤ length paths.old.items + 2) }
 {
     match op {

@@ -1,5 +1,6 @@
 //! Owner, group and permissions of what stands, as a table that grows.
-ghost use Rattle.std.specs.Prelude.{◌≡◌, [], ◌∷◌, ◌+◌, ◌<◌, ◌≤◌, ◌++◌, ◌^◌, Some, length, map, IfOk, OnOk, slice_index_or};
+ghost use Rattle.std.specs.Prelude.{◌≡◌, [], ◌∷◌, ◌+◌, ◌<◌, ◌≤◌, ◌++◌, ◌^◌, Some, length, map};
+ghost use Rattle.std.specs.Prelude.{IfOk, OnOk, slice_index_or};
 ghost use Rattle.std.specs.List.{All};
 ghost use Rattle.cs_apm.specs.Atlases.{no_record};
 ghost use Rattle.cs_apm.specs.Slots.{Grows, HasRights, entry_of, rights_at};

@@ -1,6 +1,6 @@
 //! Rows of bits, one for each micro-operation of a trace.
 ghost use Rattle.std.specs.Prelude.{◌≡◌, ◌==◌, ◌||◌, ℕ, ◌<◌, false, true, IsTrue, ◌↔◌};
-ghost use Rattle.cs_apm.specs.Bits.{has, has_bit};
+ghost use Rattle.cs_apm.specs.Bits.{has_place, has_bit};
 
 use cs_names::limits::MICRO_OPERATIONS;
 
@@ -16,14 +16,14 @@ pub struct Row {
 impl Row {
     /// The row without a place.
     pub fn empty() -> Row
-        ensures { (k : ℕ) → has result k ≡ false }
+        ensures { (k : ℕ) → has_place result k ≡ false }
     {
         Row { words: [0; 16] }
     }
 
     /// The row's words: 64 places to a word, from the lowest bit on.
     pub(crate) fn words(&self) -> &[u64; 16]
-        ensures { (k : ℕ) → has_bit result.now k ≡ has self.now k }
+        ensures { (k : ℕ) → has_bit result.now k ≡ has_place self.now k }
     {
         &self.words
     }
@@ -31,7 +31,7 @@ impl Row {
     /// Whether the row has the place.
     pub fn has(&self, place: usize) -> bool
         requires { place < MICRO_OPERATIONS }
-        ensures { result ≡ has self.now place }
+        ensures { result ≡ has_place self.now place }
     {
         (self.words[place / 64] >> (place % 64)) & 1 == 1
     }
@@ -39,14 +39,14 @@ impl Row {
     /// Takes the place in.
     pub fn set(&mut self, place: usize)
         requires { place < MICRO_OPERATIONS }
-        ensures { (k : ℕ) → has self.new k ≡ (k == place || has self.old k) }
+        ensures { (k : ℕ) → has_place self.new k ≡ (k == place || has_place self.old k) }
     {
         self.words[place / 64] |= 1u64 << (place % 64);
     }
 
     /// Takes in all that the other row has.
     pub fn join(&mut self, other: &Row)
-        ensures { (k : ℕ) → has self.new k ≡ (has self.old k || has other.now k) }
+        ensures { (k : ℕ) → has_place self.new k ≡ (has_place self.old k || has_place other.now k) }
     {
         for w in 0..WORDS {
             self.words[w] |= other.words[w];
@@ -55,7 +55,8 @@ impl Row {
 
     /// Whether the other row has all that this one has.
     pub fn within(&self, other: &Row) -> bool
-        ensures { IsTrue result ↔ ((k : ℕ) → has self.now k ≡ true → has other.now k ≡ true) }
+        ensures { IsTrue result ↔
+            ((k : ℕ) → has_place self.now k ≡ true → has_place other.now k ≡ true) }
     {
         for w in 0..WORDS {
             if self.words[w] | other.words[w] != other.words[w] {

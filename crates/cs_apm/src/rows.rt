@@ -1,6 +1,6 @@
 //! What each micro-operation needs, as rows of bits.
 ghost use Rattle.std.specs.Prelude.{◌≡◌, ℕ, ◌<◌, ◌≤◌, length, IfOk};
-ghost use Rattle.cs_apm.specs.Bits.{has};
+ghost use Rattle.cs_apm.specs.Bits.{has_place};
 ghost use Rattle.cs_apm.specs.Chains.{by_chain};
 ghost use Rattle.cs_apm.specs.Rows.{AreReach, AreRows, IsRow, bit_in};
 ghost use Rattle.cs_apm.specs.Finding.{AreSynced, is_maker};
@@ -100,7 +100,7 @@ fn reach_row(rows: &[Row], reach: &[Row], k: usize) -> Row
     requires few { length rows.now ≤ MICRO_OPERATIONS }
     requires made { length reach.now ≡ k }
     requires reached { AreReach rows.now reach.now k }
-    ensures { (i : ℕ) → has result i ≡ by_chain (bit_in rows.now) i k }
+    ensures { (i : ℕ) → has_place result i ≡ by_chain (bit_in rows.now) i k }
 {
     let mut row = Row::empty();
     for m in 0..k {

@@ -69,8 +69,8 @@ fn touches_entry_of(op: &MicroOp, directory: &Path) -> bool
 }
 
 /// Both write one block of one file, or both change the size of one file.
-fn same_place(a: &MicroOp, b: &MicroOp) -> bool
-    ensures { result ≡ rules.same_place a.now b.now }
+fn same_block_or_size(a: &MicroOp, b: &MicroOp) -> bool
+    ensures { result ≡ rules.same_block_or_size a.now b.now }
 {
     match a {
         MicroOp::WriteBlock { file, block, .. } => match b {
@@ -107,8 +107,8 @@ fn shares_path(a: &MicroOp, b: &MicroOp) -> bool
 }
 
 /// The second deletes a directory, and the first touches an entry in it.
-fn empties(a: &MicroOp, b: &MicroOp) -> bool
-    ensures { result ≡ rules.empties a.now b.now }
+fn touches_deleted_directory(a: &MicroOp, b: &MicroOp) -> bool
+    ensures { result ≡ rules.touches_deleted_directory a.now b.now }
 {
     match b {
         MicroOp::DeleteDirEntry {
@@ -205,9 +205,9 @@ fn creates_linked(a: &MicroOp, b: &MicroOp) -> bool
 fn common_pair_needs(profile: Profile, a: &MicroOp, b: &MicroOp) -> bool
     ensures { result ≡ rules.common_pair_needs profile a.now b.now }
 {
-    same_place(a, b)
+    same_block_or_size(a, b)
         || shares_path(a, b)
-        || empties(a, b)
+        || touches_deleted_directory(a, b)
         || both_say(a, b)
         || sets_same_file(a, b)
         || keeps_order(profile, a, b)

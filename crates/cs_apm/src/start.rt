@@ -1,6 +1,6 @@
 //! What stands at the start of a trace, and where the records of its files are.
 ghost use Rattle.std.specs.Prelude.{◌≡◌, ◌+◌, ◌<◌, ◌≤◌, ◌^◌, length, IfOk, OnOk};
-ghost use Rattle.cs_apm.specs.Making.{FindsFiles, HasFirst, noted};
+ghost use Rattle.cs_apm.specs.Making.{FindsFiles, HasFirst, with_file_noted};
 ghost use Rattle.cs_apm.specs.Slots.{AreAscending, HaveRights, Mirror};
 ghost use Rattle.cs_apm.specs.States.{start_entries};
 
@@ -43,7 +43,7 @@ pub fn start_slots(
 
 /// The place of a record is that of its file, if it is a file's.
 fn note_start(starts: &mut [u32], node: Node, place: u32)
-    ensures { starts.new ≡ noted starts.old node place }
+    ensures { starts.new ≡ with_file_noted starts.old node place }
 {
     if let Node::File(file) = node {
         if (file as usize) < starts.len() {

@@ -1,7 +1,8 @@
 //! What each micro-operation does to the slots.
 ghost use Rattle.std.specs.Prelude.{◌≡◌, ◌+◌, ◌<◌, ◌≤◌, ◌^◌, length, IfOk, OnOk};
 ghost use Rattle.cs_apm.specs.Making.{HasAllNamed, HasNamed};
-ghost use Rattle.cs_apm.specs.Slots.{AreAscending, AreSteps, Grows, HaveStepRights, HasStepRights, IsStep};
+ghost use Rattle.cs_apm.specs.Slots.{AreAscending, AreSteps, Grows, HaveStepRights, HasStepRights};
+ghost use Rattle.cs_apm.specs.Slots.{IsStep};
 
 use crate::places::place_of;
 use crate::rights::{made_slot, push_copy};

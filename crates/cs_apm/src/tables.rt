@@ -12,6 +12,7 @@ use crate::start::{start_slots, starts_of};
 use crate::steps::steps_of;
 use cs_micro::Micros;
 use cs_names::Path;
+use cs_names::laws::know;
 use cs_trace::{Rights, Trace};
 use std::alloc::{AllocError, Global};
 
@@ -48,7 +49,7 @@ impl Tables {
         let nodes = trace.nodes();
         let ops = micros.ops();
         // that its operations are legal says that what stands at the start is nested
-        let _operations = trace.operations();
+        know(trace.operations());
         let paths = paths_of(alloc, records, ops)?;
         let mut rights = Vec::new(alloc);
         let slots = start_slots(alloc, records, nodes, &paths, &mut rights)?;

@@ -12,10 +12,10 @@ use std::sync::Arc;
 fn tar<W: Write>(
     alloc: Global,
     inputs: &Inputs,
-    states: States,
+    states: &States,
     out: &mut W,
 ) -> Result<(), CommandFault>
-    ensures { OnOk result (WritesArchive states (W.contents out.old) (W.contents out.new)) }
+    ensures { OnOk result (WritesArchive states.now (W.contents out.old) (W.contents out.new)) }
 {
     let scene = scene_of(alloc, inputs)?;
     let Ok(scene) = Arc::new(alloc, scene) else {
@@ -28,18 +28,18 @@ fn tar<W: Write>(
     }
 }
 
-/// The command `tar`: writes the trees of the states that are asked for, as one archive. Its status: 0, or
-/// 1 where a fault ended it, which is told by one line on `err`; what was written before stands. If a state
-/// is past the plan's end, nothing is written.
+/// The command `tar`: writes the trees of the states that are asked for, as one archive. Its
+/// status: 0, or 1 if a fault ended it, which is reported by one line on `err`; what was written
+/// before stays. If a state is past the plan's end, nothing is written.
 pub fn tar_of<W: Write, E: Write>(
     alloc: Global,
     inputs: &Inputs,
-    states: States,
+    states: &States,
     out: &mut W,
     err: &mut E,
 ) -> u8
     ensures status { result ≤ 1 }
-    ensures archive { result ≡ 0 → WritesArchive states (W.contents out.old) (W.contents out.new) }
+    ensures archive { result ≡ 0 → WritesArchive states.now (W.contents out.old) (W.contents out.new) }
 {
     match tar(alloc, inputs, states, out) {
         Ok(()) => 0,

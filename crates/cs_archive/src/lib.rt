@@ -7,4 +7,4 @@ mod states;
 
 pub use command::tar_of;
 pub use fault::ArchiveFault;
-pub use states::{States, write_states};
+pub use states::{StateRange, States, write_states};

@@ -1,5 +1,5 @@
-//! What the benchmark programs share: works that are timed, rows that hold their times to a bound, the memory
-//! that the program has, and the texts of traces.
+//! What the benchmark programs share: works that are timed, rows that hold their times to a bound,
+//! the memory that the program has, and the texts of traces.
 #![tactic(auto)]
 
 mod memory;

@@ -68,8 +68,8 @@ impl Row<'_> {
     }
 }
 
-/// Does both works in turn, each time in the other order, since who comes second finds what it reads in the
-/// caches; and prints the row. Without times each is done once.
+/// Does both works in turn, each time in the other order, since who comes second finds what it
+/// reads in the caches; and prints the row. Without times each is done once.
 pub fn compare<A: Work, B: Work>(
     rt: &(impl Clock + Print + AllocGlobal),
     row: &Row<'_>,

@@ -93,7 +93,8 @@ impl Text {
         )
     }
 
-    /// Files of the root that stand at the start, each with as many bytes: so many numbers from the first on.
+    /// Files of the root that stand at the start, each with as many bytes: so many numbers from the
+    /// first on.
     pub fn start_files(
         &mut self,
         alloc: Global,

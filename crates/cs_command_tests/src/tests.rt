@@ -1,5 +1,7 @@
-//! What the commands `tar`, `picks` and `list` write.
+//! What the commands `tar`, `picks`, `list` and `script` write.
 
 mod archives;
 mod families;
+mod json;
 mod lists;
+mod third;

@@ -3,8 +3,9 @@ use Rattle.std.specs.Prelude.{ℕ, ◌+◌, ◌==◌, max, fold, Bool, false, Li
 use Rattle.std.specs.List.{filter, list_any}
 use Rattle.cs_trace.specs.declared.operation.Target.TheVariants as targets
 use Rattle.cs_micro.specs.declared.micro_op.MicroOp.{MicroOp}
-use Rattle.cs_micro.specs.declared.micro_op.MicroOp.TheVariants.{ChangeFileSize, WriteBlock, SetAttr}
-use Rattle.cs_plan.specs.Plans.{first}
+use Rattle.cs_micro.specs.declared.micro_op.MicroOp.TheVariants.{ChangeFileSize, WriteBlock}
+use Rattle.cs_micro.specs.declared.micro_op.MicroOp.TheVariants.{SetAttr}
+use Rattle.cs_plan.specs.Plans.{places_below}
 
 -- the file of which the micro-operation changes the size, a block or the rights
 abbrev pub file_changed : MicroOp → Option ℕ
@@ -31,4 +32,4 @@ file_end ops = fold (λ end op. max (number_after (file_changed op)) end) 0 ops
 
 -- the files that are changed, in the order of their numbers
 unfoldable pub changed_files : List MicroOp → List ℕ
-changed_files ops = filter (is_changed ops) (first (file_end ops))
+changed_files ops = filter (is_changed ops) (places_below (file_end ops))

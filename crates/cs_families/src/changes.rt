@@ -1,6 +1,7 @@
 //! The files that micro-operations change.
 ghost use Rattle.std.specs.Prelude.{◌≡◌, ◌≤◌, ◌^◌, IfOk};
-ghost use Rattle.cs_families.specs.Changes.{changed_files, file_changed, file_end, is_changed, is_file, number_after};
+ghost use Rattle.cs_families.specs.Changes.{changed_files, file_changed, file_end, is_changed};
+ghost use Rattle.cs_families.specs.Changes.{is_file, number_after};
 
 use cs_micro::MicroOp;
 use cs_trace::Target;

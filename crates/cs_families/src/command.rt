@@ -31,9 +31,9 @@ fn picks<W: Write>(
     }
 }
 
-/// The command `picks`: prints the sets of a family, each on a line as a picks file has it. Of the inputs it
-/// takes the trace alone. Its status: 0, or 1 where a fault ended it, which is told by one line on `err`;
-/// what was printed before stands.
+/// The command `picks`: prints the sets of a family, each on a line as a picks file has it. Of the
+/// inputs it takes the trace only. Its status: 0, or 1 if a fault ended it, which is printed as one
+/// line on `err`; what was printed before stays.
 pub fn picks_of<W: Write, E: Write>(
     alloc: Global,
     inputs: &Inputs,

@@ -10,6 +10,7 @@ ghost use Rattle.cs_families.specs.Texts.{picks_text};
 use crate::fault::FamilyFault;
 use crate::files::write_files;
 use crate::lost::write_lost;
+use cs_names::laws::know;
 use cs_plan::Scene;
 use std::alloc::Global;
 use std::io::Write;
@@ -19,25 +20,27 @@ use std::io::Write;
 pub enum Family {
     /// For each micro-operation the least set that has it: with it all that it needs by any chain.
     Lost,
-    /// For each prefix, and each file with a change there that no sync point before its last operation
-    /// covers: the prefix without these changes, and without all that need one of them by any chain. A set
-    /// that the prefix before gives for the file isn't given again.
+    /// For each prefix, and each file with a change there that no sync point before its last
+    /// operation covers: the prefix without these changes, and without all that need one of them by
+    /// any chain. A set that the prefix before gives for the file isn't given again.
     Files,
 }
 
-/// Writes the sets of a family as a picks file has them: in the order of their places or prefixes, and then
-/// of the files' numbers. After a fault some of the lines may be written.
+/// Writes the sets of a family as a picks file has them: in the order of their places or prefixes,
+/// and then of the files' numbers. After a fault some of the lines may be written.
 pub fn write_family<W: Write>(
     alloc: Global,
     scene: &Scene,
     family: Family,
     out: &mut W,
 ) -> Result<(), FamilyFault>
-    ensures sets { OnOk result (Appends (W.contents out.old) (W.contents out.new) (picks_text (family_in scene.now family))) }
+    ensures sets { OnOk result
+        (Appends (W.contents out.old) (W.contents out.new)
+        (picks_text (family_in scene.now family))) }
     ensures allowed { All (IsAllowedIn (order_in scene.now)) (family_in scene.now family) }
 {
     let order = scene.order();
-    let _few = order.len();
+    know(order.len());
     match family {
         Family::Lost => write_lost(alloc, order, out),
         Family::Files => write_files(alloc, scene.micros(), order, out),

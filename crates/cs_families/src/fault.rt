@@ -18,7 +18,7 @@ impl From<AllocError> for FamilyFault {
     }
 }
 
-/// Why the command ends with status 1. Its text stands after `crashfs: ` on standard error.
+/// Why the command ends with status 1. Its text follows `crashfs: ` on standard error.
 #[derive(Debug, Drop, Error)]
 pub(crate) enum CommandFault {
     /// The trace is at fault, or has no plan of states.

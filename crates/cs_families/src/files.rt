@@ -13,12 +13,13 @@ use crate::losses::losses_of;
 use crate::printing::write_pick;
 use cs_apm::Order;
 use cs_micro::Micros;
+use cs_names::laws::know;
 use cs_plan::Places;
 use std::alloc::Global;
 use std::io::Write;
 
-/// Writes what is left of a prefix without these places, unless the prefix that is a place shorter gives
-/// that too.
+/// Writes what is left of a prefix without these places, unless the prefix that is a place shorter
+/// gives that too.
 fn write_left<W: Write>(
     alloc: Global,
     order: &Order,
@@ -53,7 +54,7 @@ fn write_without<W: Write>(
     ensures { OnOk result (Appends (W.contents out.old) (W.contents out.new)
         (picks_text (sets_without (needs_in order.now) shorter.now losses.now file))) }
 {
-    let _few = order.len();
+    know(order.len());
     let others = lost_places(alloc, shorter, file)?;
     let lost = lost_places(alloc, losses, file)?;
     write_left(alloc, order, &others, &lost, losses.len(), out)
@@ -71,7 +72,8 @@ fn write_prefix<W: Write>(
     requires fewer { length shorter.now ≤ length order.now }
     requires few { length losses.now ≤ length order.now }
     ensures { OnOk result (Appends (W.contents out.old) (W.contents out.new)
-        (picks_text (flat_map (sets_without (needs_in order.now) shorter.now losses.now) files.now))) }
+        (picks_text
+        (flat_map (sets_without (needs_in order.now) shorter.now losses.now) files.now))) }
 {
     for file in files {
         write_without(alloc, order, shorter, losses, *file, out)?;
@@ -87,7 +89,9 @@ pub fn write_files<W: Write>(
     out: &mut W,
 ) -> Result<(), FamilyFault>
     requires { length order.now ≡ length micros.now.ops }
-    ensures { OnOk result (Appends (W.contents out.old) (W.contents out.new) (picks_text (files_sets micros.now order.now))) }
+    ensures { OnOk result
+        (Appends (W.contents out.old) (W.contents out.new)
+        (picks_text (files_sets micros.now order.now))) }
 {
     let ops = micros.ops();
     let syncs = micros.syncs();

@@ -2,12 +2,15 @@
 ghost use Rattle.std.specs.Prelude.{◌≡◌, ◌<◌, ◌≤◌, length, IfOk};
 ghost use Rattle.std.specs.List.{All};
 ghost use Rattle.cs_apm.specs.Orders.{needs_in};
-ghost use Rattle.cs_plan.specs.Plans.{IsAllowedIn, is_kept};
-ghost use Rattle.cs_families.specs.Left.{adds_nothing, is_given, left_of, loses_at, loses_one_more, lost_places, stays};
+ghost use Rattle.cs_plan.specs.Plans.{IsAllowedIn};
+ghost use Rattle.cs_families.specs.Left.{adds_nothing, is_given, left_of, loses_at, loses_one_more};
+ghost use Rattle.cs_families.specs.Left.{lost_places, stays};
 
 use crate::changes::is_file;
 use cs_apm::Order;
+use cs_names::laws::know;
 use cs_names::limits::MICRO_OPERATIONS;
+use cs_plan::members::keeps;
 use std::alloc::{AllocError, Global};
 
 /// Whether the file loses the change at the place.
@@ -33,16 +36,7 @@ pub fn lost_places(alloc: Global, losses: &[Option<u32>], file: u32) -> Result<V
     Ok(lost)
 }
 
-/// Whether the operation at one place stays where that at another is missing.
-fn keeps(order: &Order, missing: usize, place: usize) -> bool
-    requires first { missing < length order.now }
-    requires second { place < length order.now }
-    ensures { result ≡ is_kept (needs_in order.now) missing place }
-{
-    !(missing == place || order.needs_by_chain(missing, place))
-}
-
-/// Whether the operation at the place stays where those at other places are missing.
+/// Whether the operation at the place stays if those at other places are missing.
 fn stays(order: &Order, lost: &[u32], place: usize) -> bool
     requires there { place < length order.now }
     requires inside { All (λ missing. missing < length order.now) lost.now }
@@ -104,7 +98,7 @@ pub fn left_of(
     ensures allowed { IfOk result (λ left. IsAllowedIn order.now left.items) }
 {
     let mut left = Vec::new(alloc);
-    let _few = order.len();
+    know(order.len());
     for place in 0..end {
         if stays(order, lost, place) {
             left.push(place as u32)?;

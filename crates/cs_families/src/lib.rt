@@ -14,3 +14,4 @@ mod printing;
 pub use command::picks_of;
 pub use family::{Family, write_family};
 pub use fault::FamilyFault;
+pub use lost::least_with;

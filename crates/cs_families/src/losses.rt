@@ -27,8 +27,8 @@ fn lost_at(ops: &[MicroOp], syncs: &[SyncPoint], last: usize, place: usize) -> O
     file_changed(op)
 }
 
-/// For each place of the prefix the file whose change there a crash may lose, if there is one: a sync point
-/// after the prefix's last operation hasn't ended then.
+/// For each place of the prefix the file whose change there a crash may lose, if there is one: a
+/// sync point after the prefix's last operation hasn't ended then.
 pub fn losses_of(
     alloc: Global,
     ops: &[MicroOp],

@@ -9,6 +9,7 @@ ghost use Rattle.cs_families.specs.Texts.{picks_text};
 use crate::fault::FamilyFault;
 use crate::printing::write_pick;
 use cs_apm::Order;
+use cs_names::laws::know;
 use cs_plan::Places;
 use std::alloc::{AllocError, Global};
 use std::io::Write;
@@ -23,13 +24,13 @@ fn is_needed(order: &Order, place: usize, needed: usize) -> bool
 }
 
 /// The place, and all that the operation there needs by any chain.
-fn least_with(alloc: Global, order: &Order, place: usize) -> Result<Vec<u32>, AllocError>
+pub fn least_with(alloc: Global, order: &Order, place: usize) -> Result<Vec<u32>, AllocError>
     requires { place < length order.now }
     ensures value { IfOk result (λ set. set.items ≡ least_with (needs_in order.now) place) }
     ensures allowed { IfOk result (λ set. IsAllowedIn order.now set.items) }
 {
     let mut set = Vec::new(alloc);
-    let _few = order.len();
+    know(order.len());
     for needed in 0..place + 1 {
         if is_needed(order, place, needed) {
             set.push(needed as u32)?;
@@ -40,7 +41,8 @@ fn least_with(alloc: Global, order: &Order, place: usize) -> Result<Vec<u32>, Al
 
 /// Writes the least set of each operation.
 pub fn write_lost<W: Write>(alloc: Global, order: &Order, out: &mut W) -> Result<(), FamilyFault>
-    ensures { OnOk result (Appends (W.contents out.old) (W.contents out.new) (picks_text (lost_sets order.now))) }
+    ensures { OnOk result
+        (Appends (W.contents out.old) (W.contents out.new) (picks_text (lost_sets order.now))) }
 {
     for place in 0..order.len() {
         let set = least_with(alloc, order, place)?;

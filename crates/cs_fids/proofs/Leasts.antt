@@ -1,5 +1,6 @@
 -- The least open fid of a table, and the last of its open fids.
-use Rattle.std.proofs.Common.{◌≡◌, ◌∙◌, ℕ, ◌-◌, ◌<◌, ◌≤◌, ◌&&◌, ◌==◌, rules, Bool, true, false, cond, T, if◌then◌else◌, List, [], ◌∷◌, length, get_or, slice_get, Option, None, Some, IfSome, IsOk, refl, sym, ap, subst, arith, true≢false}
+use Rattle.std.proofs.Common.{◌≡◌, ◌∙◌, ℕ, ◌-◌, ◌<◌, ◌≤◌, ◌&&◌, ◌==◌, rules, Bool, true, false, cond, T, if◌then◌else◌, List, [], ◌∷◌}
+use Rattle.std.proofs.Common.{length, get_or, slice_get, Option, None, Some, IfSome, IsOk, refl, sym, ap, subst, arith, true≢false}
 use Rattle.std.proofs.lemmas.Bool.{eq-eqb, eqb-true}
 use Rattle.std.proofs.lemmas.List.{get_or_default}
 use Rattle.std.proofs.lemmas.List.Folds.{Any-from_list_any}
@@ -15,8 +16,8 @@ use Rattle.std.specs.declared.cmp.Ordering.TheVariants.{Less, Equal, Greater}
 use Rattle.cs_fids.specs.Entries.{is_open}
 use Rattle.cs_fids.specs.Opens.{IsDescending, is_among, is_open_in}
 use Rattle.cs_fids.specs.Tables.{FidMap, fid_of, first_open, least_open, opened_in}
-use Rattle.cs_fids.specs.declared.entry.Entry.{Entry}
-use Rattle.cs_fids.specs.declared.entry.Entry.TheVariants as entry
+use Rattle.cs_fids.specs.declared.entry.FidEntry.{FidEntry}
+use Rattle.cs_fids.specs.declared.entry.FidEntry.TheVariants as entry
 use Rattle.cs_fids.proofs.Numbers.{stands}
 
 -- the least number that passes a test, or none where none does
@@ -71,15 +72,20 @@ is_less Equal t = absurd t
 is_less Greater t = absurd t
 
 -- an entry that is found among those above a number has a greater one
-found_above : (k n : ℕ) (es : List (ℕ × Entry)) → T (below_all nat_cmp k es) → is_open_in (find nat_cmp n es) ≡ true → k < n
+found_above : (k n : ℕ) (es : List (ℕ × FidEntry)) → T (below_all nat_cmp k es) → is_open_in (find nat_cmp n es) ≡ true → k < n
 found_above k n [] above found = absurd (true≢false (sym found))
-found_above k n (e ∷ es) above found = by (n == e.0) refl (found_above k n es (both_second _ _ above)) (ap (λ b. is_open_in (cond b (Some e.1) (find nat_cmp n es))) (sym (unsigned_tied n e.0)) ∙ found)
+found_above k n (e ∷ es) above found =
+    by (n == e.0) refl (found_above k n es (both_second _ _ above))
+    (ap (λ b. is_open_in (cond b (Some e.1) (find nat_cmp n es))) (sym (unsigned_tied n e.0)) ∙ found)
   where
-    by : (b : Bool) → (n == e.0) ≡ b → (is_open_in (find nat_cmp n es) ≡ true → k < n) → is_open_in (cond b (Some e.1) (find nat_cmp n es)) ≡ true → k < n
-    by true same further is = subst (λ m. k < m) (sym (eqb-true n e.0 same)) (less k e.0 (is_less (nat_cmp k e.0) (both_first (is_lt (nat_cmp k e.0)) (below_all nat_cmp k es) above)))
+    by : (b : Bool) → (n == e.0) ≡ b → (is_open_in (find nat_cmp n es) ≡ true → k < n)
+        → is_open_in (cond b (Some e.1) (find nat_cmp n es)) ≡ true → k < n
+    by true same further is =
+        subst (λ m. k < m) (sym (eqb-true n e.0 same))
+        (less k e.0 (is_less (nat_cmp k e.0) (both_first (is_lt (nat_cmp k e.0)) (below_all nat_cmp k es) above)))
     by false same further is = further is
 
-first_is_least : (es : List (ℕ × Entry)) → T (is_sorted nat_cmp es) → IsLeast (λ n. is_open_in (find nat_cmp n es)) (first_open es)
+first_is_least : (es : List (ℕ × FidEntry)) → T (is_sorted nat_cmp es) → IsLeast (λ n. is_open_in (find nat_cmp n es)) (first_open es)
 first_is_least [] sorted = λ n. refl
 first_is_least (e ∷ es) sorted = by (is_open e.1) refl (first_is_least es (both_second _ _ sorted))
   where
@@ -100,24 +106,31 @@ first_is_least (e ∷ es) sorted = by (is_open e.1) refl (first_is_least es (bot
     not_here false n same found = refl
     not_here true n same found = (let less : e.0 < n = above n found in absurd (omega arith))
 
-    passed : is_open e.1 ≡ false → (n : ℕ) (b : Bool) → (n == e.0) ≡ b → is_open_in (find nat_cmp n (e ∷ es)) ≡ is_open_in (find nat_cmp n es)
+    passed : is_open e.1 ≡ false → (n : ℕ) (b : Bool) → (n == e.0) ≡ b
+        → is_open_in (find nat_cmp n (e ∷ es)) ≡ is_open_in (find nat_cmp n es)
     passed is n true same = own n same ∙ is ∙ not_here (is_open_in (find nat_cmp n es)) n (eqb-true n e.0 same) refl
     passed is n false differs = other n differs
 
-    by : (b : Bool) → is_open e.1 ≡ b → IsLeast (λ n. is_open_in (find nat_cmp n es)) (first_open es) → IsLeast (λ n. is_open_in (find nat_cmp n (e ∷ es))) (option_map fid_of (if b then Some e else list.find (λ x. is_open x.1) es))
+    by : (b : Bool) → is_open e.1 ≡ b → IsLeast (λ n. is_open_in (find nat_cmp n es)) (first_open es)
+        → IsLeast (λ n. is_open_in (find nat_cmp n (e ∷ es))) (option_map fid_of (if b then Some e else list.find (λ x. is_open x.1) es))
     by true is rest = (own e.0 (eq-eqb e.0 e.0 refl) ∙ is, λ n there. from_first is n (n == e.0) refl there)
-    by false is rest = alike (λ n. is_open_in (find nat_cmp n (e ∷ es))) (λ n. is_open_in (find nat_cmp n es)) (λ n. passed is n (n == e.0) refl) (first_open es) rest
+    by false is rest =
+        alike (λ n. is_open_in (find nat_cmp n (e ∷ es))) (λ n. is_open_in (find nat_cmp n es)) (λ n. passed is n (n == e.0) refl)
+        (first_open es) rest
 
-opens : (o : Option Entry) → is_open_in o ≡ true → IsOk (opened_in o)
+opens : (o : Option FidEntry) → is_open_in o ≡ true → IsOk (opened_in o)
 opens None is = absurd (true≢false (sym is))
 opens (Some (entry.Walked f)) is = absurd (true≢false (sym is))
 opens (Some (entry.Opened f)) is = refl
 
-module _ (fids : FidMap) (numbers : List ℕ) (descending : IsDescending numbers) (among : (n : ℕ) → is_among n numbers ≡ is_open_in (get fids n)) where
+module _ (fids : FidMap) (numbers : List ℕ) (descending : IsDescending numbers)
+    (among : (n : ℕ) → is_among n numbers ≡ is_open_in (get fids n)) where
   -- the last of the numbers is the least open fid
   pub is_least : slice_get numbers (length numbers - 1) ≡ least_open fids
   is_least =
-      let first = alike (λ n. is_among n numbers) (λ n. is_open_in (find nat_cmp n (entries fids))) (λ n. among n ∙ ap is_open_in (get-entries fids n)) (least_open fids) (first_is_least (entries fids) (entries_sorted fids)) in
+      let first =
+      alike (λ n. is_among n numbers) (λ n. is_open_in (find nat_cmp n (entries fids)))
+      (λ n. among n ∙ ap is_open_in (get-entries fids n)) (least_open fids) (first_is_least (entries fids) (entries_sorted fids)) in
       one_least (λ n. is_among n numbers) _ (least_open fids) (last_is_least numbers descending) first
 
   -- and open there

@@ -1,7 +1,8 @@
 -- What is said of a call that a table refused.
 use Rattle.std.specs.Prelude.{ℕ, List, codes}
 use Rattle.cs_fids.specs.declared.fault.FidFault.{FidFault}
-use Rattle.cs_fids.specs.declared.fault.FidFault.TheVariants.{TableFull, Unknown, AlreadyOpen, NotOpen, InUse, Memory}
+use Rattle.cs_fids.specs.declared.fault.FidFault.TheVariants.{TableFull, Unknown, AlreadyOpen}
+use Rattle.cs_fids.specs.declared.fault.FidFault.TheVariants.{NotOpen, InUse, Memory}
 
 abbrev pub fault_text : FidFault → List ℕ
 fault_text TableFull = codes "fid table full"

@@ -1,10 +1,11 @@
 -- The numbers of the open fids beside a table, of which the last is the least.
-use Rattle.std.specs.Prelude.{◌≡◌, ℕ, ◌-◌, ◌<◌, ◌≤◌, ◌==◌, min, Bool, false, List, Option, None, Some}
+use Rattle.std.specs.Prelude.{◌≡◌, ℕ, ◌-◌, ◌<◌, ◌≤◌, ◌==◌, min, Bool, false, List, Option, None}
+use Rattle.std.specs.Prelude.{Some}
 use Rattle.std.specs.FinMap.{get, len}
 use Rattle.std.specs.List.{AllPairs, list_any}
 use Rattle.cs_fids.specs.Entries.{is_open}
 use Rattle.cs_fids.specs.Tables.{FidMap, Fids}
-use Rattle.cs_fids.specs.declared.entry.Entry.{Entry}
+use Rattle.cs_fids.specs.declared.entry.FidEntry.{FidEntry}
 
 -- whether the number is one of these
 abbrev pub is_among : ℕ → List ℕ → Bool
@@ -15,11 +16,12 @@ abbrev pub IsDescending : List ℕ → Type 0
 IsDescending numbers = AllPairs (λ one later. later < one) numbers
 
 -- whether there is an open fid
-abbrev pub is_open_in : Option Entry → Bool
+abbrev pub is_open_in : Option FidEntry → Bool
 is_open_in None = false
 is_open_in (Some entry) = is_open entry
 
--- these are the numbers of the open fids, each once and the least last, in memory for as many as there are fids
+-- these are the numbers of the open fids, each once and the least last, in memory for as many as
+-- there are fids
 pub record AreOpens (fids : FidMap) (opens : List ℕ) (capacity : ℕ) : Type 0 where
   pub among : (n : ℕ) → is_among n opens ≡ is_open_in (get fids n)
   pub descending : IsDescending opens
@@ -27,4 +29,7 @@ pub record AreOpens (fids : FidMap) (opens : List ℕ) (capacity : ℕ) : Type 0
 
 -- the table, with room for no more fids than there is memory for open ones
 abbrev pub beside_opens : Fids → ℕ → Fids
-beside_opens table capacity = record { fids = table.fids; room = min table.room (capacity - len table.fids) }
+beside_opens table capacity = record {
+  fids = table.fids;
+  room = min table.room (capacity - len table.fids);
+}

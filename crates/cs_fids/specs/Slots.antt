@@ -1,10 +1,10 @@
 -- A place of a table, with its entry.
 use Rattle.std.specs.Prelude.{[], Option, None, Some}
 use Rattle.cs_fids.specs.Fids.{walked_fid}
-use Rattle.cs_fids.specs.declared.entry.Entry.{Entry}
-use Rattle.cs_fids.specs.declared.entry.Entry.TheVariants.{Walked}
+use Rattle.cs_fids.specs.declared.entry.FidEntry.{FidEntry}
+use Rattle.cs_fids.specs.declared.entry.FidEntry.TheVariants.{Walked}
 
 -- the entry; of a place without one, which no call leaves behind, any
-abbrev pub entry_in : Option Entry → Entry
+abbrev pub entry_in : Option FidEntry → FidEntry
 entry_in (Some entry) = entry
 entry_in None = Walked (walked_fid 0 0 0 [])

@@ -6,21 +6,22 @@ use cs_names::UserName;
 
 /// A fid in one of its states.
 #[derive(Debug, Drop)]
-pub enum Entry {
+pub enum FidEntry {
     Walked(Fid<Walked>),
     Opened(Fid<Opened>),
 }
 
-impl Entry {
-    ghost use Rattle.cs_fids.specs.Entries.{as_opened, as_walked, number_of, pass_of, run_of, user_of};
+impl FidEntry {
+    ghost use Rattle.cs_fids.specs.Entries.{as_opened, as_walked, number_of, pass_of, run_of};
+    ghost use Rattle.cs_fids.specs.Entries.{user_of};
 
     /// The place of its run at the port.
     pub fn run(&self) -> u32
         ensures { result ≡ run_of self.now }
     {
         match self {
-            Entry::Walked(fid) => fid.run(),
-            Entry::Opened(fid) => fid.run(),
+            FidEntry::Walked(fid) => fid.run(),
+            FidEntry::Opened(fid) => fid.run(),
         }
     }
 
@@ -29,8 +30,8 @@ impl Entry {
         ensures { result ≡ pass_of self.now }
     {
         match self {
-            Entry::Walked(fid) => fid.pass(),
-            Entry::Opened(fid) => fid.pass(),
+            FidEntry::Walked(fid) => fid.pass(),
+            FidEntry::Opened(fid) => fid.pass(),
         }
     }
 
@@ -39,8 +40,8 @@ impl Entry {
         ensures { result ≡ number_of self.now }
     {
         match self {
-            Entry::Walked(fid) => fid.number(),
-            Entry::Opened(fid) => fid.number(),
+            FidEntry::Walked(fid) => fid.number(),
+            FidEntry::Opened(fid) => fid.number(),
         }
     }
 
@@ -49,8 +50,8 @@ impl Entry {
         ensures { result.now ≡ user_of self.now }
     {
         match self {
-            Entry::Walked(fid) => fid.user(),
-            Entry::Opened(fid) => fid.user(),
+            FidEntry::Walked(fid) => fid.user(),
+            FidEntry::Opened(fid) => fid.user(),
         }
     }
 
@@ -59,8 +60,8 @@ impl Entry {
         ensures { result ≡ user_of self }
     {
         match self {
-            Entry::Walked(fid) => fid.into_user(),
-            Entry::Opened(fid) => fid.into_user(),
+            FidEntry::Walked(fid) => fid.into_user(),
+            FidEntry::Opened(fid) => fid.into_user(),
         }
     }
 
@@ -69,8 +70,8 @@ impl Entry {
         ensures { option_copied result ≡ as_walked self.now }
     {
         match self {
-            Entry::Walked(fid) => Some(fid),
-            Entry::Opened(_) => None,
+            FidEntry::Walked(fid) => Some(fid),
+            FidEntry::Opened(_) => None,
         }
     }
 
@@ -79,8 +80,8 @@ impl Entry {
         ensures { option_copied result ≡ as_opened self.now }
     {
         match self {
-            Entry::Walked(_) => None,
-            Entry::Opened(fid) => Some(fid),
+            FidEntry::Walked(_) => None,
+            FidEntry::Opened(fid) => Some(fid),
         }
     }
 }

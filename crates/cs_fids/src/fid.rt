@@ -13,8 +13,8 @@ pub const NOFID: u32 = 0xFFFF_FFFF;
 #[derive(Clone, Copy, Debug)]
 pub struct Walked;
 
-/// The state of a fid that is open: its mode (open(5)), the number of the open in its run, and where
-/// its reads of a directory go on.
+/// The state of a fid that is open: its mode (open(5)), the number of the open in its run, and
+/// where its reads of a directory go on.
 #[derive(Debug, Drop)]
 pub struct Opened {
     pub mode: u8,
@@ -37,7 +37,14 @@ impl<S> Model for Fid<S> {
 
     ghost Value = { FidOf S };
 
-    ghost view = { λ fid. record { run = fid.run; pass = fid.pass; number = fid.number; user = fid.user; state = fid.state } };
+    ghost view = { λ fid. record {
+      run = fid.run;
+      pass = fid.pass;
+      number = fid.number;
+      user =
+          fid.user;
+      state = fid.state;
+    } };
 }
 
 impl<S> Fid<S> {
@@ -80,7 +87,7 @@ impl<S: Drop> Fid<S> {
 }
 
 impl Fid<Walked> {
-    ghost use Rattle.cs_fids.specs.Fids.{moved_to, opened, walked_fid};
+    ghost use Rattle.cs_fids.specs.Fids.{moved_to, opened_fid, walked_fid};
 
     /// A fid for that user, of the file of that number, which no walk has left yet.
     pub fn new(run: u32, pass: u32, number: u64, user: UserName) -> Fid<Walked>
@@ -105,7 +112,7 @@ impl Fid<Walked> {
 
     /// The same fid, open, with the reads of a directory at their start (open(5)).
     pub fn open(self, mode: u8, open_number: u32) -> Fid<Opened>
-        ensures { result ≡ opened self mode open_number }
+        ensures { result ≡ opened_fid self mode open_number }
     {
         Fid {
             run: self.run,

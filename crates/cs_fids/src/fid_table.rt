@@ -1,11 +1,13 @@
 //! The fids of a connection, and which of them are open.
-ghost use Rattle.std.specs.Prelude.{◌≡◌, ◌≢◌, ◌+◌, ◌<◌, ◌≤◌, ◌↔◌, IfErr, IfOk, IfSome, IsErr, IsNone, IsOk, IsOkUnless, IsSome, IsTrue, MatchResult, None, OnErr, OnOk, option_copied};
+ghost use Rattle.std.specs.Prelude.{◌≡◌, ◌≢◌, ◌+◌, ◌<◌, ◌≤◌, ◌↔◌, IfErr, IfOk, IfSome, IsErr};
+ghost use Rattle.std.specs.Prelude.{IsNone, IsOk, IsOkUnless, IsSome, IsTrue, MatchResult, None};
+ghost use Rattle.std.specs.Prelude.{OnErr, OnOk, option_copied};
 ghost use Rattle.std.specs.FinMap.{empty, insert, len, remove};
 ghost use Rattle.std.specs.Option.{ok_or};
-ghost use Rattle.cs_fids.specs.Fids.{moved_to, opened, with_place};
+ghost use Rattle.cs_fids.specs.Fids.{moved_to, opened_fid, with_place};
 ghost use Rattle.cs_fids.specs.Tables.{FailsAs, fid_at, least_open, opened_in, walked_in};
 
-use crate::entry::Entry;
+use crate::entry::FidEntry;
 use crate::fault::FidFault;
 use crate::fid::{Fid, NOFID, Opened, Walked};
 use crate::opens::{put_in, take_out};
@@ -15,9 +17,9 @@ use cs_names::limits::FIDS;
 use std::alloc::Global;
 use std::marker::Model;
 
-/// The fids of a connection, by their numbers: at most FIDS, and NOFID is none of them. Contracts see
-/// a finite map, without an order, and the room for more. The numbers of the open fids are kept beside them, so
-/// that the least is found at once.
+/// The fids of a connection, by their numbers: at most FIDS, and NOFID is none of them. Contracts
+/// see a finite map, without an order, and the room for more. The numbers of the open fids are kept
+/// beside them, so that the least is found at once.
 #[derive(Drop)]
 pub struct FidTable {
     table: Table,
@@ -58,7 +60,7 @@ impl FidTable {
     }
 
     /// What the number stands for, lent; NOFID stands for nothing.
-    pub fn look(&self, fid: u32) -> Option<&Entry>
+    pub fn look(&self, fid: u32) -> Option<&FidEntry>
         ensures value { option_copied result ≡ fid_at self.now fid }
         ensures nofid { fid ≡ NOFID → IsNone result }
     {
@@ -80,8 +82,8 @@ impl FidTable {
         self.table.has_room() && self.table.len() < self.opens.capacity()
     }
 
-    /// Makes room for one fid more. TableFull where there are FIDS fids; Memory only where there was no
-    /// room yet.
+    /// Makes room for one fid more. TableFull if there are FIDS fids; Memory only if there
+    /// was no room yet.
     pub fn reserve(&mut self) -> Result<(), FidFault>
         ensures room { OnOk result (0 < self.new.room) }
         ensures full { FIDS ≤ len self.old.fids → result ≡ Err FidFault.TableFull }
@@ -96,9 +98,9 @@ impl FidTable {
         Ok(())
     }
 
-    /// Has the number stand for this entry. InUse where it stands for one already: the new entry is
+    /// Has the number stand for this entry. InUse if it stands for one already: the new entry is
     /// given back, and the table stays. It takes no memory.
-    pub fn put(&mut self, fid: u32, entry: Entry) -> Result<(), (FidFault, Entry)>
+    pub fn put(&mut self, fid: u32, entry: FidEntry) -> Result<(), (FidFault, FidEntry)>
         requires room { 0 < self.old.room }
         requires named { fid ≢ NOFID }
         ensures in_use { IsErr result ↔ IsSome (fid_at self.old fid) }
@@ -115,9 +117,9 @@ impl FidTable {
         Ok(())
     }
 
-    /// Takes out what the number stands for, in any state. Unknown where it stands for nothing: the
+    /// Takes out what the number stands for, in any state. Unknown if it stands for nothing: the
     /// table stays.
-    pub fn take_any(&mut self, fid: u32) -> Result<Entry, FidFault>
+    pub fn take_any(&mut self, fid: u32) -> Result<FidEntry, FidFault>
         ensures value { result ≡ ok_or (fid_at self.old fid) FidFault.Unknown }
         ensures fids { OnOk result (self.new.fids ≡ remove self.old.fids fid) }
         ensures unchanged { OnErr result (self.new ≡ self.old) }
@@ -130,8 +132,8 @@ impl FidTable {
         Ok(entry)
     }
 
-    /// Takes out the fid that was walked to. Unknown where the number stands for nothing, AlreadyOpen
-    /// where the fid is open: the table stays.
+    /// Takes out the fid that was walked to. Unknown if the number stands for nothing,
+    /// AlreadyOpen if the fid is open: the table stays.
     pub fn take_walked(&mut self, fid: u32) -> Result<Fid<Walked>, FidFault>
         ensures value { result ≡ walked_in (fid_at self.old fid) }
         ensures fids { OnOk result (self.new.fids ≡ remove self.old.fids fid) }
@@ -141,19 +143,22 @@ impl FidTable {
         self.table.take_walked(fid)
     }
 
-    /// The open fid, lent. Unknown where the number stands for nothing, NotOpen where the fid isn't
+    /// The open fid, lent. Unknown if the number stands for nothing, NotOpen if the fid isn't
     /// open.
     pub fn get_opened(&self, fid: u32) -> Result<&Fid<Opened>, FidFault>
-        ensures { MatchResult result (λ found. opened_in (fid_at self.now fid) ≡ Ok found.now) (λ fault. opened_in (fid_at self.now fid) ≡ Err fault) }
+        ensures { MatchResult result (λ found. opened_in (fid_at self.now fid) ≡ Ok found.now)
+            (λ fault. opened_in (fid_at self.now fid) ≡ Err fault) }
     {
         self.table.get_opened(fid)
     }
 
-    /// Opens the fid in its place. Unknown where the number stands for nothing, AlreadyOpen where the
-    /// fid is open: the table stays. It takes no memory.
+    /// Opens the fid in its place. Unknown if the number stands for nothing, AlreadyOpen if
+    /// the fid is open: the table stays. It takes no memory.
     pub fn open(&mut self, fid: u32, mode: u8, open_number: u32) -> Result<(), FidFault>
         ensures faults { FailsAs result (walked_in (fid_at self.old fid)) }
-        ensures fids { IfOk (walked_in (fid_at self.old fid)) (λ walked. self.new.fids ≡ insert self.old.fids fid (Entry.Opened (opened walked mode open_number))) }
+        ensures fids { IfOk (walked_in (fid_at self.old fid))
+            (λ walked. self.new.fids
+            ≡ insert self.old.fids fid (FidEntry.Opened (opened_fid walked mode open_number))) }
         ensures unchanged { OnErr result (self.new ≡ self.old) }
         ensures room { self.new.room ≡ self.old.room }
     {
@@ -162,22 +167,26 @@ impl FidTable {
         Ok(())
     }
 
-    /// Has the fid stand for another file of its run, in its place. Unknown where the number stands for
-    /// nothing, AlreadyOpen where the fid is open: the table stays. It takes no memory.
+    /// Has the fid stand for another file of its run, in its place. Unknown if the number stands
+    /// for nothing, AlreadyOpen if the fid is open: the table stays. It takes no memory.
     pub fn move_to(&mut self, fid: u32, number: u64) -> Result<(), FidFault>
         ensures faults { FailsAs result (walked_in (fid_at self.old fid)) }
-        ensures fids { IfOk (walked_in (fid_at self.old fid)) (λ walked. self.new.fids ≡ insert self.old.fids fid (Entry.Walked (moved_to walked number))) }
+        ensures fids { IfOk (walked_in (fid_at self.old fid))
+            (λ walked. self.new.fids
+            ≡ insert self.old.fids fid (FidEntry.Walked (moved_to walked number))) }
         ensures unchanged { OnErr result (self.new ≡ self.old) }
         ensures room { self.new.room ≡ self.old.room }
     {
         self.table.move_to(fid, number)
     }
 
-    /// Has the reads of a directory of the open fid go on at that place. Unknown where the number
-    /// stands for nothing, NotOpen where the fid isn't open: the table stays. It takes no memory.
+    /// Has the reads of a directory of the open fid go on at that place. Unknown if the number
+    /// stands for nothing, NotOpen if the fid isn't open: the table stays. It takes no memory.
     pub fn set_place(&mut self, fid: u32, place: Place) -> Result<(), FidFault>
         ensures faults { FailsAs result (opened_in (fid_at self.old fid)) }
-        ensures fids { IfOk (opened_in (fid_at self.old fid)) (λ found. self.new.fids ≡ insert self.old.fids fid (Entry.Opened (with_place found place))) }
+        ensures fids { IfOk (opened_in (fid_at self.old fid))
+            (λ found. self.new.fids
+            ≡ insert self.old.fids fid (FidEntry.Opened (with_place found place))) }
         ensures unchanged { OnErr result (self.new ≡ self.old) }
         ensures room { self.new.room ≡ self.old.room }
     {

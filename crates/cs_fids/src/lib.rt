@@ -1,4 +1,5 @@
-//! Fids by number, whose states are types: a fid that was walked to, and one that is open (intro(5)).
+//! Fids by number, whose states are types: a fid that was walked to, and one that is open
+//! (intro(5)).
 #![tactic(auto)]
 
 mod entry;
@@ -10,7 +11,7 @@ mod place;
 mod slot;
 mod table;
 
-pub use entry::Entry;
+pub use entry::FidEntry;
 pub use fault::FidFault;
 pub use fid::{Fid, NOFID, Opened, Walked};
 pub use fid_table::FidTable;

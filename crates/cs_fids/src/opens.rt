@@ -1,5 +1,6 @@
 //! The numbers of a connection's open fids, from the greatest to the least.
-ghost use Rattle.std.specs.Prelude.{◌≡◌, ℕ, ◌<◌, ◌≤◌, ◌==◌, ◌&&◌, ◌||◌, false, length, not, true, vec_capacity, vec_len};
+ghost use Rattle.std.specs.Prelude.{◌≡◌, ℕ, ◌<◌, ◌≤◌, ◌==◌, ◌&&◌, ◌||◌, false, length, not, true};
+ghost use Rattle.std.specs.Prelude.{vec_capacity, vec_len};
 ghost use Rattle.std.specs.List.{AllWithin};
 ghost use Rattle.cs_fids.specs.Opens.{IsDescending, is_among};
 
@@ -8,7 +9,8 @@ pub(crate) fn put_in(opens: &mut Vec<u32>, fid: u32)
     requires descending { IsDescending opens.old.items }
     requires new { is_among fid opens.old.items ≡ false }
     requires room { vec_len opens.old < vec_capacity opens.old }
-    ensures among { (n : ℕ) → is_among n opens.new.items ≡ (n == fid || is_among n opens.old.items) }
+    ensures among { (n : ℕ)
+        → is_among n opens.new.items ≡ (n == fid || is_among n opens.old.items) }
     ensures descending { IsDescending opens.new.items }
     ensures capacity { vec_capacity opens.new ≡ vec_capacity opens.old }
 {
@@ -23,7 +25,8 @@ pub(crate) fn put_in(opens: &mut Vec<u32>, fid: u32)
 pub(crate) fn take_out(opens: &mut Vec<u32>, fid: u32)
     requires descending { IsDescending opens.old.items }
     requires there { is_among fid opens.old.items ≡ true }
-    ensures among { (n : ℕ) → is_among n opens.new.items ≡ (not (n == fid) && is_among n opens.old.items) }
+    ensures among { (n : ℕ)
+        → is_among n opens.new.items ≡ (not (n == fid) && is_among n opens.old.items) }
     ensures descending { IsDescending opens.new.items }
     ensures capacity { vec_capacity opens.new ≡ vec_capacity opens.old }
 {

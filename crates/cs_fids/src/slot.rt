@@ -1,7 +1,7 @@
 //! One place of a table, whose entry can be taken out for the moment in which it becomes another.
 ghost use Rattle.std.specs.Prelude.{◌≡◌, OnErr, IfOk, Some};
 
-use crate::entry::Entry;
+use crate::entry::FidEntry;
 use crate::fault::FidFault;
 use crate::place::Place;
 use std::marker::Model;
@@ -9,14 +9,14 @@ use std::marker::Model;
 /// One place of a table. Contracts see its entry, which is missing only while a call changes it.
 #[derive(Debug, Drop)]
 pub(crate) struct Slot {
-    entry: Option<Entry>,
+    entry: Option<FidEntry>,
 }
 
 impl Model for Slot {
     ghost use Rattle.std.specs.Prelude.{IsSome};
-    ghost use Rattle.cs_fids.specs.declared.entry.Entry.{Entry};
+    ghost use Rattle.cs_fids.specs.declared.entry.FidEntry.{FidEntry};
 
-    ghost Value = { Entry };
+    ghost Value = { FidEntry };
 
     ghost use Rattle.cs_fids.specs.Slots.{entry_in};
 
@@ -26,16 +26,16 @@ impl Model for Slot {
 }
 
 impl Slot {
-    ghost use Rattle.cs_fids.specs.Fids.{moved_to, opened, with_place};
+    ghost use Rattle.cs_fids.specs.Fids.{moved_to, opened_fid, with_place};
     ghost use Rattle.cs_fids.specs.Tables.{FailsAs, opened_in, walked_in};
 
-    pub(crate) fn new(entry: Entry) -> Slot
+    pub(crate) fn new(entry: FidEntry) -> Slot
         ensures { result ≡ entry }
     {
         Slot { entry: Some(entry) }
     }
 
-    pub(crate) fn entry(&self) -> &Entry
+    pub(crate) fn entry(&self) -> &FidEntry
         ensures { result.now ≡ self.now }
     {
         match &self.entry {
@@ -44,7 +44,7 @@ impl Slot {
         }
     }
 
-    pub(crate) fn into_entry(self) -> Entry
+    pub(crate) fn into_entry(self) -> FidEntry
         ensures { result ≡ self }
     {
         match self.entry {
@@ -56,11 +56,15 @@ impl Slot {
     /// Opens the fid, if it isn't open.
     pub(crate) fn open(&mut self, mode: u8, open_number: u32) -> Result<(), FidFault>
         ensures faults { FailsAs result (walked_in (Some self.old)) }
-        ensures entry { IfOk (walked_in (Some self.old)) (λ walked. self.new ≡ Entry.Opened (opened walked mode open_number)) }
+        ensures entry { IfOk (walked_in (Some self.old))
+            (λ walked. self.new ≡ FidEntry.Opened (opened_fid walked mode open_number)) }
         ensures unchanged { OnErr result (self.new ≡ self.old) }
     {
         let (entry, answer) = match self.entry.take() {
-            Some(Entry::Walked(walked)) => (Entry::Opened(walked.open(mode, open_number)), Ok(())),
+            Some(FidEntry::Walked(walked)) => (
+                FidEntry::Opened(walked.open(mode, open_number)),
+                Ok(()),
+            ),
             Some(open) => (open, Err(FidFault::AlreadyOpen)),
             None => unreachable!(),
         };
@@ -71,11 +75,12 @@ impl Slot {
     /// Has the fid, if it isn't open, stand for another file.
     pub(crate) fn move_to(&mut self, number: u64) -> Result<(), FidFault>
         ensures faults { FailsAs result (walked_in (Some self.old)) }
-        ensures entry { IfOk (walked_in (Some self.old)) (λ walked. self.new ≡ Entry.Walked (moved_to walked number)) }
+        ensures entry { IfOk (walked_in (Some self.old))
+            (λ walked. self.new ≡ FidEntry.Walked (moved_to walked number)) }
         ensures unchanged { OnErr result (self.new ≡ self.old) }
     {
         let (entry, answer) = match self.entry.take() {
-            Some(Entry::Walked(walked)) => (Entry::Walked(walked.moved_to(number)), Ok(())),
+            Some(FidEntry::Walked(walked)) => (FidEntry::Walked(walked.moved_to(number)), Ok(())),
             Some(open) => (open, Err(FidFault::AlreadyOpen)),
             None => unreachable!(),
         };
@@ -86,11 +91,12 @@ impl Slot {
     /// Has the reads of a directory of the fid, if it is open, go on at that place.
     pub(crate) fn set_place(&mut self, place: Place) -> Result<(), FidFault>
         ensures faults { FailsAs result (opened_in (Some self.old)) }
-        ensures entry { IfOk (opened_in (Some self.old)) (λ found. self.new ≡ Entry.Opened (with_place found place)) }
+        ensures entry { IfOk (opened_in (Some self.old))
+            (λ found. self.new ≡ FidEntry.Opened (with_place found place)) }
         ensures unchanged { OnErr result (self.new ≡ self.old) }
     {
         let (entry, answer) = match self.entry.take() {
-            Some(Entry::Opened(open)) => (Entry::Opened(open.at_place(place)), Ok(())),
+            Some(FidEntry::Opened(open)) => (FidEntry::Opened(open.at_place(place)), Ok(())),
             Some(walked) => (walked, Err(FidFault::NotOpen)),
             None => unreachable!(),
         };

@@ -1,11 +1,13 @@
 //! The fids of a connection by their numbers, whatever their states.
-ghost use Rattle.std.specs.Prelude.{◌≡◌, ◌≢◌, ◌+◌, ◌<◌, ◌≤◌, ◌↔◌, IfErr, IfOk, IfSome, IsErr, IsNone, IsOk, IsOkUnless, IsSome, IsTrue, MatchResult, None, OnErr, OnOk, option_copied};
+ghost use Rattle.std.specs.Prelude.{◌≡◌, ◌≢◌, ◌+◌, ◌<◌, ◌≤◌, ◌↔◌, IfErr, IfOk, IfSome, IsErr};
+ghost use Rattle.std.specs.Prelude.{IsNone, IsOk, IsOkUnless, IsSome, IsTrue, MatchResult, None};
+ghost use Rattle.std.specs.Prelude.{OnErr, OnOk, option_copied};
 ghost use Rattle.std.specs.FinMap.{empty, insert, len, remove};
 ghost use Rattle.std.specs.Option.{ok_or};
-ghost use Rattle.cs_fids.specs.Fids.{moved_to, opened, with_place};
+ghost use Rattle.cs_fids.specs.Fids.{moved_to, opened_fid, with_place};
 ghost use Rattle.cs_fids.specs.Tables.{FailsAs, fid_at, opened_in, walked_in};
 
-use crate::entry::Entry;
+use crate::entry::FidEntry;
 use crate::fault::FidFault;
 use crate::fid::{Fid, NOFID, Opened, Walked};
 use crate::place::Place;
@@ -15,8 +17,8 @@ use indexmap::IndexMap;
 use std::alloc::Global;
 use std::marker::Model;
 
-/// The fids of a connection, by their numbers: at most FIDS, and NOFID is none of them. Contracts see
-/// a finite map, without an order, and the room for more.
+/// The fids of a connection, by their numbers: at most FIDS, and NOFID is none of them. Contracts
+/// see a finite map, without an order, and the room for more.
 #[derive(Drop)]
 pub(crate) struct Table {
     fids: IndexMap<u32, Slot>,
@@ -30,7 +32,12 @@ impl Model for Table {
 
     ghost coded = { fids_code };
 
-    ghost view = { λ table. record { fids = map_of table.fids.entries; room = room_beside table.fids.entries (spare table.fids) } };
+    ghost view = { λ table.
+        record {
+          fids = map_of table.fids.entries;
+          room =
+              room_beside table.fids.entries (spare table.fids);
+        } };
 
     ghost invariant = { λ table. AreFids table.fids.entries };
 }
@@ -54,7 +61,7 @@ impl Table {
     }
 
     /// What the number stands for, lent; NOFID stands for nothing.
-    pub(crate) fn look(&self, fid: u32) -> Option<&Entry>
+    pub(crate) fn look(&self, fid: u32) -> Option<&FidEntry>
         ensures value { option_copied result ≡ fid_at self.now fid }
         ensures nofid { fid ≡ NOFID → IsNone result }
     {
@@ -71,8 +78,8 @@ impl Table {
         self.fids.len() < FIDS && self.fids.len() < self.fids.capacity()
     }
 
-    /// Makes room for one fid more. TableFull where there are FIDS fids; Memory only where there was no
-    /// room yet.
+    /// Makes room for one fid more. TableFull if there are FIDS fids; Memory only if there
+    /// was no room yet.
     pub(crate) fn reserve(&mut self) -> Result<(), FidFault>
         ensures room { OnOk result (0 < self.new.room) }
         ensures full { FIDS ≤ len self.old.fids → result ≡ Err FidFault.TableFull }
@@ -88,9 +95,9 @@ impl Table {
         Ok(())
     }
 
-    /// Has the number stand for this entry. InUse where it stands for one already: the new entry is
+    /// Has the number stand for this entry. InUse if it stands for one already: the new entry is
     /// given back, and the table stays. It takes no memory.
-    pub(crate) fn put(&mut self, fid: u32, entry: Entry) -> Result<(), (FidFault, Entry)>
+    pub(crate) fn put(&mut self, fid: u32, entry: FidEntry) -> Result<(), (FidFault, FidEntry)>
         requires room { 0 < self.old.room }
         requires named { fid ≢ NOFID }
         ensures in_use { IsErr result ↔ IsSome (fid_at self.old fid) }
@@ -108,9 +115,9 @@ impl Table {
         }
     }
 
-    /// Takes out what the number stands for, in any state. Unknown where it stands for nothing: the
+    /// Takes out what the number stands for, in any state. Unknown if it stands for nothing: the
     /// table stays.
-    pub(crate) fn take_any(&mut self, fid: u32) -> Result<Entry, FidFault>
+    pub(crate) fn take_any(&mut self, fid: u32) -> Result<FidEntry, FidFault>
         ensures value { result ≡ ok_or (fid_at self.old fid) FidFault.Unknown }
         ensures fids { OnOk result (self.new.fids ≡ remove self.old.fids fid) }
         ensures unchanged { OnErr result (self.new ≡ self.old) }
@@ -125,8 +132,8 @@ impl Table {
         }
     }
 
-    /// Takes out the fid that was walked to. Unknown where the number stands for nothing, AlreadyOpen
-    /// where the fid is open: the table stays.
+    /// Takes out the fid that was walked to. Unknown if the number stands for nothing,
+    /// AlreadyOpen if the fid is open: the table stays.
     pub(crate) fn take_walked(&mut self, fid: u32) -> Result<Fid<Walked>, FidFault>
         ensures value { result ≡ walked_in (fid_at self.old fid) }
         ensures fids { OnOk result (self.new.fids ≡ remove self.old.fids fid) }
@@ -135,33 +142,36 @@ impl Table {
     {
         match self.look(fid) {
             None => return Err(FidFault::Unknown),
-            Some(Entry::Opened(_)) => return Err(FidFault::AlreadyOpen),
-            Some(Entry::Walked(_)) => {}
+            Some(FidEntry::Opened(_)) => return Err(FidFault::AlreadyOpen),
+            Some(FidEntry::Walked(_)) => {}
         }
         match self.take_any(fid) {
-            Ok(Entry::Walked(walked)) => Ok(walked),
-            Ok(Entry::Opened(_)) => unreachable!(),
+            Ok(FidEntry::Walked(walked)) => Ok(walked),
+            Ok(FidEntry::Opened(_)) => unreachable!(),
             Err(_) => unreachable!(),
         }
     }
 
-    /// The open fid, lent. Unknown where the number stands for nothing, NotOpen where the fid isn't
+    /// The open fid, lent. Unknown if the number stands for nothing, NotOpen if the fid isn't
     /// open.
     pub(crate) fn get_opened(&self, fid: u32) -> Result<&Fid<Opened>, FidFault>
-        ensures { MatchResult result (λ found. opened_in (fid_at self.now fid) ≡ Ok found.now) (λ fault. opened_in (fid_at self.now fid) ≡ Err fault) }
+        ensures { MatchResult result (λ found. opened_in (fid_at self.now fid) ≡ Ok found.now)
+            (λ fault. opened_in (fid_at self.now fid) ≡ Err fault) }
     {
         match self.look(fid) {
             None => Err(FidFault::Unknown),
-            Some(Entry::Walked(_)) => Err(FidFault::NotOpen),
-            Some(Entry::Opened(open)) => Ok(open),
+            Some(FidEntry::Walked(_)) => Err(FidFault::NotOpen),
+            Some(FidEntry::Opened(open)) => Ok(open),
         }
     }
 
-    /// Opens the fid in its place. Unknown where the number stands for nothing, AlreadyOpen where the
-    /// fid is open: the table stays. It takes no memory.
+    /// Opens the fid in its place. Unknown if the number stands for nothing, AlreadyOpen if
+    /// the fid is open: the table stays. It takes no memory.
     pub(crate) fn open(&mut self, fid: u32, mode: u8, open_number: u32) -> Result<(), FidFault>
         ensures faults { FailsAs result (walked_in (fid_at self.old fid)) }
-        ensures fids { IfOk (walked_in (fid_at self.old fid)) (λ walked. self.new.fids ≡ insert self.old.fids fid (Entry.Opened (opened walked mode open_number))) }
+        ensures fids { IfOk (walked_in (fid_at self.old fid))
+            (λ walked. self.new.fids
+            ≡ insert self.old.fids fid (FidEntry.Opened (opened_fid walked mode open_number))) }
         ensures unchanged { OnErr result (self.new ≡ self.old) }
         ensures room { self.new.room ≡ self.old.room }
     {
@@ -171,11 +181,13 @@ impl Table {
         slot.open(mode, open_number)
     }
 
-    /// Has the fid stand for another file of its run, in its place. Unknown where the number stands for
-    /// nothing, AlreadyOpen where the fid is open: the table stays. It takes no memory.
+    /// Has the fid stand for another file of its run, in its place. Unknown if the number stands
+    /// for nothing, AlreadyOpen if the fid is open: the table stays. It takes no memory.
     pub(crate) fn move_to(&mut self, fid: u32, number: u64) -> Result<(), FidFault>
         ensures faults { FailsAs result (walked_in (fid_at self.old fid)) }
-        ensures fids { IfOk (walked_in (fid_at self.old fid)) (λ walked. self.new.fids ≡ insert self.old.fids fid (Entry.Walked (moved_to walked number))) }
+        ensures fids { IfOk (walked_in (fid_at self.old fid))
+            (λ walked. self.new.fids
+            ≡ insert self.old.fids fid (FidEntry.Walked (moved_to walked number))) }
         ensures unchanged { OnErr result (self.new ≡ self.old) }
         ensures room { self.new.room ≡ self.old.room }
     {
@@ -185,11 +197,13 @@ impl Table {
         slot.move_to(number)
     }
 
-    /// Has the reads of a directory of the open fid go on at that place. Unknown where the number
-    /// stands for nothing, NotOpen where the fid isn't open: the table stays. It takes no memory.
+    /// Has the reads of a directory of the open fid go on at that place. Unknown if the number
+    /// stands for nothing, NotOpen if the fid isn't open: the table stays. It takes no memory.
     pub(crate) fn set_place(&mut self, fid: u32, place: Place) -> Result<(), FidFault>
         ensures faults { FailsAs result (opened_in (fid_at self.old fid)) }
-        ensures fids { IfOk (opened_in (fid_at self.old fid)) (λ found. self.new.fids ≡ insert self.old.fids fid (Entry.Opened (with_place found place))) }
+        ensures fids { IfOk (opened_in (fid_at self.old fid))
+            (λ found. self.new.fids
+            ≡ insert self.old.fids fid (FidEntry.Opened (with_place found place))) }
         ensures unchanged { OnErr result (self.new ≡ self.old) }
         ensures room { self.new.room ≡ self.old.room }
     {

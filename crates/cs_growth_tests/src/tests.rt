@@ -1,7 +1,6 @@
-//! Calls whose growths are refused in turn, where each row has the name of the call that it makes; and
-//! want of memory as the clients of a world are told it.
+//! Calls whose growths are refused in turn: each row has the name of the call that it makes; and what
+//! clients of a world get if it is out of memory.
 
-mod allowed;
 mod attaches;
 mod calls;
 mod copies;

@@ -1,5 +1,6 @@
 -- The last receipt of a pass is that of the entry at its place.
-use Rattle.std.proofs.Common.{◌≡◌, ◌∙◌, ℕ, suc, ◌+◌, ◌-◌, Bool, true, false, List, [], ◌∷◌, length, Option, Some, None, refl, sym, ap, arith, inl, inr, zero-add, ◌⊎◌, ⊎_elim}
+use Rattle.std.proofs.Common.{◌≡◌, ◌∙◌, ℕ, suc, ◌+◌, ◌-◌, Bool, true, false, List, [], ◌∷◌, length, Option, Some, None, refl, sym, ap}
+use Rattle.std.proofs.Common.{arith, inl, inr, zero-add, ◌⊎◌, ⊎_elim}
 use Rattle.std.specs.Prelude.{option_map, slice_get}
 use Rattle.cs_journal.specs.Fitting.{receipt_at}
 use Rattle.cs_journal.specs.Journals.{EntryOf, is_of_pass}
@@ -27,7 +28,8 @@ last_cons x r (y ∷ ys) there =
     let n : suc (suc (length ys)) - 1 ≡ suc (suc (length ys) - 1) = omega arith in
     inr (sym (ap (slice_get (x ∷ y ∷ ys)) n) ∙ there)
 
-of_pass : (pass place : ℕ) (x : EntryOf) (es : List EntryOf) (r : ReceiptOf) (b : Bool) → is_of_pass pass x ≡ b → (last_of (receipts_from pass (place + 1) es) ≡ Some r → Stands (place + 1) es r)
+of_pass : (pass place : ℕ) (x : EntryOf) (es : List EntryOf) (r : ReceiptOf) (b : Bool) → is_of_pass pass x ≡ b
+    → (last_of (receipts_from pass (place + 1) es) ≡ Some r → Stands (place + 1) es r)
     → last_of (receipts_from pass place (x ∷ es)) ≡ Some r → Stands place (x ∷ es) r
 of_pass pass place x es r true own rest there =
     let at : last_of (receipt_of place x ∷ receipts_from pass (place + 1) es) ≡ Some r = rw own at there in
@@ -40,7 +42,8 @@ pub last_stands : (pass place : ℕ) (es : List EntryOf) (r : ReceiptOf) → las
 last_stands pass place [] r there = cc
 last_stands pass place (x ∷ es) r there = of_pass pass place x es r (is_of_pass pass x) refl (last_stands pass (place + 1) es r) there
 
-told : (es : List EntryOf) (o : Option ReceiptOf) → ((r : ReceiptOf) → o ≡ Some r → Stands 0 es r) → receipt_at es (option_map (λ (r : ReceiptOf). r.place) o) ≡ o
+told : (es : List EntryOf) (o : Option ReceiptOf) → ((r : ReceiptOf) → o ≡ Some r → Stands 0 es r)
+    → receipt_at es (option_map (λ (r : ReceiptOf). r.place) o) ≡ o
 told es None stands = refl
 told es (Some r) stands =
     let s = stands r refl in
@@ -49,5 +52,6 @@ told es (Some r) stands =
     ap (λ n. option_map (receipt_of n) (slice_get es n)) place ∙ ap (option_map (receipt_of s.index)) s.there ∙ ap (λ x. Some x) (sym its)
 
 -- so the place of a pass's last receipt tells the receipt
-pub told_by_place : (pass : ℕ) (es : List EntryOf) → receipt_at es (option_map (λ (r : ReceiptOf). r.place) (last_of (receipts_in pass es))) ≡ last_of (receipts_in pass es)
+pub told_by_place : (pass : ℕ) (es : List EntryOf)
+    → receipt_at es (option_map (λ (r : ReceiptOf). r.place) (last_of (receipts_in pass es))) ≡ last_of (receipts_in pass es)
 told_by_place pass es = told es (last_of (receipts_in pass es)) (last_stands pass 0 es)

@@ -1,8 +1,11 @@
+pub mod Apart
 pub mod Blocks
 pub mod Journals
 pub mod Moves
 pub mod Fitting
+pub mod Unchanged
 pub mod Last
+pub mod Ends
 pub mod Steps
 pub mod Audits
 pub mod Replays

@@ -1,149 +1,47 @@
--- What a step leaves of a run and of its pass.
-use Rattle.std.proofs.Common.{◌≡◌, ◌≢◌, ◌∙◌, ℕ, ◌+◌, ◌-◌, ◌<◌, ◌≤◌, ◌^◌, ◌==◌, ◌&&◌, Bool, true, false, not, List, [], ◌∷◌, ◌++◌, length, length-append, length-set, Some, None, get_or, set, refl, sym, ap, subst, arith}
+-- What a step leaves of a run that holds what its journal gives, and of its pass.
+use Rattle.std.proofs.Common.{◌≡◌, ◌≢◌, ◌∙◌, ℕ, ◌+◌, ◌-◌, ◌<◌, ◌≤◌, ◌^◌, ◌==◌, Bool, true, false, List, [], ◌∷◌, ◌++◌, length}
+use Rattle.std.proofs.Common.{length-append, length-set, Some, get_or, set, refl, sym, ap, subst, arith}
 use Rattle.std.proofs.lemmas.Bool.{eqb-false}
 use Rattle.std.proofs.lemmas.Bool.Decides.{nat_tests}
 use Rattle.std.proofs.lemmas.List.{get_or-set_same, get_or-set_other}
 use Rattle.std.specs.Option.{option_map}
 use Rattle.std.specs.Prelude.{is_some, nat_lt}
 use Rattle.cs_names.specs.declared.limits.TheConstants.{JOURNAL_ENTRIES, RUN_ATTACHES}
-use Rattle.cs_names.specs.declared.rule_id.RuleId.TheVariants.{L1}
-use Rattle.cs_permit.specs.Calls.{failing_rule, rules_view}
+use Rattle.cs_permit.specs.Calls.{rules_view}
 use Rattle.cs_permit.specs.declared.call.Call.{Call}
-use Rattle.cs_permit.specs.declared.call.Call.TheVariants as k
-use Rattle.cs_permit.specs.declared.call.CloseCall.{CloseCall}
 use Rattle.cs_permit.specs.declared.call.OpenFile.{OpenFile}
-use Rattle.cs_run.proofs.Fitting.{fits}
 use Rattle.cs_run.proofs.Versions.{versions_can_grow}
-use Rattle.cs_run.specs.Effects.{Left, close_effect, left}
+use Rattle.cs_run.specs.Effects.{CallResult, call_result}
 use Rattle.cs_run.specs.Laws.{AllVersBelow, FitsCall}
-use Rattle.cs_run.specs.Marks.{CallMark, Ample as ample, NoGrant as no_grant, is_refused}
-use Rattle.cs_run.specs.Opens.{AreBelow, open_numbered}
-use Rattle.cs_run.specs.Outcomes.{IsOutcomeOf, applied, outcome, outcome_by, stepped}
+use Rattle.cs_run.specs.Opens.{AreBelow}
+use Rattle.cs_run.specs.Outcomes.{IsOutcomeOf, result_by_outcome, outcome, result_by_mark}
 use Rattle.cs_run.specs.declared.answer.Answer.{Answer}
-use Rattle.cs_run.specs.declared.answer.Answer.TheVariants.{Closed, Denied, Short}
+use Rattle.cs_run.specs.declared.answer.Answer.TheVariants.{Short}
 use Rattle.cs_run.specs.declared.answer.Outcome.{Outcome}
-use Rattle.cs_run.specs.declared.answer.Outcome.TheVariants as out
 use Rattle.cs_run.specs.declared.turn.Turn.{Turn}
 use Rattle.cs_tree_model.specs.Stores.{CanStamp}
 use Rattle.cs_tree_model.specs.Tree.{Tree}
 use Rattle.cs_users.specs.Rows.{Row}
+use Rattle.cs_journal.proofs.Ends.{along, entered_step, free, plain_ends, plainly, short_step}
 use Rattle.cs_journal.proofs.Fitting.{other_fits, own_fits}
-use Rattle.cs_journal.proofs.Journals.{IsLegal-push, below-replay, held_state, last-push, next-replay, other_entries, other_receipts, own_entries, own_receipts, replay-push, versions-replay}
+use Rattle.cs_journal.proofs.Journals.{IsLegal-push, below-replay, held_state, last-push, next-replay, other_entries, other_receipts}
+use Rattle.cs_journal.proofs.Journals.{own_entries, own_receipts, replay-push, versions-replay}
 use Rattle.cs_journal.proofs.Moves.{Moves, call_moves, released_call, under_few}
-use Rattle.cs_journal.specs.Calls.{charge, closes_plainly, ended, is_close, is_full}
-use Rattle.cs_journal.specs.declared.counts.Counts.{Counts}
+use Rattle.cs_journal.specs.Calls.{charge, closes_plainly, open_that_ends, is_full}
+use Rattle.cs_journal.specs.declared.counts.PassCounts.{PassCounts}
 use Rattle.cs_journal.specs.Holding.{IsHeld, counts_of, no_counts}
-use Rattle.cs_journal.specs.Journals.{EntryOf, HasRoom, IsLegal, IsOutcome, RunState, answer_to, apply, entries_of_pass, left_by, replay, rules_view_of, start, turn_in}
-use Rattle.cs_journal.specs.Marks.{StepMark, Ample, NoEntry, NoGrant}
-use Rattle.cs_journal.specs.Runs.{Fits, PassOf, ReceiptOf, RunOf, first_state, last_of, opens_under, receipt_of, receipts_in, state_of}
-use Rattle.cs_journal.specs.Small.{is_small}
-use Rattle.cs_journal.specs.Steps.{IsStep, entering, pass_with_receipt, run_with_entry, step}
-
--- what holds of a run and a pass holds of them by other names
-pub along : (P : RunOf → PassOf → Type 0) (r r' : RunOf) (p p' : PassOf) → r ≡ r' → p ≡ p' → P r' p' → P r p
-along P r r' p p' run_is pass_is there =
-    let Q : PassOf → Type 0 = λ x. P r x in
-    let R : RunOf → Type 0 = λ x. P x p' in
-    subst Q (sym pass_is) (subst R (sym run_is) there)
-
--- ---- a close whose open stands and that removes nothing
-
-granted_if : (mark : CallMark) → outcome_by None (is_refused mark && false) ≡ out.Granted
-granted_if ample = refl
-granted_if no_grant = refl
-
-both : (a b c : Bool) → (a && (b && not c)) ≡ true → (b ≡ true) × (c ≡ false)
-both true true false is = (refl, refl)
-both true true true is = absurd cc
-both true false c is = absurd cc
-both false b c is = absurd cc
-
-plain_close : (s : RunState) (pass now : ℕ) (c : CloseCall) (mark : CallMark) → closes_plainly s pass (k.Close c) ≡ true → (stepped (rules_view_of s) (turn_in s pass now) (k.Close c) mark).answer ≡ Closed
-unfolding outcome failing_rule close_effect
-plain_close s pass now c mark plain =
-    let kept = both true (is_some (open_numbered c.open_number pass s.opens)) _ plain in
-    rw (kept.1, granted_if mark) refl
-
--- such a close is answered whatever memory refuses
-plainly : (s : RunState) (pass now : ℕ) (call : Call) (mark : CallMark) → closes_plainly s pass call ≡ true → (stepped (rules_view_of s) (turn_in s pass now) call mark).answer ≡ Closed
-plainly s pass now (k.Close c) mark plain = plain_close s pass now c mark plain
-plainly s pass now (k.Attach c) mark plain = absurd cc
-plainly s pass now (k.Walk c) mark plain = absurd cc
-plainly s pass now (k.Open c) mark plain = absurd cc
-plainly s pass now (k.Create c) mark plain = absurd cc
-plainly s pass now (k.Read c) mark plain = absurd cc
-plainly s pass now (k.Write c) mark plain = absurd cc
-plainly s pass now (k.Remove c) mark plain = absurd cc
-plainly s pass now (k.Stat c) mark plain = absurd cc
-plainly s pass now (k.Wstat c) mark plain = absurd cc
-
--- it ends an open that stands
-pub plain_ends : (s : RunState) (pass : ℕ) (call : Call) → closes_plainly s pass call ≡ true → is_some (ended s.opens pass call) ≡ true
-plain_ends s pass call plain = (both (is_close call) (is_some (ended s.opens pass call)) _ plain).0
-
--- a call that an entry doesn't keep whole ends no open
-pub ends_small : (opens : List OpenFile) (pass : ℕ) (call : Call) → is_small call ≡ false → is_some (ended opens pass call) ≡ false
-ends_small opens pass (k.Attach c) is = refl
-ends_small opens pass (k.Walk c) is = refl
-ends_small opens pass (k.Open c) is = refl
-ends_small opens pass (k.Create c) is = refl
-ends_small opens pass (k.Read c) is = refl
-ends_small opens pass (k.Write c) is = refl
-ends_small opens pass (k.Close c) is = absurd cc
-ends_small opens pass (k.Remove c) is = absurd cc
-ends_small opens pass (k.Stat c) is = refl
-ends_small opens pass (k.Wstat c) is = refl
-
--- a call that ends an open that stands is charged nothing
-free : (opens : List OpenFile) (pass : ℕ) (call : Call) → is_some (ended opens pass call) ≡ true → charge opens pass call ≡ 0
-free opens pass call is = rw is refl
-
-pub ends_none_if : (opens : List OpenFile) (pass : ℕ) (call : Call) → (charge opens pass call ≡ 0 → ⊥) → is_some (ended opens pass call) ≡ false
-ends_none_if opens pass call charged = by (is_some (ended opens pass call)) refl
-  where
-    by : (b : Bool) → is_some (ended opens pass call) ≡ b → is_some (ended opens pass call) ≡ false
-    by true is = absurd (charged (free opens pass call is))
-    by false is = is
-
--- ---- the three ends of a step
-
-module _ (r : RunOf) (p : PassOf) (now : ℕ) (call : Call) where
-  -- an entry more, with the outcome that a mark gives
-  pub entered_step : (mark : CallMark) (e : EntryOf) → is_full (state_of r) p.number call ≡ false → e ≡ record { pass = p.number; moment = now; call = call; outcome = outcome (rules_view_of (state_of r)) (turn_in (state_of r) p.number now) call mark } → (m : StepMark) × (entering r p e ≡ step r p now call m)
-  unfolding step
-  entered_step ample e room is = (Ample, rw (is, room) refl)
-  entered_step no_grant e room is = (NoGrant, rw (is, room) refl)
-
-  -- nothing changes
-  module _ (legal : IsLegal (first_state r) r.journal) (own : Fits r p) where
-    pub full_step : is_full (state_of r) p.number call ≡ true → closes_plainly (state_of r) p.number call ≢ true → IsStep r p now call (Denied L1) r p
-    unfolding step
-    full_step full other = record {
-      stepped = (Ample, rw full refl);
-      legal = legal;
-      fits = own;
-      others = λ q differs f. f;
-      plain = λ plain. absurd (other plain);
-      answers = fits (rules_view_of (state_of r)) (turn_in (state_of r) p.number now) call (out.Denied L1);
-    }
-
-    pub short_step : is_full (state_of r) p.number call ≡ false → is_some (ended (state_of r).opens p.number call) ≡ false → IsStep r p now call Short r p
-    unfolding step
-    short_step room none = record {
-      stepped = (NoEntry, rw (room, none) refl);
-      legal = legal;
-      fits = own;
-      others = λ q differs f. f;
-      plain = λ plain. let bad : false ≡ true = sym none ∙ plain_ends (state_of r) p.number call plain in absurd cc;
-      answers = fits (rules_view_of (state_of r)) (turn_in (state_of r) p.number now) call out.Short;
-    }
+use Rattle.cs_journal.specs.Journals.{EntryOf, HasRoom, IsLegal, IsOutcome, RunState, answer_to, apply, entries_of_pass, fresh_state}
+use Rattle.cs_journal.specs.Journals.{left_by, replay, rules_view_of, turn_in}
+use Rattle.cs_journal.specs.Runs.{Fits, PassOf, ReceiptOf, RunOf, last_of, opens_under, receipt_of, receipts_in, state_of}
+use Rattle.cs_journal.specs.Steps.{IsStep, pass_with_receipt, run_with_entry}
 
 -- ---- a run that holds what its journal gives
 
 nothing_below : AreBelow 0 []
 nothing_below i d within = absurd (omega arith)
 
-module _ {fresh tree : Tree} {us : List Row} {opens : List OpenFile} {journal : List EntryOf} {counts : List Counts} (h : IsHeld fresh tree us opens journal counts) where
+module _ {fresh tree : Tree} {us : List Row} {opens : List OpenFile} {journal : List EntryOf} {counts : List PassCounts}
+    (h : IsHeld fresh tree us opens journal counts) where
   -- the run, and its state
   abbrev pub held_run : RunOf
   held_run = record { fresh = fresh; users = us; journal = journal; passes = length counts }
@@ -155,35 +53,47 @@ module _ {fresh tree : Tree} {us : List Row} {opens : List OpenFile} {journal : 
   state_here = held_state fresh tree us opens journal counts h
 
   -- what is true of the state is true of the run by another name, and the other way round
-  pub at_state : (P : RunState → ℕ → Type 0) (r : RunOf) (p p' : PassOf) → held_run ≡ r → p ≡ p' → P here p.number → P (state_of r) p'.number
-  at_state P r p p' run_is pass_is there = along (λ x q. P (state_of x) q.number) r held_run p' p (sym run_is) (sym pass_is) (subst (λ s. P s p.number) (sym state_here) there)
+  pub at_state : (P : RunState → ℕ → Type 0) (r : RunOf) (p p' : PassOf) → held_run ≡ r → p ≡ p' → P here p.number
+      → P (state_of r) p'.number
+  at_state P r p p' run_is pass_is there =
+      along (λ x q. P (state_of x) q.number) r held_run p' p (sym run_is) (sym pass_is) (subst (λ s. P s p.number) (sym state_here) there)
 
-  pub in_state : (P : RunState → ℕ → Type 0) (r : RunOf) (p p' : PassOf) → held_run ≡ r → p ≡ p' → P (state_of r) p'.number → P here p.number
-  in_state P r p p' run_is pass_is there = subst (λ s. P s p.number) state_here (along (λ x q. P (state_of x) q.number) held_run r p p' run_is pass_is there)
+  pub in_state : (P : RunState → ℕ → Type 0) (r : RunOf) (p p' : PassOf) → held_run ≡ r → p ≡ p' → P (state_of r) p'.number
+      → P here p.number
+  in_state P r p p' run_is pass_is there =
+      subst (λ s. P s p.number) state_here (along (λ x q. P (state_of x) q.number) held_run r p p' run_is pass_is there)
 
   -- a close whose open stands has room
-  pub plain_room : (pass : ℕ) (call : Call) → JOURNAL_ENTRIES < length journal + length opens + charge opens pass call → closes_plainly here pass call ≢ true
-  plain_room pass call above plain = let none = free opens pass call (plain_ends here pass call plain) in omega (arith, above, none, h.limit)
+  pub plain_room : (pass : ℕ) (call : Call) → JOURNAL_ENTRIES < length journal + length opens + charge opens pass call
+      → closes_plainly here pass call ≢ true
+  plain_room pass call above plain = let none = free opens pass call (plain_ends here pass call plain) in
+      omega (arith, above, none, h.limit)
 
   numbers_in : AreBelow (length journal) opens
-  numbers_in = let P : RunState → Type 0 = λ s. AreBelow s.entries s.opens in subst P state_here (below-replay (start fresh us) journal nothing_below)
+  numbers_in = let P : RunState → Type 0 = λ s. AreBelow s.entries s.opens in
+      subst P state_here (below-replay (fresh_state fresh us) journal nothing_below)
 
   versions_in : AllVersBelow (2 ^ 32 - JOURNAL_ENTRIES + length journal) tree
-  versions_in = let P : Tree → Type 0 = λ t. AllVersBelow (2 ^ 32 - JOURNAL_ENTRIES + length journal) t in subst P (sym h.tree_is) (versions-replay (2 ^ 32 - JOURNAL_ENTRIES) (start fresh us) journal h.grows.versions)
+  versions_in = let P : Tree → Type 0 = λ t. AllVersBelow (2 ^ 32 - JOURNAL_ENTRIES + length journal) t in
+      subst P (sym h.tree_is) (versions-replay (2 ^ 32 - JOURNAL_ENTRIES) (fresh_state fresh us) journal h.grows.versions)
 
   next_in : tree.next ≤ fresh.next + length journal
-  next_in = let P : Tree → Type 0 = λ t. t.next ≤ fresh.next + length journal in subst P (sym h.tree_is) (next-replay (start fresh us) journal)
+  next_in = let P : Tree → Type 0 = λ t. t.next ≤ fresh.next + length journal in
+      subst P (sym h.tree_is) (next-replay (fresh_state fresh us) journal)
 
 -- What a step begins with: a run that holds what its journal gives, a pass that fits, and room for
 -- what the call is charged.
-pub record Begun (fresh tree : Tree) (us : List Row) (opens : List OpenFile) (journal : List EntryOf) (counts : List Counts) (p : PassOf) (call : Call) (charged : ℕ) : Type 0 where
+pub record Begun (fresh tree : Tree) (us : List Row) (opens : List OpenFile) (journal : List EntryOf) (counts : List PassCounts)
+    (p : PassOf) (call : Call) (charged : ℕ) : Type 0 where
   pub held : IsHeld fresh tree us opens journal counts
   pub own : Fits (held_run held) p
   pub not_full : is_full (here held) p.number call ≡ false
   pub charged_is : charged ≡ charge opens p.number call
 
-pub begun : {fresh tree : Tree} {us : List Row} {opens : List OpenFile} {journal : List EntryOf} {counts : List Counts} (h : IsHeld fresh tree us opens journal counts) (r : RunOf) (p p' : PassOf) (call : Call) (charged : ℕ)
-    → held_run h ≡ r → p ≡ p' → Fits r p' → is_full (state_of r) p'.number call ≡ false → charged ≡ charge (state_of r).opens p'.number call → Begun fresh tree us opens journal counts p call charged
+pub begun : {fresh tree : Tree} {us : List Row} {opens : List OpenFile} {journal : List EntryOf} {counts : List PassCounts}
+    (h : IsHeld fresh tree us opens journal counts) (r : RunOf) (p p' : PassOf) (call : Call) (charged : ℕ)
+    → held_run h ≡ r → p ≡ p' → Fits r p' → is_full (state_of r) p'.number call ≡ false → charged ≡ charge (state_of r).opens p'.number call
+    → Begun fresh tree us opens journal counts p call charged
 begun h r p p' call charged run_is pass_is own room charged_is = record {
   held = h;
   own = along Fits (held_run h) r p p' run_is pass_is own;
@@ -191,7 +101,8 @@ begun h r p p' call charged run_is pass_is own room charged_is = record {
   charged_is = in_state h (λ s n. charged ≡ charge s.opens n call) r p p' run_is pass_is charged_is;
 }
 
-module _ {fresh tree : Tree} {us : List Row} {opens : List OpenFile} {journal : List EntryOf} {counts : List Counts} {p : PassOf} {call : Call} {charged : ℕ} (b : Begun fresh tree us opens journal counts p call charged) where
+module _ {fresh tree : Tree} {us : List Row} {opens : List OpenFile} {journal : List EntryOf} {counts : List
+    PassCounts} {p : PassOf} {call : Call} {charged : ℕ} (b : Begun fresh tree us opens journal counts p call charged) where
   abbrev turn_here : ℕ → Turn
   turn_here now = record { moment = now; place = length journal; pass = p.number }
 
@@ -231,45 +142,74 @@ module _ {fresh tree : Tree} {us : List Row} {opens : List OpenFile} {journal : 
   next_grows = omega (arith, one_more_entry, next_in b.held, b.held.grows.next)
 
   -- a growth for entry and receipt that is refused
-  pub short_left : (r r' : RunOf) (p' q : PassOf) (now : ℕ) → held_run b.held ≡ r → p ≡ p' → r' ≡ r → q ≡ p' → is_some (ended opens p.number call) ≡ false → IsStep r p' now call Short r' q
+  pub short_left : (r r' : RunOf) (p' q : PassOf) (now : ℕ) → held_run b.held ≡ r → p ≡ p' → r' ≡ r → q ≡ p'
+      → is_some (open_that_ends opens p.number call) ≡ false → IsStep r p' now call Short r' q
   short_left r r' p' q now run_is pass_is same_run same_pass none =
       along (λ x y. IsStep r p' now call Short x y) r' r q p' same_run same_pass
       (along (λ x y. IsStep x y now call Short x y) r (held_run b.held) p' p (sym run_is) (sym pass_is)
       (short_step (held_run b.held) p now call b.held.legal b.own
       (subst (λ s. is_full s p.number call ≡ false) (sym (state_here b.held)) b.not_full)
-      (subst (λ (s : RunState). is_some (ended s.opens p.number call) ≡ false) (sym (state_here b.held)) none)))
+      (subst (λ (s : RunState). is_some (open_that_ends s.opens p.number call) ≡ false) (sym (state_here b.held)) none)))
 
   -- ---- after the call
-  module _ {now place : ℕ} {us' : List Row} {how : Outcome} {tree' : Tree} {opens' : List OpenFile} {answer : Answer} (users_are : us' ≡ us) (place_is : place ≡ length journal) (went : IsOutcomeOf (rules_view tree opens us') (record { moment = now; place = place; pass = p.number }) call how (left tree' opens' answer)) where
+  module _ {now place : ℕ} {us' : List Row} {how : Outcome} {tree' : Tree} {opens' : List OpenFile} {answer : Answer} (users_are : us' ≡ us)
+      (place_is : place ≡ length journal) (went : IsOutcomeOf (rules_view tree opens us') (record {
+        moment = now;
+        place = place;
+        pass = p.number;
+      }) call how (call_result tree' opens' answer)) where
     abbrev pub its_entry : EntryOf
     its_entry = record { pass = p.number; moment = now; call = call; outcome = how }
 
     ends : how ≡ outcome (rules_view tree opens us) (turn_here now) call went.mark
-    ends = went.ends ∙ (λ i. outcome (rules_view tree opens (users_are i)) (record { moment = now; place = place_is i; pass = p.number }) call went.mark)
+    ends = went.ends ∙ (λ i. outcome (rules_view tree opens (users_are i)) (record {
+      moment = now;
+      place = place_is i;
+      pass = p.number;
+    }) call went.mark)
 
-    effect : left tree' opens' answer ≡ stepped (rules_view tree opens us) (turn_here now) call went.mark
-    effect = went.leaves_is ∙ (λ i. stepped (rules_view tree opens (users_are i)) (record { moment = now; place = place_is i; pass = p.number }) call went.mark)
+    effect : call_result tree' opens' answer ≡ result_by_mark (rules_view tree opens us) (turn_here now) call went.mark
+    effect = went.leaves_is ∙ (λ i. result_by_mark (rules_view tree opens (users_are i)) (record {
+      moment = now;
+      place = place_is i;
+      pass = p.number;
+    }) call went.mark)
 
-    by_entry : left tree' opens' answer ≡ left_by (here b.held) its_entry
-    by_entry = effect ∙ (λ i. applied (rules_view tree opens us) (turn_here now) call (sym ends i))
+    by_entry : call_result tree' opens' answer ≡ left_by (here b.held) its_entry
+    by_entry = effect ∙ (λ i. result_by_outcome (rules_view tree opens us) (turn_here now) call (sym ends i))
 
     moved : Moves opens opens' p.number (charge opens p.number call)
     moved =
-        let P : Left → Type 0 = λ l. Moves opens l.opens p.number (charge opens p.number call) in
+        let P : CallResult → Type 0 = λ l. Moves opens l.opens p.number (charge opens p.number call) in
         subst P (sym by_entry) (call_moves (rules_view tree opens us) (turn_here now) call how)
 
-    applied_here : apply (state_of (held_run b.held)) its_entry ≡ record { tree = tree'; opens = opens'; users = us; entries = length journal + 1 }
-    applied_here = ap (λ s. apply s its_entry) (state_here b.held) ∙ (λ i. record { tree = (sym by_entry i).tree; opens = (sym by_entry i).opens; users = us; entries = length journal + 1 })
+    applied_here : apply (state_of (held_run b.held)) its_entry ≡ record {
+      tree = tree';
+      opens = opens';
+      users = us;
+      entries = length journal + 1;
+    }
+    applied_here = ap (λ s. apply s its_entry) (state_here b.held) ∙ (λ i. record {
+      tree = (sym by_entry i).tree;
+      opens = (sym by_entry i).opens;
+      users = us;
+      entries = length journal + 1;
+    })
 
     outcome_is : IsOutcome (state_of (held_run b.held)) its_entry
     outcome_is = let P : RunState → Type 0 = λ s. IsOutcome s its_entry in subst P (sym (state_here b.held)) (went.mark, ends)
 
-    legal_after : IsLegal (start fresh us) (journal ++ its_entry ∷ [])
-    legal_after = IsLegal-push (start fresh us) journal its_entry b.held.legal outcome_is (subst HasRoom (sym applied_here) (omega (arith, moved.room, room)))
+    legal_after : IsLegal (fresh_state fresh us) (journal ++ its_entry ∷ [])
+    legal_after =
+        IsLegal-push (fresh_state fresh us) journal its_entry b.held.legal outcome_is
+        (subst HasRoom (sym applied_here) (omega (arith, moved.room, room)))
 
-    others_after : (q : ℕ) → q ≢ p.number → length (opens_under q (apply (state_of (held_run b.held)) its_entry).opens) ≡ length (opens_under q (state_of (held_run b.held)).opens)
+    others_after : (q : ℕ) → q ≢ p.number
+        → length (opens_under q (apply (state_of (held_run b.held)) its_entry).opens)
+        ≡ length (opens_under q (state_of (held_run b.held)).opens)
     others_after q differs =
-        ap (λ (s : RunState). length (opens_under q s.opens)) applied_here ∙ moved.others q differs ∙ sym (ap (λ (s : RunState). length (opens_under q s.opens)) (state_here b.held))
+        ap (λ (s : RunState). length (opens_under q s.opens)) applied_here ∙ moved.others q differs ∙ sym
+        (ap (λ (s : RunState). length (opens_under q s.opens)) (state_here b.held))
 
     places_after : p.reserved + length opens' - length opens ≡ length (opens_under p.number opens')
     places_after = omega (arith, reserved_is, moved.own)
@@ -290,15 +230,20 @@ module _ {fresh tree : Tree} {us : List Row} {opens : List OpenFile} {journal : 
     own_room_after = omega (arith, moved.own_room, moved.own, reserved_is, b.charged_is)
 
     -- ---- as the code has it: how many receipts there are, and places
-    module _ {many places : ℕ} (many_is : many ≡ length p.receipts + 1) (places_are : places ≡ p.reserved + length opens' - length opens) where
-      abbrev counts_after : Counts
+    module _ {many places : ℕ} (many_is : many ≡ length p.receipts + 1)
+        (places_are : places ≡ p.reserved + length opens' - length opens) where
+      abbrev counts_after : PassCounts
       counts_after = record { entries = many; opens = places; last = Some place }
 
       counts_are : counts_after ≡ counts_of p.number opens' (journal ++ its_entry ∷ [])
       counts_are =
-          let entries : many ≡ length (entries_of_pass p.number (journal ++ its_entry ∷ [])) = many_is ∙ ap (λ n. n + 1) b.own.entries ∙ sym (own_entries p.number journal its_entry refl) in
+          let entries : many ≡ length (entries_of_pass p.number (journal ++ its_entry ∷ [])) =
+          many_is ∙ ap (λ n. n + 1) b.own.entries ∙ sym (own_entries p.number journal its_entry refl) in
           let last : Some place ≡ option_map (λ (r : ReceiptOf). r.place) (last_of (receipts_in p.number (journal ++ its_entry ∷ []))) =
-          ap (λ n. Some n) place_is ∙ sym (ap (λ rs. option_map (λ (r : ReceiptOf). r.place) (last_of rs)) (own_receipts p.number journal its_entry refl) ∙ ap (option_map (λ (r : ReceiptOf). r.place)) (last-push (receipts_in p.number journal) (receipt_of (length journal) its_entry))) in
+          ap (λ n. Some n) place_is ∙ sym
+          (ap (λ rs. option_map (λ (r : ReceiptOf). r.place) (last_of rs)) (own_receipts p.number journal its_entry refl) ∙ ap
+          (option_map (λ (r : ReceiptOf). r.place)) (last-push (receipts_in p.number journal) (receipt_of (length journal) its_entry)))
+          in
           λ i. record { entries = entries i; opens = (places_are ∙ places_after) i; last = last i }
 
       other_counts : (q : ℕ) → q ≢ p.number → counts_of q opens journal ≡ counts_of q opens' (journal ++ its_entry ∷ [])
@@ -310,7 +255,8 @@ module _ {fresh tree : Tree} {us : List Row} {opens : List OpenFile} {journal : 
             last = option_map (λ (r : ReceiptOf). r.place) (last_of (sym (other_receipts q journal its_entry other) i));
           }
 
-      counted_by : (q : ℕ) (same : Bool) → (q == p.number) ≡ same → get_or (set counts p.number counts_after) q no_counts ≡ counts_of q opens' (journal ++ its_entry ∷ [])
+      counted_by : (q : ℕ) (same : Bool) → (q == p.number) ≡ same
+          → get_or (set counts p.number counts_after) q no_counts ≡ counts_of q opens' (journal ++ its_entry ∷ [])
       counted_by q true same =
           let e : q ≡ p.number = grind (arith, nat_tests) in
           rw e (get_or-set_same counts p.number counts_after no_counts b.own.known ∙ counts_are)
@@ -318,9 +264,15 @@ module _ {fresh tree : Tree} {us : List Row} {opens : List OpenFile} {journal : 
           let ne : q ≢ p.number = eqb-false q p.number other in
           get_or-set_other counts p.number q counts_after no_counts ne ∙ b.held.counted q ∙ other_counts q ne
 
-      pub held_after : (js : List EntryOf) → js ≡ journal ++ its_entry ∷ [] → IsHeld fresh tree' us opens' js (set counts p.number counts_after)
+      pub held_after : (js : List EntryOf) → js ≡ journal ++ its_entry ∷ []
+          → IsHeld fresh tree' us opens' js (set counts p.number counts_after)
       held_after js journal_is =
-          let next : replay (start fresh us) (journal ++ its_entry ∷ []) ≡ record { tree = tree'; opens = opens'; users = us; entries = length journal + 1 } = replay-push (start fresh us) journal its_entry ∙ applied_here in
+          let next : replay (fresh_state fresh us) (journal ++ its_entry ∷ []) ≡ record {
+            tree = tree';
+            opens = opens';
+            users = us;
+            entries = length journal + 1;
+          } = replay-push (fresh_state fresh us) journal its_entry ∙ applied_here in
           subst (λ es. IsHeld fresh tree' us opens' es (set counts p.number counts_after)) (sym journal_is) (record {
             grows = b.held.grows;
             tree_is = ap (λ (s : RunState). s.tree) (sym next);
@@ -340,10 +292,25 @@ module _ {fresh tree : Tree} {us : List Row} {opens : List OpenFile} {journal : 
 
       as_step : FitsCall call answer → IsStep (held_run b.held) p now call answer run_after pass_after
       as_step answers =
-          let told : answer ≡ answer_to (state_of (held_run b.held)) its_entry = ap (λ (l : Left). l.answer) by_entry ∙ sym (ap (λ s. answer_to s its_entry) (state_here b.held)) in
-          let not_full : is_full (state_of (held_run b.held)) p.number call ≡ false = subst (λ s. is_full s p.number call ≡ false) (sym (state_here b.held)) b.not_full in
-          let marked : its_entry ≡ record { pass = p.number; moment = now; call = call; outcome = outcome (rules_view_of (state_of (held_run b.held))) (turn_in (state_of (held_run b.held)) p.number now) call went.mark } =
-          λ i. record { pass = p.number; moment = now; call = call; outcome = (ends ∙ ap (λ (s : RunState). outcome (rules_view_of s) (turn_in s p.number now) call went.mark) (sym (state_here b.held))) i } in
+          let told : answer ≡ answer_to (state_of (held_run b.held)) its_entry =
+          ap (λ (l : CallResult). l.answer) by_entry ∙ sym (ap (λ s. answer_to s its_entry) (state_here b.held)) in
+          let not_full : is_full (state_of (held_run b.held)) p.number call ≡ false =
+          subst (λ s. is_full s p.number call ≡ false) (sym (state_here b.held)) b.not_full in
+          let marked : its_entry ≡ record {
+            pass = p.number;
+            moment = now;
+            call = call;
+            outcome =
+                outcome (rules_view_of (state_of (held_run b.held))) (turn_in (state_of (held_run b.held)) p.number now) call went.mark;
+          } =
+          λ i. record {
+            pass = p.number;
+            moment = now;
+            call = call;
+            outcome =
+                (ends ∙ ap (λ (s : RunState). outcome (rules_view_of s) (turn_in s p.number now) call went.mark) (sym (state_here b.held)))
+                i;
+          } in
           let made = entered_step (held_run b.held) p now call went.mark its_entry not_full marked in
           record {
             stepped = (made.0, (λ i. record { answer = told i; run = run_after; pass = pass_after }) ∙ made.1);
@@ -351,15 +318,24 @@ module _ {fresh tree : Tree} {us : List Row} {opens : List OpenFile} {journal : 
             fits = own_fits (held_run b.held) p its_entry refl b.own;
             others = λ q differs f. other_fits (held_run b.held) q its_entry (λ same. differs (sym same)) (others_after q.number differs) f;
             plain = λ plain.
-                ap (λ (l : Left). l.answer) effect ∙ plainly (here b.held) p.number now call went.mark (subst (λ (s : RunState). closes_plainly s p.number call ≡ true) (state_here b.held) plain);
+                ap (λ (l : CallResult). l.answer) effect ∙ plainly (here b.held) p.number now call went.mark
+                (subst (λ (s : RunState). closes_plainly s p.number call ≡ true) (state_here b.held) plain);
             answers = answers;
           }
 
-      pub made_step : (r : RunOf) (p' : PassOf) (js : List EntryOf) (rs : List ReceiptOf) → held_run b.held ≡ r → p ≡ p' → js ≡ journal ++ its_entry ∷ [] → rs ≡ p.receipts ++ receipt_of (length journal) its_entry ∷ [] → FitsCall call answer
-          → IsStep r p' now call answer (record { fresh = fresh; users = us; journal = js; passes = length (set counts p.number counts_after) }) (record { number = p.number; receipts = rs; reserved = places })
+      pub made_step : (r : RunOf) (p' : PassOf) (js : List EntryOf) (rs : List ReceiptOf) → held_run b.held ≡ r → p ≡ p'
+          → js ≡ journal ++ its_entry ∷ [] → rs ≡ p.receipts ++ receipt_of (length journal) its_entry ∷ [] → FitsCall call answer
+          → IsStep r p' now call answer (record {
+            fresh = fresh;
+            users = us;
+            journal = js;
+            passes = length (set counts p.number counts_after);
+          }) (record { number = p.number; receipts = rs; reserved = places })
       made_step r p' js rs run_is pass_is journal_is receipts_are answers =
-          let places_left : places ≡ length (opens_under p.number (apply (state_of (held_run b.held)) its_entry).opens) = places_are ∙ places_after ∙ sym (ap (λ (s : RunState). length (opens_under p.number s.opens)) applied_here) in
+          let places_left : places ≡ length (opens_under p.number (apply (state_of (held_run b.held)) its_entry).opens) =
+          places_are ∙ places_after ∙ sym (ap (λ (s : RunState). length (opens_under p.number s.opens)) applied_here) in
           along (λ x y. IsStep r p' now call answer x y) _ run_after _ pass_after
           (λ i. record { fresh = fresh; users = us; journal = journal_is i; passes = length-set counts p.number counts_after i })
           (λ i. record { number = p.number; receipts = receipts_are i; reserved = places_left i })
-          (along (λ x y. IsStep x y now call answer run_after pass_after) r (held_run b.held) p' p (sym run_is) (sym pass_is) (as_step answers))
+          (along (λ x y. IsStep x y now call answer run_after pass_after) r (held_run b.held) p' p (sym run_is) (sym pass_is)
+          (as_step answers))

@@ -1,6 +1,8 @@
 -- When the receipts of some passes are the entries of a journal, and what an entry's call was
 -- answered.
-use Rattle.std.specs.Prelude.{◌≡◌, ◌≢◌, ℕ, ◌+◌, ◌<◌, ◌≤◌, ◌==◌, Bool, List, [], ◌∷◌, length, map, option_map, slice_get, sum_by, take, Option, None, Some, Result, Ok, Err}
+use Rattle.std.specs.Prelude.{◌≡◌, ◌≢◌, ℕ, ◌+◌, ◌<◌, ◌≤◌, ◌==◌, Bool, List, [], ◌∷◌, length, map}
+use Rattle.std.specs.Prelude.{option_map, slice_get, sum_by, take, Option, None, Some, Result, Ok}
+use Rattle.std.specs.Prelude.{Err}
 use Rattle.std.specs.List.{AllPairs, find, flat_map}
 use Rattle.std.specs.List.Sorted.{IsPermutation}
 use Rattle.std.specs.Option.{option_map_or}
@@ -18,7 +20,7 @@ is_numbered number p = p.number == number
 abbrev pub is_at : ℕ → ReceiptOf → Bool
 is_at place r = r.place == place
 
--- the receipts of the first pass that is given with a number; none where none is
+-- the receipts of the first pass that is given with a number; none if none is
 abbrev pub receipts_of_pass : List PassOf → ℕ → List ReceiptOf
 receipts_of_pass passes number =
     option_map_or (λ p. p.receipts) (find (is_numbered number) passes) []
@@ -49,8 +51,8 @@ AreRests {A} now passes rests place =
     → IsRest passes number place (now rest)
 
 -- each entry before the place has its own receipt
-abbrev pub AreTold : List PassOf → List EntryOf → ℕ → Type 0
-AreTold passes journal k =
+abbrev pub HaveReceipts : List PassOf → List EntryOf → ℕ → Type 0
+HaveReceipts passes journal k =
     (place : ℕ) → place < k → (e : EntryOf) → slice_get journal place ≡ Some e
     → receipt_for passes place e ≡ Some (receipt_of place e)
 
@@ -59,7 +61,7 @@ pub record IsMissing (passes : List PassOf) (journal : List EntryOf) (place : �
   pub entry : EntryOf
   pub there : slice_get journal place ≡ Some entry
   pub none : receipt_for passes place entry ≡ None
-  pub before : AreTold passes journal place
+  pub before : HaveReceipts passes journal place
 
 -- The entry at the place is the first without its own receipt: it has another.
 pub record IsChanged (passes : List PassOf) (journal : List EntryOf) (place : ℕ) : Type 0 where
@@ -68,7 +70,7 @@ pub record IsChanged (passes : List PassOf) (journal : List EntryOf) (place : �
   pub there : slice_get journal place ≡ Some entry
   pub other : receipt_for passes place entry ≡ Some receipt
   pub differs : receipt ≢ receipt_of place entry
-  pub before : AreTold passes journal place
+  pub before : HaveReceipts passes journal place
 
 -- what is said of the receipt that was found for an entry's place, if one was
 abbrev pub TellsOf : Option ReceiptOf → ℕ → EntryOf → Result (Unit {0}) AuditFault → Type 0
@@ -78,12 +80,12 @@ TellsOf receipt place e (Err (Missing k)) = (k ≡ place) × (receipt ≡ None)
 TellsOf receipt place e (Err (Changed k)) =
     (k ≡ place) × ((r : ReceiptOf) × (receipt ≡ Some r) × (r ≢ receipt_of place e))
 
--- what an audit says of the entries, where there are as many receipts
-abbrev pub Tells : List PassOf → List EntryOf → Result (Unit {0}) AuditFault → Type 0
-Tells passes journal (Ok x) = AreTold passes journal (length journal)
-Tells passes journal (Err Count) = ⊥
-Tells passes journal (Err (Missing place)) = IsMissing passes journal place
-Tells passes journal (Err (Changed place)) = IsChanged passes journal place
+-- what an audit says of the entries, if there are as many receipts
+abbrev pub IsAudit : List PassOf → List EntryOf → Result (Unit {0}) AuditFault → Type 0
+IsAudit passes journal (Ok x) = HaveReceipts passes journal (length journal)
+IsAudit passes journal (Err Count) = ⊥
+IsAudit passes journal (Err (Missing place)) = IsMissing passes journal place
+IsAudit passes journal (Err (Changed place)) = IsChanged passes journal place
 
 -- there are as many receipts as entries
 abbrev pub AreAsMany : List PassOf → List EntryOf → Type 0
@@ -91,12 +93,12 @@ AreAsMany passes journal = receipts_count passes ≡ length journal
 
 -- what an audit says: the counts are looked at first
 abbrev pub Audits : List PassOf → List EntryOf → Result (Unit {0}) AuditFault → Type 0
-Audits passes journal (Ok x) = AreAsMany passes journal × Tells passes journal (Ok x)
+Audits passes journal (Ok x) = AreAsMany passes journal × IsAudit passes journal (Ok x)
 Audits passes journal (Err Count) = ¬ AreAsMany passes journal
 Audits passes journal (Err (Missing k)) =
-    AreAsMany passes journal × Tells passes journal (Err (Missing k))
+    AreAsMany passes journal × IsAudit passes journal (Err (Missing k))
 Audits passes journal (Err (Changed k)) =
-    AreAsMany passes journal × Tells passes journal (Err (Changed k))
+    AreAsMany passes journal × IsAudit passes journal (Err (Changed k))
 
 -- the audit is ok
 abbrev pub IsAudited : List PassOf → List EntryOf → Type 0
@@ -108,7 +110,7 @@ IsAudited passes journal = Audits passes journal (Ok tt)
 abbrev pub all_receipts : List PassOf → List (ℕ × ReceiptOf)
 all_receipts passes = flat_map (λ p. map (λ r. (p.number, r)) p.receipts) passes
 
--- the receipts of all entries likewise, where the first entry has that place
+-- the receipts of all entries likewise, if the first entry has that place
 abbrev pub all_entries_from : ℕ → List EntryOf → List (ℕ × ReceiptOf)
 all_entries_from place [] = []
 all_entries_from place (e ∷ es) = (e.pass, receipt_of place e) ∷ all_entries_from (place + 1) es

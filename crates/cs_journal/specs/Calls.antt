@@ -1,5 +1,6 @@
 -- How many entries of a journal a call takes.
-use Rattle.std.specs.Prelude.{ℕ, ◌+◌, ◌&&◌, not, nat_lt, Bool, true, false, List, Option, is_some, option_and_then, length, if◌then◌else◌}
+use Rattle.std.specs.Prelude.{ℕ, ◌+◌, ◌&&◌, not, nat_lt, Bool, true, false, List, Option, is_some}
+use Rattle.std.specs.Prelude.{option_and_then, length, if◌then◌else◌}
 use Rattle.cs_names.specs.declared.limits.TheConstants.{JOURNAL_ENTRIES}
 use Rattle.cs_permit.specs.declared.call.Call.{Call}
 use Rattle.cs_permit.specs.declared.call.Call.TheVariants.{Close}
@@ -7,18 +8,19 @@ use Rattle.cs_permit.specs.declared.call.OpenFile.{OpenFile}
 use Rattle.cs_run.specs.Effects.{removes}
 use Rattle.cs_run.specs.Laws.{opens_one}
 use Rattle.cs_run.specs.Opens.{open_numbered}
-use Rattle.cs_run.specs.Outcomes.{closes}
+use Rattle.cs_run.specs.Outcomes.{closed_open_number}
 use Rattle.cs_journal.specs.Journals.{RunState}
 
--- the open that a call ends, where it stands under the pass: the entry of that call is reserved
-abbrev pub ended : List OpenFile → ℕ → Call → Option OpenFile
-ended opens pass call = option_and_then (λ number. open_numbered number pass opens) (closes call)
+-- the open that a call ends, if it is there under the pass: the entry of that call is reserved
+abbrev pub open_that_ends : List OpenFile → ℕ → Call → Option OpenFile
+open_that_ends opens pass call =
+    option_and_then (λ number. open_numbered number pass opens) (closed_open_number call)
 
 -- how many entries a call takes that are not reserved: its own, and for an open or a create that
 -- of the close
 abbrev pub charge : List OpenFile → ℕ → Call → ℕ
 charge opens pass call =
-    if is_some (ended opens pass call) then 0 else if opens_one call then 2 else 1
+    if is_some (open_that_ends opens pass call) then 0 else if opens_one call then 2 else 1
 
 -- there is no room for what a call takes
 abbrev pub is_full : RunState → ℕ → Call → Bool
@@ -30,8 +32,8 @@ abbrev pub is_close : Call → Bool
 is_close (Close c) = true
 is_close other = false
 
--- a close whose open stands, and that removes nothing
+-- a close whose open is there, and that removes nothing
 abbrev pub closes_plainly : RunState → ℕ → Call → Bool
 closes_plainly state pass call =
-    is_close call && (is_some (ended state.opens pass call)
-    && not (removes state.tree (ended state.opens pass call)))
+    is_close call && (is_some (open_that_ends state.opens pass call)
+    && not (removes state.tree (open_that_ends state.opens pass call)))

@@ -1,4 +1,4 @@
--- How a run beside a pass is stored.
+-- How a run with a pass is stored.
 use Rattle.std.specs.Coded.{Coded, coded×}
 use Rattle.cs_journal.specs.contracts.pass.Pass as pass
 use Rattle.cs_journal.specs.Runs.{PassOf, RunOf, run_code}

@@ -7,9 +7,9 @@ use Rattle.cs_permit.specs.declared.call.OpenFile.{OpenFile}
 use Rattle.cs_run.specs.declared.answer.Answer.{Answer}
 use Rattle.cs_run.specs.declared.answer.Outcome.{Outcome}
 use Rattle.cs_run.specs.declared.turn.Turn.{Turn}
-use Rattle.cs_run.specs.Effects.{Left}
+use Rattle.cs_run.specs.Effects.{CallResult}
 use Rattle.cs_run.specs.Marks.{CallMark}
-use Rattle.cs_run.specs.Outcomes.{applied, outcome}
+use Rattle.cs_run.specs.Outcomes.{result_by_outcome, outcome}
 use Rattle.cs_tree_model.specs.Tree.{Tree}
 use Rattle.cs_users.specs.Rows.{Row}
 
@@ -40,8 +40,8 @@ abbrev pub run_state : Tree → List OpenFile → List Row → ℕ → RunState
 run_state t os us n = record { tree = t; opens = os; users = us; entries = n }
 
 -- the state of a run that no call was made on
-abbrev pub start : Tree → List Row → RunState
-start t us = record { tree = t; opens = []; users = us; entries = 0 }
+abbrev pub fresh_state : Tree → List Row → RunState
+fresh_state t us = record { tree = t; opens = []; users = us; entries = 0 }
 
 -- what the rules look at
 abbrev pub rules_view_of : RunState → RulesView
@@ -52,9 +52,10 @@ abbrev pub turn_in : RunState → ℕ → ℕ → Turn
 turn_in state pass moment = record { moment = moment; place = state.entries; pass = pass }
 
 -- what an entry's call leaves, by its outcome
-abbrev pub left_by : RunState → EntryOf → Left
+abbrev pub left_by : RunState → EntryOf → CallResult
 left_by state entry =
-    applied (rules_view_of state) (turn_in state entry.pass entry.moment) entry.call entry.outcome
+    result_by_outcome (rules_view_of state) (turn_in state entry.pass entry.moment) entry.call
+    entry.outcome
 
 -- the answer to an entry's call
 abbrev pub answer_to : RunState → EntryOf → Answer
@@ -75,10 +76,11 @@ replay state [] = state
 replay state (entry ∷ entries) = replay (apply state entry) entries
 
 -- the outcome is the one of the entry's place: the first rule that fails denies the call; else it
--- is granted, or short where it takes memory
+-- is granted, or short if it takes memory
 abbrev pub IsOutcome : RunState → EntryOf → Type 0
 IsOutcome state entry = (mark : CallMark)
-    × (entry.outcome ≡ outcome (rules_view_of state) (turn_in state entry.pass entry.moment) entry.call mark)
+    × (entry.outcome
+    ≡ outcome (rules_view_of state) (turn_in state entry.pass entry.moment) entry.call mark)
 
 -- there is room for the entries, and for that of each open's close
 abbrev pub HasRoom : RunState → Type 0

@@ -7,10 +7,10 @@ use Rattle.cs_names.specs.declared.limits.TheConstants.{RUN_ATTACHES}
 use Rattle.cs_permit.specs.declared.call.Call.{Call}
 use Rattle.cs_permit.specs.declared.call.Call.TheVariants as call
 use Rattle.cs_journal.specs.declared.entry.Entry.{Entry}
-use Rattle.cs_journal.specs.declared.kept.Again.{Again}
-use Rattle.cs_journal.specs.declared.kept.Again.TheVariants as a
-use Rattle.cs_journal.specs.declared.kept.Kept.{Kept}
-use Rattle.cs_journal.specs.declared.kept.Kept.TheVariants as k
+use Rattle.cs_journal.specs.declared.kept.CallAgain.{CallAgain}
+use Rattle.cs_journal.specs.declared.kept.CallAgain.TheVariants as a
+use Rattle.cs_journal.specs.declared.kept.KeptCall.{KeptCall}
+use Rattle.cs_journal.specs.declared.kept.KeptCall.TheVariants as k
 use Rattle.cs_journal.specs.declared.kept.WriteHead.{WriteHead}
 use Rattle.cs_journal.specs.Journals.{EntryOf}
 use Rattle.cs_journal.specs.Written.{IsWithin, bytes_at}
@@ -37,12 +37,12 @@ write_call head bytes =
     })
 
 -- a call that is done once more
-abbrev pub again_call : Again → Call
+abbrev pub again_call : CallAgain → Call
 again_call (a.Own c) = c
 again_call (a.Shared c) = c.now
 
--- the call, where the bytes that it writes lie in these blocks
-abbrev pub call_of : List (List ℕ) → Kept → Call
+-- the call, if the bytes that it writes lie in these blocks
+abbrev pub call_of : List (List ℕ) → KeptCall → Call
 call_of blocks (k.Shared shared) = arc_value shared
 call_of blocks (k.Write piece head) = write_call (arc_value head) (bytes_at blocks piece)
 call_of blocks (k.Close open_number user) = close_call open_number user.value
@@ -53,7 +53,7 @@ call_of blocks (k.Read count number offset) = read_call number offset count
 call_of blocks (k.Stat number) = call.Stat (record { number = number })
 
 -- they do lie there
-abbrev pub LiesIn : List (List ℕ) → Kept → Type 0
+abbrev pub LiesIn : List (List ℕ) → KeptCall → Type 0
 LiesIn blocks (k.Write piece head) = IsWithin blocks piece
 LiesIn blocks other = Unit {0}
 

@@ -2,6 +2,7 @@ pub mod Journals
 pub mod Summaries
 pub mod Written
 pub mod Kept
+pub mod Keeping
 pub mod Calls
 pub mod Runs
 pub mod Fitting

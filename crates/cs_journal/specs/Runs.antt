@@ -1,5 +1,6 @@
 -- What contracts see of a run and of a pass.
-use Rattle.std.specs.Prelude.{◌≡◌, ℕ, ◌+◌, ◌-◌, ◌<◌, ◌==◌, Bool, List, [], ◌∷◌, length, filter, slice_get, Option, if◌then◌else◌, refl}
+use Rattle.std.specs.Prelude.{◌≡◌, ℕ, ◌+◌, ◌-◌, ◌<◌, ◌==◌, Bool, List, [], ◌∷◌, length, filter}
+use Rattle.std.specs.Prelude.{slice_get, Option, if◌then◌else◌, refl}
 use Rattle.std.specs.List.{AllPairs}
 use Rattle.std.specs.Coded.{Coded, code_by, coded×, coded_ℕ, coded_list}
 use Rattle.cs_permit.specs.declared.call.OpenFile.{OpenFile}
@@ -12,7 +13,8 @@ use mir.Syntax.{static}
 use Rattle.cs_run.specs.contracts.answer.Outcome as outcome
 use Rattle.cs_permit.specs.declared.call.Call.{Call}
 use Rattle.cs_journal.specs.Summaries.{without_bytes}
-use Rattle.cs_journal.specs.Journals.{EntryOf, RunState, entries_of_pass, is_of_pass, replay, start}
+use Rattle.cs_journal.specs.Journals.{EntryOf, RunState, entries_of_pass, is_of_pass, replay}
+use Rattle.cs_journal.specs.Journals.{fresh_state}
 
 -- A run: the tree and the users that it began with, its journal, and how many passes it gave. Its
 -- state is what the journal's replay gives.
@@ -25,7 +27,10 @@ pub record RunOf : Type 0 where
 abbrev pub entry_code : Coded EntryOf
 entry_code =
     code_by (ℕ × (ℕ × (Call × Outcome)))
-    (coded× coded_ℕ (coded× coded_ℕ (coded× (call.the_row (record { mir = static; lft = [] })).coded outcome.the_row.coded)))
+    (coded× coded_ℕ (coded× coded_ℕ (coded× (call.the_row (record {
+      mir = static;
+      lft = [];
+    })).coded outcome.the_row.coded)))
     (λ e. (e.pass, (e.moment, (e.call, e.outcome))))
     (λ parts. record {
       pass = parts.0;
@@ -55,7 +60,7 @@ fresh_run t us = record { fresh = t; users = us; journal = []; passes = 0 }
 
 -- a run's first state, and its state
 abbrev pub first_state : RunOf → RunState
-first_state run = start run.fresh run.users
+first_state run = fresh_state run.fresh run.users
 
 abbrev pub state_of : RunOf → RunState
 state_of run = replay (first_state run) run.journal
@@ -84,7 +89,7 @@ receipt_of place entry = record {
   outcome = entry.outcome;
 }
 
--- each receipt has a place behind those before it
+-- each receipt has a place after those before it
 abbrev pub IsAscending : List ReceiptOf → Type 0
 IsAscending receipts = AllPairs (λ one later. one.place < later.place) receipts
 
@@ -98,7 +103,7 @@ pub record PassOf : Type 0 where
 abbrev pub fresh_pass : ℕ → PassOf
 fresh_pass number = record { number = number; receipts = []; reserved = 0 }
 
--- the receipts of a pass's entries, where the first entry has that place
+-- the receipts of a pass's entries, if the first entry has that place
 abbrev pub receipts_from : ℕ → ℕ → List EntryOf → List ReceiptOf
 receipts_from pass place [] = []
 receipts_from pass place (entry ∷ entries) =

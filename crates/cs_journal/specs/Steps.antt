@@ -1,24 +1,26 @@
 -- A step on a run: what a call under a pass leaves, and what it answers.
-use Rattle.std.specs.Prelude.{◌≡◌, ◌≢◌, ℕ, true, [], ◌∷◌, ◌++◌, length, not, ◌&&◌, is_some, if◌then◌else◌}
+use Rattle.std.specs.Prelude.{◌≡◌, ◌≢◌, ℕ, true, [], ◌∷◌, ◌++◌, length, not, ◌&&◌, is_some}
+use Rattle.std.specs.Prelude.{if◌then◌else◌}
 use Rattle.cs_names.specs.declared.rule_id.RuleId.TheVariants.{L1}
 use Rattle.cs_permit.specs.declared.call.Call.{Call}
 use Rattle.cs_run.specs.declared.answer.Answer.{Answer}
 use Rattle.cs_run.specs.declared.answer.Answer.TheVariants.{Closed, Denied, Short}
 use Rattle.cs_run.specs.Laws.{FitsCall}
 use Rattle.cs_run.specs.Outcomes.{outcome}
-use Rattle.cs_journal.specs.Calls.{closes_plainly, ended, is_full}
+use Rattle.cs_journal.specs.Calls.{closes_plainly, open_that_ends, is_full}
 use Rattle.cs_journal.specs.Journals.{EntryOf, IsLegal, answer_to, apply, rules_view_of, turn_in}
 use Rattle.cs_journal.specs.Marks.{StepMark, call_mark, refuses_entry}
-use Rattle.cs_journal.specs.Runs.{Fits, PassOf, RunOf, first_state, opens_under, receipt_of, state_of}
+use Rattle.cs_journal.specs.Runs.{Fits, PassOf, RunOf, first_state, opens_under, receipt_of}
+use Rattle.cs_journal.specs.Runs.{state_of}
 
 -- What a step leaves: its answer, the run, and the pass.
-pub record Stepped : Type 0 where
+pub record StepResult : Type 0 where
   pub answer : Answer
   pub run : RunOf
   pub pass : PassOf
 
 -- no entry: nothing changes
-abbrev pub without_entry : RunOf → PassOf → Answer → Stepped
+abbrev pub without_entry : RunOf → PassOf → Answer → StepResult
 without_entry run pass answer = record { answer = answer; run = run; pass = pass }
 
 -- one entry more, the last
@@ -30,7 +32,7 @@ run_with_entry run entry = record {
   passes = run.passes;
 }
 
--- the entry's receipt, and a place for the close of each open that stands under the pass then
+-- the entry's receipt, and a place for the close of each open that is under the pass then
 abbrev pub pass_with_receipt : RunOf → PassOf → EntryOf → PassOf
 pass_with_receipt run pass entry = record {
   number = pass.number;
@@ -39,8 +41,8 @@ pass_with_receipt run pass entry = record {
 }
 
 -- an entry, and what its call is answered
-abbrev pub entering : RunOf → PassOf → EntryOf → Stepped
-entering run pass entry = record {
+abbrev pub after_entry : RunOf → PassOf → EntryOf → StepResult
+after_entry run pass entry = record {
   answer = answer_to (state_of run) entry;
   run = run_with_entry run entry;
   pass = pass_with_receipt run pass entry;
@@ -56,17 +58,18 @@ entry_of run pass now call mark = record {
       (call_mark mark);
 }
 
--- no room in the journal is told by L1, and a refused growth for entry and receipt as want of
--- memory; a call whose entry is reserved reaches neither
-unfoldable pub step : RunOf → PassOf → ℕ → Call → StepMark → Stepped
+-- no room in the journal is L1, and a refused growth for entry and receipt is out of memory; a call
+-- whose entry is reserved reaches neither
+unfoldable pub step : RunOf → PassOf → ℕ → Call → StepMark → StepResult
 step run pass now call mark =
     if is_full (state_of run) pass.number call then without_entry run pass (Denied L1)
-    else if refuses_entry mark && not (is_some (ended (state_of run).opens pass.number call))
+    else if refuses_entry mark
+    && not (is_some (open_that_ends (state_of run).opens pass.number call))
     then without_entry run pass Short
-    else entering run pass (entry_of run pass now call mark)
+    else after_entry run pass (entry_of run pass now call mark)
 
 -- What is said of a step: it is the one that some mark gives, the journal is legal, and each pass
--- fits that did. A close whose open stands, and that removes nothing, is made.
+-- fits that did. A close whose open is there, and that removes nothing, is made.
 pub record IsStep (old : RunOf) (pass : PassOf) (now : ℕ) (call : Call) (answer : Answer)
     (new : RunOf) (left : PassOf) : Type 0 where
   pub stepped : (mark : StepMark)

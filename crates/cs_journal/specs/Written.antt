@@ -1,5 +1,6 @@
 -- The bytes that calls write, as they lie in blocks: each call's in one piece.
-use Rattle.std.specs.Prelude.{◌≡◌, ℕ, ◌+◌, ◌<◌, ◌≤◌, List, [], drop, length, map, slice_index_or, take, Vec}
+use Rattle.std.specs.Prelude.{◌≡◌, ℕ, ◌+◌, ◌<◌, ◌≤◌, List, [], drop, length, map, slice_index_or}
+use Rattle.std.specs.Prelude.{take, Vec}
 use Rattle.std.specs.declared.alloc.Global.{Global}
 use Rattle.cs_journal.specs.declared.written.Piece.{Piece}
 

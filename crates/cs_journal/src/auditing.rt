@@ -2,7 +2,7 @@
 ghost use Rattle.std.specs.Prelude.{◌≡◌, ◌↔◌, ◌≤◌, IfSome, IsTrue, length, option_map, slice_get};
 ghost use Rattle.std.specs.List.{find};
 ghost use Rattle.cs_names.specs.declared.limits.TheConstants.{JOURNAL_ENTRIES, RUN_ATTACHES};
-ghost use Rattle.cs_journal.specs.Audit.{AreRests, Audits, FindSame, Tells, TellsOf};
+ghost use Rattle.cs_journal.specs.Audit.{AreRests, Audits, FindSame, IsAudit, TellsOf};
 ghost use Rattle.cs_journal.specs.Audit.{is_at, receipts_count, receipts_of_pass};
 ghost use Rattle.cs_journal.specs.Runs.{IsAscending};
 
@@ -43,7 +43,7 @@ fn has_count(passes: &[Pass], entries: usize) -> bool
     total == entries
 }
 
-/// The receipts of the first pass of the number; none where no pass has it.
+/// The receipts of the first pass of the number; none if no pass has it.
 fn receipts_of(passes: &[Pass], number: u32) -> &[Receipt]
     ensures value { result.now ≡ receipts_of_pass passes.now number }
     ensures ascending { IsAscending result.now }
@@ -114,7 +114,7 @@ fn audit_entry(receipt: Option<&Receipt>, place: u32, entry: &EntryRef) -> Resul
 /// The first entry without its own receipt, if there is one. Each receipt is passed over once.
 fn audit_entries(journal: &Journal, passes: &[Pass]) -> Result<(), AuditFault>
     requires { length journal.now.items ≤ JOURNAL_ENTRIES }
-    ensures { Tells passes.now journal.now.items result }
+    ensures { IsAudit passes.now journal.now.items result }
 {
     let mut rests = receipts_by_number(passes);
     for place in 0..journal.len() {
@@ -130,7 +130,7 @@ fn audit_entries(journal: &Journal, passes: &[Pass]) -> Result<(), AuditFault>
     Ok(())
 }
 
-/// The same, where there are as many receipts as entries.
+/// The same, if there are as many receipts as entries; else Count.
 fn audit_journal(journal: &Journal, passes: &[Pass]) -> Result<(), AuditFault>
     requires { length journal.now.items ≤ JOURNAL_ENTRIES }
     ensures { Audits passes.now journal.now.items result }
@@ -143,7 +143,7 @@ fn audit_journal(journal: &Journal, passes: &[Pass]) -> Result<(), AuditFault>
 
 impl<L: TreeRead + Drop> Run<L> {
     /// Whether the receipts of the passes, its own or any others, are the entries of its journal:
-    /// Count where there are not as many; then Missing or Changed at the first entry that has no
+    /// Count if there are not as many; then Missing or Changed at the first entry that has no
     /// receipt, or another, in the first pass of its number. It takes no memory, and as long as
     /// there are entries.
     pub fn audit(&self, passes: &[Pass]) -> Result<(), AuditFault>

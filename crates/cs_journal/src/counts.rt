@@ -2,7 +2,7 @@
 
 /// How many entries and opens a pass has, and the place of its last entry.
 #[derive(Clone, Copy, Debug, PartialEq, Eq)]
-pub(crate) struct Counts {
+pub(crate) struct PassCounts {
     pub(crate) entries: usize,
     pub(crate) opens: usize,
     pub(crate) last: Option<u32>,

@@ -6,7 +6,7 @@ ghost use Rattle.cs_journal.specs.Summaries.{without_bytes};
 
 use crate::entry::Entry;
 use crate::journal::Journal;
-use crate::kept::Kept;
+use crate::kept::KeptCall;
 use crate::receipt::Receipt;
 use cs_run::{Outcome, Turn};
 
@@ -17,8 +17,8 @@ pub(crate) fn enter(
     journal: &mut Journal,
     receipts: &mut Vec<Receipt>,
     turn: Turn,
-    entry: Kept,
-    receipt: Kept,
+    entry: KeptCall,
+    receipt: KeptCall,
     outcome: Outcome,
 )
     requires pass { turn.pass < RUN_ATTACHES }

@@ -2,7 +2,7 @@
 ghost use Rattle.std.specs.Prelude.{◌≡◌, ◌<◌, IfOk};
 ghost use Rattle.cs_names.specs.declared.limits.TheConstants.{RUN_ATTACHES};
 
-use crate::kept::{Again, Kept};
+use crate::kept::{CallAgain, KeptCall};
 use crate::summary::CallSummary;
 use crate::written::Written;
 use cs_run::{Outcome, Turn};
@@ -16,7 +16,7 @@ pub struct Entry {
     pub(crate) pass: u8,
     pub(crate) outcome: Outcome,
     pub(crate) moment: u32,
-    pub(crate) kept: Kept,
+    pub(crate) kept: KeptCall,
 }
 
 /// An entry with the bytes that its call wrote. Contracts see the pass, the moment, the call, and
@@ -81,7 +81,7 @@ impl<'a> EntryRef<'a> {
     }
 
     /// Its call, once more.
-    pub(crate) fn again(&self, alloc: Global) -> Result<Again<'a>, AllocError>
+    pub(crate) fn again(&self, alloc: Global) -> Result<CallAgain<'a>, AllocError>
         ensures { IfOk result (λ again. again_call again ≡ self.now.call) }
     {
         self.entry.kept.again(alloc, self.written)

@@ -1,12 +1,13 @@
 //! The journal of a run: its entries, and the bytes that their calls wrote.
-ghost use Rattle.std.specs.Prelude.{◌≡◌, ◌<◌, ◌≤◌, ◌+◌, [], ◌∷◌, ◌++◌, IfOk, OnErr, OnOk, Some, length, slice_get};
+ghost use Rattle.std.specs.Prelude.{◌≡◌, ◌<◌, ◌≤◌, ◌+◌, [], ◌∷◌, ◌++◌, IfOk, OnErr, OnOk, Some};
+ghost use Rattle.std.specs.Prelude.{length, slice_get};
 ghost use Rattle.cs_names.specs.declared.limits.TheConstants.{RUN_ATTACHES};
-ghost use Rattle.cs_journal.specs.Kept.{LiesIn, call_of, entry_in};
-ghost use Rattle.cs_journal.specs.Summaries.{without_bytes};
+ghost use Rattle.cs_journal.specs.Keeping.{KeepsCall};
+ghost use Rattle.cs_journal.specs.Kept.{LiesIn, entry_in};
 ghost use Rattle.cs_permit.specs.declared.call.Call.TheVariants.{Write};
 
 use crate::entry::{Entry, EntryRef};
-use crate::kept::{Kept, WriteHead};
+use crate::kept::{KeptCall, WriteHead};
 use crate::room::widen;
 use crate::user_text::UserText;
 use crate::written::Written;
@@ -59,7 +60,7 @@ impl Journal {
         self.entries.len()
     }
 
-    /// Room for so many more, and for a whole journal where it has grown long.
+    /// Room for so many more, and for a whole journal if it has grown long.
     #[inline]
     pub(crate) fn widen(&mut self, more: usize) -> Result<(), AllocError>
         ensures items { self.new.items ≡ self.old.items }
@@ -75,13 +76,10 @@ impl Journal {
         &mut self,
         alloc: Global,
         call: &WriteCall<'_>,
-    ) -> Result<(Kept, Kept), AllocError>
+    ) -> Result<(KeptCall, KeptCall), AllocError>
         ensures items { self.new.items ≡ self.old.items }
         ensures capacity { self.new.capacity ≡ self.old.capacity }
-        ensures lies { IfOk result (λ made. LiesIn self.new.blocks made.0) }
-        ensures entry { IfOk result (λ made. call_of self.new.blocks made.0 ≡ Write call.now) }
-        ensures receipt { IfOk result (λ made. without_bytes (call_of [] made.1)
-            ≡ without_bytes (Write call.now)) }
+        ensures kept { IfOk result (λ made. KeepsCall self.new (Write call.now) made) }
     {
         let head = WriteHead {
             number: call.number,
@@ -91,8 +89,8 @@ impl Journal {
         let head = Arc::new(alloc, head)?;
         let shared = head.clone()?;
         let piece = self.written.keep(alloc, call.bytes.as_slice())?;
-        let entry = Kept::Write { piece, head };
-        let receipt = Kept::Write {
+        let entry = KeptCall::Write { piece, head };
+        let receipt = KeptCall::Write {
             piece,
             head: shared,
         };

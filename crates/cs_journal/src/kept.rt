@@ -1,6 +1,7 @@
 //! What an entry and a receipt keep of a call.
 ghost use Rattle.std.specs.Prelude.{◌≡◌, ◌+◌, ◌≤◌, ℕ, IfOk, List, true, vec_len};
-ghost use Rattle.cs_journal.specs.Kept.{LiesIn, again_call, call_of, close_call, read_call, remove_call, write_call};
+ghost use Rattle.cs_journal.specs.Kept.{LiesIn, again_call, call_of, close_call, read_call};
+ghost use Rattle.cs_journal.specs.Kept.{remove_call, write_call};
 ghost use Rattle.cs_journal.specs.Small.{is_small, is_start};
 ghost use Rattle.cs_permit.specs.declared.call.Call.TheVariants.{Remove};
 
@@ -13,7 +14,7 @@ use cs_permit::{Call, CloseCall, ReadCall, RemoveCall, SentBytes, StatCall, Writ
 use std::alloc::{AllocError, Global};
 use std::sync::Arc;
 
-/// What is kept of a write beside its bytes.
+/// What is kept of a write in addition to its bytes.
 #[derive(Drop)]
 pub(crate) struct WriteHead {
     pub(crate) number: u64,
@@ -26,7 +27,7 @@ pub(crate) struct WriteHead {
 /// that they can be reserved; a stat and a read of a file are small.
 // a variant's short fields come first: they lie beside its tag
 #[derive(Drop)]
-pub(crate) enum Kept {
+pub(crate) enum KeptCall {
     Shared(Arc<Call<'static>>),
     Write {
         piece: Piece,
@@ -56,20 +57,20 @@ pub(crate) enum Kept {
     Stat(u64),
 }
 
-/// A call that is done once more: made anew, or as an entry and a receipt share it.
+/// A call that is done once more: made again, or as an entry and a receipt share it.
 #[derive(Drop)]
-pub(crate) enum Again<'a> {
+pub(crate) enum CallAgain<'a> {
     Own(Call<'a>),
     Shared(&'a Call<'static>),
 }
 
-impl Kept {
+impl KeptCall {
     ghost use Rattle.cs_journal.specs.Kept.{LiesIn, again_call, call_of};
     ghost use Rattle.cs_journal.specs.Summaries.{call_in, without_bytes};
 
     /// What an entry or a receipt keeps of a call with no memory of its own: a close's user, and a
     /// remove's, on the last of the blank texts.
-    pub(crate) fn small(call: &Call<'_>, blanks: &mut Vec<Box<UserText>>) -> Kept
+    pub(crate) fn small(call: &Call<'_>, blanks: &mut Vec<Box<UserText>>) -> KeptCall
         requires small { is_small call.now ≡ true }
         requires blank { 1 ≤ vec_len blanks.old }
         ensures value { (blocks : List (List ℕ)) → call_of blocks result ≡ call.now }
@@ -77,17 +78,17 @@ impl Kept {
         ensures left { vec_len blanks.old ≤ vec_len blanks.new + 1 }
     {
         match call {
-            Call::Close(call) => Kept::Close {
+            Call::Close(call) => KeptCall::Close {
                 open_number: call.open_number,
                 user: text_of(blanks, &call.user),
             },
             Call::Remove(call) => removed(call, text_of(blanks, &call.user)),
-            Call::Read(call) => Kept::Read {
+            Call::Read(call) => KeptCall::Read {
                 count: call.count,
                 number: call.number,
                 offset: call.offset,
             },
-            Call::Stat(call) => Kept::Stat(call.number),
+            Call::Stat(call) => KeptCall::Stat(call.number),
             Call::Attach(_)
             | Call::Walk(_)
             | Call::Open(_)
@@ -102,26 +103,26 @@ impl Kept {
         &'a self,
         alloc: Global,
         written: &'a Written,
-    ) -> Result<Again<'a>, AllocError>
+    ) -> Result<CallAgain<'a>, AllocError>
         requires { LiesIn written.now self.now }
         ensures { IfOk result (λ again. again_call again ≡ call_of written.now self.now) }
     {
         match self {
-            Kept::Shared(call) => Ok(Again::Shared(call)),
-            Kept::Write { piece, head } => write_again(alloc, head, written.piece(*piece)),
-            Kept::Close { open_number, user } => close_again(alloc, *open_number, user),
-            Kept::Remove { number, user } => remove_again(alloc, *number, user, None),
-            Kept::RemoveOpen {
+            KeptCall::Shared(call) => Ok(CallAgain::Shared(call)),
+            KeptCall::Write { piece, head } => write_again(alloc, head, written.piece(*piece)),
+            KeptCall::Close { open_number, user } => close_again(alloc, *open_number, user),
+            KeptCall::Remove { number, user } => remove_again(alloc, *number, user, None),
+            KeptCall::RemoveOpen {
                 open_number,
                 number,
                 user,
             } => remove_again(alloc, *number, user, Some(*open_number)),
-            Kept::Read {
+            KeptCall::Read {
                 count,
                 number,
                 offset,
-            } => Ok(Again::Own(read_again(*number, *offset, *count))),
-            Kept::Stat(number) => Ok(Again::Own(Call::Stat(StatCall { number: *number }))),
+            } => Ok(CallAgain::Own(read_again(*number, *offset, *count))),
+            KeptCall::Stat(number) => Ok(CallAgain::Own(Call::Stat(StatCall { number: *number }))),
         }
     }
 
@@ -131,23 +132,30 @@ impl Kept {
             ≡ without_bytes (call_of blocks self.now) }
     {
         match self {
-            Kept::Shared(call) => summary_of(call),
-            Kept::Write { head, .. } => {
+            KeptCall::Shared(call) => summary_of(call),
+            KeptCall::Write { head, .. } => {
                 CallSummary::Write(head.number, head.user.as_bytes(), head.offset)
             }
-            Kept::Close { open_number, user } => CallSummary::Close(*open_number, user.as_bytes()),
-            Kept::Remove { number, user } => CallSummary::Remove(*number, user.as_bytes(), None),
-            Kept::RemoveOpen {
+            KeptCall::Close { open_number, user } => CallSummary::Close(
+                *open_number,
+                user.as_bytes(),
+            ),
+            KeptCall::Remove { number, user } => CallSummary::Remove(
+                *number,
+                user.as_bytes(),
+                None,
+            ),
+            KeptCall::RemoveOpen {
                 open_number,
                 number,
                 user,
             } => CallSummary::Remove(*number, user.as_bytes(), Some(*open_number)),
-            Kept::Read {
+            KeptCall::Read {
                 count,
                 number,
                 offset,
             } => CallSummary::Read(*number, *offset, *count, 0, None),
-            Kept::Stat(number) => CallSummary::Stat(*number),
+            KeptCall::Stat(number) => CallSummary::Stat(*number),
         }
     }
 }
@@ -171,11 +179,11 @@ fn close_again(
     alloc: Global,
     open_number: u32,
     user: &UserText,
-) -> Result<Again<'static>, AllocError>
+) -> Result<CallAgain<'static>, AllocError>
     ensures { IfOk result (λ again. again_call again ≡ close_call open_number user.now) }
 {
     let user = user.name(alloc)?;
-    Ok(Again::Own(Call::Close(CloseCall { open_number, user })))
+    Ok(CallAgain::Own(Call::Close(CloseCall { open_number, user })))
 }
 
 fn remove_again(
@@ -183,11 +191,11 @@ fn remove_again(
     number: u64,
     user: &UserText,
     open_number: Option<u32>,
-) -> Result<Again<'static>, AllocError>
+) -> Result<CallAgain<'static>, AllocError>
     ensures { IfOk result (λ again. again_call again ≡ remove_call number user.now open_number) }
 {
     let user = user.name(alloc)?;
-    Ok(Again::Own(Call::Remove(RemoveCall {
+    Ok(CallAgain::Own(Call::Remove(RemoveCall {
         number,
         user,
         open_number,
@@ -198,10 +206,10 @@ fn write_again<'a>(
     alloc: Global,
     head: &WriteHead,
     bytes: &'a [u8],
-) -> Result<Again<'a>, AllocError>
+) -> Result<CallAgain<'a>, AllocError>
     ensures { IfOk result (λ again. again_call again ≡ write_call head.now bytes.now) }
 {
-    Ok(Again::Own(Call::Write(WriteCall {
+    Ok(CallAgain::Own(Call::Write(WriteCall {
         number: head.number,
         user: head.user.name(alloc)?,
         offset: head.offset,
@@ -222,18 +230,18 @@ fn read_again(number: u64, offset: u64, count: u32) -> Call<'static>
 }
 
 /// What is kept of a remove.
-fn removed(call: &RemoveCall, user: Box<UserText>) -> Kept
+fn removed(call: &RemoveCall, user: Box<UserText>) -> KeptCall
     requires { user.value ≡ call.now.user }
     ensures value { (blocks : List (List ℕ)) → call_of blocks result ≡ Remove call.now }
     ensures lies { (blocks : List (List ℕ)) → LiesIn blocks result }
 {
     match call.open_number {
-        Some(open_number) => Kept::RemoveOpen {
+        Some(open_number) => KeptCall::RemoveOpen {
             open_number,
             number: call.number,
             user,
         },
-        None => Kept::Remove {
+        None => KeptCall::Remove {
             number: call.number,
             user,
         },

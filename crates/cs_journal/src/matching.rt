@@ -3,7 +3,7 @@ ghost use Rattle.std.specs.Prelude.{◌≡◌, ◌↔◌, IsTrue};
 ghost use Rattle.cs_journal.specs.Fitting.{Tallies, receipt_at};
 ghost use Rattle.cs_journal.specs.Runs.{Fits, last_of};
 
-use crate::counts::Counts;
+use crate::counts::PassCounts;
 use crate::journal::Journal;
 use crate::pass::Pass;
 use crate::receipt::Receipt;
@@ -28,7 +28,7 @@ fn is_last(receipts: &[Receipt], journal: &Journal, last: Option<u32>) -> bool
 }
 
 /// Whether what is counted of a pass is what this one has, its last receipt too.
-fn tallies(counts: &Counts, journal: &Journal, pass: &Pass) -> bool
+fn tallies(counts: &PassCounts, journal: &Journal, pass: &Pass) -> bool
     ensures { IsTrue result ↔ Tallies counts.now journal.now.items pass.now }
 {
     if counts.entries != pass.receipts.len() {

@@ -2,7 +2,7 @@
 ghost use Rattle.std.specs.Prelude.{◌≡◌, ◌↔◌, IsTrue};
 
 use crate::entry::EntryRef;
-use crate::kept::Kept;
+use crate::kept::KeptCall;
 use crate::summary::{are_same, summary_of};
 use cs_names::RuleId;
 use cs_permit::Call;
@@ -13,7 +13,7 @@ use std::marker::Model;
 /// it wrote, and how it ended.
 #[derive(Drop)]
 pub struct Receipt {
-    pub(crate) kept: Kept,
+    pub(crate) kept: KeptCall,
     pub(crate) place: u32,
     pub(crate) outcome: Outcome,
 }

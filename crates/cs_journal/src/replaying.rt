@@ -4,37 +4,38 @@ ghost use Rattle.std.specs.Arc.{arc_value};
 ghost use Rattle.cs_names.specs.declared.limits.TheConstants.{JOURNAL_ENTRIES};
 ghost use Rattle.cs_journal.specs.Audit.{answer_at, answer_in};
 ghost use Rattle.cs_journal.specs.Bounds.{CanGrow};
-ghost use Rattle.cs_journal.specs.Journals.{left_by, run_state, start};
+ghost use Rattle.cs_journal.specs.Journals.{left_by, run_state, fresh_state};
 ghost use Rattle.cs_permit.specs.Calls.{rules_view};
-ghost use Rattle.cs_run.specs.Effects.{left};
-ghost use Rattle.cs_run.specs.Opens.{AreBelow, released_if};
-ghost use Rattle.cs_run.specs.Outcomes.{applied, closes};
+ghost use Rattle.cs_run.specs.Effects.{call_result};
+ghost use Rattle.cs_run.specs.Opens.{AreBelow, opens_without_if};
+ghost use Rattle.cs_run.specs.Outcomes.{result_by_outcome, closed_open_number};
 ghost use Rattle.cs_run.specs.declared.answer.Outcome.TheVariants.{Granted};
 ghost use Rattle.cs_tree_model.specs.Stores.{CanStamp};
 
 use crate::entry::EntryRef;
 use crate::journal::Journal;
-use crate::kept::Again;
+use crate::kept::CallAgain;
 use crate::run::Run;
 use cs_overlay::Overlay;
 use cs_permit::Call;
 use cs_run::opens::Opens;
-use cs_run::{Answer, Outcome, Turn, act, closes};
+use cs_run::{Answer, Outcome, Turn, act, closed_open_number};
 use cs_tree_model::{TreeRead, TreeStore};
 use cs_users::Users;
 use std::alloc::{AllocError, Global};
 use std::sync::Arc;
 
-/// Takes out the open that the call ends, if that stands.
+/// Takes out the open that the call ends, if there is one.
 fn release(call: &Call<'_>, opens: &mut Opens, pass: u32)
-    ensures { opens.new.items ≡ released_if (closes call.now) pass opens.old.items }
+    ensures { opens.new.items
+        ≡ opens_without_if (closed_open_number call.now) pass opens.old.items }
 {
-    if let Some(number) = closes(call) {
+    if let Some(number) = closed_open_number(call) {
         let _open = opens.release(number, pass);
     }
 }
 
-/// Grants a call that was granted: no rule denies it, so it is refused for want of memory alone.
+/// Grants a call that was granted: no rule denies it, so it is refused only if memory runs out.
 fn grant_again<T: TreeStore>(
     alloc: Global,
     call: &Call<'_>,
@@ -46,8 +47,9 @@ fn grant_again<T: TreeStore>(
     requires vers { (n : ℕ) → CanStamp (T.tree tree.old) n }
     requires next { (T.tree tree.old).next < 2 ^ 64 }
     requires above { AreBelow turn.place opens.old.items }
-    ensures { IfOk result (λ answer. left (T.tree tree.new) opens.new.items answer
-        ≡ applied (rules_view (T.tree tree.old) opens.old.items users.now) turn call.now Granted) }
+    ensures { IfOk result (λ answer. call_result (T.tree tree.new) opens.new.items answer
+        ≡ result_by_outcome (rules_view (T.tree tree.old) opens.old.items users.now) turn call.now
+        Granted) }
 {
     match act(alloc, call, tree, opens, users, turn) {
         (Outcome::Granted, answer) => Ok(answer),
@@ -68,8 +70,9 @@ fn redo<T: TreeStore>(
     requires vers { (n : ℕ) → CanStamp (T.tree tree.old) n }
     requires next { (T.tree tree.old).next < 2 ^ 64 }
     requires above { AreBelow turn.place opens.old.items }
-    ensures { IfOk result (λ answer. left (T.tree tree.new) opens.new.items answer
-        ≡ applied (rules_view (T.tree tree.old) opens.old.items users.now) turn call.now outcome) }
+    ensures { IfOk result (λ answer. call_result (T.tree tree.new) opens.new.items answer
+        ≡ result_by_outcome (rules_view (T.tree tree.old) opens.old.items users.now) turn call.now
+        outcome) }
 {
     match outcome {
         Outcome::Granted => grant_again(alloc, call, tree, opens, users, turn),
@@ -96,13 +99,13 @@ fn redo_entry<T: TreeStore>(
     requires vers { (n : ℕ) → CanStamp (T.tree tree.old) n }
     requires next { (T.tree tree.old).next < 2 ^ 64 }
     requires above { AreBelow place opens.old.items }
-    ensures { IfOk result (λ answer. left (T.tree tree.new) opens.new.items answer
+    ensures { IfOk result (λ answer. call_result (T.tree tree.new) opens.new.items answer
         ≡ left_by (run_state (T.tree tree.old) opens.old.items users.now place) entry.entry) }
 {
     let (outcome, turn) = (entry.outcome(), entry.turn(place));
     match entry.again(alloc)? {
-        Again::Own(call) => redo(alloc, &call, outcome, tree, opens, users, turn),
-        Again::Shared(call) => redo(alloc, call, outcome, tree, opens, users, turn),
+        CallAgain::Own(call) => redo(alloc, &call, outcome, tree, opens, users, turn),
+        CallAgain::Shared(call) => redo(alloc, call, outcome, tree, opens, users, turn),
     }
 }
 
@@ -117,7 +120,7 @@ fn answer_of<L: TreeRead + Drop>(
     requires grows { CanGrow (L.TreeRead.tree (arc_value lower.now)) }
     requires few { length journal.now.items ≤ JOURNAL_ENTRIES }
     ensures { IfOk result (λ answer. answer ≡ answer_at
-        (start (L.TreeRead.tree (arc_value lower.now)) users.now) journal.now.items place) }
+        (fresh_state (L.TreeRead.tree (arc_value lower.now)) users.now) journal.now.items place) }
 {
     if place >= journal.len() {
         return Ok(None);

@@ -1,21 +1,21 @@
 //! How many entries a call takes, and the memory for them.
-ghost use Rattle.std.specs.Prelude.{◌≡◌, ◌+◌, ◌≤◌, ◌||◌, ◌⊎◌, ◌<◌, [], IfSome, IsNone, IsSome, OnErr, OnOk, false, length, true, vec_capacity, vec_len};
+ghost use Rattle.std.specs.Prelude.{◌≡◌, ◌+◌, ◌≤◌, ◌||◌, ◌⊎◌, ◌<◌, IfSome, IsNone, IsSome};
+ghost use Rattle.std.specs.Prelude.{OnErr, OnOk, false, length, true, vec_capacity, vec_len};
 ghost use Rattle.std.specs.Arc.{arc_value};
 ghost use Rattle.cs_names.specs.declared.limits.TheConstants.{JOURNAL_ENTRIES};
 ghost use Rattle.cs_journal.specs.Calls.{charge};
-ghost use Rattle.cs_journal.specs.Kept.{LiesIn, call_of};
+ghost use Rattle.cs_journal.specs.Keeping.{KeepsCall};
 ghost use Rattle.cs_journal.specs.Small.{is_small, is_write};
-ghost use Rattle.cs_journal.specs.Summaries.{without_bytes};
 ghost use Rattle.cs_run.specs.Laws.{opens_one};
 
 use crate::journal::Journal;
 use crate::keeping::keep;
-use crate::kept::Kept;
+use crate::kept::KeptCall;
 use crate::receipt::Receipt;
 use crate::user_text::UserText;
 use cs_names::limits::JOURNAL_ENTRIES;
 use cs_permit::Call;
-use cs_run::closes;
+use cs_run::closed_open_number;
 use cs_run::opens::Opens;
 use std::alloc::{AllocError, Global};
 use std::sync::Arc;
@@ -41,12 +41,12 @@ fn opens_one(call: &Call<'_>) -> bool
 }
 
 /// How many entries a call takes that are not reserved: its own, and for an open or a create that
-/// of the close; none where it ends an open that stands.
+/// of the close; none if it ends an open that is there.
 pub(crate) fn charge_of(call: &Call<'_>, opens: &Opens, pass: u32) -> usize
     ensures value { result ≡ charge opens.now.items pass call.now }
     ensures few { result ≤ 2 }
 {
-    if let Some(number) = closes(call) {
+    if let Some(number) = closed_open_number(call) {
         if opens.get(number, pass).is_some() {
             return 0;
         }
@@ -99,7 +99,7 @@ pub(crate) fn widen<T>(list: &mut Vec<T>, more: usize) -> Result<(), AllocError>
 }
 
 /// Takes the memory for so many entries and so many receipts more, and for what they keep of a
-/// call; None where it is refused. The lists stay.
+/// call; None if it is refused. The lists stay.
 #[inline]
 pub(crate) fn make_room(
     alloc: Global,
@@ -110,16 +110,13 @@ pub(crate) fn make_room(
     blanks: &mut Vec<Box<UserText>>,
     entries: usize,
     more: usize,
-) -> Option<(Kept, Kept)>
+) -> Option<(KeptCall, KeptCall)>
     requires apart { IsNone shared → (is_small call.now || is_write call.now) ≡ true }
     requires shared { IfSome shared (λ whole. (arc_value whole.now ≡ call.now)
         × (is_small call.now ≡ false)) }
     requires some { 1 ≤ more }
     requires few { more ≤ JOURNAL_ENTRIES }
-    ensures lies { IfSome result (λ made. LiesIn journal.new.blocks made.0) }
-    ensures entry { IfSome result (λ made. call_of journal.new.blocks made.0 ≡ call.now) }
-    ensures receipt { IfSome result (λ made. without_bytes (call_of [] made.1)
-        ≡ without_bytes call.now) }
+    ensures kept { IfSome result (λ made. KeepsCall journal.new call.now made) }
     ensures refused { IsNone result → (is_small call.now ≡ false)
         ⊎ ((journal.old.capacity + 1 ≤ length journal.old.items + entries)
         ⊎ ((vec_capacity receipts.old + 1 ≤ vec_len receipts.old + more)

@@ -1,12 +1,14 @@
 //! A run: a working copy of a tree, which keeps every call as an entry.
-ghost use Rattle.std.specs.Prelude.{◌≡◌, ◌≢◌, ◌↔◌, ◌≤◌, ◌+◌, Err, IfOk, IsTrue, OnErr, OnOk, length, true};
+ghost use Rattle.std.specs.Prelude.{◌≡◌, ◌≢◌, ◌↔◌, ◌≤◌, ◌+◌, Err, IfOk, IsTrue, OnErr, OnOk};
+ghost use Rattle.std.specs.Prelude.{length, true};
 ghost use Rattle.std.specs.Arc.{arc_value};
 ghost use Rattle.cs_names.specs.declared.limits.TheConstants.{RUN_ATTACHES};
 ghost use Rattle.cs_journal.specs.Bounds.{CanGrow};
 ghost use Rattle.cs_journal.specs.Journals.{IsLegal};
-ghost use Rattle.cs_journal.specs.Runs.{Fits, PassOf, first_state, fresh_pass, fresh_run, with_pass};
+ghost use Rattle.cs_journal.specs.Runs.{Fits, PassOf, first_state, fresh_pass, fresh_run};
+ghost use Rattle.cs_journal.specs.Runs.{with_pass};
 
-use crate::counts::Counts;
+use crate::counts::PassCounts;
 use crate::journal::Journal;
 use crate::pass::Pass;
 use cs_names::limits::RUN_ATTACHES;
@@ -29,7 +31,7 @@ pub struct Run<L: TreeRead + Drop> {
     pub(crate) tree: Overlay<L>,
     pub(crate) opens: Opens,
     pub(crate) journal: Journal,
-    pub(crate) passes: Vec<Counts>,
+    pub(crate) passes: Vec<PassCounts>,
 }
 
 impl<L: TreeRead + Drop> Model for Run<L> {
@@ -80,7 +82,7 @@ impl<L: TreeRead + Drop> Run<L> {
         self.journal.len()
     }
 
-    /// Gives a pass, under which calls can be made: Room where it gave RUN_ATTACHES already.
+    /// Gives a pass, under which calls can be made: Room if it gave RUN_ATTACHES already.
     pub fn new_pass(&mut self, alloc: Global) -> Result<Pass, PassFault>
         ensures pass { IfOk result (λ pass. pass ≡ fresh_pass self.old.passes) }
         ensures run { OnOk result (self.new ≡ with_pass self.old) }
@@ -94,7 +96,7 @@ impl<L: TreeRead + Drop> Run<L> {
         if number >= RUN_ATTACHES as usize {
             return Err(PassFault::Room);
         }
-        let none = Counts {
+        let none = PassCounts {
             entries: 0,
             opens: 0,
             last: None,

@@ -9,7 +9,7 @@ ghost use Rattle.cs_journal.specs.Small.{is_small, is_write};
 ghost use Rattle.cs_journal.specs.Steps.{IsStep, step};
 ghost use Rattle.cs_run.specs.Laws.{FitsCall};
 
-use crate::counts::Counts;
+use crate::counts::PassCounts;
 use crate::entering::enter;
 use crate::keeping::{is_write, share};
 use crate::kept::is_small;
@@ -25,9 +25,9 @@ use std::alloc::Global;
 use std::sync::Arc;
 
 impl<L: TreeRead + Drop> Run<L> {
-    /// Makes a call under a pass at that moment: L1 where the journal has no room for its entry
-    /// and, of an open or a create, for that of the close; want of memory where a growth for entry
-    /// and receipt is refused. Then nothing changes. Else the journal has one entry more, with the
+    /// Makes a call under a pass at that moment: L1 if the journal has no room for its entry and,
+    /// of an open or a create, for that of the close; out of memory if a growth for entry and
+    /// receipt is refused. Then nothing changes. Else the journal has one entry more, with the
     /// outcome by the run's rules and the memory that a grant takes, and the pass has its receipt.
     pub fn step(&mut self, alloc: Global, pass: &mut Pass, now: u32, call: Call<'_>) -> Answer
         requires fits { Fits self.old pass.old }
@@ -114,7 +114,7 @@ impl<L: TreeRead + Drop> Run<L> {
         let (outcome, answer) = act(alloc, call, tree, opens, users, turn);
         enter(journal, receipts, turn, entry, receipt, outcome);
         pass.reserved = pass.reserved + self.opens.len() - before;
-        self.passes[pass.number as usize] = Counts {
+        self.passes[pass.number as usize] = PassCounts {
             entries: pass.receipts.len(),
             opens: pass.reserved,
             last: Some(turn.place),

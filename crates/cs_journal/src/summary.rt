@@ -96,7 +96,7 @@ fn is_same_last(name: Option<&Name>, other: Option<&Name>) -> bool
     }
 }
 
-/// Whether both tell of the same call. It takes no memory.
+/// Whether both are of the same call. It takes no memory.
 pub(crate) fn are_same(call: CallSummary, other: CallSummary) -> bool
     ensures { IsTrue result ↔ (call_in call.entry ≡ call_in other.entry) }
 {

@@ -46,7 +46,7 @@ impl UserText {
         }
     }
 
-    /// The name. It was one when it was put here, so it is refused for want of memory alone.
+    /// The name. It was one when it was put here, so it is refused only if memory runs out.
     pub(crate) fn name(&self, alloc: Global) -> Result<UserName, AllocError>
         ensures { IfOk result (λ name. name ≡ self.now) }
     {

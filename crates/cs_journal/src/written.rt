@@ -21,7 +21,7 @@ pub(crate) struct Piece {
     pub(crate) len: u32,
 }
 
-/// The bytes of writes, one behind the other. Contracts see the bytes of each block.
+/// The bytes of writes, one after the other. Contracts see the bytes of each block.
 #[derive(Drop)]
 pub(crate) struct Written {
     // none grows past its capacity, so that its bytes are never copied
@@ -47,7 +47,7 @@ fn has_room(blocks: &[Vec<u8>], more: usize) -> bool
     }
 }
 
-/// Begins a block, where the last has no room for so many bytes more.
+/// Begins a block, if the last has no room for so many bytes more.
 fn make_room(alloc: Global, blocks: &mut Vec<Vec<u8>>, more: usize) -> Result<(), AllocError>
     ensures kept { Keeps (bytes_in blocks.old.items) (bytes_in blocks.new.items) }
     ensures some { OnOk result (0 < length blocks.new.items) }
@@ -63,8 +63,8 @@ fn make_room(alloc: Global, blocks: &mut Vec<Vec<u8>>, more: usize) -> Result<()
     Ok(())
 }
 
-/// The piece of so many bytes in that block behind so many others, if each number is one of 32
-/// bits: those of a message and of a journal are.
+/// The piece of so many bytes in that block after so many others. None if a number has more than
+/// 32 bits, as that of a write of 4 GiB, which no message can be.
 fn piece_of(block: usize, start: usize, len: usize) -> Option<Piece>
     ensures block { IfSome result (λ piece. piece.block ≡ block) }
     ensures start { IfSome result (λ piece. piece.start ≡ start) }
@@ -76,7 +76,7 @@ fn piece_of(block: usize, start: usize, len: usize) -> Option<Piece>
     Some(Piece { block, start, len })
 }
 
-/// Puts the bytes behind those of the last block.
+/// Puts the bytes after those of the last block. More than a piece can have are out of memory.
 fn put_last(blocks: &mut Vec<Vec<u8>>, bytes: &[u8]) -> Result<Piece, AllocError>
     requires some { 0 < length blocks.old.items }
     ensures kept { Keeps (bytes_in blocks.old.items) (bytes_in blocks.new.items) }

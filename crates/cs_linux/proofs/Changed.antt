@@ -14,14 +14,20 @@ use Rattle.cs_wire.specs.declared.message.TBody.{TBody}
 use Rattle.cs_wire.specs.declared.message.TBody.TheVariants as t
 use Rattle.cs_wire.specs.Fields.{Value}
 use Rattle.cs_wire.specs.Messages.{Message, r_layout, r_view, replies, stat_of, t_view}
-use Rattle.cs_linux.specs.Messages.{IsTold, asked_of, meant, rerror}
+use Rattle.cs_linux.specs.Messages.{IsTold, asked_of, as_client_means, error_message}
 
 -- what is meant by a Twstat
-pub meant_wstat : (tag fid : ℕ) (stat new : Stat) → stat_of new ≡ asked_of (stat_of stat) → t_view record { tag = tag; body = t.Wstat fid new } ≡ meant (t_view record { tag = tag; body = t.Wstat fid stat })
+pub meant_wstat : (tag fid : ℕ) (stat new : Stat) → stat_of new ≡ asked_of (stat_of stat) → t_view record {
+  tag = tag;
+  body = t.Wstat fid new;
+} ≡ as_client_means (t_view record { tag = tag; body = t.Wstat fid stat })
 meant_wstat tag fid stat new e = ap (λ s. record { kind = tk.Wstat; tag = tag; fields = (fid, s) }) e
 
 -- every other request is meant as it is
-pub meant_other : (tag : ℕ) (body : TBody) → ((fid : ℕ) (stat : Stat) → body ≢ t.Wstat fid stat) → t_view record { tag = tag; body = body } ≡ meant (t_view record { tag = tag; body = body })
+pub meant_other : (tag : ℕ) (body : TBody) → ((fid : ℕ) (stat : Stat) → body ≢ t.Wstat fid stat) → t_view record {
+  tag = tag;
+  body = body;
+} ≡ as_client_means (t_view record { tag = tag; body = body })
 meant_other tag (t.Wstat fid stat) is_none = absurd (is_none fid stat refl)
 meant_other tag (t.Version msize version) is_none = refl
 meant_other tag (t.Auth afid uname aname) is_none = refl
@@ -46,15 +52,18 @@ is_error rk.Error = true
 is_error kind = false
 
 -- the text of an Rerror is that of its fields, and its tag is
-pub same_text_of : (tag other : ℕ) (text told : List ℕ) → rerror tag text ≡ rerror other told → text ≡ told
+pub same_text_of : (tag other : ℕ) (text told : List ℕ) → error_message tag text ≡ error_message other told → text ≡ told
 unfolding text_in
 same_text_of tag other text told e = ap (λ (m : Message replies). text_in m.kind m.fields) e
 
-pub same_tag : (tag other : ℕ) (text told : List ℕ) → rerror tag text ≡ rerror other told → tag ≡ other
+pub same_tag : (tag other : ℕ) (text told : List ℕ) → error_message tag text ≡ error_message other told → tag ≡ other
 same_tag tag other text told e = ap (λ (m : Message replies). m.tag) e
 
 -- no other reply is an Rerror
-pub no_error : (tag : ℕ) (body : RBody) → ((ename : _) → body ≢ r.Error ename) → (other : ℕ) (text : List ℕ) → r_view record { tag = tag; body = body } ≢ rerror other text
+pub no_error : (tag : ℕ) (body : RBody) → ((ename : _) → body ≢ r.Error ename) → (other : ℕ) (text : List ℕ) → r_view record {
+  tag = tag;
+  body = body;
+} ≢ error_message other text
 unfolding is_error
 no_error tag (r.Error ename) is_none other text e = absurd (is_none ename refl)
 no_error tag (r.Version msize version) is_none other text e = false≢true (ap (λ (m : Message replies). is_error m.kind) e)
@@ -72,7 +81,21 @@ no_error tag (r.Stat stat) is_none other text e = false≢true (ap (λ (m : Mess
 no_error tag r.Wstat is_none other text e = false≢true (ap (λ (m : Message replies). is_error m.kind) e)
 
 -- what is told of an Rerror
-pub told_error : (tag : ℕ) (body made : RBody) (ename : _) (short : Bor (List ℕ)) → body ≡ r.Error ename → made ≡ r.Error (Borrowed short) → IsTold (cow_str_bytes ename) short.now → (other : ℕ) (text : List ℕ) → r_view record { tag = tag; body = body } ≡ rerror other text → (new : List ℕ) × IsTold text new × (r_view record { tag = tag; body = made } ≡ rerror other new)
+pub told_error : (tag : ℕ) (body made : RBody) (ename : _) (short : Bor (List ℕ)) → body ≡ r.Error ename → made ≡ r.Error (Borrowed short)
+    → IsTold (cow_str_bytes ename) short.now → (other : ℕ) (text : List ℕ) → r_view record {
+      tag = tag;
+      body = body;
+    } ≡ error_message other text → (new : List ℕ) × IsTold text new × (r_view record { tag = tag; body = made } ≡ error_message other new)
 told_error tag body made ename short is made_is told other text e =
-    let whole : rerror tag (cow_str_bytes ename) ≡ rerror other text = ap (λ (b : RBody). r_view record { tag = tag; body = b }) (sym is) ∙ e in
-    (short.now, subst (λ t. IsTold t short.now) (same_text_of tag other (cow_str_bytes ename) text whole) told, ap (λ (b : RBody). r_view record { tag = tag; body = b }) made_is ∙ ap (λ t. rerror t short.now) (same_tag tag other (cow_str_bytes ename) text whole))
+    let whole : error_message tag (cow_str_bytes ename) ≡ error_message other text = ap (λ (b : RBody). r_view record {
+      tag = tag;
+      body = b;
+    }) (sym is) ∙ e in (
+      short.now,
+      subst (λ t. IsTold t short.now) (same_text_of tag other (cow_str_bytes ename) text whole) told,
+      ap
+          (λ (b : RBody). r_view record {
+            tag = tag;
+            body = b;
+          }) made_is ∙ ap (λ t. error_message t short.now) (same_tag tag other (cow_str_bytes ename) text whole),
+    )

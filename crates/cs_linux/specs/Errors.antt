@@ -1,9 +1,19 @@
 -- The error of Linux that stands for each rule, and the text by which its client knows an error.
 use Rattle.std.specs.Prelude.{ℕ, List, codes}
 use Rattle.cs_names.specs.declared.rule_id.RuleId.{RuleId}
-use Rattle.cs_names.specs.declared.rule_id.RuleId.TheVariants.{S1, S2, S3, S4, S5, L1, A1, A2, A3, A4, A5, A6, K1, K2, K3, K4, K5, K6, K7, K8, O1, O2, O3, O4, O5, O6, O7, O8, O9, O10, C1, C2, C3, C4, C5, C6, C7, C8, C9, C10, G1, G2, G3, G4, G5, E1, E2, E3, E4, M1, M2, M3, M4, M5, N1, H1, H2, Q1, Q2, Q3, Q4, Q5, Q6, Q7, Q8, Q9, Q10, Q11, Q12, Q13, Q14}
+use Rattle.cs_names.specs.declared.rule_id.RuleId.TheVariants.{S1, S2, S3, S4, S5, L1, A1, A2, A3}
+use Rattle.cs_names.specs.declared.rule_id.RuleId.TheVariants.{A4, A5, A6, K1, K2, K3, K4, K5, K6}
+use Rattle.cs_names.specs.declared.rule_id.RuleId.TheVariants.{K7, K8, O1, O2, O3, O4, O5, O6, O7}
+use Rattle.cs_names.specs.declared.rule_id.RuleId.TheVariants.{O8, O9, O10, C1, C2, C3, C4, C5, C6}
+use Rattle.cs_names.specs.declared.rule_id.RuleId.TheVariants.{C7, C8, C9, C10, G1, G2, G3, G4, G5}
+use Rattle.cs_names.specs.declared.rule_id.RuleId.TheVariants.{E1, E2, E3, E4, M1, M2, M3, M4, M5}
+use Rattle.cs_names.specs.declared.rule_id.RuleId.TheVariants.{N1, H1, H2, Q1, Q2, Q3, Q4, Q5, Q6}
+use Rattle.cs_names.specs.declared.rule_id.RuleId.TheVariants.{Q7, Q8, Q9, Q10, Q11, Q12, Q13, Q14}
 use Rattle.cs_linux.specs.declared.errno.Errno.{Errno}
-use Rattle.cs_linux.specs.declared.errno.Errno.TheVariants.{NotPermitted, NoEntry, InputOutput, NoMemory, NoAccess, Exists, NotADirectory, IsADirectory, Invalid, Busy, TooLarge, NoSpace, NotEmpty}
+use Rattle.cs_linux.specs.declared.errno.Errno.TheVariants.{NotPermitted, NoEntry, InputOutput}
+use Rattle.cs_linux.specs.declared.errno.Errno.TheVariants.{NoMemory, NoAccess, Exists}
+use Rattle.cs_linux.specs.declared.errno.Errno.TheVariants.{NotADirectory, IsADirectory, Invalid}
+use Rattle.cs_linux.specs.declared.errno.Errno.TheVariants.{Busy, TooLarge, NoSpace, NotEmpty}
 
 -- the error that stands for a rule; no more is known where the fid or the file is
 abbrev pub errno_of : RuleId → Errno

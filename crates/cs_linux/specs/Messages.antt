@@ -14,15 +14,17 @@ use Rattle.cs_linux.specs.Errors.{errno_of, text_of}
 abbrev pub memory_text : List ℕ
 memory_text = codes "out of memory"
 
--- What the client is told in place of a text: that of the error that stands for the rule, or for want of memory.
+-- What the client is told in place of a text: that of the error that stands for the rule, or for
+-- want of memory.
 pub record IsTold (text told : List ℕ) : Type 0 where
   pub of_rule : (rule : RuleId) → text ≡ rules.text_of rule → told ≡ text_of (errno_of rule)
   pub of_memory : text ≡ memory_text → told ≡ text_of NoMemory
-  pub of_others : text ≢ memory_text → ((rule : RuleId) → text ≢ rules.text_of rule) → told ≡ text_of InputOutput
+  pub of_others : text ≢ memory_text → ((rule : RuleId) → text ≢ rules.text_of rule)
+      → told ≡ text_of InputOutput
 
 -- an Rerror (error(5))
-abbrev pub rerror : ℕ → List ℕ → Message replies
-rerror tag text = record { kind = rk.Error; tag = tag; fields = text }
+abbrev pub error_message : ℕ → List ℕ → Message replies
+error_message tag text = record { kind = rk.Error; tag = tag; fields = text }
 
 -- the greatest number of four bytes: of a Twstat's field, that it is not to change (stat(5))
 abbrev pub dont_touch : ℕ
@@ -39,5 +41,5 @@ meant_by tk.Wstat (fid, stat) = (fid, asked_of stat)
 meant_by kind fields = fields
 
 -- What a client of Linux means by a request.
-abbrev pub meant : Message requests → Message requests
-meant m = record m { fields = meant_by m.kind m.fields }
+abbrev pub as_client_means : Message requests → Message requests
+as_client_means m = record m { fields = meant_by m.kind m.fields }

@@ -1,7 +1,7 @@
 //! What Linux's client means.
 ghost use Rattle.std.specs.Prelude.{◌≡◌};
 ghost use Rattle.cs_wire.specs.Messages.{stat_of, t_view};
-ghost use Rattle.cs_linux.specs.Messages.{asked_of, meant};
+ghost use Rattle.cs_linux.specs.Messages.{asked_of, as_client_means};
 
 use cs_wire::{Stat, TBody, TMessage};
 
@@ -14,11 +14,11 @@ fn asked_of(mut stat: Stat) -> Stat
     stat
 }
 
-/// The request that Linux's client means by this one: a Twstat doesn't ask for another atime or muid,
-/// which the client fills in where its user asked for neither, and every other request is what it was
-/// (stat(5)). It takes no memory.
+/// The request that Linux's client means by this one: a Twstat doesn't ask for another atime or
+/// muid, which the client fills in where its user asked for neither, and every other request is
+/// what it was (stat(5)). It takes no memory.
 pub fn request_of_linux(request: TMessage<'_>) -> TMessage<'_>
-    ensures { t_view result ≡ meant (t_view request.entry) }
+    ensures { t_view result ≡ as_client_means (t_view request.entry) }
 {
     let TMessage { tag, body } = request;
     let body = match body {

@@ -1,7 +1,7 @@
 //! What Linux's client is told.
 ghost use Rattle.std.specs.Prelude.{◌≡◌, ◌≢◌, ℕ, List};
 ghost use Rattle.cs_wire.specs.Messages.{r_view};
-ghost use Rattle.cs_linux.specs.Messages.{IsTold, rerror};
+ghost use Rattle.cs_linux.specs.Messages.{IsTold, error_message};
 
 use crate::errno::Errno;
 use crate::rules::rule_of;
@@ -23,11 +23,13 @@ fn told_text(text: &str) -> &'static str
     errno.text()
 }
 
-/// The reply as Linux's client is told it: an Rerror has a text that the client knows, and every other
-/// reply is what it was (error(5)). It takes no memory.
+/// The reply as Linux's client is told it: an Rerror has a text that the client knows, and every
+/// other reply is what it was (error(5)). It takes no memory.
 pub fn reply_to_linux(reply: RMessage) -> RMessage
-    ensures error { (tag : ℕ) (text : List ℕ) → r_view reply ≡ rerror tag text → (new : List ℕ) × IsTold text new × (r_view result ≡ rerror tag new) }
-    ensures other { ((tag : ℕ) (text : List ℕ) → r_view reply ≢ rerror tag text) → result ≡ reply }
+    ensures error { (tag : ℕ) (text : List ℕ) → r_view reply ≡ error_message tag text
+        → (new : List ℕ) × IsTold text new × (r_view result ≡ error_message tag new) }
+    ensures other { ((tag : ℕ) (text : List ℕ) → r_view reply ≢ error_message tag text)
+        → result ≡ reply }
 {
     let RMessage { tag, body } = reply;
     let body = match body {

@@ -13,7 +13,8 @@ some_bytes Bytes2048 = omega arith
 some_bytes Bytes4096 = omega arith
 
 -- the next block begins where one ends
-pub next_start : (size : BlockSize) (block : ℕ) → start_of (block_bytes size) (block + 1) ≡ start_of (block_bytes size) block + block_bytes size
+pub next_start : (size : BlockSize) (block : ℕ)
+    → start_of (block_bytes size) (block + 1) ≡ start_of (block_bytes size) block + block_bytes size
 next_start Bytes512 block = omega arith
 next_start Bytes1024 block = omega arith
 next_start Bytes2048 block = omega arith
@@ -27,7 +28,8 @@ starts_by Bytes2048 block place le = omega (arith, le)
 starts_by Bytes4096 block place le = omega (arith, le)
 
 -- a block that is after that of a place begins after it
-pub starts_after : (size : BlockSize) (block place : ℕ) → block_of (block_bytes size) place < block → place < start_of (block_bytes size) block
+pub starts_after : (size : BlockSize) (block place : ℕ) → block_of (block_bytes size) place < block
+    → place < start_of (block_bytes size) block
 starts_after Bytes512 block place lt = omega (arith, lt)
 starts_after Bytes1024 block place lt = omega (arith, lt)
 starts_after Bytes2048 block place lt = omega (arith, lt)

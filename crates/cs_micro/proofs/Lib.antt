@@ -1,5 +1,6 @@
 pub mod Counting
 pub mod Divisions
+pub mod Earlier
 pub mod Legality
 pub mod Limits
 pub mod Linking

@@ -4,7 +4,8 @@ use Rattle.std.proofs.lemmas.List.Elements.{All-cons, All-nil}
 use Rattle.std.specs.List.{All}
 use Rattle.cs_trace.specs.Operations.{AreLegal, IsLegal, Paths, paths_after, sizes_after}
 use Rattle.cs_trace.specs.declared.operation.Operation.{Operation}
-use Rattle.cs_trace.specs.declared.operation.Operation.TheVariants.{Creat, Mkdir, Unlink, Rmdir, Rename, Link, Write, Truncate, SetAttr, Sync, Say}
+use Rattle.cs_trace.specs.declared.operation.Operation.TheVariants.{Creat, Mkdir, Unlink, Rmdir, Rename, Link, Write, Truncate, SetAttr}
+use Rattle.cs_trace.specs.declared.operation.Operation.TheVariants.{Sync, Say}
 use Rattle.cs_micro.specs.MicroOperations.{IsWithinLimit}
 
 within : (m : Paths) (sizes : List ℕ) (o : Operation) → IsLegal m sizes o → IsWithinLimit o

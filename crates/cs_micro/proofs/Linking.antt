@@ -1,7 +1,9 @@
 -- The paths of the start's files, link by link.
-use Rattle.std.proofs.Common.{◌≡◌, ◌≢◌, ℕ, ◌+◌, ◌<◌, ◌==◌, Bool, true, false, cond, List, [], ◌∷◌, ◌++◌, length, map, take, get_or, Some, refl, sym, ap, ◌∙◌, subst, ⊎_elim, arith}
+use Rattle.std.proofs.Common.{◌≡◌, ◌≢◌, ℕ, ◌+◌, ◌<◌, ◌==◌, Bool, true, false, cond, List, [], ◌∷◌, ◌++◌, length, map, take, get_or, Some}
+use Rattle.std.proofs.Common.{refl, sym, ap, ◌∙◌, subst, ⊎_elim, arith}
 use Rattle.std.proofs.lemmas.Bool.{cases_eq, eq-eqb, ne_eqb}
-use Rattle.std.proofs.lemmas.List.{append-nil, ext_get_or, get_or-map, get_or-set_other, get_or-set_same, length-map, length-set, map-append, map-set}
+use Rattle.std.proofs.lemmas.List.{append-nil, ext_get_or, get_or-map, get_or-set_other, get_or-set_same, length-map, length-set}
+use Rattle.std.proofs.lemmas.List.{map-append, map-set}
 use Rattle.std.proofs.lemmas.List.Elements.{filter_more}
 use Rattle.std.proofs.lemmas.List.FromFn.{get_or-map-range_with_len}
 use Rattle.std.proofs.lemmas.Option.{slice_get-get_or, slice_get_within}
@@ -14,7 +16,8 @@ use Rattle.cs_micro.specs.Laws.Starts.{length-paths_of_files}
 use Rattle.cs_micro.specs.Micros.{linked_to, paths_of_file, paths_of_files}
 
 -- those of one file
-pub paths_at : (files : List Path) (links : List (Path × ℕ)) (n : ℕ) → n < length files → get_or (paths_of_files files links) n [] ≡ paths_of_file files links n
+pub paths_at : (files : List Path) (links : List (Path × ℕ)) (n : ℕ) → n < length files
+    → get_or (paths_of_files files links) n [] ≡ paths_of_file files links n
 unfolding paths_of_files
 paths_at files links n low = get_or-map-range_with_len (paths_of_file files links) 0 (length files) n n [] low (omega arith)
 
@@ -27,7 +30,8 @@ own_paths files = ext_get_or [] (paths_of_files files []) (map (λ path. path �
 
 -- one link more
 linked_more : (file : ℕ) (links : List (Path × ℕ)) (k : ℕ) (d : Path × ℕ) → k < length links
-    → linked_to file (take (k + 1) links) ≡ linked_to file (take k links) ++ cond ((get_or links k d).1 == file) ((get_or links k d).0 ∷ []) []
+    → linked_to file (take (k + 1) links) ≡ linked_to file (take k links)
+    ++ cond ((get_or links k d).1 == file) ((get_or links k d).0 ∷ []) []
 linked_more file links k d low =
     let link = get_or links k d in
     ap (map (λ l. l.0)) (filter_more (λ l. l.1 == file) links k d low)
@@ -38,7 +42,8 @@ linked_more file links k d low =
     one true = refl
     one false = refl
 
-module _ (files : List Path) (links : List (Path × ℕ)) (k : ℕ) (p : Path) (file : ℕ) (d : Path × ℕ) (low : k < length links) (is : get_or links k d ≡ (p, file)) (known : file < length files) where
+module _ (files : List Path) (links : List (Path × ℕ)) (k : ℕ) (p : Path) (file : ℕ) (d : Path × ℕ) (low : k < length links)
+    (is : get_or links k d ≡ (p, file)) (known : file < length files) where
   abbrev old : List (List Path)
   old = paths_of_files files (take k links)
 
@@ -48,10 +53,12 @@ module _ (files : List Path) (links : List (Path × ℕ)) (k : ℕ) (p : Path) (
   within : (n : ℕ) → n < length files → n < length old
   within n inside = subst (λ w. n < w) (sym (length-paths_of_files files (take k links))) inside
 
-  new_at : (n : ℕ) → n < length files → get_or (paths_of_files files (take (k + 1) links)) n [] ≡ get_or old n [] ++ cond (file == n) (p ∷ []) []
+  new_at : (n : ℕ) → n < length files
+      → get_or (paths_of_files files (take (k + 1) links)) n [] ≡ get_or old n [] ++ cond (file == n) (p ∷ []) []
   new_at n inside =
       paths_at files (take (k + 1) links) n inside
-      ∙ ap (λ v. get_or files n [] ∷ v) (linked_more n links k d low ∙ ap (λ l. linked_to n (take k links) ++ cond (l.1 == n) (l.0 ∷ []) []) is)
+      ∙ ap (λ v. get_or files n [] ∷ v)
+      (linked_more n links k d low ∙ ap (λ l. linked_to n (take k links) ++ cond (l.1 == n) (l.0 ∷ []) []) is)
       ∙ ap (λ v. v ++ cond (file == n) (p ∷ []) []) (sym (paths_at files (take k links) n inside))
 
   at : (n : ℕ) → n < length files → get_or (paths_of_files files (take (k + 1) links)) n [] ≡ get_or (slice_set old file more) n []
@@ -71,19 +78,24 @@ module _ (files : List Path) (links : List (Path × ℕ)) (k : ℕ) (p : Path) (
       (λ n high. at n (subst (λ w. n < w) (length-paths_of_files files (take (k + 1) links)) high))
 
 -- a link more, where the paths of a file stand in a list of their own
-pub link_pushed : {V : Type 0} (f : V → List Path) (starts : List V) (files : List Path) (links : List (Path × ℕ)) (k : ℕ) (link : Path × ℕ) (p : Path) (old new : V) → k < length links → link ≡ get_or links k link
-    → link.1 < length files → map f starts ≡ paths_of_files files (take k links) → old ≡ get_or starts link.1 old → p ≡ link.0 → f new ≡ f old ++ p ∷ []
+pub link_pushed : {V : Type 0} (f : V → List Path) (starts : List V) (files : List Path) (links : List (Path × ℕ)) (k : ℕ) (link : Path × ℕ)
+    (p : Path) (old new : V) → k < length links → link ≡ get_or links k link
+    → link.1 < length files → map f starts ≡ paths_of_files files (take k links) → old ≡ get_or starts link.1 old → p ≡ link.0
+    → f new ≡ f old ++ p ∷ []
     → map f (slice_set starts link.1 new) ≡ paths_of_files files (take (k + 1) links)
 link_pushed f starts files links k link p old new low is known so_far read same pushed =
     let n = link.1 in
-    let inside : n < length starts = subst (λ w. n < w) (sym (ap length so_far ∙ length-paths_of_files files (take k links)) ∙ length-map starts f) known in
-    let was : f old ≡ get_or (paths_of_files files (take k links)) n [] = ap f read ∙ sym (get_or-map f starts n old [] inside) ∙ ap (λ v. get_or v n []) so_far in
+    let inside : n < length starts =
+    subst (λ w. n < w) (sym (ap length so_far ∙ length-paths_of_files files (take k links)) ∙ length-map starts f) known in
+    let was : f old ≡ get_or (paths_of_files files (take k links)) n [] =
+    ap f read ∙ sym (get_or-map f starts n old [] inside) ∙ ap (λ v. get_or v n []) so_far in
     map-set f starts n new
     ∙ (λ w. slice_set (so_far w) n ((pushed ∙ (λ u. was u ++ same u ∷ [])) w))
     ∙ sym (links_more files links k link.0 n link low (sym is) known)
 
 -- each link is of a file of the start
-pub links_known : (t : Trace) → AreLinks (start_paths t) t.links → ((n : ℕ) (p : Path) → get (start_paths t) p ≡ Some (File n) → IsPathOf t n p)
+pub links_known : (t : Trace) → AreLinks (start_paths t) t.links
+    → ((n : ℕ) (p : Path) → get (start_paths t) p ≡ Some (File n) → IsPathOf t n p)
     → (k : ℕ) (d : Path × ℕ) → k < length t.links → (get_or t.links k d).1 < length t.files
 links_known t linked found k d low =
     let link = get_or t.links k d in

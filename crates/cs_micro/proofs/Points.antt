@@ -24,7 +24,8 @@ pub points_more : (block : ℕ) (ops : List Operation) (i : ℕ) (x : Operation)
 unfolding points_below
 points_more block ops i x low is =
     flat_map-range_more (points_at block ops) 0 i i (omega arith)
-    ∙ ap (λ o. points_below block ops i ++ points_behind (length (micro_operations_of block (take i ops))) o) (sym (is ∙ get_or_default ops i x Say low))
+    ∙ ap (λ o. points_below block ops i ++ points_behind (length (micro_operations_of block (take i ops))) o)
+    (sym (is ∙ get_or_default ops i x Say low))
 
 pub points_all : (block : ℕ) (ops : List Operation) (i : ℕ) → i ≡ length ops → points_below block ops i ≡ sync_points_of block ops
 unfolding points_below sync_points_of

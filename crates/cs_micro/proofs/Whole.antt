@@ -22,8 +22,10 @@ module _ (size : BlockSize) where
   b = block_bytes size
 
   -- the first so many blocks have the bytes up to the next one
-  first_blocks : (offset : ℕ) (bytes : List ℕ) (n : ℕ) → 0 < length bytes → block_of b offset + n ≤ block_of b (offset + length bytes - 1) + 1
-      → flat_map (λ block. bytes_in b block offset bytes) (range_with_len (block_of b offset) n) ≡ take (min (offset + length bytes) (start_of b (block_of b offset + n)) - offset) bytes
+  first_blocks : (offset : ℕ) (bytes : List ℕ) (n : ℕ) → 0 < length bytes
+      → block_of b offset + n ≤ block_of b (offset + length bytes - 1) + 1
+      → flat_map (λ block. bytes_in b block offset bytes) (range_with_len (block_of b offset) n)
+      ≡ take (min (offset + length bytes) (start_of b (block_of b offset + n)) - offset) bytes
   first_blocks offset bytes zero some within =
       let begins = starts_by size (block_of b offset + 0) offset (omega arith) in
       let none : 0 ≡ min (offset + length bytes) (start_of b (block_of b offset + 0)) - offset = omega (arith, begins) in
@@ -41,7 +43,8 @@ module _ (size : BlockSize) where
       let ordered : begin ≤ end = omega (arith, some, begins, next, above) in
       let more : suc n ≡ n + 1 = omega arith in
       let same : block + 1 ≡ first + suc n = omega arith in
-      let there : end ≡ min (offset + length bytes) (start_of b (first + suc n)) - offset = ap (λ k. min (offset + length bytes) (start_of b k) - offset) same in
+      let there : end ≡ min (offset + length bytes) (start_of b (first + suc n)) - offset =
+      ap (λ k. min (offset + length bytes) (start_of b k) - offset) same in
       ap (λ k. flat_map part (range_with_len first k)) more
       ∙ flat_map-range_more part first n block refl
       ∙ ap (λ v. v ++ part block) (first_blocks offset bytes n some (omega (arith, within)))
@@ -49,7 +52,8 @@ module _ (size : BlockSize) where
       ∙ joined bytes begin end ordered
       ∙ ap (λ k. take k bytes) there
 
-  pub blocks_whole : (offset : ℕ) (bytes : List ℕ) → 0 < length bytes → flat_map (λ block. bytes_in b block offset bytes) (touched_blocks b offset bytes) ≡ bytes
+  pub blocks_whole : (offset : ℕ) (bytes : List ℕ) → 0 < length bytes
+      → flat_map (λ block. bytes_in b block offset bytes) (touched_blocks b offset bytes) ≡ bytes
   blocks_whole offset bytes some =
       let first = block_of b offset in
       let last = block_of b (offset + length bytes - 1) in

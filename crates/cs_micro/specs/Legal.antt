@@ -2,13 +2,17 @@
 use Rattle.std.specs.Prelude.{◌≡◌, ◌≢◌, ◌<◌, ◌≤◌, ℕ, ◌+◌, List, [], ◌∷◌, length}
 use Rattle.std.specs.FinMap.{insert, remove}
 use Rattle.cs_names.specs.declared.limits.TheConstants.{FILE_BYTES}
-use Rattle.cs_trace.specs.Operations.{IsDirectoryAt, IsEmptyAt, IsFileAt, IsFree, IsOctal, MayTake, Paths, Stands, moved}
+use Rattle.cs_trace.specs.Operations.{IsDirectoryAt, IsEmptyAt, IsFileAt, IsFree, IsOctal, MayTake}
+use Rattle.cs_trace.specs.Operations.{Paths, Stands, moved}
 use Rattle.cs_trace.specs.declared.operation.Node.TheVariants.{Directory, File}
 use Rattle.cs_trace.specs.declared.operation.Target.TheVariants as targets
 use Rattle.cs_micro.specs.Blocks.{start_of}
 use Rattle.cs_micro.specs.declared.micro_op.EntryKind.TheVariants as kinds
 use Rattle.cs_micro.specs.declared.micro_op.MicroOp.{MicroOp}
-use Rattle.cs_micro.specs.declared.micro_op.MicroOp.TheVariants.{CreateDirEntry, DeleteDirEntry, MoveDirEntry, LinkDirEntry, ChangeFileSize, WriteBlock, SetAttr, Say}
+use Rattle.cs_micro.specs.declared.micro_op.MicroOp.TheVariants.{CreateDirEntry, DeleteDirEntry}
+use Rattle.cs_micro.specs.declared.micro_op.MicroOp.TheVariants.{MoveDirEntry, LinkDirEntry}
+use Rattle.cs_micro.specs.declared.micro_op.MicroOp.TheVariants.{ChangeFileSize, WriteBlock}
+use Rattle.cs_micro.specs.declared.micro_op.MicroOp.TheVariants.{SetAttr, Say}
 
 -- what stands at each path after it
 abbrev pub paths_after : Paths → MicroOp → Paths

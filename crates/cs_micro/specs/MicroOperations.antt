@@ -1,12 +1,15 @@
 -- The micro-operations that an operation of a trace is, for a block size in bytes.
-use Rattle.std.specs.Prelude.{ℕ, ◌+◌, ◌<◌, ◌≤◌, ◌==◌, ◌&&◌, nat_lt, Bool, List, [], ◌∷◌, ◌++◌, length, if◌then◌else◌}
+use Rattle.std.specs.Prelude.{ℕ, ◌+◌, ◌<◌, ◌≤◌, ◌==◌, ◌&&◌, nat_lt, Bool, List, [], ◌∷◌, ◌++◌}
+use Rattle.std.specs.Prelude.{length, if◌then◌else◌}
 use Rattle.std.specs.List.{flat_map}
 use Rattle.cs_names.specs.Paths.{path_eq}
 use Rattle.cs_names.specs.Texts.{same_bytes}
 use Rattle.cs_names.specs.declared.limits.TheConstants.{FILE_BYTES}
 use Rattle.cs_trace.specs.declared.operation.Node.TheVariants as nodes
 use Rattle.cs_trace.specs.declared.operation.Operation.{Operation}
-use Rattle.cs_trace.specs.declared.operation.Operation.TheVariants.{Creat, Mkdir, Unlink, Rmdir, Rename, Link, Write, Truncate, SetAttr, Sync, Say}
+use Rattle.cs_trace.specs.declared.operation.Operation.TheVariants.{Creat, Mkdir, Unlink, Rmdir}
+use Rattle.cs_trace.specs.declared.operation.Operation.TheVariants.{Rename, Link, Write, Truncate}
+use Rattle.cs_trace.specs.declared.operation.Operation.TheVariants.{SetAttr, Sync, Say}
 use Rattle.cs_trace.specs.declared.operation.Rights.{Rights}
 use Rattle.cs_trace.specs.declared.operation.Target.{Target}
 use Rattle.cs_micro.specs.declared.micro_op.EntryKind.TheVariants as kinds
@@ -15,22 +18,22 @@ use Rattle.cs_micro.specs.declared.micro_op.MicroOp.TheVariants as micro
 use Rattle.cs_micro.specs.Blocks.{block_writes}
 
 -- if bytes end past a file's size, one change of size
-abbrev pub grown : ℕ → ℕ → ℕ → List MicroOp
-grown file size end = if nat_lt size end then micro.ChangeFileSize file end ∷ [] else []
+abbrev pub growth_micros : ℕ → ℕ → ℕ → List MicroOp
+growth_micros file size end = if nat_lt size end then micro.ChangeFileSize file end ∷ [] else []
 
 -- a write of no byte is nothing; any other is a change of size, if it grows, and then its blocks
-abbrev pub written : ℕ → ℕ → ℕ → ℕ → List ℕ → List MicroOp
-written block file size offset bytes =
-    if length bytes == 0 then [] else grown file size (offset + length bytes)
+abbrev pub write_micros : ℕ → ℕ → ℕ → ℕ → List ℕ → List MicroOp
+write_micros block file size offset bytes =
+    if length bytes == 0 then [] else growth_micros file size (offset + length bytes)
     ++ block_writes block file offset bytes
 
 -- a change to another size
-abbrev pub resized : ℕ → ℕ → ℕ → List MicroOp
-resized file size to = if size == to then [] else micro.ChangeFileSize file to ∷ []
+abbrev pub truncate_micros : ℕ → ℕ → ℕ → List MicroOp
+truncate_micros file size to = if size == to then [] else micro.ChangeFileSize file to ∷ []
 
 -- a move to another path
-abbrev pub moved : List (List ℕ) → List (List ℕ) → List MicroOp
-moved p q = if path_eq p q then [] else micro.MoveDirEntry p q ∷ []
+abbrev pub rename_micros : List (List ℕ) → List (List ℕ) → List MicroOp
+rename_micros p q = if path_eq p q then [] else micro.MoveDirEntry p q ∷ []
 
 -- the same owner, group and permissions
 abbrev pub same_rights : Rights → Rights → Bool
@@ -38,8 +41,8 @@ same_rights a b =
     same_bytes a.owner b.owner && same_bytes a.group b.group && a.permissions == b.permissions
 
 -- a change to other rights
-abbrev pub attributed : Target → Rights → Rights → List MicroOp
-attributed target before after =
+abbrev pub set_attr_micros : Target → Rights → Rights → List MicroOp
+set_attr_micros target before after =
     if same_rights before after then [] else micro.SetAttr target after ∷ []
 
 -- the micro-operations of one operation
@@ -48,11 +51,11 @@ micros_of block (Creat p file rights) = micro.CreateDirEntry p (nodes.File file)
 micros_of block (Mkdir p rights) = micro.CreateDirEntry p nodes.Directory rights ∷ []
 micros_of block (Unlink p) = micro.DeleteDirEntry p kinds.File ∷ []
 micros_of block (Rmdir p) = micro.DeleteDirEntry p kinds.Directory ∷ []
-micros_of block (Rename p q) = moved p q
+micros_of block (Rename p q) = rename_micros p q
 micros_of block (Link p file) = micro.LinkDirEntry p file ∷ []
-micros_of block (Write file size offset bytes) = written block file size offset bytes
-micros_of block (Truncate file size to) = resized file size to
-micros_of block (SetAttr target before after) = attributed target before after
+micros_of block (Write file size offset bytes) = write_micros block file size offset bytes
+micros_of block (Truncate file size to) = truncate_micros file size to
+micros_of block (SetAttr target before after) = set_attr_micros target before after
 micros_of block (Sync covers) = []
 micros_of block Say = micro.Say ∷ []
 

@@ -2,7 +2,8 @@
 ghost use Rattle.std.specs.Prelude.{◌≡◌, ◌++◌, ◌+◌, ◌<◌, ◌≤◌, length, IfOk, OnOk};
 ghost use Rattle.std.specs.List.{flat_map};
 ghost use Rattle.cs_trace_lines.specs.Versions.{block_bytes};
-ghost use Rattle.cs_micro.specs.Blocks.{block_of, block_write, block_writes, bytes_in, start_of, touched_blocks};
+ghost use Rattle.cs_micro.specs.Blocks.{block_of, block_write, block_writes, bytes_in, start_of};
+ghost use Rattle.cs_micro.specs.Blocks.{touched_blocks};
 
 use crate::micro_op::MicroOp;
 use cs_names::Bytes;

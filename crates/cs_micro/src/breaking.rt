@@ -1,8 +1,11 @@
 //! The micro-operations and the sync points of a list of operations.
-ghost use Rattle.std.specs.Prelude.{◌≡◌, ◌++◌, ◌∷◌, [], ◌+◌, ◌<◌, ◌≤◌, ◌↔◌, length, IfOk, IsErr, IsTrue, OnOk, ℕ};
+ghost use Rattle.std.specs.Prelude.{◌≡◌, ◌++◌, ◌∷◌, [], ◌+◌, ◌<◌, ◌≤◌, ◌↔◌, length, IfOk, IsErr};
+ghost use Rattle.std.specs.Prelude.{IsTrue, OnOk, ℕ};
 ghost use Rattle.std.specs.List.{All};
 ghost use Rattle.cs_trace_lines.specs.Versions.{block_bytes};
-ghost use Rattle.cs_micro.specs.MicroOperations.{IsWithinLimit, attributed, micro_operations_of, micros_of, moved, resized, same_rights, written};
+ghost use Rattle.cs_micro.specs.MicroOperations.{IsWithinLimit, set_attr_micros};
+ghost use Rattle.cs_micro.specs.MicroOperations.{micro_operations_of, micros_of, rename_micros};
+ghost use Rattle.cs_micro.specs.MicroOperations.{truncate_micros, same_rights, write_micros};
 ghost use Rattle.cs_micro.specs.SyncPoints.{points_behind, sync_points_of};
 
 use crate::blocks::{block_of, push_blocks};
@@ -18,7 +21,7 @@ use std::alloc::{AllocError, Global};
 fn count_of_write(block: BlockSize, size: u64, offset: u64, bytes: &[u8]) -> usize
     requires { 0 < length bytes.now → offset + length bytes.now ≤ FILE_BYTES }
     ensures { (file : ℕ)
-        → result ≡ length (written (block_bytes block) file size offset bytes.now) }
+        → result ≡ length (write_micros (block_bytes block) file size offset bytes.now) }
 {
     if bytes.is_empty() {
         return 0;
@@ -121,8 +124,8 @@ fn push_move(
     from: &Path,
     to: &Path,
 ) -> Result<(), AllocError>
-    ensures value { OnOk result (ops.new.items ≡ ops.old.items ++ moved from.now to.now) }
-    ensures memory { IsErr result → 0 < length (moved from.now to.now) }
+    ensures value { OnOk result (ops.new.items ≡ ops.old.items ++ rename_micros from.now to.now) }
+    ensures memory { IsErr result → 0 < length (rename_micros from.now to.now) }
 {
     if from == to {
         return Ok(());
@@ -163,9 +166,9 @@ fn push_write(
 ) -> Result<(), AllocError>
     requires { 0 < length bytes.now → offset + length bytes.now ≤ FILE_BYTES }
     ensures value { OnOk result (ops.new.items ≡ ops.old.items
-        ++ written (block_bytes block) file size offset bytes.now) }
+        ++ write_micros (block_bytes block) file size offset bytes.now) }
     ensures memory { IsErr result
-        → 0 < length (written (block_bytes block) file size offset bytes.now) }
+        → 0 < length (write_micros (block_bytes block) file size offset bytes.now) }
 {
     if bytes.is_empty() {
         return Ok(());
@@ -179,8 +182,8 @@ fn push_write(
 
 /// A change of size, unless it is to the same size.
 fn push_size(ops: &mut Vec<MicroOp>, file: u32, size: u64, to: u64) -> Result<(), AllocError>
-    ensures value { OnOk result (ops.new.items ≡ ops.old.items ++ resized file size to) }
-    ensures memory { IsErr result → 0 < length (resized file size to) }
+    ensures value { OnOk result (ops.new.items ≡ ops.old.items ++ truncate_micros file size to) }
+    ensures memory { IsErr result → 0 < length (truncate_micros file size to) }
 {
     if size != to {
         ops.push(MicroOp::ChangeFileSize { file, length: to })?;
@@ -197,8 +200,8 @@ fn push_rights(
     after: &Rights,
 ) -> Result<(), AllocError>
     ensures value { OnOk result (ops.new.items ≡ ops.old.items
-        ++ attributed target.now before.now after.now) }
-    ensures memory { IsErr result → 0 < length (attributed target.now before.now after.now) }
+        ++ set_attr_micros target.now before.now after.now) }
+    ensures memory { IsErr result → 0 < length (set_attr_micros target.now before.now after.now) }
 {
     if are_same(before, after) {
         return Ok(());

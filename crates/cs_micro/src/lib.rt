@@ -6,6 +6,7 @@ mod blocks;
 mod breaking;
 mod copies;
 pub mod fault;
+pub mod laws;
 pub mod micro_op;
 pub mod micros;
 mod starts;

@@ -1,5 +1,6 @@
 //! The paths of the files at the start of a trace.
-ghost use Rattle.std.specs.Prelude.{◌≡◌, ◌∷◌, [], ◌++◌, ◌<◌, length, map, slice_index_or, slice_set, IfOk, IsErr, OnOk};
+ghost use Rattle.std.specs.Prelude.{◌≡◌, ◌∷◌, [], ◌++◌, ◌<◌, length, map, slice_index_or};
+ghost use Rattle.std.specs.Prelude.{slice_set, IfOk, IsErr, OnOk};
 ghost use Rattle.std.specs.List.{All};
 ghost use Rattle.cs_micro.specs.Micros.{paths_of_files};
 

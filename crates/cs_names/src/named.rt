@@ -3,8 +3,13 @@ ghost use Rattle.std.specs.Prelude.{◌≡◌, ◌≢◌, ◌||◌, ◌==◌, Li
 ghost use Rattle.std.specs.List.{list_any, list_all};
 ghost use Rattle.cs_names.specs.declared.fault.NameFault.{NameFault};
 ghost use Rattle.cs_names.specs.declared.fault.NameFault.TheVariants.{Memory};
-ghost use Rattle.cs_names.specs.Legal.{IsLegalName, IsRunName, IsUserName, is_forbidden, is_run_letter, is_run_name, name_in, run_name_in, user_name_in};
-ghost use Rattle.cs_names.specs.Laws.{IsLegalName-name_in, name_in-legal, IsUserName-user_name_in, user_name_in-legal, IsRunName-run_name_in, run_name_in-legal, name_in-no_memory, user_name_in-no_memory, run_name_in-no_memory};
+ghost use Rattle.cs_names.specs.Legal.{IsLegalName, IsRunName, IsUserName, is_forbidden};
+ghost use Rattle.cs_names.specs.Legal.{is_run_letter, is_run_name, name_in, run_name_in};
+ghost use Rattle.cs_names.specs.Legal.{user_name_in};
+ghost use Rattle.cs_names.specs.Laws.{IsLegalName-name_in, name_in-legal, IsUserName-user_name_in};
+ghost use Rattle.cs_names.specs.Laws.{user_name_in-legal, IsRunName-run_name_in, run_name_in-legal};
+ghost use Rattle.cs_names.specs.Laws.{name_in-no_memory, user_name_in-no_memory};
+ghost use Rattle.cs_names.specs.Laws.{run_name_in-no_memory};
 
 use crate::fault::NameFault;
 use crate::limits::{NAME_BYTES, RUN_NAME_BYTES, USER_NAME_BYTES};
@@ -20,7 +25,9 @@ pub trait Named {
 
     /// The bytes as the text of a name of the kind, or the first fault. It takes no memory.
     fn check(bytes: &[u8]) -> Result<&str, NameFault>
-        ensures { MatchResult result (λ text. (text.now ≡ bytes.now) × (read_in bytes.now ≡ Ok bytes.now)) (λ fault. read_in bytes.now ≡ Err fault) };
+        ensures { MatchResult result
+            (λ text. (text.now ≡ bytes.now) × (read_in bytes.now ≡ Ok bytes.now))
+            (λ fault. read_in bytes.now ≡ Err fault) };
 
     ghost legal: { (bytes : List ℕ) → read_in bytes ≡ Ok bytes → IsLegal bytes };
 

@@ -1,5 +1,6 @@
 //! The names of a path, one after another.
-ghost use Rattle.std.specs.Prelude.{◌≡◌, ◌≢◌, ◌==◌, ◌∷◌, ◌++◌, [], MatchOption, length, string_bytes};
+ghost use Rattle.std.specs.Prelude.{◌≡◌, ◌≢◌, ◌==◌, ◌∷◌, ◌++◌, [], MatchOption, length};
+ghost use Rattle.std.specs.Prelude.{string_bytes};
 ghost use Rattle.std.specs.Cmp.{partial_equiv_from_equiv};
 ghost use Rattle.std.specs.Iterator.{YieldsFirstRef, item_count};
 ghost use Rattle.cs_names.specs.Joined.{AreLegalNames, path_at};
@@ -10,8 +11,8 @@ ghost use Rattle.cs_names.specs.Pieces.{pieces};
 use crate::pieces::Pieces;
 use std::marker::Model;
 
-/// The names of a path from the root down, lent as texts, or those that are still to come. Contracts
-/// see the list of their bytes.
+/// The names of a path from the root down, lent as texts, or those that are still to come.
+/// Contracts see the list of their bytes.
 #[derive(Debug, Drop)]
 pub struct Names<'a> {
     // a NUL stands between two names
@@ -85,7 +86,8 @@ impl<'a> Names<'a> {
 
     /// The names before the last one, and the last one.
     pub fn split_last(&self) -> Option<(Names<'a>, &'a str)>
-        ensures { MatchOption result (self.now ≡ []) (λ parts. (self.now ≡ parts.0 ++ parts.1.now ∷ []) × IsLegalName parts.1.now) }
+        ensures { MatchOption result (self.now ≡ [])
+            (λ parts. (self.now ≡ parts.0 ++ parts.1.now ∷ []) × IsLegalName parts.1.now) }
     {
         if self.text.is_empty() {
             return None;

@@ -16,32 +16,43 @@ use Rattle.cs_overlay.specs.declared.names.Said.{Said}
 use Rattle.cs_overlay.specs.Texts.{numbers_of, AreNamed}
 
 module _ {Y : Type 0} where
-  pub get_number : (m : BTreeMap (String Y) Said) (q : NameBytes) → map.get (numbers_of m.entries) q ≡ option_map (λ s. s.number) (get_by_text m q)
+  pub get_number : (m : BTreeMap (String Y) Said) (q : NameBytes)
+      → map.get (numbers_of m.entries) q ≡ option_map (λ s. s.number) (get_by_text m q)
   get_number m q = get-map_values name_cmp (λ s. s.number) (seen m) q ∙ ap (option_map (λ (s : Said). s.number)) (get_seen m q)
 
-  pub numbers_insert : (m n : BTreeMap (String Y) Said) (bs : NameBytes) (v : Said) → UpdatesBy string_cmp (λ k. name_cmp bs (string_bytes k)) m n (Some v) → numbers_of n.entries ≡ map.insert (numbers_of m.entries) bs v.number
+  pub numbers_insert : (m n : BTreeMap (String Y) Said) (bs : NameBytes) (v : Said)
+      → UpdatesBy string_cmp (λ k. name_cmp bs (string_bytes k)) m n (Some v)
+      → numbers_of n.entries ≡ map.insert (numbers_of m.entries) bs v.number
   numbers_insert m n bs v h = map.same_map total exact _ _ (λ cs. get_number n cs
-      ∙ ap (option_map (λ (s : Said). s.number)) (sym (get_seen n cs) ∙ ap (λ w. map.get w cs) (seen_insert m n bs v h) ∙ map.get-insert total (seen m) bs v cs)
+      ∙ ap (option_map (λ (s : Said). s.number))
+      (sym (get_seen n cs) ∙ ap (λ w. map.get w cs) (seen_insert m n bs v h) ∙ map.get-insert total (seen m) bs v cs)
       ∙ by (is_eq (name_cmp cs bs)) (map.get (seen m) cs)
-      ∙ ap (cond (is_eq (name_cmp cs bs)) (Some v.number)) (ap (option_map (λ (s : Said). s.number)) (get_seen m cs) ∙ sym (get_number m cs))
+      ∙ ap (cond (is_eq (name_cmp cs bs)) (Some v.number))
+      (ap (option_map (λ (s : Said). s.number)) (get_seen m cs) ∙ sym (get_number m cs))
       ∙ sym (map.get-insert total (numbers_of m.entries) bs v.number cs))
     where
-      by : (b : Bool) (o : Option Said) → option_map (λ s. s.number) (cond b (Some v) o) ≡ cond b (Some v.number) (option_map (λ s. s.number) o)
+      by : (b : Bool) (o : Option Said)
+          → option_map (λ s. s.number) (cond b (Some v) o) ≡ cond b (Some v.number) (option_map (λ s. s.number) o)
       by true o = refl
       by false o = refl
 
   -- what is said of a name has the name, after one more
-  pub named_insert : (m n : BTreeMap (String Y) Said) (bs : NameBytes) (v : Said) → UpdatesBy string_cmp (λ k. name_cmp bs (string_bytes k)) m n (Some v) → v.name ≡ bs → AreNamed (get_by_text m) → AreNamed (get_by_text n)
+  pub named_insert : (m n : BTreeMap (String Y) Said) (bs : NameBytes) (v : Said)
+      → UpdatesBy string_cmp (λ k. name_cmp bs (string_bytes k)) m n (Some v) → v.name ≡ bs → AreNamed (get_by_text m)
+      → AreNamed (get_by_text n)
   named_insert m n bs v h own all cs s is = ⊎_elim
       (λ (one : (is_eq (name_cmp cs bs) ≡ true) × (cs ≡ bs)).
       let two : Some v ≡ Some s = sym (found cs ∙ ap (λ b. cond b (Some v) (get_by_text m cs)) one.0) ∙ is in
       let same : v ≡ s = cc in
       ap (λ (w : Said). w.name) (sym same) ∙ own ∙ sym one.1)
-      (λ (other : (is_eq (name_cmp cs bs) ≡ false) × (cs ≢ bs)). all cs s (sym (found cs ∙ ap (λ b. cond b (Some v) (get_by_text m cs)) other.0) ∙ is))
+      (λ (other : (is_eq (name_cmp cs bs) ≡ false) × (cs ≢ bs)). all cs s
+      (sym (found cs ∙ ap (λ b. cond b (Some v) (get_by_text m cs)) other.0) ∙ is))
       (key_cases total exact cs bs)
     where
       found : (cs : NameBytes) → get_by_text n cs ≡ cond (is_eq (name_cmp cs bs)) (Some v) (get_by_text m cs)
-      found cs = sym (get_seen n cs) ∙ ap (λ w. map.get w cs) (seen_insert m n bs v h) ∙ map.get-insert total (seen m) bs v cs ∙ ap (cond (is_eq (name_cmp cs bs)) (Some v)) (get_seen m cs)
+      found cs =
+          sym (get_seen n cs) ∙ ap (λ w. map.get w cs) (seen_insert m n bs v h) ∙ map.get-insert total (seen m) bs v cs ∙ ap
+          (cond (is_eq (name_cmp cs bs)) (Some v)) (get_seen m cs)
 
   -- and the same names
   pub same_names : (m : BTreeMap (String Y) Said) (q : NameBytes) → is_some (get_by_text m q) ≡ is_some (map.get (numbers_of m.entries) q)
@@ -52,4 +63,6 @@ module _ {Y : Type 0} where
       by (Some s) = refl
 
   pub numbers_none : (m : BTreeMap (String Y) Said) → length m.entries ≡ 0 → numbers_of m.entries ≡ map.empty
-  numbers_none m none = map.same_map total exact _ _ (λ q. get_number m q ∙ ap (option_map (λ (s : Said). s.number)) (none_of_none _ m.entries none) ∙ sym (map.get-empty name_cmp q))
+  numbers_none m none =
+      map.same_map total exact _ _
+      (λ q. get_number m q ∙ ap (option_map (λ (s : Said). s.number)) (none_of_none _ m.entries none) ∙ sym (map.get-empty name_cmp q))

@@ -11,15 +11,17 @@ use Rattle.cs_tree_model.specs.Tree.{NameBytes, Tree, content_numbered}
 use Rattle.cs_overlay.specs.declared.node.Body.{Body}
 use Rattle.cs_overlay.specs.declared.node.Body.TheVariants.{Directory, File}
 use Rattle.cs_overlay.specs.declared.node.Node.{Node}
-use Rattle.cs_overlay.specs.Layers.{Alike, AreNodes, IsNode, HidesPast, Upper, body_with, content_over, found, found_at, layer_at, layers, own_in, said_over, shape_over, step_at, with_at}
+use Rattle.cs_overlay.specs.Layers.{SameNodes, AreNodes, IsNode, HidesPast, Upper, body_with, content_over, layered_lookup, found_at}
+use Rattle.cs_overlay.specs.Layers.{layer_at, layers, own_in, said_over, shape_over, step_at, with_at}
 
 -- overlays that answer alike are one
-pub one_upper : (c e : Upper) → Alike c e → c ≡ e
+pub one_upper : (c e : Upper) → SameNodes c e → c ≡ e
 one_upper c e alike = λ i q. sym (alike q) i
 
 -- ---- names that a directory says something of
 
-pub content_said : (low : Option (List ℕ)) (b : Body) (x : NameBytes) (o : Option ℕ) → content_over low (body_with b x o) ≡ content_over low b
+pub content_said : (low : Option (List ℕ)) (b : Body) (x : NameBytes) (o : Option ℕ)
+    → content_over low (body_with b x o) ≡ content_over low b
 content_said low (Directory names) x o = refl
 content_said low (File p) x o = refl
 
@@ -27,7 +29,8 @@ pub hides_said : (low : Option (List ℕ)) (b : Body) (x : NameBytes) (o : Optio
 hides_said low (Directory names) x o h = h
 hides_said low (File p) x o h = h
 
-pub said_here : (low : Option (List ℕ)) (b : Body) (x : NameBytes) (o : Option ℕ) → content_over low b ≡ None → own_in (body_with b x o) x ≡ Some o
+pub said_here : (low : Option (List ℕ)) (b : Body) (x : NameBytes) (o : Option ℕ) → content_over low b ≡ None
+    → own_in (body_with b x o) x ≡ Some o
 said_here low (Directory names) x o dir = get-insert_same total exact names x o
 said_here low (File p) x o dir = absurd (false≢true (sym (ap is_some dir)))
 
@@ -52,7 +55,8 @@ module _ (t : Tree) (c : Upper) (k : ℕ) where
     where
       each : (q : ℕ) → layers t (with_at c k (Some (Some e))) q ≡ set_node (layers t c) k (shape_over (content_numbered t k) e) q
       each q = ⊎_elim
-          (λ (s : q ≡ k). let b : q == k ≡ true = eq-eqb q k s in rw b (ap (layers t (with_at c k (Some (Some e)))) s ∙ ap (layer_at t k) (with_at_here (Some (Some e)))))
+          (λ (s : q ≡ k). let b : q == k ≡ true = eq-eqb q k s in
+          rw b (ap (layers t (with_at c k (Some (Some e)))) s ∙ ap (layer_at t k) (with_at_here (Some (Some e)))))
           (λ (ne : q ≢ k). let b : q == k ≡ false = ne_eqb q k ne in rw b (ap (layer_at t q) (with_at_other (Some (Some e)) q ne)))
           (cases_eq q k)
 
@@ -61,49 +65,61 @@ module _ (t : Tree) (c : Upper) (k : ℕ) where
     where
       each : (q : ℕ) → layers t (with_at c k (Some None)) q ≡ unset_node (layers t c) k q
       each q = ⊎_elim
-          (λ (s : q ≡ k). let b : q == k ≡ true = eq-eqb q k s in rw b (ap (layers t (with_at c k (Some None))) s ∙ ap (layer_at t k) (with_at_here (Some None))))
+          (λ (s : q ≡ k). let b : q == k ≡ true = eq-eqb q k s in
+          rw b (ap (layers t (with_at c k (Some None))) s ∙ ap (layer_at t k) (with_at_here (Some None))))
           (λ (ne : q ≢ k). let b : q == k ≡ false = ne_eqb q k ne in rw b (ap (layer_at t q) (with_at_other (Some None) q ne)))
           (cases_eq q k)
 
   -- ---- for the look-ups
 
-  found_there : (w : Option (Option Node)) (y : NameBytes) → found t (with_at c k w) k y ≡ found_at t k y w
+  found_there : (w : Option (Option Node)) (y : NameBytes) → layered_lookup t (with_at c k w) k y ≡ found_at t k y w
   found_there w y = ap (found_at t k y) (with_at_here w)
 
-  found_elsewhere : (w : Option (Option Node)) (v : ℕ) (y : NameBytes) → v ≢ k → found t (with_at c k w) v y ≡ found t c v y
+  found_elsewhere : (w : Option (Option Node)) (v : ℕ) (y : NameBytes) → v ≢ k
+      → layered_lookup t (with_at c k w) v y ≡ layered_lookup t c v y
   found_elsewhere w v y ne = ap (found_at t v y) (with_at_other w v ne)
 
   -- an entry that answers as before changes no look-up
-  pub found_stay : (w : Option (Option Node)) → ((y : NameBytes) → found_at t k y w ≡ found t c k y) → found t (with_at c k w) ≡ found t c
+  pub found_stay : (w : Option (Option Node)) → ((y : NameBytes) → found_at t k y w ≡ layered_lookup t c k y)
+      → layered_lookup t (with_at c k w) ≡ layered_lookup t c
   found_stay w same = λ i v y. each v y i
     where
-      each : (v : ℕ) (y : NameBytes) → found t (with_at c k w) v y ≡ found t c v y
+      each : (v : ℕ) (y : NameBytes) → layered_lookup t (with_at c k w) v y ≡ layered_lookup t c v y
       each v y = ⊎_elim
-          (λ (e : v ≡ k). ap (λ u. found t (with_at c k w) u y) e ∙ found_there w y ∙ same y ∙ ap (λ u. found t c u y) (sym e))
+          (λ (e : v ≡ k). ap (λ u. layered_lookup t (with_at c k w) u y) e ∙ found_there w y ∙ same y ∙ ap (λ u. layered_lookup t c u y)
+          (sym e))
           (λ (ne : v ≢ k). found_elsewhere w v y ne)
           (cases_eq v k)
 
-  pub found_same : (d e : Node) → c k ≡ Some (Some d) → ((y : NameBytes) → own_in e.body y ≡ own_in d.body y) → found t (with_at c k (Some (Some e))) ≡ found t c
+  pub found_same : (d e : Node) → c k ≡ Some (Some d) → ((y : NameBytes) → own_in e.body y ≡ own_in d.body y)
+      → layered_lookup t (with_at c k (Some (Some e))) ≡ layered_lookup t c
   found_same d e here same = found_stay (Some (Some e)) (λ y. ap (said_over t k y) (same y) ∙ sym (ap (found_at t k y) here))
 
   -- an entry that answers otherwise under one name
-  found_set : (e : Node) (x : NameBytes) (w : Option ℕ) → said_over t k x (own_in e.body x) ≡ w → ((y : NameBytes) → y ≢ x → said_over t k y (own_in e.body y) ≡ found t c k y) → found t (with_at c k (Some (Some e))) ≡ set_kid (found t c) k x w
+  found_set : (e : Node) (x : NameBytes) (w : Option ℕ) → said_over t k x (own_in e.body x) ≡ w
+      → ((y : NameBytes) → y ≢ x → said_over t k y (own_in e.body y) ≡ layered_lookup t c k y)
+      → layered_lookup t (with_at c k (Some (Some e))) ≡ set_kid (layered_lookup t c) k x w
   found_set e x w new old = λ i v y. each v y i
     where
-      each : (v : ℕ) (y : NameBytes) → found t (with_at c k (Some (Some e))) v y ≡ set_kid (found t c) k x w v y
+      each : (v : ℕ) (y : NameBytes) → layered_lookup t (with_at c k (Some (Some e))) v y ≡ set_kid (layered_lookup t c) k x w v y
       each v y = ⊎_elim
-          (λ (here : (v ≡ k) × (y ≡ x)). (λ i. found t (with_at c k (Some (Some e))) (here.0 i) (here.1 i)) ∙ found_there (Some (Some e)) x ∙ new ∙ sym ((λ i. set_kid (found t c) k x w (here.0 i) (here.1 i)) ∙ set_kid_here (found t c) k x w))
+          (λ (here : (v ≡ k) × (y ≡ x)). (λ i. layered_lookup t (with_at c k (Some (Some e))) (here.0 i) (here.1 i)) ∙ found_there
+          (Some (Some e)) x ∙ new ∙ sym
+          ((λ i. set_kid (layered_lookup t c) k x w (here.0 i) (here.1 i)) ∙ set_kid_here (layered_lookup t c) k x w))
           (λ (other : (v ≡ k) × (y ≡ x) → ⊥). ⊎_elim
-          (λ (s : v ≡ k). ap (λ u. found t (with_at c k (Some (Some e))) u y) s ∙ found_there (Some (Some e)) y ∙ old y (λ f. other (s, f)) ∙ ap (λ u. found t c u y) (sym s))
+          (λ (s : v ≡ k). ap (λ u. layered_lookup t (with_at c k (Some (Some e))) u y) s ∙ found_there (Some (Some e)) y ∙ old y
+          (λ f. other (s, f)) ∙ ap (λ u. layered_lookup t c u y) (sym s))
           (λ (ne : v ≢ k). found_elsewhere (Some (Some e)) v y ne)
-          (cases_eq v k) ∙ sym (set_kid_other (found t c) k x w v y other))
+          (cases_eq v k) ∙ sym (set_kid_other (layered_lookup t c) k x w v y other))
           (place_cases k x v y)
 
   -- a directory that says o of x
-  pub found_said : (d e : Node) → c k ≡ Some (Some d) → content_over (content_numbered t k) d.body ≡ None → (x : NameBytes) (o : Option ℕ) → e.body ≡ body_with d.body x o → found t (with_at c k (Some (Some e))) ≡ set_kid (found t c) k x o
+  pub found_said : (d e : Node) → c k ≡ Some (Some d) → content_over (content_numbered t k) d.body ≡ None → (x : NameBytes) (o : Option ℕ)
+      → e.body ≡ body_with d.body x o → layered_lookup t (with_at c k (Some (Some e))) ≡ set_kid (layered_lookup t c) k x o
   found_said d e here directory x o is = found_set e x o
       (ap (λ b. said_over t k x (own_in b x)) is ∙ ap (said_over t k x) (said_here (content_numbered t k) d.body x o directory))
-      (λ y ne. ap (λ b. said_over t k y (own_in b y)) is ∙ ap (said_over t k y) (said_there d.body x o y ne) ∙ sym (ap (found_at t k y) here))
+      (λ y ne. ap (λ b. said_over t k y (own_in b y)) is ∙ ap (said_over t k y) (said_there d.body x o y ne) ∙ sym
+      (ap (found_at t k y) here))
 
   -- ---- each node by itself
 

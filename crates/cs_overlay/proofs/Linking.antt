@@ -2,15 +2,17 @@
 use Rattle.std.proofs.Common.{◌≡◌, ◌≢◌, ◌==◌, ℕ, true, false, Option, None, Some, refl, sym, ap, ◌∙◌, subst, ⊎_elim}
 use Rattle.std.proofs.lemmas.Bool.{cases_eq, eq-eqb, ne_eqb}
 use Rattle.cs_tree_model.specs.declared.change.Stamp.{Stamp}
-use Rattle.cs_tree_model.specs.Effects.{stamped}
+use Rattle.cs_tree_model.specs.Effects.{record_with_stamp}
 use Rattle.cs_tree_model.specs.Lookups.{set_kid}
 use Rattle.cs_tree_model.specs.Record.{kind_of}
 use Rattle.cs_tree_model.specs.Table as table
-use Rattle.cs_tree_model.specs.Table.{Nodes, set_node, tree_of, unset_node, with_file}
+use Rattle.cs_tree_model.specs.Table.{Nodes, set_node, unset_node, with_file}
 use Rattle.cs_tree_model.specs.Tree.{NameBytes, Tree, content_numbered}
 use Rattle.cs_overlay.specs.declared.node.Node.{Node}
-use Rattle.cs_overlay.specs.Layers.{Alike, AreNodes, HasNode, IsNode, Upper, content_over, found, layers, shape_over, step_at, with_answer, with_at, with_stamp}
-use Rattle.cs_overlay.proofs.Layering.{content_said, found_said, found_same, hides_said, layers_put, nodes_put, one_upper, step_here, with_at_here}
+use Rattle.cs_overlay.specs.Layers.{SameNodes, AreNodes, HasNode, IsNode, Upper, content_over, layered_lookup, layers, shape_over, step_at}
+use Rattle.cs_overlay.specs.Layers.{with_answer, with_at, with_stamp}
+use Rattle.cs_overlay.proofs.Layering.{content_said, found_said, found_same, hides_said, layers_put, nodes_put, one_upper, step_here}
+use Rattle.cs_overlay.proofs.Layering.{with_at_here}
 
 -- ---- tables of the model in which the same numbers are set in another order
 
@@ -20,7 +22,8 @@ module _ (at : Nodes) (n u : ℕ) (apart : n ≢ u) (a b : table.Node) where
     where
       each : (q : ℕ) → unset_node (set_node (set_node at u a) u b) n q ≡ set_node (unset_node at n) u b q
       each q = ⊎_elim
-          (λ (e : q ≡ n). let t : q == n ≡ true = eq-eqb q n e in let s : q == u ≡ false = ne_eqb q u (λ f. apart (sym e ∙ f)) in rw (t, s) refl)
+          (λ (e : q ≡ n). let t : q == n ≡ true = eq-eqb q n e in let s : q == u ≡ false = ne_eqb q u (λ f. apart (sym e ∙ f)) in
+          rw (t, s) refl)
           (λ (ne : q ≢ n). let t : q == n ≡ false = ne_eqb q n ne in ⊎_elim
           (λ (f : q ≡ u). let s : q == u ≡ true = eq-eqb q u f in rw (t, s) refl)
           (λ (nf : q ≢ u). let s : q == u ≡ false = ne_eqb q u nf in rw (t, s) refl)
@@ -41,7 +44,8 @@ module _ (at : Nodes) (n u : ℕ) (apart : n ≢ u) (a b : table.Node) where
     where
       each : (q : ℕ) → set_node (set_node (set_node at n a) u b) n c q ≡ set_node (set_node at n c) u b q
       each q = ⊎_elim
-          (λ (e : q ≡ n). let t : q == n ≡ true = eq-eqb q n e in let s : q == u ≡ false = ne_eqb q u (λ f. apart (sym e ∙ f)) in rw (t, s) refl)
+          (λ (e : q ≡ n). let t : q == n ≡ true = eq-eqb q n e in let s : q == u ≡ false = ne_eqb q u (λ f. apart (sym e ∙ f)) in
+          rw (t, s) refl)
           (λ (ne : q ≢ n). let t : q == n ≡ false = ne_eqb q n ne in rw t refl)
           (cases_eq q n)
 
@@ -57,13 +61,27 @@ put_twice c k v w = λ i q. each q i
 
 -- a directory that says o of x, and is stamped
 module _ (t : Tree) (u : ℕ) (x : NameBytes) (o : Option ℕ) (s : Stamp) where
-  pub shape_touched : (d : Node) → shape_over (content_numbered t u) (with_stamp (with_answer d x o) s) ≡ with_file (shape_over (content_numbered t u) d) (stamped s (shape_over (content_numbered t u) d).file)
-  shape_touched d = λ i. record (shape_over (content_numbered t u) d) { file = record (stamped s (shape_over (content_numbered t u) d).file) { content = content_said (content_numbered t u) d.body x o i } }
+  pub shape_touched : (d : Node)
+      → shape_over (content_numbered t u) (with_stamp (with_answer d x o) s)
+      ≡ with_file (shape_over (content_numbered t u) d) (record_with_stamp s (shape_over (content_numbered t u) d).file)
+  shape_touched d =
+      λ i. record (shape_over (content_numbered t u) d) {
+        file =
+            record (record_with_stamp s (shape_over (content_numbered t u) d).file) {
+              content =
+                  content_said (content_numbered t u) d.body x o i;
+            };
+      }
 
   pub node_touched : (d : Node) → IsNode (content_numbered t u) u d → IsNode (content_numbered t u) u (with_stamp (with_answer d x o) s)
-  node_touched d h = record { kind = h.kind ∙ ap kind_of (sym (content_said (content_numbered t u) d.body x o)); named = h.named; hides = hides_said (content_numbered t u) d.body x o h.hides }
+  node_touched d h = record {
+    kind = h.kind ∙ ap kind_of (sym (content_said (content_numbered t u) d.body x o));
+    named = h.named;
+    hides = hides_said (content_numbered t u) d.body x o h.hides;
+  }
 
-  module _ (c : Upper) (has : HasNode c u) (c2 c3 : Upper) (one : Alike (step_at c u (λ d. with_answer d x o)) c2) (two : Alike (step_at c2 u (λ d. with_stamp d s)) c3) where
+  module _ (c : Upper) (has : HasNode c u) (c2 c3 : Upper) (one : SameNodes (step_at c u (λ d. with_answer d x o)) c2)
+      (two : SameNodes (step_at c2 u (λ d. with_stamp d s)) c3) where
     pub answered : with_at c u (Some (Some (with_answer has.0 x o))) ≡ c2
     answered = sym (step_here t c u (λ d. with_answer d x o) has.0 has.1) ∙ one_upper _ c2 one
 
@@ -73,14 +91,21 @@ module _ (t : Tree) (u : ℕ) (x : NameBytes) (o : Option ℕ) (s : Stamp) where
     pub touched : with_at c2 u (Some (Some (with_stamp (with_answer has.0 x o) s))) ≡ c3
     touched = sym (step_here t c2 u (λ d. with_stamp d s) (with_answer has.0 x o) answered_here) ∙ one_upper _ c3 two
 
-    pub layers_touched : layers t c3 ≡ set_node (set_node (layers t c) u (shape_over (content_numbered t u) (with_answer has.0 x o))) u (with_file (shape_over (content_numbered t u) has.0) (stamped s (shape_over (content_numbered t u) has.0).file))
+    pub layers_touched : layers t c3
+        ≡ set_node (set_node (layers t c) u (shape_over (content_numbered t u) (with_answer has.0 x o))) u
+        (with_file (shape_over (content_numbered t u) has.0) (record_with_stamp s (shape_over (content_numbered t u) has.0).file))
     layers_touched = ap (layers t) (sym touched) ∙ layers_put t c2 u (with_stamp (with_answer has.0 x o) s)
         ∙ (λ i. set_node ((ap (layers t) (sym answered) ∙ layers_put t c u (with_answer has.0 x o)) i) u (shape_touched has.0 i))
 
-    pub found_touched : content_over (content_numbered t u) has.0.body ≡ None → found t c3 ≡ set_kid (found t c) u x o
-    found_touched directory = ap (found t) (sym touched) ∙ found_same t c2 u (with_answer has.0 x o) (with_stamp (with_answer has.0 x o) s) answered_here (λ y. refl)
-        ∙ ap (found t) (sym answered) ∙ found_said t c u has.0 (with_answer has.0 x o) has.1 directory x o refl
+    pub found_touched : content_over (content_numbered t u) has.0.body ≡ None → layered_lookup t c3 ≡ set_kid (layered_lookup t c) u x o
+    found_touched directory =
+        ap (layered_lookup t) (sym touched) ∙ found_same t c2 u (with_answer has.0 x o) (with_stamp (with_answer has.0 x o) s) answered_here
+        (λ y. refl)
+        ∙ ap (layered_lookup t) (sym answered) ∙ found_said t c u has.0 (with_answer has.0 x o) has.1 directory x o refl
 
     pub nodes_touched : AreNodes t c → AreNodes t c3
-    nodes_touched nodes = subst (AreNodes t) (sym (put_twice c u (Some (Some (with_answer has.0 x o))) (Some (Some (with_stamp (with_answer has.0 x o) s)))) ∙ ap (λ v. with_at v u (Some (Some (with_stamp (with_answer has.0 x o) s)))) answered ∙ touched)
+    nodes_touched nodes =
+        subst (AreNodes t)
+        (sym (put_twice c u (Some (Some (with_answer has.0 x o))) (Some (Some (with_stamp (with_answer has.0 x o) s)))) ∙ ap
+        (λ v. with_at v u (Some (Some (with_stamp (with_answer has.0 x o) s)))) answered ∙ touched)
         (nodes_put t c u nodes (with_stamp (with_answer has.0 x o) s) (node_touched has.0 (nodes u has.0 has.1)))

@@ -1,5 +1,6 @@
 -- The next entry of a directory over a lower one.
-use Rattle.std.proofs.Common.{◌≡◌, ◌<◌, ◌≤◌, Bool, true, false, ◌⊎◌, inl, inr, ℕ, List, [], ◌∷◌, length, arith, Option, None, Some, IsSome, IfSome, sym, ap, ◌∙◌, ⊎_elim}
+use Rattle.std.proofs.Common.{◌≡◌, ◌<◌, ◌≤◌, Bool, true, false, ◌⊎◌, inl, inr, ℕ, List, [], ◌∷◌, length, arith, Option, None, Some, IsSome}
+use Rattle.std.proofs.Common.{IfSome, sym, ap, ◌∙◌, ⊎_elim}
 use Rattle.std.proofs.lemmas.Bool.{false≢true, cases_Bool}
 use Rattle.std.specs.Option.{is_some, option_map, option_map_or}
 use Rattle.std.specs.Cmp.{tied_itself}
@@ -11,7 +12,7 @@ use Rattle.cs_tree_model.specs.Effects.{comes_after}
 use Rattle.cs_tree_model.specs.Laws.Nexts.{total, is_less, name_order, not_itself, not_both, comes_later, comes_sooner}
 use Rattle.cs_tree_model.specs.Laws.Paths.{option_cases}
 use Rattle.cs_tree_model.specs.Nexts.{entry_name, comes_before, IsNext, IsEntryBelow}
-use Rattle.cs_tree_model.specs.declared.entries.Entry.{Entry}
+use Rattle.cs_tree_model.specs.declared.entries.ListedEntry.{ListedEntry}
 use Rattle.cs_tree_model.specs.Tree.{NameBytes, name_cmp}
 
 -- what the names of its own say of a name, or else the lower directory
@@ -37,7 +38,8 @@ module _ (own : NameBytes → Option (Option ℕ)) (low : NameBytes → Option �
         (λ (some : (o : Option ℕ) × (own y ≡ Some o)). absurd (false≢true (sym (none y (ap is_some some.1, b.1)) ∙ b.0)))
         (option_cases (own y))
 
-    pub rest_low : (o : Option NameBytes) → IsEntryBelow (λ y. IsSome (low y)) last bound o → IsEntryBelow (λ y. IsSome (shown own low y)) last bound o
+    pub rest_low : (o : Option NameBytes) → IsEntryBelow (λ y. IsSome (low y)) last bound o
+        → IsEntryBelow (λ y. IsSome (shown own low y)) last bound o
     rest_low None a = λ y h. ⊎_elim
         (λ (t : comes_after last y ≡ true). a y (ap is_some (sym (is_low y (not_own y (t, h.1)))) ∙ h.0, h.1))
         (λ (t : comes_after last y ≡ false). t)
@@ -51,7 +53,8 @@ module _ (own : NameBytes → Option (Option ℕ)) (low : NameBytes → Option �
     pub rest_number : (x : NameBytes) (n : ℕ) → Between last bound x → low x ≡ Some n → shown own low x ≡ Some n
     rest_number x n b e = is_low x (not_own x b) ∙ e
 
-    pub rest_numbers : (o : Option Entry) → IsEntryBelow (λ y. IsSome (low y)) last bound (option_map entry_name o) → IfSome o (λ e. low (entry_name e) ≡ Some e.number) → IfSome o (λ e. shown own low (entry_name e) ≡ Some e.number)
+    pub rest_numbers : (o : Option ListedEntry) → IsEntryBelow (λ y. IsSome (low y)) last bound (option_map entry_name o)
+        → IfSome o (λ e. low (entry_name e) ≡ Some e.number) → IfSome o (λ e. shown own low (entry_name e) ≡ Some e.number)
     rest_numbers None a h = h
     rest_numbers (Some e) a h = rest_number (entry_name e) e.number (a.after, a.there.1) h
 
@@ -68,7 +71,8 @@ module _ (own : NameBytes → Option (Option ℕ)) (low : NameBytes → Option �
         (option_cases (own y))
 
     -- the lower's next one, if it comes before x
-    pub low_first : (y : NameBytes) → IsNext (λ z. IsSome (low z) × (comes_before (Some x) z ≡ true)) last y → IsNext (λ z. IsSome (shown own low z) × (comes_before bound z ≡ true)) last y
+    pub low_first : (y : NameBytes) → IsNext (λ z. IsSome (low z) × (comes_before (Some x) z ≡ true)) last y
+        → IsNext (λ z. IsSome (shown own low z) × (comes_before bound z ≡ true)) last y
     low_first y a =
         let lt = is_less _ a.there.1 in
         record {
@@ -83,7 +87,8 @@ module _ (own : NameBytes → Option (Option ℕ)) (low : NameBytes → Option �
               (name_order z x);
         }
 
-    pub low_number : (y : NameBytes) (n : ℕ) → IsNext (λ z. IsSome (low z) × (comes_before (Some x) z ≡ true)) last y → low y ≡ Some n → shown own low y ≡ Some n
+    pub low_number : (y : NameBytes) (n : ℕ) → IsNext (λ z. IsSome (low z) × (comes_before (Some x) z ≡ true)) last y → low y ≡ Some n
+        → shown own low y ≡ Some n
     low_number y n a e = is_low y (before_own y a.after (is_less _ a.there.1)) ∙ e
 
     module _ (none : IsEntryBelow (λ z. IsSome (low z)) last (Some x) None) where
@@ -116,7 +121,8 @@ module _ (own : NameBytes → Option (Option ℕ)) (low : NameBytes → Option �
             (λ (more : name_cmp x y ≡ Less). ap is_lt more)
             (from_own y h t)
 
-        pub passed : (o : Option NameBytes) → IsEntryBelow (λ y. IsSome (shown own low y)) (Some x) bound o → IsEntryBelow (λ y. IsSome (shown own low y)) last bound o
+        pub passed : (o : Option NameBytes) → IsEntryBelow (λ y. IsSome (shown own low y)) (Some x) bound o
+            → IsEntryBelow (λ y. IsSome (shown own low y)) last bound o
         passed None a = λ y h. ⊎_elim
             (λ (t : comes_after last y ≡ true). absurd (false≢true (sym (a y h) ∙ behind y h.0 t)))
             (λ (t : comes_after last y ≡ false). t)
@@ -143,7 +149,8 @@ module _ (last : Option NameBytes) (x : NameBytes) (after : comes_after last x �
   fewer : (es : List Said) → left_after (Some x) es ≤ left_after last es
   fewer [] = omega arith
   fewer (e ∷ es) = let more = fewer es in ⊎_elim
-      (λ (t : comes_after (Some x) e.0 ≡ true). let s : comes_after last e.0 ≡ true = comes_later last x e.0 after (is_less _ t) in rw (t, s) (omega arith))
+      (λ (t : comes_after (Some x) e.0 ≡ true). let s : comes_after last e.0 ≡ true = comes_later last x e.0 after (is_less _ t) in
+      rw (t, s) (omega arith))
       (λ (t : comes_after (Some x) e.0 ≡ false). ⊎_elim
       (λ (s : comes_after last e.0 ≡ true). rw (t, s) (omega arith))
       (λ (s : comes_after last e.0 ≡ false). rw (t, s) more)
@@ -159,10 +166,13 @@ module _ (last : Option NameBytes) (x : NameBytes) (after : comes_after last x �
       let more = fewer es in
       rw (s, t) (omega arith))
       (λ (o : (name_cmp x e.0 ≡ Less) ⊎ (name_cmp e.0 x ≡ Less)).
-      let n : is_eq (name_cmp x e.0) ≡ false = ⊎_elim (λ (lt : name_cmp x e.0 ≡ Less). ap is_eq lt) (λ (gt : name_cmp e.0 x ≡ Less). ap is_eq (total.antisymm x e.0 ∙ ap ordering_reverse gt)) o in
+      let n : is_eq (name_cmp x e.0) ≡ false =
+      ⊎_elim (λ (lt : name_cmp x e.0 ≡ Less). ap is_eq lt)
+      (λ (gt : name_cmp e.0 x ≡ Less). ap is_eq (total.antisymm x e.0 ∙ ap ordering_reverse gt)) o in
       let more = left_falls es (rw n at h) in
       ⊎_elim
-      (λ (t : comes_after (Some x) e.0 ≡ true). let s : comes_after last e.0 ≡ true = comes_later last x e.0 after (is_less _ t) in rw (t, s) (omega arith))
+      (λ (t : comes_after (Some x) e.0 ≡ true). let s : comes_after last e.0 ≡ true = comes_later last x e.0 after (is_less _ t) in
+      rw (t, s) (omega arith))
       (λ (t : comes_after (Some x) e.0 ≡ false). ⊎_elim
       (λ (s : comes_after last e.0 ≡ true). rw (t, s) (omega arith))
       (λ (s : comes_after last e.0 ≡ false). rw (t, s) more)

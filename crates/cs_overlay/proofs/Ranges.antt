@@ -1,5 +1,6 @@
 -- A read that finds no block, or no byte.
-use Rattle.std.proofs.Common.{◌≡◌, ◌≢◌, ℕ, ◌+◌, ◌-◌, ◌/◌, ◌%◌, ◌≤◌, nat_lt, Bool, false, cond, min, List, [], ◌∷◌, map, take, drop, length, slice_index, Option, None, refl, sym, ap, ◌∙◌, arith}
+use Rattle.std.proofs.Common.{◌≡◌, ◌≢◌, ℕ, ◌+◌, ◌-◌, ◌/◌, ◌%◌, ◌≤◌, nat_lt, Bool, false, cond, min, List, [], ◌∷◌, map, take, drop, length}
+use Rattle.std.proofs.Common.{slice_index, Option, None, refl, sym, ap, ◌∙◌, arith}
 use Rattle.std.proofs.lemmas.Bool.{le-ltb}
 use Rattle.std.proofs.lemmas.List.FromFn.{length-map-range_with_len, fill_by_all}
 use Rattle.std.specs.BTreeMap.{is_at}
@@ -27,14 +28,18 @@ module _ (f : ℕ → ℕ) (offset count size n : ℕ) (is : n ≡ min count (si
   some_bytes some e = some (sym (length-map-range_with_len f offset n) ∙ ap length (read_range f offset count size n is ∙ e))
 
 -- where no block stands, what shows of the lower file is all
-pub shown_alone : (lower : List ℕ) (kept : ℕ) (blocks : ℕ → Option (List ℕ)) (offset n : ℕ) (shown : List ℕ) → ((q : ℕ) → blocks q ≡ None) → IsShown lower kept offset n shown → length shown ≡ n
+pub shown_alone : (lower : List ℕ) (kept : ℕ) (blocks : ℕ → Option (List ℕ)) (offset n : ℕ) (shown : List ℕ) → ((q : ℕ) → blocks q ≡ None)
+    → IsShown lower kept offset n shown → length shown ≡ n
     → shown ≡ map (byte_at lower kept blocks) (range_with_len offset n)
 shown_alone lower kept blocks offset n shown none is long =
     fill_by_all (λ k. byte_at lower kept blocks (offset + k)) shown n 0 long
     (λ k lt. let z : offset + k - offset ≡ k = omega arith in
     ap (slice_index shown) (sym z) ∙ is (offset + k) (omega arith) (omega (arith, lt))
-    ∙ sym (ap (λ o. option_map_or (λ b. slice_index b ((offset + k) % 4096)) o (cond (nat_lt (offset + k) kept) (slice_index lower (offset + k)) 0)) (none ((offset + k) / 4096))))
-    ∙ shifted (λ k. byte_at lower kept blocks (offset + k)) (byte_at lower kept blocks) 0 offset n (λ i lt. (let z : 0 + i ≡ i = omega arith in ap (λ j. byte_at lower kept blocks (offset + j)) z))
+    ∙ sym (ap
+    (λ o. option_map_or (λ b. slice_index b ((offset + k) % 4096)) o
+    (cond (nat_lt (offset + k) kept) (slice_index lower (offset + k)) 0)) (none ((offset + k) / 4096))))
+    ∙ shifted (λ k. byte_at lower kept blocks (offset + k)) (byte_at lower kept blocks) 0 offset n
+    (λ i lt. (let z : 0 + i ≡ i = omega arith in ap (λ j. byte_at lower kept blocks (offset + j)) z))
 
 -- a file that is the lower one
 module _ (lower : List ℕ) (blocks : ℕ → Option (List ℕ)) (none : (q : ℕ) → blocks q ≡ None) where
@@ -45,4 +50,6 @@ module _ (lower : List ℕ) (blocks : ℕ → Option (List ℕ)) (none : (q : �
   all_lower size long = (λ i. bytes_of lower (sym long i) (blocks_are i) (sym long i)) ∙ all_shown lower
 
   pub nothing_hidden : (size i : ℕ) → size ≤ i → byte_at lower size blocks i ≡ 0
-  nothing_hidden size i le = ap (λ b. byte_at lower size b i) blocks_are ∙ (let u : nat_lt i size ≡ false = le-ltb _ _ le in ap (λ b. cond b (slice_index lower i) 0) u)
+  nothing_hidden size i le =
+      ap (λ b. byte_at lower size b i) blocks_are ∙
+      (let u : nat_lt i size ≡ false = le-ltb _ _ le in ap (λ b. cond b (slice_index lower i) 0) u)

@@ -13,9 +13,11 @@ use Rattle.cs_tree_model.specs.Lookups.{IsIndexed, Lookup}
 use Rattle.cs_tree_model.specs.Record.{metadata_of}
 use Rattle.cs_tree_model.specs.Table as table
 use Rattle.cs_tree_model.specs.Table.{Nodes, node_in, path_of, tree_of}
-use Rattle.cs_tree_model.specs.Tree.{IsTree, NameBytes, Tree, bytes_at, content_numbered, last_name, name_numbered, number_in, parent_numbered, record_numbered}
+use Rattle.cs_tree_model.specs.Tree.{IsTree, NameBytes, Tree, bytes_at, content_numbered, last_name, name_numbered, number_in}
+use Rattle.cs_tree_model.specs.Tree.{parent_numbered, record_numbered}
 use Rattle.cs_overlay.specs.declared.node.Node.{Node}
-use Rattle.cs_overlay.specs.Layers.{IsOver, Upper, content_at, found, layer_at, layers, metadata_at, own_name_at, parent_at, shape_over}
+use Rattle.cs_overlay.specs.Layers.{IsOver, Upper, content_at, layered_lookup, layer_at, layers, metadata_at, own_name_at, parent_at}
+use Rattle.cs_overlay.specs.Layers.{shape_over}
 
 -- ---- a table's tree, by number
 
@@ -30,7 +32,9 @@ module _ (at : Nodes) (kids : Lookup) (next : ℕ) (h : IsIndexed at kids next) 
       by : (n : ℕ) (o : Option table.Node) → at n ≡ o → option_and_then last_name (option_map (λ _. path_of at n) (at n)) ≡ name_at n (at n)
       by zero None e = ap (λ w. option_and_then last_name (option_map (λ _. path_of at 0) w)) e
       by zero (Some d) e = ap (λ w. option_and_then last_name (option_map (λ _. path_of at 0) w)) e ∙ ap last_name (path_of_root at)
-      by (suc n) None e = ap (λ w. option_and_then last_name (option_map (λ _. path_of at (suc n)) w)) e ∙ ap (option_map (λ (d : table.Node). d.name)) (sym e)
+      by (suc n) None e =
+          ap (λ w. option_and_then last_name (option_map (λ _. path_of at (suc n)) w)) e ∙ ap (option_map (λ (d : table.Node). d.name))
+          (sym e)
       by (suc n) (Some d) e = ap (λ w. option_and_then last_name (option_map (λ _. path_of at (suc n)) w)) e
           ∙ ap last_name (path_step at h.table.parent_below (suc n) d e (λ z. (cc))) ∙ last_of_snoc (path_of at d.parent) d.name
           ∙ ap (option_map (λ (v : table.Node). v.name)) (sym e)
@@ -44,22 +48,22 @@ indexed_of t h = record { table = table_of_tree t h; links = links_of_tree t h }
 
 module _ (t : Tree) (c : Upper) (next count : ℕ) (h : IsOver t c next count) (whole : Tree) (view : tree_of (layers t c) next ≡ whole) where
   pub is_tree_in : IsTree whole
-  is_tree_in = laws.is_tree_in (layers t c) (found t c) next h.indexed whole view
+  is_tree_in = laws.is_tree_in (layers t c) (layered_lookup t c) next h.indexed whole view
 
   pub next_is : whole.next ≡ next
-  next_is = sym (laws.next_in (layers t c) (found t c) next h.indexed whole view)
+  next_is = sym (laws.next_in (layers t c) (layered_lookup t c) next h.indexed whole view)
 
   pub count_is : count ≡ len whole.files
   count_is = h.counted ∙ sym (len-files (layers t c) next h.indexed.table) ∙ ap (λ v. len v.files) view
 
   pub record_is : (n : ℕ) → option_map (λ d. d.file) (layers t c n) ≡ record_numbered whole n
-  record_is n = sym (laws.record_in (layers t c) (found t c) next h.indexed whole view n)
+  record_is n = sym (laws.record_in (layers t c) (layered_lookup t c) next h.indexed whole view n)
 
   pub parent_is : (n : ℕ) → option_map (λ d. d.parent) (layers t c n) ≡ parent_numbered whole n
-  parent_is n = sym (laws.parent_in (layers t c) (found t c) next h.indexed whole view n)
+  parent_is n = sym (laws.parent_in (layers t c) (layered_lookup t c) next h.indexed whole view n)
 
   pub name_is : (n : ℕ) → name_at n (layers t c n) ≡ name_numbered whole n
-  name_is n = sym (names (layers t c) (found t c) next h.indexed whole view n)
+  name_is n = sym (names (layers t c) (layered_lookup t c) next h.indexed whole view n)
 
   -- the name of a node that isn't the root
   pub name_here : (n : ℕ) → n ≢ 0 → option_map (λ d. d.name) (layers t c n) ≡ name_numbered whole n
@@ -81,18 +85,24 @@ module _ (t : Tree) (c : Upper) (next count : ℕ) (h : IsOver t c next count) (
       by None e p = false≢true (ap is_some e ∙ there)
       by (Some d) e p = false≢true (ap is_some p)
 
-  pub found_is : (u : ℕ) (x : NameBytes) → found t c u x ≡ number_in whole u x
-  found_is u x = sym (laws.number_in_kids (layers t c) (found t c) next h.indexed whole view u x)
+  pub found_is : (u : ℕ) (x : NameBytes) → layered_lookup t c u x ≡ number_in whole u x
+  found_is u x = sym (laws.number_in_kids (layers t c) (layered_lookup t c) next h.indexed whole view u x)
 
   -- where the overlay has nothing, the lower tree's answer
   record_lower : (n : ℕ) → None ≡ c n → record_numbered t n ≡ record_numbered whole n
-  record_lower n none = laws.record_in (node_in t) (number_in t) t.next (indexed_of t h.tree) t (tree_round t h.tree) n ∙ ap (λ o. option_map (λ (d : table.Node). d.file) (layer_at t n o)) none ∙ record_is n
+  record_lower n none =
+      laws.record_in (node_in t) (number_in t) t.next (indexed_of t h.tree) t (tree_round t h.tree) n ∙ ap
+      (λ o. option_map (λ (d : table.Node). d.file) (layer_at t n o)) none ∙ record_is n
 
   parent_lower : (n : ℕ) → None ≡ c n → parent_numbered t n ≡ parent_numbered whole n
-  parent_lower n none = laws.parent_in (node_in t) (number_in t) t.next (indexed_of t h.tree) t (tree_round t h.tree) n ∙ ap (λ o. option_map (λ (d : table.Node). d.parent) (layer_at t n o)) none ∙ parent_is n
+  parent_lower n none =
+      laws.parent_in (node_in t) (number_in t) t.next (indexed_of t h.tree) t (tree_round t h.tree) n ∙ ap
+      (λ o. option_map (λ (d : table.Node). d.parent) (layer_at t n o)) none ∙ parent_is n
 
   name_lower : (n : ℕ) → None ≡ c n → name_numbered t n ≡ name_numbered whole n
-  name_lower n none = names (node_in t) (number_in t) t.next (indexed_of t h.tree) t (tree_round t h.tree) n ∙ ap (λ o. name_at n (layer_at t n o)) none ∙ name_is n
+  name_lower n none =
+      names (node_in t) (number_in t) t.next (indexed_of t h.tree) t (tree_round t h.tree) n ∙ ap (λ o. name_at n (layer_at t n o)) none ∙
+      name_is n
 
   -- what is gone
   record_gone : (n : ℕ) → Some None ≡ c n → None ≡ record_numbered whole n
@@ -110,7 +120,9 @@ module _ (t : Tree) (c : Upper) (next count : ℕ) (h : IsOver t c next count) (
       by : (o : Option (Option Node)) → o ≡ c n → metadata_at t n o ≡ option_map metadata_of (record_numbered whole n)
       by None e = ap (option_map metadata_of) (record_lower n e)
       by (Some None) e = ap (option_map metadata_of) (record_gone n e)
-      by (Some (Some d)) e = (let kind = (h.nodes n d (sym e)).kind in λ i. Some (record d.metadata { kind = kind i })) ∙ ap (option_map metadata_of) (record_own n d e)
+      by (Some (Some d)) e = (let kind = (h.nodes n d (sym e)).kind in λ i. Some (record d.metadata {
+        kind = kind i;
+      })) ∙ ap (option_map metadata_of) (record_own n d e)
 
   pub parent_all : (n : ℕ) → parent_at t n (c n) ≡ parent_numbered whole n
   parent_all n = by (c n) refl
@@ -127,7 +139,8 @@ module _ (t : Tree) (c : Upper) (next count : ℕ) (h : IsOver t c next count) (
       by : (o : Option (Option Node)) → o ≡ c (suc n) → own_name_at t (suc n) o ≡ name_numbered whole (suc n)
       by None e = name_lower (suc n) e
       by (Some None) e = ap (λ o. name_at (suc n) (layer_at t (suc n) o)) e ∙ name_is (suc n)
-      by (Some (Some d)) e = unwrapped d.name [] ((h.nodes (suc n) d (sym e)).named z) ∙ ap (λ o. name_at (suc n) (layer_at t (suc n) o)) e ∙ name_is (suc n)
+      by (Some (Some d)) e =
+          unwrapped d.name [] ((h.nodes (suc n) d (sym e)).named z) ∙ ap (λ o. name_at (suc n) (layer_at t (suc n) o)) e ∙ name_is (suc n)
 
   pub name_root : None ≡ name_numbered whole 0
   name_root = name_is 0
@@ -145,7 +158,8 @@ module _ (t : Tree) (c : Upper) (next count : ℕ) (h : IsOver t c next count) (
 
 -- ---- no changes
 
-module _ (t : Tree) (h : IsTree t) (count : ℕ) (counted : count ≡ len t.files) (next : ℕ) (next_of : t.next ≡ next) (c : Upper) (none : (n : ℕ) → c n ≡ None) where
+module _ (t : Tree) (h : IsTree t) (count : ℕ) (counted : count ≡ len t.files) (next : ℕ) (next_of : t.next ≡ next) (c : Upper)
+    (none : (n : ℕ) → c n ≡ None) where
   abbrev nothing : Upper
   nothing n = None
 

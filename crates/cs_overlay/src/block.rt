@@ -1,5 +1,6 @@
 //! A block of a file's own.
-ghost use Rattle.std.specs.Prelude.{◌≡◌, ◌+◌, ◌++◌, ◌≤◌, ◌<◌, ◌^◌, ℕ, length, map, replicate, take, drop, slice_index, OnOk};
+ghost use Rattle.std.specs.Prelude.{◌≡◌, ◌+◌, ◌++◌, ◌≤◌, ◌<◌, ◌^◌, ℕ, length, map, replicate, take};
+ghost use Rattle.std.specs.Prelude.{drop, slice_index, OnOk};
 ghost use Rattle.std.specs.List.{range_with_len};
 ghost use Rattle.cs_overlay.specs.Patch.{put_in};
 
@@ -48,7 +49,7 @@ impl Block {
         put_over(&mut self.bytes, start, piece);
     }
 
-    /// Puts zeros behind its bytes, up to a length at least.
+    /// Puts zeros after its bytes, up to a length at least.
     pub fn lengthen(&mut self, n: usize) -> Result<(), AllocError>
         ensures longer { (z : ℕ) × (self.new ≡ self.old ++ replicate z 0) }
         ensures there { OnOk result (n ≤ length self.new) }
@@ -69,7 +70,7 @@ fn part(bytes: &[u8], start: usize, count: usize) -> &[u8]
     &rest[..end]
 }
 
-/// Appends `count` bytes from a place on; past the end of the source stand zeros.
+/// Appends `count` bytes from a place on; past the end of the source they are zeros.
 pub fn append_part(
     out: &mut Vec<u8>,
     source: &[u8],
@@ -77,7 +78,9 @@ pub fn append_part(
     count: usize,
 ) -> Result<(), AllocError>
     requires { length out.old.items + count < 2 ^ 63 }
-    ensures { OnOk result (out.new.items ≡ out.old.items ++ map (slice_index source.now) (range_with_len start count)) }
+    ensures { OnOk result
+        (out.new.items ≡ out.old.items
+        ++ map (slice_index source.now) (range_with_len start count)) }
 {
     let end = out.len() + count;
     out.extend_from_slice(part(source, start, count))?;

@@ -1,8 +1,9 @@
-//! What stands at a number of an overlay says of the file, over the lower tree.
+//! What an overlay's entry at a number says of the file, over the lower tree.
 ghost use Rattle.std.specs.Prelude.{◌≡◌, ◌≢◌, [], IfOk, IsErr, IsSomeAnd, take, drop};
 ghost use Rattle.std.specs.Option.{option_copied, option_map};
-ghost use Rattle.cs_tree_model.specs.Record.{lent};
-ghost use Rattle.cs_overlay.specs.Layers.{found_at, metadata_at, parent_at, own_name_at, content_at};
+ghost use Rattle.cs_tree_model.specs.Record.{metadata_of_ref};
+ghost use Rattle.cs_overlay.specs.Layers.{found_at, metadata_at, parent_at, own_name_at};
+ghost use Rattle.cs_overlay.specs.Layers.{content_at};
 
 use crate::node::{Body, Node};
 use cs_names::Name;
@@ -15,7 +16,8 @@ pub fn record<'a, L: TreeRead>(
     entry: Option<&'a Option<Node>>,
     number: u64,
 ) -> Option<Metadata<'a>>
-    ensures { option_map lent result ≡ metadata_at (L.tree lower.now) number (option_copied entry.entry) }
+    ensures { option_map metadata_of_ref result
+        ≡ metadata_at (L.tree lower.now) number (option_copied entry.entry) }
 {
     match entry {
         Some(Some(node)) => Some(node.metadata.lend()),
@@ -60,7 +62,8 @@ pub fn name<'a, L: TreeRead>(
     entry: Option<&'a Option<Node>>,
     number: u64,
 ) -> Option<&'a Name>
-    ensures { option_copied result ≡ own_name_at (L.tree lower.now) number (option_copied entry.entry) }
+    ensures { option_copied result
+        ≡ own_name_at (L.tree lower.now) number (option_copied entry.entry) }
 {
     match entry {
         Some(Some(node)) => node.name.as_ref(),
@@ -78,8 +81,14 @@ pub fn read<L: TreeRead>(
     offset: u64,
     count: usize,
 ) -> Result<Option<Vec<u8>>, AllocError>
-    ensures value { IfOk result (λ bytes. option_map (λ v. v.items) bytes ≡ option_map (λ b. take count (drop offset b)) (content_at (L.tree lower.now) number (option_copied entry.entry))) }
-    ensures memory { IsErr result → IsSomeAnd (option_map (λ b. take count (drop offset b)) (content_at (L.tree lower.now) number (option_copied entry.entry))) (λ bytes. bytes ≢ []) }
+    ensures value { IfOk result
+        (λ bytes. option_map (λ v. v.items) bytes
+        ≡ option_map (λ b. take count (drop offset b))
+        (content_at (L.tree lower.now) number (option_copied entry.entry))) }
+    ensures memory { IsErr result
+        → IsSomeAnd
+        (option_map (λ b. take count (drop offset b))
+        (content_at (L.tree lower.now) number (option_copied entry.entry))) (λ bytes. bytes ≢ []) }
 {
     match entry {
         Some(Some(node)) => match &node.body {

@@ -1,5 +1,6 @@
 //! Blocks of a file's own, before they are written. Nobody sees them.
-ghost use Rattle.std.specs.Prelude.{◌≡◌, ◌≤◌, ◌<◌, ◌^◌, ℕ, List, Some, length, IfOk, IfSome, IsSome, OnOk};
+ghost use Rattle.std.specs.Prelude.{◌≡◌, ◌≤◌, ◌<◌, ◌^◌, ℕ, List, Some, length, IfOk, IfSome};
+ghost use Rattle.std.specs.Prelude.{IsSome, OnOk};
 ghost use Rattle.std.specs.Ordering.{nat_cmp};
 ghost use Rattle.std.specs.BTreeMap.{get};
 ghost use Rattle.cs_overlay.specs.Patch.{byte_at, block_of, lower_bytes, AreLonger, Reaches};
@@ -9,7 +10,7 @@ use cs_tree_model::TreeRead;
 use std::alloc::{AllocError, Global};
 use std::collections::BTreeMap;
 
-/// The block as the file shows it where none of its own stands.
+/// The block as the file shows it if it has none of its own.
 fn shown_block<L: TreeRead>(
     alloc: Global,
     lower: &L,
@@ -28,7 +29,7 @@ fn shown_block<L: TreeRead>(
     Ok(Block::of(bytes))
 }
 
-/// Puts zeros behind a block's bytes, up to a length at least.
+/// Puts zeros after a block's bytes, up to a length at least.
 fn lengthen(blocks: &mut BTreeMap<u64, Block>, index: u64, end: usize) -> Result<(), AllocError>
     ensures longer { AreLonger (get nat_cmp blocks.old) (get nat_cmp blocks.new) }
     ensures there { OnOk result (IfSome (get nat_cmp blocks.new index) (λ s. end ≤ length s)) }
@@ -49,8 +50,11 @@ fn own<L: TreeRead>(
     index: u64,
 ) -> Result<(), AllocError>
     requires { index < 2 ^ 51 }
-    ensures same { (i : ℕ) → byte_at (lower_bytes (L.tree lower.now) number) kept (get nat_cmp blocks.new) i ≡ byte_at (lower_bytes (L.tree lower.now) number) kept (get nat_cmp blocks.old) i }
-    ensures keeps { (a b : ℕ) → Reaches (get nat_cmp blocks.old) a b → Reaches (get nat_cmp blocks.new) a b }
+    ensures same { (i : ℕ)
+        → byte_at (lower_bytes (L.tree lower.now) number) kept (get nat_cmp blocks.new) i
+        ≡ byte_at (lower_bytes (L.tree lower.now) number) kept (get nat_cmp blocks.old) i }
+    ensures keeps { (a b : ℕ) → Reaches (get nat_cmp blocks.old) a b
+        → Reaches (get nat_cmp blocks.new) a b }
     ensures there { OnOk result (IsSome (get nat_cmp blocks.new index)) }
 {
     if blocks.contains_key(&index) {
@@ -72,9 +76,13 @@ fn reach<L: TreeRead>(
     end: usize,
 ) -> Result<(), AllocError>
     requires { index < 2 ^ 51 }
-    ensures same { (i : ℕ) → byte_at (lower_bytes (L.tree lower.now) number) kept (get nat_cmp blocks.new) i ≡ byte_at (lower_bytes (L.tree lower.now) number) kept (get nat_cmp blocks.old) i }
-    ensures keeps { (a b : ℕ) → Reaches (get nat_cmp blocks.old) a b → Reaches (get nat_cmp blocks.new) a b }
-    ensures there { OnOk result ((s : List ℕ) × (get nat_cmp blocks.new index ≡ Some s) × (end ≤ length s)) }
+    ensures same { (i : ℕ)
+        → byte_at (lower_bytes (L.tree lower.now) number) kept (get nat_cmp blocks.new) i
+        ≡ byte_at (lower_bytes (L.tree lower.now) number) kept (get nat_cmp blocks.old) i }
+    ensures keeps { (a b : ℕ) → Reaches (get nat_cmp blocks.old) a b
+        → Reaches (get nat_cmp blocks.new) a b }
+    ensures there { OnOk result
+        ((s : List ℕ) × (get nat_cmp blocks.new index ≡ Some s) × (end ≤ length s)) }
 {
     own(alloc, lower, number, kept, blocks, index)?;
     lengthen(blocks, index, end)?;
@@ -92,7 +100,9 @@ pub fn bring_up<L: TreeRead>(
     end: u64,
 ) -> Result<(), AllocError>
     requires { end < 2 ^ 63 }
-    ensures same { (i : ℕ) → byte_at (lower_bytes (L.tree lower.now) number) kept (get nat_cmp blocks.new) i ≡ byte_at (lower_bytes (L.tree lower.now) number) kept (get nat_cmp blocks.old) i }
+    ensures same { (i : ℕ)
+        → byte_at (lower_bytes (L.tree lower.now) number) kept (get nat_cmp blocks.new) i
+        ≡ byte_at (lower_bytes (L.tree lower.now) number) kept (get nat_cmp blocks.old) i }
     ensures there { OnOk result (Reaches (get nat_cmp blocks.new) offset end) }
 {
     let mut at = offset;

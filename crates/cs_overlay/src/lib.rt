@@ -1,5 +1,5 @@
-//! A tree that changes over a lower one, which is shared and never changes: it keeps what differs and
-//! nothing else.
+//! A tree that changes over a lower one, which is shared and never changes: it keeps what differs
+//! and nothing else.
 #![tactic(auto)]
 
 mod block;

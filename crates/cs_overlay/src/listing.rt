@@ -8,7 +8,7 @@ ghost use Rattle.cs_overlay.specs.Layers.{found_at, own_in, said_over};
 use crate::names::Names;
 use crate::node::{Body, Node};
 use cs_names::Name;
-use cs_tree_model::{Entry, TreeRead};
+use cs_tree_model::{ListedEntry, TreeRead};
 
 /// The next entry of a directory that says something of these names by itself. Each step passes one
 /// of them, and asks the lower directory no further than to the next of them.
@@ -18,9 +18,13 @@ fn merged<'a, L: TreeRead>(
     directory: u64,
     last: Option<&Name>,
     bound: Option<&Name>,
-) -> Option<Entry<'a>>
-    ensures name { IsEntryBelow (λ y. IsSome (said_over (L.tree lower.now) directory y (get names.now y))) (option_copied last.entry) (option_copied bound.entry) (option_map entry_name result) }
-    ensures number { IfSome result (λ e. said_over (L.tree lower.now) directory (entry_name e) (get names.now (entry_name e)) ≡ Some e.number) }
+) -> Option<ListedEntry<'a>>
+    ensures name { IsEntryBelow
+        (λ y. IsSome (said_over (L.tree lower.now) directory y (get names.now y)))
+        (option_copied last.entry) (option_copied bound.entry) (option_map entry_name result) }
+    ensures number { IfSome result
+        (λ e. said_over (L.tree lower.now) directory (entry_name e) (get names.now (entry_name e))
+        ≡ Some e.number) }
 {
     let mut from = last;
     loop {
@@ -31,7 +35,7 @@ fn merged<'a, L: TreeRead>(
             return Some(entry);
         }
         if let Some(number) = number {
-            return Some(Entry { name, number });
+            return Some(ListedEntry { name, number });
         }
         // a name that no file has
         from = Some(name);
@@ -45,9 +49,13 @@ fn node_after<'a, L: TreeRead>(
     directory: u64,
     last: Option<&Name>,
     bound: Option<&Name>,
-) -> Option<Entry<'a>>
-    ensures name { IsEntryBelow (λ y. IsSome (said_over (L.tree lower.now) directory y (own_in body.now y))) (option_copied last.entry) (option_copied bound.entry) (option_map entry_name result) }
-    ensures number { IfSome result (λ e. said_over (L.tree lower.now) directory (entry_name e) (own_in body.now (entry_name e)) ≡ Some e.number) }
+) -> Option<ListedEntry<'a>>
+    ensures name { IsEntryBelow
+        (λ y. IsSome (said_over (L.tree lower.now) directory y (own_in body.now y)))
+        (option_copied last.entry) (option_copied bound.entry) (option_map entry_name result) }
+    ensures number { IfSome result
+        (λ e. said_over (L.tree lower.now) directory (entry_name e) (own_in body.now (entry_name e))
+        ≡ Some e.number) }
 {
     match body {
         Body::Directory(names) => merged(lower, names, directory, last, bound),
@@ -55,16 +63,20 @@ fn node_after<'a, L: TreeRead>(
     }
 }
 
-/// The next entry of a directory, by what stands at its number.
+/// The next entry of a directory, by the entry at its number.
 pub fn entry_after<'a, L: TreeRead>(
     lower: &'a L,
     entry: Option<&'a Option<Node>>,
     directory: u64,
     last: Option<&Name>,
     bound: Option<&Name>,
-) -> Option<Entry<'a>>
-    ensures name { IsEntryBelow (λ y. IsSome (found_at (L.tree lower.now) directory y (option_copied entry.entry))) (option_copied last.entry) (option_copied bound.entry) (option_map entry_name result) }
-    ensures number { IfSome result (λ e. found_at (L.tree lower.now) directory (entry_name e) (option_copied entry.entry) ≡ Some e.number) }
+) -> Option<ListedEntry<'a>>
+    ensures name { IsEntryBelow
+        (λ y. IsSome (found_at (L.tree lower.now) directory y (option_copied entry.entry)))
+        (option_copied last.entry) (option_copied bound.entry) (option_map entry_name result) }
+    ensures number { IfSome result
+        (λ e. found_at (L.tree lower.now) directory (entry_name e) (option_copied entry.entry)
+        ≡ Some e.number) }
 {
     match entry {
         Some(Some(node)) => node_after(lower, &node.body, directory, last, bound),

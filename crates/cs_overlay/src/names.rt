@@ -18,11 +18,11 @@ pub struct Said {
     pub number: Option<u64>,
 }
 
-/// For a name the number of the file that has it, or None if no file has it; of every other name the
-/// lower directory is asked.
+/// For a name the number of the file that has it, or None if no file has it; of every other name
+/// the lower directory is asked.
 #[derive(Drop)]
 pub struct Names {
-    said: BTreeMap<String, Said>,
+    entries: BTreeMap<String, Said>,
 }
 
 impl Model for Names {
@@ -37,9 +37,9 @@ impl Model for Names {
 
     ghost coded = { map.code (coded_list coded_ℕ) (coded_option coded_ℕ) };
 
-    ghost view = { λ names. numbers_of names.said.entries };
+    ghost view = { λ names. numbers_of names.entries.entries };
 
-    ghost invariant = { λ names. AreNamed (get_by_text names.said) };
+    ghost invariant = { λ names. AreNamed (get_by_text names.entries) };
 }
 
 impl Names {
@@ -47,14 +47,14 @@ impl Names {
         ensures { result ≡ map.empty }
     {
         Names {
-            said: BTreeMap::new(alloc),
+            entries: BTreeMap::new(alloc),
         }
     }
 
     pub fn get(&self, name: &str) -> Option<Option<u64>>
         ensures { result ≡ map.get self.now name.now }
     {
-        match self.said.get(name) {
+        match self.entries.get(name) {
             Some(said) => Some(said.number),
             None => None,
         }
@@ -62,11 +62,15 @@ impl Names {
 
     /// The first name after one, or of all, if it comes before the bound, with what is said of it.
     pub fn after(&self, last: Option<&Name>, bound: Option<&Name>) -> Option<(&Name, Option<u64>)>
-        ensures some { IfSome result (λ e. IsEntryBelow (λ y. IsSome (map.get self.now y)) (option_copied last.entry) (option_copied bound.entry) (Some e.0.now)) }
+        ensures some { IfSome result
+            (λ e. IsEntryBelow (λ y. IsSome (map.get self.now y)) (option_copied last.entry)
+            (option_copied bound.entry) (Some e.0.now)) }
         ensures value { IfSome result (λ e. map.get self.now e.0.now ≡ Some e.1) }
-        ensures none { IfNone result (IsEntryBelow (λ y. IsSome (map.get self.now y)) (option_copied last.entry) (option_copied bound.entry) None) }
+        ensures none { IfNone result
+            (IsEntryBelow (λ y. IsSome (map.get self.now y)) (option_copied last.entry)
+            (option_copied bound.entry) None) }
     {
-        let all = &self.said;
+        let all = &self.entries;
         let (_key, said) = first_after(all, last, bound)?;
         Some((&said.name, said.number))
     }
@@ -77,7 +81,7 @@ impl Names {
         ensures err { OnErr result (self.new ≡ self.old) }
     {
         let key = name.as_string().clone()?;
-        self.said.insert(key, Said { name, number })?;
+        self.entries.insert(key, Said { name, number })?;
         Ok(())
     }
 
@@ -86,7 +90,7 @@ impl Names {
         requires { IsSome (map.get self.old name.now) }
         ensures { self.new ≡ map.insert self.old name.now number }
     {
-        if let Some(said) = self.said.get_mut(name) {
+        if let Some(said) = self.entries.get_mut(name) {
             said.number = number;
         }
     }

@@ -1,12 +1,14 @@
 //! The nodes of an overlay.
-ghost use Rattle.std.specs.Prelude.{◌≡◌, ◌+◌, ◌<◌, ◌^◌, ℕ, List, Option, None, Some, OnOk, OnErr, IfOk, IfSome, IsSome, length};
+ghost use Rattle.std.specs.Prelude.{◌≡◌, ◌+◌, ◌<◌, ◌^◌, ℕ, List, Option, None, Some, OnOk, OnErr};
+ghost use Rattle.std.specs.Prelude.{IfOk, IfSome, IsSome, length};
 ghost use Rattle.std.specs.Option.{option_copied};
-ghost use Rattle.cs_tree_model.specs.Effects.{new_record, resized};
+ghost use Rattle.cs_tree_model.specs.Effects.{new_record, record_with_length};
 ghost use Rattle.cs_tree_model.specs.Record.{kind_of};
 ghost use Rattle.cs_tree_model.specs.Stores.{changed_record, stamped_write};
 ghost use Rattle.cs_tree_model.specs.Table.{node_in};
 ghost use Rattle.cs_tree_model.specs.Tree.{content_numbered};
-ghost use Rattle.cs_overlay.specs.Layers.{content_over, own_in, with_answer, with_attributes, with_stamp, IsCopy, IsNewFile, IsNode, IsStep, HidesPast};
+ghost use Rattle.cs_overlay.specs.Layers.{content_over, own_in, with_answer};
+ghost use Rattle.cs_overlay.specs.Layers.{IsCopy, IsNewFile, IsNode, IsStep, HidesPast};
 
 use crate::names::Names;
 use crate::patched::Patched;
@@ -24,7 +26,8 @@ pub enum Body {
 impl Body {
     /// The body of a copy of a lower file: it takes no memory.
     fn of_copy(alloc: Global, kind: Kind) -> Body
-        ensures content { (low : Option (List ℕ)) → kind ≡ kind_of low → content_over low result ≡ low }
+        ensures content { (low : Option (List ℕ)) → kind ≡ kind_of low
+            → content_over low result ≡ low }
         ensures hides { (low : Option (List ℕ)) → HidesPast low result }
         ensures own { (x : List ℕ) → own_in result x ≡ None }
     {
@@ -45,8 +48,8 @@ impl Body {
     }
 }
 
-/// A file that differs from the lower tree's of its number, or that the lower tree doesn't have. The
-/// root's directory is the root, where it has no name.
+/// A file that differs from the lower tree's of its number, or that the lower tree doesn't have.
+/// The root's directory is the root, in which it has no name.
 #[derive(Drop)]
 pub struct Node {
     pub parent: u64,
@@ -64,7 +67,8 @@ impl Node {
         number: u64,
     ) -> Result<Option<Node>, AllocError>
         ensures copy { IfOk result (λ o. IfSome o (IsCopy (L.tree lower.now) number)) }
-        ensures there { OnOk result (IsSome (node_in (L.tree lower.now) number) → IfOk result IsSome) }
+        ensures there { OnOk result
+            (IsSome (node_in (L.tree lower.now) number) → IfOk result IsSome) }
     {
         let Some(metadata) = lower.record(number) else {
             return Ok(None);
@@ -72,7 +76,7 @@ impl Node {
         let Some(parent) = lower.parent_of(number) else {
             return Ok(None);
         };
-        let name = copied(lower.name_of(number))?;
+        let name = try_clone_name(lower.name_of(number))?;
         let metadata = metadata.to_owned()?;
         let body = Body::of_copy(alloc, metadata.kind);
         Ok(Some(Node {
@@ -93,7 +97,8 @@ impl Node {
         new: New,
         stamp: &Stamp,
     ) -> Result<Node, AllocError>
-        ensures { IfOk result (IsNewFile parent name (new_record number group new stamp.entry.now)) }
+        ensures { IfOk result
+            (IsNewFile parent name (new_record number group new stamp.entry.now)) }
     {
         let owner = stamp.user.try_clone()?;
         let muid = stamp.user.try_clone()?;
@@ -123,7 +128,7 @@ impl Node {
     }
 
     /// Says in the directory which file has a name, or that none has it.
-    pub fn say(&mut self, name: Name, answer: Option<u64>) -> Result<(), AllocError>
+    pub fn insert_answer(&mut self, name: Name, answer: Option<u64>) -> Result<(), AllocError>
         ensures ok { OnOk result (self.new ≡ with_answer self.old name answer) }
         ensures err { OnErr result (self.new ≡ self.old) }
     {
@@ -134,7 +139,7 @@ impl Node {
     }
 
     /// Says something else of a name of which the directory says something. It takes no memory.
-    pub fn say_again(&mut self, name: &str, answer: Option<u64>)
+    pub fn set_answer(&mut self, name: &str, answer: Option<u64>)
         requires { IsSome (own_in self.old.body name.now) }
         ensures { self.new ≡ with_answer self.old name.now answer }
     {
@@ -143,18 +148,8 @@ impl Node {
         }
     }
 
-    /// Counts a change of the file's bytes or entries.
-    pub fn stamp(&mut self, stamp: Stamp)
-        requires { self.old.metadata.vers + 1 < 2 ^ 32 }
-        ensures { self.new ≡ with_stamp self.old stamp }
-    {
-        self.metadata.vers += 1;
-        self.metadata.mtime = stamp.now;
-        self.metadata.muid = stamp.user;
-    }
-
-    /// Puts bytes into a file over the lower one of the number, and stamps it. It copies no block but
-    /// those that the bytes touch.
+    /// Puts bytes into a file over the lower one of the number, and stamps it. It copies no block
+    /// but those that the bytes touch.
     pub fn write<L: TreeRead>(
         &mut self,
         alloc: Global,
@@ -168,21 +163,31 @@ impl Node {
         requires some { 0 < length bytes.now }
         requires room { offset + length bytes.now < 2 ^ 63 }
         requires node { IsNode (content_numbered (L.tree lower.now) number) number self.old }
-        ensures ok { OnOk result (IsStep (content_numbered (L.tree lower.now) number) number (stamped_write offset bytes.now stamp) self.old self.new) }
-        ensures err { OnErr result (IsStep (content_numbered (L.tree lower.now) number) number (λ r. r) self.old self.new) }
+        ensures ok { OnOk result
+            (IsStep (content_numbered (L.tree lower.now) number) number
+            (stamped_write offset bytes.now stamp) self.old self.new) }
+        ensures err { OnErr result
+            (IsStep (content_numbered (L.tree lower.now) number) number (λ r. r) self.old
+            self.new) }
     {
         if let Body::File(file) = &mut self.body {
             file.write_at(alloc, lower, number, offset, bytes)?;
             self.metadata.kind = Kind::File { length: file.size };
         }
-        self.stamp(stamp);
+        self.metadata.stamp(stamp);
         Ok(())
     }
 
     /// Gives a file so many bytes, at the stamp's moment by its user.
     fn set_length(&mut self, n: u64, stamp: Stamp) -> Result<(), AllocError>
-        ensures ok { OnOk result ((low : Option (List ℕ)) (m : ℕ) → IsNode low m self.old → IsStep low m (λ r. record (resized n r) { mtime = stamp.now; muid = stamp.user }) self.old self.new) }
-        ensures err { OnErr result ((low : Option (List ℕ)) (m : ℕ) → IsNode low m self.old → IsStep low m (λ r. r) self.old self.new) }
+        ensures ok { OnOk result
+            ((low : Option (List ℕ)) (m : ℕ) → IsNode low m self.old
+            → IsStep low m
+            (λ r. record (record_with_length n r) { mtime = stamp.now; muid = stamp.user }) self.old
+            self.new) }
+        ensures err { OnErr result
+            ((low : Option (List ℕ)) (m : ℕ) → IsNode low m self.old
+            → IsStep low m (λ r. r) self.old self.new) }
         ensures vers { self.new.metadata.vers ≡ self.old.metadata.vers }
     {
         if let Body::File(file) = &mut self.body {
@@ -194,19 +199,6 @@ impl Node {
         Ok(())
     }
 
-    /// Counts a change, and gives the file those of the attributes that there are.
-    fn set_attributes(&mut self, mode: Option<u32>, group: Option<UserName>, mtime: Option<u32>)
-        requires { self.old.metadata.vers + 1 < 2 ^ 32 }
-        ensures { self.new ≡ with_attributes self.old mode group mtime }
-    {
-        self.metadata.vers += 1;
-        self.metadata.mode = mode.unwrap_or(self.metadata.mode);
-        self.metadata.mtime = mtime.unwrap_or(self.metadata.mtime);
-        if let Some(group) = group {
-            self.metadata.group = group;
-        }
-    }
-
     /// Gives a file the fields of a change but its name: `group` is the change's group.
     pub fn change(
         &mut self,
@@ -216,19 +208,25 @@ impl Node {
     ) -> Result<(), AllocError>
         requires vers { self.old.metadata.vers + 1 < 2 ^ 32 }
         requires group { group ≡ fields.now.group }
-        ensures ok { OnOk result ((low : Option (List ℕ)) (n : ℕ) → IsNode low n self.old → (IsSome fields.now.length → IsSome (content_over low self.old.body)) → IsStep low n (changed_record fields.now stamp) self.old self.new) }
-        ensures err { OnErr result ((low : Option (List ℕ)) (n : ℕ) → IsNode low n self.old → IsStep low n (λ r. r) self.old self.new) }
+        ensures ok { OnOk result
+            ((low : Option (List ℕ)) (n : ℕ) → IsNode low n self.old
+            → (IsSome fields.now.length → IsSome (content_over low self.old.body))
+            → IsStep low n (changed_record fields.now stamp) self.old self.new) }
+        ensures err { OnErr result
+            ((low : Option (List ℕ)) (n : ℕ) → IsNode low n self.old
+            → IsStep low n (λ r. r) self.old self.new) }
     {
         if let Some(length) = fields.length {
             self.set_length(length, stamp)?;
         }
-        self.set_attributes(fields.mode, group, fields.mtime);
+        self.metadata
+            .set_attributes(fields.mode, group, fields.mtime);
         Ok(())
     }
 }
 
-/// A copy of a name, where there is one.
-pub fn copied(name: Option<&Name>) -> Result<Option<Name>, AllocError>
+/// A copy of a name, if there is one.
+pub fn try_clone_name(name: Option<&Name>) -> Result<Option<Name>, AllocError>
     ensures { IfOk result (λ copy. copy ≡ option_copied name.entry) }
 {
     match name {

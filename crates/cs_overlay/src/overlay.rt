@@ -2,23 +2,28 @@
 ghost use Rattle.std.specs.Prelude.{◌≡◌, ◌≢◌, None, Some, IfErr, IfOk, IfSome, IsSome, OnErr, OnOk};
 ghost use Rattle.std.specs.Arc.{arc_value};
 ghost use Rattle.cs_tree_model.specs.Fresh.{fresh};
-ghost use Rattle.cs_tree_model.specs.Stores.{changed, CanStamp, CanStampParent};
-ghost use Rattle.cs_tree_model.specs.Tree.{content_numbered, number_in, parent_numbered, record_numbered};
+ghost use Rattle.cs_tree_model.specs.Stores.{tree_with_change, CanStamp, CanStampParent};
+ghost use Rattle.cs_tree_model.specs.Tree.{content_numbered, number_in, parent_numbered};
+ghost use Rattle.cs_tree_model.specs.Tree.{record_numbered};
 
-use crate::node::{Node, copied};
-use crate::table::{change, copy_up, make_room, move_name, put, say, say_both, stamp_node, write};
+use crate::node::{Node, try_clone_name};
+use crate::table::{
+    change, copy_up, insert_answer, insert_both_answers, make_room, move_name, put, stamp_node,
+    write,
+};
 use crate::{entry, listing};
-use cs_lower::Lower;
+use cs_frozen::Lower;
 use cs_names::{Name, UserName};
-use cs_tree_model::{Change, Entry, Metadata, New, Stamp, TreeRead, TreeStore};
+use cs_tree_model::{Change, ListedEntry, Metadata, New, Stamp, TreeRead, TreeStore};
 use std::alloc::{AllocError, Global};
 use std::collections::HashMap;
 use std::marker::Model;
 use std::sync::Arc;
 
-/// A tree that differs from a lower one, which is shared and never changes. It takes memory for what
-/// differs alone: the first change of a file copies what its record says, and no entry of a directory;
-/// a write copies the blocks that it touches. A look-up asks the lower tree at most once.
+/// A tree that differs from a lower one, which is shared and never changes. It takes memory for
+/// what differs alone: the first change of a file copies what its record says, and no entry of a
+/// directory; a write copies the blocks that it touches. A look-up asks the lower tree at most
+/// once.
 #[derive(Drop)]
 pub struct Overlay<L: TreeRead> {
     lower: Arc<L>,
@@ -41,9 +46,11 @@ impl<L: TreeRead> Model for Overlay<L> {
 
     ghost coded = { tree_code };
 
-    ghost view = { λ a. tree_of (layers (L.tree (arc_value a.lower)) (hash.get nat_eq a.nodes)) (a.greatest + 1) };
+    ghost view = { λ a. tree_of (layers (L.tree (arc_value a.lower)) (hash.get nat_eq a.nodes))
+        (a.greatest + 1) };
 
-    ghost invariant = { λ a. IsOver (L.tree (arc_value a.lower)) (hash.get nat_eq a.nodes) (a.greatest + 1) a.count };
+    ghost invariant = { λ a. IsOver (L.tree (arc_value a.lower)) (hash.get nat_eq a.nodes) (a.greatest + 1)
+        a.count };
 }
 
 impl<L: TreeRead> Overlay<L> {
@@ -61,14 +68,14 @@ impl<L: TreeRead> Overlay<L> {
         }
     }
 
-    /// The tree as one that nothing has changed yet: the same paths and contents, with fresh numbers,
-    /// versions, times and users. It copies no record and no byte of a file, and keeps a table of
-    /// numbers; after want of memory the overlay is given back.
+    /// The tree as one that nothing has changed yet: the same paths and contents, with fresh
+    /// numbers, versions, times and users. It copies no record and no byte of a file, and keeps a
+    /// table of numbers; after an error the overlay is given back.
     pub fn freeze(self, alloc: Global) -> Result<Lower<Overlay<L>>, (Overlay<L>, AllocError)>
         ensures ok { IfOk result (λ lower. lower ≡ fresh self.files) }
         ensures err { IfErr result (λ back. back.0 ≡ self) }
     {
-        cs_lower::freeze(alloc, self)
+        cs_frozen::freeze(alloc, self)
     }
 
     /// Gives a file the fields of a change that has no name: `group` is the change's group.
@@ -85,7 +92,7 @@ impl<L: TreeRead> Overlay<L> {
         requires there { IsSome (record_numbered self.old number) }
         requires vers { CanStamp self.old number }
         requires file { IsSome fields.now.length → IsSome (content_numbered self.old number) }
-        ensures ok { OnOk result (self.new ≡ changed number fields.now stamp self.old) }
+        ensures ok { OnOk result (self.new ≡ tree_with_change number fields.now stamp self.old) }
         ensures err { OnErr result (self.new ≡ self.old) }
     {
         copy_up(alloc, &*self.lower, &mut self.nodes, number)?;
@@ -110,16 +117,17 @@ impl<L: TreeRead> Overlay<L> {
         requires there { IsSome (record_numbered self.old number) }
         requires vers { CanStamp self.old number }
         requires file { IsSome fields.now.length → IsSome (content_numbered self.old number) }
-        requires free { IfSome (parent_numbered self.old number) (λ d. number_in self.old d name ≡ None) }
+        requires free { IfSome (parent_numbered self.old number)
+            (λ d. number_in self.old d name ≡ None) }
         requires vers_above { CanStampParent self.old number }
-        ensures ok { OnOk result (self.new ≡ changed number fields.now stamp self.old) }
+        ensures ok { OnOk result (self.new ≡ tree_with_change number fields.now stamp self.old) }
         ensures err { OnErr result (self.new ≡ self.old) }
     {
         let Some(directory) = self.parent_of(number) else {
-            return Ok(());
+            unreachable!();
         };
         let Some(old) = self.name_of(number) else {
-            return Ok(());
+            unreachable!();
         };
         let old = old.try_clone()?;
         let said = old.try_clone()?;
@@ -127,7 +135,7 @@ impl<L: TreeRead> Overlay<L> {
         let moment = stamp.try_clone()?;
         let (lower, nodes) = (&*self.lower, &mut self.nodes);
         copy_up(alloc, lower, nodes, number)?;
-        say_both(alloc, lower, nodes, directory, number, said, free)?;
+        insert_both_answers(alloc, lower, nodes, directory, number, said, free)?;
         change(nodes, number, fields, group, moment)?;
         move_name(nodes, directory, number, old.as_str(), name, stamp);
         Ok(())
@@ -162,7 +170,7 @@ impl<L: TreeRead> TreeRead for Overlay<L> {
         directory: u64,
         last: Option<&Name>,
         bound: Option<&Name>,
-    ) -> Option<Entry<'_>> {
+    ) -> Option<ListedEntry<'_>> {
         let entry = self.nodes.get(&directory);
         listing::entry_after(&*self.lower, entry, directory, last, bound)
     }
@@ -199,17 +207,17 @@ impl<L: TreeRead> TreeStore for Overlay<L> {
     ) -> Result<u64, AllocError> {
         let number = self.greatest + 1;
         let Some(count) = self.count.checked_add(1) else {
-            // more than any memory has room for
+            // more files than any memory holds
             return Err(AllocError);
         };
         let Some(above) = self.record(directory) else {
-            return Ok(number);
+            unreachable!();
         };
         let group = above.group.try_clone()?;
         let key = name.try_clone()?;
         let node = Node::new_file(alloc, number, directory, name, group, new, &stamp)?;
         make_room(alloc, &*self.lower, &mut self.nodes, directory)?;
-        say(&mut self.nodes, directory, key, Some(number))?;
+        insert_answer(&mut self.nodes, directory, key, Some(number))?;
         stamp_node(&mut self.nodes, directory, stamp);
         put(&mut self.nodes, number, Some(node));
         self.greatest = number;
@@ -219,14 +227,14 @@ impl<L: TreeRead> TreeStore for Overlay<L> {
 
     fn remove(&mut self, alloc: Global, number: u64, stamp: Stamp) -> Result<(), AllocError> {
         let Some(directory) = self.parent_of(number) else {
-            return Ok(());
+            unreachable!();
         };
         let Some(name) = self.name_of(number) else {
-            return Ok(());
+            unreachable!();
         };
         let name = name.try_clone()?;
         make_room(alloc, &*self.lower, &mut self.nodes, directory)?;
-        say(&mut self.nodes, directory, name, None)?;
+        insert_answer(&mut self.nodes, directory, name, None)?;
         stamp_node(&mut self.nodes, directory, stamp);
         put(&mut self.nodes, number, None);
         self.count -= 1;
@@ -262,7 +270,7 @@ impl<L: TreeRead> TreeStore for Overlay<L> {
         stamp: Stamp,
     ) -> Result<(), AllocError> {
         let group = copied_user(&fields.group)?;
-        match copied(fields.name.as_ref())? {
+        match try_clone_name(fields.name.as_ref())? {
             None => self.set(alloc, number, fields, group, stamp)?,
             Some(name) => self.rename(alloc, number, fields, group, name, stamp)?,
         }

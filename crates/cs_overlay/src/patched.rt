@@ -1,5 +1,6 @@
 //! The bytes of a file over a lower one, and how many they are.
-ghost use Rattle.std.specs.Prelude.{◌≡◌, ◌≤◌, ◌++◌, ℕ, List, [], length, min, take, replicate, None, OnOk, OnErr};
+ghost use Rattle.std.specs.Prelude.{◌≡◌, ◌≤◌, ◌++◌, ℕ, List, [], length, min, take, replicate};
+ghost use Rattle.std.specs.Prelude.{None, OnOk, OnErr};
 ghost use Rattle.std.specs.Ordering.{nat_cmp};
 ghost use Rattle.std.specs.BTreeMap.{get, IsUnchanged};
 ghost use Rattle.cs_overlay.specs.Patch.{cut_blocks};
@@ -15,7 +16,7 @@ use std::collections::BTreeMap;
 pub struct Patched {
     /// How many bytes the file has.
     pub size: u64,
-    /// How many of the lower file's bytes still show, where no block stands.
+    /// How many of the lower file's bytes still show, where there is no block.
     pub kept: u64,
     /// By number: block k has the bytes from 4,096 k on.
     pub blocks: BTreeMap<u64, Block>,
@@ -38,9 +39,13 @@ impl Patched {
     /// Gives the file n bytes: those that are new read as zero, and those cut off never show again.
     pub fn resize(&mut self, n: u64) -> Result<(), AllocError>
         ensures size { OnOk result (self.new.size ≡ n) }
-        ensures hides { (lower : List ℕ) → NothingHidden lower self.old → NothingHidden lower self.new }
-        ensures ok { OnOk result ((lower : List ℕ) → NothingHidden lower self.old → file_bytes lower self.new ≡ take n (file_bytes lower self.old ++ replicate n 0)) }
-        ensures err { OnErr result ((lower : List ℕ) → file_bytes lower self.new ≡ file_bytes lower self.old) }
+        ensures hides { (lower : List ℕ) → NothingHidden lower self.old
+            → NothingHidden lower self.new }
+        ensures ok { OnOk result
+            ((lower : List ℕ) → NothingHidden lower self.old
+            → file_bytes lower self.new ≡ take n (file_bytes lower self.old ++ replicate n 0)) }
+        ensures err { OnErr result
+            ((lower : List ℕ) → file_bytes lower self.new ≡ file_bytes lower self.old) }
         ensures err_size { OnErr result (self.new.size ≡ self.old.size) }
     {
         if n < self.size {
@@ -56,8 +61,11 @@ impl Patched {
         requires shorter { n ≤ self.old.size }
         ensures size { OnOk result (self.new.size ≡ n) }
         ensures hides { OnOk result ((lower : List ℕ) → NothingHidden lower self.new) }
-        ensures bytes { OnOk result ((lower : List ℕ) → file_bytes lower self.new ≡ take n (file_bytes lower self.old ++ replicate n 0)) }
-        ensures err { OnErr result ((lower : List ℕ) (i : ℕ) → file_byte lower self.new i ≡ file_byte lower self.old i) }
+        ensures bytes { OnOk result
+            ((lower : List ℕ)
+            → file_bytes lower self.new ≡ take n (file_bytes lower self.old ++ replicate n 0)) }
+        ensures err { OnErr result
+            ((lower : List ℕ) (i : ℕ) → file_byte lower self.new i ≡ file_byte lower self.old i) }
         ensures err_size { OnErr result (self.new.size ≡ self.old.size) }
     {
         cut(&mut self.blocks, n)?;
@@ -70,8 +78,10 @@ impl Patched {
     fn grow(&mut self, n: u64)
         requires longer { self.old.size ≤ n }
         ensures size { self.new.size ≡ n }
-        ensures hides { (lower : List ℕ) → NothingHidden lower self.old → NothingHidden lower self.new }
-        ensures bytes { (lower : List ℕ) → NothingHidden lower self.old → file_bytes lower self.new ≡ take n (file_bytes lower self.old ++ replicate n 0) }
+        ensures hides { (lower : List ℕ) → NothingHidden lower self.old
+            → NothingHidden lower self.new }
+        ensures bytes { (lower : List ℕ) → NothingHidden lower self.old
+            → file_bytes lower self.new ≡ take n (file_bytes lower self.old ++ replicate n 0) }
     {
         self.size = n;
     }
@@ -79,7 +89,8 @@ impl Patched {
 
 /// Cuts the blocks to n bytes.
 fn cut(blocks: &mut BTreeMap<u64, Block>, n: u64) -> Result<(), AllocError>
-    ensures ok { OnOk result ((k : ℕ) → get nat_cmp blocks.new k ≡ cut_blocks n (get nat_cmp blocks.old) k) }
+    ensures ok { OnOk result
+        ((k : ℕ) → get nat_cmp blocks.new k ≡ cut_blocks n (get nat_cmp blocks.old) k) }
     ensures err { OnErr result (IsUnchanged blocks.old blocks.new) }
 {
     let last = n / 4096;

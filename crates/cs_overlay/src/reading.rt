@@ -1,5 +1,6 @@
 //! Reading a range of a file, by pieces of blocks.
-ghost use Rattle.std.specs.Prelude.{◌≡◌, ◌≢◌, ◌≤◌, ◌<◌, ◌+◌, ◌-◌, ◌%◌, ◌^◌, ◌++◌, [], length, map, min, take, drop, IfOk, IsErr, OnOk};
+ghost use Rattle.std.specs.Prelude.{◌≡◌, ◌≢◌, ◌≤◌, ◌<◌, ◌+◌, ◌-◌, ◌%◌, ◌^◌, ◌++◌, [], length, map};
+ghost use Rattle.std.specs.Prelude.{min, take, drop, IfOk, IsErr, OnOk};
 ghost use Rattle.std.specs.List.{range_with_len};
 ghost use Rattle.std.specs.Option.{option_copied};
 ghost use Rattle.std.specs.Ordering.{nat_cmp};
@@ -14,8 +15,8 @@ use std::alloc::{AllocError, Global};
 
 impl Patched {
     /// The bytes from an offset on, at most `count`, of a file over the lower one of the number. It
-    /// reads no more of the lower file than shows there, and where the file has no block of its own it
-    /// copies nothing again. Only bytes that are given take memory.
+    /// reads no more of the lower file than shows there, and copies nothing twice where the file has
+    /// no block of its own. Only the bytes that are given allocate.
     pub fn read_at<L: TreeRead>(
         &self,
         alloc: Global,
@@ -24,8 +25,13 @@ impl Patched {
         offset: u64,
         count: usize,
     ) -> Result<Vec<u8>, AllocError>
-        ensures value { IfOk result (λ v. v.items ≡ take count (drop offset (file_bytes (lower_bytes (L.tree lower.now) number) self.now))) }
-        ensures memory { IsErr result → take count (drop offset (file_bytes (lower_bytes (L.tree lower.now) number) self.now)) ≢ [] }
+        ensures value { IfOk result
+            (λ v. v.items
+            ≡ take count
+            (drop offset (file_bytes (lower_bytes (L.tree lower.now) number) self.now))) }
+        ensures memory { IsErr result
+            → take count
+            (drop offset (file_bytes (lower_bytes (L.tree lower.now) number) self.now)) ≢ [] }
     {
         let n = (count as u64).min(self.size.saturating_sub(offset)) as usize;
         if n == 0 {
@@ -48,7 +54,10 @@ impl Patched {
         n: usize,
     ) -> Result<Vec<u8>, AllocError>
         requires { offset + n < 2 ^ 64 }
-        ensures { IfOk result (λ v. v.items ≡ map (shown_byte shown.now offset (get nat_cmp self.now.blocks)) (range_with_len offset n)) }
+        ensures { IfOk result
+            (λ v. v.items
+            ≡ map (shown_byte shown.now offset (get nat_cmp self.now.blocks))
+            (range_with_len offset n)) }
     {
         if n >= 1 << 63 {
             // more than any memory has room for
@@ -67,8 +76,8 @@ impl Patched {
     }
 }
 
-/// Appends a piece that lies in one block: from the block, or where none stands from what shows of the
-/// lower file.
+/// Appends a piece that lies in one block: from the block, or if there is none from what shows
+/// of the lower file.
 fn append_piece(
     out: &mut Vec<u8>,
     block: Option<&Block>,
@@ -80,7 +89,10 @@ fn append_piece(
     requires fits { length out.old.items + count < 2 ^ 63 }
     requires after { offset ≤ at }
     requires within { at % 4096 + count ≤ 4096 }
-    ensures { OnOk result (out.new.items ≡ out.old.items ++ map (piece_byte (option_copied block.entry) shown.now offset) (range_with_len at count)) }
+    ensures { OnOk result
+        (out.new.items ≡ out.old.items
+        ++ map (piece_byte (option_copied block.entry) shown.now offset)
+        (range_with_len at count)) }
 {
     match block {
         Some(block) => append_part(out, block.bytes(), (at % 4096) as usize, count),
@@ -97,7 +109,9 @@ fn lower_part<L: TreeRead>(
     offset: u64,
     count: usize,
 ) -> Result<Vec<u8>, AllocError>
-    ensures { IfOk result (λ v. v.items ≡ take (min (kept - offset) count) (drop offset (lower_bytes (L.tree lower.now) number))) }
+    ensures { IfOk result
+        (λ v. v.items
+        ≡ take (min (kept - offset) count) (drop offset (lower_bytes (L.tree lower.now) number))) }
 {
     let m = kept.saturating_sub(offset).min(count as u64) as usize;
     let Some(bytes) = lower.read_at(alloc, number, offset, m)? else {

@@ -1,11 +1,15 @@
 //! The nodes of an overlay by their numbers. None at a number: the lower tree's file was taken out.
-ghost use Rattle.std.specs.Prelude.{◌≡◌, ◌≢◌, ◌+◌, ◌<◌, ◌^◌, ℕ, List, nat_eq, Option, None, Some, OnOk, OnErr, IfSome, IsSome, IsSomeAnd, length};
+ghost use Rattle.std.specs.Prelude.{◌≡◌, ◌≢◌, ◌+◌, ◌<◌, ◌^◌, ℕ, List, nat_eq, Option, None, Some};
+ghost use Rattle.std.specs.Prelude.{OnOk, OnErr, IfSome, IsSome, IsSomeAnd, length};
 ghost use Rattle.std.specs.Option.{option_map};
 ghost use Rattle.std.specs.HashMap.{get, spare};
 ghost use Rattle.cs_tree_model.specs.Record.{IsDirectory};
 ghost use Rattle.cs_tree_model.specs.Stores.{changed_record, stamped_write};
 ghost use Rattle.cs_tree_model.specs.Tree.{Tree, content_numbered};
-ghost use Rattle.cs_overlay.specs.Layers.{content_over, found, layers, own_in, step_at, with_answer, with_at, with_name, with_stamp, Alike, AreNodes, CanStampNode, HasNode, IsFileIf, IsNode, IsStep, KeepsNodes, SameLayers, SaysBoth, StepsAt};
+ghost use Rattle.cs_overlay.specs.Layers.{content_over, layered_lookup, layers, own_in, step_at};
+ghost use Rattle.cs_overlay.specs.Layers.{with_answer, with_at, with_name, with_stamp, SameNodes};
+ghost use Rattle.cs_overlay.specs.Layers.{AreNodes, CanStampNode, HasNode, IsFileIf, IsNode};
+ghost use Rattle.cs_overlay.specs.Layers.{IsStep, KeepsNodes, SameLayers, SaysBoth, StepsAt};
 
 use crate::node::Node;
 use cs_names::{Name, UserName};
@@ -34,8 +38,8 @@ pub fn copy_up<L: TreeRead>(
     Ok(())
 }
 
-/// Gives a directory a node of the overlay's own, and the table room for one number more. Nobody sees
-/// it.
+/// Gives a directory a node of the overlay's own, and the table room for one number more. Nobody
+/// sees it.
 pub fn make_room<L: TreeRead>(
     alloc: Global,
     lower: &L,
@@ -52,29 +56,35 @@ pub fn make_room<L: TreeRead>(
     Ok(())
 }
 
-fn say_in(entry: &mut Option<Node>, name: Name, answer: Option<u64>) -> Result<(), AllocError>
+fn insert_answer_in(
+    entry: &mut Option<Node>,
+    name: Name,
+    answer: Option<u64>,
+) -> Result<(), AllocError>
     ensures ok { OnOk result (entry.new ≡ option_map (λ d. with_answer d name answer) entry.old) }
     ensures err { OnErr result (entry.new ≡ entry.old) }
 {
     if let Some(node) = entry {
-        node.say(name, answer)?;
+        node.insert_answer(name, answer)?;
     }
     Ok(())
 }
 
 /// Says in a directory which file has a name, or that none has it.
-pub fn say(
+pub fn insert_answer(
     nodes: &mut HashMap<u64, Option<Node>>,
     directory: u64,
     name: Name,
     answer: Option<u64>,
 ) -> Result<(), AllocError>
-    ensures ok { OnOk result (Alike (step_at (get nat_eq nodes.old) directory (λ d. with_answer d name answer)) (get nat_eq nodes.new)) }
-    ensures err { OnErr result (Alike (get nat_eq nodes.old) (get nat_eq nodes.new)) }
+    ensures ok { OnOk result
+        (SameNodes (step_at (get nat_eq nodes.old) directory (λ d. with_answer d name answer))
+        (get nat_eq nodes.new)) }
+    ensures err { OnErr result (SameNodes (get nat_eq nodes.old) (get nat_eq nodes.new)) }
     ensures spare { spare nodes.new ≡ spare nodes.old }
 {
     match nodes.get_mut(&directory) {
-        Some(entry) => say_in(entry, name, answer),
+        Some(entry) => insert_answer_in(entry, name, answer),
         None => Ok(()),
     }
 }
@@ -84,14 +94,15 @@ fn stamp_in(entry: &mut Option<Node>, stamp: Stamp)
     ensures { entry.new ≡ option_map (λ d. with_stamp d stamp) entry.old }
 {
     if let Some(node) = entry {
-        node.stamp(stamp);
+        node.metadata.stamp(stamp);
     }
 }
 
 /// Counts a change of a directory's entries.
 pub fn stamp_node(nodes: &mut HashMap<u64, Option<Node>>, number: u64, stamp: Stamp)
     requires { CanStampNode (get nat_eq nodes.old) number }
-    ensures step { Alike (step_at (get nat_eq nodes.old) number (λ d. with_stamp d stamp)) (get nat_eq nodes.new) }
+    ensures step { SameNodes (step_at (get nat_eq nodes.old) number (λ d. with_stamp d stamp))
+        (get nat_eq nodes.new) }
     ensures spare { spare nodes.new ≡ spare nodes.old }
 {
     if let Some(entry) = nodes.get_mut(&number) {
@@ -102,7 +113,7 @@ pub fn stamp_node(nodes: &mut HashMap<u64, Option<Node>>, number: u64, stamp: St
 /// Puts a node into the table, which has room for it, or takes the lower tree's file out.
 pub fn put(nodes: &mut HashMap<u64, Option<Node>>, number: u64, node: Option<Node>)
     requires { 0 < spare nodes.old }
-    ensures { Alike (with_at (get nat_eq nodes.old) number (Some node)) (get nat_eq nodes.new) }
+    ensures { SameNodes (with_at (get nat_eq nodes.old) number (Some node)) (get nat_eq nodes.new) }
 {
     match nodes.insert(number, node) {
         Ok(_) => {}
@@ -123,8 +134,15 @@ fn write_in<L: TreeRead>(
     requires some { 0 < length bytes.now }
     requires room { offset + length bytes.now < 2 ^ 63 }
     requires node { IfSome entry.old (IsNode (content_numbered (L.tree lower.now) number) number) }
-    ensures ok { OnOk result (IfSome entry.old (λ d. IfSome entry.new (IsStep (content_numbered (L.tree lower.now) number) number (stamped_write offset bytes.now stamp) d))) }
-    ensures err { OnErr result (IfSome entry.old (λ d. IfSome entry.new (IsStep (content_numbered (L.tree lower.now) number) number (λ r. r) d))) }
+    ensures ok { OnOk result
+        (IfSome entry.old
+        (λ d. IfSome entry.new
+        (IsStep (content_numbered (L.tree lower.now) number) number
+        (stamped_write offset bytes.now stamp) d))) }
+    ensures err { OnErr result
+        (IfSome entry.old
+        (λ d. IfSome entry.new
+        (IsStep (content_numbered (L.tree lower.now) number) number (λ r. r) d))) }
     ensures there { IsSome entry.old → IsSome entry.new }
 {
     match entry {
@@ -148,8 +166,11 @@ pub fn write<L: TreeRead>(
     requires some { 0 < length bytes.now }
     requires room { offset + length bytes.now < 2 ^ 63 }
     requires nodes { AreNodes (L.tree lower.now) (get nat_eq nodes.old) }
-    ensures ok { OnOk result (StepsAt (L.tree lower.now) number (stamped_write offset bytes.now stamp) (get nat_eq nodes.old) (get nat_eq nodes.new)) }
-    ensures err { OnErr result (StepsAt (L.tree lower.now) number (λ r. r) (get nat_eq nodes.old) (get nat_eq nodes.new)) }
+    ensures ok { OnOk result
+        (StepsAt (L.tree lower.now) number (stamped_write offset bytes.now stamp)
+        (get nat_eq nodes.old) (get nat_eq nodes.new)) }
+    ensures err { OnErr result
+        (StepsAt (L.tree lower.now) number (λ r. r) (get nat_eq nodes.old) (get nat_eq nodes.new)) }
 {
     match nodes.get_mut(&number) {
         Some(entry) => write_in(alloc, lower, entry, number, offset, bytes, stamp),
@@ -165,8 +186,16 @@ fn change_in(
 ) -> Result<(), AllocError>
     requires vers { IfSome entry.old (λ d. d.metadata.vers + 1 < 2 ^ 32) }
     requires group { group ≡ fields.now.group }
-    ensures ok { OnOk result (IfSome entry.old (λ d. IfSome entry.new (λ e. (low : Option (List ℕ)) (n : ℕ) → IsNode low n d → (IsSome fields.now.length → IsSome (content_over low d.body)) → IsStep low n (changed_record fields.now stamp) d e))) }
-    ensures err { OnErr result (IfSome entry.old (λ d. IfSome entry.new (λ e. (low : Option (List ℕ)) (n : ℕ) → IsNode low n d → IsStep low n (λ r. r) d e))) }
+    ensures ok { OnOk result
+        (IfSome entry.old
+        (λ d. IfSome entry.new
+        (λ e. (low : Option (List ℕ)) (n : ℕ) → IsNode low n d
+        → (IsSome fields.now.length → IsSome (content_over low d.body))
+        → IsStep low n (changed_record fields.now stamp) d e))) }
+    ensures err { OnErr result
+        (IfSome entry.old
+        (λ d. IfSome entry.new
+        (λ e. (low : Option (List ℕ)) (n : ℕ) → IsNode low n d → IsStep low n (λ r. r) d e))) }
     ensures there { IsSome entry.old → IsSome entry.new }
 {
     match entry {
@@ -186,8 +215,14 @@ pub fn change(
     requires there { HasNode (get nat_eq nodes.old) number }
     requires vers { CanStampNode (get nat_eq nodes.old) number }
     requires group { group ≡ fields.now.group }
-    ensures ok { OnOk result ((t : Tree) → AreNodes t (get nat_eq nodes.old) → IsFileIf fields.now.length t (get nat_eq nodes.old) number → StepsAt t number (changed_record fields.now stamp) (get nat_eq nodes.old) (get nat_eq nodes.new)) }
-    ensures err { OnErr result ((t : Tree) → AreNodes t (get nat_eq nodes.old) → StepsAt t number (λ r. r) (get nat_eq nodes.old) (get nat_eq nodes.new)) }
+    ensures ok { OnOk result
+        ((t : Tree) → AreNodes t (get nat_eq nodes.old)
+        → IsFileIf fields.now.length t (get nat_eq nodes.old) number
+        → StepsAt t number (changed_record fields.now stamp) (get nat_eq nodes.old)
+        (get nat_eq nodes.new)) }
+    ensures err { OnErr result
+        ((t : Tree) → AreNodes t (get nat_eq nodes.old)
+        → StepsAt t number (λ r. r) (get nat_eq nodes.old) (get nat_eq nodes.new)) }
     ensures others { (q : ℕ) → q ≢ number → get nat_eq nodes.new q ≡ get nat_eq nodes.old q }
 {
     match nodes.get_mut(&number) {
@@ -196,9 +231,9 @@ pub fn change(
     }
 }
 
-/// Has a directory say what it says already of a file's name, and of a name that no file has. Nobody
-/// sees it.
-pub fn say_both<L: TreeRead>(
+/// Has a directory say what it says already of a file's name, and of a name that no file has.
+/// Nobody sees it.
+pub fn insert_both_answers<L: TreeRead>(
     alloc: Global,
     lower: &L,
     nodes: &mut HashMap<u64, Option<Node>>,
@@ -207,16 +242,18 @@ pub fn say_both<L: TreeRead>(
     old: Name,
     new: Name,
 ) -> Result<(), AllocError>
-    requires there { IsSomeAnd (layers (L.tree lower.now) (get nat_eq nodes.old) directory) (λ d. IsDirectory d.file) }
-    requires old { found (L.tree lower.now) (get nat_eq nodes.old) directory old ≡ Some number }
-    requires new { found (L.tree lower.now) (get nat_eq nodes.old) directory new ≡ None }
+    requires there { IsSomeAnd (layers (L.tree lower.now) (get nat_eq nodes.old) directory)
+        (λ d. IsDirectory d.file) }
+    requires old { layered_lookup (L.tree lower.now) (get nat_eq nodes.old) directory old
+        ≡ Some number }
+    requires new { layered_lookup (L.tree lower.now) (get nat_eq nodes.old) directory new ≡ None }
     ensures same { SameLayers (L.tree lower.now) (get nat_eq nodes.old) (get nat_eq nodes.new) }
     ensures keeps { KeepsNodes (get nat_eq nodes.old) (get nat_eq nodes.new) }
     ensures there { OnOk result (SaysBoth (get nat_eq nodes.new) directory old new) }
 {
     copy_up(alloc, lower, nodes, directory)?;
-    say(nodes, directory, old, Some(number))?;
-    say(nodes, directory, new, None)?;
+    insert_answer(nodes, directory, old, Some(number))?;
+    insert_answer(nodes, directory, new, None)?;
     Ok(())
 }
 
@@ -224,12 +261,15 @@ fn move_in(entry: &mut Option<Node>, old: &str, new: &str, number: u64, stamp: S
     requires vers { IfSome entry.old (λ d. d.metadata.vers + 1 < 2 ^ 32) }
     requires old { IfSome entry.old (λ d. IsSome (own_in d.body old.now)) }
     requires new { IfSome entry.old (λ d. IsSome (own_in d.body new.now)) }
-    ensures { entry.new ≡ option_map (λ d. with_stamp (with_answer (with_answer d old.now None) new.now (Some number)) stamp) entry.old }
+    ensures { entry.new
+        ≡ option_map
+        (λ d. with_stamp (with_answer (with_answer d old.now None) new.now (Some number)) stamp)
+        entry.old }
 {
     if let Some(node) = entry {
-        node.say_again(old, None);
-        node.say_again(new, Some(number));
-        node.stamp(stamp);
+        node.set_answer(old, None);
+        node.set_answer(new, Some(number));
+        node.metadata.stamp(stamp);
     }
 }
 
@@ -253,7 +293,10 @@ pub fn move_name(
 )
     requires vers { CanStampNode (get nat_eq nodes.old) directory }
     requires said { SaysBoth (get nat_eq nodes.old) directory old.now name }
-    ensures { Alike (step_at (step_at (get nat_eq nodes.old) directory (λ d. with_stamp (with_answer (with_answer d old.now None) name (Some number)) stamp)) number (λ d. with_name d name)) (get nat_eq nodes.new) }
+    ensures { SameNodes
+        (step_at (step_at (get nat_eq nodes.old) directory
+        (λ d. with_stamp (with_answer (with_answer d old.now None) name (Some number)) stamp))
+        number (λ d. with_name d name)) (get nat_eq nodes.new) }
 {
     if let Some(entry) = nodes.get_mut(&directory) {
         move_in(entry, old, name.as_str(), number, stamp);

@@ -1,11 +1,12 @@
 //! Writing a range of a file, by pieces of blocks.
-ghost use Rattle.std.specs.Prelude.{◌≡◌, ◌≤◌, ◌<◌, ◌+◌, ◌^◌, ◌%◌, ◌/◌, ℕ, List, length, max, IfSome, IsSome, OnOk, OnErr};
+ghost use Rattle.std.specs.Prelude.{◌≡◌, ◌≤◌, ◌<◌, ◌+◌, ◌^◌, ◌%◌, ◌/◌, ℕ, List, length, max};
+ghost use Rattle.std.specs.Prelude.{IfSome, IsSome, OnOk, OnErr};
 ghost use Rattle.std.specs.Option.{option_map};
 ghost use Rattle.std.specs.Ordering.{nat_cmp};
 ghost use Rattle.std.specs.BTreeMap.{get, Updates};
 ghost use Rattle.cs_overlay.specs.Files.{file_bytes, NothingHidden};
 ghost use Rattle.cs_overlay.specs.Patch.{byte_at, put_in, written_byte, Reaches, lower_bytes};
-ghost use Rattle.cs_tree_model.specs.Effects.{placed};
+ghost use Rattle.cs_tree_model.specs.Effects.{bytes_after_write};
 
 use crate::block::Block;
 use crate::growing::bring_up;
@@ -15,8 +16,8 @@ use std::alloc::{AllocError, Global};
 use std::collections::BTreeMap;
 
 impl Patched {
-    /// Puts bytes into a file over the lower one of the number; between its end and the offset stand
-    /// zeros. It copies no block but those that the bytes touch.
+    /// Puts bytes into a file over the lower one of the number; between its end and the offset
+    /// come zeros. It copies no block but those that the bytes touch.
     pub fn write_at<L: TreeRead>(
         &mut self,
         alloc: Global,
@@ -30,8 +31,13 @@ impl Patched {
         requires hides { NothingHidden (lower_bytes (L.tree lower.now) number) self.old }
         ensures size { OnOk result (self.new.size ≡ max self.old.size (offset + length bytes.now)) }
         ensures hides { NothingHidden (lower_bytes (L.tree lower.now) number) self.new }
-        ensures ok { OnOk result (file_bytes (lower_bytes (L.tree lower.now) number) self.new ≡ placed offset bytes.now (file_bytes (lower_bytes (L.tree lower.now) number) self.old)) }
-        ensures err { OnErr result (file_bytes (lower_bytes (L.tree lower.now) number) self.new ≡ file_bytes (lower_bytes (L.tree lower.now) number) self.old) }
+        ensures ok { OnOk result
+            (file_bytes (lower_bytes (L.tree lower.now) number) self.new
+            ≡ bytes_after_write offset bytes.now
+            (file_bytes (lower_bytes (L.tree lower.now) number) self.old)) }
+        ensures err { OnErr result
+            (file_bytes (lower_bytes (L.tree lower.now) number) self.new
+            ≡ file_bytes (lower_bytes (L.tree lower.now) number) self.old) }
         ensures err_size { OnErr result (self.new.size ≡ self.old.size) }
     {
         let end = offset + bytes.len() as u64;
@@ -48,15 +54,19 @@ impl Patched {
         Ok(())
     }
 
-    /// Puts bytes into a file whose blocks reach as far; between its end and the offset stand zeros.
-    /// It takes no memory.
+    /// Puts bytes into a file whose blocks reach as far; between its end and the offset come
+    /// zeros. It takes no memory.
     fn write(&mut self, offset: u64, bytes: &[u8])
-        requires reaches { Reaches (get nat_cmp self.old.blocks) offset (offset + length bytes.now) }
+        requires reaches { Reaches (get nat_cmp self.old.blocks) offset
+            (offset + length bytes.now) }
         requires some { 0 < length bytes.now }
         requires room { offset + length bytes.now < 2 ^ 63 }
         ensures size { self.new.size ≡ max self.old.size (offset + length bytes.now) }
-        ensures hides { (lower : List ℕ) → NothingHidden lower self.old → NothingHidden lower self.new }
-        ensures bytes { (lower : List ℕ) → NothingHidden lower self.old → file_bytes lower self.new ≡ placed offset bytes.now (file_bytes lower self.old) }
+        ensures hides { (lower : List ℕ) → NothingHidden lower self.old
+            → NothingHidden lower self.new }
+        ensures bytes { (lower : List ℕ) → NothingHidden lower self.old
+            → file_bytes lower self.new
+            ≡ bytes_after_write offset bytes.now (file_bytes lower self.old) }
     {
         overwrite(&mut self.blocks, offset, bytes);
         self.size = self.size.max(offset + bytes.len() as u64);
@@ -67,7 +77,9 @@ impl Patched {
 fn overwrite(blocks: &mut BTreeMap<u64, Block>, offset: u64, bytes: &[u8])
     requires reaches { Reaches (get nat_cmp blocks.old) offset (offset + length bytes.now) }
     requires room { offset + length bytes.now < 2 ^ 63 }
-    ensures { (lower : List ℕ) (kept i : ℕ) → byte_at lower kept (get nat_cmp blocks.new) i ≡ written_byte offset bytes.now (byte_at lower kept (get nat_cmp blocks.old)) i }
+    ensures { (lower : List ℕ) (kept i : ℕ)
+        → byte_at lower kept (get nat_cmp blocks.new) i
+        ≡ written_byte offset bytes.now (byte_at lower kept (get nat_cmp blocks.old)) i }
 {
     let end = offset + bytes.len() as u64;
     let mut at = offset;
@@ -82,8 +94,10 @@ fn overwrite(blocks: &mut BTreeMap<u64, Block>, offset: u64, bytes: &[u8])
 /// Puts a piece into the one block that it lies in.
 fn put(blocks: &mut BTreeMap<u64, Block>, at: u64, piece: &[u8])
     requires there { IsSome (get nat_cmp blocks.old (at / 4096)) }
-    requires reaches { IfSome (get nat_cmp blocks.old (at / 4096)) (λ s. at % 4096 + length piece.now ≤ length s) }
-    ensures { Updates nat_cmp blocks.old blocks.new (at / 4096) (option_map (put_in (at % 4096) piece.now) (get nat_cmp blocks.old (at / 4096))) }
+    requires reaches { IfSome (get nat_cmp blocks.old (at / 4096))
+        (λ s. at % 4096 + length piece.now ≤ length s) }
+    ensures { Updates nat_cmp blocks.old blocks.new (at / 4096)
+        (option_map (put_in (at % 4096) piece.now) (get nat_cmp blocks.old (at / 4096))) }
 {
     if let Some(block) = blocks.get_mut(&(at / 4096)) {
         block.put((at % 4096) as usize, piece);

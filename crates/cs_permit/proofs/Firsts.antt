@@ -10,7 +10,12 @@ first_failing-denied ((name, true) ∷ checks) rule e =
     record { passed = []; later = checks; list_is = ap (λ (r : RuleId). (r, true) ∷ checks) same; none_before = tt }
 first_failing-denied ((name, false) ∷ checks) rule e =
     let rest = first_failing-denied checks rule e in
-    record { passed = (name, false) ∷ rest.passed; later = rest.later; list_is = ap (λ (cs : List Check). (name, false) ∷ cs) rest.list_is; none_before = (refl, rest.none_before) }
+    record {
+      passed = (name, false) ∷ rest.passed;
+      later = rest.later;
+      list_is = ap (λ (cs : List Check). (name, false) ∷ cs) rest.list_is;
+      none_before = (refl, rest.none_before);
+    }
 
 pub first_failing-granted : (checks : List Check) → first_failing checks ≡ None → AllPass checks
 first_failing-granted [] e = tt

@@ -1,5 +1,6 @@
 -- A wstat that keeps each field.
-use Rattle.std.proofs.Common.{◌≡◌, ◌∙◌, ℕ, ◌==◌, ◌⊎◌, Bool, true, false, not, ◌||◌, List, [], ◌∷◌, Option, Some, None, IsSomeAnd, IfSome, inl, inr, if◌then◌else◌, refl, ap}
+use Rattle.std.proofs.Common.{◌≡◌, ◌∙◌, ℕ, ◌==◌, ◌⊎◌, Bool, true, false, not, ◌||◌, List, [], ◌∷◌, Option, Some, None, IsSomeAnd, IfSome}
+use Rattle.std.proofs.Common.{inl, inr, if◌then◌else◌, refl, ap}
 use Rattle.std.proofs.lemmas.Bool.{eq-eqb, or_left, or_right}
 use Rattle.std.specs.Cmp.Lexicographic.{bytes_decides}
 use Rattle.std.specs.Option.{is_none, option_map_or}
@@ -25,15 +26,18 @@ new_number-kept ones present sent k =
 
 new_text-kept : (present sent : List ℕ) → IsKeptText present sent → new_text present sent ≡ None
 new_text-kept present sent k =
-    ap (λ b. if b then None else Some sent) (either_true (same_name sent []) (same_name sent present) (bytes_decides sent []).1 (bytes_decides sent present).1 k)
+    ap (λ b. if b then None else Some sent)
+    (either_true (same_name sent []) (same_name sent present) (bytes_decides sent []).1 (bytes_decides sent present).1 k)
 
 same_qids : (p q : Qid) → p ≡ q → same_qid p q ≡ true
 same_qids p q e =
     let again : same_qid q q ≡ true = rw (eq-eqb q.kind q.kind refl, eq-eqb q.vers q.vers refl, eq-eqb q.path q.path refl) refl in
     ap (λ r. same_qid r q) e ∙ again
 
-qid-kept : (file : MetadataBuf) (q : Qid) → (q ≡ ones_qid) ⊎ (q ≡ qid_of file) → not (same_qid q ones_qid || same_qid q (qid_of file)) ≡ false
-qid-kept file q k = ap not (either_true (same_qid q ones_qid) (same_qid q (qid_of file)) (same_qids q ones_qid) (same_qids q (qid_of file)) k)
+qid-kept : (file : MetadataBuf) (q : Qid) → (q ≡ ones_qid) ⊎ (q ≡ qid_of file)
+    → not (same_qid q ones_qid || same_qid q (qid_of file)) ≡ false
+qid-kept file q k =
+    ap not (either_true (same_qid q ones_qid) (same_qid q (qid_of file)) (same_qids q ones_qid) (same_qids q (qid_of file)) k)
 
 module _ (t : Tree) (us : List Row) (c : WstatCall) (file : MetadataBuf) where
   pub kept-changes : KeepsEach t c file → ChangesNothing t c file
@@ -46,7 +50,15 @@ module _ (t : Tree) (us : List Row) (c : WstatCall) (file : MetadataBuf) where
   }
 
   kept-fixed : KeepsEach t c file → changes_fixed c file ≡ false
-  kept-fixed k = rw (new_number-kept _ _ _ k.kind, new_number-kept _ _ _ k.dev, qid-kept file c.stat.qid k.qid, new_number-kept _ _ _ k.atime, new_text-kept _ _ k.uid, new_text-kept _ _ k.muid) refl
+  kept-fixed k =
+      rw (
+        new_number-kept _ _ _ k.kind,
+        new_number-kept _ _ _ k.dev,
+        qid-kept file c.stat.qid k.qid,
+        new_number-kept _ _ _ k.atime,
+        new_text-kept _ _ k.uid,
+        new_text-kept _ _ k.muid,
+      ) refl
 
   kept-fields : ChangesNothing t c file → first_failing (field_rules t us c file) ≡ None
   unfolding name_rules length_rules mode_rules group_rules
@@ -59,6 +71,7 @@ first_failing-kept t us c (Some file) k =
     ap (λ b. if b then Some Q3 else first_failing (field_rules t us c file)) (kept-fixed t us c file k)
     ∙ kept-fields t us c file (kept-changes t us c file k)
 
-pub ChangesNothing-kept : (t : Tree) (us : List Row) (c : WstatCall) (o : Option MetadataBuf) → IsSomeAnd o (KeepsEach t c) → IfSome o (ChangesNothing t c)
+pub ChangesNothing-kept : (t : Tree) (us : List Row) (c : WstatCall) (o : Option MetadataBuf) → IsSomeAnd o (KeepsEach t c)
+    → IfSome o (ChangesNothing t c)
 ChangesNothing-kept t us c None k = tt
 ChangesNothing-kept t us c (Some file) k = kept-changes t us c file k

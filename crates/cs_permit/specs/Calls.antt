@@ -4,7 +4,8 @@ use Rattle.cs_names.specs.declared.rule_id.RuleId.{RuleId}
 use Rattle.cs_tree_model.specs.Tree.{Tree}
 use Rattle.cs_users.specs.Rows.{Row}
 use Rattle.cs_permit.specs.declared.call.Call.{Call}
-use Rattle.cs_permit.specs.declared.call.Call.TheVariants.{Attach, Walk, Open, Create, Read, Write, Close, Remove, Stat, Wstat}
+use Rattle.cs_permit.specs.declared.call.Call.TheVariants.{Attach, Walk, Open, Create, Read, Write}
+use Rattle.cs_permit.specs.declared.call.Call.TheVariants.{Close, Remove, Stat, Wstat}
 use Rattle.cs_permit.specs.declared.call.OpenFile.{OpenFile}
 use Rattle.cs_permit.specs.Attaches.{attach_rules}
 use Rattle.cs_permit.specs.Creates.{create_rules}

@@ -1,5 +1,6 @@
 -- What a wstat changes: no field of all ones, no empty text, and none that has the present value.
-use Rattle.std.specs.Prelude.{◌≡◌, ◌⊎◌, ℕ, ◌==◌, not, ◌&&◌, ◌||◌, Bool, false, List, [], Option, None, Some, is_some, if◌then◌else◌}
+use Rattle.std.specs.Prelude.{◌≡◌, ◌⊎◌, ℕ, ◌==◌, not, ◌&&◌, ◌||◌, Bool, false, List, [], Option}
+use Rattle.std.specs.Prelude.{None, Some, is_some, if◌then◌else◌}
 use Rattle.std.specs.Option.{option_map_or}
 use Rattle.cs_tree_model.specs.declared.record.MetadataBuf.{MetadataBuf}
 use Rattle.cs_tree_model.specs.Tree.{NameBytes, Tree}

@@ -8,7 +8,7 @@ use Rattle.cs_users.specs.declared.rights.Right.TheVariants.{Write}
 use Rattle.cs_users.specs.Rows.{Row}
 use Rattle.cs_permit.specs.declared.call.CreateCall.{CreateCall}
 use Rattle.cs_permit.specs.Refusals.{Check}
-use Rattle.cs_permit.specs.Rules.{is_directory, is_gone, lacks, on_file}
+use Rattle.cs_permit.specs.Rules.{is_directory, is_gone, lacks_right, on_file}
 
 -- a create in the directory of a number
 abbrev pub create_rules : Tree → List Row → CreateCall → List Check
@@ -18,7 +18,7 @@ create_rules t us c =
     -- not a directory
     ∷ (C7, on_file t c.number (λ file. not (is_directory file)))
     -- no write right: no w on the directory
-    ∷ (C8, lacks t us c.user Write c.number)
+    ∷ (C8, lacks_right t us c.user Write c.number)
     -- name exists
     ∷ (C9, is_some (number_in t c.number c.name))
     -- no room for files: TREE_RECORDS records are there

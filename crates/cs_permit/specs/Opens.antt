@@ -9,7 +9,8 @@ use Rattle.cs_permit.specs.declared.call.OpenCall.{OpenCall}
 use Rattle.cs_permit.specs.declared.call.OpenFile.{OpenFile}
 use Rattle.cs_permit.specs.Modes.{asks_execute, asks_read, asks_write, removes_on_close}
 use Rattle.cs_permit.specs.Refusals.{Check}
-use Rattle.cs_permit.specs.Rules.{is_directory, is_exclusive, is_gone, lacks, on_file, parent_lacks}
+use Rattle.cs_permit.specs.Rules.{is_directory, is_exclusive, is_gone, lacks_right, on_file}
+use Rattle.cs_permit.specs.Rules.{parent_lacks}
 
 -- one of the opens is on the file of that number
 abbrev pub is_open : List OpenFile → ℕ → Bool
@@ -23,11 +24,11 @@ open_rules t opens us c =
     -- directory needs mode 0: a directory, and the mode's whole byte isn't 0
     ∷ (O5, on_file t c.number is_directory && not (c.mode == 0))
     -- no read right: mode 0 or 2 without r
-    ∷ (O6, asks_read c.mode && lacks t us c.user Read c.number)
+    ∷ (O6, asks_read c.mode && lacks_right t us c.user Read c.number)
     -- no write right: mode 1 or 2, or 0x10, without w
-    ∷ (O7, asks_write c.mode && lacks t us c.user Write c.number)
+    ∷ (O7, asks_write c.mode && lacks_right t us c.user Write c.number)
     -- no execute right: mode 3 without x
-    ∷ (O8, asks_execute c.mode && lacks t us c.user Execute c.number)
+    ∷ (O8, asks_execute c.mode && lacks_right t us c.user Execute c.number)
     -- no right to remove: 0x40 without w in the parent
     ∷ (O9, removes_on_close c.mode && parent_lacks t us c.user Write c.number)
     -- exclusive file is open: DMEXCL, and an open of the run on it

@@ -1,5 +1,6 @@
 -- The rules of a read.
-use Rattle.std.specs.Prelude.{◌==◌, not, ◌&&◌, ◌||◌, Bool, false, List, [], ◌∷◌, length, nat_lt, Option, None, if◌then◌else◌}
+use Rattle.std.specs.Prelude.{◌==◌, not, ◌&&◌, ◌||◌, Bool, false, List, [], ◌∷◌, length, nat_lt}
+use Rattle.std.specs.Prelude.{Option, None, if◌then◌else◌}
 use Rattle.std.specs.Option.{option_map_or}
 use Rattle.cs_names.specs.declared.rule_id.RuleId.TheVariants.{G3, G4, G5}
 use Rattle.cs_tree_model.specs.Nexts.{next_name}

@@ -41,13 +41,13 @@ abbrev pub is_exclusive : MetadataBuf → Bool
 is_exclusive file = has_bit file.mode DMEXCL
 
 -- the user has the right on the file
-abbrev pub may : List Row → List ℕ → Right → MetadataBuf → Bool
-may us u right file = has_right us u file.owner file.group file.mode right
+abbrev pub may_access : List Row → List ℕ → Right → MetadataBuf → Bool
+may_access us u right file = has_right us u file.owner file.group file.mode right
 
 -- the file is there, and the user has not the right on it
-abbrev pub lacks : Tree → List Row → List ℕ → Right → ℕ → Bool
-lacks t us u right n = on_file t n (λ file. not (may us u right file))
+abbrev pub lacks_right : Tree → List Row → List ℕ → Right → ℕ → Bool
+lacks_right t us u right n = on_file t n (λ file. not (may_access us u right file))
 
 -- the user has not the right on the directory of the file; the root's is the root
 abbrev pub parent_lacks : Tree → List Row → List ℕ → Right → ℕ → Bool
-parent_lacks t us u right n = option_map_or (lacks t us u right) (parent_numbered t n) false
+parent_lacks t us u right n = option_map_or (lacks_right t us u right) (parent_numbered t n) false

@@ -1,5 +1,6 @@
 -- The rules of every request on a connection's fids, in their order.
-use Rattle.std.specs.Prelude.{ℕ, ◌==◌, not, ◌&&◌, ◌||◌, Bool, false, List, [], ◌∷◌, nat_le, Option, is_err, is_none, is_some, option_and_then}
+use Rattle.std.specs.Prelude.{ℕ, ◌==◌, not, ◌&&◌, ◌||◌, Bool, false, List, [], ◌∷◌, nat_le, Option}
+use Rattle.std.specs.Prelude.{is_err, is_none, is_some, option_and_then}
 use Rattle.std.specs.FinMap.{get, len}
 use Rattle.std.specs.Option.{option_map, option_map_or}
 use Rattle.cs_fids.specs.declared.fid.TheConstants.{NOFID}
@@ -7,10 +8,13 @@ use Rattle.cs_fids.specs.Entries.{as_opened}
 use Rattle.cs_fids.specs.Tables.{FidMap}
 use Rattle.cs_names.specs.declared.limits.TheConstants.{FIDS}
 use Rattle.cs_names.specs.declared.rule_id.RuleId.{RuleId}
-use Rattle.cs_names.specs.declared.rule_id.RuleId.TheVariants.{A1, A2, A3, K1, K2, K3, K4, O1, O2, O3, C1, C2, C3, C4, C5, G1, G2, E1, E2, M1, N1, H1, Q1}
+use Rattle.cs_names.specs.declared.rule_id.RuleId.TheVariants.{A1, A2, A3, K1, K2, K3, K4, O1, O2}
+use Rattle.cs_names.specs.declared.rule_id.RuleId.TheVariants.{O3, C1, C2, C3, C4, C5, G1, G2, E1}
+use Rattle.cs_names.specs.declared.rule_id.RuleId.TheVariants.{E2, M1, N1, H1, Q1}
 use Rattle.cs_names.specs.Legal.{name_in}
 use Rattle.cs_permit.specs.declared.request.Request.{Request}
-use Rattle.cs_permit.specs.declared.request.Request.TheVariants.{Attach, Walk, Open, Create, Read, Write, Clunk, Remove, Stat, Wstat}
+use Rattle.cs_permit.specs.declared.request.Request.TheVariants.{Attach, Walk, Open, Create, Read}
+use Rattle.cs_permit.specs.declared.request.Request.TheVariants.{Write, Clunk, Remove, Stat, Wstat}
 use Rattle.cs_permit.specs.Modes.{are_bad_permissions, covers_read, covers_write, is_bad_open_mode}
 use Rattle.cs_permit.specs.Refusals.{Check, first_failing}
 use Rattle.cs_permit.specs.TreeNames.{tree_name_in}
@@ -122,5 +126,5 @@ table_rules fids (Stat fid) = (H1, is_unknown fids fid) ∷ []
 table_rules fids (Wstat fid) = (Q1, is_unknown fids fid) ∷ []
 
 -- the first rule of the request that fails
-unfoldable pub first_of_table : FidMap → Request → Option RuleId
-first_of_table fids request = first_failing (table_rules fids request)
+unfoldable pub first_table_rule : FidMap → Request → Option RuleId
+first_table_rule fids request = first_failing (table_rules fids request)

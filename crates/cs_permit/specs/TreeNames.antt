@@ -1,13 +1,11 @@
 -- The name of a tree: a state's number, a slash, and a run's name.
-use Rattle.std.specs.Prelude.{ℕ, Bool, false, ◌&&◌, ◌||◌, ◌==◌, not, List, [], ◌∷◌, length, nat_eq, nat_le, Option, Some, None, if◌then◌else◌}
+use Rattle.std.specs.Prelude.{ℕ, Bool, false, ◌&&◌, ◌||◌, ◌==◌, not, List, [], ◌∷◌, length, nat_eq}
+use Rattle.std.specs.Prelude.{nat_le, Option, Some, None, if◌then◌else◌}
+use Rattle.std.specs.Char.{is_ascii_digit}
 use Rattle.std.specs.Cmp.Lexicographic.{pointwise}
 use Rattle.std.specs.List.{list_all}
 use Rattle.cs_names.specs.Legal.{is_run_name}
 use Rattle.cs_names.specs.Pieces.{pieces}
-
--- a decimal digit
-abbrev pub is_digit : ℕ → Bool
-is_digit c = nat_le 48 c && nat_le c 57
 
 -- the digit 0 alone
 abbrev pub is_zero : List ℕ → Bool
@@ -18,7 +16,7 @@ abbrev pub is_state_number : List ℕ → Bool
 is_state_number [] = false
 is_state_number (first ∷ others) =
     nat_le (length (first ∷ others)) 5
-    && list_all is_digit (first ∷ others)
+    && list_all is_ascii_digit (first ∷ others)
     && (not (first == 48) || length (first ∷ others) == 1)
 
 -- two pieces, a state's number and the name of a run

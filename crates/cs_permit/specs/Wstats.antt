@@ -1,8 +1,10 @@
 -- The rules of a wstat.
-use Rattle.std.specs.Prelude.{ℕ, ◌==◌, not, ◌&&◌, ◌||◌, Bool, List, [], ◌∷◌, ◌++◌, nat_lt, bit_and, Option, is_err, is_some, option_and_then}
+use Rattle.std.specs.Prelude.{ℕ, ◌==◌, not, ◌&&◌, ◌||◌, Bool, List, [], ◌∷◌, ◌++◌, nat_lt, bit_and}
+use Rattle.std.specs.Prelude.{Option, is_err, is_some, option_and_then}
 use Rattle.std.specs.Option.{option_map_or}
 use Rattle.cs_names.specs.declared.limits.TheConstants.{FILE_BYTES}
-use Rattle.cs_names.specs.declared.rule_id.RuleId.TheVariants.{Q2, Q3, Q4, Q5, Q6, Q7, Q8, Q9, Q10, Q11, Q12, Q13, Q14}
+use Rattle.cs_names.specs.declared.rule_id.RuleId.TheVariants.{Q2, Q3, Q4, Q5, Q6, Q7, Q8, Q9, Q10}
+use Rattle.cs_names.specs.declared.rule_id.RuleId.TheVariants.{Q11, Q12, Q13, Q14}
 use Rattle.cs_names.specs.Legal.{name_in}
 use Rattle.cs_tree_model.specs.declared.mode.TheConstants.{DMDIR}
 use Rattle.cs_tree_model.specs.declared.record.MetadataBuf.{MetadataBuf}
@@ -13,9 +15,10 @@ use Rattle.cs_users.specs.Rights.{owns}
 use Rattle.cs_users.specs.Rows.{Row}
 use Rattle.cs_permit.specs.declared.call.WstatCall.{WstatCall}
 use Rattle.cs_permit.specs.Modes.{given_bits, has_bit_outside, is_append_or_exclusive}
-use Rattle.cs_permit.specs.Changes.{changes_attributes, changes_fixed, if_new, new_group, new_length, new_mode, new_name}
+use Rattle.cs_permit.specs.Changes.{changes_attributes, changes_fixed, if_new, new_group}
+use Rattle.cs_permit.specs.Changes.{new_length, new_mode, new_name}
 use Rattle.cs_permit.specs.Refusals.{Check}
-use Rattle.cs_permit.specs.Rules.{file_at, is_directory, is_gone, may, on_file, parent_lacks}
+use Rattle.cs_permit.specs.Rules.{file_at, is_directory, is_gone, may_access, on_file, parent_lacks}
 
 -- the number of the file of that name in the directory of the file n
 abbrev pub number_beside : Tree → ℕ → NameBytes → Option ℕ
@@ -57,7 +60,7 @@ length_rules us c file =
     -- directory has no length: a length other than 0
     (Q8, if_new (new_length c file) (λ n. is_directory file))
     -- no write right: a new length without w on the file
-    ∷ (Q9, if_new (new_length c file) (λ n. not (may us c.user Write file)))
+    ∷ (Q9, if_new (new_length c file) (λ n. not (may_access us c.user Write file)))
     -- file too large: a new length above FILE_BYTES
     ∷ (Q10, if_new (new_length c file) (λ n. nat_lt FILE_BYTES n))
     ∷ []

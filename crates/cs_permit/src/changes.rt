@@ -1,8 +1,10 @@
 //! What a wstat changes (stat(5)): the new value of each field of its stat that is to be touched
 //! and hasn't the present value.
 ghost use Rattle.std.specs.Prelude.{◌≡◌, option_copied};
-ghost use Rattle.cs_tree_model.specs.Record.{lent};
-ghost use Rattle.cs_permit.specs.Changes.{changes_attributes, changes_fixed, new_group, new_length, new_mode, new_mtime, new_name, new_number, new_text, ones_2, ones_4, ones_8, same_qid};
+ghost use Rattle.cs_tree_model.specs.Record.{metadata_of_ref};
+ghost use Rattle.cs_permit.specs.Changes.{changes_attributes, changes_fixed, new_group, new_length};
+ghost use Rattle.cs_permit.specs.Changes.{new_mode, new_mtime, new_name, new_number, new_text};
+ghost use Rattle.cs_permit.specs.Changes.{ones_2, ones_4, ones_8, same_qid};
 
 use crate::call::WstatCall;
 use crate::shown::{qid_of, shown_name, told_length};
@@ -61,28 +63,28 @@ pub fn new_name<'a, T: TreeRead>(tree: &T, call: &'a WstatCall) -> Option<&'a st
 
 /// The new length, if the wstat has one. A directory's present length is 0.
 pub fn new_length(call: &WstatCall, file: &Metadata) -> Option<u64>
-    ensures { result ≡ new_length call.now (lent file.now) }
+    ensures { result ≡ new_length call.now (metadata_of_ref file.now) }
 {
     new_u64(told_length(file.kind), call.stat.as_stat().length)
 }
 
 /// The new mode, if the wstat has one.
 pub fn new_mode(call: &WstatCall, file: &Metadata) -> Option<u32>
-    ensures { result ≡ new_mode call.now (lent file.now) }
+    ensures { result ≡ new_mode call.now (metadata_of_ref file.now) }
 {
     new_u32(file.mode, call.stat.as_stat().mode)
 }
 
 /// The new mtime, if the wstat has one.
 pub fn new_mtime(call: &WstatCall, file: &Metadata) -> Option<u32>
-    ensures { result ≡ new_mtime call.now (lent file.now) }
+    ensures { result ≡ new_mtime call.now (metadata_of_ref file.now) }
 {
     new_u32(file.mtime, call.stat.as_stat().mtime)
 }
 
 /// The new group, if the wstat has one.
 pub fn new_group<'a>(call: &'a WstatCall, file: &Metadata) -> Option<&'a str>
-    ensures { option_copied result ≡ new_group call.now (lent file.now) }
+    ensures { option_copied result ≡ new_group call.now (metadata_of_ref file.now) }
 {
     new_text(file.group.as_str(), call.stat.as_stat().gid.as_str())
 }
@@ -102,7 +104,7 @@ fn is_same_qid(a: Qid, b: Qid) -> bool
 
 /// Whether a field changes that can't be: type, dev, qid, atime, uid or muid.
 pub fn changes_fixed(call: &WstatCall, file: &Metadata) -> bool
-    ensures { result ≡ changes_fixed call.now (lent file.now) }
+    ensures { result ≡ changes_fixed call.now (metadata_of_ref file.now) }
 {
     let stat = call.stat.as_stat();
     new_u16(0, stat.kind).is_some()
@@ -115,7 +117,7 @@ pub fn changes_fixed(call: &WstatCall, file: &Metadata) -> bool
 
 /// Whether the mode or the mtime changes.
 pub fn changes_attributes(call: &WstatCall, file: &Metadata) -> bool
-    ensures { result ≡ changes_attributes call.now (lent file.now) }
+    ensures { result ≡ changes_attributes call.now (metadata_of_ref file.now) }
 {
     new_mode(call, file).is_some() || new_mtime(call, file).is_some()
 }

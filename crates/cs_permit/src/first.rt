@@ -1,6 +1,6 @@
 //! The first rule of a call on a run that fails, without taking memory.
 ghost use Rattle.std.specs.Prelude.{◌≡◌, if◌then◌else◌};
-ghost use Rattle.cs_tree_model.specs.Record.{lent};
+ghost use Rattle.cs_tree_model.specs.Record.{metadata_of_ref};
 ghost use Rattle.cs_permit.specs.Attaches.{attach_rules};
 ghost use Rattle.cs_permit.specs.Calls.{failing_rule, rules_view};
 ghost use Rattle.cs_permit.specs.Creates.{create_rules};
@@ -18,7 +18,7 @@ use crate::call::{
 };
 use crate::mode::{asks_execute, asks_read, asks_write, removes_on_close};
 use crate::read::first_of_read;
-use crate::rules::{is_append_only, is_directory, is_exclusive, is_gone, may, parent_lacks};
+use crate::rules::{is_append_only, is_directory, is_exclusive, is_gone, may_access, parent_lacks};
 use crate::shown::told_length;
 use crate::walk::first_of_element;
 use crate::wstat::first_of_wstat;
@@ -67,13 +67,13 @@ fn first_of_open<T: TreeRead>(
     if is_directory(&file) && call.mode != 0 {
         return Some(RuleId::O5);
     }
-    if asks_read(call.mode) && !may(users, &call.user, Right::Read, &file) {
+    if asks_read(call.mode) && !may_access(users, &call.user, Right::Read, &file) {
         return Some(RuleId::O6);
     }
-    if asks_write(call.mode) && !may(users, &call.user, Right::Write, &file) {
+    if asks_write(call.mode) && !may_access(users, &call.user, Right::Write, &file) {
         return Some(RuleId::O7);
     }
-    if asks_execute(call.mode) && !may(users, &call.user, Right::Execute, &file) {
+    if asks_execute(call.mode) && !may_access(users, &call.user, Right::Execute, &file) {
         return Some(RuleId::O8);
     }
     if removes_on_close(call.mode)
@@ -96,7 +96,7 @@ fn first_of_create<T: TreeRead>(call: &CreateCall, tree: &T, users: &Users) -> O
     if !is_directory(&directory) {
         return Some(RuleId::C7);
     }
-    if !may(users, &call.user, Right::Write, &directory) {
+    if !may_access(users, &call.user, Right::Write, &directory) {
         return Some(RuleId::C8);
     }
     if tree.find_number(call.number, call.name.as_str()).is_some() {
@@ -115,9 +115,10 @@ fn ends_too_late(start: u64, count: u64) -> bool
     count > FILE_BYTES || start > FILE_BYTES - count
 }
 
-/// Where a write begins.
-fn write_start(call: &WriteCall<'_>, file: &Metadata) -> u64
-    ensures { result ≡ (if is_append_only (lent file.now) then told_length file.now.kind
+/// Where a write begins: behind the last byte of a file that is only appended to, else where the call
+/// says.
+pub fn write_start(call: &WriteCall<'_>, file: &Metadata) -> u64
+    ensures { result ≡ (if is_append_only (metadata_of_ref file.now) then told_length file.now.kind
         else call.now.offset) }
 {
     if is_append_only(file) {

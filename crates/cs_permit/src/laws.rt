@@ -1,10 +1,12 @@
 //! What the definitions of rules say, as laws. A call of a function here does nothing: its contract
 //! is the law.
-ghost use Rattle.std.specs.Prelude.{◌≡◌, ◌++◌, List, None, Some, IfSome, IsSome, IsSomeAnd, true, false};
+ghost use Rattle.std.specs.Prelude.{◌≡◌, ◌++◌, List, None, Some, IfSome, IsSome, IsSomeAnd, true};
+ghost use Rattle.std.specs.Prelude.{false};
 ghost use Rattle.cs_names.specs.declared.rule_id.RuleId.{RuleId};
 ghost use Rattle.cs_tree_model.specs.Tree.{NameBytes, number_in};
 ghost use Rattle.cs_permit.specs.Changes.{ChangesNothing, KeepsEach};
-ghost use Rattle.cs_permit.specs.Refusals.{AllPass, Check, IsFirstToFail, first_failing, first_failing_or};
+ghost use Rattle.cs_permit.specs.Refusals.{AllPass, Check, IsFirstToFail, first_failing};
+ghost use Rattle.cs_permit.specs.Refusals.{first_failing_or};
 ghost use Rattle.cs_permit.specs.Removes.{has_entries};
 ghost use Rattle.cs_permit.specs.Rules.{file_at};
 ghost use Rattle.cs_permit.specs.Wstats.{wstat_rules};

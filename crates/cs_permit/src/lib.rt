@@ -25,15 +25,15 @@ pub use call::{
 };
 pub use changes::{new_group, new_length, new_mode, new_mtime, new_name};
 pub use fault::{FindFault, PassFault};
-pub use first::{failing_rule, first_of_walk};
+pub use first::{failing_rule, first_of_walk, write_start};
 pub use read::name_before;
 pub use request::Request;
 pub use sent_bytes::SentBytes;
 pub use sent_stat::SentStat;
 pub use shown::{
     entry_size, entry_stat, qid_at, qid_known, qid_of, shown_name, stat_of_file, stat_ref,
-    stat_size, told_length,
+    told_length,
 };
-pub use table::first_of_table;
+pub use table::first_table_rule;
 pub use tree_name::TreeName;
 pub use walk::{element, element_of};

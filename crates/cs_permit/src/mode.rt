@@ -1,6 +1,9 @@
 //! The modes of opens, and the permissions that a client may give (open(5), stat(5)).
 ghost use Rattle.std.specs.Prelude.{◌≡◌};
-ghost use Rattle.cs_permit.specs.Modes.{are_bad_permissions, asks_execute, asks_read, asks_write, covers_read, covers_write, given_bits, has_bit_outside, is_append_or_exclusive, is_bad_open_mode, removes_on_close, truncates};
+ghost use Rattle.cs_permit.specs.Modes.{are_bad_permissions, asks_execute, asks_read, asks_write};
+ghost use Rattle.cs_permit.specs.Modes.{covers_read, covers_write, given_bits, has_bit_outside};
+ghost use Rattle.cs_permit.specs.Modes.{is_append_or_exclusive, is_bad_open_mode, removes_on_close};
+ghost use Rattle.cs_permit.specs.Modes.{truncates};
 
 use cs_tree_model::{DMAPPEND, DMDIR, DMEXCL, DMTMP, is_directory_mode};
 use cs_users::has_bit;

@@ -1,7 +1,8 @@
 //! The tests that the rules of many calls are made of.
 ghost use Rattle.std.specs.Prelude.{◌≡◌};
-ghost use Rattle.cs_tree_model.specs.Record.{lent};
-ghost use Rattle.cs_permit.specs.Rules.{is_append_only, is_directory, is_exclusive, is_gone, may, parent_lacks};
+ghost use Rattle.cs_tree_model.specs.Record.{metadata_of_ref};
+ghost use Rattle.cs_permit.specs.Rules.{is_append_only, is_directory, is_exclusive, is_gone};
+ghost use Rattle.cs_permit.specs.Rules.{may_access, parent_lacks};
 
 use cs_names::UserName;
 use cs_tree_model::{DMAPPEND, DMEXCL, Kind, Metadata, TreeRead};
@@ -9,7 +10,7 @@ use cs_users::{Right, Users, has_bit};
 
 /// Whether it is a directory's.
 pub fn is_directory(file: &Metadata) -> bool
-    ensures { result ≡ is_directory (lent file.now) }
+    ensures { result ≡ is_directory (metadata_of_ref file.now) }
 {
     match file.kind {
         Kind::Directory => true,
@@ -19,14 +20,14 @@ pub fn is_directory(file: &Metadata) -> bool
 
 /// Whether all writes go to the file's end.
 pub fn is_append_only(file: &Metadata) -> bool
-    ensures { result ≡ is_append_only (lent file.now) }
+    ensures { result ≡ is_append_only (metadata_of_ref file.now) }
 {
     has_bit(file.mode, DMAPPEND)
 }
 
 /// Whether one fid at a time may have the file open.
 pub fn is_exclusive(file: &Metadata) -> bool
-    ensures { result ≡ is_exclusive (lent file.now) }
+    ensures { result ≡ is_exclusive (metadata_of_ref file.now) }
 {
     has_bit(file.mode, DMEXCL)
 }
@@ -39,8 +40,8 @@ pub fn is_gone<T: TreeRead>(tree: &T, number: u64) -> bool
 }
 
 /// Whether the user has the right on the file.
-pub fn may(users: &Users, user: &UserName, right: Right, file: &Metadata) -> bool
-    ensures { result ≡ may users.now user.now right (lent file.now) }
+pub fn may_access(users: &Users, user: &UserName, right: Right, file: &Metadata) -> bool
+    ensures { result ≡ may_access users.now user.now right (metadata_of_ref file.now) }
 {
     cs_users::has_right(
         users,
@@ -66,7 +67,7 @@ pub fn parent_lacks<T: TreeRead>(
         return false;
     };
     match tree.record(parent) {
-        Some(directory) => !may(users, user, right, &directory),
+        Some(directory) => !may_access(users, user, right, &directory),
         None => false,
     }
 }

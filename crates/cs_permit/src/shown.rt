@@ -3,26 +3,24 @@
 ghost use Rattle.std.specs.Prelude.{◌≡◌, ◌/◌, IfSome, length};
 ghost use Rattle.std.specs.Option.{option_map};
 ghost use Rattle.cs_tree_model.specs.Nexts.{entry_name};
-ghost use Rattle.cs_tree_model.specs.Record.{lent};
+ghost use Rattle.cs_tree_model.specs.Record.{metadata_of_ref};
 ghost use Rattle.cs_wire.specs.Fields.{IsIn};
-ghost use Rattle.cs_wire.specs.Messages.{qid_of as qid_value, stat_entry, stat_in as fields_of};
-ghost use Rattle.cs_permit.specs.Shown.{entry_of, qid_at, qid_of, qid_or_zeros, shown_name, stat_as, stat_at, stat_of_file, stat_with, told_length};
+ghost use Rattle.cs_wire.specs.Messages.{qid_of as qid_value, stat_in as fields_of};
+ghost use Rattle.cs_permit.specs.Shown.{entry_of, qid_at, qid_of, qid_or_zeros, shown_name};
+ghost use Rattle.cs_permit.specs.Shown.{stat_as, stat_at, stat_of_file, stat_with, told_length};
 ghost use Rattle.cs_permit.specs.Sizes.{IsQid, IsShown, IsStat, numbers_shape};
 
 use cs_names::limits::{NAME_BYTES, USER_NAME_BYTES};
 use cs_names::{Name, UserName};
-use cs_tree_model::{Entry, Kind, Metadata, TreeRead};
+use cs_tree_model::{Kind, ListedEntry, Metadata, TreeRead};
 use cs_wire::{Qid, StatRef};
-
-/// Bytes of a stat entry beside those of its texts.
-const FIXED_BYTES: usize = 49;
 
 /// A bound on the bytes of a stat in a reply (stat(5)): no file's is longer.
 pub const STAT_BYTES: usize = 600;
 
 /// The qid of a file (intro(5)).
 pub fn qid_of(file: &Metadata) -> Qid
-    ensures value { result ≡ qid_of (lent file.now) }
+    ensures value { result ≡ qid_of (metadata_of_ref file.now) }
     ensures fits { IsQid result }
 {
     qid_from(file.mode, file.vers, file.number)
@@ -42,7 +40,7 @@ fn qid_from(mode: u32, vers: u32, number: u64) -> Qid
 
 /// The qid of a file of which the tree tells this, or zeros where there is none.
 pub fn qid_known(file: Option<Metadata>) -> Qid
-    ensures value { result ≡ qid_or_zeros (option_map lent file.entry) }
+    ensures value { result ≡ qid_or_zeros (option_map metadata_of_ref file.entry) }
     ensures fits { IsQid result }
 {
     match file {
@@ -139,7 +137,7 @@ fn stat_with<'a>(
 /// What a stat tells of a file of that name, lent. It takes no memory.
 pub fn stat_of_file<'a>(name: &'a str, file: &Metadata<'a>) -> StatRef<'a>
     requires { IsShown NAME_BYTES name.now }
-    ensures value { fields_of result ≡ stat_of_file name.now (lent file.now) }
+    ensures value { fields_of result ≡ stat_of_file name.now (metadata_of_ref file.now) }
     ensures fits { IsStat STAT_BYTES (fields_of result) }
 {
     let texts = Texts {
@@ -169,16 +167,8 @@ pub fn stat_ref<T: TreeRead>(tree: &T, number: u64) -> Option<StatRef<'_>>
     Some(stat_of_file(name, &file))
 }
 
-/// How many bytes an entry takes in a read of its directory, by what a stat tells of its file.
-pub fn stat_size(stat: &StatRef) -> usize
-    requires { IsStat STAT_BYTES (fields_of stat.now) }
-    ensures { result ≡ length (stat_entry (fields_of stat.now)) }
-{
-    FIXED_BYTES + stat.name.len() + stat.uid.len() + stat.gid.len() + stat.muid.len()
-}
-
 /// What a stat tells of an entry of a directory, lent. It takes no memory.
-pub fn entry_stat<'a, T: TreeRead>(tree: &'a T, entry: Entry<'a>) -> Option<StatRef<'a>>
+pub fn entry_stat<'a, T: TreeRead>(tree: &'a T, entry: ListedEntry<'a>) -> Option<StatRef<'a>>
     ensures value { option_map fields_of result ≡ stat_as (T.tree tree.now) entry.entry.number
         (entry_name entry.entry) }
     ensures fits { IfSome result (λ stat. IsStat STAT_BYTES (fields_of stat)) }
@@ -188,12 +178,12 @@ pub fn entry_stat<'a, T: TreeRead>(tree: &'a T, entry: Entry<'a>) -> Option<Stat
 }
 
 /// How many bytes an entry of a directory takes in a read of it.
-pub fn entry_size<T: TreeRead>(tree: &T, entry: Entry) -> usize
+pub fn entry_size<T: TreeRead>(tree: &T, entry: ListedEntry) -> usize
     ensures { result ≡ length (entry_of (stat_as (T.tree tree.now) entry.entry.number
         (entry_name entry.entry))) }
 {
     match entry_stat(tree, entry) {
-        Some(stat) => stat_size(&stat),
+        Some(stat) => stat.entry_length(),
         None => 0,
     }
 }

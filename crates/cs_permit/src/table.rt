@@ -1,12 +1,15 @@
 //! The first rule of a request on a connection's fids that fails, without taking memory.
 ghost use Rattle.std.specs.Prelude.{◌≡◌, ◌∷◌, []};
 ghost use Rattle.cs_permit.specs.Refusals.{first_failing};
-ghost use Rattle.cs_permit.specs.Table.{attach_table_rules, create_table_rules, first_of_table, is_full, is_open, is_unknown, may_be_read, may_be_written, open_mode, open_table_rules, read_table_rules, walk_table_rules, write_table_rules};
+ghost use Rattle.cs_permit.specs.Table.{attach_table_rules, create_table_rules, first_table_rule};
+ghost use Rattle.cs_permit.specs.Table.{is_full, is_open, is_unknown, may_be_read, may_be_written};
+ghost use Rattle.cs_permit.specs.Table.{open_mode, open_table_rules, read_table_rules};
+ghost use Rattle.cs_permit.specs.Table.{walk_table_rules, write_table_rules};
 
 use crate::mode::{are_bad_permissions, covers_read, covers_write, is_bad_open_mode};
 use crate::request::Request;
 use crate::tree_name::TreeName;
-use cs_fids::{Entry, FidTable, NOFID};
+use cs_fids::{FidEntry, FidTable, NOFID};
 use cs_names::limits::FIDS;
 use cs_names::{Name, RuleId};
 
@@ -21,8 +24,8 @@ fn open_mode(fids: &FidTable, fid: u32) -> Option<u8>
     ensures { result ≡ open_mode fids.now.fids fid }
 {
     match fids.look(fid) {
-        Some(Entry::Opened(opened)) => Some(opened.mode()),
-        Some(Entry::Walked(_)) => None,
+        Some(FidEntry::Opened(opened)) => Some(opened.mode()),
+        Some(FidEntry::Walked(_)) => None,
         None => None,
     }
 }
@@ -39,7 +42,7 @@ fn is_full(fids: &FidTable) -> bool
     fids.len() >= FIDS
 }
 
-fn first_of_attach(fids: &FidTable, fid: u32, afid: u32, aname: &str) -> Option<RuleId>
+fn first_table_rule_of_attach(fids: &FidTable, fid: u32, afid: u32, aname: &str) -> Option<RuleId>
     ensures { result ≡ first_failing (attach_table_rules fids.now.fids fid afid aname.now) }
 {
     if !is_unknown(fids, fid) || fid == NOFID || is_full(fids) {
@@ -54,7 +57,7 @@ fn first_of_attach(fids: &FidTable, fid: u32, afid: u32, aname: &str) -> Option<
     None
 }
 
-fn first_of_walk(fids: &FidTable, fid: u32, newfid: u32) -> Option<RuleId>
+fn first_table_rule_of_walk(fids: &FidTable, fid: u32, newfid: u32) -> Option<RuleId>
     ensures { result ≡ first_failing (walk_table_rules fids.now.fids fid newfid) }
 {
     if is_unknown(fids, fid) {
@@ -72,7 +75,7 @@ fn first_of_walk(fids: &FidTable, fid: u32, newfid: u32) -> Option<RuleId>
     None
 }
 
-fn first_of_open(fids: &FidTable, fid: u32, mode: u8) -> Option<RuleId>
+fn first_table_rule_of_open(fids: &FidTable, fid: u32, mode: u8) -> Option<RuleId>
     ensures { result ≡ first_failing (open_table_rules fids.now.fids fid mode) }
 {
     if is_unknown(fids, fid) {
@@ -87,7 +90,13 @@ fn first_of_open(fids: &FidTable, fid: u32, mode: u8) -> Option<RuleId>
     None
 }
 
-fn first_of_create(fids: &FidTable, fid: u32, name: &str, perm: u32, mode: u8) -> Option<RuleId>
+fn first_table_rule_of_create(
+    fids: &FidTable,
+    fid: u32,
+    name: &str,
+    perm: u32,
+    mode: u8,
+) -> Option<RuleId>
     ensures { result ≡ first_failing (create_table_rules fids.now.fids fid name.now perm mode) }
 {
     if is_unknown(fids, fid) {
@@ -118,7 +127,7 @@ fn may_be_read(fids: &FidTable, fid: u32) -> bool
     }
 }
 
-fn first_of_read(fids: &FidTable, fid: u32) -> Option<RuleId>
+fn first_table_rule_of_read(fids: &FidTable, fid: u32) -> Option<RuleId>
     ensures { result ≡ first_failing (read_table_rules fids.now.fids fid) }
 {
     if is_unknown(fids, fid) {
@@ -140,7 +149,7 @@ fn may_be_written(fids: &FidTable, fid: u32) -> bool
     }
 }
 
-fn first_of_write(fids: &FidTable, fid: u32) -> Option<RuleId>
+fn first_table_rule_of_write(fids: &FidTable, fid: u32) -> Option<RuleId>
     ensures { result ≡ first_failing (write_table_rules fids.now.fids fid) }
 {
     if is_unknown(fids, fid) {
@@ -163,22 +172,22 @@ fn known_or(fids: &FidTable, fid: u32, rule: RuleId) -> Option<RuleId>
 }
 
 /// The first rule of the connection that the request fails, if any. It takes no memory.
-#[tactic(auto, unfolding(crate::specs::Table::first_of_table))]
-pub fn first_of_table(request: &Request, fids: &FidTable) -> Option<RuleId>
-    ensures { result ≡ first_of_table fids.now.fids request.now }
+#[tactic(auto, unfolding(crate::specs::Table::first_table_rule))]
+pub fn first_table_rule(request: &Request, fids: &FidTable) -> Option<RuleId>
+    ensures { result ≡ first_table_rule fids.now.fids request.now }
 {
     match *request {
-        Request::Attach { fid, afid, aname } => first_of_attach(fids, fid, afid, aname),
-        Request::Walk { fid, newfid } => first_of_walk(fids, fid, newfid),
-        Request::Open { fid, mode } => first_of_open(fids, fid, mode),
+        Request::Attach { fid, afid, aname } => first_table_rule_of_attach(fids, fid, afid, aname),
+        Request::Walk { fid, newfid } => first_table_rule_of_walk(fids, fid, newfid),
+        Request::Open { fid, mode } => first_table_rule_of_open(fids, fid, mode),
         Request::Create {
             fid,
             name,
             perm,
             mode,
-        } => first_of_create(fids, fid, name, perm, mode),
-        Request::Read { fid } => first_of_read(fids, fid),
-        Request::Write { fid } => first_of_write(fids, fid),
+        } => first_table_rule_of_create(fids, fid, name, perm, mode),
+        Request::Read { fid } => first_table_rule_of_read(fids, fid),
+        Request::Write { fid } => first_table_rule_of_write(fids, fid),
         Request::Clunk { fid } => known_or(fids, fid, RuleId::N1),
         Request::Remove { fid } => known_or(fids, fid, RuleId::M1),
         Request::Stat { fid } => known_or(fids, fid, RuleId::H1),

@@ -1,9 +1,8 @@
 //! The name of a tree, as an attach gives it: a state's number, a slash, and a run's name.
 ghost use Rattle.std.specs.Prelude.{◌≡◌, MatchOption, None, Some};
-ghost use Rattle.std.specs.List.{list_all};
-ghost use Rattle.cs_permit.specs.TreeNames.{is_digit, is_state_number, is_zero, tree_name_in};
+ghost use Rattle.cs_permit.specs.TreeNames.{is_state_number, is_zero, tree_name_in};
 
-use cs_names::{Pieces, RunName};
+use cs_names::{Pieces, RunName, has_digits_alone};
 
 /// The two parts of a tree's name.
 #[derive(Clone, Copy, Debug)]
@@ -12,12 +11,6 @@ pub struct TreeName<'a> {
     pub state: &'a [u8],
     /// The name of the run.
     pub run: &'a [u8],
-}
-
-fn has_digits_alone(bytes: &[u8]) -> bool
-    ensures { result ≡ list_all is_digit bytes.now }
-{
-    bytes.iter().all(|c| c.is_ascii_digit())
 }
 
 fn is_zero(bytes: &[u8]) -> bool

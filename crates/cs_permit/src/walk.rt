@@ -1,12 +1,12 @@
 //! One element of a walk (walk(5)).
 ghost use Rattle.std.specs.Prelude.{◌≡◌};
 ghost use Rattle.std.specs.Option.{option_map};
-ghost use Rattle.cs_tree_model.specs.Record.{lent};
+ghost use Rattle.cs_tree_model.specs.Record.{metadata_of_ref};
 ghost use Rattle.cs_permit.specs.Refusals.{first_failing};
 ghost use Rattle.cs_permit.specs.Rules.{file_at};
-ghost use Rattle.cs_permit.specs.Walks.{element, element_rules, is_up, next};
+ghost use Rattle.cs_permit.specs.Walks.{element, element_rules, is_up, number_by_name};
 
-use crate::rules::{is_directory, may};
+use crate::rules::{is_directory, may_access};
 use cs_names::{Name, RuleId, UserName};
 use cs_tree_model::{Metadata, TreeRead};
 use cs_users::{Right, Users};
@@ -21,7 +21,7 @@ fn is_up(name: &str) -> bool
 // a walk spends a good part of its time on these few calls
 #[inline(always)]
 fn next_number<T: TreeRead>(tree: &T, number: u64, name: &str) -> Option<u64>
-    ensures { result ≡ next (T.tree tree.now) number name.now }
+    ensures { result ≡ number_by_name (T.tree tree.now) number name.now }
 {
     if is_up(name) {
         return tree.parent_of(number);
@@ -30,8 +30,8 @@ fn next_number<T: TreeRead>(tree: &T, number: u64, name: &str) -> Option<u64>
     tree.find_number(number, name)
 }
 
-/// One element of a walk from the file of that number, of which the tree tells this: where it leads,
-/// or the rule that stops it. It takes no memory, and looks up a name and no record.
+/// One element of a walk from the file of that number, of which the tree tells this: where it
+/// leads, or the rule that stops it. It takes no memory, and looks up a name and no record.
 // a record is large: out of line, it would be passed in memory
 #[inline(always)]
 pub fn element_of<T: TreeRead>(
@@ -42,14 +42,14 @@ pub fn element_of<T: TreeRead>(
     file: Option<Metadata>,
     name: &str,
 ) -> Result<u64, RuleId>
-    requires { option_map lent file ≡ file_at (T.tree tree.now) number }
+    requires { option_map metadata_of_ref file ≡ file_at (T.tree tree.now) number }
     ensures { result ≡ element (T.tree tree.now) users.now user.now number name.now }
 {
     if let Some(file) = file {
         if !is_directory(&file) {
             return Err(RuleId::K6);
         }
-        if !may(users, user, Right::Execute, &file) {
+        if !may_access(users, user, Right::Execute, &file) {
             return Err(RuleId::K7);
         }
     }

@@ -1,15 +1,17 @@
 //! The rules of a wstat (stat(5)).
 ghost use Rattle.std.specs.Prelude.{◌≡◌};
-ghost use Rattle.cs_tree_model.specs.Record.{lent};
+ghost use Rattle.cs_tree_model.specs.Record.{metadata_of_ref};
 ghost use Rattle.cs_permit.specs.Refusals.{first_failing};
-ghost use Rattle.cs_permit.specs.Wstats.{field_rules, group_rules, is_bad_mode, is_owner_or_leader, length_rules, may_give, mode_rules, name_rules, number_beside, wstat_rules};
+ghost use Rattle.cs_permit.specs.Wstats.{field_rules, group_rules, is_bad_mode, is_owner_or_leader};
+ghost use Rattle.cs_permit.specs.Wstats.{length_rules, may_give, mode_rules, name_rules};
+ghost use Rattle.cs_permit.specs.Wstats.{number_beside, wstat_rules};
 
 use crate::call::WstatCall;
 use crate::changes::{
     changes_attributes, changes_fixed, new_group, new_length, new_mode, new_name,
 };
 use crate::mode::{has_bit_outside, is_append_or_exclusive};
-use crate::rules::{is_directory, may, parent_lacks};
+use crate::rules::{is_directory, may_access, parent_lacks};
 use cs_names::limits::FILE_BYTES;
 use cs_names::{Name, RuleId, UserName};
 use cs_tree_model::{DMDIR, Metadata, TreeRead};
@@ -45,13 +47,13 @@ fn first_of_name<T: TreeRead>(call: &WstatCall, tree: &T, users: &Users) -> Opti
 
 #[tactic(auto, unfolding(crate::specs::Wstats::length_rules))]
 pub fn first_of_length(call: &WstatCall, users: &Users, file: &Metadata) -> Option<RuleId>
-    ensures { result ≡ first_failing (length_rules users.now call.now (lent file.now)) }
+    ensures { result ≡ first_failing (length_rules users.now call.now (metadata_of_ref file.now)) }
 {
     let length = new_length(call, file)?;
     if is_directory(file) {
         return Some(RuleId::Q8);
     }
-    if !may(users, &call.user, Right::Write, file) {
+    if !may_access(users, &call.user, Right::Write, file) {
         return Some(RuleId::Q9);
     }
     if length > FILE_BYTES {
@@ -62,7 +64,7 @@ pub fn first_of_length(call: &WstatCall, users: &Users, file: &Metadata) -> Opti
 
 /// Whether the file can't have that mode.
 fn is_bad_mode(file: &Metadata, mode: u32) -> bool
-    ensures { result ≡ is_bad_mode (lent file.now) mode }
+    ensures { result ≡ is_bad_mode (metadata_of_ref file.now) mode }
 {
     has_bit_outside(mode)
         || mode & DMDIR != file.mode & DMDIR
@@ -70,7 +72,7 @@ fn is_bad_mode(file: &Metadata, mode: u32) -> bool
 }
 
 fn is_owner_or_leader(users: &Users, user: &UserName, file: &Metadata) -> bool
-    ensures { result ≡ is_owner_or_leader users.now user.now (lent file.now) }
+    ensures { result ≡ is_owner_or_leader users.now user.now (metadata_of_ref file.now) }
 {
     owns(user.as_bytes(), file.owner.as_bytes())
         || users.is_leader(user.as_bytes(), file.group.as_bytes())
@@ -78,7 +80,7 @@ fn is_owner_or_leader(users: &Users, user: &UserName, file: &Metadata) -> bool
 
 #[tactic(auto, unfolding(crate::specs::Wstats::mode_rules))]
 pub fn first_of_mode(call: &WstatCall, users: &Users, file: &Metadata) -> Option<RuleId>
-    ensures { result ≡ first_failing (mode_rules users.now call.now (lent file.now)) }
+    ensures { result ≡ first_failing (mode_rules users.now call.now (metadata_of_ref file.now)) }
 {
     if let Some(mode) = new_mode(call, file) {
         if is_bad_mode(file, mode) {
@@ -93,7 +95,7 @@ pub fn first_of_mode(call: &WstatCall, users: &Users, file: &Metadata) -> Option
 
 /// Whether the user may give the file that group.
 fn may_give(users: &Users, user: &UserName, file: &Metadata, group: &str) -> bool
-    ensures { result ≡ may_give users.now user.now (lent file.now) group.now }
+    ensures { result ≡ may_give users.now user.now (metadata_of_ref file.now) group.now }
 {
     let user = user.as_bytes();
     (owns(user, file.owner.as_bytes()) && users.is_member(user, group.as_bytes()))
@@ -102,7 +104,7 @@ fn may_give(users: &Users, user: &UserName, file: &Metadata, group: &str) -> boo
 
 #[tactic(auto, unfolding(crate::specs::Wstats::group_rules))]
 pub fn first_of_group(call: &WstatCall, users: &Users, file: &Metadata) -> Option<RuleId>
-    ensures { result ≡ first_failing (group_rules users.now call.now (lent file.now)) }
+    ensures { result ≡ first_failing (group_rules users.now call.now (metadata_of_ref file.now)) }
 {
     let group = new_group(call, file)?;
     if !users.knows(group.as_bytes()) {
@@ -122,7 +124,7 @@ fn first_of_fields<T: TreeRead>(
     file: &Metadata,
 ) -> Option<RuleId>
     ensures { result ≡ first_failing (field_rules (T.tree tree.now) users.now call.now
-        (lent file.now)) }
+        (metadata_of_ref file.now)) }
 {
     if let Some(rule) = first_of_name(call, tree, users) {
         return Some(rule);

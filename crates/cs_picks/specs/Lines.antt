@@ -1,17 +1,18 @@
 -- A line of a picks file, through what `serde_json` reads as a value: an array of places.
-use Rattle.std.specs.Prelude.{ℕ, ◌^◌, nat_lt, if◌then◌else◌, List, [], ◌∷◌, Option, None, Some, option_map, option_and_then}
+use Rattle.std.specs.Prelude.{ℕ, ◌^◌, nat_lt, if◌then◌else◌, List, [], ◌∷◌, Option, None, Some}
+use Rattle.std.specs.Prelude.{option_map, option_and_then}
 use Rattle.std.specs.Str.{is_utf8}
 use Rattle.serde_json.specs.Data.{Data, Items, no_items, item}
 use Rattle.serde_json.specs.Find.{as_array, as_number, as_u64}
 use Rattle.serde_json.specs.Read.{read}
 
 -- what fits 32 bits
-abbrev pub small : ℕ → Option ℕ
-small number = if nat_lt number (2 ^ 32) then Some number else None
+abbrev pub number_of_32_bits : ℕ → Option ℕ
+number_of_32_bits number = if nat_lt number (2 ^ 32) then Some number else None
 
 -- a whole number without sign, point or exponent, of at most 32 bits
 abbrev pub place_of : Data → Option ℕ
-place_of value = option_and_then small (option_and_then as_u64 (as_number value))
+place_of value = option_and_then number_of_32_bits (option_and_then as_u64 (as_number value))
 
 -- a place in front of others
 abbrev pub with_place : Option ℕ → Option (List ℕ) → Option (List ℕ)

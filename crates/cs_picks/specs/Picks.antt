@@ -1,5 +1,6 @@
 -- A picks file: an array of places a line.
-use Rattle.std.specs.Prelude.{ℕ, ◌+◌, List, [], ◌∷◌, ◌++◌, Option, None, Some, option_map, Result, Ok, Err}
+use Rattle.std.specs.Prelude.{ℕ, ◌+◌, List, [], ◌∷◌, ◌++◌, Option, None, Some, option_map, Result}
+use Rattle.std.specs.Prelude.{Ok, Err}
 use Rattle.cs_names.specs.Pieces.{pieces}
 use Rattle.cs_picks.specs.Lines.{pick_in}
 use Rattle.cs_picks.specs.declared.fault.PicksFault.{PicksFault}
@@ -11,16 +12,19 @@ picks_on [] = Some []
 picks_on (c ∷ line) = option_map (λ pick. pick ∷ []) (pick_in (c ∷ line))
 
 -- picks in front of others, if there are no faults
-abbrev pub behind : List (List ℕ) → Result (List (List ℕ)) PicksFault → Result (List (List ℕ)) PicksFault
-behind picks (Ok others) = Ok (picks ++ others)
-behind picks (Err fault) = Err fault
+abbrev pub with_picks_first : List (List ℕ) → Result (List (List ℕ)) PicksFault
+    → Result (List (List ℕ)) PicksFault
+with_picks_first picks (Ok others) = Ok (picks ++ others)
+with_picks_first picks (Err fault) = Err fault
 
 -- those of the line of that number, in front of those of later lines
-abbrev pub with_line : ℕ → Option (List (List ℕ)) → Result (List (List ℕ)) PicksFault → Result (List (List ℕ)) PicksFault
+abbrev pub with_line : ℕ → Option (List (List ℕ)) → Result (List (List ℕ)) PicksFault
+    → Result (List (List ℕ)) PicksFault
 with_line number None later = Err (Syntax number)
-with_line number (Some picks) later = behind picks later
+with_line number (Some picks) later = with_picks_first picks later
 
--- the picks of lines, of which the first has the number; or the number of the first that is no array of places
+-- the picks of lines, of which the first has the number; or the number of the first that is no
+-- array of places
 abbrev pub picks_from : ℕ → List (List ℕ) → Result (List (List ℕ)) PicksFault
 picks_from number [] = Ok []
 picks_from number (line ∷ lines) = with_line number (picks_on line) (picks_from (number + 1) lines)

@@ -1,5 +1,6 @@
 //! The picks of a file, line by line.
-ghost use Rattle.std.specs.Prelude.{◌≡◌, ◌≢◌, ◌++◌, Some, None, Ok, Err, IfErr, IfOk, OnOk, option_map};
+ghost use Rattle.std.specs.Prelude.{◌≡◌, ◌≢◌, ◌++◌, Some, None, Ok, Err, IfErr, IfOk, OnOk};
+ghost use Rattle.std.specs.Prelude.{option_map};
 ghost use Rattle.cs_picks.specs.Picks.{picks_in, picks_on};
 ghost use Rattle.cs_picks.specs.declared.fault.PicksFault.TheVariants.{Memory, Syntax};
 
@@ -16,8 +17,10 @@ fn keep_line(
     number: usize,
     line: &[u8],
 ) -> Result<(), PicksFault>
-    ensures kept { OnOk result (option_map (λ more. picks.old.items ++ more) (picks_on line.now) ≡ Some picks.new.items) }
-    ensures fault { IfErr result (λ fault. fault ≢ Memory → (fault ≡ Syntax number) × (picks_on line.now ≡ None)) }
+    ensures kept { OnOk result
+        (option_map (λ more. picks.old.items ++ more) (picks_on line.now) ≡ Some picks.new.items) }
+    ensures fault { IfErr result
+        (λ fault. fault ≢ Memory → (fault ≡ Syntax number) × (picks_on line.now ≡ None)) }
 {
     if line.is_empty() {
         return Ok(());
@@ -31,9 +34,10 @@ fn keep_line(
     Ok(())
 }
 
-/// The picks that a file spells: an array of places a line, as `[0,2,5]` in JSON, where lines are cut at line
-/// feeds and empty ones are skipped. Else Syntax at the first line that is no such array, one of blanks alone
-/// included. Memory is answered where a growth was refused before such a line.
+/// The picks that a file spells: an array of places a line, as `[0,2,5]` in JSON; lines are cut
+/// at line feeds, and empty ones are skipped. Else Syntax at the first line that is no such
+/// array, one of only blanks included. The result is Memory if an allocation failed before
+/// such a line.
 pub fn read_picks(alloc: Global, bytes: &[u8]) -> Result<Vec<Places>, PicksFault>
     ensures read { IfOk result (λ picks. picks_in bytes.now ≡ Ok picks.items) }
     ensures fault { IfErr result (λ fault. fault ≢ Memory → picks_in bytes.now ≡ Err fault) }

@@ -5,7 +5,8 @@ use Rattle.std.proofs.lemmas.Slice.Eq.{bytes_eq-Decides, slice_eq-Decides}
 use Rattle.cs_names.specs.Paths.{path_eq}
 use Rattle.cs_trace.specs.declared.operation.Node.{Node}
 use Rattle.cs_trace.specs.declared.operation.Operation.{Operation}
-use Rattle.cs_trace.specs.declared.operation.Operation.TheVariants.{Creat, Mkdir, Link, Unlink, Rmdir, Rename, Write, Truncate, SetAttr, Sync, Say}
+use Rattle.cs_trace.specs.declared.operation.Operation.TheVariants.{Creat, Mkdir, Link, Unlink, Rmdir, Rename, Write, Truncate, SetAttr}
+use Rattle.cs_trace.specs.declared.operation.Operation.TheVariants.{Sync, Say}
 use Rattle.cs_trace.specs.declared.operation.Covers.{Covers}
 use Rattle.cs_trace.specs.declared.operation.Covers.TheVariants.{All, File, Range, Directory}
 use Rattle.cs_trace.specs.declared.operation.Rights.{Rights}
@@ -35,13 +36,22 @@ differ e = cc
 
 covers_true : (a b : Covers) → covers.TheImpl.eq-value.it a b ≡ true → a ≡ b
 covers_true All other = elim other as (λ (x : Covers). covers.TheImpl.eq-value.it All x ≡ true → All ≡ x) [ All ↦ λ e. refl | _ ↦ differ ]
-covers_true (File n) other = elim other as (λ (x : Covers). covers.TheImpl.eq-value.it (File n) x ≡ true → File n ≡ x) [ File m ↦ λ e. search rules | _ ↦ differ ]
-covers_true (Range n o l) other = elim other as (λ (x : Covers). covers.TheImpl.eq-value.it (Range n o l) x ≡ true → Range n o l ≡ x) [ Range n' o' l' ↦ λ e. search rules | _ ↦ differ ]
-covers_true (Directory p) other = elim other as (λ (x : Covers). covers.TheImpl.eq-value.it (Directory p) x ≡ true → Directory p ≡ x) [ Directory q ↦ λ e. ap Directory ((path_decides p q).0 e) | _ ↦ differ ]
+covers_true (File n) other =
+    elim other as (λ (x : Covers). covers.TheImpl.eq-value.it (File n) x ≡ true → File n ≡ x) [ File m ↦ λ e. search rules | _ ↦ differ ]
+covers_true (Range n o l) other =
+    elim other as (λ (x : Covers). covers.TheImpl.eq-value.it (Range n o l) x ≡ true → Range n o l ≡ x)
+    [ Range n' o' l' ↦ λ e. search rules | _ ↦ differ ]
+covers_true (Directory p) other =
+    elim other as (λ (x : Covers). covers.TheImpl.eq-value.it (Directory p) x ≡ true → Directory p ≡ x)
+    [ Directory q ↦ λ e. ap Directory ((path_decides p q).0 e) | _ ↦ differ ]
 
 target_true : (a b : Target) → target.TheImpl.eq-value.it a b ≡ true → a ≡ b
-target_true (targets.File n) other = elim other as (λ (x : Target). target.TheImpl.eq-value.it (targets.File n) x ≡ true → targets.File n ≡ x) [ targets.File m ↦ λ e. search rules | targets.Directory p ↦ differ ]
-target_true (targets.Directory p) other = elim other as (λ (x : Target). target.TheImpl.eq-value.it (targets.Directory p) x ≡ true → targets.Directory p ≡ x) [ targets.File n ↦ differ | targets.Directory q ↦ λ e. ap targets.Directory ((path_decides p q).0 e) ]
+target_true (targets.File n) other =
+    elim other as (λ (x : Target). target.TheImpl.eq-value.it (targets.File n) x ≡ true → targets.File n ≡ x)
+    [ targets.File m ↦ λ e. search rules | targets.Directory p ↦ differ ]
+target_true (targets.Directory p) other =
+    elim other as (λ (x : Target). target.TheImpl.eq-value.it (targets.Directory p) x ≡ true → targets.Directory p ≡ x)
+    [ targets.File n ↦ differ | targets.Directory q ↦ λ e. ap targets.Directory ((path_decides p q).0 e) ]
 
 target_own : (a : Target) → target.TheImpl.eq-value.it a a ≡ true
 target_own (targets.File n) = search rules
@@ -63,17 +73,38 @@ covers_own (Range n o l) = search rules
 covers_own (Directory p) = (path_decides p p).1 refl
 
 operation_true : (a b : Operation) → operation.TheImpl.eq-value.it a b ≡ true → a ≡ b
-operation_true (Creat p f r) other = elim other as (λ (x : Operation). operation.TheImpl.eq-value.it (Creat p f r) x ≡ true → Creat p f r ≡ x) [ Creat p' f' r' ↦ λ e. search (rules, path_decides, rights_decides) | _ ↦ differ ]
-operation_true (Mkdir p r) other = elim other as (λ (x : Operation). operation.TheImpl.eq-value.it (Mkdir p r) x ≡ true → Mkdir p r ≡ x) [ Mkdir p' r' ↦ λ e. search (rules, path_decides, rights_decides) | _ ↦ differ ]
-operation_true (Link p f) other = elim other as (λ (x : Operation). operation.TheImpl.eq-value.it (Link p f) x ≡ true → Link p f ≡ x) [ Link p' f' ↦ λ e. search (rules, path_decides) | _ ↦ differ ]
-operation_true (Unlink p) other = elim other as (λ (x : Operation). operation.TheImpl.eq-value.it (Unlink p) x ≡ true → Unlink p ≡ x) [ Unlink p' ↦ λ e. ap Unlink ((path_decides p p').0 e) | _ ↦ differ ]
-operation_true (Rmdir p) other = elim other as (λ (x : Operation). operation.TheImpl.eq-value.it (Rmdir p) x ≡ true → Rmdir p ≡ x) [ Rmdir p' ↦ λ e. ap Rmdir ((path_decides p p').0 e) | _ ↦ differ ]
-operation_true (Rename p q) other = elim other as (λ (x : Operation). operation.TheImpl.eq-value.it (Rename p q) x ≡ true → Rename p q ≡ x) [ Rename p' q' ↦ λ e. search (rules, path_decides) | _ ↦ differ ]
-operation_true (Write f s o b) other = elim other as (λ (x : Operation). operation.TheImpl.eq-value.it (Write f s o b) x ≡ true → Write f s o b ≡ x) [ Write f' s' o' b' ↦ λ e. search (rules, bytes_eq-Decides) | _ ↦ differ ]
-operation_true (Truncate f s l) other = elim other as (λ (x : Operation). operation.TheImpl.eq-value.it (Truncate f s l) x ≡ true → Truncate f s l ≡ x) [ Truncate f' s' l' ↦ λ e. search rules | _ ↦ differ ]
-operation_true (SetAttr t b r) other = elim other as (λ (x : Operation). operation.TheImpl.eq-value.it (SetAttr t b r) x ≡ true → SetAttr t b r ≡ x) [ SetAttr t' b' r' ↦ λ e. search (rules, target_decides, rights_decides) | _ ↦ differ ]
-operation_true (Sync c) other = elim other as (λ (x : Operation). operation.TheImpl.eq-value.it (Sync c) x ≡ true → Sync c ≡ x) [ Sync c' ↦ λ e. ap Sync (covers_true c c' e) | _ ↦ differ ]
-operation_true Say other = elim other as (λ (x : Operation). operation.TheImpl.eq-value.it Say x ≡ true → Say ≡ x) [ Say ↦ λ e. refl | _ ↦ differ ]
+operation_true (Creat p f r) other =
+    elim other as (λ (x : Operation). operation.TheImpl.eq-value.it (Creat p f r) x ≡ true → Creat p f r ≡ x)
+    [ Creat p' f' r' ↦ λ e. search (rules, path_decides, rights_decides) | _ ↦ differ ]
+operation_true (Mkdir p r) other =
+    elim other as (λ (x : Operation). operation.TheImpl.eq-value.it (Mkdir p r) x ≡ true → Mkdir p r ≡ x)
+    [ Mkdir p' r' ↦ λ e. search (rules, path_decides, rights_decides) | _ ↦ differ ]
+operation_true (Link p f) other =
+    elim other as (λ (x : Operation). operation.TheImpl.eq-value.it (Link p f) x ≡ true → Link p f ≡ x)
+    [ Link p' f' ↦ λ e. search (rules, path_decides) | _ ↦ differ ]
+operation_true (Unlink p) other =
+    elim other as (λ (x : Operation). operation.TheImpl.eq-value.it (Unlink p) x ≡ true → Unlink p ≡ x)
+    [ Unlink p' ↦ λ e. ap Unlink ((path_decides p p').0 e) | _ ↦ differ ]
+operation_true (Rmdir p) other =
+    elim other as (λ (x : Operation). operation.TheImpl.eq-value.it (Rmdir p) x ≡ true → Rmdir p ≡ x)
+    [ Rmdir p' ↦ λ e. ap Rmdir ((path_decides p p').0 e) | _ ↦ differ ]
+operation_true (Rename p q) other =
+    elim other as (λ (x : Operation). operation.TheImpl.eq-value.it (Rename p q) x ≡ true → Rename p q ≡ x)
+    [ Rename p' q' ↦ λ e. search (rules, path_decides) | _ ↦ differ ]
+operation_true (Write f s o b) other =
+    elim other as (λ (x : Operation). operation.TheImpl.eq-value.it (Write f s o b) x ≡ true → Write f s o b ≡ x)
+    [ Write f' s' o' b' ↦ λ e. search (rules, bytes_eq-Decides) | _ ↦ differ ]
+operation_true (Truncate f s l) other =
+    elim other as (λ (x : Operation). operation.TheImpl.eq-value.it (Truncate f s l) x ≡ true → Truncate f s l ≡ x)
+    [ Truncate f' s' l' ↦ λ e. search rules | _ ↦ differ ]
+operation_true (SetAttr t b r) other =
+    elim other as (λ (x : Operation). operation.TheImpl.eq-value.it (SetAttr t b r) x ≡ true → SetAttr t b r ≡ x)
+    [ SetAttr t' b' r' ↦ λ e. search (rules, target_decides, rights_decides) | _ ↦ differ ]
+operation_true (Sync c) other =
+    elim other as (λ (x : Operation). operation.TheImpl.eq-value.it (Sync c) x ≡ true → Sync c ≡ x)
+    [ Sync c' ↦ λ e. ap Sync (covers_true c c' e) | _ ↦ differ ]
+operation_true Say other =
+    elim other as (λ (x : Operation). operation.TheImpl.eq-value.it Say x ≡ true → Say ≡ x) [ Say ↦ λ e. refl | _ ↦ differ ]
 
 operation_own : (a : Operation) → operation.TheImpl.eq-value.it a a ≡ true
 operation_own (Creat p f r) = search (rules, path_decides, rights_decides)

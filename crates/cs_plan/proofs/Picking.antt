@@ -5,7 +5,8 @@ use Rattle.std.proofs.lemmas.List.Elements.{All-append, All-cons, All-nil}
 use Rattle.std.proofs.lemmas.Option.{slice_get-get_or, slice_get_past, slice_get_within}
 use Rattle.std.specs.List.{All, slice_get}
 
-pub all_more : {X : Type 0} (P : X → Type 0) (xs : List X) (w : ℕ) (d : X) → w < length xs → All P (take w xs) → P (get_or xs w d) → All P (take (w + 1) xs)
+pub all_more : {X : Type 0} (P : X → Type 0) (xs : List X) (w : ℕ) (d : X) → w < length xs → All P (take w xs) → P (get_or xs w d)
+    → All P (take (w + 1) xs)
 all_more P xs w d low before here = subst (All P) (sym (take_more xs w d low))
     (All-append P (take w xs) (get_or xs w d ∷ []) before (All-cons P (get_or xs w d) [] here (All-nil P)))
 

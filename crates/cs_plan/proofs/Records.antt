@@ -1,9 +1,11 @@
 -- How many records a state has: no more than the trace ever makes.
-use Rattle.std.proofs.Common.{◌≡◌, ◌≤◌, ℕ, zero, suc, ◌+◌, ◌-◌, Bool, true, false, cond, List, [], ◌∷◌, ◌++◌, Option, None, Some, count_by, length, map, refl, sym, ap, ◌∙◌, subst, take, ⊎_elim, arith}
+use Rattle.std.proofs.Common.{◌≡◌, ◌≤◌, ℕ, zero, suc, ◌+◌, ◌-◌, Bool, true, false, cond, List, [], ◌∷◌, ◌++◌, Option, None, Some, count_by}
+use Rattle.std.proofs.Common.{length, map, refl, sym, ap, ◌∙◌, subst, take, ⊎_elim, arith}
 use Rattle.std.proofs.lemmas.Bool.{cases_eq}
 use Rattle.std.proofs.lemmas.List.{length-map, take_all, take_more}
 use Rattle.std.proofs.lemmas.List.Sums.{sum_by-append, sum_by-cons}
-use Rattle.std.specs.FinMap.{FinMap, contains_key, empty_of_len, entries, len-entries, from_entries, get, get-empty, insert, len, len-empty, len-insert, len-remove, remove}
+use Rattle.std.specs.FinMap.{FinMap, contains_key, empty_of_len, entries, len-entries, from_entries, get, get-empty, insert, len, len-empty}
+use Rattle.std.specs.FinMap.{len-insert, len-remove, remove}
 use Rattle.std.specs.List.{flat_map, range_with_len, sum_by, zip}
 use Rattle.std.specs.Option.{is_some, option_map, option_map_or}
 use Rattle.std.specs.Prelude.{fold, nat_eq, nat_lt}
@@ -22,18 +24,21 @@ use Rattle.cs_trace.specs.Traces.{Trace, records_made}
 use Rattle.cs_trace.specs.declared.operation.Operation.{Operation}
 use Rattle.cs_trace.specs.declared.operation.Rights.{Rights}
 use Rattle.cs_trace.specs.declared.operation.Target.TheVariants as targets
-use Rattle.cs_trace.specs.declared.operation.Operation.TheVariants.{Creat, Mkdir, Link, Unlink, Rmdir, Rename, Write, Truncate, SetAttr, Sync}
+use Rattle.cs_trace.specs.declared.operation.Operation.TheVariants.{Creat, Mkdir, Link, Unlink, Rmdir, Rename, Write, Truncate, SetAttr}
+use Rattle.cs_trace.specs.declared.operation.Operation.TheVariants.{Sync}
 use Rattle.cs_trace.specs.declared.operation.Operation.TheVariants as operations
 use Rattle.cs_micro.specs.Blocks.{block_write, block_writes, touched_blocks}
-use Rattle.cs_micro.specs.MicroOperations.{grown, micro_operations_of, micros_of, same_rights}
+use Rattle.cs_micro.specs.MicroOperations.{growth_micros, micro_operations_of, micros_of, same_rights}
 use Rattle.cs_micro.specs.Micros.{block_of_version, micros_in}
 use Rattle.cs_micro.specs.declared.micro_op.MicroOp.{MicroOp}
-use Rattle.cs_micro.specs.declared.micro_op.MicroOp.TheVariants.{CreateDirEntry, DeleteDirEntry, MoveDirEntry, LinkDirEntry, ChangeFileSize, Say}
+use Rattle.cs_micro.specs.declared.micro_op.MicroOp.TheVariants.{CreateDirEntry, DeleteDirEntry, MoveDirEntry, LinkDirEntry, ChangeFileSize}
+use Rattle.cs_micro.specs.declared.micro_op.MicroOp.TheVariants.{Say}
 use Rattle.cs_micro.specs.declared.micro_op.MicroOp.TheVariants as micro
 use Rattle.cs_apm.specs.Rules.{op_at}
 use Rattle.cs_apm.specs.Laws.Members.{members_run, run}
 use Rattle.cs_apm.specs.Sets.{IsAllowed, is_member}
-use Rattle.cs_apm.specs.States.{Entries, Entry, State, after, crash_state_of, entries_after, entry_made, owned, record_of, start_entry, start_state, state_of, with_created}
+use Rattle.cs_apm.specs.States.{Entries, Entry, State, state_after, crash_state_of, entries_after, entry_made, with_rights_at, record_of}
+use Rattle.cs_apm.specs.States.{start_entry, start_state, state_of, with_created}
 use Rattle.cs_apm.specs.States as states
 use Rattle.cs_plan.specs.Scenes.{IsNew}
 use Rattle.cs_plan.proofs.Counting.{count_push, first_more}
@@ -72,18 +77,20 @@ removed m p x there =
     (λ (some : len m ≡ 0 → ⊥). omega (arith, less, some))
     (cases_eq (len m) 0)
 
-moved_most : (m : Entries) (p q : Path) (o : Option Entry) → get m p ≡ o → len (states.moved p q m) ≤ len m
-moved_most m p q None e = let same : states.moved p q m ≡ m = ap (λ o. option_map_or (λ e. insert (remove m p) q e) o m) e in subst (λ n. len n ≤ len m) (sym same) (omega arith)
+moved_most : (m : Entries) (p q : Path) (o : Option Entry) → get m p ≡ o → len (states.with_entry_moved p q m) ≤ len m
+moved_most m p q None e = let same : states.with_entry_moved p q m ≡ m = ap (λ o. option_map_or (λ e. insert (remove m p) q e) o m) e in
+    subst (λ n. len n ≤ len m) (sym same) (omega arith)
 moved_most m p q (Some x) e =
-    let same : states.moved p q m ≡ insert (remove m p) q x = ap (λ o. option_map_or (λ e. insert (remove m p) q e) o m) e in
+    let same : states.with_entry_moved p q m ≡ insert (remove m p) q x = ap (λ o. option_map_or (λ e. insert (remove m p) q e) o m) e in
     let less = removed m p x e in
     let more = insert_most (remove m p) q x in
     subst (λ n. len n ≤ len m) (sym same) (omega (arith, less, more))
 
 -- where a directory stands there are as many with other rights
-owned_most : (m : Entries) (p : Path) (rights : Rights) (o : Option Entry) → get m p ≡ o → len (owned m p rights o) ≤ len m
+owned_most : (m : Entries) (p : Path) (rights : Rights) (o : Option Entry) → get m p ≡ o → len (with_rights_at m p rights o) ≤ len m
 owned_most m p rights (Some (states.Directory old)) there =
-    let same : len (insert m p (states.Directory rights)) ≡ len m = len-insert path_total m p (states.Directory rights) ∙ ap (λ o. cond (is_some o) (len m) (len m + 1)) there in
+    let same : len (insert m p (states.Directory rights)) ≡ len m =
+    len-insert path_total m p (states.Directory rights) ∙ ap (λ o. cond (is_some o) (len m) (len m + 1)) there in
     omega (arith, same)
 owned_most m p rights (Some (states.File file)) there = omega arith
 owned_most m p rights None there = omega arith
@@ -102,27 +109,32 @@ next : (n : ℕ) → n + 1 ≡ suc n
 next n = omega arith
 
 -- one place more, where the set has it or not
-place_more : (has : ℕ → Bool) (start : State) (ops : List MicroOp) (n most : ℕ) (b : Bool) → has n ≡ b → len (run after has start ops n).paths ≤ most
-    → len (run after has start ops (suc n)).paths ≤ most + cond (makes (op_at ops n)) 1 0
+place_more : (has : ℕ → Bool) (start : State) (ops : List MicroOp) (n most : ℕ) (b : Bool) → has n ≡ b
+    → len (run state_after has start ops n).paths ≤ most
+    → len (run state_after has start ops (suc n)).paths ≤ most + cond (makes (op_at ops n)) 1 0
 place_more has start ops n most true is before =
-    let r = run after has start ops n in
+    let r = run state_after has start ops n in
     let one = one_more r.paths (op_at ops n) in
-    subst (λ b. len (cond b (after r (op_at ops n)) r).paths ≤ most + cond (makes (op_at ops n)) 1 0) (sym is) (omega (arith, one, before))
+    subst (λ b. len (cond b (state_after r (op_at ops n)) r).paths ≤ most + cond (makes (op_at ops n)) 1 0) (sym is)
+    (omega (arith, one, before))
 place_more has start ops n most false is before =
-    let r = run after has start ops n in
-    subst (λ b. len (cond b (after r (op_at ops n)) r).paths ≤ most + cond (makes (op_at ops n)) 1 0) (sym is) (omega (arith, before))
+    let r = run state_after has start ops n in
+    subst (λ b. len (cond b (state_after r (op_at ops n)) r).paths ≤ most + cond (makes (op_at ops n)) 1 0) (sym is) (omega (arith, before))
 
-run_most : (has : ℕ → Bool) (start : State) (ops : List MicroOp) (n : ℕ) → len (run after has start ops n).paths ≤ len start.paths + count_by (λ k. makes (op_at ops k)) (range_with_len 0 n)
+run_most : (has : ℕ → Bool) (start : State) (ops : List MicroOp) (n : ℕ)
+    → len (run state_after has start ops n).paths ≤ len start.paths + count_by (λ k. makes (op_at ops k)) (range_with_len 0 n)
 run_most has start ops zero = omega arith
 run_most has start ops (suc n) =
     let p : ℕ → Bool = λ k. makes (op_at ops k) in
     let more = first_more p n (makes (op_at ops n)) refl in
     let one = place_more has start ops n (len start.paths + count_by p (range_with_len 0 n)) (has n) refl (run_most has start ops n) in
-    subst (λ k. len (run after has start ops (suc n)).paths ≤ len start.paths + count_by p (range_with_len 0 k)) (next n) (omega (arith, more, one))
+    subst (λ k. len (run state_after has start ops (suc n)).paths ≤ len start.paths + count_by p (range_with_len 0 k)) (next n)
+    (omega (arith, more, one))
 
 -- ---- those of a trace
 
-made_first : (ops : List MicroOp) (n : ℕ) → n ≤ length ops → count_by (λ k. makes (op_at ops k)) (range_with_len 0 n) ≡ count_by makes (take n ops)
+made_first : (ops : List MicroOp) (n : ℕ) → n ≤ length ops
+    → count_by (λ k. makes (op_at ops k)) (range_with_len 0 n) ≡ count_by makes (take n ops)
 made_first ops zero low = refl
 made_first ops (suc n) low =
     let more : n + 1 ≡ suc n = omega arith in
@@ -135,7 +147,9 @@ made_first ops (suc n) low =
 
 none_made : {X : Type 0} (f : X → MicroOp) (xs : List X) → ((x : X) → makes (f x) ≡ false) → count_by makes (map f xs) ≡ 0
 none_made f [] none = refl
-none_made f (x ∷ xs) none = sum_by-cons (λ o. cond (makes o) 1 0) (f x) (map f xs) ∙ ap (λ b. cond b 1 0 + count_by makes (map f xs)) (none x) ∙ omega (arith, none_made f xs none)
+none_made f (x ∷ xs) none =
+    sum_by-cons (λ o. cond (makes o) 1 0) (f x) (map f xs) ∙ ap (λ b. cond b 1 0 + count_by makes (map f xs)) (none x) ∙ omega
+    (arith, none_made f xs none)
 
 blocks_make : (b file offset : ℕ) (bytes : List ℕ) → count_by makes (block_writes b file offset bytes) ≡ 0
 unfolding block_writes
@@ -145,10 +159,11 @@ grown_make : (more : Bool) (file end : ℕ) → count_by makes (cond more (Chang
 grown_make true file end = refl
 grown_make false file end = refl
 
-written_make : (none : Bool) (b file size offset : ℕ) (bytes : List ℕ) → count_by makes (cond none [] (grown file size (offset + length bytes) ++ block_writes b file offset bytes)) ≡ 0
+written_make : (none : Bool) (b file size offset : ℕ) (bytes : List ℕ)
+    → count_by makes (cond none [] (growth_micros file size (offset + length bytes) ++ block_writes b file offset bytes)) ≡ 0
 written_make true b file size offset bytes = refl
 written_make false b file size offset bytes =
-    sum_by-append (λ o. cond (makes o) 1 0) (grown file size (offset + length bytes)) (block_writes b file offset bytes)
+    sum_by-append (λ o. cond (makes o) 1 0) (growth_micros file size (offset + length bytes)) (block_writes b file offset bytes)
     ∙ omega (arith, grown_make (nat_lt size (offset + length bytes)) file (offset + length bytes), blocks_make b file offset bytes)
 
 unless_makes : (b : Bool) (o : MicroOp) → makes o ≡ false → count_by makes (cond b [] (o ∷ [])) ≡ 0
@@ -182,7 +197,8 @@ made_all b (o ∷ os) =
 
 from_most : {X : Type 0} (es : List (Path × X)) → len (from_entries {R = path_cmp} es) ≤ length es
 from_most {X} [] = (let none = len-empty path_cmp X in omega (arith, none))
-from_most (e ∷ es) = (let most = insert_most (from_entries {R = path_cmp} es) e.0 e.1 in let rest = from_most es in omega (arith, most, rest))
+from_most (e ∷ es) =
+    (let most = insert_most (from_entries {R = path_cmp} es) e.0 e.1 in let rest = from_most es in omega (arith, most, rest))
 
 zip_most : {X Y : Type 0} (xs : List X) (ys : List Y) → length (zip xs ys) ≤ length xs
 zip_most [] ys = omega arith
@@ -206,25 +222,33 @@ unfolding state_of
 paths_most t needs places allowed =
     let ops = (micros_in t).ops in
     let start = with_created (start_state t) ops in
-    let same : (fold after start (map (op_at ops) places)).paths ≡ (run after (is_member places) start ops (length ops)).paths
-    = ap (λ s. s.paths) (members_run after start ops (length ops) places allowed.ascending allowed.in_range) in
+    let same : (fold state_after start (map (op_at ops) places)).paths ≡ (run state_after (is_member places) start ops (length ops)).paths
+    = ap (λ s. s.paths) (members_run state_after start ops (length ops) places allowed.ascending allowed.in_range) in
     let most = run_most (is_member places) start ops (length ops) in
     let first = start_most t in
-    let made = made_first ops (length ops) (omega arith) ∙ ap (count_by makes) (take_all (length ops) ops (omega arith)) ∙ made_all (block_of_version t.version) t.operations in
+    let made =
+    made_first ops (length ops) (omega arith) ∙ ap (count_by makes) (take_all (length ops) ops (omega arith)) ∙ made_all
+    (block_of_version t.version) t.operations in
     subst (λ m. len m ≤ records_made t) (sym same) (omega (arith, most, first, made))
 
 len_map_values : {X Y : Type 0} (f : X → Y) (m : FinMap path_cmp X) → len (map_values f m) ≡ len m
-len_map_values f m = len-entries (map_values f m) ∙ ap length (entries-map_values path_cmp f m) ∙ length-map (entries m) (λ e. (e.0, f e.1)) ∙ sym (len-entries m)
+len_map_values f m =
+    len-entries (map_values f m) ∙ ap length (entries-map_values path_cmp f m) ∙ length-map (entries m) (λ e. (e.0, f e.1)) ∙ sym
+    (len-entries m)
 
-never_changed : (m : FinMap path_cmp Record) (p : Path) (r : Record) (o : Option Record) → get m p ≡ o → record_at (fresh m) p ≡ Some r → r.vers ≡ 0
-never_changed m p r None none there = absurd (some_none r (sym (record_at-fresh m p ∙ ap (option_map (fresh_record (place_in p (entries m)))) none) ∙ there))
-never_changed m p r (Some x) some there = ap (λ r. r.vers) (some_same (sym there ∙ record_at-fresh m p ∙ ap (option_map (fresh_record (place_in p (entries m)))) some))
+never_changed : (m : FinMap path_cmp Record) (p : Path) (r : Record) (o : Option Record) → get m p ≡ o → record_at (fresh m) p ≡ Some r
+    → r.vers ≡ 0
+never_changed m p r None none there =
+    absurd (some_none r (sym (record_at-fresh m p ∙ ap (option_map (fresh_record (place_in p (entries m)))) none) ∙ there))
+never_changed m p r (Some x) some there =
+    ap (λ r. r.vers) (some_same (sym there ∙ record_at-fresh m p ∙ ap (option_map (fresh_record (place_in p (entries m)))) some))
   where
     some_same : {X : Type 0} {x y : X} → Some x ≡ Some y → x ≡ y
     some_same e = cc e
 
 -- the tree of an allowed set has no more records than the trace ever makes, none of which was changed
-pub state_is_new : (t : Trace) (needs : ℕ → ℕ → Bool) (places : List ℕ) → records_made t ≤ TREE_RECORDS → IsAllowed needs (length (micros_in t).ops) places → IsNew (crash_state_of t (micros_in t) places)
+pub state_is_new : (t : Trace) (needs : ℕ → ℕ → Bool) (places : List ℕ) → records_made t ≤ TREE_RECORDS
+    → IsAllowed needs (length (micros_in t).ops) places → IsNew (crash_state_of t (micros_in t) places)
 state_is_new t needs places few allowed =
     let left = state_of (start_state t) (micros_in t).ops places in
     let f = record_of left.owners left.files in

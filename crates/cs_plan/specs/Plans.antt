@@ -1,5 +1,6 @@
 -- The plan of an order: the sets whose states are made, in the order of their numbers.
-use Rattle.std.specs.Prelude.{ℕ, ◌<◌, ◌≤◌, ◌+◌, ◌==◌, ◌||◌, not, Bool, List, [], ◌++◌, length, map, if◌then◌else◌}
+use Rattle.std.specs.Prelude.{ℕ, ◌<◌, ◌≤◌, ◌+◌, ◌==◌, ◌||◌, not, Bool, List, [], ◌++◌, length, map}
+use Rattle.std.specs.Prelude.{if◌then◌else◌}
 use Rattle.std.specs.List.{All, range_with_len, filter, flat_map}
 use Rattle.cs_apm.specs.Chains.{by_chain}
 use Rattle.cs_apm.specs.Orders.{needs_in}
@@ -8,8 +9,8 @@ use Rattle.cs_plan.specs.declared.recipe.Recipe.{Recipe}
 use Rattle.cs_plan.specs.declared.recipe.Recipe.TheVariants.{Prefix, Hole, Pick}
 
 -- the first n places
-abbrev pub first : ℕ → List ℕ
-first n = range_with_len 0 n
+abbrev pub places_below : ℕ → List ℕ
+places_below n = range_with_len 0 n
 
 -- ---- the set of a recipe
 
@@ -18,12 +19,12 @@ abbrev pub is_kept : (ℕ → ℕ → Bool) → ℕ → ℕ → Bool
 is_kept needs i k = not (i == k || by_chain needs i k)
 
 -- the first j places without i and all that need it by any chain
-abbrev pub hole : (ℕ → ℕ → Bool) → ℕ → ℕ → List ℕ
-hole needs i j = filter (is_kept needs i) (first j)
+abbrev pub places_of_hole : (ℕ → ℕ → Bool) → ℕ → ℕ → List ℕ
+places_of_hole needs i j = filter (is_kept needs i) (places_below j)
 
 abbrev pub set_of : (ℕ → ℕ → Bool) → Recipe → List ℕ
-set_of needs (Prefix k) = first k
-set_of needs (Hole i j) = hole needs i j
+set_of needs (Prefix k) = places_below k
+set_of needs (Hole i j) = places_of_hole needs i j
 set_of needs (Pick places) = places
 
 -- it has no places but the first n, and no more than these
@@ -36,15 +37,15 @@ IsWithin n (Pick places) = All (λ k. k < n) places × (length places ≤ n)
 
 -- a prefix of each length, from the empty one to the whole
 unfoldable pub prefixes : ℕ → List Recipe
-prefixes n = map Prefix (first (n + 1))
+prefixes n = map Prefix (places_below (n + 1))
 
 -- the holes whose last place is k, which stays, by their missing place
 abbrev pub holes_at : (ℕ → ℕ → Bool) → ℕ → List Recipe
-holes_at needs k = map (λ i. Hole i (k + 1)) (filter (λ i. is_kept needs i k) (first k))
+holes_at needs k = map (λ i. Hole i (k + 1)) (filter (λ i. is_kept needs i k) (places_below k))
 
 -- those of each last place
 unfoldable pub holes_of : (ℕ → ℕ → Bool) → ℕ → List Recipe
-holes_of needs n = flat_map (holes_at needs) (first n)
+holes_of needs n = flat_map (holes_at needs) (places_below n)
 
 -- the prefixes, and the holes if they are asked for
 abbrev pub families : (ℕ → ℕ → Bool) → ℕ → Bool → List Recipe

@@ -20,16 +20,21 @@ pub record IsFirstRefused (order : List (List Bool)) (picks : List (List ℕ)) (
 -- the fault that the plan has: its size comes first, then the picks, and want of memory last
 abbrev pub IsRefused : List (List Bool) → Bool → List (List ℕ) → PlanFault → Type 0
 IsRefused order holes picks PlanTooLarge = PLAN_STATES < length (plan_of order holes picks)
-IsRefused order holes picks (PickNotAllowed w) = (length (plan_of order holes picks) ≤ PLAN_STATES) × IsFirstRefused order picks w
-IsRefused order holes picks Memory = (length (plan_of order holes picks) ≤ PLAN_STATES) × All (IsAllowedIn order) picks
+IsRefused order holes picks (PickNotAllowed w) =
+    (length (plan_of order holes picks) ≤ PLAN_STATES) × IsFirstRefused order picks w
+IsRefused order holes picks Memory =
+    (length (plan_of order holes picks) ≤ PLAN_STATES) × All (IsAllowedIn order) picks
 
 -- there are no more micro-operations than there may be
 abbrev pub IsBroken : Trace → Type 0
 IsBroken t = length (micros_in t).ops ≤ MICRO_OPERATIONS
 
--- the fault that the scene of a trace has: that of breaking the trace up comes first, then that of its plan
+-- the fault that the scene of a trace has: that of breaking the trace up comes first, then that of
+-- its plan
 abbrev pub IsRefusedScene : Trace → Bool → List (List ℕ) → SceneFault → Type 0
 IsRefusedScene t holes picks scene.TooMany = MICRO_OPERATIONS < length (micros_in t).ops
-IsRefusedScene t holes picks scene.PlanTooLarge = IsBroken t × IsRefused (order_of (micros_in t)) holes picks PlanTooLarge
-IsRefusedScene t holes picks (scene.PickNotAllowed w) = IsBroken t × IsRefused (order_of (micros_in t)) holes picks (PickNotAllowed w)
+IsRefusedScene t holes picks scene.PlanTooLarge =
+    IsBroken t × IsRefused (order_of (micros_in t)) holes picks PlanTooLarge
+IsRefusedScene t holes picks (scene.PickNotAllowed w) =
+    IsBroken t × IsRefused (order_of (micros_in t)) holes picks (PickNotAllowed w)
 IsRefusedScene t holes picks scene.Memory = IsBroken t

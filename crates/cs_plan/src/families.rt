@@ -2,21 +2,13 @@
 ghost use Rattle.std.specs.Prelude.{◌≡◌, ◌++◌, ◌<◌, ◌≤◌, length, IfOk, OnOk};
 ghost use Rattle.cs_apm.specs.Chains.{IsBackward};
 ghost use Rattle.cs_apm.specs.Orders.{needs_in};
-ghost use Rattle.cs_plan.specs.Plans.{families, holes_at, holes_of, is_kept, prefixes};
+ghost use Rattle.cs_plan.specs.Plans.{families, holes_at, holes_of, prefixes};
 
+use crate::members::keeps;
 use crate::recipe::Recipe;
 use cs_apm::Order;
 use cs_names::limits::MICRO_OPERATIONS;
 use std::alloc::{AllocError, Global};
-
-/// Whether the operation at one place stays where that at another is missing.
-pub fn keeps(order: &Order, missing: usize, place: usize) -> bool
-    requires first { missing < length order.now }
-    requires second { place < length order.now }
-    ensures { result ≡ is_kept (needs_in order.now) missing place }
-{
-    !(missing == place || order.needs_by_chain(missing, place))
-}
 
 /// How many holes have this last place.
 fn count_at(order: &Order, last: usize) -> usize
@@ -71,7 +63,8 @@ fn push_prefixes(recipes: &mut Vec<Recipe>, count: usize) -> Result<(), AllocErr
 fn push_holes_at(recipes: &mut Vec<Recipe>, order: &Order, last: usize) -> Result<(), AllocError>
     requires inside { last < length order.now }
     requires few { length order.now ≤ MICRO_OPERATIONS }
-    ensures { OnOk result (recipes.new.items ≡ recipes.old.items ++ holes_at (needs_in order.now) last) }
+    ensures { OnOk result
+        (recipes.new.items ≡ recipes.old.items ++ holes_at (needs_in order.now) last) }
 {
     for missing in 0..last {
         if keeps(order, missing, last) {
@@ -82,7 +75,9 @@ fn push_holes_at(recipes: &mut Vec<Recipe>, order: &Order, last: usize) -> Resul
 }
 
 fn push_holes(recipes: &mut Vec<Recipe>, order: &Order) -> Result<(), AllocError>
-    ensures { OnOk result (recipes.new.items ≡ recipes.old.items ++ holes_of (needs_in order.now) (length order.now)) }
+    ensures { OnOk result
+        (recipes.new.items ≡ recipes.old.items
+        ++ holes_of (needs_in order.now) (length order.now)) }
 {
     for last in 0..order.len() {
         push_holes_at(recipes, order, last)?;
@@ -92,7 +87,8 @@ fn push_holes(recipes: &mut Vec<Recipe>, order: &Order) -> Result<(), AllocError
 
 /// The recipes of the families, in order.
 pub fn families_of(alloc: Global, order: &Order, holes: bool) -> Result<Vec<Recipe>, AllocError>
-    ensures { IfOk result (λ recipes. recipes.items ≡ families (needs_in order.now) (length order.now) holes) }
+    ensures { IfOk result
+        (λ recipes. recipes.items ≡ families (needs_in order.now) (length order.now) holes) }
 {
     let mut recipes: Vec<Recipe> = Vec::new(alloc);
     push_prefixes(&mut recipes, order.len())?;

@@ -1,7 +1,8 @@
 //! Why there is no plan, no scene, or no state.
 ghost use Rattle.std.specs.Prelude.{◌≡◌, Some};
 ghost use Rattle.cs_micro.specs.declared.fault.MicroFault.{MicroFault};
-ghost use Rattle.cs_plan.specs.Faults.{fault_text, make_fault_text, of_breaking, of_planning, scene_fault_text};
+ghost use Rattle.cs_plan.specs.Faults.{fault_text, make_fault_text, of_breaking, of_planning};
+ghost use Rattle.cs_plan.specs.Faults.{scene_fault_text};
 ghost use Rattle.cs_plan.specs.declared.fault.MakeFault.TheVariants as make;
 ghost use Rattle.cs_plan.specs.declared.fault.PlanFault.TheVariants as plan;
 ghost use Rattle.cs_plan.specs.declared.fault.SceneFault.TheVariants as scene;

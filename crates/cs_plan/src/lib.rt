@@ -1,10 +1,11 @@
-//! The plan of a trace: which of the states that a crash may leave are made, and under which numbers.
+//! The plan of a trace: which of the states that a crash may leave are made, and under which
+//! numbers.
 #![tactic(auto)]
 
 mod families;
 pub mod fault;
 pub mod listing;
-mod members;
+pub mod members;
 pub mod plan;
 pub mod published;
 pub mod recipe;

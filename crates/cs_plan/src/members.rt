@@ -3,19 +3,27 @@ ghost use Rattle.std.specs.Prelude.{◌≡◌, ◌<◌, ◌≤◌, ◌&&◌, len
 ghost use Rattle.std.specs.List.{All};
 ghost use Rattle.cs_apm.specs.Orders.{needs_in};
 ghost use Rattle.cs_apm.specs.Rules.{op_at};
-ghost use Rattle.cs_plan.specs.Plans.{IsWithin, first, hole, is_kept, set_in};
+ghost use Rattle.cs_plan.specs.Plans.{IsWithin, places_below, places_of_hole, is_kept, set_in};
 ghost use Rattle.cs_plan.specs.Scenes.{is_say, says_of};
 
-use crate::families::keeps;
 use crate::recipe::Recipe;
 use cs_apm::Order;
 use cs_micro::MicroOp;
 use cs_names::limits::MICRO_OPERATIONS;
 use std::alloc::{AllocError, Global};
 
+/// Whether the operation at one place stays if that at another is missing.
+pub fn keeps(order: &Order, missing: usize, place: usize) -> bool
+    requires first { missing < length order.now }
+    requires second { place < length order.now }
+    ensures { result ≡ is_kept (needs_in order.now) missing place }
+{
+    !(missing == place || order.needs_by_chain(missing, place))
+}
+
 /// The places before the end.
 fn places_before(alloc: Global, end: u32) -> Result<Vec<u32>, AllocError>
-    ensures { IfOk result (λ places. places.items ≡ first end) }
+    ensures { IfOk result (λ places. places.items ≡ places_below end) }
 {
     (0..end).collect(alloc)
 }
@@ -24,7 +32,8 @@ fn places_before(alloc: Global, end: u32) -> Result<Vec<u32>, AllocError>
 fn hole_of(alloc: Global, order: &Order, missing: u32, end: u32) -> Result<Vec<u32>, AllocError>
     requires first { missing < length order.now }
     requires second { end ≤ length order.now }
-    ensures { IfOk result (λ places. places.items ≡ hole (needs_in order.now) missing end) }
+    ensures { IfOk result
+        (λ places. places.items ≡ places_of_hole (needs_in order.now) missing end) }
 {
     let mut places = Vec::new(alloc);
     for place in 0..end {
@@ -58,7 +67,7 @@ fn is_say_at(ops: &[MicroOp], place: u32) -> bool
 /// How many texts are told before the end.
 fn says_before(ops: &[MicroOp], end: u32) -> u32
     requires { end ≤ length ops.now }
-    ensures { result ≡ says_of ops.now (first end) }
+    ensures { result ≡ says_of ops.now (places_below end) }
 {
     let mut count = 0;
     for place in 0..end {
@@ -74,7 +83,8 @@ fn is_kept_say(ops: &[MicroOp], order: &Order, missing: u32, place: u32) -> bool
     requires long { length ops.now ≡ length order.now }
     requires first { missing < length order.now }
     requires second { place < length order.now }
-    ensures { result ≡ (is_say (op_at ops.now place) && is_kept (needs_in order.now) missing place) }
+    ensures { result
+        ≡ (is_say (op_at ops.now place) && is_kept (needs_in order.now) missing place) }
 {
     is_say_at(ops, place) && keeps(order, missing as usize, place as usize)
 }
@@ -84,7 +94,7 @@ fn says_around(ops: &[MicroOp], order: &Order, missing: u32, end: u32) -> u32
     requires long { length ops.now ≡ length order.now }
     requires first { missing < length order.now }
     requires second { end ≤ length order.now }
-    ensures { result ≡ says_of ops.now (hole (needs_in order.now) missing end) }
+    ensures { result ≡ says_of ops.now (places_of_hole (needs_in order.now) missing end) }
 {
     let mut count = 0;
     for place in 0..end {

@@ -1,5 +1,6 @@
 //! The numbered list of a trace's crash states.
-ghost use Rattle.std.specs.Prelude.{◌≡◌, ◌++◌, ◌≤◌, length, map, slice_get, IfErr, IfOk, MatchOption, OnOk};
+ghost use Rattle.std.specs.Prelude.{◌≡◌, ◌++◌, ◌≤◌, length, map, slice_get, IfErr, IfOk};
+ghost use Rattle.std.specs.Prelude.{MatchOption, OnOk};
 ghost use Rattle.std.specs.List.{All};
 ghost use Rattle.std.specs.Option.{option_copied};
 ghost use Rattle.cs_plan.specs.Plans.{IsAllowedIn, IsWithin, plan_of, set_in};
@@ -14,8 +15,8 @@ use cs_names::limits::PLAN_STATES;
 use std::alloc::{AllocError, Global};
 use std::marker::Model;
 
-/// The recipes of a trace's states, by their numbers: the prefixes, the holes if they are asked for, and
-/// the picks.
+/// The recipes of a trace's states, by their numbers: the prefixes, the holes if they are asked
+/// for, and the picks.
 #[derive(Debug, Drop)]
 pub struct Plan {
     recipes: Vec<Recipe>,
@@ -34,9 +35,9 @@ impl Model for Plan {
 }
 
 impl Plan {
-    /// The plan of an order: its prefixes; then its holes, if they are asked for; then the picks. A hole is
-    /// listed where its last place stays. That the plan is too large, and which pick isn't allowed, is found
-    /// before any memory is taken.
+    /// The plan of an order: its prefixes; then its holes, if they are asked for; then the picks. A
+    /// hole is listed where its last place stays. That the plan is too large, and which pick isn't
+    /// allowed, is found before any memory is taken.
     pub fn make(
         alloc: Global,
         order: &Order,
@@ -46,7 +47,8 @@ impl Plan {
         ensures value { IfOk result (λ plan. plan ≡ plan_of order.now holes picks.items) }
         ensures few { IfOk result (λ plan. length plan ≤ PLAN_STATES) }
         ensures within { IfOk result (All (IsWithin (length order.now))) }
-        ensures allowed { IfOk result (λ plan. All (λ recipe. IsAllowedIn order.now (set_in order.now recipe)) plan) }
+        ensures allowed { IfOk result
+            (λ plan. All (λ recipe. IsAllowedIn order.now (set_in order.now recipe)) plan) }
         ensures fault { IfErr result (IsRefused order.now holes picks.items) }
     {
         let count = count_states(order, holes);
@@ -88,7 +90,8 @@ impl Plan {
 
 /// The place of the first pick that isn't allowed. It takes no memory.
 fn first_refused(order: &Order, picks: &[Places]) -> Option<usize>
-    ensures { MatchOption result (All (IsAllowedIn order.now) picks.now) (IsFirstRefused order.now picks.now) }
+    ensures { MatchOption result (All (IsAllowedIn order.now) picks.now)
+        (IsFirstRefused order.now picks.now) }
 {
     for (w, pick) in picks.iter().enumerate() {
         if !order.is_allowed(pick.as_slice()) {

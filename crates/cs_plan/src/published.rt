@@ -10,8 +10,8 @@ use std::alloc::Global;
 use std::marker::Model;
 use std::sync::Arc;
 
-/// A state that was made: its tree is that of its number in the scene that it holds. `Scene::make` alone
-/// makes one.
+/// A state that was made: its tree is that of its number in the scene that it holds. `Scene::make`
+/// alone makes one.
 #[derive(Drop)]
 pub struct Published {
     number: u32,
@@ -31,7 +31,8 @@ impl Model for Published {
 
     ghost view = { λ p. record { number = p.number; scene = arc_value p.scene; tree = p.store } };
 
-    ghost invariant = { λ p. model.IsPublished (record { number = p.number; scene = arc_value p.scene; tree = p.store }) };
+    ghost invariant = { λ p. model.IsPublished
+        (record { number = p.number; scene = arc_value p.scene; tree = p.store }) };
 }
 
 impl Published {
@@ -66,13 +67,15 @@ impl Published {
 }
 
 impl Scene {
-    /// The state of that number, made anew. NoSuchState is answered where the plan has none, and Memory never
-    /// in its place.
+    /// The state of that number, made anew. NoSuchState is answered where the plan has none, and
+    /// Memory never in its place.
     pub fn make(alloc: Global, scene: &Arc<Scene>, number: u32) -> Result<Published, MakeFault>
         ensures number { IfOk result (λ made. made.number ≡ number) }
         ensures scene { IfOk result (λ made. made.scene ≡ arc_value scene.now) }
-        ensures state { IfOk result (λ made. state_at (arc_value scene.now) number ≡ Some made.tree) }
-        ensures missing { IsErrOf result MakeFault.NoSuchState ↔ (length (arc_value scene.now).plan ≤ number) }
+        ensures state { IfOk result
+            (λ made. state_at (arc_value scene.now) number ≡ Some made.tree) }
+        ensures missing { IsErrOf result MakeFault.NoSuchState ↔
+            (length (arc_value scene.now).plan ≤ number) }
     {
         let store = scene.build(alloc, number)?;
         let scene = Arc::try_clone(scene)?;

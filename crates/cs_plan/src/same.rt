@@ -48,8 +48,8 @@ fn are_same_versions(version: Version, other: Version) -> bool
     version == other
 }
 
-/// Whether two traces have the same version, with profile and block size, the same start and the same
-/// operations. It takes no memory.
+/// Whether two traces have the same version, with profile and block size, the same start and the
+/// same operations. It takes no memory.
 pub fn is_same_trace(trace: &Trace, other: &Trace) -> bool
     ensures { IsTrue result ↔ (trace.now ≡ other.now) }
 {

@@ -16,13 +16,14 @@ use crate::same::{are_same_recipes, is_same_trace};
 use cs_apm::Order;
 use cs_apm::laws::rules_are_sentences;
 use cs_micro::{Micros, break_up};
+use cs_names::laws::know;
 use cs_state::{Atlas, Built};
 use cs_trace::Trace;
 use std::alloc::Global;
 use std::marker::Model;
 
-/// A trace with its micro-operations, their order, and the plan of its states. What the states share is
-/// found once, when it is made.
+/// A trace with its micro-operations, their order, and the plan of its states. What the states
+/// share is found once, when it is made.
 #[derive(Drop)]
 pub struct Scene {
     atlas: Atlas,
@@ -50,7 +51,13 @@ impl Scene {
         holes: bool,
         picks: Vec<Places>,
     ) -> Result<Scene, SceneFault>
-        ensures value { IfOk result (λ scene. scene ≡ record { trace = trace; plan = plan_of (order_of (micros_in trace)) holes picks.items }) }
+        ensures value { IfOk result
+            (λ scene. scene
+            ≡ record {
+              trace = trace;
+              plan =
+                  plan_of (order_of (micros_in trace)) holes picks.items;
+            }) }
         ensures fault { IfErr result (IsRefusedScene trace holes picks.items) }
     {
         let micros = break_up(alloc, &trace)?;
@@ -87,8 +94,8 @@ impl Scene {
         &self.plan
     }
 
-    /// How many texts the application has told in the state of that number, if there is one. It takes no
-    /// memory.
+    /// How many texts the application has told in the state of that number, if there is one. It
+    /// takes no memory.
     pub fn says(&self, number: u32) -> Option<u32>
         ensures { result ≡ says_at self.now number }
     {
@@ -96,7 +103,8 @@ impl Scene {
         Some(says_in(self.atlas.micros().ops(), &self.order, recipe))
     }
 
-    /// Whether two scenes have the same trace and the same plan. It takes no memory, but looks at all of both.
+    /// Whether two scenes have the same trace and the same plan. It takes no memory, but looks at
+    /// all of both.
     pub fn has_content_of(&self, other: &Scene) -> bool
         ensures { IsTrue result ↔ (self.now ≡ other.now) }
     {
@@ -115,7 +123,7 @@ impl Scene {
             return Err(MakeFault::NoSuchState);
         };
         rules_are_sentences(self.atlas.micros());
-        let _few = self.atlas.trace().operations();
+        know(self.atlas.trace().operations());
         let places = places_of(alloc, &self.order, recipe)?;
         let tree = self.atlas.build(alloc, &places)?;
         Ok(tree)

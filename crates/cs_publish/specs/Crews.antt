@@ -4,7 +4,7 @@ use Rattle.cs_names.specs.declared.limits.TheConstants.{WORKERS}
 use Rattle.cs_plan.specs.Scenes.{Scene}
 use Rattle.cs_registry.specs.Registries.{Registry}
 use Rattle.cs_users.specs.Rows.{Row}
-use Rattle.cs_shared.specs.Serving.{IsOnly}
+use Rattle.cs_shared_runs.specs.Serving.{IsOnly}
 use Rattle.cs_publish.specs.declared.joining.Known.{Known}
 use Rattle.cs_publish.specs.declared.joining.Known.TheVariants.{ByType, ByContent}
 

@@ -65,7 +65,7 @@ fn work<N: Staged, R: Wait, G: Gate>(
 }
 
 /// Starts so many workers, and gives the end where their states come out. They end with the
-/// numbers, or when that end is let go.
+/// numbers, or when that end is dropped.
 pub(crate) fn hire<'s, E, N: Staged, R: Wait + Sync, G: Gate>(
     scope: &'s Scope<'s, E>,
     rt: &'s R,

@@ -19,7 +19,7 @@ pub(crate) enum Lost {
     Channel,
 }
 
-/// What is told of it.
+/// The fault that a caller gets for it.
 pub(crate) fn fault_of(lost: Lost) -> PublishAllFault
     ensures { result ≢ PublishAllFault.Workers }
 {

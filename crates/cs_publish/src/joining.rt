@@ -2,7 +2,7 @@
 ghost use Rattle.std.specs.Prelude.{◌≡◌, ◌↔◌, ◌≤◌, false, length, IfOk, IsErrOf};
 ghost use Rattle.std.specs.Arc.{arc_value};
 ghost use Rattle.cs_publish.specs.Crews.{MayPublish, is_crew};
-ghost use Rattle.cs_shared.specs.Serving.{IsOnly};
+ghost use Rattle.cs_shared_runs.specs.Serving.{IsOnly};
 
 use crate::crew::{hire, is_crew, next_made, numbers_below};
 use crate::fault::{Lost, PublishAllFault, fault_of};
@@ -11,7 +11,7 @@ use crate::stage::{FromWorker, Stage, Staged};
 use crossbeam_channel::Receiver;
 use cs_plan::{Published, Scene};
 use cs_registry::PublishFault;
-use cs_shared::{Served, SharedRegistry};
+use cs_shared_runs::{ServerBrand, SharedRegistry};
 use std::alloc::Global;
 use std::marker::Brand;
 use std::sync::{Arc, Wait};
@@ -29,7 +29,7 @@ pub(crate) enum Known {
 
 /// Publishes so many states that the workers make, each under a lock of its own: how many weren't
 /// published before.
-fn collect_into<S: Served, N: Staged, R: Wait>(
+fn collect_into<S: ServerBrand, N: Staged, R: Wait>(
     rt: &R,
     alloc: Global,
     registry: &SharedRegistry<S>,
@@ -53,7 +53,7 @@ fn collect_into<S: Served, N: Staged, R: Wait>(
 }
 
 /// Publishes a state of the registry's scene: 1, or 0 if it was published before.
-fn publish_one<S: Served, R: Wait>(
+fn publish_one<S: ServerBrand, R: Wait>(
     rt: &R,
     alloc: Global,
     registry: &SharedRegistry<S>,
@@ -77,7 +77,7 @@ fn publish_one<S: Served, R: Wait>(
 }
 
 /// Publishes the states of so many numbers, made by so many workers.
-fn gather_into<'s, S: Served, N: Staged, R: Threads + Wait + Sync, G: Gate>(
+fn gather_into<'s, S: ServerBrand, N: Staged, R: Threads + Wait + Sync, G: Gate>(
     rt: &'s R,
     alloc: Global,
     registry: &'s SharedRegistry<S>,
@@ -107,7 +107,7 @@ fn gather_into<'s, S: Served, N: Staged, R: Threads + Wait + Sync, G: Gate>(
 }
 
 /// The same for a scene that the type names, which is the registry's.
-fn publish_scene_into<S: Served, N: Staged, R: Threads + Wait + Sync, G: Gate>(
+fn publish_scene_into<S: ServerBrand, N: Staged, R: Threads + Wait + Sync, G: Gate>(
     rt: &R,
     alloc: Global,
     registry: &SharedRegistry<S>,
@@ -130,7 +130,7 @@ fn publish_scene_into<S: Served, N: Staged, R: Threads + Wait + Sync, G: Gate>(
 }
 
 /// The same for the registry's scene, by as many workers as there may be.
-fn publish_by<S: Served, R: Threads + Wait + Sync, G: Gate>(
+fn publish_by<S: ServerBrand, R: Threads + Wait + Sync, G: Gate>(
     rt: &R,
     alloc: Global,
     registry: &SharedRegistry<S>,
@@ -156,9 +156,9 @@ fn publish_by<S: Served, R: Threads + Wait + Sync, G: Gate>(
 /// Publishes the states of the registry's scene, made by so many workers, while other threads may
 /// use the registry: how many it published. Each is published as soon as it is made, and one that
 /// is published already is passed over. The faults are those of `publish_all`; what was published
-/// before one stays. The content of a state's scene is compared with the registry's, which takes
-/// long for a large trace.
-pub fn publish_into<S: Served, R: Threads + Wait + Sync, G: Gate>(
+/// before one stays. The content of a state's scene is compared with the registry's, which is slow
+/// for a large trace.
+pub fn publish_into<S: ServerBrand, R: Threads + Wait + Sync, G: Gate>(
     rt: &R,
     alloc: Global,
     registry: &SharedRegistry<S>,
@@ -172,7 +172,7 @@ pub fn publish_into<S: Served, R: Threads + Wait + Sync, G: Gate>(
 }
 
 /// The same for a registry whose type knows no other scene: no content is compared.
-pub fn publish_own_into<S: Served, R: Threads + Wait + Sync, G: Gate>(
+pub fn publish_own_into<S: ServerBrand, R: Threads + Wait + Sync, G: Gate>(
     rt: &R,
     alloc: Global,
     registry: &SharedRegistry<S>,

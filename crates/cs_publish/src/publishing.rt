@@ -3,7 +3,7 @@ ghost use Rattle.std.specs.Prelude.{◌≡◌, ◌↔◌, false, IfOk, IsErrOf};
 ghost use Rattle.std.specs.Arc.{arc_value};
 ghost use Rattle.cs_publish.specs.Crews.{all_published, is_crew};
 ghost use Rattle.cs_registry.specs.Registries.{AdmitsAll, empty};
-ghost use Rattle.cs_shared.specs.Serving.{IsOnly};
+ghost use Rattle.cs_shared_runs.specs.Serving.{IsOnly};
 
 use crate::crew::{hire, is_crew, next_made, numbers_below};
 use crate::fault::{Lost, PublishAllFault, fault_of};
@@ -99,8 +99,8 @@ fn publish_scene<H: Held, N: Staged, R: Threads + Wait + Sync, G: Gate>(
 
 /// A registry of the scene's states, every one of which is published, whose runs have these users.
 /// The states are made by so many workers: each takes the next number, calls the gate with it, and
-/// makes its state. Workers is answered where there are none or more than WORKERS; then Memory,
-/// also where no thread can be made; then Channel, where a number or a state is lost on its way.
+/// makes its state. The fault is Workers if there are none or more than WORKERS; then Memory, also
+/// if no thread can be made; then Channel, if a number or a state is lost on its way.
 pub fn publish_all<H: Held, R: Threads + Wait + Sync, G: Gate>(
     rt: &R,
     alloc: Global,

@@ -58,7 +58,7 @@ impl<N: Staged> Model for Made<N> {
     ghost invariant = { λ made. N.is_scene made.state.scene };
 }
 
-/// What a worker tells of a number: the state, or that memory refused it.
+/// What a worker sends for a number: the state, or that there was no memory for it.
 #[derive(Drop)]
 pub(crate) enum FromWorker<N: Staged> {
     State(Made<N>),
@@ -76,7 +76,7 @@ impl<N: Staged> Stage<N> {
         }
     }
 
-    /// The state of that number, made anew.
+    /// Makes the state of that number.
     pub(crate) fn make<G: Gate>(
         &self,
         alloc: Global,

@@ -1,5 +1,6 @@
 -- What a find answers, case by case.
-use Rattle.std.proofs.Common.{◌≡◌, ◌∙◌, ◌<◌, ◌≤◌, ℕ, zero, suc, true, false, List, [], ◌∷◌, length, Option, None, Some, is_some, refl, sym, ap, arith}
+use Rattle.std.proofs.Common.{◌≡◌, ◌∙◌, ◌<◌, ◌≤◌, ℕ, zero, suc, true, false, List, [], ◌∷◌, length, Option, None, Some, is_some, refl, sym}
+use Rattle.std.proofs.Common.{ap, arith}
 use Rattle.std.specs.Prelude.{Result, Ok, Err, IfErr, IfOk, map, slice_get, slice_index_or, unwrap_or}
 use Rattle.std.proofs.Math.ListN.{get_or-map}
 use Rattle.std.proofs.lemmas.Bool.Decides.{nat_tests}
@@ -22,10 +23,12 @@ module _ {H : Type 0} (r : Registry H) (key : Key) (given : Option H) where
   pub when_full : is_published r key.number ≡ true → has_no_room r.runs key ≡ true → found r key given ≡ (Err Full, r)
   when_full there full = rw (there, full) refl
 
-  pub when_found : (place : ℕ) → is_published r key.number ≡ true → place_of key r.runs ≡ Some place → room_ends r.runs (Some place) ≡ false → found r key given ≡ found_again r place
+  pub when_found : (place : ℕ) → is_published r key.number ≡ true → place_of key r.runs ≡ Some place → room_ends r.runs (Some place) ≡ false
+      → found r key given ≡ found_again r place
   when_found place published there room = rw (published, there, room) refl
 
-  pub when_new : is_published r key.number ≡ true → place_of key r.runs ≡ None → room_ends r.runs None ≡ false → found r key given ≡ made r key given
+  pub when_new : is_published r key.number ≡ true → place_of key r.runs ≡ None → room_ends r.runs None ≡ false
+      → found r key given ≡ made r key given
   when_new published none room = rw (published, none, room) refl
 
 module _ {H : Type 0} (is_fresh : Key → Tree → List Row → H → Type 0) (r : Registry H) (key : Key) where
@@ -45,7 +48,12 @@ module _ {H : Type 0} (is_fresh : Key → Tree → List Row → H → Type 0) (r
     finds_again place there (Err e) runs ok err = record {
       given = None;
       fresh = tt;
-      answers = (λ i. (Err (err.0 i), record r { runs = err.2 i })) ∙ sym (when_full r key None published (ap (room_ends r.runs) there ∙ err.1));
+      answers = (λ i. (
+        Err (err.0 i),
+        record r {
+          runs = err.2 i;
+        },
+      )) ∙ sym (when_full r key None published (ap (room_ends r.runs) there ∙ err.1));
     }
 
     module _ (none : place_of key r.runs ≡ None) where
@@ -59,9 +67,14 @@ module _ {H : Type 0} (is_fresh : Key → Tree → List Row → H → Type 0) (r
         room = grind (arith, nat_tests)
 
         pub finds_short : (runs : Runs H) → runs ≡ r.runs → Finds is_fresh r key (Err Memory) (record r { runs = runs })
-        finds_short runs same = record { given = None; fresh = tt; answers = (λ i. (Err Memory, record r { runs = same i })) ∙ sym (when_new r key None published none room) }
+        finds_short runs same = record {
+          given = None;
+          fresh = tt;
+          answers = (λ i. (Err Memory, record r { runs = same i })) ∙ sym (when_new r key None published none room);
+        }
 
-        pub finds_new : (place : ℕ) (runs : Runs H) (held : H) → place ≡ length r.runs → runs ≡ with_run r.runs key held → IsNew is_fresh r key held → Finds is_fresh r key (Ok place) (record r { runs = runs })
+        pub finds_new : (place : ℕ) (runs : Runs H) (held : H) → place ≡ length r.runs → runs ≡ with_run r.runs key held
+            → IsNew is_fresh r key held → Finds is_fresh r key (Ok place) (record r { runs = runs })
         finds_new place runs held last with new = record {
           given = Some held;
           fresh = new;
@@ -71,15 +84,18 @@ module _ {H : Type 0} (is_fresh : Key → Tree → List Row → H → Type 0) (r
 -- ---- what is stored
 
 -- a state is published where there is one
-pub published_is : {A : Type 0} (states : List (Option A)) (n : ℕ) (o : Option A) → o ≡ unwrap_or (slice_get states n) None → slice_index_or (map is_some states) n false ≡ is_some o
+pub published_is : {A : Type 0} (states : List (Option A)) (n : ℕ) (o : Option A) → o ≡ unwrap_or (slice_get states n) None
+    → slice_index_or (map is_some states) n false ≡ is_some o
 published_is states n o is = get_or-map is_some states n None ∙ ap is_some (sym (is ∙ unwrap_or-slice_get states n None))
 
-stored : {A : Type 0} (states : List (Option A)) (n : ℕ) (x : A) → Some x ≡ unwrap_or (slice_get states n) None → slice_get states n ≡ Some (Some x)
+stored : {A : Type 0} (states : List (Option A)) (n : ℕ) (x : A) → Some x ≡ unwrap_or (slice_get states n) None
+    → slice_get states n ≡ Some (Some x)
 stored [] n x is = cc
 stored (s ∷ states) zero x is = ap Some (sym is)
 stored (s ∷ states) (suc n) x is = stored states n x is
 
-module _ {H A : Type 0} {admits : ℕ → Tree → Type 0} {scene : Scene} {tree_of : A → Tree} {states : List (Option A)} {missing : ℕ} {runs : Runs H}
+module _ {H A : Type 0} {admits : ℕ → Tree → Type 0} {scene : Scene} {tree_of : A
+    → Tree} {states : List (Option A)} {missing : ℕ} {runs : Runs H}
     (kept : IsKept admits scene tree_of states missing runs) (n : ℕ) (x : A) (there : Some x ≡ unwrap_or (slice_get states n) None) where
   is_state : IsPublished (record { number = n; scene = scene; tree = tree_of x })
   is_state = kept.made n x (stored states n x there)

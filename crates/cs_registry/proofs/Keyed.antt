@@ -11,7 +11,8 @@ both true b e = (refl, e)
 both false b e = absurd (cc)
 
 same_names : (x y : List ℕ) → same_bytes x y ≡ true → x ≡ y
-same_names x y is = elim (name_cases x y) [ inl alike ↦ alike.1 | inr other ↦ absurd (let differs : same_bytes x y ≡ false = other.0 in cc) ]
+same_names x y is =
+    elim (name_cases x y) [ inl alike ↦ alike.1 | inr other ↦ absurd (let differs : same_bytes x y ≡ false = other.0 in cc) ]
 
 -- only one key is the same as another
 pub same_is : (k l : Key) → same_key k l ≡ true → k ≡ l

@@ -1,4 +1,4 @@
--- What it is to find the run of a key.
+-- What finding the run of a key gives.
 use Rattle.std.specs.Prelude.{◌≡◌, ◌≢◌, ℕ, not, List, length, if◌then◌else◌, slice_get}
 use Rattle.std.specs.Prelude.{IfSome, IsSomeAnd, Option, None, Some, Result, Ok, Err}
 use Rattle.std.specs.Option.{option_map_or}
@@ -21,8 +21,8 @@ module _ {H : Type 0} where
   abbrev pub found_again : Registry H → ℕ → Result ℕ FindFault × Registry H
   found_again registry place = (Ok place, record registry { runs = with_find registry.runs place })
 
-  -- the place of the run of the key, and what is left: the state has to be published, and there has
-  -- to be room for the attach; a key that has no run gets the one that memory gives
+  -- the place of the run of the key, and what is left: the state must be published, and there must
+  -- be room for the attach; a key that has no run gets the one that memory gives
   abbrev pub found : Registry H → Key → Option H → Result ℕ FindFault × Registry H
   found registry key given =
       if not (is_published registry key.number) then (Err Unpublished, registry) else
@@ -42,8 +42,8 @@ module _ {H : Type 0} where
     pub fresh : IfSome given (IsNew is_fresh old key)
     pub answers : (answer, new) ≡ found old key given
 
-  -- the run of the key stands at the place: the one that stood there before, or a new one where
-  -- there was none; no other run changes
+  -- the run of the key is at the place: the one that was there before, or a new one if there was
+  -- none; no other run changes
   pub record IsFound (is_fresh : Key → Tree → List Row → H → Type 0) (old : Registry H) (key : Key)
       (place : ℕ) (new : Registry H) : Type 0 where
     pub here : place_of key new.runs ≡ Some place

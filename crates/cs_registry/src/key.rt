@@ -3,16 +3,14 @@ ghost use Rattle.std.specs.Prelude.{◌≡◌, ◌≤◌, ◌++◌, MatchOption,
 ghost use Rattle.std.specs.Cmp.{partial_equiv_from_equiv};
 ghost use Rattle.std.specs.Cmp.Rules.{hashing};
 ghost use Rattle.std.specs.Hash as fed;
-ghost use Rattle.std.specs.List.{list_all};
 ghost use Rattle.std.proofs.Common.{rules};
 ghost use Rattle.cs_names.specs.Legal.{is_run_name};
-ghost use Rattle.cs_permit.specs.TreeNames.{is_digit};
 ghost use Rattle.cs_registry.specs.Keys.{same_key, same_key-laws};
 ghost use Rattle.cs_registry.specs.Naming.{are_few_digits, key_in, number_in};
 
 use arrayvec::ArrayString;
-use cs_names::RunName;
 use cs_names::limits::RUN_NAME_BYTES;
+use cs_names::{RunName, has_digits_alone};
 use cs_permit::TreeName;
 use std::hash::{Hash, Hasher};
 use std::marker::Model;
@@ -48,7 +46,7 @@ impl RunKey {
         }
     }
 
-    /// The key of the run whose name the bytes spell; None where they spell none.
+    /// The key of the run whose name the bytes spell; None if they spell none.
     pub fn read(number: u32, name: &[u8]) -> Option<RunKey>
         ensures { MatchOption result (is_run_name name.now ≡ false)
             (λ key. (is_run_name name.now ≡ true)
@@ -66,7 +64,7 @@ impl RunKey {
         }
     }
 
-    /// The key of the run that a tree's name names; None where its parts are no number of at most
+    /// The key of the run that a tree's name names; None if its parts are no number of at most
     /// five digits, or no run's name. It takes no memory.
     pub fn named(name: &TreeName) -> Option<RunKey>
         ensures { result ≡ key_in name.now.state.now name.now.run.now }
@@ -127,7 +125,7 @@ impl Hash for RunKey {
     }
 }
 
-/// A name of a run, kept where it stands.
+/// A name of a run, in place.
 fn short_name(name: &str) -> ArrayString<RUN_NAME_BYTES>
     requires { length name.now ≤ RUN_NAME_BYTES }
     ensures { result.bytes ≡ name.now }
@@ -136,12 +134,6 @@ fn short_name(name: &str) -> ArrayString<RUN_NAME_BYTES>
         Ok(name) => name,
         Err(_) => unreachable!(),
     }
-}
-
-fn has_digits_alone(bytes: &[u8]) -> bool
-    ensures { result ≡ list_all is_digit bytes.now }
-{
-    bytes.iter().all(|c| c.is_ascii_digit())
 }
 
 fn are_few_digits(bytes: &[u8]) -> bool

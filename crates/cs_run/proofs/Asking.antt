@@ -20,12 +20,14 @@ module _ (t : Tree) (xs ys : List OpenFile) (us : List Row) where
   pub same_of_shared : (c : OpenCall) → on_file t c.number is_exclusive ≡ false → open_rules t xs us c ≡ open_rules t ys us c
   same_of_shared c e = rw e refl
 
-  pub same_of_open : (call : Call) (c : OpenCall) → call ≡ Open c → open_rules t xs us c ≡ open_rules t ys us c → failing_rule (rules_view t xs us) call ≡ failing_rule (rules_view t ys us) call
+  pub same_of_open : (call : Call) (c : OpenCall) → call ≡ Open c → open_rules t xs us c ≡ open_rules t ys us c
+      → failing_rule (rules_view t xs us) call ≡ failing_rule (rules_view t ys us) call
   unfolding failing_rule
   same_of_open call c is e = rw is (ap first_failing e)
 
   -- the rules of other calls ask for none
-  pub same_of_others : (call : Call) → ((c : OpenCall) → call ≡ Open c → ⊥) → failing_rule (rules_view t xs us) call ≡ failing_rule (rules_view t ys us) call
+  pub same_of_others : (call : Call) → ((c : OpenCall) → call ≡ Open c → ⊥)
+      → failing_rule (rules_view t xs us) call ≡ failing_rule (rules_view t ys us) call
   unfolding failing_rule
   same_of_others (Open c) other = absurd (other c refl)
   same_of_others call other = refl

@@ -1,5 +1,6 @@
 -- The greatest version bounds all.
-use Rattle.std.proofs.Common.{◌≡◌, ◌∙◌, Bool, false, Option, None, refl, ap, ◌^◌, ◌||◌, ℕ, ◌+◌, ◌≤◌, ◌<◌, ◌⊎◌, inl, inr, Some, arith, subst, sym, ⊎_elim}
+use Rattle.std.proofs.Common.{◌≡◌, ◌∙◌, Bool, false, Option, None, refl, ap, ◌^◌, ◌||◌, ℕ, ◌+◌, ◌≤◌, ◌<◌, ◌⊎◌, inl, inr, Some, arith, subst}
+use Rattle.std.proofs.Common.{sym, ⊎_elim}
 use Rattle.std.proofs.Math.Nat.{eq-or-lt_of_le}
 use Rattle.std.proofs.lemmas.Bool.Decides.{nat_tests}
 use Rattle.std.proofs.lemmas.Bool.{false≢true}
@@ -20,15 +21,19 @@ IsVersWithin t most n = IfSome (record_numbered t n) (λ r. r.vers ≤ most)
 less_or_same : (n m : ℕ) → n < m + 1 → (n < m) ⊎ (n ≡ m)
 less_or_same n m less = ⊎_elim (λ (same : n ≡ m). inr same) (λ (lower : n < m). inl lower) (eq-or-lt_of_le (omega (arith, less)))
 
-pub all_within : (t : Tree) (most last : ℕ) → IsTree t → t.next ≡ last + 1 → ((n : ℕ) → n < last → IsVersWithin t most n) → IsVersWithin t most last → AllVersBelow (most + 1) t
+pub all_within : (t : Tree) (most last : ℕ) → IsTree t → t.next ≡ last + 1 → ((n : ℕ) → n < last → IsVersWithin t most n)
+    → IsVersWithin t most last → AllVersBelow (most + 1) t
 all_within t most last is next before at p r there =
     let found : record_numbered t r.number ≡ Some r = (numbered_in t is p r there).1 in
     let below : r.number < last + 1 = subst (λ n. r.number < n) next (is.below p r there) in
-    let own : IsVersWithin t most r.number → r.vers < most + 1 = λ within. (let v : r.vers ≤ most = subst (λ o. IfSome o (λ r. r.vers ≤ most)) found within in omega (arith, v)) in
-    ⊎_elim (λ (less : r.number < last). own (before r.number less)) (λ (same : r.number ≡ last). own (subst (IsVersWithin t most) (sym same) at)) (less_or_same r.number last below)
+    let own : IsVersWithin t most r.number → r.vers < most + 1 =
+    λ within. (let v : r.vers ≤ most = subst (λ o. IfSome o (λ r. r.vers ≤ most)) found within in omega (arith, v)) in
+    ⊎_elim (λ (less : r.number < last). own (before r.number less))
+    (λ (same : r.number ≡ last). own (subst (IsVersWithin t most) (sym same) at)) (less_or_same r.number last below)
 
 -- the version of a file that is there is below what all are
-file_found : (t : Tree) (n : ℕ) (r : Record) (o : Option (Path × Record)) → find (λ e. e.1.number == n) (entries t.files) ≡ o → record_numbered t n ≡ Some r → (p : Path) × (path_numbered t n ≡ Some p)
+file_found : (t : Tree) (n : ℕ) (r : Record) (o : Option (Path × Record)) → find (λ e. e.1.number == n) (entries t.files) ≡ o
+    → record_numbered t n ≡ Some r → (p : Path) × (path_numbered t n ≡ Some p)
 file_found t n r None none is = absurd (false≢true (ap is_some (ap (option_map (λ e. e.1)) (sym none) ∙ is)))
 file_found t n r (Some e) found is = (e.0, ap (option_map (λ e. e.0)) found)
 
@@ -40,7 +45,8 @@ vers_below t tree n r is k below =
     subst (λ o. IfSome o (λ r. r.vers < k)) same (below p.0 f.0 f.1)
 
 -- the same of what a store lends of it
-pub lent_below : (t : Tree) → IsTree t → (n k v : ℕ) (o : Option Record) → record_numbered t n ≡ o → Some v ≡ option_map (λ m. m.vers) (option_map metadata_of o) → AllVersBelow k t → v < k
+pub lent_below : (t : Tree) → IsTree t → (n k v : ℕ) (o : Option Record) → record_numbered t n ≡ o
+    → Some v ≡ option_map (λ m. m.vers) (option_map metadata_of o) → AllVersBelow k t → v < k
 lent_below t tree n k v None is lent below = absurd (false≢true (ap is_some (sym lent)))
 lent_below t tree n k v (Some r) is lent below = subst (λ o. IfSome o (λ v. v < k)) (sym lent) (vers_below t tree n r is k below)
 

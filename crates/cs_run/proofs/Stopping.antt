@@ -3,7 +3,7 @@ use Rattle.std.proofs.Common.{◌≡◌, ℕ, List, [], ◌∷◌, true, false, 
 use Rattle.std.proofs.lemmas.Bool.{true≢false}
 use Rattle.std.specs.Prelude.{is_none}
 use Rattle.std.specs.Option.{option_map}
-use Rattle.cs_tree_model.specs.Record.{lent}
+use Rattle.cs_tree_model.specs.Record.{metadata_of_ref}
 use Rattle.cs_tree_model.specs.declared.record.Metadata.{Metadata}
 use Rattle.cs_tree_model.specs.declared.record.MetadataBuf.{MetadataBuf}
 use Rattle.cs_names.specs.declared.rule_id.RuleId.{RuleId}
@@ -12,11 +12,11 @@ use Rattle.cs_users.specs.Rows.{Row}
 use Rattle.cs_permit.proofs.Elements.{last_fails}
 use Rattle.cs_permit.specs.Refusals.{first_failing}
 use Rattle.cs_permit.specs.Rules.{is_gone}
-use Rattle.cs_permit.specs.Walks.{element_rules, first_element, next, stepped as led, walk_rules}
+use Rattle.cs_permit.specs.Walks.{element_rules, first_element, number_by_name, element_result as led, walk_rules}
 use Rattle.cs_permit.specs.declared.call.WalkCall.{WalkCall}
-use Rattle.cs_run.specs.Walks.{Way, go_on, stopped_first, way, way_asked}
+use Rattle.cs_run.specs.Walks.{WalkResult, go_on, stopped_first, walk_from, walk_asked}
 
-first_by : (t : Tree) (n : ℕ) (rest : ℕ → Way) (fails : Option RuleId) (m : Option ℕ) → (is_none m ≡ true → fails ≡ None → ⊥)
+first_by : (t : Tree) (n : ℕ) (rest : ℕ → WalkResult) (fails : Option RuleId) (m : Option ℕ) → (is_none m ≡ true → fails ≡ None → ⊥)
     → stopped_first (go_on rest t n (led fails m)) ≡ fails
 first_by t n rest (Some rule) m there = refl
 first_by t n rest None None there = absurd (there refl refl)
@@ -24,17 +24,20 @@ first_by t n rest None (Some m) there = refl
 
 -- of the names from a file on
 stopped_first-way : (t : Tree) (us : List Row) (u : List ℕ) (n : ℕ) (names : List (List ℕ))
-    → stopped_first (way t us u n names) ≡ first_failing (first_element t us u n names)
+    → stopped_first (walk_from t us u n names) ≡ first_failing (first_element t us u n names)
 stopped_first-way t us u n [] = refl
 stopped_first-way t us u n (x ∷ xs) =
-    first_by t n (λ m. way t us u m xs) (first_failing (element_rules t us u n x)) (next t n x) (last_fails _ _ (is_none (next t n x)))
+    first_by t n (λ m. walk_from t us u m xs) (first_failing (element_rules t us u n x)) (number_by_name t n x)
+    (last_fails _ _ (is_none (number_by_name t n x)))
 
 -- of a file that is there, a walk is refused where it is stopped at its first name
-pub stopped_by_rules : (t : Tree) (us : List Row) (c : WalkCall) (w : Way) → is_gone t c.number ≡ false → w ≡ way_asked t us c → stopped_first w ≡ first_failing (walk_rules t us c)
+pub stopped_by_rules : (t : Tree) (us : List Row) (c : WalkCall) (w : WalkResult) → is_gone t c.number ≡ false → w ≡ walk_asked t us c
+    → stopped_first w ≡ first_failing (walk_rules t us c)
 stopped_by_rules t us c w there e =
     ap stopped_first e ∙ stopped_first-way t us c.user c.number c.names ∙ sym (rw there refl)
 
 -- what is told of a file tells that it is there
-pub not_gone : (o : Option Metadata) (file : Option MetadataBuf) → option_map lent o ≡ file → is_none o ≡ false → is_none file ≡ false
+pub not_gone : (o : Option Metadata) (file : Option MetadataBuf) → option_map metadata_of_ref o ≡ file → is_none o ≡ false
+    → is_none file ≡ false
 not_gone None file told there = absurd (true≢false there)
 not_gone (Some m) file told there = ap is_none (sym told)

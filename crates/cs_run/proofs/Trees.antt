@@ -8,7 +8,8 @@ use Rattle.cs_permit.specs.Rules.{file_at, is_directory, is_directory_kind}
 use Rattle.cs_run.specs.Effects.{removes}
 use Rattle.cs_tree_model.specs.Laws.Round.{found_in, numbered_in}
 use Rattle.cs_tree_model.specs.Record.{IsDirectory, kind_of, metadata_of}
-use Rattle.cs_tree_model.specs.Tree.{IsTree, NameBytes, Path, Tree, content_numbered, number_at, number_in, path_numbered, record_at, record_numbered}
+use Rattle.cs_tree_model.specs.Tree.{IsTree, NameBytes, Path, Tree, content_numbered, number_at, number_in, path_numbered, record_at}
+use Rattle.cs_tree_model.specs.Tree.{record_numbered}
 use Rattle.cs_tree_model.specs.declared.record.MetadataBuf.{MetadataBuf}
 use Rattle.cs_tree_model.specs.declared.record.Record.{Record}
 
@@ -21,16 +22,19 @@ module _ (t : Tree) (is : IsTree t) where
   pub name_leads : (d : ℕ) (x : NameBytes) (n : ℕ) → number_in t d x ≡ Some n → is_some (record_numbered t n) ≡ true
   name_leads d x n found = by (path_numbered t d) found
     where
-      at : (q : Path) (o : Option Record) → record_at t q ≡ o → option_map (λ (r : Record). r.number) o ≡ Some n → is_some (record_numbered t n) ≡ true
+      at : (q : Path) (o : Option Record) → record_at t q ≡ o → option_map (λ (r : Record). r.number) o ≡ Some n
+          → is_some (record_numbered t n) ≡ true
       at q None there e = absurd (false≢true (ap is_some e))
-      at q (Some r) there e = (let same : r.number ≡ n = (let two : Some r.number ≡ Some n = e in cc) in ap is_some (known q r n there same))
+      at q (Some r) there e =
+          (let same : r.number ≡ n = (let two : Some r.number ≡ Some n = e in cc) in ap is_some (known q r n there same))
 
       by : (o : Option Path) → option_and_then (λ p. number_at t (p ++ x ∷ [])) o ≡ Some n → is_some (record_numbered t n) ≡ true
       by None e = absurd (false≢true (ap is_some e))
       by (Some p) e = at (p ++ x ∷ []) (record_at t (p ++ x ∷ [])) refl e
 
   -- a directory has no bytes
-  no_bytes : (n : ℕ) (p : Path) (d : Record) → record_at t p ≡ Some d → d.number ≡ n → IsDirectory d → is_some (content_numbered t n) ≡ true → ⊥
+  no_bytes : (n : ℕ) (p : Path) (d : Record) → record_at t p ≡ Some d → d.number ≡ n → IsDirectory d → is_some (content_numbered t n) ≡ true
+      → ⊥
   no_bytes n p d there same directory bytes =
       false≢true (sym (ap is_some (ap (option_and_then (λ (r : Record). r.content)) (known p d n there same) ∙ directory)) ∙ bytes)
 
@@ -38,7 +42,8 @@ module _ (t : Tree) (is : IsTree t) where
   pub no_names_in_file : (n : ℕ) → is_some (content_numbered t n) ≡ true → (x : NameBytes) → number_in t n x ≡ None
   no_names_in_file n bytes x = by (path_numbered t n) refl
     where
-      at : (p : Path) → path_numbered t n ≡ Some p → (o : Option Record) → record_at t (p ++ x ∷ []) ≡ o → option_map (λ (r : Record). r.number) o ≡ None
+      at : (p : Path) → path_numbered t n ≡ Some p → (o : Option Record) → record_at t (p ++ x ∷ []) ≡ o
+          → option_map (λ (r : Record). r.number) o ≡ None
       at p e None there = refl
       at p e (Some r) there =
           let d = is.in_directory p x r there in
@@ -64,7 +69,8 @@ pub removed_has_bytes : (t : Tree) (o : OpenFile) → removes t (Some o) ≡ tru
 removed_has_bytes t o e = (and_parts (is_some (content_numbered t o.file)) (removes_on_close o.mode) e).0
 
 -- a file that is there and isn't a directory has bytes
-pub file_has_bytes : (t : Tree) (n : ℕ) (f : MetadataBuf) → file_at t n ≡ Some f → is_directory f ≡ false → is_some (content_numbered t n) ≡ true
+pub file_has_bytes : (t : Tree) (n : ℕ) (f : MetadataBuf) → file_at t n ≡ Some f → is_directory f ≡ false
+    → is_some (content_numbered t n) ≡ true
 file_has_bytes t n f there file = by (record_numbered t n) there
   where
     at : (content : Option (List ℕ)) → is_directory_kind (kind_of content) ≡ false → is_some content ≡ true
@@ -73,4 +79,5 @@ file_has_bytes t n f there file = by (record_numbered t n) there
 
     by : (o : Option Record) → option_map metadata_of o ≡ Some f → is_some (option_and_then (λ (r : Record). r.content) o) ≡ true
     by None e = absurd (false≢true (ap is_some e))
-    by (Some r) e = (let same : metadata_of r ≡ f = (let two : Some (metadata_of r) ≡ Some f = e in cc) in at r.content (ap is_directory same ∙ file))
+    by (Some r) e =
+        (let same : metadata_of r ≡ f = (let two : Some (metadata_of r) ≡ Some f = e in cc) in at r.content (ap is_directory same ∙ file))

@@ -1,5 +1,6 @@
 -- What the rules of a wstat say of the change that it asks for, where none fails.
-use Rattle.std.proofs.Common.{◌≡◌, ◌≢◌, ◌<◌, ◌≤◌, ◌^◌, ◌==◌, ◌||◌, ℕ, Bool, true, false, not, List, [], Option, None, Some, IsSome, IfSome, refl, sym, ap, ◌∙◌, subst, arith, bit_and}
+use Rattle.std.proofs.Common.{◌≡◌, ◌≢◌, ◌<◌, ◌≤◌, ◌^◌, ◌==◌, ◌||◌, ℕ, Bool, true, false, not, List, [], Option, None, Some, IsSome, IfSome}
+use Rattle.std.proofs.Common.{refl, sym, ap, ◌∙◌, subst, arith, bit_and}
 use Rattle.std.proofs.lemmas.Bool.{false≢true, ltb-false, or_parts}
 use Rattle.std.proofs.lemmas.Bool.Decides.{nat_tests}
 use Rattle.std.proofs.lemmas.Option.{IfSome_then}
@@ -44,11 +45,13 @@ record Granted (t : Tree) (us : List Row) (c : WstatCall) (x : Change) : Type 0 
   same : change_of t c file ≡ x
   pass : AllPass (field_rules t us c file)
 
-module _ (t : Tree) (us : List Row) (c : WstatCall) (x : Change) (pass : AllPass (wstat_rules t us c)) (is : change_asked t c ≡ Some x) where
+module _ (t : Tree) (us : List Row) (c : WstatCall) (x : Change) (pass : AllPass (wstat_rules t us c))
+    (is : change_asked t c ≡ Some x) where
   granted : Granted t us c x
   granted = by (file_at t c.number) refl is pass.1.1
     where
-      by : (o : Option MetadataBuf) → file_at t c.number ≡ o → option_map (change_of t c) o ≡ Some x → AllPass (option_map_or (field_rules t us c) o []) → Granted t us c x
+      by : (o : Option MetadataBuf) → file_at t c.number ≡ o → option_map (change_of t c) o ≡ Some x
+          → AllPass (option_map_or (field_rules t us c) o []) → Granted t us c x
       by None e s h = absurd (false≢true (ap is_some s))
       by (Some f) e s h = record { file = f; there = e; same = (let two : Some (change_of t c f) ≡ Some x = s in cc); pass = h }
 
@@ -57,7 +60,8 @@ module _ (t : Tree) (us : List Row) (c : WstatCall) (x : Change) (pass : AllPass
   length_of_file some =
       let g = granted in
       file_has_bytes t c.number g.file g.there
-      (some_then (new_length c g.file) (is_directory g.file ≡ false) (passes (new_length c g.file) (λ n. is_directory g.file) g.pass.1.1.1.1.0)
+      (some_then (new_length c g.file) (is_directory g.file ≡ false)
+      (passes (new_length c g.file) (λ n. is_directory g.file) g.pass.1.1.1.1.0)
       (subst (λ (y : Change). IsSome y.length) (sym g.same) some))
 
   pub length_has_room : IfSome x.length (λ n. n < 2 ^ 63)
@@ -65,16 +69,19 @@ module _ (t : Tree) (us : List Row) (c : WstatCall) (x : Change) (pass : AllPass
   length_has_room =
       let g = granted in
       subst (λ (y : Change). IfSome y.length (λ n. n < 2 ^ 63)) g.same
-      (IfSome_then (new_length c g.file) (passes (new_length c g.file) _ g.pass.1.1.1.1.1.1.0) (λ n e. (let few : n ≤ FILE_BYTES = ltb-false FILE_BYTES n e in omega arith)))
+      (IfSome_then (new_length c g.file) (passes (new_length c g.file) _ g.pass.1.1.1.1.1.1.0)
+      (λ n e. (let few : n ≤ FILE_BYTES = ltb-false FILE_BYTES n e in omega arith)))
 
   pub mode_keeps_kind : KeepsKind x (record_numbered t c.number)
   unfolding name_rules length_rules mode_rules group_rules
   mode_keeps_kind =
       let g = granted in
       subst (λ (y : Change). KeepsKind y (record_numbered t c.number)) g.same
-      (IfSome_then (new_mode c g.file) (passes (new_mode c g.file) (is_bad_mode g.file) g.pass.1.1.1.1.1.1.1.0) (λ mode e. by g mode (same_by _ _ (middle _ _ _ e)) (record_numbered t c.number) g.there))
+      (IfSome_then (new_mode c g.file) (passes (new_mode c g.file) (is_bad_mode g.file) g.pass.1.1.1.1.1.1.1.0)
+      (λ mode e. by g mode (same_by _ _ (middle _ _ _ e)) (record_numbered t c.number) g.there))
     where
-      by : (g : Granted t us c x) (mode : ℕ) → bit_and mode DMDIR ≡ bit_and g.file.mode DMDIR → (o : Option Record) → option_map metadata_of o ≡ Some g.file → IfSome o (λ r. is_directory_mode mode ≡ is_directory_mode r.mode)
+      by : (g : Granted t us c x) (mode : ℕ) → bit_and mode DMDIR ≡ bit_and g.file.mode DMDIR → (o : Option Record)
+          → option_map metadata_of o ≡ Some g.file → IfSome o (λ r. is_directory_mode mode ≡ is_directory_mode r.mode)
       by g mode e None s = tt
       by g mode e (Some r) s = (let one : metadata_of r ≡ g.file = (let two : Some (metadata_of r) ≡ Some g.file = s in cc) in
           ap (λ bits. not (bits == 0)) (e ∙ ap (λ (f : MetadataBuf). bit_and f.mode DMDIR) (sym one)))
@@ -83,7 +90,8 @@ module _ (t : Tree) (us : List Row) (c : WstatCall) (x : Change) (pass : AllPass
   unfolding name_rules length_rules mode_rules group_rules
   name_not_of_root some root =
       let g = granted in
-      let e = some_then (new_name t c) ((c.number == 0) ≡ false) (passes (new_name t c) (λ y. c.number == 0) g.pass.0) (subst (λ (y : Change). IsSome y.name) (sym g.same) some) in
+      let e = some_then (new_name t c) ((c.number == 0) ≡ false) (passes (new_name t c) (λ y. c.number == 0) g.pass.0)
+      (subst (λ (y : Change). IsSome y.name) (sym g.same) some) in
       absurd (false≢true (sym e ∙ ap (λ n. n == 0) root))
 
   pub name_is_free : IfSome x.name (λ y. IfSome (parent_numbered t c.number) (λ d. number_in t d y ≡ None))
@@ -91,11 +99,13 @@ module _ (t : Tree) (us : List Row) (c : WstatCall) (x : Change) (pass : AllPass
   name_is_free =
       let g = granted in
       subst (λ (y : Change). IfSome y.name (λ y. IfSome (parent_numbered t c.number) (λ d. number_in t d y ≡ None))) g.same
-      (IfSome_then (new_name t c) (passes (new_name t c) (λ y. is_some (number_beside t c.number y)) g.pass.1.1.1.0) (λ y e. by y (parent_numbered t c.number) e))
+      (IfSome_then (new_name t c) (passes (new_name t c) (λ y. is_some (number_beside t c.number y)) g.pass.1.1.1.0)
+      (λ y e. by y (parent_numbered t c.number) e))
     where
       none : (o : Option ℕ) → is_some o ≡ false → o ≡ None
       none o e = grind arith
 
-      by : (y : NameBytes) (o : Option ℕ) → is_some (option_and_then (λ d. number_in t d y) o) ≡ false → IfSome o (λ d. number_in t d y ≡ None)
+      by : (y : NameBytes) (o : Option ℕ) → is_some (option_and_then (λ d. number_in t d y) o) ≡ false
+          → IfSome o (λ d. number_in t d y ≡ None)
       by y None e = tt
       by y (Some d) e = none (number_in t d y) e

@@ -1,5 +1,6 @@
 -- Opens that lie in blocks, one after the other.
-use Rattle.std.specs.Prelude.{ℕ, ◌≡◌, ◌≢◌, ◌<◌, ◌+◌, ◌-◌, Bool, false, List, length, nat_lt, slice_get, slice_index_or, take, Vec, vec_capacity, vec_len}
+use Rattle.std.specs.Prelude.{ℕ, ◌≡◌, ◌≢◌, ◌<◌, ◌+◌, ◌-◌, Bool, false, List, length, nat_lt}
+use Rattle.std.specs.Prelude.{slice_get, slice_index_or, take, Vec, vec_capacity, vec_len}
 use Rattle.std.specs.List.{flat_map}
 use Rattle.std.specs.Option.{option_map_or}
 use Rattle.std.specs.declared.alloc.Global.{Global}
@@ -10,12 +11,12 @@ abbrev pub Block : Type 0
 Block = Vec OpenFile Global
 
 -- all opens, block after block
-abbrev pub joined : List Block → List OpenFile
-joined blocks = flat_map (λ b. b.items) blocks
+abbrev pub all_opens : List Block → List OpenFile
+all_opens blocks = flat_map (λ b. b.items) blocks
 
 -- how many opens lie before a block
-abbrev pub before : List Block → ℕ → ℕ
-before blocks i = length (joined (take i blocks))
+abbrev pub count_before : List Block → ℕ → ℕ
+count_before blocks place = length (all_opens (take place blocks))
 
 -- how many more opens the last block has room for
 abbrev pub last_room : List Block → ℕ
@@ -29,22 +30,23 @@ AreFilled blocks =
 
 -- nor is any other but that one
 abbrev pub FilledBut : ℕ → List Block → Type 0
-FilledBut i blocks =
-    (k : ℕ) (b : Block) → k + 1 < length blocks → k ≢ i
+FilledBut place blocks =
+    (k : ℕ) (b : Block) → k + 1 < length blocks → k ≢ place
     → 0 < length (slice_index_or blocks k b).items
 
 -- the last open of the block has a number below this one
 abbrev pub ends_below : ℕ → Block → Bool
-ends_below n b =
-    option_map_or (λ o. nat_lt o.number n) (slice_get b.items (length b.items - 1)) false
+ends_below number block =
+    option_map_or (λ o. nat_lt o.number number) (slice_get block.items (length block.items - 1))
+    false
 
--- an open stands at that place of that block
+-- an open is at that place of that block
 pub record Stands (blocks : List Block) (i at : ℕ) : Type 0 where
   pub block : i < length blocks
   pub inside : (b : Block) → at < length (slice_index_or blocks i b).items
 
 -- opens in blocks, and how many they are
 pub record InBlocks (blocks : List Block) (count : ℕ) : Type 0 where
-  pub ascending : IsAscending (joined blocks)
+  pub ascending : IsAscending (all_opens blocks)
   pub filled : AreFilled blocks
-  pub counted : count ≡ length (joined blocks)
+  pub counted : count ≡ length (all_opens blocks)

@@ -1,16 +1,20 @@
 -- What a call that is granted leaves of a run, and its answer.
-use Rattle.std.specs.Prelude.{ℕ, ◌==◌, not, ◌&&◌, ◌||◌, Bool, false, if◌then◌else◌, List, [], ◌∷◌, ◌++◌, Option, None, Some, is_some, length, option_map, bit_and, bit_or, bit_xor}
+use Rattle.std.specs.Prelude.{ℕ, ◌==◌, not, ◌&&◌, ◌||◌, Bool, false, if◌then◌else◌, List, [], ◌∷◌}
+use Rattle.std.specs.Prelude.{◌++◌, Option, None, Some, is_some, length, option_map, bit_and}
+use Rattle.std.specs.Prelude.{bit_or, bit_xor}
 use Rattle.std.specs.Option.{option_map_or}
 use Rattle.cs_tree_model.specs.declared.change.Change.{Change}
 use Rattle.cs_tree_model.specs.declared.change.New.{New}
 use Rattle.cs_tree_model.specs.declared.change.Stamp.{Stamp}
 use Rattle.cs_tree_model.specs.declared.record.MetadataBuf.{MetadataBuf}
 use Rattle.cs_tree_model.specs.Mode.{is_directory_mode}
-use Rattle.cs_tree_model.specs.Stores.{added, changed, removed, written_to}
+use Rattle.cs_tree_model.specs.Stores.{tree_with_file, tree_with_change, tree_without_file}
+use Rattle.cs_tree_model.specs.Stores.{written_to}
 use Rattle.cs_tree_model.specs.Tree.{Tree, content_numbered}
 use Rattle.cs_names.specs.declared.rule_id.RuleId.TheVariants.{H2}
 use Rattle.cs_permit.specs.declared.call.Call.{Call}
-use Rattle.cs_permit.specs.declared.call.Call.TheVariants.{Attach, Walk, Open, Create, Read, Write, Close, Remove, Stat, Wstat}
+use Rattle.cs_permit.specs.declared.call.Call.TheVariants.{Attach, Walk, Open, Create, Read, Write}
+use Rattle.cs_permit.specs.declared.call.Call.TheVariants.{Close, Remove, Stat, Wstat}
 use Rattle.cs_permit.specs.declared.call.CloseCall.{CloseCall}
 use Rattle.cs_permit.specs.declared.call.CreateCall.{CreateCall}
 use Rattle.cs_permit.specs.declared.call.OpenCall.{OpenCall}
@@ -28,53 +32,62 @@ use Rattle.cs_permit.specs.Writes.{write_start}
 use Rattle.cs_run.specs.declared.answer.Answer.{Answer}
 use Rattle.cs_run.specs.declared.answer.Answer.TheVariants as a
 use Rattle.cs_run.specs.declared.turn.Turn.{Turn}
-use Rattle.cs_run.specs.Opens.{open_numbered, released, released_if}
-use Rattle.cs_run.specs.Pages.{given}
-use Rattle.cs_run.specs.Walks.{way_asked}
+use Rattle.cs_run.specs.Opens.{open_numbered, opens_without, opens_without_if}
+use Rattle.cs_run.specs.Pages.{data_read}
+use Rattle.cs_run.specs.Walks.{walk_asked}
 
 -- What a call leaves: the tree, the opens, and what the client is answered.
-pub record Left : Type 0 where
+pub record CallResult : Type 0 where
   pub tree : Tree
   pub opens : List OpenFile
   pub answer : Answer
 
 -- these three
-abbrev pub left : Tree → List OpenFile → Answer → Left
-left t os answer = record { tree = t; opens = os; answer = answer }
+abbrev pub call_result : Tree → List OpenFile → Answer → CallResult
+call_result tree opens answer = record { tree = tree; opens = opens; answer = answer }
 
 -- the moment of the turn, and the user
 abbrev pub stamp : Turn → List ℕ → Stamp
-stamp w user = record { now = w.moment; user = user }
+stamp turn user = record { now = turn.moment; user = user }
 
 -- the open that a turn makes
 abbrev pub new_open : Turn → ℕ → ℕ → OpenFile
-new_open w n mode = record { number = w.place; file = n; mode = mode; pass = w.pass }
+new_open turn number mode = record {
+  number = turn.place;
+  file = number;
+  mode = mode;
+  pass = turn.pass;
+}
 
 -- ---- open
 
 -- 0x10, of a file that isn't append-only
-abbrev pub empties : Tree → OpenCall → Bool
-empties t c = truncates c.mode && not (on_file t c.number is_append_only)
+abbrev pub truncates_file : Tree → OpenCall → Bool
+truncates_file tree call = truncates call.mode && not (on_file tree call.number is_append_only)
 
 -- no bytes, and nothing else
-abbrev pub emptying : Change
-emptying = record { name = None; length = Some 0; mode = None; group = None; mtime = None }
+abbrev pub change_to_no_bytes : Change
+change_to_no_bytes =
+    record { name = None; length = Some 0; mode = None; group = None; mtime = None }
 
 -- the tree after an open
 abbrev pub opened_tree : Tree → Turn → OpenCall → Tree
-opened_tree t w c = if empties t c then changed c.number emptying (stamp w c.user) t else t
+opened_tree tree turn call =
+    if truncates_file tree call
+    then tree_with_change call.number change_to_no_bytes (stamp turn call.user) tree
+    else tree
 
--- an open: the file may be emptied, and one open more stands, last. The qid is the one after that
-unfoldable pub open_effect : Tree → List OpenFile → Turn → OpenCall → Left
-open_effect t os w c =
-    left (opened_tree t w c) (os ++ new_open w c.number c.mode ∷ [])
-    (a.Opened (qid_at (opened_tree t w c) c.number) w.place c.number)
+-- an open: the file may be emptied, and one open more is there, last. The qid is the one after that
+unfoldable pub open_effect : Tree → List OpenFile → Turn → OpenCall → CallResult
+open_effect tree opens turn call =
+    call_result (opened_tree tree turn call) (opens ++ new_open turn call.number call.mode ∷ [])
+    (a.Opened (qid_at (opened_tree tree turn call) call.number) turn.place call.number)
 
 -- ---- create
 
--- the mode of the file of a number, 0 where it is gone
+-- the mode of the file of a number, 0 if it is gone
 abbrev pub mode_at : Tree → ℕ → ℕ
-mode_at t n = option_map_or (λ file. file.mode) (file_at t n) 0
+mode_at tree number = option_map_or (λ file. file.mode) (file_at tree number) 0
 
 -- all bits of a mode but those of the mask
 abbrev pub all_but : ℕ → ℕ
@@ -90,107 +103,120 @@ created_mode perm dir =
 
 -- what a new file is made of
 abbrev pub new_file : Tree → CreateCall → New
-new_file t c = record { mode = created_mode c.perm (mode_at t c.number) }
+new_file tree call = record { mode = created_mode call.perm (mode_at tree call.number) }
 
 -- the tree with the new file
 abbrev pub created_tree : Tree → Turn → CreateCall → Tree
-created_tree t w c = added c.number c.name (new_file t c) (stamp w c.user) t
+created_tree tree turn call =
+    tree_with_file call.number call.name (new_file tree call) (stamp turn call.user) tree
 
--- a create: the new file takes the next number, and one open more stands on it
-unfoldable pub create_effect : Tree → List OpenFile → Turn → CreateCall → Left
-create_effect t os w c =
-    left (created_tree t w c) (os ++ new_open w t.next c.mode ∷ [])
-    (a.Opened (qid_at (created_tree t w c) t.next) w.place t.next)
+-- a create: the new file takes the next number, and one open more is on it
+unfoldable pub create_effect : Tree → List OpenFile → Turn → CreateCall → CallResult
+create_effect tree opens turn call =
+    call_result (created_tree tree turn call) (opens ++ new_open turn tree.next call.mode ∷ [])
+    (a.Opened (qid_at (created_tree tree turn call) tree.next) turn.place tree.next)
 
 -- ---- write
 
 -- a write puts at least one byte, and not into a directory, on which no fid is open for writing
 abbrev pub writes : Tree → WriteCall → Bool
-writes t c = not (length c.bytes == 0) && is_some (content_numbered t c.number)
+writes tree call = not (length call.bytes == 0) && is_some (content_numbered tree call.number)
 
 -- the tree with the bytes of a write
 abbrev pub written_tree : Tree → Turn → WriteCall → Tree
-written_tree t w c =
-    if writes t c then written_to c.number (write_start t c) c.bytes (stamp w c.user) t else t
+written_tree tree turn call =
+    if writes tree call
+    then written_to call.number (write_start tree call) call.bytes (stamp turn call.user) tree
+    else tree
 
--- a write tells how many bytes it has
-unfoldable pub write_effect : Tree → List OpenFile → Turn → WriteCall → Left
-write_effect t os w c = left (written_tree t w c) os (a.Written (length c.bytes))
+-- a write answers how many bytes it has
+unfoldable pub write_effect : Tree → List OpenFile → Turn → WriteCall → CallResult
+write_effect tree opens turn call =
+    call_result (written_tree tree turn call) opens (a.Written (length call.bytes))
 
 -- ---- close and remove
 
--- the file of an open is to be removed: it is still there, and the open's mode says so; no
+-- the file of an open must be removed: it is still there, and the open's mode says so; no
 -- directory is opened so
 abbrev pub removes : Tree → Option OpenFile → Bool
-removes t None = false
-removes t (Some o) = is_some (content_numbered t o.file) && removes_on_close o.mode
+removes tree None = false
+removes tree (Some o) = is_some (content_numbered tree o.file) && removes_on_close o.mode
 
 -- without the file of an open that asks so
 abbrev pub closed_tree : Tree → Turn → List ℕ → Option OpenFile → Tree
-closed_tree t w user None = t
-closed_tree t w user (Some o) = if removes t (Some o) then removed o.file (stamp w user) t else t
+closed_tree tree turn user None = tree
+closed_tree tree turn user (Some o) =
+    if removes tree (Some o) then tree_without_file o.file (stamp turn user) tree else tree
 
--- a close ends its open, if that stands, and may remove its file
-unfoldable pub close_effect : Tree → List OpenFile → Turn → CloseCall → Left
-close_effect t os w c =
-    left (closed_tree t w c.user (open_numbered c.open_number w.pass os))
-    (released c.open_number w.pass os) a.Closed
+-- a close ends its open, if there is one, and may remove its file
+unfoldable pub close_effect : Tree → List OpenFile → Turn → CloseCall → CallResult
+close_effect tree opens turn call =
+    call_result (closed_tree tree turn call.user (open_numbered call.open_number turn.pass opens))
+    (opens_without call.open_number turn.pass opens) a.Closed
 
 -- a remove takes out the file, and ends the open of its fid, if that is open
-unfoldable pub remove_effect : Tree → List OpenFile → Turn → RemoveCall → Left
-remove_effect t os w c =
-    left (removed c.number (stamp w c.user) t) (released_if c.open_number w.pass os) a.Removed
+unfoldable pub remove_effect : Tree → List OpenFile → Turn → RemoveCall → CallResult
+remove_effect tree opens turn call =
+    call_result (tree_without_file call.number (stamp turn call.user) tree)
+    (opens_without_if call.open_number turn.pass opens) a.Removed
 
 -- ---- wstat
 
 -- the fields that a wstat changes, each with its new value
 abbrev pub change_of : Tree → WstatCall → MetadataBuf → Change
-change_of t c file = record {
-  name = new_name t c;
-  length = new_length c file;
-  mode = new_mode c file;
-  group = new_group c file;
-  mtime = new_mtime c file;
+change_of tree call file = record {
+  name = new_name tree call;
+  length = new_length call file;
+  mode = new_mode call file;
+  group = new_group call file;
+  mtime = new_mtime call file;
 }
 
 -- the change that a wstat asks for, if its file is there
 abbrev pub change_asked : Tree → WstatCall → Option Change
-change_asked t c = option_map (change_of t c) (file_at t c.number)
+change_asked tree call = option_map (change_of tree call) (file_at tree call.number)
 
 -- a change names a field
 abbrev pub changes_some : Change → Bool
-changes_some x =
-    is_some x.name || is_some x.length || is_some x.mode || is_some x.group || is_some x.mtime
+changes_some change =
+    is_some change.name || is_some change.length || is_some change.mode || is_some change.group
+    || is_some change.mtime
 
 -- the tree after a change, if that names a field
 abbrev pub changed_by : Tree → Turn → WstatCall → Change → Tree
-changed_by t w c x = if changes_some x then changed c.number x (stamp w c.user) t else t
+changed_by tree turn call change =
+    if changes_some change then tree_with_change call.number change (stamp turn call.user) tree
+    else tree
 
 -- with all fields that are new, in one change
 abbrev pub changed_tree : Tree → Turn → WstatCall → Tree
-changed_tree t w c = option_map_or (changed_by t w c) (change_asked t c) t
+changed_tree tree turn call =
+    option_map_or (changed_by tree turn call) (change_asked tree call) tree
 
 -- a wstat changes the file
-unfoldable pub wstat_effect : Tree → List OpenFile → Turn → WstatCall → Left
-wstat_effect t os w c = left (changed_tree t w c) os a.Changed
+unfoldable pub wstat_effect : Tree → List OpenFile → Turn → WstatCall → CallResult
+wstat_effect tree opens turn call = call_result (changed_tree tree turn call) opens a.Changed
 
 -- ---- calls that change nothing
 
--- what a stat tells of the file; of one that is gone nothing
+-- what a stat says of the file; nothing of one that is gone
 abbrev pub stat_answer : Tree → StatCall → Answer
-stat_answer t c = option_map_or a.Stat (stat_at t c.number) (a.Denied H2)
+stat_answer tree call = option_map_or a.Stat (stat_at tree call.number) (a.Denied H2)
 
 -- ---- every call
 
 -- what each call leaves that is granted
-abbrev pub effect_of : RulesView → Turn → Call → Left
-effect_of s w (Attach c) = left s.tree s.opens (a.Attached (qid_at s.tree 0))
-effect_of s w (Walk c) = left s.tree s.opens (a.Walked (way_asked s.tree s.users c))
-effect_of s w (Open c) = open_effect s.tree s.opens w c
-effect_of s w (Create c) = create_effect s.tree s.opens w c
-effect_of s w (Read c) = left s.tree s.opens (a.Data (given s.tree c))
-effect_of s w (Write c) = write_effect s.tree s.opens w c
-effect_of s w (Close c) = close_effect s.tree s.opens w c
-effect_of s w (Remove c) = remove_effect s.tree s.opens w c
-effect_of s w (Stat c) = left s.tree s.opens (stat_answer s.tree c)
-effect_of s w (Wstat c) = wstat_effect s.tree s.opens w c
+abbrev pub effect_of : RulesView → Turn → Call → CallResult
+effect_of view turn (Attach call) =
+    call_result view.tree view.opens (a.Attached (qid_at view.tree 0))
+effect_of view turn (Walk call) =
+    call_result view.tree view.opens (a.Walked (walk_asked view.tree view.users call))
+effect_of view turn (Open call) = open_effect view.tree view.opens turn call
+effect_of view turn (Create call) = create_effect view.tree view.opens turn call
+effect_of view turn (Read call) =
+    call_result view.tree view.opens (a.Data (data_read view.tree call))
+effect_of view turn (Write call) = write_effect view.tree view.opens turn call
+effect_of view turn (Close call) = close_effect view.tree view.opens turn call
+effect_of view turn (Remove call) = remove_effect view.tree view.opens turn call
+effect_of view turn (Stat call) = call_result view.tree view.opens (stat_answer view.tree call)
+effect_of view turn (Wstat call) = wstat_effect view.tree view.opens turn call

@@ -1,5 +1,6 @@
 -- What calls do to the opens, the versions and the next number of a run.
-use Rattle.std.specs.Prelude.{◌≡◌, ℕ, ◌+◌, ◌<◌, ◌≤◌, Bool, true, false, List, [], ◌∷◌, ◌++◌, Some, length}
+use Rattle.std.specs.Prelude.{◌≡◌, ℕ, ◌+◌, ◌<◌, ◌≤◌, Bool, true, false, List, [], ◌∷◌, ◌++◌, Some}
+use Rattle.std.specs.Prelude.{length}
 use Rattle.cs_permit.specs.declared.call.Call.{Call}
 use Rattle.cs_permit.specs.declared.call.Call.TheVariants.{Create, Open, Read, Walk}
 use Rattle.cs_permit.specs.declared.call.OpenFile.{OpenFile}
@@ -11,25 +12,25 @@ use Rattle.cs_tree_model.specs.declared.record.Record.{Record}
 
 -- a grant of the call makes an open
 abbrev pub opens_one : Call → Bool
-opens_one (Open c) = true
-opens_one (Create c) = true
+opens_one (Open call) = true
+opens_one (Create call) = true
 opens_one other = false
 
 -- one open more, the last, with the number and the pass of the turn
-pub record OpensOne (old new : List OpenFile) (w : Turn) : Type 0 where
+pub record OpensOne (old new : List OpenFile) (turn : Turn) : Type 0 where
   pub one : OpenFile
   pub more : new ≡ old ++ one ∷ []
-  pub number : one.number ≡ w.place
-  pub pass : one.pass ≡ w.pass
+  pub number : one.number ≡ turn.place
+  pub pass : one.pass ≡ turn.pass
 
 -- each version is below k
 abbrev pub AllVersBelow : ℕ → Tree → Type 0
-AllVersBelow k t = (p : Path) (r : Record) → record_at t p ≡ Some r → r.vers < k
+AllVersBelow k tree = (p : Path) (r : Record) → record_at tree p ≡ Some r → r.vers < k
 
 -- no version is greater, and each number above all versions is above this one
-pub record IsGreatestVersion (t : Tree) (n : ℕ) : Type 0 where
-  pub bounds : AllVersBelow (n + 1) t
-  pub least : (k : ℕ) → 0 < k → AllVersBelow k t → n < k
+pub record IsGreatestVersion (tree : Tree) (number : ℕ) : Type 0 where
+  pub bounds : AllVersBelow (number + 1) tree
+  pub least : (k : ℕ) → 0 < k → AllVersBelow k tree → number < k
 
 -- a call raises no version by more than one, and the next number by at most one
 pub record RaisesByOne (old new : Tree) : Type 0 where
@@ -48,6 +49,6 @@ qids_in other = 0
 
 -- the answer has no more bytes than a read asks for, and no more qids than a walk has names
 abbrev pub FitsCall : Call → Answer → Type 0
-FitsCall (Read c) answer = bytes_in answer ≤ c.count
-FitsCall (Walk c) answer = qids_in answer ≤ length c.names
+FitsCall (Read call) answer = bytes_in answer ≤ call.count
+FitsCall (Walk call) answer = qids_in answer ≤ length call.names
 FitsCall other answer = Unit {0}

@@ -1,5 +1,7 @@
 -- What a read gives: bytes of a file, or as many whole entries of a directory as fit (read(5)).
-use Rattle.std.specs.Prelude.{◌≡◌, ℕ, ◌+◌, ◌<◌, ◌≤◌, ◌-◌, ◌==◌, nat_le, min, if◌then◌else◌, List, [], ◌∷◌, ◌++◌, Option, None, Some, length, option_copied, unwrap_or, IfSome, slice_get}
+use Rattle.std.specs.Prelude.{◌≡◌, ℕ, ◌+◌, ◌<◌, ◌≤◌, ◌-◌, ◌==◌, nat_le, min, if◌then◌else◌, List}
+use Rattle.std.specs.Prelude.{[], ◌∷◌, ◌++◌, Option, None, Some, length, option_copied, unwrap_or}
+use Rattle.std.specs.Prelude.{IfSome, slice_get}
 use Rattle.std.specs.List.{flat_map}
 use Rattle.cs_fids.specs.declared.place.Place.{Place}
 use Rattle.cs_permit.specs.declared.call.ReadCall.{ReadCall}
@@ -24,33 +26,35 @@ abbrev pub no_more : Option NameBytes → Page
 no_more last = record { bytes = []; last = last }
 
 -- some bytes, and the page that follows
-abbrev pub onto : List ℕ → Page → Page
-onto bytes page = record page { bytes = bytes ++ page.bytes }
+abbrev pub with_bytes_first : List ℕ → Page → Page
+with_bytes_first bytes page = record page { bytes = bytes ++ page.bytes }
 
 -- as many whole entries as fit into the room, of these names of a directory after the last one
 abbrev pub page : Tree → ℕ → ℕ → Option NameBytes → List NameBytes → Page
-page t d room last [] = no_more last
-page t d room last (x ∷ xs) =
-    if nat_le (length (entry_bytes t d x)) room
-    then onto (entry_bytes t d x) (page t d (room - length (entry_bytes t d x)) (Some x) xs)
+page tree directory room last [] = no_more last
+page tree directory room last (x ∷ xs) =
+    if nat_le (length (entry_bytes tree directory x)) room
+    then with_bytes_first (entry_bytes tree directory x)
+    (page tree directory (room - length (entry_bytes tree directory x)) (Some x) xs)
     else no_more last
 
 -- the same of all names of the directory after the last one
 abbrev pub page_after : Tree → ℕ → ℕ → Option NameBytes → Page
-page_after t d room last = page t d room last (names_after t d last)
+page_after tree directory room last =
+    page tree directory room last (names_after tree directory last)
 
 -- a page has the whole entries of a front of the names, which fit; the entry of the next name, if
--- any, doesn't fit behind them
-pub record IsFullest (t : Tree) (d room : ℕ) (names : List NameBytes) (p : Page) : Type 0 where
+-- any, doesn't fit after them
+pub record IsFullest (tree : Tree) (d room : ℕ) (names : List NameBytes) (p : Page) : Type 0 where
   pub front : List NameBytes
   pub rest : List NameBytes
   pub whole : names ≡ front ++ rest
-  pub entries : p.bytes ≡ flat_map (entry_bytes t d) front
+  pub entries : p.bytes ≡ flat_map (entry_bytes tree d) front
   pub fits : length p.bytes ≤ room
-  pub next : IfSome (slice_get rest 0) (λ x. room < length p.bytes + length (entry_bytes t d x))
+  pub next : IfSome (slice_get rest 0) (λ x. room < length p.bytes + length (entry_bytes tree d x))
 
 -- What a read gives: bytes, and of a directory where its next read goes on, if that moved.
-pub record Given : Type 0 where
+pub record DataRead : Type 0 where
   pub bytes : List ℕ
   pub place : Option Place
 
@@ -60,21 +64,22 @@ end_after start count = min (start + count) 0xFFFFFFFFFFFFFFFF
 
 -- where a directory's next read goes on; a read that gives no entry leaves the place as it was
 abbrev pub place_after : ReadCall → Page → Option Place
-place_after c p =
+place_after call p =
     if length p.bytes == 0 then None
-    else Some (record { end = end_after c.offset (length p.bytes); last = p.last })
+    else Some (record { end = end_after call.offset (length p.bytes); last = p.last })
 
 -- the whole entries of a directory that fit, after the last name given
-abbrev pub entries_given : Tree → ReadCall → Given
-entries_given t c =
-    let p = page_after t c.number c.count (name_before c) in
-    record { bytes = p.bytes; place = place_after c p }
+abbrev pub entries_given : Tree → ReadCall → DataRead
+entries_given tree call =
+    let p = page_after tree call.number call.count (name_before call) in
+    record { bytes = p.bytes; place = place_after call p }
 
 -- at most so many bytes of a file, from the offset on
-abbrev pub bytes_given : Tree → ReadCall → Given
-bytes_given t c =
-    record { bytes = unwrap_or (bytes_at t c.number c.offset c.count) []; place = None }
+abbrev pub bytes_given : Tree → ReadCall → DataRead
+bytes_given tree call =
+    record { bytes = unwrap_or (bytes_at tree call.number call.offset call.count) []; place = None }
 
 -- what a read gives
-abbrev pub given : Tree → ReadCall → Given
-given t c = if on_file t c.number is_directory then entries_given t c else bytes_given t c
+abbrev pub data_read : Tree → ReadCall → DataRead
+data_read tree call =
+    if on_file tree call.number is_directory then entries_given tree call else bytes_given tree call

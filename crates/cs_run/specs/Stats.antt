@@ -2,6 +2,6 @@
 use Rattle.cs_wire.specs.Fields.{Value}
 use Rattle.cs_wire.specs.Messages.{stat_shape}
 
--- what stands in a stat
+-- what is in a stat
 abbrev pub StatFields : Type 0
 StatFields = Value stat_shape

@@ -4,10 +4,10 @@ ghost use Rattle.cs_permit.specs.Calls.{failing_rule, rules_of, rules_view};
 ghost use Rattle.cs_permit.specs.Opens.{open_rules};
 ghost use Rattle.cs_permit.specs.Refusals.{AllPass};
 ghost use Rattle.cs_permit.specs.Rules.{is_exclusive, on_file};
-ghost use Rattle.cs_run.specs.Effects.{effect_of, left};
+ghost use Rattle.cs_run.specs.Effects.{effect_of, call_result};
 ghost use Rattle.cs_run.specs.Laws.{FitsCall};
-ghost use Rattle.cs_run.specs.Opens.{AreBelow, released_if};
-ghost use Rattle.cs_run.specs.Outcomes.{IsOutcomeOf, closes, takes_memory};
+ghost use Rattle.cs_run.specs.Opens.{AreBelow, opens_without_if};
+ghost use Rattle.cs_run.specs.Outcomes.{IsOutcomeOf, closed_open_number, takes_memory};
 ghost use Rattle.cs_tree_model.specs.Stores.{CanStamp};
 ghost use Rattle.cs_users.specs.Rows.{Row};
 
@@ -43,30 +43,32 @@ fn grant<T: TreeStore>(
     requires vers { (n : ℕ) → CanStamp (T.tree tree.old) n }
     requires next { (T.tree tree.old).next < 2 ^ 64 }
     requires above { AreBelow turn.place opens.old.items }
-    ensures ok { IfOk result (λ answer. left (T.tree tree.new) opens.new.items answer
+    ensures ok { IfOk result (λ answer. call_result (T.tree tree.new) opens.new.items answer
         ≡ effect_of (rules_view (T.tree tree.old) opens.old.items users.now) turn call.now) }
     ensures memory { OnErr result
-        (takes_memory (rules_view (T.tree tree.old) opens.old.items users.now) turn call.now ≡ true) }
+        (takes_memory (rules_view (T.tree tree.old) opens.old.items users.now) turn call.now
+        ≡ true) }
     ensures err { OnErr result ((T.tree tree.new ≡ T.tree tree.old)
-        × (opens.new.items ≡ released_if (closes call.now) turn.pass opens.old.items)) }
+        × (opens.new.items
+        ≡ opens_without_if (closed_open_number call.now) turn.pass opens.old.items)) }
 {
     match call {
         Call::Attach(_) => Ok(Answer::Attached(qid_at(tree, 0))),
         Call::Walk(call) => Ok(Answer::Walked(walk(alloc, call, tree, users)?)),
-        Call::Open(call) => act_open(alloc, call, tree, opens, users, turn),
-        Call::Create(call) => act_create(alloc, call, tree, opens, users, turn),
+        Call::Open(call) => act_open(alloc, call, tree, opens, turn),
+        Call::Create(call) => act_create(alloc, call, tree, opens, turn),
         Call::Read(call) => Ok(Answer::Data(read(alloc, call, tree)?)),
-        Call::Write(call) => act_write(alloc, call, tree, opens, turn),
+        Call::Write(call) => act_write(alloc, call, tree, turn),
         Call::Close(call) => act_close(alloc, call, tree, opens, turn),
-        Call::Remove(call) => act_remove(alloc, call, tree, opens, users, turn),
+        Call::Remove(call) => act_remove(alloc, call, tree, opens, turn),
         Call::Stat(call) => act_stat(alloc, call, tree),
-        Call::Wstat(call) => act_wstat(alloc, call, tree, opens, users, turn),
+        Call::Wstat(call) => act_wstat(alloc, call, tree, turn),
     }
 }
 
 /// The open that a call ends, whatever comes of it.
-pub fn closes(call: &Call<'_>) -> Option<u32>
-    ensures { result ≡ closes call.now }
+pub fn closed_open_number(call: &Call<'_>) -> Option<u32>
+    ensures { result ≡ closed_open_number call.now }
 {
     match call {
         Call::Close(call) => Some(call.open_number),
@@ -92,8 +94,7 @@ fn is_exclusive_file<T: TreeRead>(tree: &T, number: u64) -> bool
     }
 }
 
-/// Opens of which the rules of the open say what they say of all: those of an exclusive file alone
-/// ask for any.
+/// The opens that can decide this open: none, unless the file is exclusive (O10).
 fn asked_by_open<'a, T: TreeRead>(call: &OpenCall, tree: &T, opens: &'a Opens) -> &'a [OpenFile]
     ensures { (users : List Row) → open_rules (T.tree tree.now) result.now users call.now
         ≡ open_rules (T.tree tree.now) opens.now.items users call.now }
@@ -105,9 +106,10 @@ fn asked_by_open<'a, T: TreeRead>(call: &OpenCall, tree: &T, opens: &'a Opens) -
     }
 }
 
-/// Opens of which the call's rules say what they say of all.
+/// The opens that can decide this call.
 fn asked_of<'a, T: TreeRead>(call: &Call<'_>, tree: &T, opens: &'a Opens) -> &'a [OpenFile]
-    ensures { (users : List Row) → failing_rule (rules_view (T.tree tree.now) result.now users) call.now
+    ensures { (users : List Row)
+        → failing_rule (rules_view (T.tree tree.now) result.now users) call.now
         ≡ failing_rule (rules_view (T.tree tree.now) opens.now.items users) call.now }
 {
     match call {
@@ -132,10 +134,10 @@ fn act_by_rules<T: TreeStore>(
     requires next { (T.tree tree.old).next < 2 ^ 64 }
     requires above { AreBelow turn.place opens.old.items }
     ensures { IsOutcomeOf (rules_view (T.tree tree.old) opens.old.items users.now) turn call.now
-        result.0 (left (T.tree tree.new) opens.new.items result.1) }
+        result.0 (call_result (T.tree tree.new) opens.new.items result.1) }
 {
     if let Some(rule) = failing_rule(call, tree, asked_of(call, tree, opens), users) {
-        opens.release_if(closes(call), turn.pass);
+        opens.release_if(closed_open_number(call), turn.pass);
         return (Outcome::Denied(rule), Answer::Denied(rule));
     }
     laws::first_rule_that_fails();
@@ -161,8 +163,9 @@ pub fn act<T: TreeStore>(
     requires vers { (n : ℕ) → CanStamp (T.tree tree.old) n }
     requires next { (T.tree tree.old).next < 2 ^ 64 }
     requires above { AreBelow turn.place opens.old.items }
-    ensures step { IsOutcomeOf (rules_view (T.tree tree.old) opens.old.items users.now) turn call.now
-        result.0 (left (T.tree tree.new) opens.new.items result.1) }
+    ensures step { IsOutcomeOf (rules_view (T.tree tree.old) opens.old.items users.now) turn
+        call.now
+        result.0 (call_result (T.tree tree.new) opens.new.items result.1) }
     ensures fits { FitsCall call.now result.1 }
 {
     if let Call::Walk(call) = call {

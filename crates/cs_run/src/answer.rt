@@ -17,10 +17,10 @@ pub struct Walk {
 
 impl Model for Walk {
     ghost use Rattle.cs_permit.specs.Sizes.{IsQid};
-    ghost use Rattle.cs_run.specs.Walks.{Way};
+    ghost use Rattle.cs_run.specs.Walks.{WalkResult};
     ghost use Rattle.std.specs.List.{AllByRecursion};
 
-    ghost Value = { Way };
+    ghost Value = { WalkResult };
 
     ghost view = { λ w. record { qids = w.qids.items; stopped = w.stopped; last = w.last } };
 
@@ -92,9 +92,9 @@ pub struct Data {
 }
 
 impl Model for Data {
-    ghost use Rattle.cs_run.specs.Pages.{Given};
+    ghost use Rattle.cs_run.specs.Pages.{DataRead};
 
-    ghost Value = { Given };
+    ghost Value = { DataRead };
 
     ghost view = { λ d. record { bytes = d.bytes.items; place = d.place } };
 }
@@ -122,7 +122,7 @@ impl Data {
     }
 }
 
-/// What a stat tells of a file. Contracts see its fields (stat(5)).
+/// What a stat says of a file. Contracts see its fields (stat(5)).
 #[derive(Debug, Drop)]
 pub struct FileStat {
     stat: Stat,
@@ -167,7 +167,7 @@ pub enum Outcome {
     Granted,
     /// The first rule that fails.
     Denied(RuleId),
-    /// No rule fails, and memory is short.
+    /// No rule fails, and memory runs out.
     Short,
 }
 
@@ -192,6 +192,6 @@ pub enum Answer {
     Stat(FileStat),
     Changed,
     Denied(RuleId),
-    /// Want of memory.
+    /// Out of memory.
     Short,
 }

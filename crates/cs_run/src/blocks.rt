@@ -1,9 +1,12 @@
 //! Opens that lie in blocks, so that taking one out moves few others.
-ghost use Rattle.std.specs.Prelude.{◌≡◌, ◌≢◌, ◌<◌, ◌≤◌, ◌+◌, ◌∷◌, ◌++◌, [], ℕ, length, IfSome, IsNone, OnOk, Some, false, true, option_map, slice_get, slice_index_or};
+ghost use Rattle.std.specs.Prelude.{◌≡◌, ◌≢◌, ◌<◌, ◌≤◌, ◌+◌, ◌∷◌, ◌++◌, [], ℕ, length, IfSome};
+ghost use Rattle.std.specs.Prelude.{IsNone, OnOk, Some, false, true, option_map, slice_get};
+ghost use Rattle.std.specs.Prelude.{slice_index_or};
 ghost use Rattle.std.specs.List.{All, position, remove};
 ghost use Rattle.cs_permit.specs.Opens.{is_open as is_on};
 ghost use Rattle.cs_permit.specs.declared.call.OpenFile.{OpenFile as Opened};
-ghost use Rattle.cs_run.specs.Blocks.{AreFilled, Block, FilledBut, Stands, before, ends_below, joined, last_room};
+ghost use Rattle.cs_run.specs.Blocks.{AreFilled, Block, FilledBut, Stands, count_before};
+ghost use Rattle.cs_run.specs.Blocks.{ends_below, all_opens, last_room};
 ghost use Rattle.cs_run.specs.Opens.{IsAscending, is_open};
 
 use cs_permit::OpenFile;
@@ -29,7 +32,7 @@ fn ends_below(block: &Vec<OpenFile>, number: u32) -> bool
     }
 }
 
-/// Where the open of that number stands among these.
+/// The place of the open of that number among these.
 fn index_of(opens: &[OpenFile], number: u32) -> Option<usize>
     requires { IsAscending opens.now }
     ensures bound { IfSome result (λ at. at < length opens.now) }
@@ -43,10 +46,9 @@ fn index_of(opens: &[OpenFile], number: u32) -> Option<usize>
     }
 }
 
-/// How many blocks end below the number: where they don't all, the next is the only one that may
-/// have it.
+/// How many blocks end below the number: unless all do, the next is the only one that may have it.
 fn blocks_below(blocks: &[Vec<OpenFile>], number: u32) -> usize
-    requires ascending { IsAscending (joined blocks.now) }
+    requires ascending { IsAscending (all_opens blocks.now) }
     requires filled { AreFilled blocks.now }
     ensures bound { result ≤ length blocks.now }
     ensures below { (k : ℕ) (b : Block) → k < result → ends_below number
@@ -59,10 +61,10 @@ fn blocks_below(blocks: &[Vec<OpenFile>], number: u32) -> usize
 
 /// Where the open of that number and pass lies.
 pub(crate) fn place_of(blocks: &[Vec<OpenFile>], number: u32, pass: u32) -> Option<Place>
-    requires ascending { IsAscending (joined blocks.now) }
+    requires ascending { IsAscending (all_opens blocks.now) }
     requires filled { AreFilled blocks.now }
-    ensures value { position (is_open number pass) (joined blocks.now)
-        ≡ option_map (λ place. before blocks.now place.block + place.at) result }
+    ensures value { position (is_open number pass) (all_opens blocks.now)
+        ≡ option_map (λ place. count_before blocks.now place.block + place.at) result }
     ensures stands { IfSome result (λ place. Stands blocks.now place.block place.at) }
 {
     let block = blocks_below(blocks, number);
@@ -80,10 +82,10 @@ pub(crate) fn place_of(blocks: &[Vec<OpenFile>], number: u32, pass: u32) -> Opti
     }
 }
 
-/// Begins a block, where the last is full.
+/// Begins a block, if the last is full.
 fn begin_block(blocks: &mut Vec<Vec<OpenFile>>) -> Result<(), AllocError>
     requires { AreFilled blocks.old.items }
-    ensures opens { joined blocks.new.items ≡ joined blocks.old.items }
+    ensures opens { all_opens blocks.new.items ≡ all_opens blocks.old.items }
     ensures filled { AreFilled blocks.new.items }
     ensures some { OnOk result (0 < length blocks.new.items) }
 {
@@ -103,7 +105,7 @@ fn begin_block(blocks: &mut Vec<Vec<OpenFile>>) -> Result<(), AllocError>
 /// Makes room for one open more in the last block.
 pub(crate) fn widen_last(blocks: &mut Vec<Vec<OpenFile>>) -> Result<(), AllocError>
     requires { AreFilled blocks.old.items }
-    ensures opens { joined blocks.new.items ≡ joined blocks.old.items }
+    ensures opens { all_opens blocks.new.items ≡ all_opens blocks.old.items }
     ensures filled { AreFilled blocks.new.items }
     ensures room { OnOk result (0 < last_room blocks.new.items) }
 {
@@ -116,7 +118,7 @@ pub(crate) fn widen_last(blocks: &mut Vec<Vec<OpenFile>>) -> Result<(), AllocErr
 pub(crate) fn push_last(blocks: &mut Vec<Vec<OpenFile>>, opened: OpenFile)
     requires room { 0 < last_room blocks.old.items }
     requires filled { AreFilled blocks.old.items }
-    ensures opens { joined blocks.new.items ≡ joined blocks.old.items ++ opened ∷ [] }
+    ensures opens { all_opens blocks.new.items ≡ all_opens blocks.old.items ++ opened ∷ [] }
     ensures filled { AreFilled blocks.new.items }
 {
     let last = blocks.len() - 1;
@@ -126,16 +128,16 @@ pub(crate) fn push_last(blocks: &mut Vec<Vec<OpenFile>>, opened: OpenFile)
 /// The open at that place.
 pub(crate) fn open_at(blocks: &[Vec<OpenFile>], place: Place) -> OpenFile
     requires { Stands blocks.now place.block place.at }
-    ensures { Some result ≡ slice_get (joined blocks.now)
-        (before blocks.now place.block + place.at) }
+    ensures { Some result ≡ slice_get (all_opens blocks.now)
+        (count_before blocks.now place.block + place.at) }
 {
     let opens = blocks[place.block].as_slice();
     opens[place.at]
 }
 
-/// Opens of one block, among which one is on that file where one of all is.
+/// Opens of one block, one of which is on that file if any of all is.
 pub(crate) fn beside(blocks: &[Vec<OpenFile>], file: u64) -> &[OpenFile]
-    ensures { is_on result.now file ≡ is_on (joined blocks.now) file }
+    ensures { is_on result.now file ≡ is_on (all_opens blocks.now) file }
 {
     for block in blocks {
         if is_on(block.as_slice(), file) {
@@ -156,10 +158,10 @@ fn is_on(opens: &[OpenFile], file: u64) -> bool
 pub(crate) fn take_out(blocks: &mut Vec<Vec<OpenFile>>, place: Place) -> OpenFile
     requires stands { Stands blocks.old.items place.block place.at }
     requires filled { AreFilled blocks.old.items }
-    ensures value { Some result ≡ slice_get (joined blocks.old.items)
-        (before blocks.old.items place.block + place.at) }
-    ensures opens { joined blocks.new.items ≡ remove (joined blocks.old.items)
-        (before blocks.old.items place.block + place.at) }
+    ensures value { Some result ≡ slice_get (all_opens blocks.old.items)
+        (count_before blocks.old.items place.block + place.at) }
+    ensures opens { all_opens blocks.new.items ≡ remove (all_opens blocks.old.items)
+        (count_before blocks.old.items place.block + place.at) }
     ensures filled { AreFilled blocks.new.items }
 {
     let open = blocks[place.block].remove(place.at);
@@ -167,11 +169,11 @@ pub(crate) fn take_out(blocks: &mut Vec<Vec<OpenFile>>, place: Place) -> OpenFil
     open
 }
 
-/// Lets a block go that became empty, but not the last.
+/// Drops a block that became empty, but not the last.
 fn drop_empty(blocks: &mut Vec<Vec<OpenFile>>, block: usize)
     requires bound { block < length blocks.old.items }
     requires filled { FilledBut block blocks.old.items }
-    ensures opens { joined blocks.new.items ≡ joined blocks.old.items }
+    ensures opens { all_opens blocks.new.items ≡ all_opens blocks.old.items }
     ensures filled { AreFilled blocks.new.items }
 {
     if block + 1 < blocks.len() && blocks[block].is_empty() {

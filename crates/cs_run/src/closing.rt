@@ -1,7 +1,7 @@
 //! Closes (clunk(5)).
 ghost use Rattle.std.specs.Prelude.{◌≡◌, IfOk, OnOk, OnErr, Some, is_some, true, ℕ};
-ghost use Rattle.cs_run.specs.Effects.{close_effect, closed_tree, left, removes};
-ghost use Rattle.cs_run.specs.Opens.{open_numbered, released};
+ghost use Rattle.cs_run.specs.Effects.{close_effect, closed_tree, call_result, removes};
+ghost use Rattle.cs_run.specs.Opens.{open_numbered, opens_without};
 ghost use Rattle.cs_tree_model.specs.Stores.{CanStamp};
 ghost use Rattle.cs_tree_model.specs.Tree.{IsTree, content_numbered};
 
@@ -25,7 +25,7 @@ fn has_bytes<T: TreeRead>(tree: &T, number: u64) -> bool
     }
 }
 
-/// Whether the file of an open is to be removed now: where the open's mode says so, and the file is
+/// Whether the file of an open must be removed now: if the open's mode says so, and the file is
 /// still there.
 fn removes<T: TreeRead>(tree: &T, opened: OpenFile) -> bool
     ensures value { result ≡ removes (T.tree tree.now) (Some opened) }
@@ -34,7 +34,7 @@ fn removes<T: TreeRead>(tree: &T, opened: OpenFile) -> bool
     has_bytes(tree, opened.file) && removes_on_close(opened.mode)
 }
 
-/// Removes the file of an open that was released, where that open says so.
+/// Removes the file of an open that was released, if that open says so.
 fn remove_closed<T: TreeStore>(
     alloc: Global,
     call: &CloseCall,
@@ -58,8 +58,8 @@ fn remove_closed<T: TreeStore>(
     tree.remove(alloc, opened.file, stamp)
 }
 
-/// Ends an open, and removes its file where the open says so. The open is released also for want of
-/// memory.
+/// Ends an open, and removes its file if the open says so. The open is released even if memory
+/// runs out.
 #[tactic(auto, unfolding(crate::specs::Effects::close_effect))]
 pub fn act_close<T: TreeStore>(
     alloc: Global,
@@ -69,13 +69,13 @@ pub fn act_close<T: TreeStore>(
     turn: Turn,
 ) -> Result<Answer, AllocError>
     requires { (n : ℕ) → CanStamp (T.tree tree.old) n }
-    ensures ok { IfOk result (λ answer. left (T.tree tree.new) opens.new.items answer
+    ensures ok { IfOk result (λ answer. call_result (T.tree tree.new) opens.new.items answer
         ≡ close_effect (T.tree tree.old) opens.old.items turn call.now) }
     ensures memory { OnErr result
         (removes (T.tree tree.old) (open_numbered call.now.open_number turn.pass opens.old.items)
         ≡ true) }
     ensures err { OnErr result ((T.tree tree.new ≡ T.tree tree.old)
-        × (opens.new.items ≡ released call.now.open_number turn.pass opens.old.items)) }
+        × (opens.new.items ≡ opens_without call.now.open_number turn.pass opens.old.items)) }
 {
     let closed = opens.release(call.open_number, turn.pass);
     remove_closed(alloc, call, tree, closed, turn)?;

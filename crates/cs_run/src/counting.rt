@@ -1,7 +1,7 @@
 //! Calls in turn on a run without a journal.
 ghost use Rattle.std.specs.Prelude.{◌≡◌, ◌<◌, ◌+◌, ◌≤◌, ℕ, IfSome, [], false};
 ghost use Rattle.cs_run.specs.Counted.{is_full, run_of, state_of, turn_of};
-ghost use Rattle.cs_run.specs.Effects.{left};
+ghost use Rattle.cs_run.specs.Effects.{call_result};
 ghost use Rattle.cs_run.specs.Laws.{AllVersBelow, FitsCall, IsGreatestVersion};
 ghost use Rattle.cs_run.specs.Outcomes.{IsOutcomeOf};
 ghost use Rattle.cs_tree_model.specs.Tree.{IsTree, record_numbered};
@@ -84,7 +84,7 @@ impl<T: TreeStore + Drop> CountedRun<T> {
         requires room { is_full (run_of self.old) ≡ false }
         ensures stepped { IsOutcomeOf (state_of (run_of self.old))
             (turn_of (run_of self.old) moment pass) call.now result.0
-            (left (run_of self.new).tree (run_of self.new).opens result.1) }
+            (call_result (run_of self.new).tree (run_of self.new).opens result.1) }
         ensures fits { FitsCall call.now result.1 }
         ensures users { (run_of self.new).users ≡ (run_of self.old).users }
         ensures count { (run_of self.new).count ≡ (run_of self.old).count + 1 }

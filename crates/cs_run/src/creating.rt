@@ -1,17 +1,18 @@
 //! Creates (open(5)).
-ghost use Rattle.std.specs.Prelude.{◌≡◌, ◌<◌, ◌^◌, IfOk, OnOk, OnErr};
+ghost use Rattle.std.specs.Prelude.{◌≡◌, ◌<◌, ◌^◌, IfOk, List, OnOk, OnErr};
 ghost use Rattle.cs_permit.specs.Creates.{create_rules};
 ghost use Rattle.cs_permit.specs.Refusals.{AllPass};
-ghost use Rattle.cs_run.specs.Effects.{all_but, create_effect, created_mode, created_tree, left, mode_at, new_file};
+ghost use Rattle.cs_run.specs.Effects.{all_but, create_effect, created_mode, created_tree};
+ghost use Rattle.cs_run.specs.Effects.{call_result, mode_at, new_file};
 ghost use Rattle.cs_run.specs.Opens.{AreBelow};
 ghost use Rattle.cs_tree_model.specs.Stores.{CanStamp};
+ghost use Rattle.cs_users.specs.Rows.{Row};
 
 use crate::answer::Answer;
 use crate::opens::Opens;
 use crate::turn::{Turn, stamp_of};
 use cs_permit::{CreateCall, OpenFile, qid_at};
 use cs_tree_model::{New, TreeRead, TreeStore, is_directory_mode};
-use cs_users::Users;
 use std::alloc::{AllocError, Global};
 
 fn mode_at<T: TreeRead>(tree: &T, number: u64) -> u32
@@ -46,10 +47,10 @@ fn add_created<T: TreeStore>(
     alloc: Global,
     call: &CreateCall,
     tree: &mut T,
-    users: &Users,
     turn: Turn,
 ) -> Result<u64, AllocError>
-    requires granted { AllPass (create_rules (T.tree tree.old) users.now call.now) }
+    requires granted { (users : List Row)
+        × AllPass (create_rules (T.tree tree.old) users call.now) }
     requires vers { CanStamp (T.tree tree.old) call.now.number }
     requires next { (T.tree tree.old).next < 2 ^ 64 }
     ensures ok { OnOk result (T.tree tree.new ≡ created_tree (T.tree tree.old) turn call.now) }
@@ -69,20 +70,20 @@ pub fn act_create<T: TreeStore>(
     call: &CreateCall,
     tree: &mut T,
     opens: &mut Opens,
-    users: &Users,
     turn: Turn,
 ) -> Result<Answer, AllocError>
-    requires granted { AllPass (create_rules (T.tree tree.old) users.now call.now) }
+    requires granted { (users : List Row)
+        × AllPass (create_rules (T.tree tree.old) users call.now) }
     requires vers { CanStamp (T.tree tree.old) call.now.number }
     requires next { (T.tree tree.old).next < 2 ^ 64 }
     requires above { AreBelow turn.place opens.old.items }
-    ensures ok { IfOk result (λ answer. left (T.tree tree.new) opens.new.items answer
+    ensures ok { IfOk result (λ answer. call_result (T.tree tree.new) opens.new.items answer
         ≡ create_effect (T.tree tree.old) opens.old.items turn call.now) }
     ensures err { OnErr result ((T.tree tree.new ≡ T.tree tree.old)
         × (opens.new.items ≡ opens.old.items)) }
 {
     opens.reserve()?;
-    let number = add_created(alloc, call, tree, users, turn)?;
+    let number = add_created(alloc, call, tree, turn)?;
     let open = OpenFile {
         number: turn.place,
         file: number,

@@ -5,10 +5,10 @@ ghost use Rattle.cs_permit.specs.Calls.{RulesView};
 ghost use Rattle.cs_permit.specs.declared.call.Call.{Call};
 ghost use Rattle.cs_run.specs.Effects.{effect_of};
 ghost use Rattle.cs_run.specs.Laws.{AllVersBelow, FitsCall, OpensOne, RaisesByOne, opens_one};
-ghost use Rattle.cs_run.specs.Opens.{released_if};
-ghost use Rattle.cs_run.specs.Outcomes.{applied, closes};
+ghost use Rattle.cs_run.specs.Opens.{opens_without_if};
+ghost use Rattle.cs_run.specs.Outcomes.{result_by_outcome, closed_open_number};
 ghost use Rattle.cs_run.specs.Pages.{IsFullest, page_after};
-ghost use Rattle.cs_run.specs.Walks.{IsLongest, way};
+ghost use Rattle.cs_run.specs.Walks.{IsLongest, walk_from};
 ghost use Rattle.cs_run.specs.declared.answer.Outcome.{Outcome};
 ghost use Rattle.cs_run.specs.declared.turn.Turn.{Turn};
 ghost use Rattle.cs_tree_model.specs.Stores.{CanStamp};
@@ -22,17 +22,17 @@ pub fn grants_and_opens()
     ensures one { (s : RulesView) (w : Turn) (call : Call) → opens_one call ≡ true
         → OpensOne s.opens (effect_of s w call).opens w }
     ensures kept { (s : RulesView) (w : Turn) (call : Call) → opens_one call ≡ false
-        → (effect_of s w call).opens ≡ released_if (closes call) w.pass s.opens }
+        → (effect_of s w call).opens ≡ opens_without_if (closed_open_number call) w.pass s.opens }
 {}
 
 /// A call raises no version by more than one, and the next number by at most one, whatever comes of
 /// it.
 pub fn calls_raise_by_one()
     ensures { (s : RulesView) (w : Turn) (call : Call) (o : Outcome)
-        → RaisesByOne s.tree (applied s w call o).tree }
+        → RaisesByOne s.tree (result_by_outcome s w call o).tree }
 {}
 
-/// Where each version is below a number that a version can have, each can grow by one.
+/// If each version is below a number that a version can have, each can grow by one.
 pub fn versions_can_grow()
     ensures { (k : ℕ) (t : Tree) → AllVersBelow k t → k < 2 ^ 32 → (n : ℕ) → CanStamp t n }
 {}
@@ -40,14 +40,14 @@ pub fn versions_can_grow()
 /// A read gives no more bytes than it asks for, and a walk no more qids than it has names.
 pub fn answers_fit()
     ensures { (s : RulesView) (w : Turn) (call : Call) (o : Outcome)
-        → FitsCall call (applied s w call o).answer }
+        → FitsCall call (result_by_outcome s w call o).answer }
 {}
 
 /// A walk is the longest: each of its names leads on from where the one before led, and the rule
-/// that is told stops the next, if one is left.
+/// that is reported stops the next, if one is left.
 pub fn walks_are_longest()
     ensures { (t : Tree) (us : List Row) (user : List ℕ) (n : ℕ) (names : List (List ℕ)) →
-        IsLongest t us user n names (way t us user n names) }
+        IsLongest t us user n names (walk_from t us user n names) }
 {}
 
 /// A read of a directory gives as many whole entries as fit.

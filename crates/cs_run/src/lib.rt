@@ -20,7 +20,7 @@ mod walking;
 mod writing;
 mod wstating;
 
-pub use acting::{act, closes};
+pub use acting::{act, closed_open_number};
 pub use answer::{Answer, Data, FileStat, Outcome, Walk};
 pub use closing::act_close;
 pub use counted::CountedRun;

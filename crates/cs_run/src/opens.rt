@@ -1,15 +1,15 @@
 //! The opens of a run.
-ghost use Rattle.std.specs.Prelude.{◌≡◌, ◌<◌, ◌≤◌, ◌+◌, [], ◌∷◌, ◌++◌, length, OnOk};
+ghost use Rattle.std.specs.Prelude.{◌≡◌, ◌<◌, [], ◌∷◌, ◌++◌, length, OnOk};
 ghost use Rattle.cs_permit.specs.Opens.{is_open};
-ghost use Rattle.cs_run.specs.Opens.{AreBelow, open_numbered, released, released_if};
+ghost use Rattle.cs_run.specs.Opens.{AreBelow, open_numbered, opens_without, opens_without_if};
 
 use crate::blocks::{beside, open_at, place_of, push_last, take_out, widen_last};
 use cs_permit::OpenFile;
 use std::alloc::{AllocError, Global};
 use std::marker::Model;
 
-/// The opens of a run, in the order of their numbers, of which each stands once. Contracts see
-/// their list, and the room for more.
+/// The opens of a run, in the order of their numbers, which are all different. Contracts see their
+/// list, and the room for more.
 #[derive(Drop)]
 pub struct Opens {
     /// None but the last is empty.
@@ -18,12 +18,15 @@ pub struct Opens {
 }
 
 impl Model for Opens {
-    ghost use Rattle.cs_run.specs.Blocks.{InBlocks, joined, last_room};
+    ghost use Rattle.cs_run.specs.Blocks.{InBlocks, all_opens, last_room};
     ghost use Rattle.cs_run.specs.Opens.{OpensKept};
 
     ghost Value = { OpensKept };
 
-    ghost view = { λ o. record { items = joined o.blocks.items; room = last_room o.blocks.items } };
+    ghost view = { λ o. record {
+      items = all_opens o.blocks.items;
+      room = last_room o.blocks.items;
+    } };
 
     ghost invariant = { λ o. InBlocks o.blocks.items o.count };
 }
@@ -46,14 +49,14 @@ impl Opens {
         self.count
     }
 
-    /// Some of them, among which one is on that file where one of all is.
+    /// Some of them, one of which is on that file if any of all is.
     pub(crate) fn beside(&self, file: u64) -> &[OpenFile]
         ensures { is_open result.now file ≡ is_open self.now.items file }
     {
         beside(self.blocks.as_slice(), file)
     }
 
-    /// The open of that number and pass, if it stands.
+    /// The open of that number and pass, if there is one.
     pub fn get(&self, number: u32, pass: u32) -> Option<OpenFile>
         ensures { result ≡ open_numbered number pass self.now.items }
     {
@@ -76,34 +79,25 @@ impl Opens {
         ensures { self.new.items ≡ self.old.items ++ opened ∷ [] }
     {
         push_last(&mut self.blocks, opened);
-        self.count = one_more(self.count, opened.number);
+        self.count += 1;
     }
 
-    /// Takes out the open of that number and pass, if it stands. It takes no memory.
+    /// Takes out the open of that number and pass, if there is one. It takes no memory.
     pub fn release(&mut self, number: u32, pass: u32) -> Option<OpenFile>
         ensures value { result ≡ open_numbered number pass self.old.items }
-        ensures opens { self.new.items ≡ released number pass self.old.items }
+        ensures opens { self.new.items ≡ opens_without number pass self.old.items }
     {
         let place = place_of(self.blocks.as_slice(), number, pass)?;
         self.count -= 1;
         Some(take_out(&mut self.blocks, place))
     }
 
-    /// Takes out the open of that number and pass, if a number is given and it stands.
+    /// Takes out the open of that number and pass, if a number is given and there is one.
     pub(crate) fn release_if(&mut self, number: Option<u32>, pass: u32)
-        ensures { self.new.items ≡ released_if number pass self.old.items }
+        ensures { self.new.items ≡ opens_without_if number pass self.old.items }
     {
         if let Some(number) = number {
             let _open = self.release(number, pass);
         }
     }
-}
-
-/// One more than so many opens, whose numbers all lie below this one: so it is no more than a
-/// number is.
-fn one_more(count: usize, number: u32) -> usize
-    requires { count ≤ number }
-    ensures { result ≡ count + 1 }
-{
-    count + 1
 }

@@ -10,8 +10,8 @@ ghost use Rattle.cs_tree_model.specs.Nexts.{entry_name};
 ghost use Rattle.cs_tree_model.specs.Tree.{IsTree, number_in};
 
 use cs_names::Name;
-use cs_permit::{entry_stat, stat_size};
-use cs_tree_model::{Entry, TreeRead, laws};
+use cs_permit::entry_stat;
+use cs_tree_model::{ListedEntry, TreeRead, laws};
 use cs_wire::StatRef;
 use std::alloc::{AllocError, Global};
 
@@ -23,11 +23,17 @@ pub struct Page<'a> {
     pub last: Option<&'a Name>,
 }
 
-/// What a stat tells of an entry of the directory, lent.
-fn stat_of_entry<'a, T: TreeRead>(tree: &'a T, directory: u64, entry: Entry<'a>) -> StatRef<'a>
+/// What a stat says of an entry of the directory, lent.
+// the tree finds the entry's file by its number: only the contract names the directory
+fn stat_of_entry<'a, T: TreeRead>(
+    tree: &'a T,
+    _directory: u64,
+    entry: ListedEntry<'a>,
+) -> StatRef<'a>
     requires is_tree { IsTree (T.tree tree.now) }
-    requires found { number_in (T.tree tree.now) directory (entry_name entry) ≡ Some entry.number }
-    ensures value { stat_in (T.tree tree.now) directory (entry_name entry.entry)
+    requires found { number_in (T.tree tree.now) _directory (entry_name entry)
+        ≡ Some entry.number }
+    ensures value { stat_in (T.tree tree.now) _directory (entry_name entry.entry)
         ≡ Some (fields_of result) }
     ensures fits { IsStat 600 (fields_of result) }
     ensures entry { IsEntry (fields_of result) }
@@ -56,7 +62,7 @@ pub(crate) fn read_page<'a, T: TreeRead>(
     let mut left = room;
     while let Some(entry) = tree.entry_after(directory, last, None) {
         let stat = stat_of_entry(tree, directory, entry);
-        let size = stat_size(&stat);
+        let size = stat.entry_length();
         if size > left {
             break;
         }

@@ -3,7 +3,7 @@ ghost use Rattle.std.specs.Prelude.{◌≡◌, ◌+◌, IfOk, OnErr, min, true};
 ghost use Rattle.cs_run.specs.Outcomes.{has_some};
 ghost use Rattle.cs_permit.specs.Rules.{is_directory, on_file};
 ghost use Rattle.std.specs.Option.{option_copied};
-ghost use Rattle.cs_run.specs.Pages.{end_after, entries_given, given, page_of, place_after};
+ghost use Rattle.cs_run.specs.Pages.{end_after, entries_given, data_read, page_of, place_after};
 ghost use Rattle.cs_tree_model.specs.Tree.{IsTree};
 
 use crate::answer::Data;
@@ -22,7 +22,7 @@ fn end_after(start: u64, count: usize) -> u64
     start.saturating_add(count as u64)
 }
 
-fn copied(name: Option<&Name>) -> Result<Option<Name>, AllocError>
+fn try_clone_name(name: Option<&Name>) -> Result<Option<Name>, AllocError>
     ensures { IfOk result (λ copy. copy ≡ option_copied name.entry) }
 {
     match name {
@@ -41,7 +41,7 @@ fn place_after(call: &ReadCall, page: &Page) -> Result<Option<Place>, AllocError
     }
     Ok(Some(Place {
         end: end_after(call.offset, page.bytes.len()),
-        last: copied(page.last)?,
+        last: try_clone_name(page.last)?,
     }))
 }
 
@@ -71,8 +71,8 @@ fn is_of_directory<T: TreeRead>(tree: &T, number: u64) -> bool
 /// Reads bytes of a file, or whole entries of a directory. Only bytes that are given take memory. A
 /// tree gives no bytes of a directory, so that a file is looked up once.
 pub fn read<T: TreeRead>(alloc: Global, call: &ReadCall, tree: &T) -> Result<Data, AllocError>
-    ensures value { IfOk result (λ read. read ≡ given (T.tree tree.now) call.now) }
-    ensures memory { OnErr result (has_some (given (T.tree tree.now) call.now).bytes ≡ true) }
+    ensures value { IfOk result (λ read. read ≡ data_read (T.tree tree.now) call.now) }
+    ensures memory { OnErr result (has_some (data_read (T.tree tree.now) call.now).bytes ≡ true) }
 {
     match tree.read_at(alloc, call.number, call.offset, call.count as usize)? {
         Some(bytes) => Ok(Data::new(bytes, None)),

@@ -1,29 +1,30 @@
 //! Removes (remove(5)).
-ghost use Rattle.std.specs.Prelude.{◌≡◌, IfOk, OnOk, OnErr};
+ghost use Rattle.std.specs.Prelude.{◌≡◌, IfOk, List, OnOk, OnErr};
 ghost use Rattle.cs_permit.specs.Refusals.{AllPass};
 ghost use Rattle.cs_permit.specs.Removes.{remove_rules};
-ghost use Rattle.cs_run.specs.Effects.{left, remove_effect, stamp};
-ghost use Rattle.cs_run.specs.Opens.{released_if};
-ghost use Rattle.cs_tree_model.specs.Stores.{CanStampParent, removed};
+ghost use Rattle.cs_run.specs.Effects.{call_result, remove_effect, stamp};
+ghost use Rattle.cs_run.specs.Opens.{opens_without_if};
+ghost use Rattle.cs_tree_model.specs.Stores.{CanStampParent, tree_without_file};
+ghost use Rattle.cs_users.specs.Rows.{Row};
 
 use crate::answer::Answer;
 use crate::opens::Opens;
 use crate::turn::{Turn, stamp_of};
 use cs_permit::{RemoveCall, laws};
 use cs_tree_model::TreeStore;
-use cs_users::Users;
 use std::alloc::{AllocError, Global};
 
 fn remove_file<T: TreeStore>(
     alloc: Global,
     call: &RemoveCall,
     tree: &mut T,
-    users: &Users,
     turn: Turn,
 ) -> Result<(), AllocError>
-    requires granted { AllPass (remove_rules (T.tree tree.old) users.now call.now) }
+    requires granted { (users : List Row)
+        × AllPass (remove_rules (T.tree tree.old) users call.now) }
     requires vers { CanStampParent (T.tree tree.old) call.now.number }
-    ensures ok { OnOk result (T.tree tree.new ≡ removed call.now.number (stamp turn call.now.user)
+    ensures ok { OnOk result
+        (T.tree tree.new ≡ tree_without_file call.now.number (stamp turn call.now.user)
         (T.tree tree.old)) }
     ensures err { OnErr result (T.tree tree.new ≡ T.tree tree.old) }
 {
@@ -32,7 +33,7 @@ fn remove_file<T: TreeStore>(
     tree.remove(alloc, call.number, stamp)
 }
 
-/// Removes a file. The fid's open, if it is open, is released also for want of memory, which leaves
+/// Removes a file. The fid's open, if it is open, is released even if memory runs out, which leaves
 /// the file.
 #[tactic(auto, unfolding(crate::specs::Effects::remove_effect))]
 pub fn act_remove<T: TreeStore>(
@@ -40,17 +41,17 @@ pub fn act_remove<T: TreeStore>(
     call: &RemoveCall,
     tree: &mut T,
     opens: &mut Opens,
-    users: &Users,
     turn: Turn,
 ) -> Result<Answer, AllocError>
-    requires granted { AllPass (remove_rules (T.tree tree.old) users.now call.now) }
+    requires granted { (users : List Row)
+        × AllPass (remove_rules (T.tree tree.old) users call.now) }
     requires vers { CanStampParent (T.tree tree.old) call.now.number }
-    ensures ok { IfOk result (λ answer. left (T.tree tree.new) opens.new.items answer
+    ensures ok { IfOk result (λ answer. call_result (T.tree tree.new) opens.new.items answer
         ≡ remove_effect (T.tree tree.old) opens.old.items turn call.now) }
     ensures err { OnErr result ((T.tree tree.new ≡ T.tree tree.old)
-        × (opens.new.items ≡ released_if call.now.open_number turn.pass opens.old.items)) }
+        × (opens.new.items ≡ opens_without_if call.now.open_number turn.pass opens.old.items)) }
 {
     opens.release_if(call.open_number, turn.pass);
-    remove_file(alloc, call, tree, users, turn)?;
+    remove_file(alloc, call, tree, turn)?;
     Ok(Answer::Removed)
 }

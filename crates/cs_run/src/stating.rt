@@ -8,7 +8,7 @@ use cs_permit::{StatCall, stat_ref};
 use cs_tree_model::TreeRead;
 use std::alloc::{AllocError, Global};
 
-/// Tells what a stat tells of a file.
+/// Answers what a stat says of a file.
 pub(crate) fn act_stat<T: TreeRead>(
     alloc: Global,
     call: &StatCall,

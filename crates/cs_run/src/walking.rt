@@ -1,17 +1,18 @@
 //! Walks (walk(5)).
 ghost use Rattle.std.specs.Option.{option_map};
-ghost use Rattle.std.specs.Prelude.{◌≡◌, ◌<◌, List, None, length, IfErr, IfOk, IsErrOf, OnErr, map, string_bytes};
+ghost use Rattle.std.specs.Prelude.{◌≡◌, ◌<◌, List, None, length, IfErr, IfOk, IsErrOf, OnErr, map};
+ghost use Rattle.std.specs.Prelude.{string_bytes};
 ghost use Rattle.cs_permit.specs.Calls.{rules_view};
 ghost use Rattle.cs_permit.specs.Refusals.{first_failing};
 ghost use Rattle.cs_permit.specs.Rules.{file_at};
 ghost use Rattle.cs_permit.specs.Walks.{walk_rules};
 ghost use Rattle.cs_permit.specs.declared.call.Call.TheVariants as c;
 ghost use Rattle.cs_permit.specs.declared.call.OpenFile.{OpenFile};
-ghost use Rattle.cs_run.specs.Effects.{left};
+ghost use Rattle.cs_run.specs.Effects.{call_result};
 ghost use Rattle.cs_run.specs.Outcomes.{IsOutcomeOf};
-ghost use Rattle.cs_run.specs.Walks.{way, way_asked};
+ghost use Rattle.cs_run.specs.Walks.{walk_from, walk_asked};
 ghost use Rattle.cs_run.specs.declared.turn.Turn.{Turn};
-ghost use Rattle.cs_tree_model.specs.Record.{lent};
+ghost use Rattle.cs_tree_model.specs.Record.{metadata_of_ref};
 
 use crate::answer::{Answer, Outcome, Walk};
 use cs_names::{RuleId, UserName};
@@ -21,7 +22,7 @@ use cs_users::Users;
 use cs_wire::Qid;
 use std::alloc::{AllocError, Global};
 
-/// The walk of these names from a file, of which the tree tells this.
+/// The walk of these names from a file whose record this is.
 // a record is large: out of line, it would be passed in memory
 #[inline(always)]
 fn walk_names<'a, T: TreeRead>(
@@ -33,8 +34,8 @@ fn walk_names<'a, T: TreeRead>(
     told: Option<Metadata<'a>>,
     names: &[String],
 ) -> Result<Walk, AllocError>
-    requires { option_map lent told ≡ file_at (T.tree tree.now) start }
-    ensures value { IfOk result (λ walk. walk ≡ way (T.tree tree.now) users.now user.now start
+    requires { option_map metadata_of_ref told ≡ file_at (T.tree tree.now) start }
+    ensures value { IfOk result (λ walk. walk ≡ walk_from (T.tree tree.now) users.now user.now start
         (map string_bytes names.now)) }
     ensures memory { OnErr result (0 < length names.now) }
 {
@@ -54,7 +55,7 @@ fn walk_names<'a, T: TreeRead>(
     Ok(Walk::new(qids, None, last))
 }
 
-/// The walk that a call asks for, from its file, of which the tree tells this.
+/// The walk that a call asks for, from its file, whose record this is.
 // for the same reason
 #[inline(always)]
 fn walk_from<'a, T: TreeRead>(
@@ -64,8 +65,8 @@ fn walk_from<'a, T: TreeRead>(
     users: &Users,
     told: Option<Metadata<'a>>,
 ) -> Result<Walk, AllocError>
-    requires { option_map lent told ≡ file_at (T.tree tree.now) call.now.number }
-    ensures value { IfOk result (λ walk. walk ≡ way_asked (T.tree tree.now) users.now call.now) }
+    requires { option_map metadata_of_ref told ≡ file_at (T.tree tree.now) call.now.number }
+    ensures value { IfOk result (λ walk. walk ≡ walk_asked (T.tree tree.now) users.now call.now) }
     ensures memory { OnErr result (0 < length call.now.names) }
 {
     walk_names(
@@ -89,14 +90,14 @@ pub fn walk<T: TreeRead>(
     tree: &T,
     users: &Users,
 ) -> Result<Walk, AllocError>
-    ensures value { IfOk result (λ walk. walk ≡ way_asked (T.tree tree.now) users.now call.now) }
+    ensures value { IfOk result (λ walk. walk ≡ walk_asked (T.tree tree.now) users.now call.now) }
     ensures memory { OnErr result (0 < length call.now.names) }
 {
     walk_from(alloc, call, tree, users, tree.record(call.number))
 }
 
-/// The walk that a call asks for. Else the first rule that denies it; or None, where none does and
-/// memory is wanting.
+/// The walk that a call asks for. Else the first rule that denies it, or None if none does and
+/// memory runs out.
 fn walk_allowed<T: TreeRead>(
     alloc: Global,
     call: &WalkCall,
@@ -105,7 +106,7 @@ fn walk_allowed<T: TreeRead>(
 ) -> Result<Walk, Option<RuleId>>
     ensures ok { IfOk result (λ walk.
         (first_failing (walk_rules (T.tree tree.now) users.now call.now) ≡ None)
-        × (walk ≡ way_asked (T.tree tree.now) users.now call.now)) }
+        × (walk ≡ walk_asked (T.tree tree.now) users.now call.now)) }
     ensures err { IfErr result (λ first.
         first ≡ first_failing (walk_rules (T.tree tree.now) users.now call.now)) }
     ensures memory { IsErrOf result None → 0 < length call.now.names }
@@ -136,7 +137,7 @@ pub fn act_walk<T: TreeRead>(
 ) -> (Outcome, Answer)
     ensures { (opens : List OpenFile) (turn : Turn)
         → IsOutcomeOf (rules_view (T.tree tree.now) opens users.now) turn (c.Walk call.now)
-        result.0 (left (T.tree tree.now) opens result.1) }
+        result.0 (call_result (T.tree tree.now) opens result.1) }
 {
     match walk_allowed(alloc, call, tree, users) {
         Ok(walk) => (Outcome::Granted, Answer::Walked(walk)),

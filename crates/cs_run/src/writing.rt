@@ -1,20 +1,18 @@
 //! Writes (read(5)).
-ghost use Rattle.std.specs.Prelude.{◌≡◌, ◌<◌, ◌^◌, IfOk, IfSome, OnOk, OnErr, is_some, true};
+ghost use Rattle.std.specs.Prelude.{◌≡◌, ◌<◌, ◌^◌, IfOk, IfSome, List, OnOk, OnErr, is_some, true};
 ghost use Rattle.cs_permit.specs.Refusals.{AllPass};
 ghost use Rattle.cs_permit.specs.Writes.{write_rules, write_start};
-ghost use Rattle.cs_run.specs.Effects.{left, write_effect, writes, written_tree};
+ghost use Rattle.cs_permit.specs.declared.call.OpenFile.{OpenFile};
+ghost use Rattle.cs_run.specs.Effects.{call_result, write_effect, writes, written_tree};
 ghost use Rattle.cs_tree_model.specs.Stores.{CanStamp};
 
 use crate::answer::Answer;
-use crate::opens::Opens;
 use crate::turn::{Turn, stamp_of};
-use cs_permit::WriteCall;
-use cs_permit::rules::is_append_only;
+use cs_permit::{WriteCall, write_start};
 use cs_tree_model::{Kind, TreeRead, TreeStore};
 use std::alloc::{AllocError, Global};
 
-/// Where the write begins: at the end of an append-only file, and else at the offset. None of a
-/// write that puts no byte.
+/// Where the write begins; None if it puts no byte.
 fn start_of_write<T: TreeRead>(tree: &T, call: &WriteCall<'_>) -> Option<u64>
     ensures writes { is_some result ≡ writes (T.tree tree.now) call.now }
     ensures start { IfSome result (λ start. start ≡ write_start (T.tree tree.now) call.now) }
@@ -25,8 +23,7 @@ fn start_of_write<T: TreeRead>(tree: &T, call: &WriteCall<'_>) -> Option<u64>
     let file = tree.record(call.number)?;
     match file.kind {
         Kind::Directory => None,
-        Kind::File { length } if is_append_only(&file) => Some(length),
-        Kind::File { .. } => Some(call.offset),
+        Kind::File { .. } => Some(write_start(call, &file)),
     }
 }
 
@@ -50,19 +47,19 @@ fn write_bytes<T: TreeStore>(
     tree.write_at(alloc, call.number, start, call.bytes.as_slice(), stamp)
 }
 
-/// Writes, and tells how many bytes.
+/// Writes, and answers how many bytes.
 #[tactic(auto, unfolding(crate::specs::Effects::write_effect))]
 pub fn act_write<T: TreeStore>(
     alloc: Global,
     call: &WriteCall<'_>,
     tree: &mut T,
-    opens: &Opens,
     turn: Turn,
 ) -> Result<Answer, AllocError>
     requires granted { AllPass (write_rules (T.tree tree.old) call.now) }
     requires vers { CanStamp (T.tree tree.old) call.now.number }
-    ensures ok { IfOk result (λ answer. left (T.tree tree.new) opens.now.items answer
-        ≡ write_effect (T.tree tree.old) opens.now.items turn call.now) }
+    ensures ok { (opens : List OpenFile) → IfOk result (λ answer.
+        call_result (T.tree tree.new) opens answer
+        ≡ write_effect (T.tree tree.old) opens turn call.now) }
     ensures memory { OnErr result (writes (T.tree tree.old) call.now ≡ true) }
     ensures err { OnErr result (T.tree tree.new ≡ T.tree tree.old) }
 {

@@ -1,23 +1,24 @@
 //! Wstats (stat(5)).
-ghost use Rattle.std.specs.Prelude.{◌≡◌, ℕ, IfOk, OnOk, OnErr, Some, false, is_some, true};
+ghost use Rattle.std.specs.Prelude.{◌≡◌, ℕ, IfOk, List, OnOk, OnErr, Some, false, is_some, true};
 ghost use Rattle.std.specs.Option.{option_map_or};
 ghost use Rattle.cs_permit.specs.Changes.{new_group, new_name};
 ghost use Rattle.cs_permit.specs.Refusals.{AllPass};
 ghost use Rattle.cs_permit.specs.Wstats.{wstat_rules};
-ghost use Rattle.cs_run.specs.Effects.{change_asked, change_of, changed_by, changes_some, left, wstat_effect};
-ghost use Rattle.cs_tree_model.specs.Record.{lent};
+ghost use Rattle.cs_permit.specs.declared.call.OpenFile.{OpenFile};
+ghost use Rattle.cs_run.specs.Effects.{change_asked, change_of, changed_by, changes_some};
+ghost use Rattle.cs_run.specs.Effects.{call_result, wstat_effect};
+ghost use Rattle.cs_tree_model.specs.Record.{metadata_of_ref};
 ghost use Rattle.cs_tree_model.specs.Stores.{CanStamp};
+ghost use Rattle.cs_users.specs.Rows.{Row};
 
 use crate::answer::Answer;
-use crate::opens::Opens;
 use crate::turn::{Turn, stamp_of};
 use cs_names::{Name, UserName};
 use cs_permit::{WstatCall, new_group, new_length, new_mode, new_mtime, new_name};
 use cs_tree_model::{Change, Metadata, TreeRead, TreeStore};
-use cs_users::Users;
 use std::alloc::{AllocError, Global};
 
-/// The new name, if the wstat has one. A legal one is refused for nothing but want of memory.
+/// The new name, if the wstat has one. It is legal, so it is refused only if memory runs out.
 fn name_asked<T: TreeRead>(
     alloc: Global,
     tree: &T,
@@ -35,14 +36,14 @@ fn name_asked<T: TreeRead>(
     }
 }
 
-/// The new group, if the wstat has one. A known one is refused for nothing but want of memory.
+/// The new group, if the wstat has one. It is known, so it is refused only if memory runs out.
 fn group_asked(
     alloc: Global,
     call: &WstatCall,
     file: &Metadata,
 ) -> Result<Option<UserName>, AllocError>
-    ensures value { IfOk result (λ group. group ≡ new_group call.now (lent file.now)) }
-    ensures memory { OnErr result (is_some (new_group call.now (lent file.now)) ≡ true) }
+    ensures value { IfOk result (λ group. group ≡ new_group call.now (metadata_of_ref file.now)) }
+    ensures memory { OnErr result (is_some (new_group call.now (metadata_of_ref file.now)) ≡ true) }
 {
     let Some(group) = new_group(call, file) else {
         return Ok(None);
@@ -61,9 +62,9 @@ fn change_of<T: TreeRead>(
     file: &Metadata,
 ) -> Result<Change, AllocError>
     ensures value { IfOk result (λ change. change ≡ change_of (T.tree tree.now) call.now
-        (lent file.now)) }
+        (metadata_of_ref file.now)) }
     ensures memory { OnErr result (changes_some (change_of (T.tree tree.now) call.now
-        (lent file.now)) ≡ true) }
+        (metadata_of_ref file.now)) ≡ true) }
 {
     let name = name_asked(alloc, tree, call)?;
     let group = group_asked(alloc, call, file)?;
@@ -107,11 +108,11 @@ fn change_by<T: TreeStore>(
     alloc: Global,
     call: &WstatCall,
     tree: &mut T,
-    users: &Users,
     change: &Change,
     turn: Turn,
 ) -> Result<(), AllocError>
-    requires granted { AllPass (wstat_rules (T.tree tree.old) users.now call.now) }
+    requires granted { (users : List Row)
+        × AllPass (wstat_rules (T.tree tree.old) users call.now) }
     requires asked { change_asked (T.tree tree.old) call.now ≡ Some change.now }
     requires vers { (n : ℕ) → CanStamp (T.tree tree.old) n }
     ensures ok { OnOk result (T.tree tree.new ≡ changed_by
@@ -126,26 +127,26 @@ fn change_by<T: TreeStore>(
     tree.change(alloc, call.number, change, stamp)
 }
 
-/// Gives a file the fields that are new: all of them, or after want of memory none.
+/// Gives a file the fields that are new: all of them, or none if memory runs out.
 #[tactic(auto, unfolding(crate::specs::Effects::wstat_effect))]
 pub fn act_wstat<T: TreeStore>(
     alloc: Global,
     call: &WstatCall,
     tree: &mut T,
-    opens: &Opens,
-    users: &Users,
     turn: Turn,
 ) -> Result<Answer, AllocError>
-    requires granted { AllPass (wstat_rules (T.tree tree.old) users.now call.now) }
+    requires granted { (users : List Row)
+        × AllPass (wstat_rules (T.tree tree.old) users call.now) }
     requires vers { (n : ℕ) → CanStamp (T.tree tree.old) n }
-    ensures ok { IfOk result (λ answer. left (T.tree tree.new) opens.now.items answer
-        ≡ wstat_effect (T.tree tree.old) opens.now.items turn call.now) }
+    ensures ok { (opens : List OpenFile) → IfOk result (λ answer.
+        call_result (T.tree tree.new) opens answer
+        ≡ wstat_effect (T.tree tree.old) opens turn call.now) }
     ensures memory { OnErr result (option_map_or changes_some
         (change_asked (T.tree tree.old) call.now) false ≡ true) }
     ensures err { OnErr result (T.tree tree.new ≡ T.tree tree.old) }
 {
     if let Some(change) = change_asked(alloc, tree, call)? {
-        change_by(alloc, call, tree, users, &change, turn)?;
+        change_by(alloc, call, tree, &change, turn)?;
     }
     Ok(Answer::Changed)
 }

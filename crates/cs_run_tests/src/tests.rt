@@ -6,6 +6,7 @@ mod audits;
 mod blocks;
 mod copies;
 mod directories;
+mod endings;
 mod files;
 mod journals;
 mod registries;

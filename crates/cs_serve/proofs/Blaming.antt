@@ -1,9 +1,10 @@
 -- What a fault blames, over several calls.
-use Rattle.cs_session.specs.declared.stream.Counts.{Counts}
-use Rattle.cs_session.specs.Streams.{KeepsFaults}
-use Rattle.cs_session.proofs.Counting.{blames_writes}
+use Rattle.cs_stream.specs.declared.stream.Counts.{Counts}
+use Rattle.cs_stream.specs.Streams.{KeepsFaults}
+use Rattle.cs_stream.proofs.Counting.{blames_writes}
 use Rattle.cs_serve.specs.declared.fault.ProgramFault.{ProgramFault}
-use Rattle.cs_serve.specs.declared.fault.ProgramFault.TheVariants.{TraceNotText, Trace, Users, Picks, Scene, Script, Listen, Publishing, Input, Output, Memory}
+use Rattle.cs_serve.specs.declared.fault.ProgramFault.TheVariants.{TraceNotText, Trace, Users, Picks, Scene, Script, Listen, Publishing}
+use Rattle.cs_serve.specs.declared.fault.ProgramFault.TheVariants.{Input, Output, Memory}
 use Rattle.cs_serve.specs.Written.{Blames, BlamesOutput, IsOfNoStream}
 
 -- a fault of no stream blames none

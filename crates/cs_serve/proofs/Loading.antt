@@ -14,14 +14,18 @@ use Rattle.cs_world.specs.declared.reply.Reply.TheVariants.{NotReloaded, Reloade
 use Rattle.cs_world.specs.declared.step.Step.TheVariants.{Reload}
 
 not_taken : (w w' : World) (users : List Row) (reply : Reply) (refused : Bool)
-    → (reply, w') ≡ by_registry w (cond refused (NotReloaded, w.registry) (Reloaded, with_users w.registry users)) → (reply ≡ Reloaded → ⊥) → reply ≡ NotReloaded
+    → (reply, w') ≡ by_registry w (cond refused (NotReloaded, w.registry) (Reloaded, with_users w.registry users)) → (reply ≡ Reloaded → ⊥)
+    → reply ≡ NotReloaded
 not_taken w w' users reply true e not = ap (λ (x : Reply × World). x.0) e
 not_taken w w' users reply false e not = absurd (not (ap (λ (x : Reply × World). x.0) e))
 
-pub taken : (w w' : World) (file : List ℕ) (users : List Row) (reply : Reply) → users_in file ≡ Ok users → IsStep w (Reload users) reply w' → reply ≡ Reloaded → Loaded w file reloaded_text w'
+pub taken : (w w' : World) (file : List ℕ) (users : List Row) (reply : Reply) → users_in file ≡ Ok users → IsStep w (Reload users) reply w'
+    → reply ≡ Reloaded → Loaded w file reloaded_text w'
 taken w w' file users reply read step is = Taken users read (subst (λ (r : Reply). IsStep w (Reload users) r w') is step) refl
 
 -- where users aren't taken, they aren't kept
-pub not_kept : (w w' : World) (file : List ℕ) (users : List Row) (reply : Reply) → users_in file ≡ Ok users → IsStep w (Reload users) reply w' → (reply ≡ Reloaded → ⊥) → Loaded w file (refused_text Memory) w'
+pub not_kept : (w w' : World) (file : List ℕ) (users : List Row) (reply : Reply) → users_in file ≡ Ok users
+    → IsStep w (Reload users) reply w' → (reply ≡ Reloaded → ⊥) → Loaded w file (refused_text Memory) w'
 not_kept w w' file users reply read step not =
-    NotKept users read (subst (λ (r : Reply). IsStep w (Reload users) r w') (not_taken w w' users reply (refuses_users step.0) step.1 not) step) refl
+    NotKept users read
+    (subst (λ (r : Reply). IsStep w (Reload users) r w') (not_taken w w' users reply (refuses_users step.0) step.1 not) step) refl

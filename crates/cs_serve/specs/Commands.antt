@@ -18,7 +18,7 @@ use Rattle.cs_serve.specs.declared.script.ScriptLine.{ScriptLine}
 use Rattle.cs_serve.specs.Printed.{PrintsAll}
 use Rattle.cs_registry.specs.Publishing.{with_published}
 use Rattle.cs_serve.specs.Scripts.{script_in}
-use Rattle.cs_session.specs.Streams.{AppendsFront}
+use Rattle.cs_stream.specs.Streams.{AppendsFront}
 
 -- the scene is that of the trace, with holes where they are asked for, and the picks
 pub record IsScene (inputs : Inputs) (scene : Scene) : Type 0 where
@@ -66,14 +66,14 @@ pub record Begins (inputs : Inputs) (came left : Option (List ℕ)) (w : World)
   pub reads : script_in bytes ≡ Ok lines
 
 -- lines lead there, and what they print was written
-pub record Ran (w : World) (lines : List ScriptLine) (old new : Option (List ℕ)) (w' : World)
+pub record RanTo (w : World) (lines : List ScriptLine) (old new : Option (List ℕ)) (w' : World)
     : Type 0 where
   pub text : List ℕ
   pub prints : PrintsAll w lines text w'
   pub written : Appends old new text
 
 -- the first lines lead there, and of what they print some was written, from the front
-pub record Stopped (w : World) (lines : List ScriptLine) (old new : Option (List ℕ)) (w' : World)
+pub record StoppedAt (w : World) (lines : List ScriptLine) (old new : Option (List ℕ)) (w' : World)
     : Type 0 where
   pub run : List ScriptLine
   pub unrun : List ScriptLine
@@ -87,7 +87,7 @@ pub record Stopped (w : World) (lines : List ScriptLine) (old new : Option (List
 abbrev pub Scripts : {E : Type 0} → Inputs → Result (Unit {0}) E → Option (List ℕ) → Option (List ℕ)
     → Option (List ℕ) → Option (List ℕ) → Type 0
 Scripts inputs (Ok done) came left old new = (w w' : World) × (lines : List ScriptLine)
-    × Begins inputs came left w lines × Ran w lines old new w'
+    × Begins inputs came left w lines × RanTo w lines old new w'
 Scripts inputs (Err fault) came left old new = Keeps old new
     ⊎ ((w w' : World) × (lines : List ScriptLine)
-    × Begins inputs came left w lines × Stopped w lines old new w')
+    × Begins inputs came left w lines × StoppedAt w lines old new w')

@@ -16,7 +16,7 @@ use Rattle.cs_users.specs.declared.fault.UsersFault.TheVariants.{Memory}
 use Rattle.cs_wire.specs.Messages.{Message, replies, spelling}
 use Rattle.cs_world.specs.Asking.{IsGiven}
 use Rattle.cs_world.specs.Steps.{IsStep}
-use Rattle.cs_world.specs.Worlds.{World, connection}
+use Rattle.cs_world.specs.Worlds.{World, session_at}
 use Rattle.cs_world.specs.declared.reply.Reply.TheVariants.{Reloaded, NotReloaded}
 use Rattle.cs_world.specs.declared.step.Step.TheVariants.{Reload as Loads}
 use Rattle.cs_serve.specs.declared.script.Action.{Action}
@@ -45,18 +45,18 @@ refused_text fault = codes "reload refused: " ++ (fault_text fault ++ codes "\n"
 -- awaits its attach
 pub record Replies (w : World) (conn now : ℕ) (message : List ℕ) (reply : Message replies)
     (w' : World) : Type 0 where
-  pub replied : (connection w conn).awaited ≡ None → IsReplied IsGiven now message
-      (connection w conn) w.registry reply (connection w' conn) w'.registry
-  pub out_of_turn : (connection w conn).awaited ≢ None
+  pub replied : (session_at w conn).awaited ≡ None → IsReplied IsGiven now message
+      (session_at w conn) w.registry reply (session_at w' conn) w'.registry
+  pub out_of_turn : (session_at w conn).awaited ≢ None
       → (reply ≡ wire_of (tag_in message) (Error S5)) × (w' ≡ w)
-  pub others : w'.connections ≡ slice_set w.connections conn (connection w' conn)
+  pub others : w'.connections ≡ slice_set w.connections conn (session_at w' conn)
 
 -- a connection was hung up; nothing changes while a run awaits its attach
 pub record Closes (w : World) (conn now : ℕ) (w' : World) : Type 0 where
-  pub closed : (connection w conn).awaited ≡ None → IsAnswered IsGiven now Ends
-      (connection w conn) w.registry Closed (connection w' conn) w'.registry
-  pub out_of_turn : (connection w conn).awaited ≢ None → w' ≡ w
-  pub others : w'.connections ≡ slice_set w.connections conn (connection w' conn)
+  pub closed : (session_at w conn).awaited ≡ None → IsAnswered IsGiven now Ends
+      (session_at w conn) w.registry Closed (session_at w' conn) w'.registry
+  pub out_of_turn : (session_at w conn).awaited ≢ None → w' ≡ w
+  pub others : w'.connections ≡ slice_set w.connections conn (session_at w' conn)
 
 -- what a connection does leads there, and this is printed
 abbrev pub Acts : World → ℕ → ℕ → Action → List ℕ → World → Type 0

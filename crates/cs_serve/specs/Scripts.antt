@@ -25,12 +25,12 @@ abbrev pub is_decimal : List ℕ → Bool
 is_decimal text = nat_lt 0 (length text) && list_all is_ascii_digit text
 
 -- what fits 32 bits
-abbrev pub small : ℕ → Option ℕ
-small number = if nat_lt number (2 ^ 32) then Some number else None
+abbrev pub number_of_32_bits : ℕ → Option ℕ
+number_of_32_bits number = if nat_lt number (2 ^ 32) then Some number else None
 
 -- a number of 32 bits, of digits alone
 abbrev pub number_in : List ℕ → Option ℕ
-number_in text = if is_decimal text then small (digits_value 10 text) else None
+number_in text = if is_decimal text then number_of_32_bits (digits_value 10 text) else None
 
 -- the number of a connection
 abbrev pub conn_in : List ℕ → Option ℕ
@@ -85,15 +85,15 @@ line_at number text = if nat_le number SCRIPT_LINES then line_in text else None
 -- ---- the script
 
 -- lines in front of others, if there is no fault
-abbrev pub behind : List ScriptLine → Result (List ScriptLine) ProgramFault
+abbrev pub with_lines_first : List ScriptLine → Result (List ScriptLine) ProgramFault
     → Result (List ScriptLine) ProgramFault
-behind lines (Ok others) = Ok (lines ++ others)
-behind lines (Err fault) = Err fault
+with_lines_first lines (Ok others) = Ok (lines ++ others)
+with_lines_first lines (Err fault) = Err fault
 
 abbrev pub with_line : ℕ → Option ScriptLine → Result (List ScriptLine) ProgramFault
     → Result (List ScriptLine) ProgramFault
 with_line number None later = Err (Script number)
-with_line number (Some line) later = behind (line ∷ []) later
+with_line number (Some line) later = with_lines_first (line ∷ []) later
 
 -- the lines that texts spell, of which the first has the number; or the number of the first that
 -- spells none

@@ -1,8 +1,8 @@
 -- What was written of a text, and what a fault blames.
 use Rattle.std.specs.Prelude.{ℕ, List, ⊤, Option, Result, Ok, Err}
 use Rattle.std.specs.Io.KnownBytes.{Appends}
-use Rattle.cs_session.specs.declared.stream.Counts.{Counts}
-use Rattle.cs_session.specs.Streams.{AppendsFront, BlamesReads, BlamesWrites}
+use Rattle.cs_stream.specs.declared.stream.Counts.{Counts}
+use Rattle.cs_stream.specs.Streams.{AppendsFront, BlamesReads, BlamesWrites}
 use Rattle.cs_serve.specs.declared.fault.ProgramFault.{ProgramFault}
 use Rattle.cs_serve.specs.declared.fault.ProgramFault.TheVariants.{Input, Output}
 

@@ -2,13 +2,13 @@
 ghost use Rattle.std.specs.Prelude.{◌≤◌, IfErr};
 ghost use Rattle.cs_serve.specs.Commands.{Lists};
 ghost use Rattle.cs_serve.specs.Written.{BlamesOutput};
-ghost use Rattle.cs_session.specs.Streams.{KeepsReads};
+ghost use Rattle.cs_stream.specs.Streams.{KeepsReads};
 
 use crate::ending::ended;
 use crate::fault::ProgramFault;
 use crate::inputs::{Inputs, scene_of};
 use crate::printing::print;
-use cs_session::{Stream, TwoEnded};
+use cs_stream::{Stream, TwoEnded};
 use std::alloc::Global;
 use std::io::Write;
 

@@ -1,14 +1,14 @@
 //! Lines of a script's output, and how a text is written.
 ghost use Rattle.std.specs.Prelude.{◌≡◌, IfErr, IfOk, string_bytes};
 ghost use Rattle.cs_wire.specs.Messages.{Fits, r_view};
-ghost use Rattle.cs_session.specs.Streams.{KeepsFaults, KeepsReads};
+ghost use Rattle.cs_stream.specs.Streams.{KeepsFaults, KeepsReads};
 ghost use Rattle.cs_serve.specs.Printed.{closed_text, refused_text, reloaded_text, reply_text};
 ghost use Rattle.cs_serve.specs.Written.{BlamesOutput, Writes};
 
 use crate::fault::ProgramFault;
-use cs_session::{Stream, TwoEnded, write_all};
+use cs_stream::{Stream, TwoEnded, write_all};
 use cs_users::UsersFault;
-use cs_wire::{RMessage, encode};
+use cs_wire::{RMessage, encode_reply};
 use std::alloc::{AllocError, Global};
 use std::io::Write;
 
@@ -18,7 +18,7 @@ pub(crate) fn reply_text(alloc: Global, conn: u32, reply: &RMessage) -> Result<S
     ensures { IfOk result (λ text. string_bytes text ≡ reply_text conn (r_view reply.now)) }
 {
     let mut bytes = Vec::new(alloc);
-    encode(reply, &mut bytes)?;
+    encode_reply(reply, &mut bytes)?;
     let digits = hex::encode(alloc, bytes.as_slice())?;
     format!(in alloc; "{conn} {digits}\n")
 }

@@ -1,7 +1,7 @@
 //! The command `script`, after its files were read.
 ghost use Rattle.std.specs.Prelude.{◌≡◌, ◌≤◌, IfErr, IfOk};
 ghost use Rattle.cs_names.specs.declared.limits.TheConstants.{CONNECTION_READS};
-ghost use Rattle.cs_session.specs.Streams.{KeepsFaults, up};
+ghost use Rattle.cs_stream.specs.Streams.{KeepsFaults, saturating_sum};
 ghost use Rattle.cs_serve.specs.Commands.{Begins, Scripts};
 ghost use Rattle.cs_serve.specs.Written.{Blames};
 
@@ -12,7 +12,7 @@ use crate::publishing::world_of;
 use crate::reading::read_all;
 use crate::running::run_lines;
 use crate::script::{ScriptLine, read_script};
-use cs_session::{Stream, TwoEnded};
+use cs_stream::{Stream, TwoEnded};
 use cs_world::World;
 use std::alloc::Global;
 use std::io::{Read, Write};
@@ -36,7 +36,7 @@ fn prepare<S: Stream>(
     ensures fault { IfErr result (Blames (S.counts stream.old) (S.counts stream.new)) }
     ensures faults { KeepsFaults (S.counts stream.old) (S.counts stream.new) }
     ensures bounded { (S.counts stream.new).reads
-        ≤ up CONNECTION_READS (S.counts stream.old).reads }
+        ≤ saturating_sum CONNECTION_READS (S.counts stream.old).reads }
 {
     let scene = scene_of(alloc, inputs)?;
     let users = users_of(alloc, inputs.users)?;
@@ -61,7 +61,7 @@ pub fn script_over<S: Stream, E: Write>(
         (S.contents stream.old) (S.contents stream.new) }
     ensures fault { IfErr result (Blames (S.counts stream.old) (S.counts stream.new)) }
     ensures bounded { (S.counts stream.new).reads
-        ≤ up CONNECTION_READS (S.counts stream.old).reads }
+        ≤ saturating_sum CONNECTION_READS (S.counts stream.old).reads }
 {
     let Prepared { mut world, lines } = prepare(alloc, inputs, stream)?;
     run_lines(

@@ -2,12 +2,12 @@
 ghost use Rattle.std.specs.Prelude.{◌≡◌, ◌≤◌, IfErr, IfOk, OnOk};
 ghost use Rattle.std.specs.Io.KnownBytes.{Consumes, IsAtEnd};
 ghost use Rattle.cs_names.specs.declared.limits.TheConstants.{CONNECTION_READS};
-ghost use Rattle.cs_session.specs.Streams.{KeepsFaults, up};
+ghost use Rattle.cs_stream.specs.Streams.{KeepsFaults, saturating_sum};
 ghost use Rattle.cs_serve.specs.Written.{Blames};
 
 use crate::fault::ProgramFault;
 use cs_names::limits::{CONNECTION_READS, INTERRUPTIONS};
-use cs_session::{Stream, Transfer};
+use cs_stream::{Stream, Transfer};
 use std::alloc::Global;
 
 /// How many bytes are read at once.
@@ -24,7 +24,7 @@ pub(crate) fn read_all<S: Stream>(alloc: Global, stream: &mut S) -> Result<Vec<u
     ensures fault { IfErr result (Blames (S.counts stream.old) (S.counts stream.new)) }
     ensures faults { KeepsFaults (S.counts stream.old) (S.counts stream.new) }
     ensures bounded { (S.counts stream.new).reads
-        ≤ up CONNECTION_READS (S.counts stream.old).reads }
+        ≤ saturating_sum CONNECTION_READS (S.counts stream.old).reads }
 {
     let mut bytes = Vec::new(alloc);
     let Ok(mut room) = vec![in alloc; 0u8; ROOM] else {

@@ -2,20 +2,20 @@
 ghost use Rattle.std.specs.Prelude.{◌≡◌, ◌<◌, ◌≤◌, ℕ, IfErr, IfOk, length, List, Ok, OnErr, OnOk};
 ghost use Rattle.std.specs.Prelude.{string_bytes};
 ghost use Rattle.cs_names.specs.declared.limits.TheConstants.{CONNECTIONS};
-ghost use Rattle.cs_serve.specs.Commands.{Ran, Stopped};
+ghost use Rattle.cs_serve.specs.Commands.{RanTo, StoppedAt};
 ghost use Rattle.cs_serve.specs.Printed.{Acts, Loaded, Prints};
 ghost use Rattle.cs_serve.specs.Written.{BlamesOutput, Writes};
 ghost use Rattle.cs_serve.specs.declared.script.Action.TheVariants.{HangUp, Send};
-ghost use Rattle.cs_session.specs.Streams.{KeepsFaults, KeepsReads};
+ghost use Rattle.cs_stream.specs.Streams.{KeepsFaults, KeepsReads};
 ghost use Rattle.cs_users.specs.Reading.{users_in};
 
 use crate::fault::ProgramFault;
 use crate::printing::{closed_text, print, refused_text, reloaded_text, reply_text};
 use crate::script::{Action, ScriptAct, ScriptLine};
 use crate::telling::tell;
-use cs_session::Stream;
+use cs_stream::Stream;
 use cs_users::{Users, UsersFault};
-use cs_wire::{RMessage, decode};
+use cs_wire::{RMessage, decode_request};
 use cs_world::{Reply, Step, World};
 use std::alloc::{AllocError, Global};
 use std::io::Write;
@@ -30,7 +30,7 @@ fn tell_if<E: Write>(
     err: &mut E,
 ) {
     if verbose {
-        tell(conn, &decode(alloc, message), &Ok(reply), err);
+        tell(conn, &decode_request(alloc, message), &Ok(reply), err);
     }
 }
 
@@ -168,9 +168,9 @@ pub(crate) fn run_lines<S: Stream, E: Write>(
     verbose: bool,
     err: &mut E,
 ) -> Result<(), ProgramFault>
-    ensures ran { OnOk result (Ran world.old lines.now (S.contents stream.old)
+    ensures ran { OnOk result (RanTo world.old lines.now (S.contents stream.old)
         (S.contents stream.new) world.new) }
-    ensures stopped { OnErr result (Stopped world.old lines.now (S.contents stream.old)
+    ensures stopped { OnErr result (StoppedAt world.old lines.now (S.contents stream.old)
         (S.contents stream.new) world.new) }
     ensures fault { IfErr result (BlamesOutput (S.counts stream.old) (S.counts stream.new)) }
     ensures faults { KeepsFaults (S.counts stream.old) (S.counts stream.new) }

@@ -1,4 +1,5 @@
-//! Worked examples of connections over the start tree, of a world's steps, and of many connections at once.
+//! Worked examples of connections over the start tree, of a world's steps, and of many connections
+//! at once.
 
 mod audits;
 mod bounds;

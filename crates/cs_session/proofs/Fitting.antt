@@ -1,5 +1,6 @@
 -- Each kind of reply fits the room of its session.
-use Rattle.std.proofs.Common.{◌≡◌, ℕ, zero, suc, ◌+◌, ◌-◌, ◌*◌, ◌≤◌, ◌<◌, ◌^◌, true, false, List, [], ◌∷◌, ◌++◌, length, map, Option, refl, arith, lit≤, lit<}
+use Rattle.std.proofs.Common.{◌≡◌, ℕ, zero, suc, ◌+◌, ◌-◌, ◌*◌, ◌≤◌, ◌<◌, ◌^◌, true, false, List, [], ◌∷◌, ◌++◌, length, map, Option, refl}
+use Rattle.std.proofs.Common.{arith, lit≤, lit<}
 use Rattle.std.specs.Prelude.{◌==◌, IfOk, None, Some, unwrap_or, slice_index, Vec}
 use Rattle.std.specs.Global.{Global}
 use Rattle.std.specs.Cow.{cow_str_bytes}
@@ -15,7 +16,7 @@ use Rattle.cs_names.specs.Rules.{is_printable}
 use Rattle.cs_wire.specs.declared.message.Qid.{Qid}
 use Rattle.cs_wire.specs.declared.message.RBody.{RBody}
 use Rattle.cs_wire.specs.declared.message.RBody.TheVariants as r
-use Rattle.cs_wire.specs.Fields.{Text, Raw, Several, Four, Value, spelled, IsIn, ◌▸◌}
+use Rattle.cs_wire.specs.Fields.{Text, Raw, Several, Four, Value, bytes_of_field, IsIn, ◌▸◌}
 use Rattle.cs_wire.specs.declared.message.TBody.{TBody}
 use Rattle.cs_wire.specs.declared.message.TBody.TheVariants as t
 use Rattle.cs_wire.specs.Messages.{FieldsFit, Message, fields_of, qid_of, qid_shape, r_view, replies, t_view}
@@ -28,36 +29,49 @@ use Rattle.cs_session.specs.Receiving.{message_in}
 
 -- ---- how many bytes the fields of a reply have
 
-pub qid_length : (q : Value qid_shape) → length (spelled qid_shape q) ≡ 13
-unfolding spelled
+pub qid_length : (q : Value qid_shape) → length (bytes_of_field qid_shape q) ≡ 13
+unfolding bytes_of_field
 qid_length q = refl
 
-qids_length : (qids : List Qid) → length (flat_map (spelled qid_shape) (map qid_of qids)) ≡ 13 * length qids
+qids_length : (qids : List Qid) → length (flat_map (bytes_of_field qid_shape) (map qid_of qids)) ≡ 13 * length qids
 qids_length [] = refl
-qids_length (q ∷ qids) = omega (arith, length-append (spelled qid_shape (qid_of q)) (flat_map (spelled qid_shape) (map qid_of qids)), qid_length (qid_of q), qids_length qids)
+qids_length (q ∷ qids) =
+    omega (
+      arith,
+      length-append (bytes_of_field qid_shape (qid_of q)) (flat_map (bytes_of_field qid_shape) (map qid_of qids)),
+      qid_length
+          (qid_of q),
+      qids_length qids,
+    )
 
-walk_length : (qids : List Qid) → length (spelled (Several qid_shape) (map qid_of qids)) ≡ 2 + 13 * length qids
-unfolding spelled
-walk_length qids = omega (arith, length-append (to_le_bytes w16 (length (map qid_of qids))) (flat_map (spelled qid_shape) (map qid_of qids)), qids_length qids)
+walk_length : (qids : List Qid) → length (bytes_of_field (Several qid_shape) (map qid_of qids)) ≡ 2 + 13 * length qids
+unfolding bytes_of_field
+walk_length qids =
+    omega (
+      arith,
+      length-append (to_le_bytes w16 (length (map qid_of qids))) (flat_map (bytes_of_field qid_shape) (map qid_of qids)),
+      qids_length qids,
+    )
 
 walk_in : (qids : List Qid) → AllByRecursion IsQid qids → AllByRecursion (IsIn qid_shape) (map qid_of qids)
 walk_in [] each = tt
 walk_in (q ∷ qids) each = (each.0, walk_in qids each.1)
 
-text_length : (t : List ℕ) → length (spelled Text t) ≡ 2 + length t
-unfolding spelled
+text_length : (t : List ℕ) → length (bytes_of_field Text t) ≡ 2 + length t
+unfolding bytes_of_field
 text_length t = omega (arith, length-append (to_le_bytes w16 (length t)) t)
 
-raw_length : (t : List ℕ) → length (spelled Raw t) ≡ 4 + length t
-unfolding spelled
+raw_length : (t : List ℕ) → length (bytes_of_field Raw t) ≡ 4 + length t
+unfolding bytes_of_field
 raw_length t = omega (arith, length-append (to_le_bytes w32 (length t)) t)
 
-version_length : (n : ℕ) (t : List ℕ) → length (spelled (Four ▸ Text) (n, t)) ≡ 6 + length t
-unfolding spelled
-version_length n t = omega (arith, length-append (to_le_bytes w32 n) (to_le_bytes w16 (length t) ++ t), length-append (to_le_bytes w16 (length t)) t)
+version_length : (n : ℕ) (t : List ℕ) → length (bytes_of_field (Four ▸ Text) (n, t)) ≡ 6 + length t
+unfolding bytes_of_field
+version_length n t =
+    omega (arith, length-append (to_le_bytes w32 n) (to_le_bytes w16 (length t) ++ t), length-append (to_le_bytes w16 (length t)) t)
 
-pub open_length : (v : Value (qid_shape ▸ Four)) → length (spelled (qid_shape ▸ Four) v) ≡ 17
-unfolding spelled
+pub open_length : (v : Value (qid_shape ▸ Four)) → length (bytes_of_field (qid_shape ▸ Four) v) ≡ 17
+unfolding bytes_of_field
 open_length v = refl
 
 -- ---- texts
@@ -101,19 +115,22 @@ fits-walk m qids are = record {
   small = omega (arith, walk_length qids.items, are.few);
 }
 
-pub fits-read : (m : Option ℕ) (bytes : Vec ℕ Global) → ForSome m IsAgreed → length bytes.items ≤ unwrap_or m 0 - 11 → FitsIn (room_of m) (r.Read bytes)
+pub fits-read : (m : Option ℕ) (bytes : Vec ℕ Global) → ForSome m IsAgreed → length bytes.items ≤ unwrap_or m 0 - 11
+    → FitsIn (room_of m) (r.Read bytes)
 fits-read m bytes agreed few = record {
   fields = omega (arith, few, room_most m agreed);
   small = omega (arith, raw_length bytes.items, few);
 }
 
-pub fits-version : (m : Option ℕ) (n : ℕ) (v : CowStr Global) → n < 2 ^ 32 → IsShown 7 (cow_str_bytes v) → FitsIn (room_of m) (r.Version n v)
+pub fits-version : (m : Option ℕ) (n : ℕ) (v : CowStr Global) → n < 2 ^ 32 → IsShown 7 (cow_str_bytes v)
+    → FitsIn (room_of m) (r.Version n v)
 fits-version m n v low shown = record {
   fields = (low, shown_in 7 (cow_str_bytes v) (lit< tt) shown);
   small = omega (arith, version_length n (cow_str_bytes v), shown.short);
 }
 
-spelled_within : (most : ℕ) (m : Message replies) → m.tag < 2 ^ 16 → most ≤ 65536 → FieldsFit m → length (fields_of m) + 7 ≤ most → FitsWithin most m
+spelled_within : (most : ℕ) (m : Message replies) → m.tag < 2 ^ 16 → most ≤ 65536 → FieldsFit m → length (fields_of m) + 7 ≤ most
+    → FitsWithin most m
 spelled_within most m tag low fields small =
     let length_is = spelling_len m in
     record {
@@ -122,10 +139,19 @@ spelled_within most m tag low fields small =
     }
 
 -- a body that fits makes a reply that does
-pub reply_within : (most tag : ℕ) (body : RBody) → tag < 2 ^ 16 → most ≤ 65536 → FitsIn most body → FitsWithin most (r_view (record { tag = tag; body = body }))
+pub reply_within : (most tag : ℕ) (body : RBody) → tag < 2 ^ 16 → most ≤ 65536 → FitsIn most body → FitsWithin most (r_view (record {
+  tag = tag;
+  body = body;
+}))
 unfolding FieldsFit fields_of
-reply_within most tag (r.Version n v) low less fits = spelled_within most (r_view (record { tag = tag; body = r.Version n v })) low less fits.fields fits.small
-reply_within most tag r.Flush low less fits = spelled_within most (r_view (record { tag = tag; body = r.Flush })) low less fits.fields fits.small
+reply_within most tag (r.Version n v) low less fits = spelled_within most (r_view (record {
+  tag = tag;
+  body = r.Version n v;
+})) low less fits.fields fits.small
+reply_within most tag r.Flush low less fits = spelled_within most (r_view (record {
+  tag = tag;
+  body = r.Flush;
+})) low less fits.fields fits.small
 reply_within most tag body low less fits = spelled_within most (r_view (record { tag = tag; body = body })) low less fits.fields fits.small
 
 pub room_agreed : (m : Option ℕ) → ForSome m IsAgreed → (1024 ≤ room_of m) × (room_of m ≤ 65536)

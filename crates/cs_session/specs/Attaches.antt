@@ -2,7 +2,7 @@
 use Rattle.std.specs.Prelude.{ℕ, Bool, List, Option, None, Some, Result, Ok, Err, option_map}
 use Rattle.std.specs.FinMap.{insert}
 use Rattle.cs_names.specs.declared.rule_id.RuleId.TheVariants.{A4, A5, A6, S5}
-use Rattle.cs_fids.specs.declared.entry.Entry.TheVariants as entry
+use Rattle.cs_fids.specs.declared.entry.FidEntry.TheVariants as entry
 use Rattle.cs_fids.specs.Fids.{walked_fid}
 use Rattle.cs_fids.specs.Tables.{FidMap}
 use Rattle.cs_permit.specs.Table.{attach_table_rules}
@@ -18,9 +18,10 @@ use Rattle.cs_permit.specs.declared.fault.PassFault.TheVariants as p
 use Rattle.cs_session.specs.declared.reply.Reply.{Reply}
 use Rattle.cs_session.specs.declared.reply.Reply.TheVariants as r
 use Rattle.cs_session.specs.Decisions.{request_decision, refusal}
-use Rattle.cs_session.specs.Questions.{Question, FindRun, AttachTo, PortAnswer, FindAnswer, AttachAnswer}
+use Rattle.cs_session.specs.Questions.{Question, FindRun, AttachTo, PortAnswer, FindAnswer}
+use Rattle.cs_session.specs.Questions.{AttachAnswer}
 use Rattle.cs_session.specs.Names.{user_in}
-use Rattle.cs_session.specs.Sessions.{Awaited, Sess, leaves, with_awaited}
+use Rattle.cs_session.specs.Sessions.{Awaited, SessionState, with_fids_left, with_awaited}
 
 -- ---- find
 
@@ -38,7 +39,7 @@ find_refusal f.Full = r.Error A5
 find_refusal f.Memory = r.Memory
 
 -- the run awaits its attach
-abbrev pub find_after : Sess → AttachMessage → PortAnswer → Reply × Sess
+abbrev pub find_after : SessionState → AttachMessage → PortAnswer → Reply × SessionState
 find_after session message (FindAnswer (Ok place)) = (
   r.Found,
   with_awaited
@@ -60,21 +61,21 @@ pass_refusal p.Foreign = r.Error S5
 pass_refusal p.Memory = r.Memory
 
 -- the fid stands for the root, for that user; what is no user's name is none that is known
-abbrev pub rooted : FidMap → ℕ → ℕ → Option (List ℕ) → ℕ → Qid → Reply × FidMap
-rooted fids fid run None pass qid = (r.Error A6, fids)
-rooted fids fid run (Some user) pass qid =
+abbrev pub with_root_fid : FidMap → ℕ → ℕ → Option (List ℕ) → ℕ → Qid → Reply × FidMap
+with_root_fid fids fid run None pass qid = (r.Error A6, fids)
+with_root_fid fids fid run (Some user) pass qid =
     (r.Attach qid, insert fids fid (entry.Walked (walked_fid run pass 0 user)))
 
 -- only a granted attach makes a fid
 abbrev pub attach_settled : FidMap → ℕ → ℕ → Option (List ℕ) → ℕ → Answer → Reply × FidMap
-attach_settled fids fid run user pass (a.Attached qid) = rooted fids fid run user pass qid
+attach_settled fids fid run user pass (a.Attached qid) = with_root_fid fids fid run user pass qid
 attach_settled fids fid run user pass answer = (refusal answer, fids)
 
 -- the run awaits its attach no more
-abbrev pub attach_after : Sess → Option Awaited → PortAnswer → Reply × Sess
+abbrev pub attach_after : SessionState → Option Awaited → PortAnswer → Reply × SessionState
 attach_after session None given = (r.Memory, session)
 attach_after session (Some awaited) (AttachAnswer (Ok pass)) =
-    leaves (with_awaited None session)
+    with_fids_left (with_awaited None session)
     (attach_settled session.fids awaited.fid awaited.run (user_in awaited.call.user) pass.0 pass.1)
 attach_after session (Some awaited) (AttachAnswer (Err fault)) =
     (pass_refusal fault, with_awaited None session)

@@ -4,15 +4,18 @@ use Rattle.std.specs.FinMap.{remove}
 use Rattle.cs_names.specs.declared.rule_id.RuleId.TheVariants.{H1, M1, Q1}
 use Rattle.cs_fids.specs.Tables.{FidMap}
 use Rattle.cs_permit.specs.Refusals.{Check}
-use Rattle.cs_permit.specs.Table.{create_table_rules, is_unknown, open_table_rules, read_table_rules, walk_table_rules, write_table_rules}
+use Rattle.cs_permit.specs.Table.{create_table_rules, is_unknown, open_table_rules}
+use Rattle.cs_permit.specs.Table.{read_table_rules, walk_table_rules, write_table_rules}
 use Rattle.cs_run.specs.declared.answer.Answer.{Answer}
 use Rattle.cs_session.specs.declared.message.CallMessage.{CallMessage}
-use Rattle.cs_session.specs.declared.message.CallMessage.TheVariants.{Walk, Open, Create, Read, Write, Remove, Stat, Wstat}
+use Rattle.cs_session.specs.declared.message.CallMessage.TheVariants.{Walk, Open, Create, Read}
+use Rattle.cs_session.specs.declared.message.CallMessage.TheVariants.{Write, Remove, Stat, Wstat}
 use Rattle.cs_session.specs.declared.reply.Reply.{Reply}
 use Rattle.cs_session.specs.Decisions.{request_decision}
 use Rattle.cs_session.specs.Opens.{create_after, create_question, open_after, open_question}
 use Rattle.cs_session.specs.Questions.{Question}
-use Rattle.cs_session.specs.Reads.{copies_name, read_after, read_question, write_question, write_reply}
+use Rattle.cs_session.specs.Reads.{copies_name, read_after, read_question, write_question}
+use Rattle.cs_session.specs.Reads.{write_reply}
 use Rattle.cs_session.specs.Removes.{remove_question, remove_reply}
 use Rattle.cs_session.specs.Stats.{stat_question, stat_reply, wstat_question, wstat_reply}
 use Rattle.cs_session.specs.Walks.{walk_after, walk_question}

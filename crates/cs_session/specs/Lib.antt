@@ -20,6 +20,4 @@ pub mod Messages
 pub mod Trails
 pub mod Sizes
 pub mod Receiving
-pub mod Streams
-pub mod Overs
 pub mod Serving

@@ -1,7 +1,7 @@
 -- A message is its steps, one after the other, and the last one's reply.
 use Rattle.std.specs.Prelude.{◌≡◌, ℕ, Bool, true, false, List, [], ◌∷◌, Option, None, Some}
-use Rattle.cs_fids.specs.declared.entry.Entry.{Entry}
-use Rattle.cs_fids.specs.declared.entry.Entry.TheVariants as entry
+use Rattle.cs_fids.specs.declared.entry.FidEntry.{FidEntry}
+use Rattle.cs_fids.specs.declared.entry.FidEntry.TheVariants as entry
 use Rattle.cs_fids.specs.Tables.{least_open}
 use Rattle.cs_session.specs.declared.message.AttachMessage.{AttachMessage}
 use Rattle.cs_session.specs.declared.message.Message.{Message}
@@ -12,8 +12,9 @@ use Rattle.cs_session.specs.declared.reply.Reply.{Reply}
 use Rattle.cs_session.specs.declared.reply.Reply.TheVariants as r
 use Rattle.cs_session.specs.Marks.{OwnMark}
 use Rattle.cs_session.specs.Questions.{Question, PortAnswer}
-use Rattle.cs_session.specs.Sessions.{Awaited, Sess, entry_at}
-use Rattle.cs_session.specs.Steps.{Step, FindStep, AttachStep, CallStep, CloseStep, Table, Takes}
+use Rattle.cs_session.specs.Sessions.{Awaited, SessionState, entry_at}
+use Rattle.cs_session.specs.Steps.{Step, FindStep, AttachStep, CallStep, CloseStep, Table}
+use Rattle.cs_session.specs.Steps.{TakesWithMark}
 
 -- the least open fid is closed first, while there is one
 abbrev pub close_or : Option ℕ → TableStep → Step
@@ -26,13 +27,13 @@ find_or None message = FindStep message
 find_or (Some awaited) message = AttachStep
 
 -- an open fid is closed, another is freed
-abbrev pub clunk_or : ℕ → Option Entry → Step
+abbrev pub clunk_or : ℕ → Option FidEntry → Step
 clunk_or fid None = Table (t.Clunk fid)
 clunk_or fid (Some (entry.Walked x)) = Table (t.Clunk fid)
 clunk_or fid (Some (entry.Opened x)) = CloseStep fid
 
 -- the step that a message takes next
-abbrev pub next_step : Message → Sess → Step
+abbrev pub next_step : Message → SessionState → Step
 next_step (m.Version msize version) session =
     close_or (least_open session.fids) (t.Version msize version)
 next_step (m.Attach message) session = find_or session.awaited message
@@ -54,24 +55,25 @@ closes_first m.HangUp = true
 closes_first message = false
 
 -- the one where the test holds, else the other
-abbrev pub Either : Bool → Type 0 → Type 0 → Type 0
-Either true A B = A
-Either false A B = B
+abbrev pub IfElse : Bool → Type 0 → Type 0 → Type 0
+IfElse true A B = A
+IfElse false A B = B
 
 module _ {P : Type 0} (gives : P → Question → PortAnswer → P → Type 0) (now : ℕ)
     (message : Message) where
   -- the steps of a message, each with its mark, of which the last answers it
-  abbrev pub Answers : List OwnMark → Sess → P → Reply → Sess → P → Type 0
+  abbrev pub Answers : List OwnMark → SessionState → P → Reply → SessionState → P → Type 0
   Answers [] session port reply session' port' = ⊥
   Answers (mark ∷ marks) session port reply session' port' =
-      (step_reply : Reply) × (mid : Sess) × (there : P)
-      × Takes gives now session port (next_step message session) mark step_reply mid there
-      × Either (goes_on message (next_step message session) step_reply)
+      (step_reply : Reply) × (mid : SessionState) × (there : P)
+      × TakesWithMark gives now session port (next_step message session) mark step_reply mid there
+      × IfElse (goes_on message (next_step message session) step_reply)
       (Answers marks mid there reply session' port')
       ((marks ≡ []) × (reply ≡ step_reply) × (session' ≡ mid) × (port' ≡ there))
 
   -- with some marks, one a step
-  pub record IsAnswered (session : Sess) (port : P) (reply : Reply) (session' : Sess)
+  pub record IsAnswered (session : SessionState) (port : P) (reply : Reply)
+      (session' : SessionState)
       (port' : P) : Type 0 where
     pub marks : List OwnMark
     pub answers : Answers marks session port reply session' port'

@@ -1,10 +1,10 @@
 -- The fid that a call of a connection is made for.
 use Rattle.std.specs.Prelude.{◌≡◌, ℕ, IfSome, List, Option, None, Some, option_map}
 use Rattle.cs_fids.specs.Entries.{as_opened, number_of, pass_of, run_of, user_of}
-use Rattle.cs_fids.specs.declared.entry.Entry.{Entry}
+use Rattle.cs_fids.specs.declared.entry.FidEntry.{FidEntry}
 use Rattle.cs_permit.specs.declared.call.Call.{Call}
 use Rattle.cs_permit.specs.declared.call.Call.TheVariants as c
-use Rattle.cs_session.specs.Sessions.{Sess, entry_at}
+use Rattle.cs_session.specs.Sessions.{SessionState, entry_at}
 
 -- the user that a call names: a read and a stat name none, since they ask for no right of a user,
 -- and an attach names one that isn't known yet
@@ -37,14 +37,15 @@ open_named (c.Remove call) = call.open_number
 open_named _ = None
 
 -- the number of an entry's open, if it is open
-abbrev pub open_of : Entry → Option ℕ
+abbrev pub open_of : FidEntry → Option ℕ
 open_of e = option_map (λ f. f.state.open_number) (as_opened e)
 
 -- The call is made for a fid of the connection: at this moment, on the fid's run, under its pass,
 -- on its file, for its user, and on its open if the call names one.
-pub record IsForFid (session : Sess) (now moment place pass : ℕ) (call : Call) : Type 0 where
+pub record IsForFid (session : SessionState) (now moment place pass : ℕ)
+    (call : Call) : Type 0 where
   pub fid : ℕ
-  pub entry : Entry
+  pub entry : FidEntry
   pub there : entry_at session fid ≡ Some entry
   pub moment_is : moment ≡ now
   pub run_is : place ≡ run_of entry

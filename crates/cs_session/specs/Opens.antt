@@ -1,10 +1,10 @@
 -- An open and a create: the fid is open then (open(5)).
 use Rattle.std.specs.Prelude.{ℕ, List, Option, None, Some, option_and_then, option_map}
 use Rattle.std.specs.FinMap.{insert}
-use Rattle.cs_fids.specs.declared.entry.Entry.TheVariants as entry
+use Rattle.cs_fids.specs.declared.entry.FidEntry.TheVariants as entry
 use Rattle.cs_fids.specs.declared.fid.Walked.{Walked}
 use Rattle.cs_fids.specs.FidOf.{FidOf}
-use Rattle.cs_fids.specs.Fids.{moved_to, opened}
+use Rattle.cs_fids.specs.Fids.{moved_to, opened_fid}
 use Rattle.cs_fids.specs.Tables.{FidMap}
 use Rattle.cs_permit.specs.declared.call.Call.TheVariants as c
 use Rattle.cs_run.specs.declared.answer.Answer.{Answer}
@@ -27,7 +27,7 @@ open_question now fids message =
 abbrev pub open_left : FidMap → ℕ → Option (FidOf Walked) → ℕ → ℕ → ℕ → FidMap
 open_left fids fid None mode open_number number = fids
 open_left fids fid (Some f) mode open_number number =
-    insert fids fid (entry.Opened (opened (moved_to f number) mode open_number))
+    insert fids fid (entry.Opened (opened_fid (moved_to f number) mode open_number))
 
 abbrev pub open_after : FidMap → ℕ → ℕ → Answer → Reply × FidMap
 open_after fids fid mode (a.Opened qid open_number number) =

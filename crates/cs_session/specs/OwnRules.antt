@@ -10,7 +10,7 @@ use Rattle.cs_session.specs.Calls.{call_question, call_rules}
 use Rattle.cs_session.specs.Decisions.{after_session, opened_at}
 use Rattle.cs_session.specs.Questions.{Question}
 use Rattle.cs_session.specs.Removes.{close_question}
-use Rattle.cs_session.specs.Sessions.{Sess}
+use Rattle.cs_session.specs.Sessions.{SessionState}
 use Rattle.cs_session.specs.Steps.{Step, FindStep, AttachStep, CallStep, CloseStep, Table}
 use Rattle.cs_session.specs.declared.message.TableStep.{TableStep}
 use Rattle.cs_session.specs.declared.message.TableStep.TheVariants as t
@@ -22,7 +22,7 @@ with_question rules q = rules ++ (S5, is_none q) ∷ []
 -- those of a step that changes the connection's own table: a clunk is of a fid that is there and
 -- isn't open, a version and a hang-up come when no fid is open, and a version has a message size
 -- that is large enough
-abbrev pub change_rules : Sess → TableStep → List Check
+abbrev pub change_rules : SessionState → TableStep → List Check
 change_rules session (t.Clunk fid) =
     (S5, is_some session.awaited)
     ∷ (S1, is_none session.msize)
@@ -40,7 +40,7 @@ change_rules session t.HangUp =
     ∷ []
 
 -- those of any step
-abbrev pub own_rules : ℕ → Sess → Step → List Check
+abbrev pub own_rules : ℕ → SessionState → Step → List Check
 own_rules now session (FindStep message) =
     with_question (after_session (is_some session.awaited) session.msize
     (attach_table_rules session.fids message.fid message.afid message.aname))

@@ -1,8 +1,9 @@
 -- A read and a write (read(5)).
-use Rattle.std.specs.Prelude.{ℕ, ◌-◌, min, Bool, false, Option, None, Some, is_some, unwrap_or, option_map}
+use Rattle.std.specs.Prelude.{ℕ, ◌-◌, min, Bool, false, Option, None, Some, is_some, unwrap_or}
+use Rattle.std.specs.Prelude.{option_map}
 use Rattle.std.specs.FinMap.{insert}
 use Rattle.std.specs.Option.{option_map_or}
-use Rattle.cs_fids.specs.declared.entry.Entry.TheVariants as entry
+use Rattle.cs_fids.specs.declared.entry.FidEntry.TheVariants as entry
 use Rattle.cs_fids.specs.declared.fid.Opened.{Opened}
 use Rattle.cs_fids.specs.declared.place.Place.{Place}
 use Rattle.cs_fids.specs.FidOf.{FidOf}
@@ -22,8 +23,8 @@ use Rattle.cs_session.specs.Questions.{Question, CallOn}
 -- ---- read: its count is cut to what a reply of the session holds
 
 -- at most as many bytes as an Rread of that message size holds
-abbrev pub cut : Option ℕ → ℕ → ℕ
-cut msize count = min count (unwrap_or msize 0 - READ_OVERHEAD)
+abbrev pub read_count : Option ℕ → ℕ → ℕ
+read_count msize count = min count (unwrap_or msize 0 - READ_OVERHEAD)
 
 abbrev pub read_question : ℕ → Option ℕ → FidMap → ReadMessage → Option Question
 read_question now msize fids message =
@@ -31,7 +32,7 @@ read_question now msize fids message =
     (c.Read (record {
       number = f.number;
       offset = message.offset;
-      count = cut msize message.count;
+      count = read_count msize message.count;
       place = f.state.place;
     }))) (opened_at fids message.fid)
 

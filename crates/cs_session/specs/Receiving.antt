@@ -1,5 +1,7 @@
 -- From a message's bytes to the reply on the wire.
-use Rattle.std.specs.Prelude.{◌≡◌, ℕ, not, ◌&&◌, Bool, true, false, List, [], ◌∷◌, length, map, nat_lt, codes, is_none, Option, None, Some, Result, Ok, Err, IsErr, slice_index, string_bytes}
+use Rattle.std.specs.Prelude.{◌≡◌, ℕ, not, ◌&&◌, Bool, true, false, List, [], ◌∷◌, length, map}
+use Rattle.std.specs.Prelude.{nat_lt, codes, is_none, Option, None, Some, Result, Ok, Err, IsErr}
+use Rattle.std.specs.Prelude.{slice_index, string_bytes}
 use Rattle.std.specs.Option.{option_map_or}
 use Rattle.std.specs.Int.{w16, from_le_bytes}
 use Rattle.cs_names.specs.declared.rule_id.RuleId.{RuleId}
@@ -14,7 +16,8 @@ use Rattle.cs_wire.specs.declared.message.TBody.{TBody}
 use Rattle.cs_wire.specs.declared.message.TBody.TheVariants as t
 use Rattle.cs_wire.specs.declared.message.TMessage.{TMessage}
 use Rattle.cs_wire.specs.Answers.{TakesMemory}
-use Rattle.cs_wire.specs.Messages.{IsMessage, Message as Spelled, qid_of, replies, requests, spelling, t_kind_of, t_view}
+use Rattle.cs_wire.specs.Messages.{IsMessage, Message as Spelled, qid_of, replies, requests}
+use Rattle.cs_wire.specs.Messages.{spelling, t_kind_of, t_view}
 use Rattle.cs_wire.specs.Reading.{message_of}
 use Rattle.cs_session.specs.declared.message.CallMessage.TheVariants as call
 use Rattle.cs_session.specs.declared.message.Message.{Message}
@@ -24,7 +27,7 @@ use Rattle.cs_session.specs.declared.reply.Reply.TheVariants as r
 use Rattle.cs_session.specs.Marks.{OwnMark, MessageMark, NoDecode, Steps}
 use Rattle.cs_session.specs.Messages.{Answers}
 use Rattle.cs_session.specs.Questions.{Question, PortAnswer}
-use Rattle.cs_session.specs.Sessions.{Sess}
+use Rattle.cs_session.specs.Sessions.{SessionState}
 
 -- the tag of a message: its bytes 5 and 6
 abbrev pub tag_in : List ℕ → ℕ
@@ -74,43 +77,47 @@ abbrev pub IsSpelled : List ℕ → TMessage → Type 0
 IsSpelled bytes message = IsMessage (t_view message) × (bytes ≡ spelling (t_view message))
 
 -- no rule stands before decoding
-abbrev pub IsLetIn : Option ℕ → List ℕ → Type 0
-IsLetIn msize bytes = first_failing (rules_before_decoding msize bytes) ≡ None
+abbrev pub PassesBeforeDecoding : Option ℕ → List ℕ → Type 0
+PassesBeforeDecoding msize bytes = first_failing (rules_before_decoding msize bytes) ≡ None
 
 -- nothing is asked, and the connection stays
-abbrev pub Stays : {P : Type 0} → Sess → P → Reply → Reply → Sess → P → Type 0
-Stays session port own reply session' port' = (reply ≡ own) × (session' ≡ session) × (port' ≡ port)
+abbrev pub NothingChanges : {P : Type 0} → SessionState → P → Reply → Reply → SessionState → P
+    → Type 0
+NothingChanges session port own reply session' port' =
+    (reply ≡ own) × (session' ≡ session) × (port' ≡ port)
 
 module _ {P : Type 0} (gives : P → Question → PortAnswer → P → Type 0) (now : ℕ) where
   -- what bytes come to, where memory refuses that growth
-  pub data Receives (bytes : List ℕ) (session : Sess) (port : P) (reply : Reply) (session' : Sess)
+  pub data Receives (bytes : List ℕ) (session : SessionState) (port : P) (reply : Reply)
+      (session' : SessionState)
       (port' : P) : MessageMark → Type 0 where
     -- a rule bars them before they are decoded
     Barred : (rule : RuleId) → first_failing (rules_before_decoding session.msize bytes) ≡ Some rule
-        → Stays session port (r.Error rule) reply session' port'
+        → NothingChanges session port (r.Error rule) reply session' port'
         → Receives bytes session port reply session' port' (Steps [])
     -- they are no message
-    Malformed : IsLetIn session.msize bytes → IsErr (message_of requests bytes)
-        → Stays session port (r.Error S2) reply session' port'
+    Malformed : PassesBeforeDecoding session.msize bytes → IsErr (message_of requests bytes)
+        → NothingChanges session port (r.Error S2) reply session' port'
         → Receives bytes session port reply session' port' (Steps [])
     -- they are a message with something to copy, and memory is wanting for it
-    Short : IsLetIn session.msize bytes → TakesMemory requests bytes
-        → Stays session port r.Memory reply session' port'
+    Short : PassesBeforeDecoding session.msize bytes → TakesMemory requests bytes
+        → NothingChanges session port r.Memory reply session' port'
         → Receives bytes session port reply session' port' NoDecode
     -- they are a message that takes no step
-    Alone : (message : TMessage) (own : Reply) → IsLetIn session.msize bytes
+    Alone : (message : TMessage) (own : Reply) → PassesBeforeDecoding session.msize bytes
         → IsSpelled bytes message → message_in message.body ≡ Err own
-        → Stays session port own reply session' port'
+        → NothingChanges session port own reply session' port'
         → Receives bytes session port reply session' port' (Steps [])
     -- they are a message that is answered by its steps
     Asked : (message : TMessage) (asks : Message) (marks : List OwnMark)
-        → IsLetIn session.msize bytes → IsSpelled bytes message → message_in message.body ≡ Ok asks
+        → PassesBeforeDecoding session.msize bytes → IsSpelled bytes message
+        → message_in message.body ≡ Ok asks
         → Answers gives now asks marks session port reply session' port'
         → Receives bytes session port reply session' port' (Steps marks)
 
 -- what bytes come to, with some mark
 pub record IsReceived {P : Type 0} (gives : P → Question → PortAnswer → P → Type 0) (now : ℕ)
-    (bytes : List ℕ) (session : Sess) (port : P) (reply : Reply) (session' : Sess)
+    (bytes : List ℕ) (session : SessionState) (port : P) (reply : Reply) (session' : SessionState)
     (port' : P) : Type 0 where
   pub mark : MessageMark
   pub received : Receives gives now bytes session port reply session' port' mark
@@ -152,7 +159,8 @@ wire_of tag other = error_reply tag (text_of S5)
 
 -- the bytes of a message were answered, with the message's tag
 pub record IsReplied {P : Type 0} (gives : P → Question → PortAnswer → P → Type 0) (now : ℕ)
-    (bytes : List ℕ) (session : Sess) (port : P) (wire_reply : Spelled replies) (session' : Sess)
+    (bytes : List ℕ) (session : SessionState) (port : P) (wire_reply : Spelled replies)
+    (session' : SessionState)
     (port' : P) : Type 0 where
   pub reply : Reply
   pub received : IsReceived gives now bytes session port reply session' port'

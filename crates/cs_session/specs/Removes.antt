@@ -2,7 +2,7 @@
 use Rattle.std.specs.Prelude.{ℕ, Bool, false, [], ◌∷◌, Option, Result, option_map}
 use Rattle.std.specs.FinMap.{get}
 use Rattle.cs_names.specs.declared.rule_id.RuleId.TheVariants.{S5}
-use Rattle.cs_fids.specs.declared.entry.Entry.{Entry}
+use Rattle.cs_fids.specs.declared.entry.FidEntry.{FidEntry}
 use Rattle.cs_fids.specs.Entries.{as_opened, number_of, pass_of, run_of, user_of}
 use Rattle.cs_fids.specs.Tables.{FidMap}
 use Rattle.cs_permit.specs.declared.call.Call.TheVariants as c
@@ -18,8 +18,8 @@ use Rattle.cs_session.specs.Questions.{Question, CallOn}
 -- ---- remove
 
 -- its user is moved into the call
-abbrev pub removal : ℕ → Entry → RunQuestion
-removal now e = record {
+abbrev pub remove_run_question : ℕ → FidEntry → RunQuestion
+remove_run_question now e = record {
   now = now;
   run = run_of e;
   pass = pass_of e;
@@ -32,7 +32,8 @@ removal now e = record {
 }
 
 abbrev pub remove_question : ℕ → FidMap → ℕ → Option Question
-remove_question now fids fid = option_map (λ e. question_of (removal now e)) (get fids fid)
+remove_question now fids fid =
+    option_map (λ e. question_of (remove_run_question now e)) (get fids fid)
 
 abbrev pub remove_reply : Answer → Reply
 remove_reply a.Removed = r.Remove

@@ -1,8 +1,12 @@
 -- What a server does with a stream: whole messages are answered, one after the other, and their
 -- replies written in order.
-use Rattle.std.specs.Prelude.{◌≡◌, ◌≢◌, ℕ, ◌<◌, List, [], ◌∷◌, ◌++◌, length, map, Option, None, Result, Ok, Err, ⊤}
+use Rattle.std.specs.Prelude.{◌≡◌, ◌≢◌, ℕ, ◌<◌, ◌≤◌, List, [], ◌∷◌, ◌++◌, length, map, Option, None}
+use Rattle.std.specs.Prelude.{Result, Ok, Err, ⊤}
 use Rattle.std.specs.List.{flat_map}
 use Rattle.std.specs.Io.KnownBytes.{Appends, Consumes, IsAtEnd}
+use Rattle.cs_names.specs.declared.limits.TheConstants.{CONNECTION_READS}
+use Rattle.cs_stream.specs.declared.stream.Counts.{Counts}
+use Rattle.cs_stream.specs.Streams.{BlamesReads, BlamesWrites, GaveUpInTime, saturating_sum}
 use Rattle.cs_wire.specs.declared.framer.FrameFault.{FrameFault}
 use Rattle.cs_wire.specs.declared.framer.FrameFault.TheVariants as frame
 use Rattle.cs_wire.specs.Framing.{Begins, IsUnfinished, IsUndersized, IsOversized}
@@ -10,13 +14,14 @@ use Rattle.cs_wire.specs.Messages.{Message as Spelled, replies, spelling}
 use Rattle.cs_session.specs.declared.message.Message.TheVariants as m
 use Rattle.cs_session.specs.declared.reply.Reply.TheVariants as r
 use Rattle.cs_session.specs.declared.serving.ServeFault.{ServeFault}
-use Rattle.cs_session.specs.declared.serving.ServeFault.TheVariants.{ReadFault, WriteFault, FrameFault as BadFrame, Memory}
+use Rattle.cs_session.specs.declared.serving.ServeFault.TheVariants.{ReadFault, WriteFault}
+use Rattle.cs_session.specs.declared.serving.ServeFault.TheVariants.{FrameFault as BadFrame, Memory}
 use Rattle.cs_session.specs.declared.serving.Progress.{Progress}
 use Rattle.cs_session.specs.declared.serving.Progress.TheVariants.{More, Done, Stopped}
 use Rattle.cs_session.specs.Messages.{IsAnswered}
 use Rattle.cs_session.specs.Questions.{Question, PortAnswer}
 use Rattle.cs_session.specs.Receiving.{IsReplied}
-use Rattle.cs_session.specs.Sessions.{Sess, blank}
+use Rattle.cs_session.specs.Sessions.{SessionState, empty_session}
 
 -- A message that came, the moment at which it was answered, and its reply.
 pub record Exchange : Type 0 where
@@ -70,24 +75,40 @@ EndsAt (Err WriteFault) came left unsent rest = ⊤
 -- nothing was read
 EndsAt (Err Memory) came left unsent rest = (came ≡ []) × (unsent ≡ [])
 
+-- Each fault has its cause in the stream's counts, before and after: reads failed or gave up for a
+-- read fault, writes for a write fault, and one end was met for Ok and Cut. No more reads were made
+-- than a connection has, and after 1,000 interrupted reads or writes in a row it made no more.
+pub record FaultsHaveCauses (result : Result (Unit {0}) ServeFault) (old new : Counts) : Type 0 where
+  pub read_fault : result ≡ Err ReadFault → BlamesReads old new
+  pub write_fault : result ≡ Err WriteFault → BlamesWrites old new
+  pub ended : result ≡ Ok tt → new.ends ≡ saturating_sum 1 old.ends
+  pub cut : result ≡ Err (BadFrame frame.Cut) → new.ends ≡ saturating_sum 1 old.ends
+  pub no_end : result ≡ Err ReadFault → new.ends ≡ old.ends
+  pub bounded : new.reads ≤ saturating_sum CONNECTION_READS old.reads
+  pub reads_in_time : GaveUpInTime old.interrupted_reads new.interrupted_reads
+  pub writes_in_time : GaveUpInTime old.interrupted_writes new.interrupted_writes
+  pub memory : result ≡ Err Memory → new ≡ old
+
 module _ {P : Type 0} (gives : P → Question → PortAnswer → P → Type 0) where
   -- a message was answered, and the bytes of its reply come behind these
-  pub record Adds (now : ℕ) (message : List ℕ) (session : Sess) (port : P) (old new : List ℕ)
-      (session' : Sess) (port' : P) : Type 0 where
+  pub record Adds (now : ℕ) (message : List ℕ) (session : SessionState) (port : P)
+      (old new : List ℕ)
+      (session' : SessionState) (port' : P) : Type 0 where
     pub wire_reply : Spelled replies
     pub replied : IsReplied gives now message session port wire_reply session' port'
     pub adds : new ≡ old ++ spelling wire_reply
 
   -- each message was answered from where the one before led
-  abbrev pub Exchanges : Sess → P → List Exchange → Sess → P → Type 0
+  abbrev pub Exchanges : SessionState → P → List Exchange → SessionState → P → Type 0
   Exchanges session port [] session' port' = (session' ≡ session) × (port' ≡ port)
   Exchanges session port (exchange ∷ others) session' port' =
-      (mid : Sess) × (there : P)
+      (mid : SessionState) × (there : P)
       × IsReplied gives exchange.moment exchange.message session port exchange.reply mid there
       × Exchanges mid there others session' port'
 
   -- the whole messages in front of what came were answered with these bytes, and this is left of it
-  pub record AnswersFront (session : Sess) (port : P) (came left to_send : List ℕ) (session' : Sess)
+  pub record AnswersFront (session : SessionState) (port : P) (came left to_send : List ℕ)
+      (session' : SessionState)
       (port' : P) : Type 0 where
     pub exchanges : List Exchange
     pub begins : Begins came (messages_of exchanges) left
@@ -95,8 +116,9 @@ module _ {P : Type 0} (gives : P → Question → PortAnswer → P → Type 0) w
     pub run : Exchanges session port exchanges session' port'
 
   -- likewise, with the replies written to a stream
-  pub record Handles (result : Result (Unit {0}) ServeFault) (session : Sess) (port : P)
-      (came left : List ℕ) (con con' : Option (List ℕ)) (session' : Sess) (port' : P) : Type 0 where
+  pub record Handles (result : Result (Unit {0}) ServeFault) (session : SessionState) (port : P)
+      (came left : List ℕ) (con con' : Option (List ℕ)) (session' : SessionState)
+      (port' : P) : Type 0 where
     pub sent : List ℕ
     pub unsent : List ℕ
     pub appends : Appends con con' sent
@@ -104,8 +126,8 @@ module _ {P : Type 0} (gives : P → Question → PortAnswer → P → Type 0) w
     pub stops : StopsAt result left unsent
 
   -- likewise, with the messages read from it
-  pub record Converses (result : Result (Unit {0}) ServeFault) (session : Sess) (port : P)
-      (rem rem' con con' : Option (List ℕ)) (session' : Sess) (port' : P) : Type 0 where
+  pub record Converses (result : Result (Unit {0}) ServeFault) (session : SessionState) (port : P)
+      (rem rem' con con' : Option (List ℕ)) (session' : SessionState) (port' : P) : Type 0 where
     pub came : List ℕ
     pub left : List ℕ
     pub sent : List ℕ
@@ -118,8 +140,8 @@ module _ {P : Type 0} (gives : P → Question → PortAnswer → P → Type 0) w
   -- a connection from its beginning to its hang-up
   pub record Conversation (result : Result (Unit {0}) ServeFault) (port : P)
       (rem rem' con con' : Option (List ℕ)) (port' : P) : Type 0 where
-    pub last : Sess
+    pub last : SessionState
     pub there : P
     pub moment : ℕ
-    pub conversed : Converses result (blank None) port rem rem' con con' last there
-    pub hung_up : IsAnswered gives moment m.HangUp last there r.Closed (blank None) port'
+    pub conversed : Converses result (empty_session None) port rem rem' con con' last there
+    pub hung_up : IsAnswered gives moment m.HangUp last there r.Closed (empty_session None) port'

@@ -2,8 +2,8 @@
 use Rattle.std.specs.Prelude.{ℕ, Option, None, refl}
 use Rattle.std.specs.Coded.{Coded, code_by, coded×, coded_ℕ, coded_option}
 use Rattle.std.specs.FinMap.{code, empty, get}
-use Rattle.cs_fids.specs.contracts.entry.Entry as row
-use Rattle.cs_fids.specs.declared.entry.Entry.{Entry}
+use Rattle.cs_fids.specs.contracts.entry.FidEntry as row
+use Rattle.cs_fids.specs.declared.entry.FidEntry.{FidEntry}
 use Rattle.cs_fids.specs.Tables.{FidMap}
 use Rattle.cs_permit.specs.contracts.call.AttachCall as attach
 use Rattle.cs_permit.specs.declared.call.AttachCall.{AttachCall}
@@ -17,7 +17,7 @@ pub record Awaited : Type 0 where
   pub call : AttachCall
 
 -- the message size, if a session stands; the run that awaits its attach, if one does; and the fids
-pub record Sess : Type 0 where
+pub record SessionState : Type 0 where
   pub msize : Option ℕ
   pub awaited : Option Awaited
   pub fids : FidMap
@@ -27,7 +27,7 @@ awaited_code = code_by (ℕ × (ℕ × AttachCall)) (coded× coded_ℕ (coded× 
     (λ awaited. (awaited.fid, (awaited.run, awaited.call)))
     (λ parts. record { fid = parts.0; run = parts.1.0; call = parts.1.1 }) (λ _. refl)
 
-abbrev pub sess_code : Coded Sess
+abbrev pub sess_code : Coded SessionState
 sess_code = code_by (Option ℕ × (Option Awaited × FidMap))
     (coded× (coded_option coded_ℕ)
     (coded× (coded_option awaited_code) (code coded_ℕ row.the_row.coded)))
@@ -35,19 +35,19 @@ sess_code = code_by (Option ℕ × (Option Awaited × FidMap))
     (λ parts. record { msize = parts.0; awaited = parts.1.0; fids = parts.1.1 }) (λ _. refl)
 
 -- what the number stands for
-abbrev pub entry_at : Sess → ℕ → Option Entry
+abbrev pub entry_at : SessionState → ℕ → Option FidEntry
 entry_at session fid = get session.fids fid
 
-abbrev pub with_fids : FidMap → Sess → Sess
+abbrev pub with_fids : FidMap → SessionState → SessionState
 with_fids fids session = record session { fids = fids }
 
-abbrev pub with_awaited : Option Awaited → Sess → Sess
+abbrev pub with_awaited : Option Awaited → SessionState → SessionState
 with_awaited awaited session = record session { awaited = awaited }
 
 -- the reply, and the fids that are left
-abbrev pub leaves : Sess → Reply × FidMap → Reply × Sess
-leaves session answered = (answered.0, with_fids answered.1 session)
+abbrev pub with_fids_left : SessionState → Reply × FidMap → Reply × SessionState
+with_fids_left session answered = (answered.0, with_fids answered.1 session)
 
 -- no fid is left; a session of that message size stands, or none does
-abbrev pub blank : Option ℕ → Sess
-blank msize = record { msize = msize; awaited = None; fids = empty }
+abbrev pub empty_session : Option ℕ → SessionState
+empty_session msize = record { msize = msize; awaited = None; fids = empty }

@@ -12,7 +12,7 @@ use Rattle.cs_session.specs.Calls.{call_after, call_decision}
 use Rattle.cs_session.specs.Removes.{close_decision, close_reply}
 use Rattle.cs_session.specs.Marks.{OwnMark, refuses_own}
 use Rattle.cs_session.specs.Questions.{Question, PortAnswer, CallAnswer}
-use Rattle.cs_session.specs.Sessions.{Sess, leaves}
+use Rattle.cs_session.specs.Sessions.{SessionState, with_fids_left}
 use Rattle.cs_session.specs.TableSteps.{table_stepped}
 
 pub data Step : Type 0 where
@@ -23,63 +23,65 @@ pub data Step : Type 0 where
   Table : TableStep → Step
 
 -- what a step does first: it answers by itself, or it asks
-pub data Front : Type 0 where
-  Done : Reply → Sess → Front
-  Asks : Question → Front
+pub data FirstMove : Type 0 where
+  Done : Reply → SessionState → FirstMove
+  Asks : Question → FirstMove
 
 -- a refusal leaves the connection
-abbrev pub front_of : Sess → Result Question Reply → Front
-front_of session (Err reply) = Done reply session
-front_of session (Ok q) = Asks q
+abbrev pub first_move_of : SessionState → Result Question Reply → FirstMove
+first_move_of session (Err reply) = Done reply session
+first_move_of session (Ok q) = Asks q
 
-abbrev pub done : Reply × Sess → Front
-done answered = Done answered.0 answered.1
+abbrev pub done_with : Reply × SessionState → FirstMove
+done_with answered = Done answered.0 answered.1
 
 -- by whether memory for what the connection takes of its own is refused
-abbrev pub front_by : ℕ → Sess → Step → Bool → Front
-front_by now session (FindStep message) refused =
-    front_of session
+abbrev pub first_move_by : ℕ → SessionState → Step → Bool → FirstMove
+first_move_by now session (FindStep message) refused =
+    first_move_of session
     (find_decision (is_some session.awaited) session.msize session.fids message refused)
-front_by now session AttachStep refused = front_of session (attach_decision now session.awaited)
-front_by now session (CallStep message) refused =
-    front_of session
+first_move_by now session AttachStep refused =
+    first_move_of session (attach_decision now session.awaited)
+first_move_by now session (CallStep message) refused =
+    first_move_of session
     (call_decision now (is_some session.awaited) session.msize session.fids message refused)
-front_by now session (CloseStep fid) refused =
-    front_of session (close_decision now (is_some session.awaited) session.fids fid)
-front_by now session (Table change) refused = done (table_stepped session change)
+first_move_by now session (CloseStep fid) refused =
+    first_move_of session (close_decision now (is_some session.awaited) session.fids fid)
+first_move_by now session (Table change) refused = done_with (table_stepped session change)
 
 -- where memory refuses what the mark says
-abbrev pub front : ℕ → Sess → Step → OwnMark → Front
-front now session step mark = front_by now session step (refuses_own mark)
+abbrev pub first_move : ℕ → SessionState → Step → OwnMark → FirstMove
+first_move now session step mark = first_move_by now session step (refuses_own mark)
 
 -- what comes of what the port gives; a close frees the fid whatever the answer is
-abbrev pub after : Sess → Step → PortAnswer → Reply × Sess
-after session (FindStep message) given = find_after session message given
-after session AttachStep given = attach_after session session.awaited given
-after session (CallStep message) (CallAnswer answer) =
-    leaves session (call_after session.fids message answer)
-after session (CloseStep fid) (CallAnswer answer) =
-    leaves session (close_reply answer, remove session.fids fid)
-after session step given = (r.Memory, session)
+abbrev pub reply_and_session : SessionState → Step → PortAnswer → Reply × SessionState
+reply_and_session session (FindStep message) given = find_after session message given
+reply_and_session session AttachStep given = attach_after session session.awaited given
+reply_and_session session (CallStep message) (CallAnswer answer) =
+    with_fids_left session (call_after session.fids message answer)
+reply_and_session session (CloseStep fid) (CallAnswer answer) =
+    with_fids_left session (close_reply answer, remove session.fids fid)
+reply_and_session session step given = (r.Memory, session)
 
 -- ---- a step with a port
 
 module _ {P : Type 0} (gives : P → Question → PortAnswer → P → Type 0) where
   -- from what a step does first, to its reply and where it leads
-  abbrev pub Goes : Front → Sess → P → Step → Reply → Sess → P → Type 0
-  Goes (Done own_reply own_session) session port step reply session' port' =
+  abbrev pub Continues : FirstMove → SessionState → P → Step → Reply → SessionState → P → Type 0
+  Continues (Done own_reply own_session) session port step reply session' port' =
       (reply ≡ own_reply) × (session' ≡ own_session) × (port' ≡ port)
-  Goes (Asks question) session port step reply session' port' =
+  Continues (Asks question) session port step reply session' port' =
       (given : PortAnswer) × gives port question given port'
-      × ((reply, session') ≡ after session step given)
+      × ((reply, session') ≡ reply_and_session session step given)
 
   -- where memory refuses what the mark says the step has this reply, and leads there
-  abbrev pub Takes : ℕ → Sess → P → Step → OwnMark → Reply → Sess → P → Type 0
-  Takes now session port step mark reply session' port' =
-      Goes (front now session step mark) session port step reply session' port'
+  abbrev pub TakesWithMark : ℕ → SessionState → P → Step → OwnMark → Reply → SessionState → P
+      → Type 0
+  TakesWithMark now session port step mark reply session' port' =
+      Continues (first_move now session step mark) session port step reply session' port'
 
   -- with some mark
-  pub record IsTaken (now : ℕ) (session : Sess) (port : P) (step : Step) (reply : Reply)
-      (session' : Sess) (port' : P) : Type 0 where
+  pub record IsStepTaken (now : ℕ) (session : SessionState) (port : P) (step : Step) (reply : Reply)
+      (session' : SessionState) (port' : P) : Type 0 where
     pub mark : OwnMark
-    pub takes : Takes now session port step mark reply session' port'
+    pub takes : TakesWithMark now session port step mark reply session' port'

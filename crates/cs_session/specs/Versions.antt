@@ -1,12 +1,13 @@
 -- What a version comes to (version(5)).
-use Rattle.std.specs.Prelude.{ℕ, Bool, List, [], ◌∷◌, min, nat_lt, Option, None, Some, codes, if◌then◌else◌}
+use Rattle.std.specs.Prelude.{ℕ, Bool, List, [], ◌∷◌, min, nat_lt, Option, None, Some, codes}
+use Rattle.std.specs.Prelude.{if◌then◌else◌}
 use Rattle.cs_names.specs.declared.limits.TheConstants.{LEAST_MESSAGE_SIZE, MESSAGE_BYTES}
 use Rattle.cs_names.specs.declared.rule_id.RuleId.TheVariants.{S4}
 use Rattle.cs_names.specs.Pieces.{pieces}
 use Rattle.cs_names.specs.Texts.{same_bytes}
 use Rattle.cs_session.specs.declared.reply.Reply.{Reply}
 use Rattle.cs_session.specs.declared.reply.Reply.TheVariants as r
-use Rattle.cs_session.specs.Sessions.{Sess, blank}
+use Rattle.cs_session.specs.Sessions.{SessionState, empty_session}
 
 -- the first of some pieces
 abbrev pub first_piece : List (List ℕ) → List ℕ
@@ -22,22 +23,23 @@ abbrev pub is_spoken : List ℕ → Bool
 is_spoken text = same_bytes (before_period text) (codes "9P2000")
 
 -- the message size of a session, at most ours
-abbrev pub agreed : ℕ → ℕ
-agreed msize = min msize MESSAGE_BYTES
+abbrev pub agreed_size : ℕ → ℕ
+agreed_size msize = min msize MESSAGE_BYTES
 
 -- no message size below the least one; else the smaller of the client's and ours, and whether the
 -- version is spoken
 abbrev pub version_reply : ℕ → List ℕ → Reply
 version_reply msize text =
     if nat_lt msize LEAST_MESSAGE_SIZE then r.Error S4
-    else r.Version (agreed msize) (is_spoken text)
+    else r.Version (agreed_size msize) (is_spoken text)
 
 -- the message size of the session that stands then, if one does
 abbrev pub session_size : ℕ → List ℕ → Option ℕ
 session_size msize text =
-    if nat_lt msize LEAST_MESSAGE_SIZE then None else if is_spoken text then Some (agreed msize)
+    if nat_lt msize LEAST_MESSAGE_SIZE then None
+    else if is_spoken text then Some (agreed_size msize)
     else None
 
 -- no fid is left, also where the version is refused
-abbrev pub versioned : ℕ → List ℕ → Reply × Sess
-versioned msize text = (version_reply msize text, blank (session_size msize text))
+abbrev pub after_version : ℕ → List ℕ → Reply × SessionState
+after_version msize text = (version_reply msize text, empty_session (session_size msize text))

@@ -1,7 +1,7 @@
 -- A walk: from a fid that isn't open to a new one, or to itself (walk(5)).
 use Rattle.std.specs.Prelude.{ℕ, Option, None, Some, is_some, if◌then◌else◌, option_map}
 use Rattle.std.specs.FinMap.{insert}
-use Rattle.cs_fids.specs.declared.entry.Entry.TheVariants as entry
+use Rattle.cs_fids.specs.declared.entry.FidEntry.TheVariants as entry
 use Rattle.cs_fids.specs.declared.fid.Walked.{Walked}
 use Rattle.cs_fids.specs.FidOf.{FidOf}
 use Rattle.cs_fids.specs.Fids.{moved_to}
@@ -9,7 +9,7 @@ use Rattle.cs_fids.specs.Tables.{FidMap}
 use Rattle.cs_permit.specs.declared.call.Call.TheVariants as c
 use Rattle.cs_run.specs.declared.answer.Answer.{Answer}
 use Rattle.cs_run.specs.declared.answer.Answer.TheVariants as a
-use Rattle.cs_run.specs.Walks.{Way}
+use Rattle.cs_run.specs.Walks.{WalkResult}
 use Rattle.cs_session.specs.declared.message.WalkMessage.{WalkMessage}
 use Rattle.cs_session.specs.declared.reply.Reply.{Reply}
 use Rattle.cs_session.specs.declared.reply.Reply.TheVariants as r
@@ -23,7 +23,7 @@ walk_question now fids message =
     (walked_at fids message.fid)
 
 -- the new fid stands for the last file; a walk that a rule stopped makes and moves no fid
-abbrev pub walk_left : FidMap → ℕ → Option (FidOf Walked) → Way → FidMap
+abbrev pub walk_left : FidMap → ℕ → Option (FidOf Walked) → WalkResult → FidMap
 walk_left fids newfid None way = fids
 walk_left fids newfid (Some f) way =
     if is_some way.stopped then fids else insert fids newfid (entry.Walked (moved_to f way.last))

@@ -6,7 +6,7 @@ ghost use Rattle.cs_session.specs.declared.message.Message.TheVariants as m;
 ghost use Rattle.cs_session.specs.declared.reply.Reply.{Reply};
 ghost use Rattle.cs_session.specs.declared.reply.Reply.TheVariants as r;
 ghost use Rattle.cs_session.specs.Messages.{IsAnswered, closes_first};
-ghost use Rattle.cs_session.specs.Sessions.{Sess, blank};
+ghost use Rattle.cs_session.specs.Sessions.{SessionState, empty_session};
 ghost use Rattle.cs_session.specs.Sizes.{IsPlain, MessageFits, ReplyFits};
 
 use crate::message::{AttachMessage, Message, TableStep};
@@ -22,7 +22,7 @@ impl Session {
         requires { self.old.awaited ≡ None }
         ensures closed { least_open self.new.fids ≡ None }
         ensures idle { self.new.awaited ≡ None }
-        ensures before { (message : Message) (reply : Reply) (s : Sess) (p : P)
+        ensures before { (message : Message) (reply : Reply) (s : SessionState) (p : P)
             → closes_first message ≡ true
             → IsAnswered P.gives now message self.new port.new reply s p
             → IsAnswered P.gives now message self.old port.old reply s p }
@@ -91,7 +91,7 @@ impl Session {
         requires { self.old.awaited ≡ None }
         ensures answered { IsAnswered P.gives now m.HangUp self.old port.old r.Closed self.new
             port.new }
-        ensures ended { self.new ≡ blank None }
+        ensures ended { self.new ≡ empty_session None }
     {
         self.close_all(alloc, port, now);
         let _closed = self.table_step(port, now, TableStep::HangUp);

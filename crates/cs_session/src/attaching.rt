@@ -1,7 +1,8 @@
 //! Attaches: a run is found, and then attached to (attach(5)).
 ghost use Rattle.std.specs.Prelude.{◌≡◌, ◌≢◌, ◌<◌, ◌≤◌, false, IfErr, IfOk, IsOk, None};
 ghost use Rattle.std.specs.FinMap.{get};
-ghost use Rattle.cs_session.specs.Attaches.{attach_settled, find_decision, find_refusal, pass_refusal};
+ghost use Rattle.cs_session.specs.Attaches.{attach_settled, find_decision, find_refusal};
+ghost use Rattle.cs_session.specs.Attaches.{pass_refusal};
 ghost use Rattle.cs_session.specs.Decisions.{Decides};
 ghost use Rattle.cs_session.specs.Names.{user_in};
 ghost use Rattle.cs_session.specs.Questions.{FindRun};
@@ -10,7 +11,7 @@ ghost use Rattle.cs_session.specs.Sizes.{IsPlain};
 use crate::message::AttachMessage;
 use crate::question::{first_of, refusal};
 use crate::reply::Reply;
-use cs_fids::{Entry, Fid, FidTable, NOFID};
+use cs_fids::{Fid, FidEntry, FidTable, NOFID};
 use cs_names::{NameFault, RuleId, UserName};
 use cs_permit::{FindFault, PassFault, Request, TreeName};
 use cs_run::Answer;
@@ -109,7 +110,7 @@ pub(crate) fn settle_attach(
     match answer {
         Answer::Attached(qid) => match user {
             Some(user) => {
-                let _put = fids.put(fid, Entry::Walked(Fid::new(run, pass, 0, user)));
+                let _put = fids.put(fid, FidEntry::Walked(Fid::new(run, pass, 0, user)));
                 Reply::Attach(qid)
             }
             None => Reply::Error(RuleId::A6),

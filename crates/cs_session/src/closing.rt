@@ -8,7 +8,7 @@ ghost use Rattle.cs_session.specs.Sizes.{IsPlain};
 
 use crate::question::{RunQuestion, refusal};
 use crate::reply::Reply;
-use cs_fids::{Entry, FidTable};
+use cs_fids::{FidEntry, FidTable};
 use cs_names::RuleId;
 use cs_permit::{Call, CloseCall};
 use cs_run::Answer;
@@ -33,7 +33,7 @@ pub(crate) fn decide_close(
         return Err(Reply::Error(RuleId::S5));
     }
     match fids.take_any(fid) {
-        Ok(Entry::Opened(opened)) => {
+        Ok(FidEntry::Opened(opened)) => {
             let (run, pass, open_number) = (opened.run(), opened.pass(), opened.open_number());
             let call = Call::Close(CloseCall {
                 open_number,
@@ -41,7 +41,7 @@ pub(crate) fn decide_close(
             });
             Ok(RunQuestion::new(now, run, pass, call))
         }
-        Ok(Entry::Walked(_)) => unreachable!(),
+        Ok(FidEntry::Walked(_)) => unreachable!(),
         Err(_) => unreachable!(),
     }
 }

@@ -11,8 +11,8 @@ ghost use Rattle.cs_session.specs.Messages.{Answers};
 ghost use Rattle.cs_session.specs.OfFids.{IsForFid};
 ghost use Rattle.cs_session.specs.OwnRules.{own_rules};
 ghost use Rattle.cs_session.specs.Questions.{CallOn};
-ghost use Rattle.cs_session.specs.Sessions.{Sess};
-ghost use Rattle.cs_session.specs.Steps.{Asks, Done, Step, front_by};
+ghost use Rattle.cs_session.specs.Sessions.{SessionState};
+ghost use Rattle.cs_session.specs.Steps.{Asks, Done, Step, first_move_by};
 ghost use Rattle.cs_session.specs.Trails.{IsTrail};
 
 use crate::port::Port;
@@ -20,21 +20,23 @@ use crate::port::Port;
 /// Each call that a connection asks for is made for one of its fids: on the fid's run, under its
 /// pass, on its file, for its user.
 pub fn calls_are_of_their_fids()
-    ensures { (now : ℕ) (session : Sess) (step : Step) (refused : Bool) (moment place pass : ℕ)
-        (call : Call) → front_by now session step refused ≡ Asks (CallOn moment place pass call)
+    ensures { (now : ℕ) (session : SessionState) (step : Step) (refused : Bool)
+        (moment place pass : ℕ)
+        (call : Call)
+        → first_move_by now session step refused ≡ Asks (CallOn moment place pass call)
         → IsForFid session now moment place pass call }
 {}
 
 /// If a connection refuses a step by itself, the error is the first of its rules that fails.
 pub fn own_denials_are_the_first_rule()
-    ensures { (now : ℕ) (session left : Sess) (step : Step) (refused : Bool) (rule : RuleId)
-        → front_by now session step refused ≡ Done (Reply.Error rule) left
+    ensures { (now : ℕ) (session left : SessionState) (step : Step) (refused : Bool) (rule : RuleId)
+        → first_move_by now session step refused ≡ Done (Reply.Error rule) left
         → IsFirstToFail (own_rules now session step) rule }
 {}
 
 /// A message is its steps, one after the other, each with its mark, and the last one's reply.
 pub fn message_is_steps<P: Port>(_port: &P)
-    ensures { (now : ℕ) (message : Message) (marks : List OwnMark) (s t : Sess) (p q : P)
+    ensures { (now : ℕ) (message : Message) (marks : List OwnMark) (s t : SessionState) (p q : P)
         (reply : Reply) → Answers P.gives now message marks s p reply t q
         → IsTrail P.gives now s p marks reply t q }
 {}

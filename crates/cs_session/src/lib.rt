@@ -7,7 +7,6 @@ mod attaching;
 mod awaited;
 pub mod clock;
 mod closing;
-pub mod counted;
 pub mod laws;
 pub mod message;
 mod opening;
@@ -20,13 +19,11 @@ pub mod reply;
 pub mod serving;
 pub mod session;
 mod stating;
-pub mod stream;
 mod versions;
 mod walking;
 mod writing;
 
 pub use clock::Clock;
-pub use counted::{Counted, TwoEnded};
 pub use cs_permit::{FindFault, PassFault};
 pub use laws::{calls_are_of_their_fids, message_is_steps, own_denials_are_the_first_rule};
 pub use message::{
@@ -37,4 +34,3 @@ pub use port::Port;
 pub use reply::Reply;
 pub use serving::{ServeFault, serve_stream};
 pub use session::Session;
-pub use stream::{Counts, Stream, Transfer, WriteFault, write_all};

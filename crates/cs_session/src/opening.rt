@@ -9,7 +9,7 @@ ghost use Rattle.cs_session.specs.Opens.{create_after, open_after, open_left};
 use crate::message::{CreateMessage, OpenMessage};
 use crate::question::{RunQuestion, first_of, refusal};
 use crate::reply::Reply;
-use cs_fids::{Entry, FidTable};
+use cs_fids::{FidEntry, FidTable};
 use cs_names::{Name, RuleId};
 use cs_permit::mode::is_bad_open_mode;
 use cs_permit::{Call, CreateCall, OpenCall, Request};
@@ -35,8 +35,8 @@ pub(crate) fn decide_open(
         return Err(Reply::Error(RuleId::S1));
     }
     let fid = match fids.look(message.fid) {
-        Some(Entry::Walked(fid)) => fid,
-        Some(Entry::Opened(_)) => return Err(Reply::Error(RuleId::O2)),
+        Some(FidEntry::Walked(fid)) => fid,
+        Some(FidEntry::Opened(_)) => return Err(Reply::Error(RuleId::O2)),
         None => return Err(Reply::Error(RuleId::O1)),
     };
     if is_bad_open_mode(message.mode) {
@@ -78,7 +78,7 @@ pub(crate) fn decide_create(
     let Ok(name) = Name::from_text(message.name.into_string()) else {
         return Err(Reply::Error(RuleId::S5));
     };
-    let Some(Entry::Walked(fid)) = fids.look(message.fid) else {
+    let Some(FidEntry::Walked(fid)) = fids.look(message.fid) else {
         return Err(Reply::Error(RuleId::S5));
     };
     let Ok(user) = fid.user().try_clone() else {

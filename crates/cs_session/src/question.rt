@@ -11,7 +11,7 @@ use crate::port::Port;
 use crate::reply::Reply;
 use cs_fids::FidTable;
 use cs_names::RuleId;
-use cs_permit::{Call, Request, first_of_table};
+use cs_permit::{Call, Request, first_table_rule};
 use cs_run::Answer;
 use std::alloc::Global;
 
@@ -47,7 +47,7 @@ impl<'a> RunQuestion<'a> {
 
 /// The first rule of the connection that the request fails: S5 where a run awaits its attach, S1
 /// where no session stands, and then those of its fids. It takes no memory.
-#[tactic(auto, unfolding(cs_permit::specs::Table::first_of_table))]
+#[tactic(auto, unfolding(cs_permit::specs::Table::first_table_rule))]
 pub(crate) fn first_of(
     awaits: bool,
     msize: Option<u32>,
@@ -63,7 +63,7 @@ pub(crate) fn first_of(
     if msize.is_none() {
         return Some(RuleId::S1);
     }
-    first_of_table(request, fids)
+    first_table_rule(request, fids)
 }
 
 /// The reply to a denial or to want of memory.

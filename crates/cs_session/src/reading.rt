@@ -1,17 +1,18 @@
 //! Reads (read(5)).
-ghost use Rattle.std.specs.Prelude.{◌≡◌, ℕ, ◌≤◌, false, is_some, true, IfErr, IfOk, IsOk, OnErr, Option};
+ghost use Rattle.std.specs.Prelude.{◌≡◌, ℕ, ◌≤◌, false, is_some, true, IfErr, IfOk, IsOk, OnErr};
+ghost use Rattle.std.specs.Prelude.{Option};
 ghost use Rattle.cs_run.specs.Laws.{FitsCall, bytes_in};
 ghost use Rattle.cs_session.specs.declared.message.CallMessage.TheVariants as call;
 ghost use Rattle.cs_session.specs.Calls.{call_decision};
 ghost use Rattle.cs_session.specs.Decisions.{Decides, question_of, opened_at};
 ghost use Rattle.cs_run.specs.declared.answer.Answer.{Answer};
 ghost use Rattle.cs_session.specs.Sizes.{IsPlain, ReplyFits};
-ghost use Rattle.cs_session.specs.Reads.{cut, read_after, read_left};
+ghost use Rattle.cs_session.specs.Reads.{read_count, read_after, read_left};
 
 use crate::message::ReadMessage;
 use crate::question::{RunQuestion, refusal};
 use crate::reply::Reply;
-use cs_fids::{Entry, FidTable, Place};
+use cs_fids::{FidEntry, FidTable, Place};
 use cs_names::{Bytes, RuleId};
 use cs_permit::mode::covers_read;
 use cs_permit::{Call, ReadCall};
@@ -22,14 +23,14 @@ use std::alloc::AllocError;
 pub const READ_OVERHEAD: u32 = 11;
 
 /// At most as many bytes as an Rread of that message size holds.
-fn cut(msize: Option<u32>, count: u32) -> u32
-    ensures { result ≡ cut msize count }
+fn read_count(msize: Option<u32>, count: u32) -> u32
+    ensures { result ≡ read_count msize count }
 {
     count.min(msize.unwrap_or(0).saturating_sub(READ_OVERHEAD))
 }
 
 /// The place again, which takes memory only for a name.
-fn copied(place: &Place) -> Result<Place, AllocError>
+fn try_clone_place(place: &Place) -> Result<Place, AllocError>
     ensures ok { IfOk result (λ copy. copy ≡ place.now) }
     ensures memory { OnErr result (is_some place.now.last ≡ true) }
 {
@@ -56,7 +57,7 @@ pub(crate) fn decide_read(
     ensures plain { IfErr result IsPlain }
     ensures fits { IfOk result
         (λ a. (answer : Answer) → FitsCall a.call answer
-        → bytes_in answer ≤ cut msize message.count) }
+        → bytes_in answer ≤ read_count msize message.count) }
     ensures idle { IsOk result → awaits ≡ false }
 {
     if awaits {
@@ -66,20 +67,20 @@ pub(crate) fn decide_read(
         return Err(Reply::Error(RuleId::S1));
     }
     let fid = match fids.look(message.fid) {
-        Some(Entry::Opened(fid)) => fid,
-        Some(Entry::Walked(_)) => return Err(Reply::Error(RuleId::G2)),
+        Some(FidEntry::Opened(fid)) => fid,
+        Some(FidEntry::Walked(_)) => return Err(Reply::Error(RuleId::G2)),
         None => return Err(Reply::Error(RuleId::G1)),
     };
     if !covers_read(fid.mode()) {
         return Err(Reply::Error(RuleId::G2));
     }
-    let Ok(place) = copied(fid.place()) else {
+    let Ok(place) = try_clone_place(fid.place()) else {
         return Err(Reply::Memory);
     };
     let call = Call::Read(ReadCall {
         number: fid.number(),
         offset: message.offset,
-        count: cut(msize, message.count),
+        count: read_count(msize, message.count),
         place,
     });
     Ok(RunQuestion::new(now, fid.run(), fid.pass(), call))
@@ -97,7 +98,7 @@ fn go_on_at(fids: &mut FidTable, fid: u32, place: Option<Place>)
 /// The reply to a read, and its fid.
 pub(crate) fn settle_read(fids: &mut FidTable, fid: u32, answer: Answer) -> Reply
     ensures value { (result, fids.new.fids) ≡ read_after fids.old.fids fid answer }
-    ensures fits { (msize : Option ℕ) (count : ℕ) → bytes_in answer ≤ cut msize count
+    ensures fits { (msize : Option ℕ) (count : ℕ) → bytes_in answer ≤ read_count msize count
         → ReplyFits msize result }
 {
     match answer {

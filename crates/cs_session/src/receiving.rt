@@ -1,13 +1,16 @@
 //! From a message's bytes to the reply on the wire.
 ghost use Rattle.std.specs.Option.{ForSome};
-ghost use Rattle.std.specs.Prelude.{◌≡◌, ℕ, ◌≤◌, codes, IfErr, IfOk, length, map, None, Option, string_bytes};
+ghost use Rattle.std.specs.Prelude.{◌≡◌, ℕ, ◌≤◌, codes, IfErr, IfOk, length, map, None, Option};
+ghost use Rattle.std.specs.Prelude.{string_bytes};
 ghost use Rattle.cs_names.specs.Rules.{text_of};
 ghost use Rattle.cs_permit.specs.Refusals.{first_failing};
 ghost use Rattle.cs_permit.specs.Sent.{sent_of};
 ghost use Rattle.cs_permit.specs.Sizes.{IsQid, IsShown};
 ghost use Rattle.cs_session.specs.declared.message.CallMessage.TheVariants as call;
 ghost use Rattle.cs_session.specs.Ready.{IsAgreed};
-ghost use Rattle.cs_session.specs.Receiving.{IsReceived, IsReplied, IsSpelled, IsUnread, error_reply, rules_before_decoding, message_in, needs_no_session, wire_of, version_named, tag_in};
+ghost use Rattle.cs_session.specs.Receiving.{IsReceived, IsReplied, IsSpelled, IsUnread};
+ghost use Rattle.cs_session.specs.Receiving.{error_reply, rules_before_decoding, message_in};
+ghost use Rattle.cs_session.specs.Receiving.{needs_no_session, wire_of, version_named, tag_in};
 ghost use Rattle.cs_session.specs.Sizes.{FitsIn, FitsWithin, ReplyFits, room_of};
 ghost use Rattle.cs_wire.specs.Messages.{r_view, t_kind_of};
 
@@ -18,9 +21,10 @@ use crate::message::{
 use crate::port::Port;
 use crate::reply::Reply;
 use crate::session::Session;
+use cs_names::laws::know;
 use cs_names::{RuleId, Text, Texts};
 use cs_permit::{SentBytes, SentStat};
-use cs_wire::{Qid, RBody, RMessage, Stat, TBody, TKind, TMessage, WireFault, decode};
+use cs_wire::{Qid, RBody, RMessage, Stat, TBody, TKind, TMessage, WireFault, decode_request};
 use std::alloc::Global;
 use std::borrow::CowStr;
 
@@ -67,7 +71,7 @@ fn decoded(alloc: Global, bytes: &[u8]) -> Result<TMessage<'_>, Reply>
     ensures ok { IfOk result (λ message. IsSpelled bytes.now message) }
     ensures err { IfErr result (IsUnread bytes.now) }
 {
-    match decode(alloc, bytes) {
+    match decode_request(alloc, bytes) {
         Ok(message) => Ok(message),
         Err(WireFault::Memory) => Err(Reply::Memory),
         Err(_) => Err(Reply::Error(RuleId::S2)),
@@ -305,7 +309,7 @@ fn reply_of(msize: Option<u32>, tag: u16, reply: Reply) -> RMessage
     ensures value { r_view result ≡ wire_of tag reply }
     ensures fits { FitsWithin (room_of msize) (r_view result) }
 {
-    let _msize = msize;
+    know(msize);
     RMessage {
         tag,
         body: body_of(reply),

@@ -4,19 +4,19 @@ ghost use Rattle.std.specs.FinMap.{remove};
 ghost use Rattle.cs_session.specs.declared.message.CallMessage.TheVariants as call;
 ghost use Rattle.cs_session.specs.Calls.{call_decision};
 ghost use Rattle.cs_session.specs.Decisions.{Decides, question_of};
-ghost use Rattle.cs_session.specs.Removes.{removal, remove_reply};
+ghost use Rattle.cs_session.specs.Removes.{remove_run_question, remove_reply};
 ghost use Rattle.cs_session.specs.Sizes.{IsPlain};
 
 use crate::question::{RunQuestion, first_of, refusal};
 use crate::reply::Reply;
-use cs_fids::{Entry, FidTable};
+use cs_fids::{FidEntry, FidTable};
 use cs_names::RuleId;
 use cs_permit::{Call, RemoveCall, Request};
 use cs_run::Answer;
 
 /// What the remove of this entry asks, whose user it takes.
-fn removal(now: u32, entry: Entry) -> RunQuestion<'static>
-    ensures { result ≡ removal now entry }
+fn remove_run_question(now: u32, entry: FidEntry) -> RunQuestion<'static>
+    ensures { result ≡ remove_run_question now entry }
 {
     let (run, pass, number) = (entry.run(), entry.pass(), entry.number());
     let open_number = match entry.as_opened() {
@@ -50,7 +50,7 @@ pub(crate) fn decide_remove(
         return Err(Reply::Error(rule));
     }
     match fids.take_any(fid) {
-        Ok(entry) => Ok(removal(now, entry)),
+        Ok(entry) => Ok(remove_run_question(now, entry)),
         Err(_) => Err(Reply::Error(RuleId::S5)),
     }
 }

@@ -1,16 +1,19 @@
 //! A connection over a stream: its messages are answered until the stream ends.
-ghost use Rattle.std.specs.Prelude.{◌≡◌, ◌≢◌, ◌+◌, ◌*◌, ◌<◌, ◌≤◌, [], length, vec_len, vec_capacity, IfOk, None, Ok, Err};
+ghost use Rattle.std.specs.Prelude.{◌≡◌, ◌≢◌, ◌+◌, ◌*◌, ◌<◌, ◌≤◌, [], length, vec_len};
+ghost use Rattle.std.specs.Prelude.{vec_capacity, IfOk, OnOk, None, Ok, Err};
 ghost use Rattle.cs_names.specs.declared.limits.TheConstants.{MESSAGE_BYTES};
-ghost use Rattle.cs_wire.specs.Held.{left, size_of};
-ghost use Rattle.cs_session.specs.Serving.{Adds, AnswersFront, Handles, Converses, Conversation, StopsFor};
-ghost use Rattle.cs_session.specs.Streams.{KeepsReads, KeepsFaults, BlamesReads, BlamesWrites, up};
+ghost use Rattle.cs_wire.specs.Held.{pending_bytes, size_of};
+ghost use Rattle.cs_session.specs.Serving.{Adds, AnswersFront, Handles, Converses, Conversation};
+ghost use Rattle.cs_session.specs.Serving.{FaultsHaveCauses, StopsFor};
+ghost use Rattle.cs_stream.specs.Streams.{KeepsReads, KeepsFaults, BlamesReads, BlamesWrites};
+ghost use Rattle.cs_stream.specs.Streams.{GaveUpInTime, saturating_sum};
 
 use crate::clock::Clock;
 use crate::port::Port;
 use crate::session::Session;
-use crate::stream::{Stream, Transfer, write_all};
 use cs_names::limits::{CONNECTION_READS, INTERRUPTIONS, MESSAGE_BYTES};
-use cs_wire::{FrameFault, Framer, encode};
+use cs_stream::{Stream, Transfer, write_all};
+use cs_wire::{FrameFault, Framer, encode_reply};
 use std::alloc::{AllocError, Global};
 use std::fmt;
 
@@ -51,7 +54,7 @@ pub(crate) enum Progress {
 
 /// The buffers of a connection: for what comes, and for the replies. They never grow.
 fn buffers(alloc: Global) -> Result<(Framer, Vec<u8>), AllocError>
-    ensures left { IfOk result (λ x. left x.0 ≡ []) }
+    ensures left { IfOk result (λ x. pending_bytes x.0 ≡ []) }
     ensures size { IfOk result (λ x. MESSAGE_BYTES ≤ size_of x.0) }
     ensures room { IfOk result (λ x. 2 * MESSAGE_BYTES ≤ vec_capacity x.1) }
 {
@@ -79,7 +82,7 @@ fn answer_one<P: Port>(
     ensures idle { session.new.awaited ≡ None }
 {
     let reply = session.reply(alloc, port, now, message);
-    encode(&reply, replies).unwrap();
+    encode_reply(&reply, replies).unwrap();
 }
 
 /// Answers whole messages in place, with each reply at its final place behind the others, while
@@ -95,9 +98,10 @@ fn answer_some<P: Port, C: Clock>(
     requires empty { replies.old.items ≡ [] }
     requires room { 2 * MESSAGE_BYTES ≤ vec_capacity replies.old }
     requires idle { session.old.awaited ≡ None }
-    ensures served { AnswersFront P.gives session.old port.old (left framer.old) (left framer.new)
+    ensures served { AnswersFront P.gives session.old port.old (pending_bytes framer.old)
+        (pending_bytes framer.new)
         replies.new.items session.new port.new }
-    ensures stops { StopsFor result (left framer.old) (left framer.new) }
+    ensures stops { StopsFor result (pending_bytes framer.old) (pending_bytes framer.new) }
     ensures size { size_of framer.new ≡ size_of framer.old }
     ensures room { 2 * MESSAGE_BYTES ≤ vec_capacity replies.new }
     ensures idle { session.new.awaited ≡ None }
@@ -126,10 +130,15 @@ fn answer_all<S: Stream, P: Port, C: Clock>(
 ) -> Result<(), ServeFault>
     requires room { 2 * MESSAGE_BYTES ≤ vec_capacity replies.old }
     requires idle { session.old.awaited ≡ None }
-    ensures handled { Handles P.gives result session.old port.old (left framer.old)
-        (left framer.new) (S.contents stream.old) (S.contents stream.new) session.new port.new }
+    ensures handled { Handles P.gives result session.old port.old (pending_bytes framer.old)
+        (pending_bytes framer.new) (S.contents stream.old) (S.contents stream.new) session.new
+        port.new }
     ensures blamed { result ≡ Err ServeFault.WriteFault
         → BlamesWrites (S.counts stream.old) (S.counts stream.new) }
+    ensures in_time { GaveUpInTime (S.counts stream.old).interrupted_writes
+        (S.counts stream.new).interrupted_writes }
+    ensures no_row { OnOk result
+        ((S.counts stream.new).interrupted_writes ≤ (S.counts stream.old).interrupted_writes) }
     ensures faults { KeepsFaults (S.counts stream.old) (S.counts stream.new) }
     ensures reads { KeepsReads (S.counts stream.old) (S.counts stream.new) }
     ensures remaining { S.remaining stream.new ≡ S.remaining stream.old }
@@ -162,7 +171,7 @@ fn converse<S: Stream, P: Port, C: Clock>(
     port: &mut P,
     clock: &mut C,
 ) -> Result<(), ServeFault>
-    requires left { left framer.old ≡ [] }
+    requires left { pending_bytes framer.old ≡ [] }
     requires size { MESSAGE_BYTES ≤ size_of framer.old }
     requires room { 2 * MESSAGE_BYTES ≤ vec_capacity replies.old }
     requires idle { session.old.awaited ≡ None }
@@ -173,13 +182,18 @@ fn converse<S: Stream, P: Port, C: Clock>(
         → BlamesReads (S.counts stream.old) (S.counts stream.new) }
     ensures write_fault { result ≡ Err ServeFault.WriteFault
         → BlamesWrites (S.counts stream.old) (S.counts stream.new) }
-    ensures ended { result ≡ Ok tt → (S.counts stream.new).ends ≡ up 1 (S.counts stream.old).ends }
+    ensures ended { result ≡ Ok tt
+        → (S.counts stream.new).ends ≡ saturating_sum 1 (S.counts stream.old).ends }
     ensures cut { result ≡ Err (ServeFault.FrameFault FrameFault.Cut)
-        → (S.counts stream.new).ends ≡ up 1 (S.counts stream.old).ends }
+        → (S.counts stream.new).ends ≡ saturating_sum 1 (S.counts stream.old).ends }
     ensures no_end { result ≡ Err ServeFault.ReadFault
         → (S.counts stream.new).ends ≡ (S.counts stream.old).ends }
     ensures bounded { (S.counts stream.new).reads
-        ≤ up CONNECTION_READS (S.counts stream.old).reads }
+        ≤ saturating_sum CONNECTION_READS (S.counts stream.old).reads }
+    ensures reads_in_time { GaveUpInTime (S.counts stream.old).interrupted_reads
+        (S.counts stream.new).interrupted_reads }
+    ensures writes_in_time { GaveUpInTime (S.counts stream.old).interrupted_writes
+        (S.counts stream.new).interrupted_writes }
     ensures memory { result ≢ Err ServeFault.Memory }
     ensures idle { session.new.awaited ≡ None }
 {
@@ -203,7 +217,7 @@ fn converse<S: Stream, P: Port, C: Clock>(
             }
             Transfer::Bytes(count) => {
                 waits = 0;
-                framer.took(count);
+                framer.advance(count);
                 answer_all(alloc, framer, session, replies, stream, port, clock)?;
             }
         }
@@ -226,19 +240,7 @@ pub fn serve_stream<S: Stream, P: Port, C: Clock>(
 ) -> Result<(), ServeFault>
     ensures serves { Conversation P.gives result port.old (S.remaining stream.old)
         (S.remaining stream.new) (S.contents stream.old) (S.contents stream.new) port.new }
-    // Each fault comes only for its cause, by the stream's counts.
-    ensures read_fault { result ≡ Err ServeFault.ReadFault
-        → BlamesReads (S.counts stream.old) (S.counts stream.new) }
-    ensures write_fault { result ≡ Err ServeFault.WriteFault
-        → BlamesWrites (S.counts stream.old) (S.counts stream.new) }
-    ensures ended { result ≡ Ok tt → (S.counts stream.new).ends ≡ up 1 (S.counts stream.old).ends }
-    ensures cut { result ≡ Err (ServeFault.FrameFault FrameFault.Cut)
-        → (S.counts stream.new).ends ≡ up 1 (S.counts stream.old).ends }
-    ensures no_end { result ≡ Err ServeFault.ReadFault
-        → (S.counts stream.new).ends ≡ (S.counts stream.old).ends }
-    ensures bounded { (S.counts stream.new).reads
-        ≤ up CONNECTION_READS (S.counts stream.old).reads }
-    ensures memory { result ≡ Err ServeFault.Memory → S.counts stream.new ≡ S.counts stream.old }
+    ensures faults { FaultsHaveCauses result (S.counts stream.old) (S.counts stream.new) }
 {
     let mut session = Session::new(alloc);
     let result = match buffers(alloc) {

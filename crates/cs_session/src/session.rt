@@ -3,10 +3,10 @@ ghost use Rattle.std.specs.Prelude.{◌≡◌, ◌≢◌, ◌<◌, is_ok, is_som
 ghost use Rattle.std.specs.FinMap.{len};
 ghost use Rattle.cs_fids.specs.Tables.{least_open, opened_in};
 ghost use Rattle.cs_session.specs.Ready.{IsAgreed};
-ghost use Rattle.cs_session.specs.Sessions.{blank, entry_at};
+ghost use Rattle.cs_session.specs.Sessions.{empty_session, entry_at};
 ghost use Rattle.std.specs.Option.{ForSome};
 ghost use Rattle.cs_session.specs.Sizes.{IsPlain, ReplyFits};
-ghost use Rattle.cs_session.specs.Steps.{AttachStep, CloseStep, FindStep, IsTaken, Table};
+ghost use Rattle.cs_session.specs.Steps.{AttachStep, CloseStep, FindStep, IsStepTaken, Table};
 ghost use Rattle.cs_session.specs.TableSteps.{table_stepped};
 
 mod calls;
@@ -34,9 +34,9 @@ pub struct Session {
 
 impl Model for Session {
     ghost use Rattle.cs_session.specs.Ready.{IsReady};
-    ghost use Rattle.cs_session.specs.Sessions.{Sess, sess_code};
+    ghost use Rattle.cs_session.specs.Sessions.{SessionState, sess_code};
 
-    ghost Value = { Sess };
+    ghost Value = { SessionState };
 
     ghost coded = { sess_code };
 
@@ -48,7 +48,7 @@ impl Model for Session {
 impl Session {
     /// A connection with no session and no fid.
     pub fn new(alloc: Global) -> Session
-        ensures { result ≡ blank None }
+        ensures { result ≡ empty_session None }
     {
         Session {
             msize: None,
@@ -74,7 +74,7 @@ impl Session {
         now: u32,
         message: AttachMessage,
     ) -> Reply
-        ensures takes { IsTaken P.gives now self.old port.old (FindStep message) result self.new
+        ensures takes { IsStepTaken P.gives now self.old port.old (FindStep message) result self.new
             port.new }
         ensures plain { IsPlain result }
         ensures found { result ≡ Reply.Found → IsSome self.new.awaited }
@@ -101,7 +101,8 @@ impl Session {
     /// Attaches to the run that was found, which then awaits its attach no more. S5 where none was
     /// found. It takes no memory but the port's.
     pub fn attach_step<P: Port>(&mut self, alloc: Global, port: &mut P, now: u32) -> Reply
-        ensures takes { IsTaken P.gives now self.old port.old AttachStep result self.new port.new }
+        ensures takes { IsStepTaken P.gives now self.old port.old AttachStep result self.new
+            port.new }
         ensures fits { ReplyFits self.old.msize result }
         ensures idle { self.new.awaited ≡ None }
     {
@@ -123,7 +124,7 @@ impl Session {
 
     /// Closes an open fid, which is free then, whatever the answer is. S5 where the fid isn't open.
     pub fn close_step<P: Port>(&mut self, alloc: Global, port: &mut P, now: u32, fid: u32) -> Reply
-        ensures takes { IsTaken P.gives now self.old port.old (CloseStep fid) result self.new
+        ensures takes { IsStepTaken P.gives now self.old port.old (CloseStep fid) result self.new
             port.new }
         ensures plain { IsPlain result }
         ensures awaited { self.new.awaited ≡ self.old.awaited }
@@ -143,7 +144,7 @@ impl Session {
     fn begin(&mut self, msize: Option<u32>)
         requires agreed { ForSome msize IsAgreed }
         requires idle { self.old.awaited ≡ None }
-        ensures { self.new ≡ blank msize }
+        ensures { self.new ≡ empty_session msize }
     {
         self.fids.clear();
         self.msize = msize;
@@ -153,7 +154,7 @@ impl Session {
     /// where a run awaits its attach, where the fid of a clunk is open, and where a fid is open at
     /// a version or a hang-up: it changes nothing.
     pub fn table_step<P: Port>(&mut self, port: &mut P, now: u32, step: TableStep) -> Reply
-        ensures takes { IsTaken P.gives now self.old port.old (Table step) result self.new
+        ensures takes { IsStepTaken P.gives now self.old port.old (Table step) result self.new
             port.new }
         ensures value { (result, self.new) ≡ table_stepped self.old step }
         ensures plain { IsPlain result }

@@ -1,5 +1,6 @@
 //! Walks (walk(5)).
-ghost use Rattle.std.specs.Prelude.{◌≡◌, ◌≢◌, ℕ, ◌<◌, ◌≤◌, false, length, IfErr, IfOk, IsOk, None, Option, Some};
+ghost use Rattle.std.specs.Prelude.{◌≡◌, ◌≢◌, ℕ, ◌<◌, ◌≤◌, false, length, IfErr, IfOk, IsOk, None};
+ghost use Rattle.std.specs.Prelude.{Option, Some};
 ghost use Rattle.std.specs.FinMap.{get};
 ghost use Rattle.cs_run.specs.Laws.{FitsCall, qids_in};
 ghost use Rattle.cs_session.specs.declared.message.CallMessage.TheVariants as call;
@@ -13,7 +14,7 @@ ghost use Rattle.cs_session.specs.Walks.{walk_after, walk_left};
 use crate::message::WalkMessage;
 use crate::question::{RunQuestion, first_of, refusal};
 use crate::reply::Reply;
-use cs_fids::{Entry, Fid, FidTable, NOFID, Walked};
+use cs_fids::{Fid, FidEntry, FidTable, NOFID, Walked};
 use cs_names::RuleId;
 use cs_permit::{Call, Request, WalkCall};
 use cs_run::{Answer, Walk};
@@ -51,7 +52,7 @@ pub(crate) fn decide_walk(
     if message.newfid != message.fid && fids.reserve().is_err() {
         return Err(Reply::Memory);
     }
-    let Some(Entry::Walked(fid)) = fids.look(message.fid) else {
+    let Some(FidEntry::Walked(fid)) = fids.look(message.fid) else {
         return Err(Reply::Error(RuleId::S5));
     };
     let Ok(user) = fid.user().try_clone() else {
@@ -83,7 +84,7 @@ fn move_fid(fids: &mut FidTable, fid: u32, newfid: u32, from: Fid<Walked>, way: 
     if newfid == fid {
         let _moved = fids.move_to(fid, way.last());
     } else {
-        let _put = fids.put(newfid, Entry::Walked(from.moved_to(way.last())));
+        let _put = fids.put(newfid, FidEntry::Walked(from.moved_to(way.last())));
     }
 }
 

@@ -9,7 +9,7 @@ ghost use Rattle.cs_session.specs.Reads.{write_reply};
 use crate::message::WriteMessage;
 use crate::question::{RunQuestion, refusal};
 use crate::reply::Reply;
-use cs_fids::{Entry, FidTable};
+use cs_fids::{FidEntry, FidTable};
 use cs_names::RuleId;
 use cs_permit::mode::covers_write;
 use cs_permit::{Call, WriteCall};
@@ -35,8 +35,8 @@ pub(crate) fn decide_write<'a>(
         return Err(Reply::Error(RuleId::S1));
     }
     let fid = match fids.look(message.fid) {
-        Some(Entry::Opened(fid)) => fid,
-        Some(Entry::Walked(_)) => return Err(Reply::Error(RuleId::E2)),
+        Some(FidEntry::Opened(fid)) => fid,
+        Some(FidEntry::Walked(_)) => return Err(Reply::Error(RuleId::E2)),
         None => return Err(Reply::Error(RuleId::E1)),
     };
     if !covers_write(fid.mode()) {

@@ -4,6 +4,7 @@ mod asking;
 mod connections;
 mod copies;
 mod failing;
+mod fake_port;
 mod fids;
 mod framing;
 mod lone_run;

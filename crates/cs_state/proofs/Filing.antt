@@ -1,5 +1,6 @@
 -- What a set leaves of a file, from the bytes that it has at the start.
-use Rattle.std.proofs.Common.{◌≡◌, ℕ, ◌<◌, ◌≤◌, Bool, false, List, [], ◌∷◌, ◌++◌, refl, sym, ap, ◌∙◌, subst, arith, ⊎_elim, length, take, replicate, get_or}
+use Rattle.std.proofs.Common.{◌≡◌, ℕ, ◌<◌, ◌≤◌, Bool, false, List, [], ◌∷◌, ◌++◌, refl, sym, ap, ◌∙◌, subst, arith, ⊎_elim, length, take}
+use Rattle.std.proofs.Common.{replicate, get_or}
 use Rattle.std.proofs.lemmas.Bool.{cases_lt}
 use Rattle.std.proofs.lemmas.List.{get_or_read}
 use Rattle.cs_trace.specs.declared.operation.Rights.{Rights}
@@ -10,22 +11,23 @@ use Rattle.cs_micro.specs.declared.micro_op.MicroOp.{MicroOp}
 use Rattle.cs_apm.specs.Atlases.{content_before, no_record, AreStarts}
 use Rattle.cs_apm.specs.Contents.{content_left}
 use Rattle.cs_apm.specs.Owners.{owner_left}
-use Rattle.cs_apm.specs.States.{Content, bytes_of, nobody, visible}
+use Rattle.cs_apm.specs.States.{Content, bytes_of, no_rights, visible}
 use Rattle.cs_apm.proofs.Before.{left_file, made_before, start_before, unflagged}
 use Rattle.cs_apm.proofs.Owning.{left_owner}
 use Rattle.cs_state.specs.declared.parts.Parts.{Parts}
 use Rattle.cs_state.specs.Parts.{AreParts, bytes_before, file_in, owner_in}
-use Rattle.cs_state.specs.Windows.{whole}
+use Rattle.cs_state.specs.Windows.{whole_content}
 
 module _ (t : Trace) (ops : List MicroOp) (starts : List ℕ) (are : AreStarts t starts) (file : ℕ) where
   abbrev start_record : Path × Record
   start_record = get_or t.records (get_or starts file 0) no_record
 
-  made : length starts ≤ file → whole [] ≡ content_before t ops file
-  made high = made_before t ops starts are file [] (whole []) high refl refl
+  made : length starts ≤ file → whole_content [] ≡ content_before t ops file
+  made high = made_before t ops starts are file [] (whole_content []) high refl refl
 
-  start : file < length starts → whole (bytes_of start_record.1) ≡ content_before t ops file
-  start low = start_before t ops starts are file start_record (bytes_of start_record.1) (whole (bytes_of start_record.1)) low refl refl refl
+  start : file < length starts → whole_content (bytes_of start_record.1) ≡ content_before t ops file
+  start low =
+      start_before t ops starts are file start_record (bytes_of start_record.1) (whole_content (bytes_of start_record.1)) low refl refl refl
 
   pub made_bytes : length starts ≤ file → [] ≡ (content_before t ops file).bytes
   made_bytes high = ap (λ (f : Content). f.bytes) (made high)
@@ -33,40 +35,45 @@ module _ (t : Trace) (ops : List MicroOp) (starts : List ℕ) (are : AreStarts t
   pub start_bytes : file < length starts → bytes_of start_record.1 ≡ (content_before t ops file).bytes
   start_bytes low = ap (λ (f : Content). f.bytes) (start low)
 
-  pub whole_before : whole (content_before t ops file).bytes ≡ content_before t ops file
+  pub whole_before : whole_content (content_before t ops file).bytes ≡ content_before t ops file
   whole_before = ⊎_elim
-      (λ (low : file < length starts). subst (λ (v : Content). whole v.bytes ≡ v) (start low) refl)
-      (λ (high : length starts ≤ file). subst (λ (v : Content). whole v.bytes ≡ v) (made high) refl)
+      (λ (low : file < length starts). subst (λ (v : Content). whole_content v.bytes ≡ v) (start low) refl)
+      (λ (high : length starts ≤ file). subst (λ (v : Content). whole_content v.bytes ≡ v) (made high) refl)
       (cases_lt file (length starts))
 
 module _ (parts : Parts) (h : AreParts parts) (file : ℕ) (places : List ℕ) (known : file < length parts.tables.owners.items) where
-  same_before : whole (bytes_before parts file) ≡ content_before parts.trace parts.micros.ops file
+  same_before : whole_content (bytes_before parts file) ≡ content_before parts.trace parts.micros.ops file
   same_before = whole_before parts.trace parts.micros.ops parts.tables.starts.items h.whole.atlas.starts file
 
-  pub left_of : content_left file (whole (bytes_before parts file)) parts.micros.ops places ≡ file_in parts places file
+  pub left_of : content_left file (whole_content (bytes_before parts file)) parts.micros.ops places ≡ file_in parts places file
   left_of = ap (λ f. content_left file f parts.micros.ops places) same_before
       ∙ left_file parts.trace parts.micros.ops places file (subst (λ os. file < length os) h.whole.atlas.owners known)
 
   -- and of its owner, group and permissions, from those that it was made with
-  pub owner_of_left : (made : Rights) → made ≡ get_or parts.tables.owners.items file made → owner_left file made parts.micros.ops places ≡ owner_in parts places file
+  pub owner_of_left : (made : Rights) → made ≡ get_or parts.tables.owners.items file made
+      → owner_left file made parts.micros.ops places ≡ owner_in parts places file
   owner_of_left made read =
       let low = subst (λ os. file < length os) h.whole.atlas.owners known in
       ap (λ r. owner_left file r parts.micros.ops places)
-      (get_or_read parts.tables.owners.items file made known read nobody ∙ ap (λ os. get_or os file nobody) h.whole.atlas.owners)
+      (get_or_read parts.tables.owners.items file made known read no_rights ∙ ap (λ os. get_or os file no_rights) h.whole.atlas.owners)
       ∙ left_owner parts.trace parts.micros.ops places file low
 
   pub has_flag : file < length parts.tables.changed.items
   has_flag = (let long = h.whole.atlas.changed.long in let same = ap length h.whole.atlas.owners in omega (arith, known, long, same))
 
   -- a file that nothing changes stays
-  pub left_same : (flag : Bool) → flag ≡ get_or parts.tables.changed.items file flag → flag ≡ false → whole (bytes_before parts file) ≡ file_in parts places file
+  pub left_same : (flag : Bool) → flag ≡ get_or parts.tables.changed.items file flag → flag ≡ false
+      → whole_content (bytes_before parts file) ≡ file_in parts places file
   left_same flag read none =
-      unflagged file _ parts.micros.ops parts.tables.changed.items flag (whole (bytes_before parts file)) places h.whole.atlas.changed has_flag (get_or_read parts.tables.changed.items file flag has_flag read false) none
+      unflagged file _ parts.micros.ops parts.tables.changed.items flag (whole_content (bytes_before parts file)) places
+      h.whole.atlas.changed has_flag (get_or_read parts.tables.changed.items file flag has_flag read false) none
       ∙ left_of
 
   -- and shows what it showed
-  pub visible_same : (flag : Bool) → flag ≡ get_or parts.tables.changed.items file flag → flag ≡ false → bytes_before parts file ≡ visible (file_in parts places file)
-  visible_same flag read none = sym (take_whole (bytes_before parts file) (replicate (length (bytes_before parts file)) 0)) ∙ ap visible (left_same flag read none)
+  pub visible_same : (flag : Bool) → flag ≡ get_or parts.tables.changed.items file flag → flag ≡ false
+      → bytes_before parts file ≡ visible (file_in parts places file)
+  visible_same flag read none =
+      sym (take_whole (bytes_before parts file) (replicate (length (bytes_before parts file)) 0)) ∙ ap visible (left_same flag read none)
     where
       take_whole : (xs ys : List ℕ) → take (length xs) (xs ++ ys) ≡ xs
       take_whole [] ys = refl

@@ -1,5 +1,6 @@
 -- The next entry of a directory where names at which nothing stands are passed.
-use Rattle.std.proofs.Common.{◌≡◌, ℕ, ◌<◌, Bool, true, false, cond, [], ◌∷◌, Option, None, Some, IsSome, refl, sym, ap, ◌∙◌, arith, ⊎_elim, length}
+use Rattle.std.proofs.Common.{◌≡◌, ℕ, ◌<◌, Bool, true, false, cond, [], ◌∷◌, Option, None, Some, IsSome, refl, sym, ap, ◌∙◌, arith, ⊎_elim}
+use Rattle.std.proofs.Common.{length}
 use Rattle.std.proofs.lemmas.Bool.{cases_Bool, false≢true}
 use Rattle.std.specs.Option.{is_some, option_and_then, option_map_or}
 use Rattle.std.specs.Ordering.{is_lt}
@@ -39,7 +40,8 @@ module _ (all : NameBytes → Option ℕ) (place : ℕ → Option ℕ) (from bou
           (λ (less : name_cmp x y ≡ Less). ap is_lt less)
           (next.least y (there y h) after)
 
-      pub passed : (o : Option NameBytes) → IsEntryBelow (λ y. IsSome (shown y)) (Some x) bound o → IsEntryBelow (λ y. IsSome (shown y)) from bound o
+      pub passed : (o : Option NameBytes) → IsEntryBelow (λ y. IsSome (shown y)) (Some x) bound o
+          → IsEntryBelow (λ y. IsSome (shown y)) from bound o
       passed None a = λ y h. ⊎_elim
           (λ (after : comes_after from y ≡ true). absurd (false≢true (sym (a y h) ∙ later y h after)))
           (λ (not : comes_after from y ≡ false). not)
@@ -61,8 +63,10 @@ below_is bound (Some y) x e = by (comes_before bound y) e
     by false e = absurd (false≢true (sym (ap is_some e)))
 
 -- fewer names come after the next one
-pub fewer : (t : Tree) (d : ℕ) (from bound : Option NameBytes) (x : NameBytes) → Some x ≡ entry_below bound (next_name t d from) → length (names_after t d (Some x)) < length (names_after t d from)
+pub fewer : (t : Tree) (d : ℕ) (from bound : Option NameBytes) (x : NameBytes) → Some x ≡ entry_below bound (next_name t d from)
+    → length (names_after t d (Some x)) < length (names_after t d from)
 fewer t d from bound x e =
-    let one : names_after t d from ≡ x ∷ names_after t d (Some x) = names_go_on t d from ∙ ap (λ o. option_map_or (λ y. y ∷ names_after t d (Some y)) o []) (below_is bound (next_name t d from) x e) in
+    let one : names_after t d from ≡ x ∷ names_after t d (Some x) =
+    names_go_on t d from ∙ ap (λ o. option_map_or (λ y. y ∷ names_after t d (Some y)) o []) (below_is bound (next_name t d from) x e) in
     let long = ap length one in
     omega (arith, long)

@@ -5,9 +5,11 @@ use Rattle.std.specs.Global.{Vec}
 use Rattle.std.specs.Ordering.{is_eq, nat_cmp}
 use Rattle.std.specs.Prelude.{IsSome}
 
-module _ (rows new : ℕ → Option (Vec ℕ)) (page : ℕ) (row : Vec ℕ) (goes : (q : ℕ) → new q ≡ cond (is_eq (nat_cmp page q)) (Some row) (rows q)) where
+module _ (rows new : ℕ → Option (Vec ℕ)) (page : ℕ) (row : Vec ℕ)
+    (goes : (q : ℕ) → new q ≡ cond (is_eq (nat_cmp page q)) (Some row) (rows q)) where
   pub row_there : (q : ℕ) → q ≡ page → new q ≡ Some row
-  row_there q e = let t : page == q ≡ true = eq-eqb _ _ (sym e) in let u : nat_lt page q ≡ false = le-ltb _ _ (omega (arith, e)) in goes q ∙ rw (t, u) refl
+  row_there q e = let t : page == q ≡ true = eq-eqb _ _ (sym e) in let u : nat_lt page q ≡ false = le-ltb _ _ (omega (arith, e)) in
+      goes q ∙ rw (t, u) refl
 
   row_other : (q : ℕ) → q ≢ page → new q ≡ rows q
   row_other q ne = let t : page == q ≡ false = ne_eqb _ _ (λ e. ne (sym e)) in ⊎_elim
@@ -22,7 +24,8 @@ module _ (rows new : ℕ → Option (Vec ℕ)) (page : ℕ) (row : Vec ℕ) (goe
       (cases_eq q page)
 
   -- each row has what is to be in it
-  pub rows_right : (wanted : ℕ → List ℕ) → row.items ≡ wanted page → ((q : ℕ) (r : Vec ℕ) → rows q ≡ Some r → r.items ≡ wanted q) → (q : ℕ) (r : Vec ℕ) → new q ≡ Some r → r.items ≡ wanted q
+  pub rows_right : (wanted : ℕ → List ℕ) → row.items ≡ wanted page → ((q : ℕ) (r : Vec ℕ) → rows q ≡ Some r → r.items ≡ wanted q)
+      → (q : ℕ) (r : Vec ℕ) → new q ≡ Some r → r.items ≡ wanted q
   rows_right wanted is are q r there = ⊎_elim
       (λ (e : q ≡ page).
       let same : Some row ≡ Some r = sym (row_there q e) ∙ there in

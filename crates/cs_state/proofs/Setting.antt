@@ -17,11 +17,13 @@ has_row : (rows : ℕ → Option (Vec ℕ)) (file : ℕ) (o : MicroOp) → HasRi
 has_row rows file (SetAttr (targets.File other) rights) has is = subst (λ n. IsSome (rows n)) (eqb-true other file is) has
 has_row rows file _ has is = absurd (false≢true is)
 
-module _ (ops : List MicroOp) (rows : ℕ → Option (Vec ℕ)) (are : AreRightsRows ops rows) (has : (k : ℕ) → k < length ops → HasRightsRow rows (op_at ops k)) where
+module _ (ops : List MicroOp) (rows : ℕ → Option (Vec ℕ)) (are : AreRightsRows ops rows)
+    (has : (k : ℕ) → k < length ops → HasRightsRow rows (op_at ops k)) where
   unset : (file : ℕ) → rows file ≡ None → (k : ℕ) → sets_rights file (op_at ops k) ≡ false
   unset file none k = ⊎_elim
       (λ (low : k < length ops). ⊎_elim
-      (λ (yes : sets_rights file (op_at ops k) ≡ true). absurd (false≢true (subst IsSome none (has_row rows file (op_at ops k) (has k low) yes))))
+      (λ (yes : sets_rights file (op_at ops k) ≡ true). absurd
+      (false≢true (subst IsSome none (has_row rows file (op_at ops k) (has k low) yes))))
       (λ (not : sets_rights file (op_at ops k) ≡ false). not)
       (cases_Bool (sets_rights file (op_at ops k))))
       (λ (high : length ops ≤ k). ap (sets_rights file) (get_or_past ops k Say high))

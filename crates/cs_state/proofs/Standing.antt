@@ -1,17 +1,18 @@
 -- How many slots something stands in: a state's numbers.
-use Rattle.std.proofs.Common.{◌≡◌, ◌≢◌, ℕ, zero, suc, ◌+◌, ◌<◌, ◌≤◌, nat_lt, Bool, true, false, cond, List, [], ◌∷◌, ◌⊎◌, inl, inr, None, Some, refl, sym, ap, ◌∙◌, arith, ⊎_elim, length, get_or, slice_get}
+use Rattle.std.proofs.Common.{◌≡◌, ◌≢◌, ℕ, zero, suc, ◌+◌, ◌<◌, ◌≤◌, nat_lt, Bool, true, false, cond, List, [], ◌∷◌, ◌⊎◌, inl, inr, None}
+use Rattle.std.proofs.Common.{Some, refl, sym, ap, ◌∙◌, arith, ⊎_elim, length, get_or, slice_get}
 use Rattle.std.proofs.lemmas.Bool.{cases_eq, cases_lt, false≢true, le-ltb, cases_Bool}
 use Rattle.std.proofs.lemmas.List.{get_or_past}
 use Rattle.std.specs.Option.{is_some, option_map}
 use Rattle.cs_tree_model.specs.Tree.{Path}
 use Rattle.cs_trace.specs.declared.operation.Rights.{Rights}
 use Rattle.cs_apm.specs.States.{Entry}
-use Rattle.cs_apm.specs.Slots.{slot_at, path_at, entry_of, present}
+use Rattle.cs_apm.specs.Slots.{slot_at, path_at, entry_of, entries_in_slots}
 use Rattle.cs_apm.specs.declared.slot.Slot.{Slot}
 use Rattle.cs_apm.specs.declared.slot.Slot.TheVariants.{Nothing, Directory, File}
 use Rattle.cs_state.specs.declared.numbers.Own.{Own}
-use Rattle.cs_state.specs.Numbers.{below, none, at, kept_at, number_in, HasId}
-use Rattle.cs_state.specs.Shares.{stands, standing, place_of, IsShared}
+use Rattle.cs_state.specs.Numbers.{count_with_key_below, empty_own, own_in_place, kept_at, number_in, HasId}
+use Rattle.cs_state.specs.Shares.{is_entry, count_standing, place_of, IsShared}
 use Rattle.cs_state.proofs.Counting.{below_at, below_past, below_split}
 
 abbrev bit : Bool → ℕ
@@ -21,7 +22,8 @@ one_more : (n : ℕ) → bit true + n ≡ suc n
 one_more n = omega arith
 
 module _ {X : Type 0} (f : X → ℕ) where
-  is_there : (xs : List X) (d : X) → ((i j : ℕ) → i < j → j < length xs → f (get_or xs i d) < f (get_or xs j d)) → (k i : ℕ) → k < length xs → f (get_or xs k d) ≡ i → below f xs (suc i) ≡ suc (below f xs i)
+  is_there : (xs : List X) (d : X) → ((i j : ℕ) → i < j → j < length xs → f (get_or xs i d) < f (get_or xs j d)) → (k i : ℕ) → k < length xs
+      → f (get_or xs k d) ≡ i → count_with_key_below f xs (suc i) ≡ suc (count_with_key_below f xs i)
   is_there xs d up k i low is =
       let here = below_at f xs d up k low in
       let next = below_split f xs d (suc (f (get_or xs k d))) (suc k) (omega (arith, low))
@@ -30,98 +32,117 @@ module _ {X : Type 0} (f : X → ℕ) where
       (λ (e : j ≢ k). (let s = up j k (omega (arith, lt, e)) low in omega (arith, s)))
       (cases_eq j k))
       (λ j le lt. (let s = up k j (omega (arith, le)) lt in omega (arith, s))) in
-      ap (λ v. below f xs (suc v)) (sym is) ∙ next ∙ ap suc (sym here) ∙ ap (λ v. suc (below f xs v)) is
+      ap (λ v. count_with_key_below f xs (suc v)) (sym is) ∙ next ∙ ap suc (sym here) ∙ ap (λ v. suc (count_with_key_below f xs v)) is
 
 module _ (slots : List Slot) (kept : List ℕ) (own : List Own) (h : IsShared slots kept own) where
-  absent : (i : ℕ) → stands (slot_at slots i) ≡ false → HasId kept own i → ⊥
+  absent : (i : ℕ) → is_entry (slot_at slots i) ≡ false → HasId kept own i → ⊥
   absent i gone has = false≢true (sym gone ∙ h.there i has)
 
   -- as many stand before an id as are below it in the two
-  pub standing_number : (i : ℕ) → number_in kept own i ≡ standing slots i
+  pub standing_number : (i : ℕ) → number_in kept own i ≡ count_standing slots i
   standing_number zero = (let a = zero_below (λ k. k) kept in let b = zero_below (λ (o : Own). o.id) own in omega (arith, a, b))
     where
-      zero_below : {X : Type 0} (f : X → ℕ) (xs : List X) → below f xs 0 ≡ 0
+      zero_below : {X : Type 0} (f : X → ℕ) (xs : List X) → count_with_key_below f xs 0 ≡ 0
       zero_below f [] = refl
       zero_below f (x ∷ xs) = (let a : nat_lt (f x) 0 ≡ false = le-ltb (f x) 0 (omega arith) in λ k. bit (a k) + zero_below f xs k)
   standing_number (suc i) =
       let so_far = standing_number i in
       ⊎_elim
-      (λ (yes : stands (slot_at slots i) ≡ true).
-      let one : bit (stands (slot_at slots i)) ≡ 1 = ap bit yes in
+      (λ (yes : is_entry (slot_at slots i) ≡ true).
+      let one : bit (is_entry (slot_at slots i)) ≡ 1 = ap bit yes in
       ⊎_elim
       (λ (in_kept : (k : ℕ) × (k < length kept) × (kept_at kept k ≡ i)).
       let a = is_there (λ k. k) kept 0 h.merge.kept_up in_kept.0 i in_kept.1 in_kept.2 in
-      let b = below_past (λ (o : Own). o.id) own none i (λ j low e. h.merge.apart in_kept.0 j in_kept.1 low (in_kept.2 ∙ sym e)) in
+      let b = below_past (λ (o : Own). o.id) own empty_own i (λ j low e. h.merge.apart in_kept.0 j in_kept.1 low (in_kept.2 ∙ sym e)) in
       omega (arith, so_far, one, a, b))
-      (λ (in_own : (k : ℕ) × (k < length own) × ((at own k).id ≡ i)).
-      let a = is_there (λ (o : Own). o.id) own none h.merge.own_up in_own.0 i in_own.1 in_own.2 in
+      (λ (in_own : (k : ℕ) × (k < length own) × ((own_in_place own k).id ≡ i)).
+      let a = is_there (λ (o : Own). o.id) own empty_own h.merge.own_up in_own.0 i in_own.1 in_own.2 in
       let b = below_past (λ k. k) kept 0 i (λ j low e. h.merge.apart j in_own.0 low in_own.1 (e ∙ sym in_own.2)) in
       omega (arith, so_far, one, a, b))
       (h.listed i yes))
-      (λ (gone : stands (slot_at slots i) ≡ false).
-      let zero_more : bit (stands (slot_at slots i)) ≡ 0 = ap bit gone in
+      (λ (gone : is_entry (slot_at slots i) ≡ false).
+      let zero_more : bit (is_entry (slot_at slots i)) ≡ 0 = ap bit gone in
       let a = below_past (λ k. k) kept 0 i (λ j low e. absent i gone (inl (j, low, e))) in
-      let b = below_past (λ (o : Own). o.id) own none i (λ j low e. absent i gone (inr (j, low, e))) in
+      let b = below_past (λ (o : Own). o.id) own empty_own i (λ j low e. absent i gone (inr (j, low, e))) in
       omega (arith, so_far, zero_more, a, b))
-      (cases_Bool (stands (slot_at slots i)))
+      (cases_Bool (is_entry (slot_at slots i)))
 
 -- ---- the listing by number
 
-standing_first : (s : Slot) (ss : List Slot) (i : ℕ) → standing (s ∷ ss) (suc i) ≡ bit (stands s) + standing ss i
+standing_first : (s : Slot) (ss : List Slot) (i : ℕ) → count_standing (s ∷ ss) (suc i) ≡ bit (is_entry s) + count_standing ss i
 standing_first s ss zero = refl
 standing_first s ss (suc i) = (let rest = standing_first s ss i in omega (arith, rest))
 
 module _ (rights : List Rights) where
   -- what stands in the slot i is the entry of its number
-  pub present_at : (paths : List Path) (slots : List Slot) → length slots ≡ length paths → (i : ℕ) → i < length paths → (e : Entry) → entry_of rights (slot_at slots i) ≡ Some e
-      → slice_get (present rights paths slots) (standing slots i) ≡ Some (path_at paths i, e)
+  pub present_at : (paths : List Path) (slots : List Slot) → length slots ≡ length paths → (i : ℕ) → i < length paths → (e : Entry)
+      → entry_of rights (slot_at slots i) ≡ Some e
+      → slice_get (entries_in_slots rights paths slots) (count_standing slots i) ≡ Some (path_at paths i, e)
   present_at [] slots long i low e is = absurd (omega (arith, low))
   present_at (p ∷ ps) [] long i low e is = absurd (omega (arith, long))
   present_at (p ∷ ps) (Nothing ∷ ss) long zero low e is = absurd (false≢true (ap is_some is))
   present_at (p ∷ ps) (Directory k ∷ ss) long zero low e is = ap (option_map (λ w. (p, w))) is
   present_at (p ∷ ps) (File k ∷ ss) long zero low e is = ap (option_map (λ w. (p, w))) is
   present_at (p ∷ ps) (Nothing ∷ ss) long (suc i) low e is =
-      ap (slice_get (present rights ps ss)) (standing_first Nothing ss i ∙ no_more (standing ss i)) ∙ present_at ps ss (omega (arith, long)) i (omega (arith, low)) e is
+      ap (slice_get (entries_in_slots rights ps ss)) (standing_first Nothing ss i ∙ no_more (count_standing ss i)) ∙ present_at ps ss
+      (omega (arith, long)) i (omega (arith, low)) e is
     where
       no_more : (n : ℕ) → bit false + n ≡ n
       no_more n = omega arith
   present_at (p ∷ ps) (Directory k ∷ ss) long (suc i) low e is =
-      ap (slice_get (present rights (p ∷ ps) (Directory k ∷ ss))) (standing_first (Directory k) ss i ∙ one_more (standing ss i)) ∙ present_at ps ss (omega (arith, long)) i (omega (arith, low)) e is
+      ap (slice_get (entries_in_slots rights (p ∷ ps) (Directory k ∷ ss)))
+      (standing_first (Directory k) ss i ∙ one_more (count_standing ss i)) ∙ present_at ps ss (omega (arith, long)) i
+      (omega (arith, low)) e is
   present_at (p ∷ ps) (File k ∷ ss) long (suc i) low e is =
-      ap (slice_get (present rights (p ∷ ps) (File k ∷ ss))) (standing_first (File k) ss i ∙ one_more (standing ss i)) ∙ present_at ps ss (omega (arith, long)) i (omega (arith, low)) e is
+      ap (slice_get (entries_in_slots rights (p ∷ ps) (File k ∷ ss))) (standing_first (File k) ss i ∙ one_more (count_standing ss i)) ∙
+      present_at ps ss (omega (arith, long)) i (omega (arith, low)) e is
 
   -- so many stand in all
-  pub present_count : (paths : List Path) (slots : List Slot) → length slots ≡ length paths → length (present rights paths slots) ≡ standing slots (length slots)
+  pub present_count : (paths : List Path) (slots : List Slot) → length slots ≡ length paths
+      → length (entries_in_slots rights paths slots) ≡ count_standing slots (length slots)
   present_count [] [] long = refl
   present_count [] (s ∷ ss) long = absurd (omega (arith, long))
   present_count (p ∷ ps) [] long = absurd (omega (arith, long))
-  present_count (p ∷ ps) (Nothing ∷ ss) long = (let rest = present_count ps ss (omega (arith, long)) in let first = standing_first Nothing ss (length ss) in omega (arith, rest, first))
-  present_count (p ∷ ps) (Directory k ∷ ss) long = (let rest = present_count ps ss (omega (arith, long)) in let first = standing_first (Directory k) ss (length ss) in omega (arith, rest, first))
-  present_count (p ∷ ps) (File k ∷ ss) long = (let rest = present_count ps ss (omega (arith, long)) in let first = standing_first (File k) ss (length ss) in omega (arith, rest, first))
+  present_count (p ∷ ps) (Nothing ∷ ss) long =
+      (let rest = present_count ps ss (omega (arith, long)) in let first = standing_first Nothing ss (length ss) in
+      omega (arith, rest, first))
+  present_count (p ∷ ps) (Directory k ∷ ss) long =
+      (let rest = present_count ps ss (omega (arith, long)) in let first = standing_first (Directory k) ss (length ss) in
+      omega (arith, rest, first))
+  present_count (p ∷ ps) (File k ∷ ss) long =
+      (let rest = present_count ps ss (omega (arith, long)) in let first = standing_first (File k) ss (length ss) in
+      omega (arith, rest, first))
 
 -- what stands is in a slot
-pub stands_inside : (slots : List Slot) (i : ℕ) → stands (slot_at slots i) ≡ true → i < length slots
+pub stands_inside : (slots : List Slot) (i : ℕ) → is_entry (slot_at slots i) ≡ true → i < length slots
 stands_inside slots i here = ⊎_elim
     (λ (low : i < length slots). low)
-    (λ (high : length slots ≤ i). absurd (false≢true (sym (ap stands (get_or_past slots i Nothing high)) ∙ here)))
+    (λ (high : length slots ≤ i). absurd (false≢true (sym (ap is_entry (get_or_past slots i Nothing high)) ∙ here)))
     (cases_lt i (length slots))
 
 -- as many as the two lists have
 module _ (slots : List Slot) (kept : List ℕ) (own : List Own) (h : IsShared slots kept own) where
-  pub counted : length kept + length own ≡ standing slots (length slots)
+  pub counted : length kept + length own ≡ count_standing slots (length slots)
   counted =
-      let all_kept = below_split (λ k. k) kept 0 (length slots) (length kept) (omega arith) (λ j low. stands_inside slots (kept_at kept j) (h.there (kept_at kept j) (inl (j, low, refl)))) (λ j ge low. absurd (omega (arith, ge, low))) in
-      let all_own = below_split (λ (o : Own). o.id) own none (length slots) (length own) (omega arith) (λ j low. stands_inside slots (at own j).id (h.there (at own j).id (inr (j, low, refl)))) (λ j ge low. absurd (omega (arith, ge, low))) in
+      let all_kept =
+      below_split (λ k. k) kept 0 (length slots) (length kept) (omega arith)
+      (λ j low. stands_inside slots (kept_at kept j) (h.there (kept_at kept j) (inl (j, low, refl))))
+      (λ j ge low. absurd (omega (arith, ge, low))) in
+      let all_own =
+      below_split (λ (o : Own). o.id) own empty_own (length slots) (length own) (omega arith)
+      (λ j low. stands_inside slots (own_in_place own j).id (h.there (own_in_place own j).id (inr (j, low, refl))))
+      (λ j ge low. absurd (omega (arith, ge, low))) in
       let all = standing_number slots kept own h (length slots) in
       omega (arith, all_kept, all_own, all)
 
   -- what the lists have has the number of its slot
   pub has_place : (id n : ℕ) → HasId kept own id → number_in kept own id ≡ n → place_of slots id ≡ Some n
-  has_place id n has is = ap (λ b. cond b (Some (standing slots id)) None) (h.there id has) ∙ ap Some (sym (standing_number slots kept own h id) ∙ is)
+  has_place id n has is =
+      ap (λ b. cond b (Some (count_standing slots id)) None) (h.there id has) ∙ ap Some (sym (standing_number slots kept own h id) ∙ is)
 
   pub has_none : (id : ℕ) → (HasId kept own id → ⊥) → place_of slots id ≡ None
-  has_none id not = by (stands (slot_at slots id)) refl
+  has_none id not = by (is_entry (slot_at slots id)) refl
     where
-      by : (b : Bool) → stands (slot_at slots id) ≡ b → place_of slots id ≡ None
+      by : (b : Bool) → is_entry (slot_at slots id) ≡ b → place_of slots id ≡ None
       by true here = absurd (not (h.listed id here))
-      by false gone = ap (λ b. cond b (Some (standing slots id)) None) gone
+      by false gone = ap (λ b. cond b (Some (count_standing slots id)) None) gone

@@ -18,9 +18,9 @@ use Rattle.cs_apm.specs.States.{Content}
 use Rattle.cs_state.specs.declared.file_steps.FileSteps.{FileSteps}
 use Rattle.cs_state.specs.declared.parts.Parts.{Parts}
 use Rattle.cs_state.specs.Parts.{bytes_before, file_in, AreMembers, AreParts}
-use Rattle.cs_state.specs.Shares.{ids, mark_at}
+use Rattle.cs_state.specs.Shares.{numbers_that_pass, mark_at}
 use Rattle.cs_state.specs.Steps.{members_in, resizes, row_at, struck_by, touches, AgreeIn, AreFileSteps, IsFitting}
-use Rattle.cs_state.specs.Windows.{size_after, whole}
+use Rattle.cs_state.specs.Windows.{size_after, whole_content}
 use Rattle.cs_state.proofs.Pages.{agree}
 use Rattle.cs_state.proofs.Filing.{has_flag, left_of}
 use Rattle.cs_state.proofs.Including.{size_needed}
@@ -35,9 +35,11 @@ fitting size m made _ h = tt
 
 all_fitting : (size : BlockSize) (m : Paths) (made : ℕ) (ops : List MicroOp) → AreLegal (block_bytes size) m made ops → All IsFitting ops
 all_fitting size m made [] h = All-nil IsFitting
-all_fitting size m made (o ∷ ops) h = All-cons IsFitting o ops (fitting size m made o h.0) (all_fitting size (paths_after m o) (made_after made o) ops h.1)
+all_fitting size m made (o ∷ ops) h =
+    All-cons IsFitting o ops (fitting size m made o h.0) (all_fitting size (paths_after m o) (made_after made o) ops h.1)
 
-module _ (parts : Parts) (h : AreParts parts) (file : ℕ) (known : file < length parts.tables.owners.items) (members : List Bool) (set : AreMembers parts members) where
+module _ (parts : Parts) (h : AreParts parts) (file : ℕ) (known : file < length parts.tables.owners.items) (members : List Bool)
+    (set : AreMembers parts members) where
   abbrev ops : List MicroOp
   ops = parts.micros.ops
 
@@ -48,9 +50,12 @@ module _ (parts : Parts) (h : AreParts parts) (file : ℕ) (known : file < lengt
   left = file_in parts (members_in members) file
 
   pub size_is : left.size ≡ fold (size_after file) (length start) (map (op_at ops) (members_in members))
-  size_is = sym (ap (λ (f : Content). f.size) (left_of parts h file (members_in members) known)) ∙ left_size file (whole start) ops (members_in members)
+  size_is =
+      sym (ap (λ (f : Content). f.size) (left_of parts h file (members_in members) known)) ∙ left_size file (whole_content start) ops
+      (members_in members)
 
-  module _ (steps : FileSteps) (read : steps ≡ get_or parts.steps.items file steps) (changed : slice_get parts.tables.changed.items file ≡ Some true) where
+  module _ (steps : FileSteps) (read : steps ≡ get_or parts.steps.items file steps)
+      (changed : slice_get parts.tables.changed.items file ≡ Some true) where
     pub are : AreFileSteps file (length start) ops steps
     are =
         let there = has_flag parts h file (members_in members) known in
@@ -59,12 +64,16 @@ module _ (parts : Parts) (h : AreParts parts) (file : ℕ) (known : file < lengt
 
     pub inside : (page : ℕ) → All (λ place. place < length ops) (row_at steps page)
     inside page = subst (All (λ place. place < length ops)) (sym (are.rows page))
-        (λ i e low. subst (λ v. v < length ops) (get_or_default (ids (touches file (length start) ops (Some page)) (length ops)) i 0 e low) (ids_are (touches file (length start) ops (Some page)) (length ops) i low).0)
+        (λ i e low. subst (λ v. v < length ops)
+        (get_or_default (numbers_that_pass (touches file (length start) ops (Some page)) (length ops)) i 0 e low)
+        (ids_are (touches file (length start) ops (Some page)) (length ops) i low).0)
 
-    pub agrees : (page : ℕ) → AgreeIn page (struck_by ops members (whole start) (row_at steps page)) left
-    agrees page = subst (λ r. AgreeIn page (struck_by ops members (whole start) r) left) (sym (are.rows page))
-        (subst (λ f. AgreeIn page (struck_by ops members (whole start) (ids (touches file (length start) ops (Some page)) (length ops))) f)
-        (ap (λ k. content_left file (whole start) ops (ids (mark_at members) k)) (sym set.long) ∙ left_of parts h file (members_in members) known)
-        (agree file (whole start) ops members (length ops) page
+    pub agrees : (page : ℕ) → AgreeIn page (struck_by ops members (whole_content start) (row_at steps page)) left
+    agrees page = subst (λ r. AgreeIn page (struck_by ops members (whole_content start) r) left) (sym (are.rows page))
+        (subst (λ f. AgreeIn page
+        (struck_by ops members (whole_content start) (numbers_that_pass (touches file (length start) ops (Some page)) (length ops))) f)
+        (ap (λ k. content_left file (whole_content start) ops (numbers_that_pass (mark_at members) k)) (sym set.long) ∙ left_of parts h file
+        (members_in members) known)
+        (agree file (whole_content start) ops members (length ops) page
         (λ k low. all_fitting (block_size_of parts.trace.version) _ _ ops h.whole.atlas.legal k Say low)
         (closed_under parts.micros (length ops) members set.allowed (resizes file) (size_needed parts.micros file))))

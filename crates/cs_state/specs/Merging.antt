@@ -4,14 +4,20 @@ use Rattle.cs_apm.specs.Slots.{slot_at}
 use Rattle.cs_apm.specs.declared.slot.Slot.{Slot}
 use Rattle.cs_state.specs.declared.numbers.Own.{Own}
 use Rattle.cs_state.specs.Numbers.{kept_at}
-use Rattle.cs_state.specs.Shares.{stands}
+use Rattle.cs_state.specs.Shares.{is_entry}
 
--- what stands at the touched id, if something does: so many kept ones come before it, and n of a state's own
+-- what stands at the touched id, if something does: so many kept ones come before it, and n of a
+-- state's own
 abbrev pub own_one : ℕ → ℕ → Slot → ℕ → List Own
-own_one id before slot n = cond (stands slot) (record { id = id; number = before + n; slot = slot } ∷ []) []
+own_one id before slot n = cond (is_entry slot) (record {
+  id = id;
+  number = before + n;
+  slot = slot;
+} ∷ []) []
 
 -- the touched ids at which something stands; n of them stand before
 abbrev pub own_from : List ℕ → List ℕ → List Slot → ℕ → List Own
 own_from counts [] slots n = []
 own_from counts (t ∷ ts) slots n =
-    own_one t (kept_at counts t) (slot_at slots t) n ++ own_from counts ts slots (n + cond (stands (slot_at slots t)) 1 0)
+    own_one t (kept_at counts t) (slot_at slots t) n
+    ++ own_from counts ts slots (n + cond (is_entry (slot_at slots t)) 1 0)

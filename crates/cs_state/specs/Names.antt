@@ -7,10 +7,11 @@ use Rattle.cs_trace.specs.Traces.{Trace}
 use Rattle.cs_micro.specs.declared.micro_op.MicroOp.{MicroOp}
 use Rattle.cs_apm.specs.Atlases.{files_left, owners_left}
 use Rattle.cs_apm.specs.States.{record_of}
-use Rattle.cs_apm.specs.Slots.{mirrored}
+use Rattle.cs_apm.specs.Slots.{entries_of_slots}
 use Rattle.cs_apm.specs.declared.slot.Slot.TheVariants.{Directory}
 use Rattle.cs_apm.specs.declared.tables.Tables.{Tables}
 
 abbrev pub names_in : Trace → List MicroOp → Tables → Tree
 names_in t ops tables = fresh (map_values (record_of (owners_left t ops []) (files_left t ops []))
-    (mirrored tables.rights.items tables.paths.items (replicate (length tables.paths.items) (Directory 0))))
+    (entries_of_slots tables.rights.items tables.paths.items
+    (replicate (length tables.paths.items) (Directory 0))))

@@ -9,7 +9,7 @@ use Rattle.cs_micro.specs.declared.micro_op.MicroOp.{MicroOp}
 use Rattle.cs_micro.specs.declared.micro_op.MicroOp.TheVariants.{SetAttr}
 use Rattle.cs_apm.specs.Rules.{op_at}
 use Rattle.cs_state.specs.declared.owner_steps.OwnerSteps.{OwnerSteps}
-use Rattle.cs_state.specs.Shares.{ids}
+use Rattle.cs_state.specs.Shares.{numbers_that_pass}
 
 -- it sets those of the file
 abbrev pub sets_rights : ℕ → MicroOp → Bool
@@ -18,7 +18,7 @@ sets_rights n _ = false
 
 -- the places of those that set the file's
 abbrev pub rights_places : List MicroOp → ℕ → List ℕ
-rights_places ops file = ids (λ k. sets_rights file (op_at ops k)) (length ops)
+rights_places ops file = numbers_that_pass (λ k. sets_rights file (op_at ops k)) (length ops)
 
 -- those that are kept of the file
 abbrev pub rights_row : OwnerSteps → ℕ → List ℕ
@@ -30,7 +30,8 @@ AreOwnerSteps ops steps = (file : ℕ) → rights_row steps file ≡ rights_plac
 
 -- each row has those of its file
 abbrev pub AreRightsRows : List MicroOp → (ℕ → Option (Vec ℕ)) → Type 0
-AreRightsRows ops rows = (file : ℕ) (row : Vec ℕ) → rows file ≡ Some row → row.items ≡ rights_places ops file
+AreRightsRows ops rows =
+    (file : ℕ) (row : Vec ℕ) → rows file ≡ Some row → row.items ≡ rights_places ops file
 
 -- the file whose owner, group and permissions it sets, if it does, has a row
 abbrev pub HasRightsRow : (ℕ → Option (Vec ℕ)) → MicroOp → Type 0

@@ -11,12 +11,13 @@ use Rattle.cs_apm.specs.Atlases.{content_before, files_left, owners_left}
 use Rattle.cs_apm.specs.Orders.{needs_of}
 use Rattle.cs_apm.specs.Sets.{IsAllowed}
 use Rattle.cs_apm.specs.Slots.{entry_of}
-use Rattle.cs_apm.specs.States.{Content, crash_state_of, no_content, nobody, permission_bits, record_of}
+use Rattle.cs_apm.specs.States.{Content, crash_state_of, no_content, no_rights, permission_bits}
+use Rattle.cs_apm.specs.States.{record_of}
 use Rattle.cs_apm.specs.Wholes.{IsWhole}
 use Rattle.cs_state.specs.declared.numbers.Own.{Own}
 use Rattle.cs_state.specs.declared.parts.Parts.{Parts}
 use Rattle.cs_state.specs.Owners.{AreOwnerSteps}
-use Rattle.cs_state.specs.Shares.{slots_left, standing, IsShared, IsShares}
+use Rattle.cs_state.specs.Shares.{slots_left, count_standing, IsShared, IsShares}
 use Rattle.cs_state.specs.Steps.{members_in, AreAllSteps}
 
 -- what was found is of the trace
@@ -37,7 +38,8 @@ state_in parts places = crash_state_of parts.trace parts.micros places
 
 -- how many records it has
 abbrev pub count_in : Parts → List ℕ → ℕ
-count_in parts places = standing (slots_left parts.tables places) (length parts.tables.slots.items)
+count_in parts places =
+    count_standing (slots_left parts.tables places) (length parts.tables.slots.items)
 
 -- ---- what is read of it
 
@@ -47,21 +49,26 @@ bytes_before parts file = (content_before parts.trace parts.micros.ops file).byt
 
 -- what a set leaves of the file
 abbrev pub file_in : Parts → List ℕ → ℕ → Content
-file_in parts places file = slice_index_or (files_left parts.trace parts.micros.ops places) file no_content
+file_in parts places file =
+    slice_index_or (files_left parts.trace parts.micros.ops places) file no_content
 
 -- and of its owner, group and permissions
 abbrev pub owner_in : Parts → List ℕ → ℕ → Rights
-owner_in parts places file = slice_index_or (owners_left parts.trace parts.micros.ops places) file nobody
+owner_in parts places file =
+    slice_index_or (owners_left parts.trace parts.micros.ops places) file no_rights
 
 -- the record of what stands in a slot, but for its number
 abbrev pub record_in : Parts → List ℕ → Slot → Option Record
 record_in parts places slot =
-    option_map (record_of (owners_left parts.trace parts.micros.ops places) (files_left parts.trace parts.micros.ops places)) (entry_of parts.tables.rights.items slot)
+    option_map
+    (record_of (owners_left parts.trace parts.micros.ops places)
+    (files_left parts.trace parts.micros.ops places)) (entry_of parts.tables.rights.items slot)
 
 -- at most so many bytes of it, from an offset on
 abbrev pub read_in : Parts → List ℕ → Slot → ℕ → ℕ → Option (List ℕ)
 read_in parts places slot offset count =
-    option_map (λ bytes. take count (drop offset bytes)) (option_and_then (λ (r : Record). r.content) (record_in parts places slot))
+    option_map (λ bytes. take count (drop offset bytes))
+    (option_and_then (λ (r : Record). r.content) (record_in parts places slot))
 
 -- what a record that was never changed says beside its bytes
 abbrev pub unchanged_metadata : ℕ → Rights → ℕ → Kind → MetadataBuf

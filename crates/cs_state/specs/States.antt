@@ -26,4 +26,6 @@ tree_in s = state_in (arc_value s.parts) (places_in s)
 
 -- the number of what stands under a name in the directory of the path with this id
 abbrev pub number_shown : State → ℕ → NameBytes → Option ℕ
-number_shown s directory name = option_and_then (place_of (slots_in s)) (number_in (arc_value s.parts).shares.names directory name)
+number_shown s directory name =
+    option_and_then (place_of (slots_in s))
+    (number_in (arc_value s.parts).shares.names directory name)

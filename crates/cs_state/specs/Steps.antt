@@ -1,5 +1,7 @@
 -- The micro-operations that change a file: its size, and each of its pages.
-use Rattle.std.specs.Prelude.{◌≡◌, ◌+◌, ◌*◌, ◌/◌, ◌%◌, ◌<◌, ◌≤◌, ◌&&◌, ◌==◌, nat_lt, ℕ, zero, suc, if◌then◌else◌, Bool, false, true, List, [], ◌∷◌, ◌++◌, cond, Option, None, Some, IsSome, length, take, fold, slice_get, slice_index_or}
+use Rattle.std.specs.Prelude.{◌≡◌, ◌+◌, ◌*◌, ◌/◌, ◌%◌, ◌<◌, ◌≤◌, ◌&&◌, ◌==◌, nat_lt, ℕ, zero, suc}
+use Rattle.std.specs.Prelude.{if◌then◌else◌, Bool, false, true, List, [], ◌∷◌, ◌++◌, cond, Option}
+use Rattle.std.specs.Prelude.{None, Some, IsSome, length, take, fold, slice_get, slice_index_or}
 use Rattle.std.specs.BTreeMap.{get}
 use Rattle.std.specs.Global.{Vec}
 use Rattle.std.specs.Option.{option_map_or}
@@ -9,12 +11,12 @@ use Rattle.cs_micro.specs.declared.micro_op.MicroOp.TheVariants.{ChangeFileSize,
 use Rattle.cs_names.specs.declared.limits.TheConstants.{FILE_BYTES}
 use Rattle.cs_trace.specs.Traces.{Trace}
 use Rattle.cs_apm.specs.Atlases.{content_before}
-use Rattle.cs_apm.specs.Contents.{changes}
+use Rattle.cs_apm.specs.Contents.{changes_file}
 use Rattle.cs_apm.specs.Rules.{op_at}
 use Rattle.cs_apm.specs.States.{Content, overwritten}
 use Rattle.cs_state.specs.declared.file_steps.FileSteps.{FileSteps}
 use Rattle.cs_state.specs.declared.file_steps.TheConstants.{PAGE_BYTES}
-use Rattle.cs_state.specs.Shares.{ids, mark_at}
+use Rattle.cs_state.specs.Shares.{numbers_that_pass, mark_at}
 use Rattle.cs_state.specs.Windows.{byte_of, size_after}
 
 -- it changes the size of the file
@@ -36,7 +38,8 @@ reaches page size _ = false
 -- no file is too large, and bytes lie in one page
 abbrev pub IsFitting : MicroOp → Type 0
 IsFitting (ChangeFileSize file to) = to ≤ FILE_BYTES
-IsFitting (WriteBlock file block start at bytes) = (start + at) % PAGE_BYTES + length bytes ≤ PAGE_BYTES
+IsFitting (WriteBlock file block start at bytes) =
+    (start + at) % PAGE_BYTES + length bytes ≤ PAGE_BYTES
 IsFitting _ = Unit {0}
 
 -- the file's size when the first k of all micro-operations are done
@@ -46,7 +49,8 @@ size_before n size ops (suc k) = size_after n (size_before n size ops k) (op_at 
 
 -- the micro-operation at the place cuts the file off, or writes into the page
 abbrev pub touches : ℕ → ℕ → List MicroOp → Option ℕ → ℕ → Bool
-touches n size ops page k = changes n (op_at ops k) && reaches page (size_before n size ops k) (op_at ops k)
+touches n size ops page k =
+    changes_file n (op_at ops k) && reaches page (size_before n size ops k) (op_at ops k)
 
 -- those of the file's steps that reach the page
 abbrev pub row_at : FileSteps → ℕ → List ℕ
@@ -54,27 +58,33 @@ row_at steps page = option_map_or (λ row. row.items) (get nat_cmp steps.pages p
 
 -- those that change the file, which has so many bytes at the start
 pub record AreFileSteps (n size : ℕ) (ops : List MicroOp) (steps : FileSteps) : Type 0 where
-  pub sizes : steps.sizes.items ≡ ids (λ k. resizes n (op_at ops k)) (length ops)
-  pub rows : (page : ℕ) → row_at steps page ≡ ids (touches n size ops (Some page)) (length ops)
+  pub sizes : steps.sizes.items ≡ numbers_that_pass (λ k. resizes n (op_at ops k)) (length ops)
+  pub rows : (page : ℕ)
+      → row_at steps page ≡ numbers_that_pass (touches n size ops (Some page)) (length ops)
 
 -- each file that something changes has those that change it
-pub record AreAllSteps (t : Trace) (ops : List MicroOp) (changed : List Bool) (all : List FileSteps) : Type 0 where
+pub record AreAllSteps (t : Trace) (ops : List MicroOp) (changed : List Bool)
+    (all : List FileSteps) : Type 0 where
   pub long : length all ≡ length changed
-  pub each : (file : ℕ) (steps : FileSteps) → slice_get all file ≡ Some steps → slice_get changed file ≡ Some true
+  pub each : (file : ℕ) (steps : FileSteps) → slice_get all file ≡ Some steps
+      → slice_get changed file ≡ Some true
       → AreFileSteps file (length (content_before t ops file).bytes) ops steps
 
 -- those of a list that pass the test
-abbrev pub picked : (ℕ → Bool) → List ℕ → List ℕ
-picked f [] = []
-picked f (k ∷ ks) = cond (f k) (k ∷ []) [] ++ picked f ks
+abbrev pub items_that_pass : (ℕ → Bool) → List ℕ → List ℕ
+items_that_pass f [] = []
+items_that_pass f (k ∷ ks) = cond (f k) (k ∷ []) [] ++ items_that_pass f ks
 
 -- those of the places that reach the page, or cut the file off; it has these sizes before each
-abbrev pub reaching : List ℕ → List MicroOp → List ℕ → Option ℕ → List ℕ
-reaching sizes ops places page = picked (λ k. reaches page (slice_index_or sizes k 0) (op_at ops k)) places
+abbrev pub places_reaching : List ℕ → List MicroOp → List ℕ → Option ℕ → List ℕ
+places_reaching sizes ops places page =
+    items_that_pass (λ k. reaches page (slice_index_or sizes k 0) (op_at ops k)) places
 
 -- each row has those that reach its page
 abbrev pub AreRows : List ℕ → List MicroOp → List ℕ → (ℕ → Option (Vec ℕ)) → Type 0
-AreRows sizes ops places rows = (page : ℕ) (row : Vec ℕ) → rows page ≡ Some row → row.items ≡ reaching sizes ops places (Some page)
+AreRows sizes ops places rows =
+    (page : ℕ) (row : Vec ℕ) → rows page ≡ Some row
+    → row.items ≡ places_reaching sizes ops places (Some page)
 
 -- the page that it writes into, if it writes, has a row
 abbrev pub HasRow : (ℕ → Option (Vec ℕ)) → MicroOp → Type 0
@@ -84,13 +94,13 @@ HasRow rows _ = Unit {0}
 -- ---- a part of a file
 
 -- what is left of a file that is cut, or written into
-abbrev pub struck : Content → MicroOp → Content
-struck f (ChangeFileSize file to) = record f { bytes = take to f.bytes }
-struck f (WriteBlock file block start at bytes) = overwritten (start + at) bytes f
-struck f _ = f
+abbrev pub content_after_cut : Content → MicroOp → Content
+content_after_cut f (ChangeFileSize file to) = record f { bytes = take to f.bytes }
+content_after_cut f (WriteBlock file block start at bytes) = overwritten (start + at) bytes f
+content_after_cut f _ = f
 
 abbrev pub member_struck : List MicroOp → List Bool → Content → ℕ → Content
-member_struck ops members f k = if mark_at members k then struck f (op_at ops k) else f
+member_struck ops members f k = if mark_at members k then content_after_cut f (op_at ops k) else f
 
 -- the file after those of the places that are members
 abbrev pub struck_by : List MicroOp → List Bool → Content → List ℕ → Content
@@ -98,13 +108,16 @@ struck_by ops members f places = fold (member_struck ops members) f places
 
 -- the two have the same bytes in the page
 abbrev pub AgreeIn : ℕ → Content → Content → Type 0
-AgreeIn page f g = (i : ℕ) → page * PAGE_BYTES ≤ i → i < page * PAGE_BYTES + PAGE_BYTES → byte_of f i ≡ byte_of g i
+AgreeIn page f g =
+    (i : ℕ) → page * PAGE_BYTES ≤ i → i < page * PAGE_BYTES + PAGE_BYTES → byte_of f i ≡ byte_of g i
 
 -- what of the part lies in the page is that of the file
 abbrev pub IsPartIn : ℕ → ℕ → Content → List ℕ → Type 0
-IsPartIn page offset f part = (k : ℕ) → k < length part → page * PAGE_BYTES ≤ offset + k → offset + k < page * PAGE_BYTES + PAGE_BYTES
+IsPartIn page offset f part =
+    (k : ℕ) → k < length part → page * PAGE_BYTES ≤ offset + k
+    → offset + k < page * PAGE_BYTES + PAGE_BYTES
     → slice_index_or part k 0 ≡ byte_of f (offset + k)
 
 -- the members of a set, of which each has a mark
 abbrev pub members_in : List Bool → List ℕ
-members_in marks = ids (mark_at marks) (length marks)
+members_in marks = numbers_that_pass (mark_at marks) (length marks)

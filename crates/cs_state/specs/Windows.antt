@@ -5,8 +5,8 @@ use Rattle.cs_micro.specs.declared.micro_op.MicroOp.TheVariants.{ChangeFileSize}
 use Rattle.cs_apm.specs.States.{Content}
 
 -- a file with these bytes, none of them hidden
-abbrev pub whole : List ℕ → Content
-whole bytes = record { size = length bytes; bytes = bytes }
+abbrev pub whole_content : List ℕ → Content
+whole_content bytes = record { size = length bytes; bytes = bytes }
 
 -- a byte of the file; those that nothing wrote are zero
 abbrev pub byte_of : Content → ℕ → ℕ

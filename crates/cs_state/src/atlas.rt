@@ -26,9 +26,9 @@ use std::sync::Arc;
 /// The store of a state.
 pub type Built = StateTree;
 
-/// A trace with its micro-operations, and with what is found once for all its states: every path that
-/// ever stands, what stands there at the start, and what each micro-operation does there. Contracts see
-/// the trace.
+/// A trace with its micro-operations, and with what is found once for all its states: every path
+/// that ever stands, what stands there at the start, and what each micro-operation does there.
+/// Contracts see the trace.
 #[derive(Drop)]
 pub struct Atlas {
     parts: Arc<Parts>,
@@ -50,7 +50,8 @@ impl Atlas {
     /// The atlas of a trace and what it breaks into, as `break_up` gives it.
     pub fn of(alloc: Global, trace: Trace, micros: Micros) -> Result<Atlas, AllocError>
         requires broken { micros ≡ micros_in trace }
-        requires legal { AreLegal (block_of_version trace.version) (start_paths trace) (length micros.starts) micros.ops }
+        requires legal { AreLegal (block_of_version trace.version) (start_paths trace)
+            (length micros.starts) micros.ops }
         ensures { IfOk result (λ atlas. atlas ≡ trace) }
     {
         let tables = Tables::of(alloc, &trace, &micros)?;
@@ -81,15 +82,18 @@ impl Atlas {
     /// What the trace breaks into.
     pub fn micros(&self) -> &Micros
         ensures value { result.now ≡ micros_in self.now }
-        ensures legal { AreLegal (block_of_version self.now.version) (start_paths self.now) (length result.now.starts) result.now.ops }
+        ensures legal { AreLegal (block_of_version self.now.version) (start_paths self.now)
+            (length result.now.starts) result.now.ops }
     {
         &self.parts.micros
     }
 
     /// The state of a set, which is allowed.
     pub fn build(&self, alloc: Global, places: &[u32]) -> Result<Built, AllocError>
-        requires { IsAllowed (needs_of (micros_in self.now)) (length (micros_in self.now).ops) places.now }
-        ensures state { IfOk result (λ tree. tree ≡ crash_state_of self.now (micros_in self.now) places.now) }
+        requires { IsAllowed (needs_of (micros_in self.now)) (length (micros_in self.now).ops)
+            places.now }
+        ensures state { IfOk result
+            (λ tree. tree ≡ crash_state_of self.now (micros_in self.now) places.now) }
         ensures tree { IfOk result IsTree }
     {
         let own = own_of(alloc, &self.parts, places)?;

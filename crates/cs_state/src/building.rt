@@ -7,7 +7,7 @@ ghost use Rattle.cs_state.specs.Parts.{AreParts};
 ghost use Rattle.cs_state.specs.Shares.{slots_left, IsShared};
 ghost use Rattle.cs_state.specs.Merging.{own_from, own_one};
 
-use crate::marks::stands;
+use crate::marks::is_entry;
 use crate::numbers::Own;
 use crate::parts::Parts;
 use cs_apm::slot::Slot;
@@ -18,9 +18,10 @@ use std::alloc::{AllocError, Global};
 /// before it.
 fn push_own(own: &mut Vec<Own>, id: u32, before: u32, slot: Slot) -> Result<(), AllocError>
     requires { before + length own.old.items < 2 ^ 32 }
-    ensures { OnOk result (own.new.items ≡ own.old.items ++ own_one id before slot (length own.old.items)) }
+    ensures { OnOk result
+        (own.new.items ≡ own.old.items ++ own_one id before slot (length own.old.items)) }
 {
-    if stands(slot) {
+    if is_entry(slot) {
         let number = before + own.len() as u32;
         own.push(Own { id, number, slot })?;
     }
@@ -28,7 +29,7 @@ fn push_own(own: &mut Vec<Own>, id: u32, before: u32, slot: Slot) -> Result<(), 
 }
 
 /// The touched paths at which something stands, with their numbers.
-fn standing(
+fn count_standing(
     alloc: Global,
     touched: &[u32],
     kept_below: &[u32],
@@ -36,7 +37,8 @@ fn standing(
 ) -> Result<Vec<Own>, AllocError>
     requires there { (k : ℕ) → k < length touched.now → kept_at touched.now k < length slots.now }
     requires counted { length kept_below.now ≡ length slots.now }
-    requires small { (k : ℕ) → k < length touched.now → kept_at kept_below.now (kept_at touched.now k) + length touched.now < 2 ^ 32 }
+    requires small { (k : ℕ) → k < length touched.now
+        → kept_at kept_below.now (kept_at touched.now k) + length touched.now < 2 ^ 32 }
     ensures { IfOk result (λ own. own.items ≡ own_from kept_below.now touched.now slots.now 0) }
 {
     let mut own = Vec::new(alloc);
@@ -47,16 +49,19 @@ fn standing(
     Ok(own)
 }
 
-/// What the state of a set has of its own: the members' steps are taken in the slots, and those of the
-/// touched paths are kept.
+/// What the state of a set has of its own: the members' steps are taken in the slots, and those of
+/// the touched paths are kept.
 pub fn own_of(alloc: Global, parts: &Parts, places: &[u32]) -> Result<Vec<Own>, AllocError>
     requires parts { AreParts parts.now }
-    requires allowed { IsAllowed (needs_of parts.now.micros) (length parts.now.micros.ops) places.now }
-    ensures { IfOk result (λ own. IsShared (slots_left parts.now.tables places.now) parts.now.shares.kept.items own.items) }
+    requires allowed { IsAllowed (needs_of parts.now.micros) (length parts.now.micros.ops)
+        places.now }
+    ensures { IfOk result
+        (λ own. IsShared (slots_left parts.now.tables places.now) parts.now.shares.kept.items
+        own.items) }
 {
     let shares = &parts.shares;
     let slots = filled(alloc, &parts.tables, places)?;
-    let own = standing(alloc, &shares.touched, &shares.kept_below, &slots)?;
+    let own = count_standing(alloc, &shares.touched, &shares.kept_below, &slots)?;
     let own = Vec::from_slice(alloc, &own)?;
     Ok(own)
 }

@@ -1,27 +1,31 @@
 //! The bytes of a state's file: those at the start, with what the members of its set wrote.
 
-ghost use Rattle.std.specs.Prelude.{◌≡◌, ◌≢◌, ◌+◌, ◌*◌, ◌<◌, ◌≤◌, ◌^◌, ◌⊎◌, [], ℕ, true, false, drop, fold, length, map, slice_index_or, take, IfOk, IsErr};
+ghost use Rattle.std.specs.Prelude.{◌≡◌, ◌≢◌, ◌+◌, ◌*◌, ◌<◌, ◌≤◌, ◌^◌, ◌⊎◌, [], ℕ, true, false};
+ghost use Rattle.std.specs.Prelude.{drop, fold, length, map, slice_index_or, take, IfOk, IsErr};
 ghost use Rattle.std.specs.List.{All};
-ghost use Rattle.cs_names.specs.declared.limits.TheConstants.{FILE_BYTES};
 ghost use Rattle.cs_apm.specs.Contents.{IsSmall};
 ghost use Rattle.cs_apm.specs.Rules.{op_at};
-ghost use Rattle.cs_apm.specs.States.{Content, overwritten};
+ghost use Rattle.cs_apm.specs.States.{Content};
 ghost use Rattle.cs_state.specs.Numbers.{kept_at};
-ghost use Rattle.cs_state.specs.Shares.{ids, mark_at};
-ghost use Rattle.cs_state.specs.Steps.{members_in, resizes, row_at, struck, struck_by, AgreeIn, IsPartIn};
-ghost use Rattle.cs_state.specs.Windows.{size_after, whole, IsPart};
+ghost use Rattle.cs_state.specs.Shares.{numbers_that_pass, mark_at};
+ghost use Rattle.cs_state.specs.Steps.{members_in, resizes, row_at, content_after_cut, struck_by};
+ghost use Rattle.cs_state.specs.Steps.{AgreeIn, IsPartIn};
+ghost use Rattle.cs_state.specs.Windows.{size_after, whole_content, IsPart};
 
+use crate::file_part::{copy_part, cut, write};
 use crate::file_steps::{FileSteps, PAGE_BYTES, size_after};
 use crate::members::{first_members, is_member};
-use cs_apm::content::put_at;
 use cs_micro::MicroOp;
 use std::alloc::{AllocError, Global};
 
-/// The size that the members leave of the file, which had this size: the last of those that change it
-/// says so.
+/// The size that the members leave of the file, which had this size: the last of those that change
+/// it says so.
 pub fn size_left(file: usize, size: u64, ops: &[MicroOp], sizes: &[u32], members: &[bool]) -> u64
-    requires sizes { sizes.now ≡ ids (λ k. resizes file (op_at ops.now k)) (length ops.now) }
-    requires first { (i j : ℕ) → i < j → j < length sizes.now → mark_at members.now (kept_at sizes.now j) ≡ true → mark_at members.now (kept_at sizes.now i) ≡ true }
+    requires sizes { sizes.now
+        ≡ numbers_that_pass (λ k. resizes file (op_at ops.now k)) (length ops.now) }
+    requires first { (i j : ℕ) → i < j → j < length sizes.now
+        → mark_at members.now (kept_at sizes.now j) ≡ true
+        → mark_at members.now (kept_at sizes.now i) ≡ true }
     requires long { length members.now ≡ length ops.now }
     ensures { result ≡ fold (size_after file) size (map (op_at ops.now) (members_in members.now)) }
 {
@@ -57,48 +61,13 @@ pub fn copied_piece(
     Vec::from_slice(alloc, piece)
 }
 
-/// The bytes from an offset on that a file with these bytes shows, and zeros past its end.
-fn copied(alloc: Global, bytes: &[u8], offset: usize, count: usize) -> Result<Vec<u8>, AllocError>
-    requires { offset + count < 2 ^ 64 }
-    ensures long { IfOk result (λ part. length part.items ≡ count) }
-    ensures part { IfOk result (λ part. IsPart offset (whole bytes.now) part.items) }
-{
-    let from = offset.min(bytes.len());
-    let end = bytes.len().min(offset + count);
-    let mut part = Vec::from_slice(alloc, &bytes[from..end.max(from)])?;
-    part.resize(count, 0)?;
-    Ok(part)
-}
-
-/// Makes what lies past a size zero, in a part of a file that begins at the offset.
-fn cut(part: &mut [u8], offset: usize, size: usize)
-    ensures long { length part.new ≡ length part.old }
-    ensures part { (f : Content) → IsPart offset f part.old → IsPart offset (record f { bytes = take size f.bytes }) part.new }
-{
-    let from = size.saturating_sub(offset).min(part.len());
-    part[from..].fill(0);
-}
-
-/// Writes a piece at its place, in a part of a file that begins at the offset.
-fn write(part: &mut [u8], offset: usize, at: usize, piece: &[u8])
-    requires room { offset + length part.old < 2 ^ 64 }
-    requires small { at + length piece.now ≤ FILE_BYTES }
-    ensures long { length part.new ≡ length part.old }
-    ensures part { (f : Content) → IsPart offset f part.old → IsPart offset (overwritten at piece.now f) part.new }
-{
-    let from = at.max(offset);
-    let end = (at + piece.len()).min(offset + part.len());
-    if from < end {
-        put_at(part, from - offset, &piece[from - at..end - at]);
-    }
-}
-
 /// Cuts a part of a file that begins at the offset, or writes into it.
 fn strike(part: &mut [u8], offset: usize, op: &MicroOp)
     requires room { offset + length part.old < 2 ^ 64 }
     requires small { IsSmall op.now }
     ensures long { length part.new ≡ length part.old }
-    ensures part { (f : Content) → IsPart offset f part.old → IsPart offset (struck f op.now) part.new }
+    ensures part { (f : Content) → IsPart offset f part.old
+        → IsPart offset (content_after_cut f op.now) part.new }
 {
     match op {
         MicroOp::ChangeFileSize { length, .. } => cut(part, offset, *length as usize),
@@ -118,7 +87,8 @@ fn take(part: &mut [u8], offset: usize, ops: &[MicroOp], places: &[u32], members
     requires small { All IsSmall ops.now }
     requires inside { All (λ place. place < length ops.now) places.now }
     ensures long { length part.new ≡ length part.old }
-    ensures part { (f : Content) → IsPart offset f part.old → IsPart offset (struck_by ops.now members.now f places.now) part.new }
+    ensures part { (f : Content) → IsPart offset f part.old
+        → IsPart offset (struck_by ops.now members.now f places.now) part.new }
 {
     for place in places {
         if is_member(members, *place) {
@@ -127,8 +97,8 @@ fn take(part: &mut [u8], offset: usize, ops: &[MicroOp], places: &[u32], members
     }
 }
 
-/// Takes those of the places that are members, in what lies in the page of a part of a file that begins
-/// at the offset.
+/// Takes those of the places that are members, in what lies in the page of a part of a file that
+/// begins at the offset.
 fn take_page(
     part: &mut [u8],
     offset: usize,
@@ -143,8 +113,11 @@ fn take_page(
     requires small { All IsSmall ops.now }
     requires inside { All (λ place. place < length ops.now) places.now }
     ensures long { length part.new ≡ length part.old }
-    ensures inside { (f : Content) → IsPartIn page offset f part.old → IsPartIn page offset (struck_by ops.now members.now f places.now) part.new }
-    ensures outside { (k : ℕ) → (offset + k < page * PAGE_BYTES) ⊎ (page * PAGE_BYTES + PAGE_BYTES ≤ offset + k) → slice_index_or part.new k 0 ≡ slice_index_or part.old k 0 }
+    ensures inside { (f : Content) → IsPartIn page offset f part.old
+        → IsPartIn page offset (struck_by ops.now members.now f places.now) part.new }
+    ensures outside { (k : ℕ) → (offset + k < page * PAGE_BYTES)
+        ⊎ (page * PAGE_BYTES + PAGE_BYTES ≤ offset + k)
+        → slice_index_or part.new k 0 ≡ slice_index_or part.old k 0 }
 {
     let first = page * PAGE_BYTES as usize;
     let from = first.saturating_sub(offset);
@@ -153,8 +126,8 @@ fn take_page(
     take(&mut part[from..end], offset + from, ops, places, members);
 }
 
-/// So many bytes from an offset on that the members leave of a file, which had these, by the steps that
-/// change it.
+/// So many bytes from an offset on that the members leave of a file, which had these, by the steps
+/// that change it.
 pub fn part_left(
     alloc: Global,
     start: &[u8],
@@ -169,9 +142,14 @@ pub fn part_left(
     requires small { All IsSmall ops.now }
     requires inside { (page : ℕ) → All (λ place. place < length ops.now) (row_at steps.now page) }
     ensures long { IfOk result (λ part. length part.items ≡ count) }
-    ensures part { IfOk result (λ part. (g : Content) → ((page : ℕ) → AgreeIn page (struck_by ops.now members.now (whole start.now) (row_at steps.now page)) g) → IsPart offset g part.items) }
+    ensures part { IfOk result
+        (λ part. (g : Content)
+        → ((page : ℕ)
+        → AgreeIn page
+        (struck_by ops.now members.now (whole_content start.now) (row_at steps.now page)) g)
+        → IsPart offset g part.items) }
 {
-    let mut part = copied(alloc, start, offset, count)?;
+    let mut part = copy_part(alloc, start, offset, count)?;
     let first = offset / PAGE_BYTES as usize;
     let last = (offset + count - 1) / PAGE_BYTES as usize;
     for page in first..last + 1 {

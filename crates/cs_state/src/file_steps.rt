@@ -1,13 +1,15 @@
 //! Which micro-operations of a trace change a file, and which of its pages.
-ghost use Rattle.std.specs.Prelude.{◌≡◌, ◌+◌, ◌/◌, ◌<◌, ◌≤◌, ◌^◌, ℕ, true, None, Some, length, slice_get, slice_index_or, IfOk, IsSome, OnOk};
+ghost use Rattle.std.specs.Prelude.{◌≡◌, ◌+◌, ◌/◌, ◌<◌, ◌≤◌, ◌^◌, ℕ, true, None, Some, length};
+ghost use Rattle.std.specs.Prelude.{slice_get, slice_index_or, IfOk, IsSome, OnOk};
 ghost use Rattle.std.specs.BTreeMap.{get};
 ghost use Rattle.std.specs.List.{All};
 ghost use Rattle.std.specs.Ordering.{nat_cmp};
 ghost use Rattle.cs_apm.specs.Atlases.{content_before, AreStarts};
-ghost use Rattle.cs_apm.specs.Contents.{IsSmall, changes};
+ghost use Rattle.cs_apm.specs.Contents.{IsSmall, changes_file};
 ghost use Rattle.cs_apm.specs.Rules.{op_at};
-ghost use Rattle.cs_state.specs.Shares.{ids};
-ghost use Rattle.cs_state.specs.Steps.{reaches, reaching, resizes, row_at, size_before, AreAllSteps, AreFileSteps, AreRows, HasRow};
+ghost use Rattle.cs_state.specs.Shares.{numbers_that_pass};
+ghost use Rattle.cs_state.specs.Steps.{reaches, places_reaching, resizes, row_at, size_before};
+ghost use Rattle.cs_state.specs.Steps.{AreAllSteps, AreFileSteps, AreRows, HasRow};
 ghost use Rattle.cs_state.specs.Windows.{size_after};
 
 use crate::marks::push_if;
@@ -27,8 +29,8 @@ pub struct FileSteps {
     pub sizes: Vec<u32>,
     /// Those that cut it off: no other reaches a page that none writes into.
     pub cuts: Vec<u32>,
-    /// For each page that one writes into, by its number: those that do, and those that cut the file
-    /// off.
+    /// For each page that one writes into, by its number: those that do, and those that cut the
+    /// file off.
     pub pages: BTreeMap<u64, Vec<u32>>,
 }
 
@@ -61,8 +63,8 @@ fn resizes(file: usize, op: &MicroOp) -> bool
     }
 }
 
-/// Whether the micro-operation cuts off its file, which has this size, or writes into the page, if there
-/// is one.
+/// Whether the micro-operation cuts off its file, which has this size, or writes into the page, if
+/// there is one.
 fn reaches(page: Option<u64>, size: u64, op: &MicroOp) -> bool
     requires { IsSmall op.now }
     ensures { result ≡ reaches page size op.now }
@@ -76,7 +78,7 @@ fn reaches(page: Option<u64>, size: u64, op: &MicroOp) -> bool
 
 /// Whether the micro-operation changes the file.
 fn changes(file: usize, op: &MicroOp) -> bool
-    ensures { result ≡ changes file op.now }
+    ensures { result ≡ changes_file file op.now }
 {
     match op {
         MicroOp::ChangeFileSize { file: other, .. } | MicroOp::WriteBlock { file: other, .. } => {
@@ -94,7 +96,9 @@ fn sizes_before(
     ops: &[MicroOp],
 ) -> Result<Vec<u64>, AllocError>
     ensures long { IfOk result (λ sizes. length sizes.items ≡ length ops.now) }
-    ensures each { IfOk result (λ sizes. (k : ℕ) → k < length ops.now → slice_index_or sizes.items k 0 ≡ size_before file start ops.now k) }
+    ensures each { IfOk result
+        (λ sizes. (k : ℕ) → k < length ops.now
+        → slice_index_or sizes.items k 0 ≡ size_before file start ops.now k) }
 {
     let mut sizes = Vec::new(alloc);
     let mut size = start;
@@ -108,7 +112,9 @@ fn sizes_before(
 /// The places of those that change the size of the file.
 fn resizing(alloc: Global, file: usize, ops: &[MicroOp]) -> Result<Vec<u32>, AllocError>
     requires { length ops.now < 2 ^ 20 }
-    ensures { IfOk result (λ places. places.items ≡ ids (λ k. resizes file (op_at ops.now k)) (length ops.now)) }
+    ensures { IfOk result
+        (λ places. places.items
+        ≡ numbers_that_pass (λ k. resizes file (op_at ops.now k)) (length ops.now)) }
 {
     let mut places = Vec::new(alloc);
     for place in 0..ops.len() {
@@ -120,7 +126,9 @@ fn resizing(alloc: Global, file: usize, ops: &[MicroOp]) -> Result<Vec<u32>, All
 /// The places of those that change the file.
 fn changing(alloc: Global, file: usize, ops: &[MicroOp]) -> Result<Vec<u32>, AllocError>
     requires { length ops.now < 2 ^ 20 }
-    ensures { IfOk result (λ places. places.items ≡ ids (λ k. changes file (op_at ops.now k)) (length ops.now)) }
+    ensures { IfOk result
+        (λ places. places.items
+        ≡ numbers_that_pass (λ k. changes_file file (op_at ops.now k)) (length ops.now)) }
 {
     let mut places = Vec::new(alloc);
     for place in 0..ops.len() {
@@ -129,9 +137,9 @@ fn changing(alloc: Global, file: usize, ops: &[MicroOp]) -> Result<Vec<u32>, All
     Ok(places)
 }
 
-/// Those of the places whose micro-operations reach the page, or cut the file off; its size before each is
-/// given.
-fn reaching(
+/// Those of the places whose micro-operations reach the page, or cut the file off; its size before
+/// each is given.
+fn places_reaching(
     alloc: Global,
     page: Option<u64>,
     sizes: &[u64],
@@ -142,7 +150,8 @@ fn reaching(
     requires small { All IsSmall ops.now }
     requires long { length sizes.now ≡ length ops.now }
     requires inside { All (λ place. place < length ops.now) places.now }
-    ensures { IfOk result (λ found. found.items ≡ reaching sizes.now ops.now places.now page) }
+    ensures { IfOk result
+        (λ found. found.items ≡ places_reaching sizes.now ops.now places.now page) }
 {
     let mut found = Vec::new(alloc);
     for place in places {
@@ -165,14 +174,17 @@ fn add_row(
     requires small { All IsSmall ops.now }
     requires long { length sizes.now ≡ length ops.now }
     requires inside { All (λ place. place < length ops.now) places.now }
-    ensures each { OnOk result (AreRows sizes.now ops.now places.now (get nat_cmp rows.old) → AreRows sizes.now ops.now places.now (get nat_cmp rows.new)) }
-    ensures keeps { OnOk result ((other : ℕ) → IsSome (get nat_cmp rows.old other) → IsSome (get nat_cmp rows.new other)) }
+    ensures each { OnOk result
+        (AreRows sizes.now ops.now places.now (get nat_cmp rows.old)
+        → AreRows sizes.now ops.now places.now (get nat_cmp rows.new)) }
+    ensures keeps { OnOk result
+        ((other : ℕ) → IsSome (get nat_cmp rows.old other) → IsSome (get nat_cmp rows.new other)) }
     ensures there { OnOk result (IsSome (get nat_cmp rows.new page)) }
 {
     if rows.contains_key(&page) {
         return Ok(());
     }
-    let row = reaching(alloc, Some(page), sizes, ops, places)?;
+    let row = places_reaching(alloc, Some(page), sizes, ops, places)?;
     rows.insert(page, row)?;
     Ok(())
 }
@@ -189,7 +201,8 @@ fn page_rows(
     requires long { length sizes.now ≡ length ops.now }
     requires inside { All (λ place. place < length ops.now) places.now }
     ensures each { IfOk result (λ rows. AreRows sizes.now ops.now places.now (get nat_cmp rows)) }
-    ensures written { IfOk result (λ rows. All (λ place. HasRow (get nat_cmp rows) (op_at ops.now place)) places.now) }
+    ensures written { IfOk result
+        (λ rows. All (λ place. HasRow (get nat_cmp rows) (op_at ops.now place)) places.now) }
 {
     let mut rows = BTreeMap::new(alloc);
     for place in places {
@@ -224,7 +237,7 @@ impl FileSteps {
     {
         let sizes = sizes_before(alloc, file, start as u64, ops)?;
         let places = changing(alloc, file, ops)?;
-        let cuts = reaching(alloc, None, &sizes, ops, &places)?;
+        let cuts = places_reaching(alloc, None, &sizes, ops, &places)?;
         let pages = page_rows(alloc, &sizes, ops, &places)?;
         let sizes = resizing(alloc, file, ops)?;
         Ok(FileSteps { sizes, cuts, pages })
@@ -266,7 +279,9 @@ fn steps_of(
     requires small { All IsSmall ops.now }
     requires starts { AreStarts trace.now tables.now.starts.items }
     requires known { file < length tables.now.changed.items }
-    ensures { IfOk result (λ steps. slice_get tables.now.changed.items file ≡ Some true → AreFileSteps file (length (content_before trace.now ops.now file).bytes) ops.now steps) }
+    ensures { IfOk result
+        (λ steps. slice_get tables.now.changed.items file ≡ Some true
+        → AreFileSteps file (length (content_before trace.now ops.now file).bytes) ops.now steps) }
 {
     if !tables.changed[file] {
         return Ok(FileSteps::none(alloc));
@@ -286,7 +301,8 @@ pub fn all_steps(
     requires few { length ops.now < 2 ^ 20 }
     requires small { All IsSmall ops.now }
     requires starts { AreStarts trace.now tables.now.starts.items }
-    ensures { IfOk result (λ all. AreAllSteps trace.now ops.now tables.now.changed.items all.items) }
+    ensures { IfOk result
+        (λ all. AreAllSteps trace.now ops.now tables.now.changed.items all.items) }
 {
     let mut all = Vec::new(alloc);
     for file in 0..tables.changed.len() {

@@ -1,9 +1,11 @@
 //! Which of the paths that ever stand some operation touches.
-ghost use Rattle.std.specs.Prelude.{◌≡◌, ◌+◌, ◌<◌, ◌^◌, ◌⊎◌, ◌++◌, ◌∷◌, [], ℕ, cond, false, true, length, IfOk, OnOk};
+ghost use Rattle.std.specs.Prelude.{◌≡◌, ◌+◌, ◌<◌, ◌^◌, ◌⊎◌, ◌++◌, ◌∷◌, [], ℕ, cond, false, true};
+ghost use Rattle.std.specs.Prelude.{length, IfOk, OnOk};
 ghost use Rattle.std.specs.List.{All};
 ghost use Rattle.cs_apm.specs.Slots.{FitsIn};
 ghost use Rattle.cs_state.specs.Numbers.{kept_at};
-ghost use Rattle.cs_state.specs.Shares.{ids, mark_at, stands, stays, IsLeft, IsTouched, Leaves, Touches};
+ghost use Rattle.cs_state.specs.Shares.{numbers_that_pass, mark_at, is_entry, is_in_every_state};
+ghost use Rattle.cs_state.specs.Shares.{IsLeft, IsTouched, Leaves, Touches};
 
 use cs_apm::slot::{Slot, Step};
 use std::alloc::{AllocError, Global};
@@ -12,8 +14,10 @@ use std::alloc::{AllocError, Global};
 fn mark(marks: &mut [bool], step: Step)
     requires { FitsIn (length marks.old) step }
     ensures long { length marks.new ≡ length marks.old }
-    ensures left { (id : ℕ) → mark_at marks.new id ≡ false → (mark_at marks.old id ≡ false) × Leaves id step }
-    ensures touched { (id : ℕ) → mark_at marks.new id ≡ true → (mark_at marks.old id ≡ true) ⊎ Touches id step }
+    ensures left { (id : ℕ) → mark_at marks.new id ≡ false → (mark_at marks.old id ≡ false)
+        × Leaves id step }
+    ensures touched { (id : ℕ) → mark_at marks.new id ≡ true → (mark_at marks.old id ≡ true)
+        ⊎ Touches id step }
 {
     match step {
         Step::Set(place, _) | Step::Own(place, _) => marks[place as usize] = true,
@@ -29,8 +33,10 @@ fn mark(marks: &mut [bool], step: Step)
 pub fn marks_of(alloc: Global, steps: &[Step], count: usize) -> Result<Vec<bool>, AllocError>
     requires { All (FitsIn count) steps.now }
     ensures long { IfOk result (λ marks. length marks.items ≡ count) }
-    ensures left { IfOk result (λ marks. (id : ℕ) → mark_at marks.items id ≡ false → IsLeft steps.now id) }
-    ensures touched { IfOk result (λ marks. (id : ℕ) → mark_at marks.items id ≡ true → IsTouched steps.now id) }
+    ensures left { IfOk result
+        (λ marks. (id : ℕ) → mark_at marks.items id ≡ false → IsLeft steps.now id) }
+    ensures touched { IfOk result
+        (λ marks. (id : ℕ) → mark_at marks.items id ≡ true → IsTouched steps.now id) }
 {
     let mut marks = vec![in alloc; false; count]?;
     for step in steps {
@@ -40,8 +46,8 @@ pub fn marks_of(alloc: Global, steps: &[Step], count: usize) -> Result<Vec<bool>
 }
 
 /// Whether something stands in the slot.
-pub fn stands(slot: Slot) -> bool
-    ensures { result ≡ stands slot }
+pub fn is_entry(slot: Slot) -> bool
+    ensures { result ≡ is_entry slot }
 {
     match slot {
         Slot::Nothing => false,
@@ -63,7 +69,8 @@ pub fn push_if(ids: &mut Vec<u32>, id: usize, passes: bool) -> Result<(), AllocE
 /// The marked paths.
 pub fn marked(alloc: Global, marks: &[bool]) -> Result<Vec<u32>, AllocError>
     requires { length marks.now < 2 ^ 20 }
-    ensures { IfOk result (λ found. found.items ≡ ids (mark_at marks.now) (length marks.now)) }
+    ensures { IfOk result
+        (λ found. found.items ≡ numbers_that_pass (mark_at marks.now) (length marks.now)) }
 {
     let mut found = Vec::new(alloc);
     for id in 0..marks.len() {
@@ -76,16 +83,18 @@ pub fn marked(alloc: Global, marks: &[bool]) -> Result<Vec<u32>, AllocError>
 fn is_kept(marks: &[bool], slots: &[Slot], id: usize) -> bool
     requires marked { id < length marks.now }
     requires there { id < length slots.now }
-    ensures { result ≡ stays marks.now slots.now id }
+    ensures { result ≡ is_in_every_state marks.now slots.now id }
 {
-    !marks[id] && stands(slots[id])
+    !marks[id] && is_entry(slots[id])
 }
 
 /// The paths at which something stands from the start on, and that no step changes.
 pub fn kept_of(alloc: Global, marks: &[bool], slots: &[Slot]) -> Result<Vec<u32>, AllocError>
     requires few { length slots.now < 2 ^ 20 }
     requires long { length marks.now ≡ length slots.now }
-    ensures { IfOk result (λ found. found.items ≡ ids (stays marks.now slots.now) (length slots.now)) }
+    ensures { IfOk result
+        (λ found. found.items
+        ≡ numbers_that_pass (is_in_every_state marks.now slots.now) (length slots.now)) }
 {
     let mut found = Vec::new(alloc);
     for id in 0..slots.len() {
@@ -107,7 +116,10 @@ pub fn kept_below(alloc: Global, marks: &[bool], slots: &[Slot]) -> Result<Vec<u
     requires few { length slots.now < 2 ^ 20 }
     requires long { length marks.now ≡ length slots.now }
     ensures long { IfOk result (λ counts. length counts.items ≡ length slots.now) }
-    ensures each { IfOk result (λ counts. (id : ℕ) → id < length slots.now → kept_at counts.items id ≡ length (ids (stays marks.now slots.now) id)) }
+    ensures each { IfOk result
+        (λ counts. (id : ℕ) → id < length slots.now
+        → kept_at counts.items id
+        ≡ length (numbers_that_pass (is_in_every_state marks.now slots.now) id)) }
 {
     let mut counts = Vec::new(alloc);
     let mut count = 0u32;

@@ -9,7 +9,8 @@ use std::alloc::{AllocError, Global};
 
 /// A mark for each of so many micro-operations, whether it is at one of these places.
 pub fn members_of(alloc: Global, count: usize, places: &[u32]) -> Result<Vec<bool>, AllocError>
-    requires ascending { (i j : ℕ) → i < j → j < length places.now → kept_at places.now i < kept_at places.now j }
+    requires ascending { (i j : ℕ) → i < j → j < length places.now
+        → kept_at places.now i < kept_at places.now j }
     requires inside { All (λ place. place < count) places.now }
     ensures long { IfOk result (λ members. length members.items ≡ count) }
     ensures members { IfOk result (λ members. members_in members.items ≡ places.now) }
@@ -30,10 +31,13 @@ pub fn is_member(members: &[bool], place: u32) -> bool
 
 /// How many of these are members, where these are the first of them.
 pub fn first_members(members: &[bool], places: &[u32]) -> usize
-    requires { (i j : ℕ) → i < j → j < length places.now → mark_at members.now (kept_at places.now j) ≡ true → mark_at members.now (kept_at places.now i) ≡ true }
+    requires { (i j : ℕ) → i < j → j < length places.now
+        → mark_at members.now (kept_at places.now j) ≡ true
+        → mark_at members.now (kept_at places.now i) ≡ true }
     ensures bound { result ≤ length places.now }
     ensures low { (k : ℕ) → k < result → mark_at members.now (kept_at places.now k) ≡ true }
-    ensures high { (k : ℕ) → result ≤ k → k < length places.now → mark_at members.now (kept_at places.now k) ≡ false }
+    ensures high { (k : ℕ) → result ≤ k → k < length places.now
+        → mark_at members.now (kept_at places.now k) ≡ false }
 {
     places.partition_point(|place| is_member(members, *place))
 }

@@ -1,8 +1,9 @@
-//! The numbers of what stands in a state, from what all states share and from what the state has of its
-//! own.
+//! The numbers of what stands in a state, from what all states share and from what the state has of
+//! its own.
 ghost use Rattle.std.specs.Prelude.{◌≡◌, ◌+◌, ◌^◌, ◌<◌, ◌≤◌, ℕ, length, IfNone, IfSome};
 ghost use Rattle.std.specs.List.Sorted.{IsNonDecreasingBy};
-ghost use Rattle.cs_state.specs.Numbers.{at, below, kept_at, number_in, HasId, IsFound, IsMerge};
+ghost use Rattle.cs_state.specs.Numbers.{own_in_place, count_with_key_below, kept_at, number_in};
+ghost use Rattle.cs_state.specs.Numbers.{HasId, IsFound, IsMerge};
 
 use cs_apm::slot::Slot;
 
@@ -27,11 +28,14 @@ pub struct Found {
 /// How many of the numbers are below this one; it is known that at least so many are, and at most.
 fn numbers_below(own: &[Own], least: usize, most: usize, number: u64) -> usize
     requires rising { IsNonDecreasingBy (λ (o : Own). o.number) own.now }
-    requires least { (k : ℕ) → k < least → k < length own.now → (at own.now k).number < number }
-    requires most { (k : ℕ) → most ≤ k → k < length own.now → number ≤ (at own.now k).number }
+    requires least { (k : ℕ) → k < least → k < length own.now
+        → (own_in_place own.now k).number < number }
+    requires most { (k : ℕ) → most ≤ k → k < length own.now
+        → number ≤ (own_in_place own.now k).number }
     ensures bound { result ≤ length own.now }
-    ensures low { (k : ℕ) → k < result → (at own.now k).number < number }
-    ensures high { (k : ℕ) → result ≤ k → k < length own.now → number ≤ (at own.now k).number }
+    ensures low { (k : ℕ) → k < result → (own_in_place own.now k).number < number }
+    ensures high { (k : ℕ) → result ≤ k → k < length own.now
+        → number ≤ (own_in_place own.now k).number }
 {
     let end = own.len().min(most);
     let from = end.min(least);
@@ -41,11 +45,11 @@ fn numbers_below(own: &[Own], least: usize, most: usize, number: u64) -> usize
 /// How many of the ids are below this one; it is known that at least so many are, and at most.
 fn ids_below(own: &[Own], least: usize, most: usize, id: u32) -> usize
     requires rising { IsNonDecreasingBy (λ (o : Own). o.id) own.now }
-    requires least { (k : ℕ) → k < least → k < length own.now → (at own.now k).id < id }
-    requires most { (k : ℕ) → most ≤ k → k < length own.now → id ≤ (at own.now k).id }
+    requires least { (k : ℕ) → k < least → k < length own.now → (own_in_place own.now k).id < id }
+    requires most { (k : ℕ) → most ≤ k → k < length own.now → id ≤ (own_in_place own.now k).id }
     ensures bound { result ≤ length own.now }
-    ensures low { (k : ℕ) → k < result → (at own.now k).id < id }
-    ensures high { (k : ℕ) → result ≤ k → k < length own.now → id ≤ (at own.now k).id }
+    ensures low { (k : ℕ) → k < result → (own_in_place own.now k).id < id }
+    ensures high { (k : ℕ) → result ≤ k → k < length own.now → id ≤ (own_in_place own.now k).id }
 {
     let end = own.len().min(most);
     let from = end.min(least);
@@ -86,9 +90,11 @@ pub fn found_at(kept: &[u32], slots: &[Slot], own: &[Own], number: u64) -> Optio
 pub fn number_of(kept: &[u32], kept_below: &[u32], own: &[Own], id: u32) -> Option<u64>
     requires merge { IsMerge kept.now own.now }
     requires there { id < length kept_below.now }
-    requires counted { kept_at kept_below.now id ≡ below (λ k. k) kept.now id }
-    requires kept_inside { (k : ℕ) → k < length kept.now → kept_at kept.now k < length kept_below.now }
-    requires own_inside { (k : ℕ) → k < length own.now → (at own.now k).id < length kept_below.now }
+    requires counted { kept_at kept_below.now id ≡ count_with_key_below (λ k. k) kept.now id }
+    requires kept_inside { (k : ℕ) → k < length kept.now
+        → kept_at kept.now k < length kept_below.now }
+    requires own_inside { (k : ℕ) → k < length own.now
+        → (own_in_place own.now k).id < length kept_below.now }
     requires small { length own.now < 2 ^ 32 }
     ensures there { IfSome result (λ n. HasId kept.now own.now id) }
     ensures number { IfSome result (λ n. number_in kept.now own.now id ≡ n) }

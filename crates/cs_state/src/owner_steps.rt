@@ -4,7 +4,8 @@ ghost use Rattle.std.specs.BTreeMap.{get};
 ghost use Rattle.std.specs.Ordering.{nat_cmp};
 ghost use Rattle.cs_apm.specs.Owners.{owner_left};
 ghost use Rattle.cs_state.specs.Numbers.{kept_at};
-ghost use Rattle.cs_state.specs.Owners.{rights_places, rights_row, sets_rights, AreOwnerSteps, AreRightsRows, HasRightsRow};
+ghost use Rattle.cs_state.specs.Owners.{rights_places, rights_row, sets_rights, AreOwnerSteps};
+ghost use Rattle.cs_state.specs.Owners.{AreRightsRows, HasRightsRow};
 ghost use Rattle.cs_state.specs.Shares.{mark_at};
 ghost use Rattle.cs_state.specs.Steps.{members_in};
 
@@ -56,8 +57,11 @@ fn add_row(
     ops: &[MicroOp],
 ) -> Result<(), AllocError>
     requires { length ops.now < 2 ^ 20 }
-    ensures each { OnOk result (AreRightsRows ops.now (get nat_cmp rows.old) → AreRightsRows ops.now (get nat_cmp rows.new)) }
-    ensures keeps { OnOk result ((other : ℕ) → IsSome (get nat_cmp rows.old other) → IsSome (get nat_cmp rows.new other)) }
+    ensures each { OnOk result
+        (AreRightsRows ops.now (get nat_cmp rows.old)
+        → AreRightsRows ops.now (get nat_cmp rows.new)) }
+    ensures keeps { OnOk result
+        ((other : ℕ) → IsSome (get nat_cmp rows.old other) → IsSome (get nat_cmp rows.new other)) }
     ensures there { OnOk result (IsSome (get nat_cmp rows.new file)) }
 {
     if rows.contains_key(&file) {
@@ -98,8 +102,8 @@ impl OwnerSteps {
     }
 }
 
-/// The owner, group and permissions that the members leave of the file, which had these: the last of
-/// those that set them says so.
+/// The owner, group and permissions that the members leave of the file, which had these: the last
+/// of those that set them says so.
 pub fn owner_left<'a>(
     file: u32,
     owner: &'a Rights,
@@ -108,7 +112,9 @@ pub fn owner_left<'a>(
     members: &[bool],
 ) -> &'a Rights
     requires places { places.now ≡ rights_places ops.now file }
-    requires first { (i j : ℕ) → i < j → j < length places.now → mark_at members.now (kept_at places.now j) ≡ true → mark_at members.now (kept_at places.now i) ≡ true }
+    requires first { (i j : ℕ) → i < j → j < length places.now
+        → mark_at members.now (kept_at places.now j) ≡ true
+        → mark_at members.now (kept_at places.now i) ≡ true }
     requires long { length members.now ≡ length ops.now }
     ensures { result.now ≡ owner_left file owner.now ops.now (members_in members.now) }
 {

@@ -1,12 +1,14 @@
 //! What stands at a path of a state, and what is read of a file.
 
-ghost use Rattle.std.specs.Prelude.{◌≡◌, ◌≢◌, ◌+◌, ◌<◌, ◌≤◌, ◌^◌, [], true, Some, drop, length, slice_get, take, IfErr, IfOk, IsErr, IsSomeAnd};
+ghost use Rattle.std.specs.Prelude.{◌≡◌, ◌≢◌, ◌+◌, ◌<◌, ◌≤◌, ◌^◌, [], true, Some, drop, length};
+ghost use Rattle.std.specs.Prelude.{slice_get, take, IfErr, IfOk, IsErr, IsSomeAnd};
 ghost use Rattle.std.specs.Option.{option_map};
 ghost use Rattle.cs_tree_model.specs.Fresh.{fresh_record};
-ghost use Rattle.cs_tree_model.specs.Record.{lent, metadata_of};
+ghost use Rattle.cs_tree_model.specs.Record.{metadata_of_ref, metadata_of};
 ghost use Rattle.cs_apm.specs.Slots.{IsKnown};
 ghost use Rattle.cs_apm.specs.States.{visible};
-ghost use Rattle.cs_state.specs.Parts.{AreMembers, AreParts, bytes_before, file_in, owner_in, record_in, read_in, unchanged_metadata};
+ghost use Rattle.cs_state.specs.Parts.{AreMembers, AreParts, bytes_before, file_in, owner_in};
+ghost use Rattle.cs_state.specs.Parts.{record_in, read_in, unchanged_metadata};
 ghost use Rattle.cs_state.specs.Steps.{members_in};
 ghost use Rattle.cs_state.specs.Windows.{IsPart};
 
@@ -32,8 +34,8 @@ fn start_of<'a>(parts: &'a Parts, file: u32) -> &'a [u8]
     )
 }
 
-/// The size that the members leave of the file, which some micro-operation changes, and which had this
-/// size at the start.
+/// The size that the members leave of the file, which some micro-operation changes, and which had
+/// this size at the start.
 fn changed_size(parts: &Parts, members: &[bool], file: u32, size: u64) -> u64
     requires parts { AreParts parts.now }
     requires known { file < length parts.now.tables.owners.items }
@@ -61,8 +63,8 @@ fn size_of(parts: &Parts, members: &[bool], file: u32) -> u64
     }
 }
 
-/// So many bytes of the file, which some micro-operation changes, and which had these at the start, from
-/// an offset on; each of them lies before its end.
+/// So many bytes of the file, which some micro-operation changes, and which had these at the start,
+/// from an offset on; each of them lies before its end.
 fn changed_part(
     alloc: Global,
     parts: &Parts,
@@ -81,7 +83,8 @@ fn changed_part(
     requires few { offset + count < 2 ^ 64 }
     requires inside { offset + count ≤ (file_in parts.now (members_in members.now) file).size }
     ensures long { IfOk result (λ part. length part.items ≡ count) }
-    ensures part { IfOk result (λ part. IsPart offset (file_in parts.now (members_in members.now) file) part.items) }
+    ensures part { IfOk result
+        (λ part. IsPart offset (file_in parts.now (members_in members.now) file) part.items) }
 {
     let steps = &parts.steps[file as usize];
     let ops = parts.micros.ops();
@@ -89,8 +92,8 @@ fn changed_part(
     Ok(part)
 }
 
-/// The bytes from an offset on that the members leave of the file, so many of them or as many as there
-/// are. Some micro-operation changes the file, which had these bytes at the start.
+/// The bytes from an offset on that the members leave of the file, so many of them or as many as
+/// there are. Some micro-operation changes the file, which had these bytes at the start.
 fn changed_bytes(
     alloc: Global,
     parts: &Parts,
@@ -105,8 +108,12 @@ fn changed_bytes(
     requires changed { slice_get parts.now.tables.changed.items file ≡ Some true }
     requires set { AreMembers parts.now members.now }
     requires start { start.now ≡ bytes_before parts.now file }
-    ensures value { IfOk result (λ bytes. bytes.items ≡ take count (drop offset (visible (file_in parts.now (members_in members.now) file)))) }
-    ensures memory { IsErr result → take count (drop offset (visible (file_in parts.now (members_in members.now) file))) ≢ [] }
+    ensures value { IfOk result
+        (λ bytes. bytes.items
+        ≡ take count (drop offset (visible (file_in parts.now (members_in members.now) file)))) }
+    ensures memory { IsErr result
+        → take count (drop offset (visible (file_in parts.now (members_in members.now) file))) ≢
+        [] }
 {
     let size = changed_size(parts, members, file, start.len() as u64);
     if size <= offset || count == 0 {
@@ -130,8 +137,12 @@ fn bytes_of(
     requires parts { AreParts parts.now }
     requires known { file < length parts.now.tables.owners.items }
     requires set { AreMembers parts.now members.now }
-    ensures value { IfOk result (λ bytes. bytes.items ≡ take count (drop offset (visible (file_in parts.now (members_in members.now) file)))) }
-    ensures memory { IsErr result → take count (drop offset (visible (file_in parts.now (members_in members.now) file))) ≢ [] }
+    ensures value { IfOk result
+        (λ bytes. bytes.items
+        ≡ take count (drop offset (visible (file_in parts.now (members_in members.now) file)))) }
+    ensures memory { IsErr result
+        → take count (drop offset (visible (file_in parts.now (members_in members.now) file))) ≢
+        [] }
 {
     let start = start_of(parts, file);
     if parts.tables.changed[file as usize] {
@@ -156,7 +167,7 @@ fn owner_of<'a>(parts: &'a Parts, members: &[bool], file: u32) -> &'a Rights
 /// What a record says beside its bytes, where it was never changed.
 fn unchanged(number: u64, rights: &Rights, bit: u32, kind: Kind) -> Metadata<'_>
     requires { bit ≤ DMDIR }
-    ensures { lent result ≡ unchanged_metadata number rights.now bit kind }
+    ensures { metadata_of_ref result ≡ unchanged_metadata number rights.now bit kind }
 {
     Metadata {
         number,
@@ -179,9 +190,12 @@ pub fn metadata_of<'a>(
     slot: Slot,
 ) -> Option<Metadata<'a>>
     requires parts { AreParts parts.now }
-    requires known { IsKnown (length parts.now.tables.rights.items) (length parts.now.tables.owners.items) slot }
+    requires known { IsKnown (length parts.now.tables.rights.items)
+        (length parts.now.tables.owners.items) slot }
     requires set { AreMembers parts.now members.now }
-    ensures { option_map lent result ≡ option_map (λ r. metadata_of (fresh_record number r)) (record_in parts.now (members_in members.now) slot) }
+    ensures { option_map metadata_of_ref result
+        ≡ option_map (λ r. metadata_of (fresh_record number r))
+        (record_in parts.now (members_in members.now) slot) }
 {
     match slot {
         Slot::Nothing => None,
@@ -207,10 +221,15 @@ pub fn read(
     count: usize,
 ) -> Result<Option<Vec<u8>>, AllocError>
     requires parts { AreParts parts.now }
-    requires known { IsKnown (length parts.now.tables.rights.items) (length parts.now.tables.owners.items) slot }
+    requires known { IsKnown (length parts.now.tables.rights.items)
+        (length parts.now.tables.owners.items) slot }
     requires set { AreMembers parts.now members.now }
-    ensures value { IfOk result (λ bytes. option_map (λ v. v.items) bytes ≡ read_in parts.now (members_in members.now) slot offset count) }
-    ensures memory { IsErr result → IsSomeAnd (read_in parts.now (members_in members.now) slot offset count) (λ bytes. bytes ≢ []) }
+    ensures value { IfOk result
+        (λ bytes. option_map (λ v. v.items) bytes
+        ≡ read_in parts.now (members_in members.now) slot offset count) }
+    ensures memory { IsErr result
+        → IsSomeAnd (read_in parts.now (members_in members.now) slot offset count)
+        (λ bytes. bytes ≢ []) }
 {
     match slot {
         Slot::File(file) => {

@@ -9,12 +9,13 @@ use cs_apm::making::store_of;
 use cs_apm::slot::Slot;
 use cs_apm::tables::Tables;
 use cs_micro::MicroOp;
+use cs_names::laws::know;
 use cs_trace::Trace;
 use cs_tree::PlainTree;
 use std::alloc::{AllocError, Global};
 
-/// What all states of a trace share beside its tables. A path is told by its place among all that ever
-/// stand.
+/// What all states of a trace share beside its tables. A path is told by its place among all that
+/// ever stand.
 #[derive(Drop)]
 pub struct Shares {
     /// The paths at which the same stands in every state.
@@ -57,7 +58,7 @@ impl Shares {
         ensures { IfOk result (IsShares trace.now ops.now tables.now) }
     {
         // no trace has so many records that its paths could not be counted
-        let _few = trace.records();
+        know(trace.records());
         let marks = marks_of(alloc, &tables.steps, tables.slots.len())?;
         let kept = kept_of(alloc, &marks, &tables.slots)?;
         let kept_below = kept_below(alloc, &marks, &tables.slots)?;

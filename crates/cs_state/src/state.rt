@@ -1,9 +1,10 @@
 //! What a state keeps, and what is read of it by places.
-ghost use Rattle.std.specs.Prelude.{◌≡◌, ◌≢◌, ◌<◌, ◌≤◌, [], Some, length, IfNone, IfOk, IfSome, IsErr, IsSomeAnd};
+ghost use Rattle.std.specs.Prelude.{◌≡◌, ◌≢◌, ◌<◌, ◌≤◌, [], Some, length, IfNone, IfOk, IfSome};
+ghost use Rattle.std.specs.Prelude.{IsErr, IsSomeAnd};
 ghost use Rattle.std.specs.Arc.{arc_value};
 ghost use Rattle.std.specs.Option.{option_map};
 ghost use Rattle.cs_tree_model.specs.Fresh.{fresh_record};
-ghost use Rattle.cs_tree_model.specs.Record.{lent, metadata_of};
+ghost use Rattle.cs_tree_model.specs.Record.{metadata_of_ref, metadata_of};
 ghost use Rattle.cs_apm.specs.Slots.{IsKnown, slot_at};
 ghost use Rattle.cs_state.specs.Parts.{count_in, read_in, record_in, IsState};
 ghost use Rattle.cs_state.specs.Shares.{place_of, slots_left};
@@ -19,8 +20,8 @@ use cs_tree_model::Metadata;
 use std::alloc::{AllocError, Global};
 use std::sync::Arc;
 
-/// What a state keeps: what it shares with the others, for each micro-operation whether it is a member of
-/// its set, and what stands at the touched paths.
+/// What a state keeps: what it shares with the others, for each micro-operation whether it is a
+/// member of its set, and what stands at the touched paths.
 #[derive(Drop)]
 pub struct State {
     pub parts: Arc<Parts>,
@@ -31,8 +32,10 @@ pub struct State {
 /// What has the number in the state of a set.
 fn found_in(parts: &Parts, _members: &[bool], own: &[Own], number: u64) -> Option<Found>
     requires { IsState parts.now (members_in _members.now) own.now }
-    ensures slot { IfSome result (λ f. f.slot ≡ slot_at (slots_left parts.now.tables (members_in _members.now)) f.id) }
-    ensures place { IfSome result (λ f. place_of (slots_left parts.now.tables (members_in _members.now)) f.id ≡ Some number) }
+    ensures slot { IfSome result
+        (λ f. f.slot ≡ slot_at (slots_left parts.now.tables (members_in _members.now)) f.id) }
+    ensures place { IfSome result
+        (λ f. place_of (slots_left parts.now.tables (members_in _members.now)) f.id ≡ Some number) }
     ensures none { IfNone result (count_in parts.now (members_in _members.now) ≤ number) }
 {
     found_at(&parts.shares.kept, &parts.tables.slots, own, number)
@@ -53,7 +56,8 @@ impl State {
         requires { IsMade self.now }
         ensures slot { IfSome result (λ f. f.slot ≡ slot_at (slots_in self.now) f.id) }
         ensures place { IfSome result (λ f. place_of (slots_in self.now) f.id ≡ Some number) }
-        ensures none { IfNone result (count_in (arc_value self.now.parts) (members_in self.now.members.items) ≤ number) }
+        ensures none { IfNone result
+            (count_in (arc_value self.now.parts) (members_in self.now.members.items) ≤ number) }
     {
         found_in(&self.parts, &self.members, &self.own, number)
     }
@@ -85,8 +89,11 @@ impl State {
     /// What the record of what stands in a slot says beside its bytes.
     pub fn metadata(&self, number: u64, slot: Slot) -> Option<Metadata<'_>>
         requires made { IsMade self.now }
-        requires known { IsKnown (length (arc_value self.now.parts).tables.rights.items) (length (arc_value self.now.parts).tables.owners.items) slot }
-        ensures { option_map lent result ≡ option_map (λ r. metadata_of (fresh_record number r)) (record_in (arc_value self.now.parts) (members_in self.now.members.items) slot) }
+        requires known { IsKnown (length (arc_value self.now.parts).tables.rights.items)
+            (length (arc_value self.now.parts).tables.owners.items) slot }
+        ensures { option_map metadata_of_ref result
+            ≡ option_map (λ r. metadata_of (fresh_record number r))
+            (record_in (arc_value self.now.parts) (members_in self.now.members.items) slot) }
     {
         metadata_of(&self.parts, &self.members, number, slot)
     }
@@ -100,9 +107,16 @@ impl State {
         count: usize,
     ) -> Result<Option<Vec<u8>>, AllocError>
         requires made { IsMade self.now }
-        requires known { IsKnown (length (arc_value self.now.parts).tables.rights.items) (length (arc_value self.now.parts).tables.owners.items) slot }
-        ensures value { IfOk result (λ bytes. option_map (λ v. v.items) bytes ≡ read_in (arc_value self.now.parts) (members_in self.now.members.items) slot offset count) }
-        ensures memory { IsErr result → IsSomeAnd (read_in (arc_value self.now.parts) (members_in self.now.members.items) slot offset count) (λ bytes. bytes ≢ []) }
+        requires known { IsKnown (length (arc_value self.now.parts).tables.rights.items)
+            (length (arc_value self.now.parts).tables.owners.items) slot }
+        ensures value { IfOk result
+            (λ bytes. option_map (λ v. v.items) bytes
+            ≡ read_in (arc_value self.now.parts) (members_in self.now.members.items) slot offset
+            count) }
+        ensures memory { IsErr result
+            → IsSomeAnd
+            (read_in (arc_value self.now.parts) (members_in self.now.members.items) slot offset
+            count) (λ bytes. bytes ≢ []) }
     {
         read(alloc, &self.parts, &self.members, slot, offset, count)
     }

@@ -6,12 +6,13 @@ ghost use Rattle.cs_state.specs.States.{number_shown, tree_in, IsMade};
 
 use crate::state::State;
 use cs_names::Name;
-use cs_tree_model::{Entry, Metadata, TreeRead};
+use cs_tree_model::{ListedEntry, Metadata, TreeRead};
 use std::alloc::{AllocError, Global};
 use std::marker::Model;
 
-/// The state of a set of a trace's micro-operations. It keeps the members of the set, and what stands at
-/// the paths that some operation touches; all else it shares with the other states of the trace.
+/// The state of a set of a trace's micro-operations. It keeps the members of the set, and what
+/// stands at the paths that some operation touches; all else it shares with the other states of the
+/// trace.
 #[derive(Drop)]
 pub struct StateTree {
     state: State,
@@ -70,7 +71,7 @@ impl TreeRead for StateTree {
         directory: u64,
         last: Option<&Name>,
         bound: Option<&Name>,
-    ) -> Option<Entry<'_>> {
+    ) -> Option<ListedEntry<'_>> {
         let found = self.state.found(directory)?;
         entry_in(&self.state, found.id as u64, last, bound)
     }
@@ -98,24 +99,26 @@ impl TreeRead for StateTree {
     }
 }
 
-/// The next entry at which something stands, of the directory at a path. Names at which nothing stands
-/// are passed.
+/// The next entry at which something stands, of the directory at a path. Names at which nothing
+/// stands are passed.
 fn entry_in<'a>(
     state: &'a State,
     directory: u64,
     last: Option<&Name>,
     bound: Option<&Name>,
-) -> Option<Entry<'a>>
+) -> Option<ListedEntry<'a>>
     requires { IsMade state.now }
-    ensures name { IsEntryBelow (λ y. IsSome (number_shown state.now directory y)) (option_copied last.entry) (option_copied bound.entry) (option_map entry_name result) }
-    ensures number { IfSome result (λ e. number_shown state.now directory (entry_name e) ≡ Some e.number) }
+    ensures name { IsEntryBelow (λ y. IsSome (number_shown state.now directory y))
+        (option_copied last.entry) (option_copied bound.entry) (option_map entry_name result) }
+    ensures number { IfSome result
+        (λ e. number_shown state.now directory (entry_name e) ≡ Some e.number) }
 {
     let names = state.names();
     let mut from = last;
     loop {
         let entry = names.entry_after(directory, from, bound)?;
         if let Some(number) = state.number(entry.number) {
-            return Some(Entry {
+            return Some(ListedEntry {
                 name: entry.name,
                 number,
             });

@@ -8,10 +8,10 @@ use Rattle.cs_journal.specs.Runs.{PassOf, RunOf}
 use Rattle.cs_journal.specs.declared.auditing.AuditFault.{AuditFault}
 use Rattle.cs_journal.specs.declared.auditing.AuditFault.TheVariants.{Count, Missing, Changed}
 use Rattle.cs_registry.specs.Keys.{Key}
-use Rattle.cs_server.specs.Given.{Given, passes_of}
-use Rattle.cs_shared.specs.Answers.{IsTold}
-use Rattle.cs_shared.specs.Naming.{key_cmp}
-use Rattle.cs_shared.specs.Serving.{HasTree}
+use Rattle.cs_connection.specs.Given.{Given, passes_of}
+use Rattle.cs_shared_runs.specs.Answers.{IsTold}
+use Rattle.cs_shared_runs.specs.Naming.{key_cmp}
+use Rattle.cs_shared_runs.specs.Serving.{HasTree}
 use Rattle.cs_tcp.specs.declared.summary.RunReport.{RunReport}
 
 -- an audit's result in words
@@ -21,7 +21,8 @@ verdict_text (Err Count) = codes "count"
 verdict_text (Err (Missing place)) = codes "missing " ++ decimal place
 verdict_text (Err (Changed place)) = codes "changed " ++ decimal place
 
--- how many entries the journal of a run has, and its audit; foreign if the run was of another number
+-- how many entries the journal of a run has, and its audit; foreign if the run was of another
+-- number
 abbrev pub told_text : Option (ℕ × Result (Unit {0}) AuditFault) → List ℕ
 told_text None = codes "foreign"
 told_text (Some told) =

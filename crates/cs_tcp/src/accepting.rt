@@ -12,7 +12,7 @@ use std::time::Duration;
 const FAILED_ACCEPTS: u32 = 100;
 
 /// How long it is waited after an accept that came to nothing: nobody asks for a connection, or it
-/// failed, as it may at once, again and again, where there are too many open files.
+/// failed, as it may at once, again and again, if there are too many open files.
 const PAUSE_MILLISECONDS: u64 = 10;
 
 /// What came of waiting for a connection.

@@ -2,7 +2,7 @@
 
 use std::fmt;
 
-/// An address as it was given; where its port is 0, with the port that was taken in its place.
+/// An address as it was given; if its port is 0, with the port that was taken in its place.
 #[derive(Clone, Copy, Debug)]
 pub(crate) struct Address<'a> {
     pub(crate) given: &'a str,

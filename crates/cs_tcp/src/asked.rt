@@ -1,13 +1,13 @@
 //! What is asked of the server in place of a client of Linux.
 
-use cs_rename::{Directories, Renaming, Step, directory_of, is_rename, renaming_of};
-use cs_wire::{RBody, RKind, RMessage, TBody, TKind, TMessage, decode, decode_r};
+use cs_linux::{Directories, Renaming, Step, directory_of, is_rename, renaming_of};
+use cs_wire::{RBody, RKind, RMessage, TBody, TKind, TMessage, decode_reply, decode_request};
 use std::alloc::Global;
 use std::borrow::CowStr;
 
 /// What is done with a reply.
 #[derive(Drop)]
-pub(crate) enum Outcome {
+pub(crate) enum ReplyFate {
     /// The client gets it.
     Told,
     /// The client gets this.
@@ -20,11 +20,11 @@ pub(crate) enum Outcome {
 /// directories, and renames. A rename onto a file that stands goes on from here: the client gets
 /// one reply to its request.
 #[derive(Drop)]
-pub(crate) struct Asked {
+pub(crate) struct PendingRequests {
     alloc: Global,
     /// How many requests aren't answered.
     unanswered: u64,
-    /// The last one, where its reply matters.
+    /// The last one, if its reply matters.
     last: Option<TMessage<'static>>,
     directories: Directories,
     /// The rename that goes on.
@@ -41,7 +41,7 @@ pub(crate) fn reply_type_of(reply: &[u8]) -> Option<RKind> {
     RKind::of_number(reply.get(4).copied()?)
 }
 
-/// The request, where its reply matters.
+/// The request, if its reply matters.
 fn kept(request: TMessage<'_>) -> Option<TMessage<'static>> {
     let tag = request.tag;
     match request.body {
@@ -60,21 +60,21 @@ fn kept(request: TMessage<'_>) -> Option<TMessage<'static>> {
     }
 }
 
-/// The request, where its reply matters. A walk that memory is wanting for does not.
+/// The request, if its reply matters. A walk for which there is no memory does not.
 fn that_matters(alloc: Global, request: &[u8]) -> Option<TMessage<'static>> {
     match type_of(request) {
         Some(TKind::Walk | TKind::Wstat) => {}
         _ => return None,
     }
-    match decode(alloc, request) {
+    match decode_request(alloc, request) {
         Ok(request) => kept(request),
         Err(_) => None,
     }
 }
 
-/// The reply; where memory is wanting for it, an error that says so.
+/// The reply; an error that says so if there is no memory for it.
 fn reply_of(alloc: Global, reply: &[u8]) -> RMessage {
-    match decode_r(alloc, reply) {
+    match decode_reply(alloc, reply) {
         Ok(reply) => reply,
         Err(_) => {
             let (low, high) = (reply.get(5).copied(), reply.get(6).copied());
@@ -88,10 +88,10 @@ fn reply_of(alloc: Global, reply: &[u8]) -> RMessage {
     }
 }
 
-impl Asked {
+impl PendingRequests {
     /// Nothing was asked.
-    pub(crate) fn new(alloc: Global) -> Asked {
-        Asked {
+    pub(crate) fn new(alloc: Global) -> PendingRequests {
+        PendingRequests {
             alloc,
             unanswered: 0,
             last: None,
@@ -109,36 +109,36 @@ impl Asked {
     }
 
     /// What comes of a step of a rename.
-    fn stepped(&mut self, step: Step) -> Outcome {
+    fn stepped(&mut self, step: Step) -> ReplyFate {
         match step {
             Step::Ask(renaming, request) => {
                 self.unanswered = 1;
                 self.renaming = Some(renaming);
-                Outcome::Asked(request)
+                ReplyFate::Asked(request)
             }
-            Step::Answer(reply) => Outcome::Instead(reply),
+            Step::Answer(reply) => ReplyFate::Instead(reply),
         }
     }
 
     /// What is done with the reply to a request that matters.
-    fn answered(&mut self, request: TMessage<'_>, reply: &[u8]) -> Outcome {
-        let Ok(reply) = decode_r(self.alloc, reply) else {
-            return Outcome::Told;
+    fn answered(&mut self, request: TMessage<'_>, reply: &[u8]) -> ReplyFate {
+        let Ok(reply) = decode_reply(self.alloc, reply) else {
+            return ReplyFate::Told;
         };
         if let TBody::Walk { .. } = &request.body {
             if let Some(fid) = directory_of(&request.body, &reply.body) {
                 self.directories.keep(fid);
             }
-            return Outcome::Told;
+            return ReplyFate::Told;
         }
         match Vec::from_slice(self.alloc, self.directories.of_one_attach()) {
             Ok(directories) => self.stepped(renaming_of(request, reply, directories)),
-            Err(_) => Outcome::Told,
+            Err(_) => ReplyFate::Told,
         }
     }
 
     /// What is done with the reply to the first request that isn't answered.
-    pub(crate) fn answer(&mut self, reply: &[u8]) -> Outcome {
+    pub(crate) fn answer(&mut self, reply: &[u8]) -> ReplyFate {
         self.unanswered = self.unanswered.saturating_sub(1);
         match reply_type_of(reply) {
             Some(RKind::Version) => self.directories = Directories::new(),
@@ -146,7 +146,7 @@ impl Asked {
             _ => {}
         }
         if self.unanswered > 0 {
-            return Outcome::Told;
+            return ReplyFate::Told;
         }
         if let Some(renaming) = self.renaming.take() {
             let step = renaming.next(self.alloc, reply_of(self.alloc, reply));
@@ -154,7 +154,7 @@ impl Asked {
         }
         match self.last.take() {
             Some(request) => self.answered(request, reply),
-            None => Outcome::Told,
+            None => ReplyFate::Told,
         }
     }
 }

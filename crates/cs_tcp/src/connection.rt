@@ -1,13 +1,13 @@
 //! One connection over TCP.
 
 use crate::client::Client;
-use crate::for_linux::ForLinux;
-use crate::heard::Heard;
+use crate::for_linux::LinuxStream;
+use crate::heard::LoggedStream;
 use crate::log::Log;
 use crate::wall_clock::WallClock;
-use cs_server::{Connection, Server, serve_connection};
-use cs_session::Counted;
-use cs_shared::Served;
+use cs_connection::{Connection, Server, serve_connection};
+use cs_shared_runs::ServerBrand;
+use cs_stream::Counted;
 use std::alloc::Global;
 use std::io::{self, Read, Write};
 use std::net::TcpStream;
@@ -26,7 +26,7 @@ fn set_up(stream: &TcpStream) -> io::Result<()> {
 }
 
 /// What serves streams. What is generic over it serves streams that lend, whatever a server keeps.
-trait Serves {
+trait StreamServer {
     /// What comes of a stream.
     type Ended;
 
@@ -39,7 +39,7 @@ trait Serves {
     ) -> Self::Ended;
 }
 
-impl<S: Served> Serves for Server<S> {
+impl<S: ServerBrand> StreamServer for Server<S> {
     type Ended = Connection<S>;
 
     fn serve<R: Wait + Clock, RW: Read + Write + Drop>(
@@ -54,8 +54,8 @@ impl<S: Served> Serves for Server<S> {
     }
 }
 
-/// Serves the stream to its end; its messages are told, if the log tells these.
-fn serve_heard<V: Serves, R: Wait + Clock, E: Write, RW: Read + Write + Drop>(
+/// Serves the stream to its end; its messages are printed, if the log prints these.
+fn serve_heard<V: StreamServer, R: Wait + Clock, E: Write, RW: Read + Write + Drop>(
     rt: &R,
     alloc: Global,
     server: &V,
@@ -64,16 +64,16 @@ fn serve_heard<V: Serves, R: Wait + Clock, E: Write, RW: Read + Write + Drop>(
     log: Log<E>,
 ) -> V::Ended {
     if log.verbose {
-        let heard = Heard::new(rt, alloc, stream, conn, log);
+        let heard = LoggedStream::new(rt, alloc, stream, conn, log);
         server.serve(rt, alloc, heard)
     } else {
         server.serve(rt, alloc, stream)
     }
 }
 
-/// Serves the connection of that number to its end, and tells how it ended; its messages too, if
-/// the log tells these. None where its socket can't be set up: then nothing was read.
-pub(crate) fn serve<S: Served, R: Wait + Clock, E: Write>(
+/// Serves the connection of that number to its end, and prints how it ended; its messages too, if
+/// the log prints these. None if its socket can't be set up: then nothing was read.
+pub(crate) fn serve<S: ServerBrand, R: Wait + Clock, E: Write>(
     rt: &R,
     alloc: Global,
     server: &Server<S>,
@@ -89,7 +89,7 @@ pub(crate) fn serve<S: Served, R: Wait + Clock, E: Write>(
     let ended = match client {
         Client::Plan9 => serve_heard(rt, alloc, server, stream, conn, log),
         Client::Linux => {
-            let stream = ForLinux::new(alloc, stream);
+            let stream = LinuxStream::new(alloc, stream);
             serve_heard(rt, alloc, server, stream, conn, log)
         }
     };

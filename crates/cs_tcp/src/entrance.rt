@@ -99,7 +99,7 @@ impl Entrance {
         self.door.lock(rt).admit(rt, &self.ended)
     }
 
-    /// Closes it. Who waits for a connection is told within a pause of accepting.
+    /// Closes it. A thread that waits for a connection notices within a pause of accepting.
     pub(crate) fn close(&self, rt: &impl Wait) {
         self.ended.store(true, Ordering::SeqCst);
         self.door.lock(rt).close();

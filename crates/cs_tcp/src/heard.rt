@@ -1,4 +1,4 @@
-//! What passes over a connection's stream, as it is told.
+//! What passes over a connection's stream, as it is printed.
 
 use crate::log::Log;
 use cs_wire::Framer;
@@ -6,25 +6,25 @@ use std::alloc::Global;
 use std::io::{self, Read, Write};
 use std::sync::Wait;
 
-/// A stream whose messages are told, each with its reply, once the reply was written. A stream has
+/// A stream whose messages are printed, each with its reply, once that was written. A stream has
 /// a reply for each message, in their order.
 #[derive(Drop)]
-pub(crate) struct Heard<'a, RW, R, E> {
+pub(crate) struct LoggedStream<'a, RW, R, E> {
     stream: RW,
     rt: &'a R,
     alloc: Global,
     conn: u32,
     log: Log<'a, E>,
-    /// What was read, from the first message on that isn't told.
+    /// What was read, from the first message on that isn't printed.
     messages: Framer,
     /// What was written, likewise.
     replies: Framer,
-    /// Whether there was no memory for some of it. Then no more is told.
+    /// Whether there was no memory for some of it. Then no more is printed.
     lost: bool,
 }
 
 /// Tells each whole reply and its message.
-fn tell_each<R: Wait, E: Write>(
+fn log_each<R: Wait, E: Write>(
     rt: &R,
     alloc: Global,
     conn: u32,
@@ -39,7 +39,7 @@ fn tell_each<R: Wait, E: Write>(
     }
 }
 
-impl<'a, RW, R: Wait, E: Write> Heard<'a, RW, R, E> {
+impl<'a, RW, R: Wait, E: Write> LoggedStream<'a, RW, R, E> {
     /// The stream of the connection of that number, of which nothing was read or written.
     pub(crate) fn new(
         rt: &'a R,
@@ -47,8 +47,8 @@ impl<'a, RW, R: Wait, E: Write> Heard<'a, RW, R, E> {
         stream: RW,
         conn: u32,
         log: Log<'a, E>,
-    ) -> Heard<'a, RW, R, E> {
-        Heard {
+    ) -> LoggedStream<'a, RW, R, E> {
+        LoggedStream {
             stream,
             rt,
             alloc,
@@ -66,7 +66,7 @@ impl<'a, RW, R: Wait, E: Write> Heard<'a, RW, R, E> {
         self.log.lost(self.rt, self.conn);
     }
 
-    fn came(&mut self, bytes: &[u8]) {
+    fn take_bytes(&mut self, bytes: &[u8]) {
         if !self.lost && self.messages.feed(bytes).is_err() {
             self.lose();
         }
@@ -80,7 +80,7 @@ impl<'a, RW, R: Wait, E: Write> Heard<'a, RW, R, E> {
             self.lose();
             return;
         }
-        tell_each(
+        log_each(
             self.rt,
             self.alloc,
             self.conn,
@@ -91,15 +91,15 @@ impl<'a, RW, R: Wait, E: Write> Heard<'a, RW, R, E> {
     }
 }
 
-impl<RW: Read, R: Wait, E: Write> Read for Heard<'_, RW, R, E> {
+impl<RW: Read, R: Wait, E: Write> Read for LoggedStream<'_, RW, R, E> {
     fn read(&mut self, buf: &mut [u8]) -> io::Result<usize> {
         let count = self.stream.read(buf)?;
-        self.came(&buf[..count]);
+        self.take_bytes(&buf[..count]);
         Ok(count)
     }
 }
 
-impl<RW: Write, R: Wait, E: Write> Write for Heard<'_, RW, R, E> {
+impl<RW: Write, R: Wait, E: Write> Write for LoggedStream<'_, RW, R, E> {
     fn write(&mut self, buf: &[u8]) -> io::Result<usize> {
         let count = self.stream.write(buf)?;
         self.answered(&buf[..count]);

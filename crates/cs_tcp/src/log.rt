@@ -1,22 +1,21 @@
-//! What is told on standard error.
+//! What is printed on standard error.
 
-use cs_serve::tell;
+use cs_serve::{ProgramFault, tell};
 use cs_session::ServeFault;
-use cs_wire::{RBody, RMessage, TBody, TMessage, WireFault, decode, decode_r};
+use cs_wire::{RBody, RMessage, TBody, TMessage, WireFault, decode_reply, decode_request};
 use std::alloc::{AllocError, Global};
 use std::fmt;
-use std::io::Write;
+use std::io::{self, Write};
 use std::net::SocketAddr;
 use std::sync::{Mutex, Wait};
 
-/// Tells lines to a writer that threads share. Its lock is held while lines that belong together
-/// are written, and over nothing else; then they are flushed. That they can't be written ends
-/// nothing.
+/// Prints lines to a writer that threads share. Its lock is held only while lines that belong
+/// together are written; then they are flushed. A line that can't be written is dropped.
 pub(crate) struct Log<'a, E> {
     pub(crate) writer: &'a Mutex<E>,
-    /// Whether connections, their messages, and how many states were published are told.
+    /// Whether connections, their messages, and how many states were published are printed.
     pub(crate) verbose: bool,
-    /// Whether it is told how far publishing is.
+    /// Whether it is printed how far publishing is.
     pub(crate) progress: bool,
 }
 
@@ -60,19 +59,25 @@ impl<E: Write> Log<'_, E> {
         let _unheard = writer.flush();
     }
 
-    /// Tells what is wrong.
+    /// Prints what is wrong.
     pub(crate) fn fault(&self, rt: &impl Wait, fault: &impl fmt::Display) {
         self.line(rt, &format_args!("crashfs: {fault}"));
     }
 
-    /// Tells how many states are published so far, and of how many.
+    /// Prints that the address can't be listened on, and why.
+    pub(crate) fn no_listener(&self, rt: &impl Wait, address: &str, error: &io::Error) {
+        self.fault(rt, &ProgramFault::Listen);
+        self.fault(rt, &format_args!("{address}: {error}"));
+    }
+
+    /// Prints how many states are published so far, and of how many.
     pub(crate) fn progress(&self, rt: &impl Wait, published: u32, states: u32) {
         if self.progress {
             self.line(rt, &format_args!("published {published} of {states}"));
         }
     }
 
-    /// Tells that all states are published.
+    /// Prints that all states are published.
     pub(crate) fn published(&self, rt: &impl Wait, states: u32) {
         if self.verbose || self.progress {
             let word = if states == 1 { "state" } else { "states" };
@@ -86,8 +91,7 @@ impl<E: Write> Log<'_, E> {
         }
     }
 
-    /// Tells a message and its reply, and the user and the run where it is an attach that was
-    /// granted.
+    /// Prints a message and its reply, and the user and the run of an attach that was granted.
     pub(crate) fn exchanged(
         &self,
         rt: &impl Wait,
@@ -96,8 +100,8 @@ impl<E: Write> Log<'_, E> {
         message: &[u8],
         reply: &[u8],
     ) {
-        let message = decode(alloc, message);
-        let reply = decode_r(alloc, reply);
+        let message = decode_request(alloc, message);
+        let reply = decode_reply(alloc, reply);
         let mut writer = self.writer.lock(rt);
         tell(conn, &message, &reply, &mut *writer);
         if let Some((user, run)) = attached(&message, &reply) {
@@ -106,12 +110,12 @@ impl<E: Write> Log<'_, E> {
         let _unheard = writer.flush();
     }
 
-    /// Tells that a connection's messages aren't told from here on.
+    /// Prints that a connection's messages aren't printed from here on.
     pub(crate) fn lost(&self, rt: &impl Wait, conn: u32) {
         self.line(rt, &format_args!("{conn} tells no more: out of memory"));
     }
 
-    /// Tells that a connection wasn't served, since its socket couldn't be set up.
+    /// Prints that a connection wasn't served, since its socket couldn't be set up.
     pub(crate) fn not_set_up(&self, rt: &impl Wait, conn: u32) {
         if self.verbose {
             self.line(

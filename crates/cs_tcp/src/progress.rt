@@ -1,24 +1,24 @@
 //! How far publishing is.
 
 use crate::log::Log;
+use cs_connection::Server;
 use cs_publish::Gate;
-use cs_server::Server;
-use cs_shared::Served;
+use cs_shared_runs::ServerBrand;
 use std::io::Write;
 use std::sync::Wait;
 
-/// It is told before each state whose number is a multiple of this one, but 0.
+/// It is printed before each state whose number is a multiple of this one, but 0.
 const STATES: u32 = 1_024;
 
-/// Tells, as states are made, how many are published by then, if the log tells progress.
+/// Prints, as states are made, how many are published by then, if the log prints progress.
 #[derive(Drop)]
-pub(crate) struct Progress<'a, S: Served, R, E> {
+pub(crate) struct Progress<'a, S: ServerBrand, R, E> {
     pub(crate) rt: &'a R,
     pub(crate) server: &'a Server<S>,
     pub(crate) log: Log<'a, E>,
 }
 
-impl<S: Served + Send + Sync, R: Wait + Sync, E: Write + Send> Gate for Progress<'_, S, R, E> {
+impl<S: ServerBrand + Send + Sync, R: Wait + Sync, E: Write + Send> Gate for Progress<'_, S, R, E> {
     fn before(&self, number: u32) {
         if number == 0 || number % STATES != 0 {
             return;

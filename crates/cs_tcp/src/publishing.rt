@@ -1,19 +1,19 @@
 //! The states of a server's scene are published.
-ghost use Rattle.cs_shared.specs.Serving.{IsOnly};
+ghost use Rattle.cs_shared_runs.specs.Serving.{IsOnly};
 
 use crate::log::Log;
 use crate::progress::Progress;
+use cs_connection::Server;
 use cs_publish::{PublishAllFault, publish_own_into};
 use cs_serve::ProgramFault;
-use cs_server::Server;
-use cs_shared::Served;
+use cs_shared_runs::ServerBrand;
 use std::alloc::Global;
 use std::io::Write;
 use std::sync::Wait;
 use std::thread::Threads;
 
-/// Publishes all states by so many workers: whether it did. Else it told why.
-pub(crate) fn publish<S: Served + Send + Sync, R: Threads + Wait + Sync, E: Write + Send>(
+/// Publishes all states by so many workers: whether it did. Else it printed why.
+pub(crate) fn publish<S: ServerBrand + Send + Sync, R: Threads + Wait + Sync, E: Write + Send>(
     rt: &R,
     alloc: Global,
     server: &Server<S>,

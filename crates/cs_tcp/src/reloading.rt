@@ -4,7 +4,7 @@ ghost use Rattle.cs_users.specs.Reading.{users_in};
 ghost use Rattle.cs_tcp.specs.Reloads.{Loads};
 
 use crate::log::Log;
-use cs_shared::{Served, SharedRegistry};
+use cs_shared_runs::{ServerBrand, SharedRegistry};
 use cs_users::{Users, UsersFault};
 use std::alloc::{AllocError, Global};
 use std::fs;
@@ -17,7 +17,7 @@ use std::sync::{Mutex, Wait};
 enum ReloadFault {
     /// The file can't be read.
     Unread,
-    /// It is no users file, or memory is wanting.
+    /// It is no users file, or there is no memory for it.
     Users(UsersFault),
 }
 
@@ -37,8 +37,8 @@ impl<R: Files> ReadsFiles for R {
 }
 
 /// Loads the users that the bytes of a users file spell, if these aren't the last ones; now they
-/// are. Where memory is wanting the last ones stay, so that these are tried again.
-fn load<S: Served>(
+/// are. If it is out of memory the last ones stay, so that these are tried again.
+fn load<S: ServerBrand>(
     rt: &impl Wait,
     alloc: Global,
     registry: &SharedRegistry<S>,
@@ -54,9 +54,10 @@ fn load<S: Served>(
         return Ok(());
     }
     let loaded = match Users::read(alloc, &bytes) {
-        Ok(users) => registry
-            .reload(rt, alloc, users)
-            .map_err(|_| UsersFault::Memory),
+        Ok(users) => match registry.reload(rt, alloc, users) {
+            Ok(_) => Ok(()),
+            Err(_) => Err(UsersFault::Memory),
+        },
         Err(fault) => Err(fault),
     };
     if loaded != Err(UsersFault::Memory) {
@@ -69,7 +70,7 @@ fn load<S: Served>(
 #[derive(Drop)]
 pub(crate) struct Reloading {
     path: String,
-    /// The bytes of which it was last told what they come to.
+    /// The bytes that were last loaded, or refused with a line.
     last: Mutex<Vec<u8>>,
 }
 
@@ -84,7 +85,7 @@ impl Reloading {
 
     /// Reads the file, and loads its users if it changed. One thread at a time, so that what the
     /// file was earlier is never loaded later.
-    fn read<S: Served, R: ReadsFiles + Wait>(
+    fn read<S: ServerBrand, R: ReadsFiles + Wait>(
         &self,
         rt: &R,
         alloc: Global,
@@ -100,9 +101,9 @@ impl Reloading {
         }
     }
 
-    /// Reads the file again: runs that are made from now on have its users. Else it is told why the
+    /// Reads the file again: runs that are made from now on have its users. Else it prints why the
     /// list stays.
-    pub(crate) fn again<S: Served, R: ReadsFiles + Wait, E: Write>(
+    pub(crate) fn again<S: ServerBrand, R: ReadsFiles + Wait, E: Write>(
         &self,
         rt: &R,
         alloc: Global,

@@ -1,7 +1,7 @@
 //! The command `serve`, after its files were read.
 ghost use Rattle.std.specs.Prelude.{◌≡◌, ◌≤◌, IfOk};
 ghost use Rattle.std.specs.Arc.{arc_value};
-ghost use Rattle.cs_shared.specs.Serving.{IsOnly, ServesAll};
+ghost use Rattle.cs_shared_runs.specs.Serving.{IsOnly, ServesAll};
 
 use crate::address::Address;
 use crate::client::Client;
@@ -12,12 +12,12 @@ use crate::reloading::{ReadsFiles, Reloading};
 use crate::site::Site;
 use crate::slots::{start_slots, start_watch};
 use crate::summary::summary_of;
+use cs_connection::Server;
 use cs_plan::Scene;
 use cs_serve::{Inputs, ProgramFault, print_to, scene_of, users_of};
-use cs_server::Server;
-use cs_shared::{Served, SharedRegistry};
+use cs_shared_runs::{ServerBrand, SharedRegistry};
 use std::alloc::Global;
-use std::io::{Read, Write};
+use std::io::{self, Read, Write};
 use std::marker::Brand;
 use std::net::{Net, TcpListener, TcpStream};
 use std::rt::Clock;
@@ -33,9 +33,9 @@ pub struct Serving<'a> {
     pub listen: &'a str,
     /// How many threads make the states.
     pub workers: u32,
-    /// How many connections are served before the end, or at once where others come after them.
+    /// How many connections are served before the end, or at once if others come after them.
     pub connections: u32,
-    /// Whether another connection is accepted where one ends, until the input ends.
+    /// Whether another connection is accepted when one ends, until the input ends.
     pub again: bool,
     /// Whether all states are published before the first connection is accepted.
     pub ready: bool,
@@ -43,12 +43,12 @@ pub struct Serving<'a> {
     pub reload: Option<&'a str>,
     /// Whose clients connect.
     pub client: Client,
-    /// Whether it is told how far publishing is.
+    /// Whether it is printed how far publishing is.
     pub progress: bool,
 }
 
 /// A server of the scene with the users of the inputs: no state is published.
-pub(crate) fn server_of<S: Served>(
+pub(crate) fn server_of<S: ServerBrand>(
     alloc: Global,
     scene: Arc<Scene>,
     inputs: &Inputs,
@@ -82,32 +82,29 @@ fn reloading_of(
     }
 }
 
-/// Listens on the address, and prints it. The listener's accepts don't wait.
-fn listen<R: Net<Listener = TcpListener, Stream = TcpStream>, W: Write>(
+/// Listens on the address, and says which port it has. The listener's accepts don't wait.
+fn listen<R: Net<Listener = TcpListener, Stream = TcpStream>>(
     rt: &R,
     given: &str,
-    out: &mut W,
-) -> Result<TcpListener, ProgramFault> {
-    let Ok(listener) = TcpListener::bind(rt, given) else {
-        return Err(ProgramFault::Listen);
-    };
-    let (Ok(local), Ok(())) = (listener.local_addr(), listener.set_nonblocking(true)) else {
-        return Err(ProgramFault::Listen);
-    };
-    let address = Address {
-        given,
-        taken: local.port(),
-    };
+) -> io::Result<(TcpListener, u16)> {
+    let listener = TcpListener::bind(rt, given)?;
+    let port = listener.local_addr()?.port();
+    listener.set_nonblocking(true)?;
+    Ok((listener, port))
+}
+
+/// Prints the address that is listened on.
+fn print_address<W: Write>(given: &str, taken: u16, out: &mut W) -> Result<(), ProgramFault> {
+    let address = Address { given, taken };
     writeln!(out, "listening {address}").map_err(|_| ProgramFault::Output)?;
-    out.flush().map_err(|_| ProgramFault::Output)?;
-    Ok(listener)
+    out.flush().map_err(|_| ProgramFault::Output)
 }
 
 /// Accepts connections and serves each in a thread until all have ended, and publishes meanwhile if
-/// that is still to be done: whether no fault was told.
+/// that is still to be done: whether no fault was printed.
 fn serve_each<
     's,
-    S: Served + Send + Sync + 's,
+    S: ServerBrand + Send + Sync + 's,
     R: Threads + Wait + Clock + ReadsFiles + Sync,
     I: Read + Drop + Send,
     E: Write + Send,
@@ -145,7 +142,7 @@ fn serve_each<
 }
 
 /// Serves a scene, the only one that may be the server's, as `serve` does.
-fn serve_scene<S: Served + Send + Sync, R, I: Read + Drop + Send, W: Write, E: Write + Send>(
+fn serve_scene<S: ServerBrand + Send + Sync, R, I: Read + Drop + Send, W: Write, E: Write + Send>(
     rt: &R,
     alloc: Global,
     scene: Arc<Scene>,
@@ -166,7 +163,14 @@ where
     if serving.ready && !publish(rt, alloc, &server, serving.workers, log) {
         return Ok(false);
     }
-    let listener = listen(rt, serving.listen, out)?;
+    let (listener, port) = match listen(rt, serving.listen) {
+        Ok(listening) => listening,
+        Err(error) => {
+            log.no_listener(rt, serving.listen, &error);
+            return Ok(false);
+        }
+    };
+    print_address(serving.listen, port, out)?;
     let left = if serving.again {
         None
     } else {
@@ -182,8 +186,8 @@ where
     Ok(served && !failed)
 }
 
-/// The command, but for the fault that ends it: that is given, and not told yet. Else whether no
-/// fault was told.
+/// The command, but for the fault that ends it: that is returned, and not printed yet. Else whether
+/// no fault was printed.
 fn serve<R, I: Read + Drop + Send, W: Write, E: Write + Send>(
     rt: &R,
     alloc: Global,
@@ -213,13 +217,13 @@ where
 /// has to their end, and ends. Without `again` nothing is read of `input`.
 ///
 /// With `reload` it reads the users file again after each accept: runs that are made from then on
-/// have its users. Where it can't be read, is no users file, or memory is wanting, that is told by
-/// a line on `err`, and the list stays.
+/// have its users. If it can't be read, is no users file, or there is no memory for it, a line on
+/// `err` says so, and the list stays.
 ///
-/// Its status: 0, or 1 where a fault was told, each by a line on `err`. A fault of a connection, or
-/// of a users file that is read again, is none of the command. Where accepting or publishing fails
+/// Its status: 0, or 1 if a fault was printed, each by a line on `err`. A fault of a connection, or
+/// of a users file that is read again, is none of the command. If accepting or publishing fails
 /// while there are connections, these are served to their end, and the runs are printed; with
-/// `again` not before `input` ends. Where the inputs ask for it, `err` also gets a line for each
+/// `again` not before `input` ends. If the inputs ask for it, `err` also gets a line for each
 /// connection that comes and for each that ends, each message with its reply, and each attach that
 /// was granted. It may wait for clients for ever.
 pub fn serve_of<R, I: Read + Drop + Send, W: Write, E: Write + Send>(

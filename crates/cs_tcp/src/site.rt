@@ -3,22 +3,22 @@ ghost use Rattle.std.specs.Prelude.{◌≡◌};
 
 use crate::entrance::Entrance;
 use crate::reloading::Reloading;
-use cs_server::{Connection, GivenPasses, Server};
-use cs_shared::Served;
+use cs_connection::{Connection, GivenPasses, Server};
+use cs_shared_runs::ServerBrand;
 use std::alloc::Global;
 use std::sync::{Mutex, Wait};
 
 /// A server, where its connections come in, its users file if that is read again, and the passes of
 /// the connections that ended.
 #[derive(Drop)]
-pub(crate) struct Site<S: Served> {
+pub(crate) struct Site<S: ServerBrand> {
     pub(crate) server: Server<S>,
     pub(crate) entrance: Entrance,
     pub(crate) reloading: Option<Reloading>,
     passes: Mutex<GivenPasses>,
 }
 
-impl<S: Served> Site<S> {
+impl<S: ServerBrand> Site<S> {
     /// That of a server of which no connection ended.
     pub(crate) fn new(
         alloc: Global,
@@ -36,8 +36,8 @@ impl<S: Served> Site<S> {
         }
     }
 
-    /// Keeps the passes of a connection that ended. Those for which there is no memory are let go:
-    /// an audit of their runs tells so.
+    /// Keeps the passes of a connection that ended. Those for which there is no memory are dropped:
+    /// an audit of their runs counts too few.
     pub(crate) fn keep(&self, rt: &impl Wait, alloc: Global, ended: Connection<S>) {
         let _lost = self.passes.lock(rt).keep(alloc, ended);
     }

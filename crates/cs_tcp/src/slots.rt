@@ -7,7 +7,7 @@ use crate::log::Log;
 use crate::reloading::ReadsFiles;
 use crate::site::Site;
 use cs_serve::ProgramFault;
-use cs_shared::Served;
+use cs_shared_runs::ServerBrand;
 use std::alloc::Global;
 use std::io::{self, Read, Write};
 use std::rt::Clock;
@@ -16,7 +16,7 @@ use std::thread::Scope;
 
 /// Serves connections until no more come in, and keeps the passes of each. Before one is served the
 /// users file is read again, if it is to be.
-fn serve_slot<S: Served, R: Wait + Clock + ReadsFiles, E: Write>(
+fn serve_slot<S: ServerBrand, R: Wait + Clock + ReadsFiles, E: Write>(
     rt: &R,
     alloc: Global,
     site: &Site<S>,
@@ -45,12 +45,12 @@ fn serve_slot<S: Served, R: Wait + Clock + ReadsFiles, E: Write>(
     }
 }
 
-/// Starts so many threads that serve connections: whether it did. Else it told why, and closed the
-/// entrance.
+/// Starts so many threads that serve connections: whether it did. Else it printed why, and closed
+/// the entrance.
 pub(crate) fn start_slots<
     's,
     Env,
-    S: Served + Send + Sync + 's,
+    S: ServerBrand + Send + Sync + 's,
     R: Wait + Clock + ReadsFiles + Sync,
     E: Write + Send,
 >(
@@ -79,8 +79,8 @@ fn close_at_end<I: Read + Drop>(rt: &impl Wait, mut input: I, entrance: &Entranc
     entrance.close(rt);
 }
 
-/// Starts a thread that closes the entrance where `input` ends, if connections are accepted again:
-/// whether it did. Else it told why, and closed the entrance.
+/// Starts a thread that closes the entrance when `input` ends, if connections are accepted again:
+/// whether it did. Else it printed why, and closed the entrance.
 pub(crate) fn start_watch<'s, Env, R: Wait + Sync, I: Read + Drop + Send + 's, E: Write + Send>(
     scope: &'s Scope<'s, Env>,
     rt: &'s R,

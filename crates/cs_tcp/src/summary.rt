@@ -1,12 +1,13 @@
 //! What is printed of the runs at the end.
 ghost use Rattle.std.specs.Prelude.{◌≡◌, ◌++◌, IfOk, OnOk, Some, string_bytes};
-ghost use Rattle.cs_tcp.specs.Summary.{AreReported, IsReport, IsSummary, run_line, told_text, verdict_text};
+ghost use Rattle.cs_tcp.specs.Summary.{AreReported, IsReport, IsSummary, run_line, told_text};
+ghost use Rattle.cs_tcp.specs.Summary.{verdict_text};
 
+use cs_connection::{GivenPasses, Server};
 use cs_journal::AuditFault;
 use cs_registry::RunKey;
 use cs_serve::ProgramFault;
-use cs_server::{GivenPasses, Server};
-use cs_shared::{AuditBy, Served, SharedRun};
+use cs_shared_runs::{AuditBy, ServerBrand, SharedRun};
 use std::alloc::{AllocError, Global};
 use std::fmt;
 use std::sync::Wait;
@@ -64,7 +65,7 @@ impl fmt::Display for RunReport {
 }
 
 /// Audits a run by the passes of its key.
-fn report_of<S: Served, R: Wait>(rt: &R, run: &SharedRun<S>, passes: &GivenPasses) -> RunReport
+fn report_of<S: ServerBrand, R: Wait>(rt: &R, run: &SharedRun<S>, passes: &GivenPasses) -> RunReport
     ensures key { result.key ≡ run.now }
     ensures report { IsReport S.serves passes.now result }
 {
@@ -85,7 +86,7 @@ fn push_line(alloc: Global, text: &mut String, report: &RunReport) -> Result<(),
 }
 
 /// The lines of these runs, in their order.
-fn runs_text<S: Served, R: Wait>(
+fn runs_text<S: ServerBrand, R: Wait>(
     rt: &R,
     alloc: Global,
     runs: &[SharedRun<S>],
@@ -103,7 +104,7 @@ fn runs_text<S: Served, R: Wait>(
 
 /// A line for each run, by the numbers of their states and then by name: its key, how many entries
 /// its journal has, and the result of its audit by the passes of its key.
-pub(crate) fn summary_of<S: Served, R: Wait>(
+pub(crate) fn summary_of<S: ServerBrand, R: Wait>(
     rt: &R,
     alloc: Global,
     server: &Server<S>,

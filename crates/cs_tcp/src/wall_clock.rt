@@ -5,7 +5,7 @@ use cs_session::Clock;
 use std::rt;
 use std::time::{SystemTime, UNIX_EPOCH};
 
-/// The seconds, or 0 where they don't fit.
+/// The seconds, or 0 if they don't fit.
 fn seconds(whole: u64) -> u32
     ensures fits { whole < 2 ^ 32 → result ≡ whole }
     ensures none { 2 ^ 32 ≤ whole → result ≡ 0 }
@@ -13,7 +13,7 @@ fn seconds(whole: u64) -> u32
     u32::try_from(whole).unwrap_or(0)
 }
 
-/// The clock of the machine: seconds since 1970, or 0 where it can't be read or they don't fit.
+/// The clock of the machine: seconds since 1970, or 0 if it can't be read or they don't fit.
 #[derive(Drop)]
 pub(crate) struct WallClock<'a, R> {
     rt: &'a R,

@@ -1,5 +1,6 @@
 -- The fault of a trace is the first of its line, and the lines before have none.
-use Rattle.std.proofs.Common.{◌≡◌, ℕ, suc, ◌+◌, ◌-◌, ◌<◌, ◌==◌, ◌||◌, not, Bool, true, false, List, [], ◌∷◌, ◌++◌, length, take, inl, inr, Option, Some, None, Result, Ok, Err, refl, sym, ap, ◌∙◌, arith}
+use Rattle.std.proofs.Common.{◌≡◌, ℕ, suc, ◌+◌, ◌-◌, ◌<◌, ◌==◌, ◌||◌, not, Bool, true, false, List, [], ◌∷◌, ◌++◌, length, take, inl, inr}
+use Rattle.std.proofs.Common.{Option, Some, None, Result, Ok, Err, refl, sym, ap, ◌∙◌, arith}
 use Rattle.std.specs.FinMap.{get}
 use Rattle.std.specs.List.{slice_index_or}
 use Rattle.std.specs.Option.{option_map, option_map_or}
@@ -9,15 +10,19 @@ use Rattle.cs_names.specs.declared.limits.TheConstants.{FILE_BYTES, SAY_BYTES}
 use Rattle.cs_tree_model.specs.Tree.{Path, parent_path}
 use Rattle.cs_trace.specs.Attributes.{Attributes}
 use Rattle.cs_trace.specs.Below.{has_below}
-use Rattle.cs_trace.specs.Checks.{Check, IsFaultOf, emptied_checks, file_checks, first_checks, first_fault, later_checks, limit, line_checks, linked_checks, made_checks, moved_checks, new_checks, on_path, operation_checks, start_checks, target_checks, text_checks, written_checks}
+use Rattle.cs_trace.specs.Checks.{Check, IsFaultOf, emptied_checks, file_checks, first_checks, first_fault, later_checks, limit}
+use Rattle.cs_trace.specs.Checks.{line_checks, linked_checks, made_checks, moved_checks, new_checks, on_path, operation_checks}
+use Rattle.cs_trace.specs.Checks.{start_checks, target_checks, text_checks, written_checks}
 use Rattle.cs_trace.specs.Entries.{node_by, node_of, size_of}
-use Rattle.cs_trace.specs.Judging.{and_then, covered_by, emptied_by, ends_above, file_by, found, free_by, has_too_many_names, held, is_too_much, resolve, target_by, unless_too_large, with_path}
+use Rattle.cs_trace.specs.Judging.{and_then, covered_by, emptied_by, ends_above, file_by, or_missing, free_by, has_too_many_names}
+use Rattle.cs_trace.specs.Judging.{node_and_rights_at, is_too_much, resolve, target_by, unless_too_large, with_path}
 use Rattle.cs_trace_lines.specs.Lines as line
 use Rattle.cs_trace_lines.specs.Lines.{Line, OperationLine, is_blank, line_in}
 use Rattle.cs_trace.specs.Names.{are_user_names, entry_path_of, new_path_of, path_of, set_path_of}
 use Rattle.cs_trace.specs.Operations.{Paths}
-use Rattle.cs_trace.specs.States.{State, at_line, begun, first_step, later_step, line_step, nothing, start_file_at, start_file_by, start_link_step, start_step, state_from, state_in, step, taken}
-use Rattle.cs_trace.specs.declared.entry.Entry.{Entry}
+use Rattle.cs_trace.specs.States.{State, at_line, after_header, first_step, later_step, line_step, empty_state, start_file_at}
+use Rattle.cs_trace.specs.States.{start_file_by, start_link_step, start_step, state_from, state_in, step, after_operation}
+use Rattle.cs_trace.specs.declared.entry.StartFile.{StartFile}
 use Rattle.cs_trace.specs.declared.fault.TraceFault.{TraceFault}
 use Rattle.cs_trace.specs.declared.fault.TraceFaultKind.{TraceFaultKind}
 use Rattle.cs_trace.specs.declared.fault.TraceFaultKind.TheVariants.{Syntax, UnknownOp, BadName, Missing}
@@ -53,12 +58,13 @@ module _ {A : Type 0} where
   tells_file (Some Directory) f cs each = refl
   tells_file (Some (File file)) f cs each = each file
 
-  tells_file_by : (e : Entry) (content : Option (List ℕ)) (f : Entry → Result A TraceFaultKind) (cs : List Check)
-      → ((x : Entry) → Tells cs (f x)) → Tells (file_checks (Some (node_by content e.number)) ++ cs) (and_then (start_file_by e content) f)
+  tells_file_by : (e : StartFile) (content : Option (List ℕ)) (f : StartFile → Result A TraceFaultKind) (cs : List Check)
+      → ((x : StartFile) → Tells cs (f x))
+      → Tells (file_checks (Some (node_by content e.number)) ++ cs) (and_then (start_file_by e content) f)
   tells_file_by e None f cs each = refl
   tells_file_by e (Some bytes) f cs each = each e
 
-  tells_start_file : (o : Option Entry) (f : Entry → Result A TraceFaultKind) (cs : List Check) → ((x : Entry) → Tells cs (f x))
+  tells_start_file : (o : Option StartFile) (f : StartFile → Result A TraceFaultKind) (cs : List Check) → ((x : StartFile) → Tells cs (f x))
       → Tells (file_checks (option_map node_of o) ++ cs) (and_then (start_file_at o) f)
   tells_start_file None f cs each = refl
   tells_start_file (Some e) f cs each = tells_file_by e e.content f cs each
@@ -78,7 +84,7 @@ module _ {A : Type 0} where
   tells_emptied (Some Directory) true x = refl
   tells_emptied (Some Directory) false x = refl
 
-  tells_found : {X : Type 0} (o : Option X) (f : X → A) → Tells ((is_none o, Missing) ∷ []) (and_then (found o) (λ x. Ok (f x)))
+  tells_found : {X : Type 0} (o : Option X) (f : X → A) → Tells ((is_none o, Missing) ∷ []) (and_then (or_missing o) (λ x. Ok (f x)))
   tells_found None f = refl
   tells_found (Some x) f = refl
 
@@ -123,7 +129,8 @@ module _ (m : Paths) (sizes : List ℕ) (made : ℕ) (a : Attributes) where
       tells_name (entry_path_of text) _ (written_checks m (nat_lt FILE_BYTES size))
       (λ p. tells_file (get m p) _ (limit (nat_lt FILE_BYTES size)) (λ _. tells_limit (nat_lt FILE_BYTES size) _))
   resolve_tells (line.SetAttr text change) =
-      tells_name (set_path_of text change) _ (λ p. (is_none (held m a p), Missing) ∷ []) (λ p. tells_found (held m a p) _)
+      tells_name (set_path_of text change) _ (λ p. (is_none (node_and_rights_at m a p), Missing) ∷ [])
+      (λ p. tells_found (node_and_rights_at m a p) _)
   resolve_tells (line.Fsync text) = tells_name (path_of text) _ (λ p. (is_none (get m p), Missing) ∷ []) (λ p. tells_covered (get m p) p)
   resolve_tells (line.FsyncRange text offset count) =
       tells_name (entry_path_of text) _ (λ p. file_checks (get m p)) (λ p. tells_file (get m p) _ [] (λ _. refl))
@@ -137,7 +144,7 @@ names_tell true s = refl
 names_tell false s = refl
 
 first_tells : (s : State) (l : Line) → Tells (first_checks l) (first_step s l)
-first_tells s (line.Header version claims) = names_tell (are_user_names claims) (begun s version claims)
+first_tells s (line.Header version claims) = names_tell (are_user_names claims) (after_header s version claims)
 first_tells s (line.Start l) = refl
 first_tells s (line.StartLink path from) = refl
 first_tells s line.UnknownStart = refl
@@ -168,7 +175,7 @@ later_tells s (line.StartLink path from) =
     (tells_limit (is_too_much s.made q) _)))))
 later_tells s line.UnknownStart = start_tells (length s.operations == 0) (Err UnknownOp) ((true, UnknownOp) ∷ []) refl
 later_tells s (line.Operation l) =
-    same_err (resolve s.paths s.sizes s.made s.attributes l) (taken s) ∙ resolve_tells s.paths s.sizes s.made s.attributes l
+    same_err (resolve s.paths s.sizes s.made s.attributes l) (after_operation s) ∙ resolve_tells s.paths s.sizes s.made s.attributes l
 later_tells s line.UnknownOperation = refl
 
 either_tells : (t : Bool) (s : State) (l : Line)
@@ -241,7 +248,7 @@ fault_from (text ∷ lines) s number fault faulty =
 
 pub first_of : (lines : List (List ℕ)) (fault : TraceFault) → state_in lines ≡ Err fault → IsFaultOf lines fault
 first_of lines fault faulty =
-    let found = fault_from lines nothing 1 fault faulty in
+    let found = fault_from lines empty_state 1 fault faulty in
     let at : found.place ≡ fault.line - 1 = let line = found.line in omega arith in
     inl (record {
       above = let line = found.line in omega arith;

@@ -4,6 +4,7 @@ pub mod LineByLine
 pub mod Past
 pub mod Resolved
 pub mod Sound
+pub mod SoundOperations
 pub mod SoundSteps
 pub mod Spelling
 pub mod Started

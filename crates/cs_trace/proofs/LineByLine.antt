@@ -1,5 +1,6 @@
 -- The lines of a trace, one more at a time.
-use Rattle.std.proofs.Common.{◌≡◌, ℕ, ◌+◌, ◌-◌, ◌<◌, ◌≤◌, false, List, [], ◌∷◌, ◌++◌, length, get_or, take, drop, Result, Ok, Err, IsOk, refl, sym, ap, ◌∙◌, arith}
+use Rattle.std.proofs.Common.{◌≡◌, ℕ, ◌+◌, ◌-◌, ◌<◌, ◌≤◌, false, List, [], ◌∷◌, ◌++◌, length, get_or, take, drop, Result, Ok, Err, IsOk}
+use Rattle.std.proofs.Common.{refl, sym, ap, ◌∙◌, arith}
 use Rattle.std.proofs.lemmas.List.{take_more, take_all, take-append-drop, length-take, get_or_default}
 use Rattle.std.proofs.lemmas.List.FromFn.{length-enumerate_from, get_or-enumerate_from}
 use Rattle.std.proofs.lemmas.Bool.{false≢true}
@@ -8,7 +9,7 @@ use Rattle.cs_trace.specs.Traces.{MayWant, trace_by}
 use Rattle.std.specs.List.{enumerate_from}
 use Rattle.std.specs.Result.{is_ok}
 use Rattle.cs_trace_lines.specs.Lines.{is_blank}
-use Rattle.cs_trace.specs.States.{State, at_line, nothing, state_from, state_in, step}
+use Rattle.cs_trace.specs.States.{State, at_line, empty_state, state_from, state_in, step}
 use Rattle.cs_trace.specs.declared.fault.TraceFault.{TraceFault}
 use Rattle.cs_trace.specs.declared.fault.TraceFaultKind.{TraceFaultKind}
 
@@ -36,7 +37,7 @@ module _ (m : State) (i : ℕ) (all : List (List ℕ)) (line : List ℕ) (low : 
   one_more r does =
       let number : 1 + length (take i all) ≡ i + 1 = omega (arith, length-take i all) in
       ap state_in (take_more all i line low)
-      ∙ state_from-append nothing 1 (take i all) (get_or all i line ∷ [])
+      ∙ state_from-append empty_state 1 (take i all) (get_or all i line ∷ [])
       ∙ ap (λ q. and_then q (λ last. state_from last (1 + length (take i all)) (get_or all i line ∷ []))) before
       ∙ ap (λ n. and_then (at_line n (step m (get_or all i line))) Ok) number
       ∙ ap (λ q. and_then (at_line (i + 1) q) Ok) (ap (step m) (sym is) ∙ does)
@@ -47,7 +48,7 @@ module _ (m : State) (i : ℕ) (all : List (List ℕ)) (line : List ℕ) (low : 
   pub stops : (kind : TraceFaultKind) → step m line ≡ Err kind → state_in all ≡ Err (record { line = i + 1; kind = kind })
   stops kind does =
       ap state_in (sym (take-append-drop (i + 1) all))
-      ∙ state_from-append nothing 1 (take (i + 1) all) (drop (i + 1) all)
+      ∙ state_from-append empty_state 1 (take (i + 1) all) (drop (i + 1) all)
       ∙ ap (λ q. and_then q (λ last. state_from last (1 + length (take (i + 1) all)) (drop (i + 1) all))) (one_more (Err kind) does)
 
 pub ends : (m : State) (i : ℕ) (all : List (List ℕ)) → length all ≤ i → state_in (take i all) ≡ Ok m → state_in all ≡ Ok m
@@ -78,7 +79,7 @@ prefix_by (Err fault) f ok = absurd (cc)
 pub prefix_ok : (i : ℕ) (all : List (List ℕ)) → IsOk (state_in all) → IsOk (state_in (take i all))
 prefix_ok i all ok =
     prefix_by (state_in (take i all)) (λ last. state_from last (1 + length (take i all)) (drop i all))
-    (ap is_ok (sym (ap state_in (sym (take-append-drop i all)) ∙ state_from-append nothing 1 (take i all) (drop i all))) ∙ ok)
+    (ap is_ok (sym (ap state_in (sym (take-append-drop i all)) ∙ state_from-append empty_state 1 (take i all) (drop i all))) ∙ ok)
 
 pub MayWant-line : (m : State) (i : ℕ) (all : List (List ℕ)) (line : List ℕ) → i < length all → line ≡ get_or all i line
     → state_in (take i all) ≡ Ok m → is_blank line ≡ false → MayWant all (i + 1)

@@ -5,13 +5,15 @@ use Rattle.cs_names.specs.declared.limits.TheConstants.{TRACE_PATH_NAMES}
 use Rattle.cs_tree_model.specs.Tree.{Path, parent_path}
 use Rattle.cs_trace.specs.Attributes.{Attributes}
 use Rattle.cs_trace.specs.Below.{has_below}
-use Rattle.cs_trace.specs.Judging.{AreShort, IsPastNames, and_then, covered_by, creat, emptied_by, ends_above, file_by, found, free_by, fsync, fsync_range, has_too_many_names, held, is_too_much, link, mkdir, rename, rmdir, say, set_attr, target_by, truncate, unless_too_large, unlink, write}
+use Rattle.cs_trace.specs.Judging.{AreShort, IsPastNames, and_then, covered_by, creat, emptied_by, ends_above, file_by, or_missing, free_by}
+use Rattle.cs_trace.specs.Judging.{fsync, fsync_range, has_too_many_names, node_and_rights_at, is_too_much, link, mkdir, rename, rmdir, say}
+use Rattle.cs_trace.specs.Judging.{set_attr, target_by, truncate, unless_too_large, unlink, write}
 use Rattle.cs_trace_lines.specs.Lines.{Change, Claims}
 use Rattle.cs_trace.specs.Operations.{Paths}
 use Rattle.cs_trace.specs.Entries.{Entries}
 use Rattle.cs_trace.specs.Kept.{AreShortAtStart}
 use Rattle.cs_trace.specs.States.{State, start_at, start_file_at, start_file_by, start_link_at}
-use Rattle.cs_trace.specs.declared.entry.Entry.{Entry}
+use Rattle.cs_trace.specs.declared.entry.StartFile.{StartFile}
 use Rattle.cs_trace.specs.declared.fault.TraceFaultKind.{TraceFaultKind}
 use Rattle.cs_trace.specs.declared.operation.Node.{Node}
 use Rattle.cs_trace.specs.declared.operation.Node.TheVariants.{Directory, File}
@@ -29,7 +31,7 @@ past_file (Some Directory) f past = tt
 past_file (Some (File file)) f past = past file
 
 past_found : {A B : Type 0} (o : Option A) (f : A → Result B TraceFaultKind) → ((x : A) → IsPastNames (f x))
-    → IsPastNames (and_then (found o) f)
+    → IsPastNames (and_then (or_missing o) f)
 past_found None f past = tt
 past_found (Some x) f past = past x
 
@@ -66,21 +68,21 @@ past_say text = past_limit _ _
 pub past_start_at : (s : State) (p : Path) (claims : Claims) (content : Option (List ℕ)) → IsPastNames (start_at s p claims content)
 past_start_at s p claims content = past_free (get s.paths (parent_path p)) (get s.paths p) _ (past_limit _ _)
 
-past_file_by : {A : Type 0} (e : Entry) (content : Option (List ℕ)) (f : Entry → Result A TraceFaultKind)
-    → ((x : Entry) → IsPastNames (f x)) → IsPastNames (and_then (start_file_by e content) f)
+past_file_by : {A : Type 0} (e : StartFile) (content : Option (List ℕ)) (f : StartFile → Result A TraceFaultKind)
+    → ((x : StartFile) → IsPastNames (f x)) → IsPastNames (and_then (start_file_by e content) f)
 past_file_by e None f past = tt
 past_file_by e (Some bytes) f past = past e
 
-past_file_at : {A : Type 0} (o : Option Entry) (f : Entry → Result A TraceFaultKind) → ((x : Entry) → IsPastNames (f x))
+past_file_at : {A : Type 0} (o : Option StartFile) (f : StartFile → Result A TraceFaultKind) → ((x : StartFile) → IsPastNames (f x))
     → IsPastNames (and_then (start_file_at o) f)
 past_file_at None f past = tt
 past_file_at (Some e) f past = past_file_by e e.content f past
 
-past_copy_by : (e : Entry) (content : Option (List ℕ)) → IsPastNames (start_file_by e content)
+past_copy_by : (e : StartFile) (content : Option (List ℕ)) → IsPastNames (start_file_by e content)
 past_copy_by e None = tt
 past_copy_by e (Some bytes) = tt
 
-pub past_copy : (o : Option Entry) → IsPastNames (start_file_at o)
+pub past_copy : (o : Option StartFile) → IsPastNames (start_file_at o)
 past_copy None = tt
 past_copy (Some e) = past_copy_by e e.content
 
@@ -114,7 +116,7 @@ module _ (m : Paths) where
   past_truncate sizes p size = past_file (get m p) _ (λ file. past_limit _ _)
 
   pub past_set_attr : (a : Attributes) (p : Path) (change : Change) → IsPastNames (set_attr m a p change)
-  past_set_attr a p change = past_found (held m a p) _ (λ _. tt)
+  past_set_attr a p change = past_found (node_and_rights_at m a p) _ (λ _. tt)
 
   pub past_fsync : (p : Path) → IsPastNames (fsync m p)
   past_fsync p = past_covered (get m p) p
@@ -138,7 +140,7 @@ module _ (m : Paths) where
     nothing_above p long = nothing_by (parent_path p) (get m (parent_path p)) refl (omega (arith, length-take (length p - 1) p))
 
 module _ (m : Entries) (short : AreShortAtStart m) where
-  no_start_by : (p : Path) (o : Option Entry) → get m p ≡ o → TRACE_PATH_NAMES < length p → get m p ≡ None
+  no_start_by : (p : Path) (o : Option StartFile) → get m p ≡ o → TRACE_PATH_NAMES < length p → get m p ≡ None
   no_start_by p None is long = is
   no_start_by p (Some e) is long = absurd (omega (arith, short p e is))
 

@@ -1,5 +1,6 @@
 -- An operation that is taken is legal.
-use Rattle.std.proofs.Common.{◌≡◌, ◌≢◌, ◌⊎◌, ℕ, ◌+◌, ◌-◌, ◌<◌, ◌≤◌, ◌||◌, ◌&&◌, Bool, true, false, List, [], ◌∷◌, ◌++◌, length, drop, cond, inl, inr, ⊎_elim, Option, None, Some, Ok, refl, sym, ap, ◌∙◌, subst, arith, length-take}
+use Rattle.std.proofs.Common.{◌≡◌, ◌≢◌, ◌⊎◌, ℕ, ◌+◌, ◌-◌, ◌<◌, ◌≤◌, ◌||◌, ◌&&◌, Bool, true, false, List, [], ◌∷◌, ◌++◌, length, drop, cond}
+use Rattle.std.proofs.Common.{inl, inr, ⊎_elim, Option, None, Some, Ok, refl, sym, ap, ◌∙◌, subst, arith, length-take}
 use Rattle.std.proofs.lemmas.Bool.{eqb-true, false≢true, or_parts}
 use Rattle.std.proofs.lemmas.Bool.Decides.{nat_tests}
 use Rattle.std.proofs.lemmas.List.{take-append-drop}
@@ -16,7 +17,9 @@ use Rattle.cs_tree_model.specs.Laws.Paths.{path_cases}
 use Rattle.cs_tree_model.specs.Tree.{Path, path_cmp, parent_path}
 use Rattle.cs_trace.specs.Attributes.{Attributes, kept_in}
 use Rattle.cs_trace.specs.Below.{has_below, is_below}
-use Rattle.cs_trace.specs.Judging.{changed, covered_by, emptied_at, emptied_by, ends_above, file_at, file_by, found, free_at, free_by, has_too_many_names, held, held_by, is_path_of, is_too_much, legal, rename_source, resolve, size_in, target_at, target_by}
+use Rattle.cs_trace.specs.Judging.{rights_after, covered_by, emptied_at, emptied_by, ends_above, file_at, file_by, or_missing, free_at}
+use Rattle.cs_trace.specs.Judging.{free_by, has_too_many_names, node_and_rights_at, held_by, is_path_of, is_too_much, or_bad_name}
+use Rattle.cs_trace.specs.Judging.{rename_source, resolve, size_in, target_at, target_by}
 use Rattle.cs_trace_lines.specs.Lines as line
 use Rattle.cs_trace_lines.specs.Lines.{Change, Claims, Mode, OperationLine, Owner}
 use Rattle.cs_trace.specs.Names.{below_root, entry_path_of, new_path_of, path_of, rights_of, set_path_of}
@@ -24,7 +27,8 @@ use Rattle.cs_trace.specs.Operations.{HasSize, IsEmptyAt, IsFileAt, IsFree, IsLe
 use Rattle.cs_trace.specs.declared.operation.Node.{Node}
 use Rattle.cs_trace.specs.declared.operation.Node.TheVariants.{Directory, File}
 use Rattle.cs_trace.specs.declared.operation.Operation.{Operation}
-use Rattle.cs_trace.specs.declared.operation.Operation.TheVariants.{Creat, Mkdir, Link, Unlink, Rmdir, Rename, Write, Truncate, SetAttr, Sync, Say}
+use Rattle.cs_trace.specs.declared.operation.Operation.TheVariants.{Creat, Mkdir, Link, Unlink, Rmdir, Rename, Write, Truncate, SetAttr}
+use Rattle.cs_trace.specs.declared.operation.Operation.TheVariants.{Sync, Say}
 use Rattle.cs_trace.specs.declared.operation.Rights.{Rights}
 use Rattle.cs_trace.specs.declared.operation.Covers.TheVariants as covers
 use Rattle.cs_trace.specs.declared.operation.Target.{Target}
@@ -112,7 +116,7 @@ named_by (Some (x ∷ names)) p is = λ none. let same : x ∷ names ≡ [] = sy
     one_same : p ≡ x ∷ names
     one_same = cc
 
-pub legal_is : (path : Option Path) (p : Path) → legal path ≡ Ok p → path ≡ Some p
+pub legal_is : (path : Option Path) (p : Path) → or_bad_name path ≡ Ok p → path ≡ Some p
 legal_is None p is = absurd (cc)
 legal_is (Some q) p is = let same : q ≡ p = cc in ap Some same
 
@@ -149,7 +153,7 @@ pub record AreOctal (a : Attributes) : Type 0 where
   pub files : (n : ℕ) (r : Rights) → slice_get a.files n ≡ Some r → HasOctalRights r
   pub directories : (p : Path) (r : Rights) → get a.directories p ≡ Some r → HasOctalRights r
 
-changed_octal : (change : Change) (r : Rights) → HasOctalChange change → HasOctalRights r → HasOctalRights (changed change r)
+changed_octal : (change : Change) (r : Rights) → HasOctalChange change → HasOctalRights r → HasOctalRights (rights_after change r)
 changed_octal (Mode permissions) r octal was = octal
 changed_octal (Owner owner group) r octal was = was
 
@@ -165,7 +169,7 @@ paired target None h is = absurd (cc)
 paired target (Some r) h is =
     let same : (target, r) ≡ h = cc in (ap (λ (q : Target × Rights). q.0) same, ap (λ (q : Target × Rights). Some q.1) same)
 
-found_is : {X : Type 0} (o : Option X) (x : X) → found o ≡ Ok x → o ≡ Some x
+found_is : {X : Type 0} (o : Option X) (x : X) → or_missing o ≡ Ok x → o ≡ Some x
 found_is None x is = absurd (cc)
 found_is (Some y) x is = let same : y ≡ x = cc in ap Some same
 
@@ -192,15 +196,15 @@ module _ (m : Paths) (sizes : List ℕ) (made : ℕ) (a : Attributes) (known : A
 
   set_at : (p : Path) (change : Change) → HasOctalChange change → (h : Target × Rights) (node : Option Node) → get m p ≡ node
       → option_and_then (held_by a p) node ≡ Some h
-      → Taken (SetAttr h.0 h.1 (changed change h.1))
+      → Taken (SetAttr h.0 h.1 (rights_after change h.1))
   set_at p change octal h None there is = absurd (cc)
   set_at p change octal h (Some Directory) there is =
       let both = paired (targets.Directory p) (get a.directories p) h is in
-      subst (λ target. Taken (SetAttr target h.1 (changed change h.1))) both.0
+      subst (λ target. Taken (SetAttr target h.1 (rights_after change h.1))) both.0
       (record { legal = (there, changed_octal change h.1 octal (rights.directories p h.1 both.1)); short = tt; few = same_made })
   set_at p change octal h (Some (File file)) there is =
       let both = paired (targets.File file) (slice_get a.files file) h is in
-      subst (λ target. Taken (SetAttr target h.1 (changed change h.1))) both.0
+      subst (λ target. Taken (SetAttr target h.1 (rights_after change h.1))) both.0
       (record {
         legal = (
           (p, there),
@@ -222,28 +226,28 @@ module _ (m : Paths) (sizes : List ℕ) (made : ℕ) (a : Attributes) (known : A
 
   pub resolve_taken : (l : OperationLine) → IsOctal (line.Operation l) → (o : Operation) → resolve m sizes made a l ≡ Ok o → Taken o
   resolve_taken (line.Creat text claims) octal =
-      then_by (legal (new_path_of text claims)) _ Taken
+      then_by (or_bad_name (new_path_of text claims)) _ Taken
       (λ p _. then_by (free_at m p) _ Taken (λ u free. limit_by (is_too_much made p)
       (Creat p (length sizes) (rights_of claims)) Taken (λ large.
       let limits = limits_by made p large in
       record { legal = (free_at_is p u free, refl, octal); short = limits.0; few = limits.1 })))
   resolve_taken (line.Mkdir text claims) octal =
-      then_by (legal (new_path_of text claims)) _ Taken
+      then_by (or_bad_name (new_path_of text claims)) _ Taken
       (λ p _. then_by (free_at m p) _ Taken (λ u free. limit_by (is_too_much made p) (Mkdir p (rights_of claims)) Taken (λ large.
       let limits = limits_by made p large in
       record { legal = (free_at_is p u free, octal); short = limits.0; few = limits.1 })))
   resolve_taken (line.Link from to) octal =
-      then_by (legal (entry_path_of from)) _ Taken (λ p _. then_by (legal (entry_path_of to)) _ Taken (λ q _.
+      then_by (or_bad_name (entry_path_of from)) _ Taken (λ p _. then_by (or_bad_name (entry_path_of to)) _ Taken (λ q _.
       then_by (file_at m p) _ Taken (λ file there.
       then_by (free_at m q) _ Taken (λ u free. limit_by (is_too_much made q) (Link q file) Taken (λ large.
       let at = file_is (get m p) file there in
       let limits = limits_by made q large in
       record { legal = (free_at_is q u free, (p, at), known p file at); short = limits.0; few = limits.1 })))))
   resolve_taken (line.Unlink text) octal =
-      then_by (legal (entry_path_of text)) _ Taken (λ p _. then_by (file_at m p) _ Taken (λ file there.
+      then_by (or_bad_name (entry_path_of text)) _ Taken (λ p _. then_by (file_at m p) _ Taken (λ file there.
       value_by (Unlink p) Taken (record { legal = (file, file_is _ file there); short = tt; few = same_made })))
   resolve_taken (line.Rmdir text) octal =
-      then_by (legal (entry_path_of text)) _ Taken (λ p path. then_by (emptied_at m p) _ Taken (λ u there.
+      then_by (or_bad_name (entry_path_of text)) _ Taken (λ p path. then_by (emptied_at m p) _ Taken (λ u there.
       let both = emptied_is _ _ u there in
       value_by (Rmdir p) Taken (record {
         legal = (
@@ -256,7 +260,7 @@ module _ (m : Paths) (sizes : List ℕ) (made : ℕ) (a : Attributes) (known : A
         few = same_made;
       })))
   resolve_taken (line.Rename from to) octal =
-      then_by (legal (entry_path_of from)) _ Taken (λ p _. then_by (legal (entry_path_of to)) _ Taken (λ q _.
+      then_by (or_bad_name (entry_path_of from)) _ Taken (λ p _. then_by (or_bad_name (entry_path_of to)) _ Taken (λ q _.
       then_by (file_at m p) _ Taken (λ file there.
       then_by (target_at m q) _ Taken (λ u target. limit_by (has_too_many_names q) (Rename (rename_source m file p q) q) Taken (λ large.
       record {
@@ -269,7 +273,7 @@ module _ (m : Paths) (sizes : List ℕ) (made : ℕ) (a : Attributes) (known : A
         few = same_made;
       })))))
   resolve_taken (line.Write text offset bytes) octal =
-      then_by (legal (entry_path_of text)) _ Taken (λ p _. then_by (file_at m p) _ Taken (λ file there.
+      then_by (or_bad_name (entry_path_of text)) _ Taken (λ p _. then_by (file_at m p) _ Taken (λ file there.
       limit_by (ends_above offset bytes) (Write file (size_in sizes file) offset bytes) Taken (λ large.
       record {
         legal =
@@ -278,15 +282,16 @@ module _ (m : Paths) (sizes : List ℕ) (made : ℕ) (a : Attributes) (known : A
         few = same_made;
       })))
   resolve_taken (line.Truncate text size) octal =
-      then_by (legal (entry_path_of text)) _ Taken (λ p _. then_by (file_at m p) _ Taken (λ file there.
+      then_by (or_bad_name (entry_path_of text)) _ Taken (λ p _. then_by (file_at m p) _ Taken (λ file there.
       limit_by (nat_lt FILE_BYTES size) (Truncate file (size_in sizes file) size) Taken (λ large.
       record { legal = ((p, file_is _ file there), size_of_file p file there, within size large); short = tt; few = same_made })))
   resolve_taken (line.SetAttr text change) octal =
-      then_by (legal (set_path_of text change)) _ Taken (λ p _. then_by (found (held m a p)) _ Taken (λ h is.
-      value_by (SetAttr h.0 h.1 (changed change h.1)) Taken (set_at p change octal h (get m p) refl (found_is (held m a p) h is))))
-  resolve_taken (line.Fsync text) octal = then_by (legal (path_of text)) _ Taken (λ p _. covered (get m p) p refl)
+      then_by (or_bad_name (set_path_of text change)) _ Taken (λ p _. then_by (or_missing (node_and_rights_at m a p)) _ Taken (λ h is.
+      value_by (SetAttr h.0 h.1 (rights_after change h.1)) Taken
+      (set_at p change octal h (get m p) refl (found_is (node_and_rights_at m a p) h is))))
+  resolve_taken (line.Fsync text) octal = then_by (or_bad_name (path_of text)) _ Taken (λ p _. covered (get m p) p refl)
   resolve_taken (line.FsyncRange text offset count) octal =
-      then_by (legal (entry_path_of text)) _ Taken (λ p _. then_by (file_at m p) _ Taken (λ file there.
+      then_by (or_bad_name (entry_path_of text)) _ Taken (λ p _. then_by (file_at m p) _ Taken (λ file there.
       let at = file_is (get m p) file there in
       value_by (Sync (covers.Range file offset count)) Taken (record { legal = ((p, at), known p file at); short = tt; few = same_made })))
   resolve_taken line.Sync octal = value_by (Sync covers.All) Taken (record { legal = tt; short = tt; few = same_made })

@@ -1,167 +1,41 @@
 -- Each line that is taken leaves a sound state.
-use Rattle.std.proofs.Common.{◌≡◌, ◌≢◌, ℕ, zero, suc, ◌+◌, ◌<◌, ◌≤◌, ◌==◌, ◌||◌, Bool, true, false, List, [], ◌∷◌, ◌++◌, length, ⊎_elim, Option, option_map, None, Some, refl, sym, ap, ◌∙◌, subst, arith, length-append, Result, Ok, Err}
-use Rattle.std.proofs.lemmas.Option.{same_Some}
+use Rattle.std.proofs.Common.{◌≡◌, ◌≢◌, ℕ, ◌+◌, ◌≤◌, ◌==◌, ◌||◌, Bool, true, false, List, [], ◌∷◌, length}
+use Rattle.std.proofs.Common.{Option, option_map, None, Some, refl, sym, ap, ◌∙◌, subst, arith, Result, Ok, Err}
 use Rattle.std.proofs.lemmas.Bool.{false≢true, eqb-true, eq-eqb, or_parts}
-use Rattle.std.proofs.lemmas.List.{length-set}
 use Rattle.std.proofs.lemmas.List.Sums.{fold_push}
-use Rattle.std.specs.FinMap.{get, insert, remove, empty, get-empty, len-empty, same_map}
-use Rattle.std.specs.List.{slice_get}
+use Rattle.std.specs.FinMap.{get, empty, get-empty, len-empty, same_map}
 use Rattle.std.specs.Option.{option_and_then, option_map_or}
-use Rattle.std.specs.Ordering.{eq_by_cmp}
-use Rattle.std.specs.Prelude.{if◌then◌else◌, nat_lt, slice_set}
+use Rattle.std.specs.Prelude.{if◌then◌else◌, nat_lt}
 use Rattle.cs_names.specs.declared.limits.TheConstants.{FILE_BYTES, TRACE_PATH_NAMES, TREE_RECORDS}
 use Rattle.cs_tree_model.specs.Laws.Fresh.{not_both}
-use Rattle.cs_tree_model.specs.Laws.Paths.{path_cases, path_exact, path_total}
-use Rattle.cs_tree_model.specs.Maps.Changes.{get-insert_same, get-remove_same, get-remove_other}
+use Rattle.cs_tree_model.specs.Laws.Paths.{path_exact, path_total}
+use Rattle.cs_tree_model.specs.Maps.Changes.{get-insert_same}
 use Rattle.cs_tree_model.specs.Maps.Values.{get-map_values}
 use Rattle.cs_tree_model.specs.Tree.{Path, path_cmp, parent_path}
 use Rattle.cs_trace.specs.Attributes.{Attributes, attributes_after, kept_in, no_attributes, with_directory}
 use Rattle.cs_trace.specs.Entries.{node_by, node_of, size_of}
-use Rattle.cs_trace.specs.Judging.{AreShort, and_then, free_at, is_too_much, legal, resolve}
+use Rattle.cs_trace.specs.Judging.{and_then, free_at, is_too_much, or_bad_name, resolve}
 use Rattle.cs_trace.specs.Kept.{IsBounded}
-use Rattle.cs_trace_lines.specs.Lines.{Claims, Header, Line, Operation, Start, StartLine, StartLink, UnknownOperation, UnknownStart, is_blank, line_in}
+use Rattle.cs_trace_lines.specs.Lines.{Claims, Header, Line, Operation, Start, StartLine, StartLink, UnknownOperation, UnknownStart}
+use Rattle.cs_trace_lines.specs.Lines.{is_blank, line_in}
 use Rattle.cs_trace.specs.Names.{are_user_names, below_root, entry_path_of, new_path_of, path_of, rights_of}
-use Rattle.cs_trace.specs.Operations.{AreLegal, IsDirectoryAt, IsLegal, Paths, made_by, moved, paths_after, paths_after_all, sizes_after, sizes_after_all, written_size}
-use Rattle.cs_trace.specs.States.{State, at_line, begun, entry_for, first_step, later_step, line_step, nothing, start_file_at, start_file_by, start_link_step, start_step, state_from, state_in, step, taken, with_link, with_start}
-use Rattle.cs_trace.specs.declared.entry.Entry.{Entry}
+use Rattle.cs_trace.specs.Operations.{IsDirectoryAt, IsLegal, made_by, paths_after, paths_after_all, sizes_after, sizes_after_all}
+use Rattle.cs_trace.specs.States.{State, at_line, after_header, entry_for, first_step, later_step, line_step, empty_state, start_file_at}
+use Rattle.cs_trace.specs.States.{start_file_by, start_link_step, start_step, state_from, state_in, step, after_operation, with_link}
+use Rattle.cs_trace.specs.States.{with_start}
+use Rattle.cs_trace.specs.declared.entry.StartFile.{StartFile}
 use Rattle.cs_trace.specs.declared.fault.TraceFaultKind.{TraceFaultKind}
 use Rattle.cs_trace.specs.declared.fault.TraceFaultKind.TheVariants.{Syntax, UnknownOp, BadName}
-use Rattle.cs_trace.specs.declared.operation.Node.{Node}
 use Rattle.cs_trace.specs.declared.operation.Node.TheVariants.{Directory, File}
 use Rattle.cs_trace.specs.declared.operation.Operation.{Operation as Resolved}
-use Rattle.cs_trace.specs.declared.operation.Operation.TheVariants as op
-use Rattle.cs_trace.specs.declared.operation.Rights.{Rights}
-use Rattle.cs_trace.specs.declared.operation.Target.TheVariants as targets
 use Rattle.cs_trace_lines.specs.declared.version.Version.{Version}
 use Rattle.cs_trace_lines.proofs.Octal.{HasOctal, IsOctal, line_octal}
-use Rattle.cs_trace.proofs.Resolved.{AreKnown, AreOctal, IsTaken, MakesShort, free_is, kept_octal, limits_by, resolve_taken, within}
-use Rattle.cs_trace.proofs.Sound.{IsSound, each_of, file_number, pushed_octal, sound-directory, sound-file, sound-link, start_of, sizes_of, stays, not_file}
+use Rattle.cs_trace.proofs.Resolved.{AreOctal, IsTaken, free_is, kept_octal, limits_by, resolve_taken, within}
+use Rattle.cs_trace.proofs.Sound.{IsSound, each_of, sound-directory, sound-file, sound-link, start_of, sizes_of, stays}
+use Rattle.cs_trace.proofs.SoundOperations.{counted_after, known_after, legal_push, rights_after, short_after}
 use Rattle.cs_trace.proofs.Within.{good, limit_by, then_by, value_by}
 
 -- ---- one operation more
-
-legal_push : (m : Paths) (sizes : List ℕ) (ops : List Resolved) (o : Resolved) → AreLegal m sizes ops
-    → IsLegal (paths_after_all m ops) (sizes_after_all sizes ops) o → AreLegal m sizes (ops ++ o ∷ [])
-legal_push m sizes [] o all last = (last, tt)
-legal_push m sizes (x ∷ ops) o all last = (all.0, legal_push (paths_after m x) (sizes_after sizes x) ops o all.1 last)
-
-stood : (m : Paths) (p q : Path) (node : Node) → get (remove m p) q ≡ Some node → get m q ≡ Some node
-stood m p q node there = ⊎_elim
-    (λ (one : (eq_by_cmp path_cmp q p ≡ true) × (q ≡ p)). absurd
-    (not_both _ node (get-remove_same path_total path_exact m p) (ap (get (remove m p)) (sym one.1) ∙ there)))
-    (λ (two : (eq_by_cmp path_cmp q p ≡ false) × (q ≢ p)). sym (get-remove_other path_total path_exact m q p two.1) ∙ there)
-    (path_cases q p)
-
--- what holds of all that stands, and of what moves at its new path, holds after a move
-moved_each : (m : Paths) (p q : Path) (P : Path → Node → Type 0) → ((r : Path) (node : Node) → get m r ≡ Some node → P r node)
-    → ((node : Node) → P p node → P q node)
-    → (here : Option Node) → get m p ≡ here → (r : Path) (node : Node)
-    → get (option_map_or (λ n. insert (remove m p) q n) here m) r ≡ Some node → P r node
-moved_each m p q P all goes None at r node there = all r node there
-moved_each m p q P all goes (Some n) at r node there =
-    each_of (remove m p) q n P (goes n (all p n at)) (λ s w apart old. all s w (stood m p s w old)) r node there
-
-short_after : (m : Paths) (o : Resolved) → AreShort m → MakesShort o → AreShort (paths_after m o)
-short_after m (op.Creat p file rights) short new =
-    each_of m p (File file) (λ q _. length q ≤ TRACE_PATH_NAMES) new (λ q node apart there. short q node there)
-short_after m (op.Mkdir p rights) short new =
-    each_of m p Directory (λ q _. length q ≤ TRACE_PATH_NAMES) new (λ q node apart there. short q node there)
-short_after m (op.Link p file) short new =
-    each_of m p (File file) (λ q _. length q ≤ TRACE_PATH_NAMES) new (λ q node apart there. short q node there)
-short_after m (op.Unlink p) short new = λ q node there. short q node (stood m p q node there)
-short_after m (op.Rmdir p) short new = λ q node there. short q node (stood m p q node there)
-short_after m (op.Rename p q) short new = moved_each m p q (λ r _. length r ≤ TRACE_PATH_NAMES) short (λ _ _. new) (get m p) refl
-short_after m (op.Write file size offset bytes) short new = short
-short_after m (op.Truncate file size to) short new = short
-short_after m (op.SetAttr target before after) short new = short
-short_after m (op.Sync covered) short new = short
-short_after m op.Say short new = short
-
-abbrev IsBelow : ℕ → Path → Node → Type 0
-IsBelow count p node = (file : ℕ) → node ≡ File file → file < count
-
-all_below : (m : Paths) (sizes : List ℕ) → AreKnown m sizes → (p : Path) (node : Node) → get m p ≡ Some node → IsBelow (length sizes) p node
-all_below m sizes known p node there file is = known p file (there ∙ ap Some is)
-
-known_of : (m : Paths) (sizes : List ℕ) → ((p : Path) (node : Node) → get m p ≡ Some node → IsBelow (length sizes) p node)
-    → AreKnown m sizes
-known_of m sizes all p file there = all p (File file) there file refl
-
-more_known : (m : Paths) (sizes more : List ℕ) → length sizes ≤ length more → AreKnown m sizes → AreKnown m more
-more_known m sizes more longer known p file there = let low = known p file there in omega arith
-
-known_after : (m : Paths) (sizes : List ℕ) (o : Resolved) → AreKnown m sizes → IsLegal m sizes o
-    → AreKnown (paths_after m o) (sizes_after sizes o)
-known_after m sizes (op.Creat p file rights) known fits =
-    known_of (insert m p (File file)) (sizes ++ 0 ∷ []) (each_of m p (File file) (IsBelow (length (sizes ++ 0 ∷ [])))
-    (λ n is. let same = file_number file n is in omega (arith, same, fits.1, length-append sizes (0 ∷ [])))
-    (λ q node apart there n is. let low = all_below m sizes known q node there n is in omega (arith, low, length-append sizes (0 ∷ []))))
-known_after m sizes (op.Mkdir p rights) known fits =
-    known_of (insert m p Directory) sizes (each_of m p Directory (IsBelow (length sizes)) (λ n is. not_file n is)
-    (λ q node apart there. all_below m sizes known q node there))
-known_after m sizes (op.Link p file) known fits =
-    known_of (insert m p (File file)) sizes (each_of m p (File file) (IsBelow (length sizes))
-    (λ n is. let same = file_number file n is in omega (arith, same, fits.2)) (λ q node apart there. all_below m sizes known q node there))
-known_after m sizes (op.Unlink p) known fits = λ q file there. known q file (stood m p q (File file) there)
-known_after m sizes (op.Rmdir p) known fits = λ q file there. known q file (stood m p q (File file) there)
-known_after m sizes (op.Rename p q) known fits =
-    known_of (moved p q m) sizes (moved_each m p q (IsBelow (length sizes)) (all_below m sizes known) (λ node low. low) (get m p) refl)
-known_after m sizes (op.Write file size offset bytes) known fits =
-    more_known m sizes _ (omega (arith, length-set sizes file (written_size size offset bytes))) known
-known_after m sizes (op.Truncate file size to) known fits = more_known m sizes _ (omega (arith, length-set sizes file to)) known
-known_after m sizes (op.SetAttr target before after) known fits = known
-known_after m sizes (op.Sync covered) known fits = known
-known_after m sizes op.Say known fits = known
-
-counted_after : (sizes : List ℕ) (made : ℕ) (o : Resolved) → length sizes ≤ made → length (sizes_after sizes o) ≤ made + made_by o
-counted_after sizes made (op.Creat p file rights) few = omega (arith, length-append sizes (0 ∷ []))
-counted_after sizes made (op.Mkdir p rights) few = omega arith
-counted_after sizes made (op.Link p file) few = omega arith
-counted_after sizes made (op.Unlink p) few = omega arith
-counted_after sizes made (op.Rmdir p) few = omega arith
-counted_after sizes made (op.Rename p q) few = omega arith
-counted_after sizes made (op.Write file size offset bytes) few = omega (arith, length-set sizes file (written_size size offset bytes))
-counted_after sizes made (op.Truncate file size to) few = omega (arith, length-set sizes file to)
-counted_after sizes made (op.SetAttr target before after) few = omega arith
-counted_after sizes made (op.Sync covered) few = omega arith
-counted_after sizes made op.Say few = omega arith
-
--- these rights in place of those at the number
-set_octal : (rs : List Rights) (k : ℕ) (r : Rights) → ((n : ℕ) (q : Rights) → slice_get rs n ≡ Some q → q.permissions ≤ 511)
-    → r.permissions ≤ 511
-    → (n : ℕ) (q : Rights) → slice_get (slice_set rs k r) n ≡ Some q → q.permissions ≤ 511
-set_octal [] k r old octal n q at = old n q at
-set_octal (x ∷ rs) zero r old octal zero q at = subst (λ (w : Rights). w.permissions ≤ 511) (same_Some r q at) octal
-set_octal (x ∷ rs) zero r old octal (suc n) q at = old (suc n) q at
-set_octal (x ∷ rs) (suc k) r old octal zero q at = old zero q at
-set_octal (x ∷ rs) (suc k) r old octal (suc n) q at = set_octal rs k r (λ m w there. old (suc m) w there) octal n q at
-
-rights_after : (m : Paths) (sizes : List ℕ) (a : Attributes) (o : Resolved) → AreOctal a → IsLegal m sizes o
-    → AreOctal (attributes_after a o)
-rights_after m sizes a (op.Creat p file rights) old fits =
-    record { files = pushed_octal a.files rights old.files fits.2; directories = old.directories }
-rights_after m sizes a (op.Mkdir p rights) old fits =
-    record {
-      files = old.files;
-      directories = each_of a.directories p rights (λ q r. r.permissions ≤ 511) fits.1
-          (λ q r apart there. old.directories q r there);
-    }
-rights_after m sizes a (op.Link p file) old fits = old
-rights_after m sizes a (op.Unlink p) old fits = old
-rights_after m sizes a (op.Rmdir p) old fits = old
-rights_after m sizes a (op.Rename p q) old fits = old
-rights_after m sizes a (op.Write file size offset bytes) old fits = old
-rights_after m sizes a (op.Truncate file size to) old fits = old
-rights_after m sizes a (op.SetAttr (targets.File file) before after) old fits =
-    record { files = set_octal a.files file after old.files fits.2; directories = old.directories }
-rights_after m sizes a (op.SetAttr (targets.Directory p) before after) old fits =
-    record {
-      files = old.files;
-      directories = each_of a.directories p after (λ q r. r.permissions ≤ 511) fits.1
-          (λ q r apart there. old.directories q r there);
-    }
-rights_after m sizes a (op.Sync covered) old fits = old
-rights_after m sizes a op.Say old fits = old
 
 -- another version, and what it keeps of attributes
 versioned : (s : State) (version : Version) (a : Attributes) → AreOctal a → s.made ≢ 0 → IsSound s
@@ -191,7 +65,7 @@ module _ (s : State) (sound : IsSound s) (made : s.made ≢ 0) where
   still_made : (n : ℕ) → s.made + n ≢ 0
   still_made n is = made (omega arith)
 
-  sound-taken : (o : Resolved) → IsTaken s.paths s.sizes s.made o → IsSound (taken s o)
+  sound-taken : (o : Resolved) → IsTaken s.paths s.sizes s.made o → IsSound (after_operation s o)
   sound-taken o is = record {
     fresh = λ none. absurd (still_made (made_by o) none);
     rooted = λ _. sound.rooted made;
@@ -243,7 +117,7 @@ module _ (s : State) (sound : IsSound s) (made : s.made ≢ 0) where
         (stays s sound p e none free (λ _. above) octal short few small [] Directory (sound.rooted made)) bytes refl refl
 
   new_named : (read : Option Path) (t : Bool) (p : Path)
-      → legal (option_and_then (λ q. if t then Some q else None) (option_and_then below_root read)) ≡ Ok p → p ≢ []
+      → or_bad_name (option_and_then (λ q. if t then Some q else None) (option_and_then below_root read)) ≡ Ok p → p ≢ []
   new_named None t p is = absurd (cc)
   new_named (Some []) t p is = absurd (cc)
   new_named (Some (x ∷ names)) false p is = absurd (cc)
@@ -251,7 +125,7 @@ module _ (s : State) (sound : IsSound s) (made : s.made ≢ 0) where
 
   sound-start_step : (l : StartLine) → HasOctal l.claims → s.operations ≡ [] → (n : State) → start_step s l ≡ Ok n → IsSound n
   sound-start_step l octal none =
-      then_by (legal (new_path_of l.path l.claims)) _ IsSound
+      then_by (or_bad_name (new_path_of l.path l.claims)) _ IsSound
       (λ p path. then_by (free_at s.paths p) _ IsSound
       (λ u free. limit_by (is_too_much s.made p || nat_lt FILE_BYTES (size_of l.content))
       (with_start s p l.claims l.content) IsSound (λ large.
@@ -263,18 +137,21 @@ module _ (s : State) (sound : IsSound s) (made : s.made ≢ 0) where
       (ap (λ m. get m p) (sym same) ∙ parts.0) (ap (λ m. get m (parent_path p)) (sym same) ∙ parts.1) limits.0 limits.1 l.content
       (within _ both.1))))
 
-  start_file_by_is : (f e : Entry) (content : Option (List ℕ)) → f.content ≡ content → start_file_by f content ≡ Ok e → (Some f ≡ Some e)
+  start_file_by_is : (f e : StartFile) (content : Option (List ℕ)) → f.content ≡ content → start_file_by f content ≡ Ok e
+      → (Some f ≡ Some e)
       × (bytes : List ℕ) × (e.content ≡ Some bytes)
   start_file_by_is f e None has is = absurd (cc)
-  start_file_by_is f e (Some bytes) has is = let same : f ≡ e = cc in (ap Some same, bytes, ap (λ (g : Entry). g.content) (sym same) ∙ has)
+  start_file_by_is f e (Some bytes) has is = let same : f ≡ e = cc in
+      (ap Some same, bytes, ap (λ (g : StartFile). g.content) (sym same) ∙ has)
 
-  start_file_is : (o : Option Entry) (e : Entry) → start_file_at o ≡ Ok e → (o ≡ Some e) × (bytes : List ℕ) × (e.content ≡ Some bytes)
+  start_file_is : (o : Option StartFile) (e : StartFile) → start_file_at o ≡ Ok e → (o ≡ Some e) × (bytes : List ℕ)
+      × (e.content ≡ Some bytes)
   start_file_is None e is = absurd (cc)
   start_file_is (Some f) e is = start_file_by_is f e f.content refl is
 
   sound-start_link_step : (path from : List ℕ) → s.operations ≡ [] → (n : State) → start_link_step s path from ≡ Ok n → IsSound n
   sound-start_link_step path from none =
-      then_by (legal (entry_path_of path)) _ IsSound (λ q at. then_by (legal (entry_path_of from)) _ IsSound (λ p _.
+      then_by (or_bad_name (entry_path_of path)) _ IsSound (λ q at. then_by (or_bad_name (entry_path_of from)) _ IsSound (λ p _.
       then_by (start_file_at (get s.start p)) _ IsSound
       (λ e is. then_by (free_at s.paths q) _ IsSound (λ u free. limit_by (is_too_much s.made q) (with_link s q e) IsSound (λ large.
       let same : s.paths ≡ start_of s = sound.paths ∙ ap (paths_after_all (start_of s)) none in
@@ -313,7 +190,7 @@ module _ (s : State) (sound : IsSound s) (made : s.made ≢ 0) where
   sound-later UnknownStart octal n does = unknown_by (length s.operations == 0) n does
   sound-later (Operation l) octal n does =
       then_by (resolve s.paths s.sizes s.made s.attributes l) _ IsSound
-      (λ o is. value_by (taken s o) IsSound (sound-taken o
+      (λ o is. value_by (after_operation s o) IsSound (sound-taken o
       (resolve_taken s.paths s.sizes s.made s.attributes sound.known sound.rights sound.few l octal o is))) n does
   sound-later UnknownOperation octal n does = absurd (cc)
 
@@ -327,7 +204,7 @@ none_octal =
           absurd (not_both _ r (get-empty path_cmp p) there);
     }
 
-sound-nothing : IsSound nothing
+sound-nothing : IsSound empty_state
 sound-nothing = record {
   fresh = λ _. refl;
   rooted = λ made. absurd (made refl);
@@ -344,35 +221,35 @@ sound-nothing = record {
   known = λ p file there. absurd (not_both _ (File file) (get-empty path_cmp p) there);
   few = omega arith;
   counted = omega arith;
-  tallied = sym (ap (λ n. n + 0) (len-empty path_cmp Entry));
+  tallied = sym (ap (λ n. n + 0) (len-empty path_cmp StartFile));
   small = λ p e there. absurd (not_both _ e (get-empty path_cmp p) there);
   rights = none_octal;
 }
   where
-    none_at : (p : Path) → get (start_of nothing) p ≡ None
+    none_at : (p : Path) → get (start_of empty_state) p ≡ None
     none_at p = get-map_values path_cmp node_of empty p ∙ ap (option_map node_of) (get-empty path_cmp p)
 
     no_element : {X : Type 0} (x : X) → None ≡ Some x → ⊥
     no_element x is = not_both None x refl is
 
-    no_paths : empty ≡ start_of nothing
-    no_paths = same_map path_total path_exact empty (start_of nothing) (λ q. get-empty path_cmp q ∙ sym (none_at q))
+    no_paths : empty ≡ start_of empty_state
+    no_paths = same_map path_total path_exact empty (start_of empty_state) (λ q. get-empty path_cmp q ∙ sym (none_at q))
 
 module _ (claims : Claims) (octal : HasOctal claims) where
-  free_root : get (start_of nothing) [] ≡ None
+  free_root : get (start_of empty_state) [] ≡ None
   free_root = get-map_values path_cmp node_of empty [] ∙ ap (option_map node_of) (get-empty path_cmp [])
 
-  sound-root : IsSound (with_start nothing [] claims None)
+  sound-root : IsSound (with_start empty_state [] claims None)
   sound-root =
-      sound-directory nothing sound-nothing [] (entry_for nothing claims None) refl free_root (λ named. absurd (named refl)) octal
+      sound-directory empty_state sound-nothing [] (entry_for empty_state claims None) refl free_root (λ named. absurd (named refl)) octal
       (omega arith) (omega arith) (omega arith)
-      (get-insert_same path_total path_exact (start_of nothing) [] Directory) refl
+      (get-insert_same path_total path_exact (start_of empty_state) [] Directory) refl
 
 some_made : (n : ℕ) → n + 1 ≢ 0
 some_made n none = omega arith
 
 header_by : (t : Bool) (version : Version) (claims : Claims) → HasOctal claims → (n : State)
-    → (if t then Ok (begun nothing version claims) else Err BadName) ≡ Ok n → IsSound n
+    → (if t then Ok (after_header empty_state version claims) else Err BadName) ≡ Ok n → IsSound n
 header_by true version claims octal n does =
     let rights = rights_of claims in
     let root = with_directory no_attributes [] rights in
@@ -380,12 +257,12 @@ header_by true version claims octal n does =
       files = none_octal.files;
       directories = each_of empty [] rights (λ q r. r.permissions ≤ 511) octal (λ q r apart there. none_octal.directories q r there);
     } in
-    value_by (begun nothing version claims) IsSound
-    (versioned (with_start nothing [] claims None) version (kept_in version no_attributes root)
+    value_by (after_header empty_state version claims) IsSound
+    (versioned (with_start empty_state [] claims None) version (kept_in version no_attributes root)
     (kept_octal version no_attributes root none_octal all) (some_made 0) (sound-root claims octal)) n does
 header_by false version claims octal n does = absurd (cc)
 
-sound-first : (l : Line) → IsOctal l → (n : State) → first_step nothing l ≡ Ok n → IsSound n
+sound-first : (l : Line) → IsOctal l → (n : State) → first_step empty_state l ≡ Ok n → IsSound n
 sound-first (Header version claims) octal n does = header_by (are_user_names claims) version claims octal n does
 sound-first (Start l) octal n does = absurd (cc)
 sound-first (StartLink path from) octal n does = absurd (cc)
@@ -399,7 +276,7 @@ module _ (s : State) (sound : IsSound s) where
   line_by : (l : Line) (t : Bool) → s.made == 0 ≡ t → IsOctal l → (n : State) → (if t then first_step s l else later_step s l) ≡ Ok n
       → IsSound n
   line_by l true is octal n does =
-      let first : s ≡ nothing = sound.fresh (eqb-true _ _ is) in
+      let first : s ≡ empty_state = sound.fresh (eqb-true _ _ is) in
       sound-first l octal n (ap (λ w. first_step w l) (sym first) ∙ does)
   line_by l false is octal n does = sound-later s sound (λ zero_made. false≢true (sym is ∙ eq-eqb _ _ zero_made)) l octal n does
 
@@ -422,7 +299,7 @@ sound-from s n number (text ∷ lines) sound does =
     sound-from next n (number + 1) lines (text_by s sound text (is_blank text) (line_in s.version text) refl next is) rest) does
 
 pub sound-state_in : (lines : List (List ℕ)) (s : State) → state_in lines ≡ Ok s → IsSound s
-sound-state_in lines s does = sound-from nothing s 1 lines sound-nothing does
+sound-state_in lines s does = sound-from empty_state s 1 lines sound-nothing does
 
 pub bounded : (lines : List (List ℕ)) (s : State) → state_in lines ≡ Ok s → IsBounded s
 bounded lines s does =

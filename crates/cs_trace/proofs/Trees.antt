@@ -1,5 +1,6 @@
 -- The tree that lines make: one map as long as nothing changed.
-use Rattle.std.proofs.Common.{◌≡◌, ◌≢◌, true, false, ⊎_elim, cond, T, ◌||◌, List, [], ◌∷◌, Option, None, Some, option_map, refl, sym, ap, subst, ◌∙◌}
+use Rattle.std.proofs.Common.{◌≡◌, ◌≢◌, true, false, ⊎_elim, cond, T, ◌||◌, List, [], ◌∷◌, Option, None, Some, option_map, refl, sym, ap}
+use Rattle.std.proofs.Common.{subst, ◌∙◌}
 use Rattle.std.proofs.lemmas.Bool.{false≢true}
 use Rattle.std.specs.FinMap.{empty, entries, entries_sorted, find, get, get-empty, get-entries, get-insert, insert, is_sorted, same_map}
 use Rattle.std.specs.FinMap.Entries.{below_all}
@@ -16,8 +17,8 @@ use Rattle.cs_tree_model.specs.Maps.Orders.{both_first, both_second}
 use Rattle.cs_trace.specs.Below.{has_below, is_below}
 use Rattle.cs_trace.specs.Entries.{Entries, node_of}
 use Rattle.cs_trace.specs.Operations.{Paths}
-use Rattle.cs_trace.specs.Trees.{Tree, bare, nodes_by, with_start}
-use Rattle.cs_trace.specs.declared.entry.Entry.{Entry}
+use Rattle.cs_trace.specs.Trees.{Tree, empty_tree, nodes_by, with_start}
+use Rattle.cs_trace.specs.declared.entry.StartFile.{StartFile}
 use Rattle.cs_trace.specs.declared.operation.Node.{Node}
 use Rattle.cs_trace.specs.declared.operation.Node.TheVariants.{Directory}
 use Rattle.cs_trace.proofs.Sound.{map_values-insert}
@@ -33,7 +34,7 @@ map_values-empty = same_map path_total path_exact _ _ (λ q.
     get-map_values path_cmp node_of empty q ∙ ap (option_map node_of) (get-empty path_cmp q) ∙ sym (get-empty path_cmp q))
 
 module _ (d : Path) where
-  any_same : (es : List (Path × Entry)) → list_any (λ e. is_below d e.0) (map_entries node_of es) ≡ list_any (λ e. is_below d e.0) es
+  any_same : (es : List (Path × StartFile)) → list_any (λ e. is_below d e.0) (map_entries node_of es) ≡ list_any (λ e. is_below d e.0) es
   any_same [] = refl
   any_same (e ∷ es) = ap (λ b. is_below d e.0 || b) (any_same es)
 
@@ -42,7 +43,7 @@ module _ (d : Path) where
   has_below-start m = sym (ap (list_any (λ e. is_below d e.0)) (entries-map_values path_cmp node_of m) ∙ any_same (entries m))
 
 -- these entries too, one after another
-abbrev pub with_all : Paths → List (Path × Entry) → Paths
+abbrev pub with_all : Paths → List (Path × StartFile) → Paths
 with_all m [] = m
 with_all m (e ∷ es) = with_all (insert m e.0 (node_of e.1)) es
 
@@ -50,7 +51,7 @@ abbrev or_else : Option Node → Option Node → Option Node
 or_else None other = other
 or_else (Some node) other = Some node
 
-find_later : (q : Path) (es : List (Path × Entry)) → T (below_all path_cmp q es) → find path_cmp q es ≡ None
+find_later : (q : Path) (es : List (Path × StartFile)) → T (below_all path_cmp q es) → find path_cmp q es ≡ None
 find_later q [] all = refl
 find_later q (e ∷ es) all = ⊎_elim
     (λ (one : (eq_by_cmp path_cmp q e.0 ≡ true) × (q ≡ e.0)).
@@ -59,7 +60,7 @@ find_later q (e ∷ es) all = ⊎_elim
     ∙ find_later q es (both_second _ _ all))
     (path_cases q e.0)
 
-get-with_all : (m : Paths) (es : List (Path × Entry)) (q : Path) → T (is_sorted path_cmp es)
+get-with_all : (m : Paths) (es : List (Path × StartFile)) (q : Path) → T (is_sorted path_cmp es)
     → get (with_all m es) q ≡ or_else (option_map node_of (find path_cmp q es)) (get m q)
 get-with_all m [] q sorted = refl
 get-with_all m (e ∷ es) q sorted =
@@ -91,10 +92,10 @@ viewed start changed = record { start = start; nodes = nodes_by start changed }
 abbrev with_nodes : Entries → Paths → Tree
 with_nodes start nodes = record { start = start; nodes = nodes }
 
-pub bare-view : (m : Entries) → m ≡ empty → viewed m None ≡ bare
+pub bare-view : (m : Entries) → m ≡ empty → viewed m None ≡ empty_tree
 bare-view m is = ap (λ start. viewed start None) is ∙ ap (with_nodes empty) map_values-empty
 
-pub start-view : (s t : Entries) (p : Path) (e : Entry) → t ≡ insert s p e → viewed t None ≡ with_start (viewed s None) p e
+pub start-view : (s t : Entries) (p : Path) (e : StartFile) → t ≡ insert s p e → viewed t None ≡ with_start (viewed s None) p e
 start-view s t p e is = ap (λ start. viewed start None) is ∙ ap (with_nodes (insert s p e)) (map_values-insert s p e)
 
 -- a directory stands after something came to a path where nothing stood

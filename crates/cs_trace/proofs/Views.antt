@@ -6,7 +6,8 @@ use Rattle.std.specs.BTreeMap.{insert_entry, is_at}
 use Rattle.std.specs.List.Sorted.{IsStrictlySortedBy}
 use Rattle.std.specs.Map.{keys_of, lookup, remove_entry}
 use Rattle.std.specs.Ordering.{eq_by_cmp, match_ordering}
-use Rattle.std.specs.FinMap.{get, get-remove, remove, insert, empty, entries, from_entries, put, find, entries-insert, get-insert, get-from_entries, len-entries, len-empty, same_map}
+use Rattle.std.specs.FinMap.{get, get-remove, remove, insert, empty, entries, from_entries, put, find, entries-insert, get-insert}
+use Rattle.std.specs.FinMap.{get-from_entries, len-entries, len-empty, same_map}
 use Rattle.std.specs.FinMap.Entries.{by_order, find-put}
 use Rattle.cs_tree_model.specs.Laws.Paths.{path_cases, path_total, path_exact}
 use Rattle.cs_tree_model.specs.Maps.Views.{get_view}

@@ -1,5 +1,6 @@
 -- What a sound state leaves is a trace.
-use Rattle.std.proofs.Common.{◌≡◌, ◌≢◌, ℕ, ◌+◌, ◌*◌, ◌^◌, ◌<◌, ◌≤◌, List, [], ◌∷◌, get_or, length, map, Option, None, Some, option_map, refl, sym, ap, ◌∙◌, subst, arith, lit≤}
+use Rattle.std.proofs.Common.{◌≡◌, ◌≢◌, ℕ, ◌+◌, ◌*◌, ◌^◌, ◌<◌, ◌≤◌, List, [], ◌∷◌, get_or, length, map, Option, None, Some, option_map}
+use Rattle.std.proofs.Common.{refl, sym, ap, ◌∙◌, subst, arith, lit≤}
 use Rattle.std.proofs.lemmas.List.{length-map}
 use Rattle.std.proofs.lemmas.List.Elements.{All-map}
 use Rattle.std.proofs.lemmas.Nat.Bits.{and_pow, bit_at_above, bit_at_cat_high}
@@ -9,7 +10,7 @@ use Rattle.std.specs.List.Sorted.{IsStrictlySortedBy}
 use Rattle.std.specs.Option.{option_map_or}
 use Rattle.std.specs.Prelude.{bit_and}
 use Rattle.cs_names.specs.declared.limits.TheConstants.{FILE_BYTES, TREE_RECORDS}
-use Rattle.cs_tree_model.specs.Fresh.{IsNested, fresh, fresh_record, numbered, place_in}
+use Rattle.cs_tree_model.specs.Fresh.{IsNested, fresh, fresh_record, with_numbers_from, place_in}
 use Rattle.cs_tree_model.specs.Laws.Fresh.{listing-IsListing, record_at-fresh}
 use Rattle.cs_tree_model.specs.Laws.FreshReads.{length-numbered}
 use Rattle.cs_tree_model.specs.Laws.Paths.{path_exact, path_total}
@@ -21,8 +22,9 @@ use Rattle.cs_tree_model.specs.declared.record.Record.{Record}
 use Rattle.cs_trace.specs.Entries.{Entries, node_by, node_of, nodes_in, record_of, records_in, size_of}
 use Rattle.cs_trace.specs.Operations.{AreLegal, AreNested, IsDirectoryAt}
 use Rattle.cs_trace.specs.States.{State}
-use Rattle.cs_trace.specs.Traces.{AreAlikeAt, AreLinks, IsNodeOf, IsPathOf, IsTrace, IsUnchanged, StandsAs, record_in, records_made, size_at, standing, start_paths, start_sizes, whole}
-use Rattle.cs_trace.specs.declared.entry.Entry.{Entry}
+use Rattle.cs_trace.specs.Traces.{AreAlikeAt, AreLinks, IsNodeOf, IsPathOf, IsTrace, IsUnchanged, StandsAs, record_in, records_made}
+use Rattle.cs_trace.specs.Traces.{size_at, paths_of_records, start_paths, start_sizes, trace_of_state}
+use Rattle.cs_trace.specs.declared.entry.StartFile.{StartFile}
 use Rattle.cs_trace.specs.declared.operation.Node.{Node}
 use Rattle.cs_trace.specs.declared.operation.Node.TheVariants.{Directory, File}
 use Rattle.cs_trace.proofs.Sound.{IsSound, entry_size, start_of, sizes_of}
@@ -41,7 +43,7 @@ has_bit n low =
     let below : n < 2 ^ 31 = omega arith in
     and_pow (DMDIR + n) 31 ∙ ap (λ b. b * 2 ^ 31) (bit_at_cat_high 1 31 n 31 below (lit≤ tt))
 
-marked_by : (e : Entry) (content : Option (List ℕ)) → e.rights.permissions ≤ 511 → e.content ≡ content → IsMarked (record_of e)
+marked_by : (e : StartFile) (content : Option (List ℕ)) → e.rights.permissions ≤ 511 → e.content ≡ content → IsMarked (record_of e)
 marked_by e None low is = rw (is, has_bit e.rights.permissions low) refl
 marked_by e (Some bytes) low is = rw (is, no_bit e.rights.permissions low) refl
 
@@ -57,17 +59,18 @@ file_by None number n is = absurd (cc)
 file_by (Some bytes) number n is = (bytes, refl, cc)
 
 module _ (m : Entries) where
-  entry_by : {X : Type 0} (f : Entry → X) (p : Path) (x : X) (o : Option Entry) → get m p ≡ o → option_map f o ≡ Some x → (e : Entry)
+  entry_by : {X : Type 0} (f : StartFile → X) (p : Path) (x : X) (o : Option StartFile) → get m p ≡ o → option_map f o ≡ Some x
+      → (e : StartFile)
       × (get m p ≡ Some e) × (f e ≡ x)
   entry_by f p x None at is = absurd (cc)
   entry_by f p x (Some e) at is = (e, at, cc)
 
   -- the entry that a value of the map comes from
-  entry_at : {X : Type 0} (f : Entry → X) (p : Path) (x : X) → get (map_values f m) p ≡ Some x → (e : Entry) × (get m p ≡ Some e)
+  entry_at : {X : Type 0} (f : StartFile → X) (p : Path) (x : X) → get (map_values f m) p ≡ Some x → (e : StartFile) × (get m p ≡ Some e)
       × (f e ≡ x)
   entry_at f p x there = entry_by f p x (get m p) refl (sym (get-map_values path_cmp f m p) ∙ there)
 
-  value_at : {X : Type 0} (f : Entry → X) (p : Path) (e : Entry) → get m p ≡ Some e → get (map_values f m) p ≡ Some (f e)
+  value_at : {X : Type 0} (f : StartFile → X) (p : Path) (e : StartFile) → get m p ≡ Some e → get (map_values f m) p ≡ Some (f e)
   value_at f p e there = get-map_values path_cmp f m p ∙ ap (option_map f) there
 
   -- a directory's record
@@ -79,15 +82,15 @@ module _ (m : Entries) where
 
   -- ---- what stands, and the sizes
 
-  zipped : (k : ℕ) (es : List (Path × Entry))
-      → zip (map (λ e. e.0) (numbered k (map_entries record_of es))) (map (λ e. node_of e.1) es) ≡ map_entries node_of es
+  zipped : (k : ℕ) (es : List (Path × StartFile))
+      → zip (map (λ e. e.0) (with_numbers_from k (map_entries record_of es))) (map (λ e. node_of e.1) es) ≡ map_entries node_of es
   zipped k [] = refl
   zipped k (e ∷ es) = λ i. (e.0, node_of e.1) ∷ zipped (k + 1) es i
 
-  same_listing : records_in m ≡ numbered 0 (map_entries record_of (entries m))
-  same_listing = ap (numbered 0) (entries-map_values path_cmp record_of m)
+  same_listing : records_in m ≡ with_numbers_from 0 (map_entries record_of (entries m))
+  same_listing = ap (with_numbers_from 0) (entries-map_values path_cmp record_of m)
 
-  same_standing : standing (records_in m) (nodes_in m) ≡ map_values node_of m
+  same_standing : paths_of_records (records_in m) (nodes_in m) ≡ map_values node_of m
   same_standing =
       ap (λ es. from_entries (zip (map (λ e. e.0) es) (nodes_in m))) same_listing
       ∙ ap from_entries (zipped 0 (entries m) ∙ sym (entries-map_values path_cmp node_of m))
@@ -100,7 +103,7 @@ module _ (m : Entries) where
       ∙ sym (ap length same_listing ∙ length-numbered 0 (map_entries record_of (entries m)) ∙ length-map (entries m)
       (λ e. (e.0, record_of e.1)))
 
-  size_by : (n : ℕ) (o : Option Entry)
+  size_by : (n : ℕ) (o : Option StartFile)
       → option_map_or (λ r. size_of r.content) (option_map (fresh_record n) (option_map record_of o)) 0 ≡ entry_size o
   size_by n None = refl
   size_by n (Some e) = refl
@@ -134,20 +137,20 @@ module _ (s : State) (sound : IsSound s) (made : s.made ≢ 0) where
         subst IsMarked e.2 (marked_by e.0 e.0.content (sound.octal p e.0 e.1) refl);
   }
 
-  paths_are : start_paths (whole s) ≡ start_of s
+  paths_are : start_paths (trace_of_state s) ≡ start_of s
   paths_are = same_standing s.start
 
-  sizes_are : start_sizes (whole s) ≡ sizes_of s
+  sizes_are : start_sizes (trace_of_state s) ≡ sizes_of s
   sizes_are = same_all s.start s.files
 
-  few_records : records_made (whole s) ≤ TREE_RECORDS
+  few_records : records_made (trace_of_state s) ≤ TREE_RECORDS
   few_records =
       let count : length (records_in s.start) ≡ len s.start = ap length (same_listing s.start)
       ∙ length-numbered 0 (map_entries record_of (entries s.start)) ∙ length-map (entries s.start) (λ e. (e.0, record_of e.1))
       ∙ sym (len-entries s.start) in
       omega (arith, count, sound.tallied, sound.few)
 
-  small_files : All (λ size. size ≤ FILE_BYTES) (start_sizes (whole s))
+  small_files : All (λ size. size ≤ FILE_BYTES) (start_sizes (trace_of_state s))
   small_files = subst (All (λ size. size ≤ FILE_BYTES)) (sym sizes_are)
       (All-map (λ size. size ≤ FILE_BYTES) (λ p. entry_size (get s.start p)) s.files
       (λ n p low. small_by (get s.start (get_or s.files n p)) (sound.small (get_or s.files n p))))
@@ -159,7 +162,7 @@ module _ (s : State) (sound : IsSound s) (made : s.made ≢ 0) where
       → slice_get (records_in s.start) n ≡ Some e → IsNodeOf node e.1
   node_records n node e there at = kind_at (entries s.start) n node e there (ap (λ es. slice_get es n) (sym (same_listing s.start)) ∙ at)
 
-  standing_records : (p : Path) → StandsAs (get (start_paths (whole s)) p) (record_in (records_in s.start) p)
+  standing_records : (p : Path) → StandsAs (get (start_paths (trace_of_state s)) p) (record_in (records_in s.start) p)
   standing_records p =
       subst (λ o. StandsAs o (record_in (records_in s.start) p))
       (sym (ap (λ m. get m p) paths_are ∙ get-map_values path_cmp node_of s.start p))
@@ -167,19 +170,19 @@ module _ (s : State) (sound : IsSound s) (made : s.made ≢ 0) where
       (stands_by (place_in p (entries (map_values record_of s.start))) (get s.start p)))
 
   -- two paths with one entry have like records
-  alike_by : (k n : ℕ) (e : Entry)
+  alike_by : (k n : ℕ) (e : StartFile)
       → AreAlikeAt (option_map (fresh_record k) (option_map record_of (Some e)))
       (option_map (fresh_record n) (option_map record_of (Some e)))
   alike_by k n e = record { content = refl; owner = refl; group = refl; mode = refl }
 
-  record_of_entry : (p : Path) (e : Entry) → get s.start p ≡ Some e
+  record_of_entry : (p : Path) (e : StartFile) → get s.start p ≡ Some e
       → record_in (records_in s.start) p ≡ option_map (fresh_record (place_in p (entries (map_values record_of s.start))))
       (option_map record_of (Some e))
   record_of_entry p e there =
       same_record s.start p ∙ ap (λ o. option_map (fresh_record (place_in p (entries (map_values record_of s.start))))
       (option_map record_of o)) there
 
-  file_found : (n : ℕ) (p : Path) → get (start_of s) p ≡ Some (File n) → IsPathOf (whole s) n p
+  file_found : (n : ℕ) (p : Path) → get (start_of s) p ≡ Some (File n) → IsPathOf (trace_of_state s) n p
   file_found n p there =
       let e = entry_at s.start node_of p (File n) there in
       let file = file_by e.0.content e.0.number n e.2 in
@@ -194,7 +197,7 @@ module _ (s : State) (sound : IsSound s) (made : s.made ≢ 0) where
             (alike_by _ _ e.0));
       }
 
-  pub whole_is : IsTrace (whole s)
+  pub whole_is : IsTrace (trace_of_state s)
   whole_is = record {
     listing = listing-IsListing (map_values record_of s.start) nested_records;
     ascending =
@@ -211,6 +214,6 @@ module _ (s : State) (sound : IsSound s) (made : s.made ≢ 0) where
     linked = subst (λ m. AreLinks m s.links) (sym paths_are) sound.linked;
     found = λ n p there. file_found n p (ap (λ m. get m p) (sym paths_are) ∙ there);
     legal =
-        subst (λ m. AreLegal m (start_sizes (whole s)) s.operations) (sym paths_are)
+        subst (λ m. AreLegal m (start_sizes (trace_of_state s)) s.operations) (sym paths_are)
         (subst (λ sizes. AreLegal (start_of s) sizes s.operations) (sym sizes_are) sound.legal);
   }

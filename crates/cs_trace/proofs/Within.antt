@@ -1,12 +1,14 @@
 -- A write that is taken ends within the greatest file.
-use Rattle.std.proofs.Common.{◌≡◌, ℕ, ◌+◌, ◌<◌, ◌≤◌, Bool, true, false, List, length, Option, None, Some, Result, Ok, Err, refl, subst, arith}
+use Rattle.std.proofs.Common.{◌≡◌, ℕ, ◌+◌, ◌<◌, ◌≤◌, Bool, true, false, List, length, Option, None, Some, Result, Ok, Err, refl, subst}
+use Rattle.std.proofs.Common.{arith}
 use Rattle.std.proofs.lemmas.Bool.Decides.{nat_tests}
 use Rattle.std.specs.FinMap.{get}
 use Rattle.cs_names.specs.declared.limits.TheConstants.{FILE_BYTES, SAY_BYTES}
 use Rattle.std.specs.Prelude.{nat_lt}
 use Rattle.cs_tree_model.specs.Tree.{Path}
 use Rattle.cs_trace.specs.Attributes.{Attributes}
-use Rattle.cs_trace.specs.Judging.{and_then, covered_by, emptied_at, ends_above, file_at, found, free_at, has_too_many_names, held, is_too_much, legal, resolve, target_at, unless_too_large}
+use Rattle.cs_trace.specs.Judging.{and_then, covered_by, emptied_at, ends_above, file_at, or_missing, free_at, has_too_many_names}
+use Rattle.cs_trace.specs.Judging.{node_and_rights_at, is_too_much, or_bad_name, resolve, target_at, unless_too_large}
 use Rattle.cs_trace.specs.Kept.{IsWithin}
 use Rattle.cs_trace_lines.specs.Lines as line
 use Rattle.cs_trace_lines.specs.Lines.{OperationLine}
@@ -45,33 +47,34 @@ ends_within offset bytes is some = grind (arith, nat_tests)
 module _ (m : Paths) (sizes : List ℕ) (made : ℕ) (a : Attributes) where
   pub resolve_within : (l : OperationLine) (o : Operation) → resolve m sizes made a l ≡ Ok o → IsWithin o
   resolve_within (line.Creat text claims) =
-      then_by (legal (new_path_of text claims)) _ IsWithin
+      then_by (or_bad_name (new_path_of text claims)) _ IsWithin
       (λ p _. then_by (free_at m p) _ IsWithin (λ _ _. limit_by (is_too_much made p) _ IsWithin (λ _. tt)))
   resolve_within (line.Mkdir text claims) =
-      then_by (legal (new_path_of text claims)) _ IsWithin
+      then_by (or_bad_name (new_path_of text claims)) _ IsWithin
       (λ p _. then_by (free_at m p) _ IsWithin (λ _ _. limit_by (is_too_much made p) _ IsWithin (λ _. tt)))
   resolve_within (line.Link from to) =
-      then_by (legal (entry_path_of from)) _ IsWithin (λ p _. then_by (legal (entry_path_of to)) _ IsWithin (λ q _.
+      then_by (or_bad_name (entry_path_of from)) _ IsWithin (λ p _. then_by (or_bad_name (entry_path_of to)) _ IsWithin (λ q _.
       then_by (file_at m p) _ IsWithin (λ _ _. then_by (free_at m q) _ IsWithin
       (λ _ _. limit_by (is_too_much made q) _ IsWithin (λ _. tt)))))
   resolve_within (line.Unlink text) =
-      then_by (legal (entry_path_of text)) _ IsWithin (λ p _. then_by (file_at m p) _ IsWithin (λ _ _. value_by _ IsWithin tt))
+      then_by (or_bad_name (entry_path_of text)) _ IsWithin (λ p _. then_by (file_at m p) _ IsWithin (λ _ _. value_by _ IsWithin tt))
   resolve_within (line.Rmdir text) =
-      then_by (legal (entry_path_of text)) _ IsWithin (λ p _. then_by (emptied_at m p) _ IsWithin (λ _ _. value_by _ IsWithin tt))
+      then_by (or_bad_name (entry_path_of text)) _ IsWithin (λ p _. then_by (emptied_at m p) _ IsWithin (λ _ _. value_by _ IsWithin tt))
   resolve_within (line.Rename from to) =
-      then_by (legal (entry_path_of from)) _ IsWithin (λ p _. then_by (legal (entry_path_of to)) _ IsWithin (λ q _.
+      then_by (or_bad_name (entry_path_of from)) _ IsWithin (λ p _. then_by (or_bad_name (entry_path_of to)) _ IsWithin (λ q _.
       then_by (file_at m p) _ IsWithin (λ _ _. then_by (target_at m q) _ IsWithin
       (λ _ _. limit_by (has_too_many_names q) _ IsWithin (λ _. tt)))))
   resolve_within (line.Write text offset bytes) =
-      then_by (legal (entry_path_of text)) _ IsWithin
+      then_by (or_bad_name (entry_path_of text)) _ IsWithin
       (λ p _. then_by (file_at m p) _ IsWithin (λ file _. limit_by (ends_above offset bytes) _ IsWithin (ends_within offset bytes)))
   resolve_within (line.Truncate text size) =
-      then_by (legal (entry_path_of text)) _ IsWithin
+      then_by (or_bad_name (entry_path_of text)) _ IsWithin
       (λ p _. then_by (file_at m p) _ IsWithin (λ file _. limit_by (nat_lt FILE_BYTES size) _ IsWithin (λ _. tt)))
   resolve_within (line.SetAttr text change) =
-      then_by (legal (set_path_of text change)) _ IsWithin (λ p _. then_by (found (held m a p)) _ IsWithin (λ _ _. value_by _ IsWithin tt))
-  resolve_within (line.Fsync text) = then_by (legal (path_of text)) _ IsWithin (λ p _. covered_within (get m p) p)
+      then_by (or_bad_name (set_path_of text change)) _ IsWithin
+      (λ p _. then_by (or_missing (node_and_rights_at m a p)) _ IsWithin (λ _ _. value_by _ IsWithin tt))
+  resolve_within (line.Fsync text) = then_by (or_bad_name (path_of text)) _ IsWithin (λ p _. covered_within (get m p) p)
   resolve_within (line.FsyncRange text offset count) =
-      then_by (legal (entry_path_of text)) _ IsWithin (λ p _. then_by (file_at m p) _ IsWithin (λ _ _. value_by _ IsWithin tt))
+      then_by (or_bad_name (entry_path_of text)) _ IsWithin (λ p _. then_by (file_at m p) _ IsWithin (λ _ _. value_by _ IsWithin tt))
   resolve_within line.Sync = value_by _ IsWithin tt
   resolve_within (line.Say text) = limit_by (nat_lt SAY_BYTES (length text)) _ IsWithin (λ _. tt)

@@ -1,5 +1,7 @@
 -- Each line's checks, in their order: the first that it fails is its fault.
-use Rattle.std.specs.Prelude.{◌≡◌, ◌⊎◌, ℕ, ◌-◌, ◌<◌, ◌≤◌, ◌==◌, ◌||◌, not, Bool, true, false, List, [], ◌∷◌, ◌++◌, length, nat_lt, take, Option, Some, None, is_none, is_some, slice_index_or, unwrap_or, if◌then◌else◌, Ok}
+use Rattle.std.specs.Prelude.{◌≡◌, ◌⊎◌, ℕ, ◌-◌, ◌<◌, ◌≤◌, ◌==◌, ◌||◌, not, Bool, true, false, List}
+use Rattle.std.specs.Prelude.{[], ◌∷◌, ◌++◌, length, nat_lt, take, Option, Some, None, is_none}
+use Rattle.std.specs.Prelude.{is_some, slice_index_or, unwrap_or, if◌then◌else◌, Ok}
 use Rattle.std.specs.FinMap.{get}
 use Rattle.std.specs.Option.{option_map}
 use Rattle.cs_names.specs.declared.limits.TheConstants.{FILE_BYTES, SAY_BYTES}
@@ -7,7 +9,7 @@ use Rattle.cs_tree_model.specs.Tree.{Path, parent_path}
 use Rattle.cs_trace.specs.Attributes.{Attributes}
 use Rattle.cs_trace.specs.Below.{has_below}
 use Rattle.cs_trace.specs.Entries.{node_of, size_of}
-use Rattle.cs_trace.specs.Judging.{ends_above, has_too_many_names, held, is_too_much}
+use Rattle.cs_trace.specs.Judging.{ends_above, has_too_many_names, node_and_rights_at, is_too_much}
 use Rattle.cs_trace_lines.specs.Lines as line
 use Rattle.cs_trace_lines.specs.Lines.{Line, OperationLine, is_blank, line_in}
 use Rattle.cs_trace.specs.Names.{are_user_names, entry_path_of, new_path_of, path_of, set_path_of}
@@ -15,7 +17,10 @@ use Rattle.cs_trace.specs.Operations.{Paths}
 use Rattle.cs_trace.specs.States.{State, state_in}
 use Rattle.cs_trace.specs.declared.fault.TraceFault.{TraceFault}
 use Rattle.cs_trace.specs.declared.fault.TraceFaultKind.{TraceFaultKind}
-use Rattle.cs_trace.specs.declared.fault.TraceFaultKind.TheVariants.{Syntax, UnknownOp, BadName, NoParent, NotDir, Exists, Missing, NotFile, NotEmpty, TooLarge}
+use Rattle.cs_trace.specs.declared.fault.TraceFaultKind.TheVariants.{Syntax, UnknownOp, BadName}
+use Rattle.cs_trace.specs.declared.fault.TraceFaultKind.TheVariants.{NoParent, NotDir, Exists}
+use Rattle.cs_trace.specs.declared.fault.TraceFaultKind.TheVariants.{Missing, NotFile, NotEmpty}
+use Rattle.cs_trace.specs.declared.fault.TraceFaultKind.TheVariants.{TooLarge}
 use Rattle.cs_trace.specs.declared.operation.Node.{Node}
 use Rattle.cs_trace.specs.declared.operation.Node.TheVariants.{Directory, File}
 
@@ -101,7 +106,7 @@ operation_checks m made a (line.Write text offset bytes) =
 operation_checks m made a (line.Truncate text size) =
     on_path (entry_path_of text) (written_checks m (nat_lt FILE_BYTES size))
 operation_checks m made a (line.SetAttr text change) =
-    on_path (set_path_of text change) (λ p. (is_none (held m a p), Missing) ∷ [])
+    on_path (set_path_of text change) (λ p. (is_none (node_and_rights_at m a p), Missing) ∷ [])
 operation_checks m made a (line.Fsync text) =
     on_path (path_of text) (λ p. (is_none (get m p), Missing) ∷ [])
 operation_checks m made a (line.FsyncRange text offset count) =

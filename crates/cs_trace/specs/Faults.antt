@@ -1,7 +1,10 @@
 -- What is said of a text that is no trace.
 use Rattle.std.specs.Prelude.{ℕ, List, ◌++◌, codes, decimal}
 use Rattle.cs_trace.specs.declared.fault.TraceFaultKind.{TraceFaultKind}
-use Rattle.cs_trace.specs.declared.fault.TraceFaultKind.TheVariants.{Syntax, UnknownOp, BadName, NoParent, NotDir, Exists, Missing, NotFile, NotEmpty, TooLarge, Memory}
+use Rattle.cs_trace.specs.declared.fault.TraceFaultKind.TheVariants.{Syntax, UnknownOp, BadName}
+use Rattle.cs_trace.specs.declared.fault.TraceFaultKind.TheVariants.{NoParent, NotDir, Exists}
+use Rattle.cs_trace.specs.declared.fault.TraceFaultKind.TheVariants.{Missing, NotFile, NotEmpty}
+use Rattle.cs_trace.specs.declared.fault.TraceFaultKind.TheVariants.{TooLarge, Memory}
 
 abbrev pub kind_text : TraceFaultKind → List ℕ
 kind_text Syntax = codes "Syntax"

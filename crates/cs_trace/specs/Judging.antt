@@ -1,8 +1,11 @@
 -- What a line needs of what stands, and its first fault.
-use Rattle.std.specs.Prelude.{◌≡◌, ◌≤◌, ℕ, ◌+◌, ◌==◌, ◌||◌, ◌&&◌, Bool, true, false, List, length, nat_le, nat_lt, Option, Some, None, slice_index_or, if◌then◌else◌, Result, Ok, Err}
+use Rattle.std.specs.Prelude.{◌≡◌, ◌≤◌, ℕ, ◌+◌, ◌==◌, ◌||◌, ◌&&◌, Bool, true, false, List, length}
+use Rattle.std.specs.Prelude.{nat_le, nat_lt, Option, Some, None, slice_index_or, if◌then◌else◌}
+use Rattle.std.specs.Prelude.{Result, Ok, Err}
 use Rattle.std.specs.FinMap.{get}
 use Rattle.std.specs.Option.{option_and_then, option_map, option_map_or}
-use Rattle.cs_names.specs.declared.limits.TheConstants.{FILE_BYTES, SAY_BYTES, TRACE_PATH_NAMES, TREE_RECORDS}
+use Rattle.cs_names.specs.declared.limits.TheConstants.{FILE_BYTES, SAY_BYTES, TRACE_PATH_NAMES}
+use Rattle.cs_names.specs.declared.limits.TheConstants.{TREE_RECORDS}
 use Rattle.cs_tree_model.specs.Tree.{Path, parent_path}
 use Rattle.cs_trace.specs.Attributes.{Attributes, rights_at, target_of}
 use Rattle.cs_trace.specs.Below.{has_below}
@@ -11,12 +14,17 @@ use Rattle.cs_trace_lines.specs.Lines.{Change, Claims, Mode, Owner, OperationLin
 use Rattle.cs_trace.specs.Names.{entry_path_of, new_path_of, path_of, rights_of, set_path_of}
 use Rattle.cs_trace.specs.Operations.{Paths}
 use Rattle.cs_trace.specs.declared.fault.TraceFaultKind.{TraceFaultKind}
-use Rattle.cs_trace.specs.declared.fault.TraceFaultKind.TheVariants.{Syntax, UnknownOp, BadName, NoParent, NotDir, Exists, Missing, NotFile, NotEmpty, TooLarge, Memory}
+use Rattle.cs_trace.specs.declared.fault.TraceFaultKind.TheVariants.{Syntax, UnknownOp, BadName}
+use Rattle.cs_trace.specs.declared.fault.TraceFaultKind.TheVariants.{NoParent, NotDir, Exists}
+use Rattle.cs_trace.specs.declared.fault.TraceFaultKind.TheVariants.{Missing, NotFile, NotEmpty}
+use Rattle.cs_trace.specs.declared.fault.TraceFaultKind.TheVariants.{TooLarge, Memory}
 use Rattle.cs_trace.specs.declared.operation.Covers.TheVariants as covers
 use Rattle.cs_trace.specs.declared.operation.Node.{Node}
 use Rattle.cs_trace.specs.declared.operation.Node.TheVariants.{Directory, File}
 use Rattle.cs_trace.specs.declared.operation.Operation.{Operation}
-use Rattle.cs_trace.specs.declared.operation.Operation.TheVariants.{Creat, Mkdir, Link, Unlink, Rmdir, Rename, Write, Truncate, SetAttr, Sync, Say}
+use Rattle.cs_trace.specs.declared.operation.Operation.TheVariants.{Creat, Mkdir, Link, Unlink}
+use Rattle.cs_trace.specs.declared.operation.Operation.TheVariants.{Rmdir, Rename, Write, Truncate}
+use Rattle.cs_trace.specs.declared.operation.Operation.TheVariants.{SetAttr, Sync, Say}
 use Rattle.cs_trace.specs.declared.operation.Rights.{Rights}
 use Rattle.cs_trace.specs.declared.operation.Target.{Target}
 
@@ -76,12 +84,12 @@ emptied_at m p = emptied_by (get m p) (has_below m p)
 abbrev pub held_by : Attributes → Path → Node → Option (Target × Rights)
 held_by a p node = option_map (λ rights. (target_of node p, rights)) (rights_at a node p)
 
-abbrev pub held : Paths → Attributes → Path → Option (Target × Rights)
-held m a p = option_and_then (held_by a p) (get m p)
+abbrev pub node_and_rights_at : Paths → Attributes → Path → Option (Target × Rights)
+node_and_rights_at m a p = option_and_then (held_by a p) (get m p)
 
 -- what there is; Missing where there is nothing
-abbrev pub found : {A : Type 0} → Option A → Result A TraceFaultKind
-found here = option_map_or Ok here (Err Missing)
+abbrev pub or_missing : {A : Type 0} → Option A → Result A TraceFaultKind
+or_missing here = option_map_or Ok here (Err Missing)
 
 -- ---- limits
 
@@ -156,13 +164,14 @@ truncate m sizes p size =
     unless_too_large (nat_lt FILE_BYTES size) (Truncate file (size_in sizes file) size))
 
 -- a chmod leaves owner and group as they stand, and a chown the permissions
-abbrev pub changed : Change → Rights → Rights
-changed (Mode permissions) rights = record rights { permissions = permissions }
-changed (Owner owner group) rights = record rights { owner = owner; group = group }
+abbrev pub rights_after : Change → Rights → Rights
+rights_after (Mode permissions) rights = record rights { permissions = permissions }
+rights_after (Owner owner group) rights = record rights { owner = owner; group = group }
 
 abbrev pub set_attr : Paths → Attributes → Path → Change → Result Operation TraceFaultKind
 set_attr m a p change =
-    and_then (found (held m a p)) (λ h. Ok (SetAttr h.0 h.1 (changed change h.1)))
+    and_then (or_missing (node_and_rights_at m a p))
+    (λ h. Ok (SetAttr h.0 h.1 (rights_after change h.1)))
 
 abbrev pub fsync : Paths → Path → Result Operation TraceFaultKind
 fsync m p = covered_by (get m p) p
@@ -177,12 +186,12 @@ say text = unless_too_large (nat_lt SAY_BYTES (length text)) Say
 -- ---- with the names judged first
 
 -- a path that a text spells; one that spells none is BadName
-abbrev pub legal : Option Path → Result Path TraceFaultKind
-legal path = option_map_or Ok path (Err BadName)
+abbrev pub or_bad_name : Option Path → Result Path TraceFaultKind
+or_bad_name path = option_map_or Ok path (Err BadName)
 
 abbrev pub with_path : {A : Type 0}
     → Option Path → (Path → Result A TraceFaultKind) → Result A TraceFaultKind
-with_path path f = and_then (legal path) f
+with_path path f = and_then (or_bad_name path) f
 
 -- the operation of a line, where these paths stand, the files have these sizes, so many records
 -- were made, and files and directories have these attributes; or its first fault

@@ -8,13 +8,13 @@ use Rattle.cs_trace.specs.Entries.{Entries}
 use Rattle.cs_trace.specs.Judging.{AreShort}
 use Rattle.cs_trace.specs.States.{State}
 use Rattle.cs_trace.specs.declared.attributes.Attributes.{Attributes as KeptAttributes}
-use Rattle.cs_trace.specs.declared.entry.Entry.{Entry}
+use Rattle.cs_trace.specs.declared.entry.StartFile.{StartFile}
 use Rattle.cs_trace.specs.declared.operation.Node.{Node}
 use Rattle.cs_trace.specs.declared.operation.Node.TheVariants.{Directory, File}
 use Rattle.cs_trace.specs.declared.operation.Operation.{Operation}
 use Rattle.cs_trace.specs.declared.operation.Operation.TheVariants.{Write}
 use Rattle.cs_trace.specs.declared.operation.Rights.{Rights}
-use Rattle.cs_trace.specs.declared.state.State.{State as KeptState}
+use Rattle.cs_trace.specs.declared.state.LinesSoFar.{LinesSoFar as KeptState}
 
 abbrev pub attributes_of : KeptAttributes → Attributes
 attributes_of a = record { files = a.files.items; directories = a.directories }
@@ -44,7 +44,7 @@ IsWithin _ = Unit {0}
 
 -- no path at the start has too many names
 abbrev pub AreShortAtStart : Entries → Type 0
-AreShortAtStart m = (p : Path) (e : Entry) → get m p ≡ Some e → length p ≤ TRACE_PATH_NAMES
+AreShortAtStart m = (p : Path) (e : StartFile) → get m p ≡ Some e → length p ≤ TRACE_PATH_NAMES
 
 -- no path, now or at the start, has too many names, there are not too many records, and each file
 -- is one of them

@@ -1,5 +1,6 @@
 -- An operation of a trace: where it is legal, and what stands after it.
-use Rattle.std.specs.Prelude.{◌≡◌, ◌≢◌, ◌⊎◌, ◌<◌, ◌≤◌, ℕ, ◌+◌, ◌==◌, List, [], ◌∷◌, ◌++◌, None, Some, length, max, slice_get, slice_set, fold, if◌then◌else◌}
+use Rattle.std.specs.Prelude.{◌≡◌, ◌≢◌, ◌⊎◌, ◌<◌, ◌≤◌, ℕ, ◌+◌, ◌==◌, List, [], ◌∷◌, ◌++◌, None}
+use Rattle.std.specs.Prelude.{Some, length, max, slice_get, slice_set, fold, if◌then◌else◌}
 use Rattle.std.specs.FinMap.{FinMap, get, insert, remove}
 use Rattle.std.specs.Option.{option_map_or}
 use Rattle.cs_names.specs.declared.limits.TheConstants.{FILE_BYTES}
@@ -9,7 +10,9 @@ use Rattle.cs_trace.specs.declared.operation.Node.{Node}
 use Rattle.cs_trace.specs.declared.operation.Node.TheVariants.{Directory, File}
 use Rattle.cs_trace.specs.declared.operation.Operation.{Operation}
 use Rattle.cs_trace.specs.declared.operation.Rights.{Rights}
-use Rattle.cs_trace.specs.declared.operation.Operation.TheVariants.{Creat, Mkdir, Link, Unlink, Rmdir, Rename, Write, Truncate, SetAttr, Sync, Say}
+use Rattle.cs_trace.specs.declared.operation.Operation.TheVariants.{Creat, Mkdir, Link, Unlink}
+use Rattle.cs_trace.specs.declared.operation.Operation.TheVariants.{Rmdir, Rename, Write, Truncate}
+use Rattle.cs_trace.specs.declared.operation.Operation.TheVariants.{SetAttr, Sync, Say}
 use Rattle.cs_trace.specs.declared.operation.Target.TheVariants as targets
 
 -- what stands at each path

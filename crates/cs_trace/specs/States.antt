@@ -1,20 +1,25 @@
 -- What the lines of a trace leave, one after another.
-use Rattle.std.specs.Prelude.{ℕ, ◌+◌, ◌==◌, List, [], ◌∷◌, ◌++◌, length, nat_lt, ◌||◌, Option, Some, None, if◌then◌else◌, Result, Ok, Err}
+use Rattle.std.specs.Prelude.{ℕ, ◌+◌, ◌==◌, List, [], ◌∷◌, ◌++◌, length, nat_lt, ◌||◌, Option, Some}
+use Rattle.std.specs.Prelude.{None, if◌then◌else◌, Result, Ok, Err}
 use Rattle.std.specs.FinMap.{empty, get, insert}
 use Rattle.std.specs.List.{slice_split}
 use Rattle.std.specs.Option.{option_map_or}
 use Rattle.cs_names.specs.declared.limits.TheConstants.{FILE_BYTES}
 use Rattle.cs_tree_model.specs.Tree.{Path}
-use Rattle.cs_trace.specs.Attributes.{Attributes, attributes_after, kept_in, no_attributes, with_directory, with_file}
+use Rattle.cs_trace.specs.Attributes.{Attributes, attributes_after, kept_in, no_attributes}
+use Rattle.cs_trace.specs.Attributes.{with_directory, with_file}
 use Rattle.cs_trace.specs.Entries.{Entries, node_of, size_of}
-use Rattle.cs_trace.specs.Judging.{and_then, free_at, is_too_much, resolve, unless_too_large, with_path}
-use Rattle.cs_trace_lines.specs.Lines.{Claims, Header, Line, Operation, Start, StartLine, StartLink, UnknownOperation, UnknownStart, is_blank, line_in}
+use Rattle.cs_trace.specs.Judging.{and_then, free_at, is_too_much, resolve, unless_too_large}
+use Rattle.cs_trace.specs.Judging.{with_path}
+use Rattle.cs_trace_lines.specs.Lines.{Claims, Header, Line, Operation, Start, StartLine, StartLink}
+use Rattle.cs_trace_lines.specs.Lines.{UnknownOperation, UnknownStart, is_blank, line_in}
 use Rattle.cs_trace.specs.Names.{are_user_names, entry_path_of, new_path_of, rights_of}
 use Rattle.cs_trace.specs.Operations.{Paths, made_by, paths_after, sizes_after}
-use Rattle.cs_trace.specs.declared.entry.Entry.{Entry}
+use Rattle.cs_trace.specs.declared.entry.StartFile.{StartFile}
 use Rattle.cs_trace.specs.declared.fault.TraceFault.{TraceFault}
 use Rattle.cs_trace.specs.declared.fault.TraceFaultKind.{TraceFaultKind}
-use Rattle.cs_trace.specs.declared.fault.TraceFaultKind.TheVariants.{Syntax, UnknownOp, BadName, Missing, NotFile}
+use Rattle.cs_trace.specs.declared.fault.TraceFaultKind.TheVariants.{Syntax, UnknownOp, BadName}
+use Rattle.cs_trace.specs.declared.fault.TraceFaultKind.TheVariants.{Missing, NotFile}
 use Rattle.cs_trace.specs.declared.operation.Operation.{Operation as Resolved}
 use Rattle.cs_trace_lines.specs.declared.version.Version.{Version}
 use Rattle.cs_trace_lines.specs.declared.version.Version.TheVariants.{First}
@@ -34,8 +39,8 @@ pub record State : Type 0 where
   pub attributes : Attributes
   pub operations : List Resolved
 
-abbrev pub nothing : State
-nothing = record {
+abbrev pub empty_state : State
+empty_state = record {
   version = First;
   start = empty;
   files = [];
@@ -50,7 +55,7 @@ nothing = record {
 -- ---- one line more
 
 -- a directory, or a file with its bytes, at the start
-abbrev pub with_entry : State → Path → Entry → Option (List ℕ) → State
+abbrev pub with_entry : State → Path → StartFile → Option (List ℕ) → State
 with_entry s p e None = record s {
   start = insert s.start p e;
   paths = insert s.paths p (node_of e);
@@ -71,7 +76,7 @@ abbrev pub number_for : State → Option (List ℕ) → ℕ
 number_for s None = 0
 number_for s (Some bytes) = length s.sizes
 
-abbrev pub entry_for : State → Claims → Option (List ℕ) → Entry
+abbrev pub entry_for : State → Claims → Option (List ℕ) → StartFile
 entry_for s claims content =
     record { number = number_for s content; rights = rights_of claims; content = content }
 
@@ -79,7 +84,7 @@ abbrev pub with_start : State → Path → Claims → Option (List ℕ) → Stat
 with_start s p claims content = with_entry s p (entry_for s claims content) content
 
 -- one path more, p, for a file at the start: a record of its own, with what the file has
-abbrev pub with_link : State → Path → Entry → State
+abbrev pub with_link : State → Path → StartFile → State
 with_link s p e = record s {
   start = insert s.start p e;
   links = s.links ++ (p, e.number) ∷ [];
@@ -88,13 +93,13 @@ with_link s p e = record s {
 }
 
 -- the root stands in a trace of this version
-abbrev pub begun : State → Version → Claims → State
-begun s version claims = with_start (record s { version = version }) [] claims None
+abbrev pub after_header : State → Version → Claims → State
+after_header s version claims = with_start (record s { version = version }) [] claims None
 
 -- the first line is the header, which tells the version and gives the root
 abbrev pub first_step : State → Line → Result State TraceFaultKind
 first_step s (Header version claims) =
-    if are_user_names claims then Ok (begun s version claims) else Err BadName
+    if are_user_names claims then Ok (after_header s version claims) else Err BadName
 first_step s _ = Err Syntax
 
 -- a file or a directory at the start, where its names are legal
@@ -109,11 +114,11 @@ start_step s line =
     with_path (new_path_of line.path line.claims) (λ p. start_at s p line.claims line.content)
 
 -- the file at a path of the start
-abbrev pub start_file_by : Entry → Option (List ℕ) → Result Entry TraceFaultKind
+abbrev pub start_file_by : StartFile → Option (List ℕ) → Result StartFile TraceFaultKind
 start_file_by e None = Err NotFile
 start_file_by e (Some bytes) = Ok e
 
-abbrev pub start_file_at : Option Entry → Result Entry TraceFaultKind
+abbrev pub start_file_at : Option StartFile → Result StartFile TraceFaultKind
 start_file_at None = Err Missing
 start_file_at (Some e) = start_file_by e e.content
 
@@ -128,8 +133,8 @@ abbrev pub start_link_step : State → List ℕ → List ℕ → Result State Tr
 start_link_step s path from =
     with_path (entry_path_of path) (λ q. with_path (entry_path_of from) (λ p. start_link_at s p q))
 
-abbrev pub taken : State → Resolved → State
-taken s o = record s {
+abbrev pub after_operation : State → Resolved → State
+after_operation s o = record s {
   paths = paths_after s.paths o;
   sizes = sizes_after s.sizes o;
   made = s.made + made_by o;
@@ -145,7 +150,7 @@ later_step s (StartLink path from) =
     if length s.operations == 0 then start_link_step s path from else Err Syntax
 later_step s UnknownStart = if length s.operations == 0 then Err UnknownOp else Err Syntax
 later_step s (Operation line) =
-    and_then (resolve s.paths s.sizes s.made s.attributes line) (λ o. Ok (taken s o))
+    and_then (resolve s.paths s.sizes s.made s.attributes line) (λ o. Ok (after_operation s o))
 later_step s UnknownOperation = Err UnknownOp
 
 abbrev pub line_step : State → Line → Result State TraceFaultKind
@@ -172,7 +177,7 @@ state_from s number (text ∷ lines) =
 
 -- what a trace's lines leave
 abbrev pub state_in : List (List ℕ) → Result State TraceFault
-state_in lines = state_from nothing 1 lines
+state_in lines = state_from empty_state 1 lines
 
 -- the lines of a text, cut at the line feeds
 abbrev pub lines_in : List ℕ → List (List ℕ)

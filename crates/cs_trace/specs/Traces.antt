@@ -1,5 +1,6 @@
 -- A trace: its start tree, and its operations.
-use Rattle.std.specs.Prelude.{◌≡◌, ℕ, ◌+◌, ◌-◌, ◌<◌, ◌≤◌, ◌==◌, true, List, [], length, map, take, Option, None, Some, slice_get, if◌then◌else◌, Result, Ok, Err, IsOk}
+use Rattle.std.specs.Prelude.{◌≡◌, ℕ, ◌+◌, ◌-◌, ◌<◌, ◌≤◌, ◌==◌, true, List, [], length, map, take}
+use Rattle.std.specs.Prelude.{Option, None, Some, slice_get, if◌then◌else◌, Result, Ok, Err, IsOk}
 use Rattle.std.specs.FinMap.{from_entries, get}
 use Rattle.std.specs.List.{All, slice_index_or, sum_by, zip}
 use Rattle.std.specs.List.Sorted.{IsStrictlySortedBy}
@@ -36,12 +37,12 @@ pub record Trace : Type 0 where
 -- ---- the start
 
 -- each record's path with what stands there
-abbrev pub standing : List (Path × Record) → List Node → Paths
-standing records nodes = from_entries (zip (map (λ e. e.0) records) nodes)
+abbrev pub paths_of_records : List (Path × Record) → List Node → Paths
+paths_of_records records nodes = from_entries (zip (map (λ e. e.0) records) nodes)
 
 -- what stands at each path at the start
 abbrev pub start_paths : Trace → Paths
-start_paths t = standing t.records t.nodes
+start_paths t = paths_of_records t.records t.nodes
 
 -- the record at a path
 abbrev pub record_in : List (Path × Record) → Path → Option Record
@@ -137,8 +138,8 @@ pub record IsTrace (t : Trace) : Type 0 where
 -- ---- the trace of a text
 
 -- what the lines leave, as a trace
-abbrev pub whole : State → Trace
-whole s = record {
+abbrev pub trace_of_state : State → Trace
+trace_of_state s = record {
   records = records_in s.start;
   nodes = nodes_in s.start;
   files = s.files;
@@ -149,7 +150,7 @@ whole s = record {
 
 -- with no line that says something there is no header
 abbrev pub trace_of : State → Result Trace TraceFault
-trace_of s = if s.made == 0 then Err (record { line = 1; kind = Syntax }) else Ok (whole s)
+trace_of s = if s.made == 0 then Err (record { line = 1; kind = Syntax }) else Ok (trace_of_state s)
 
 abbrev pub trace_by : List (List ℕ) → Result Trace TraceFault
 trace_by lines = and_then (state_in lines) trace_of

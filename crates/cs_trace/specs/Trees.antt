@@ -7,7 +7,7 @@ use Rattle.cs_tree_model.specs.Tree.{Path}
 use Rattle.cs_trace.specs.Below.{paths_code}
 use Rattle.cs_trace.specs.Entries.{Entries, entries_code, node_of}
 use Rattle.cs_trace.specs.Operations.{Paths}
-use Rattle.cs_trace.specs.declared.entry.Entry.{Entry}
+use Rattle.cs_trace.specs.declared.entry.StartFile.{StartFile}
 
 pub record Tree : Type 0 where
   pub start : Entries
@@ -26,9 +26,9 @@ abbrev pub nodes_by : Entries → Option Paths → Paths
 nodes_by start None = map_values node_of start
 nodes_by start (Some now) = now
 
-abbrev pub bare : Tree
-bare = record { start = empty; nodes = empty }
+abbrev pub empty_tree : Tree
+empty_tree = record { start = empty; nodes = empty }
 
 -- one entry more at the start
-abbrev pub with_start : Tree → Path → Entry → Tree
+abbrev pub with_start : Tree → Path → StartFile → Tree
 with_start t p e = record { start = insert t.start p e; nodes = insert t.nodes p (node_of e) }

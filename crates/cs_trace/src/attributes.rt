@@ -1,7 +1,8 @@
 //! Owner, group and permissions of what stands while a trace is read.
 ghost use Rattle.std.specs.Prelude.{◌≡◌, ◌∷◌, ◌++◌, [], IfOk, OnOk, option_map, slice_set};
 ghost use Rattle.std.specs.FinMap as map;
-ghost use Rattle.cs_trace.specs.Attributes.{attributes_after, no_attributes, rights_at, with_directory, with_file};
+ghost use Rattle.cs_trace.specs.Attributes.{attributes_after, no_attributes, rights_at};
+ghost use Rattle.cs_trace.specs.Attributes.{with_directory, with_file};
 ghost use Rattle.cs_trace.specs.Kept.{attributes_of, with_node};
 
 use crate::operation::{Node, Operation, Rights, Target};

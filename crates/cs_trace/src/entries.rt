@@ -6,7 +6,7 @@ ghost use Rattle.cs_tree_model.specs.Maps.Values.{map_values};
 ghost use Rattle.cs_trace.specs.Below.{has_below};
 ghost use Rattle.cs_trace.specs.Entries.{node_of, nodes_in, records_in};
 
-use crate::entry::Entry;
+use crate::entry::StartFile;
 use crate::operation::Node;
 use crate::standing::Standing;
 use cs_names::Path;
@@ -19,7 +19,7 @@ use std::ops::Bound;
 /// What stands at each path. Contracts see a finite map, in the order of paths.
 #[derive(Drop)]
 pub(crate) struct Entries {
-    by_path: BTreeMap<Path, Entry>,
+    by_path: BTreeMap<Path, StartFile>,
 }
 
 impl Model for Entries {
@@ -43,7 +43,7 @@ impl Entries {
     }
 
     /// The entry at the path. It takes no memory.
-    pub(crate) fn entry(&self, path: &Path) -> Option<&Entry>
+    pub(crate) fn entry(&self, path: &Path) -> Option<&StartFile>
         ensures { option_map (λ entry. entry.now) result ≡ map.get self.now path.now }
     {
         self.by_path.get(path)
@@ -85,7 +85,7 @@ impl Entries {
     }
 
     /// The entry stands at the path. It answers whether something stood there before.
-    pub(crate) fn insert(&mut self, path: Path, entry: Entry) -> Result<bool, AllocError>
+    pub(crate) fn insert(&mut self, path: Path, entry: StartFile) -> Result<bool, AllocError>
         ensures stood { IfOk result (λ stood. stood ≡ is_some (map.get self.old path)) }
         ensures state { OnOk result (self.new ≡ map.insert self.old path entry) }
     {

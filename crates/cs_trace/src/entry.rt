@@ -9,7 +9,7 @@ use std::alloc::{AllocError, Global};
 
 /// A file or a directory, without its path.
 #[derive(Debug, Drop)]
-pub(crate) struct Entry {
+pub(crate) struct StartFile {
     /// The number of a file; a directory has none.
     pub(crate) number: u32,
     pub(crate) rights: Rights,
@@ -25,7 +25,7 @@ fn file_mode(content: &Content, permissions: u16) -> u32
     }
 }
 
-impl Entry {
+impl StartFile {
     pub(crate) fn node(&self) -> Node
         ensures { result ≡ node_of self.now }
     {
@@ -36,10 +36,10 @@ impl Entry {
     }
 
     /// The same entry again, for another path of the file.
-    pub(crate) fn try_clone(&self, alloc: Global) -> Result<Entry, AllocError>
+    pub(crate) fn try_clone(&self, alloc: Global) -> Result<StartFile, AllocError>
         ensures { IfOk result (λ copy. copy ≡ self.now) }
     {
-        Ok(Entry {
+        Ok(StartFile {
             number: self.number,
             rights: self.rights.try_clone()?,
             content: self.content.try_clone(alloc)?,

@@ -2,7 +2,8 @@
 ghost use Rattle.std.specs.Prelude.{◌≡◌, ◌||◌, length, nat_le, nat_lt};
 ghost use Rattle.cs_names.specs.declared.limits.TheConstants.{TRACE_PATH_NAMES, TREE_RECORDS};
 ghost use Rattle.cs_tree_model.specs.Tree.{parent_path};
-ghost use Rattle.cs_trace.specs.Judging.{emptied_at, ends_above, file_at, free_at, is_path_of, size_in, target_at};
+ghost use Rattle.cs_trace.specs.Judging.{emptied_at, ends_above, file_at, free_at, is_path_of};
+ghost use Rattle.cs_trace.specs.Judging.{size_in, target_at};
 
 use crate::fault::TraceFaultKind;
 use crate::operation::Node;

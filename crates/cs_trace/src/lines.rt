@@ -4,7 +4,7 @@ ghost use Rattle.cs_trace.specs.Judging.{IsPastNames};
 ghost use Rattle.cs_trace.specs.Kept.{IsBounded, state_of};
 ghost use Rattle.cs_trace_lines.specs.Lines.{is_blank, line_in};
 ghost use Rattle.cs_trace.specs.Outcomes.{Leaves};
-ghost use Rattle.cs_trace_lines.specs.Said.{line_said, operation_said};
+ghost use Rattle.cs_trace_lines.specs.Said.{line_value, operation_value};
 ghost use Rattle.cs_trace.specs.States.{first_step, later_step, lines_in, state_in, step};
 ghost use Rattle.cs_trace_lines.specs.Lines as said;
 ghost use Rattle.cs_trace.specs.Traces.{MayWant};
@@ -13,13 +13,13 @@ ghost use Rattle.cs_trace.specs.declared.fault.TraceFaultKind.TheVariants.{Memor
 use crate::fault::{TraceFault, TraceFaultKind};
 use crate::resolve::resolve;
 use crate::start::{take_header, take_link, take_start};
-use crate::state::State;
+use crate::state::LinesSoFar;
 use cs_trace_lines::{Line, LineFault, OperationLine, Version, is_blank, read_line};
 use std::alloc::Global;
 
 /// What a line that isn't blank says.
 fn read(alloc: Global, version: Version, text: &str) -> Result<Line, TraceFaultKind>
-    ensures read { IfOk result (λ line. line_in version text.now ≡ Some (line_said line)) }
+    ensures read { IfOk result (λ line. line_in version text.now ≡ Some (line_value line)) }
     ensures fault { IfErr result (λ kind. kind ≢ Memory → kind ≡ Syntax) }
     ensures none { IfErr result (λ kind. kind ≢ Memory → line_in version text.now ≡ None) }
 {
@@ -33,12 +33,12 @@ fn read(alloc: Global, version: Version, text: &str) -> Result<Line, TraceFaultK
 /// An operation after the header.
 fn take_operation(
     alloc: Global,
-    state: &mut State,
+    state: &mut LinesSoFar,
     line: OperationLine,
 ) -> Result<(), TraceFaultKind>
     requires { IsBounded (state_of state.old) }
     ensures { Leaves
-        (later_step (state_of state.old) (said.Operation (operation_said line)))
+        (later_step (state_of state.old) (said.Operation (operation_value line)))
         result (state_of state.new) IsPastNames }
 {
     let operation = resolve(alloc, state, line)?;
@@ -47,10 +47,10 @@ fn take_operation(
 }
 
 /// The first line that isn't blank, which is the header.
-fn take_first(alloc: Global, state: &mut State, line: Line) -> Result<(), TraceFaultKind>
+fn take_first(alloc: Global, state: &mut LinesSoFar, line: Line) -> Result<(), TraceFaultKind>
     requires { IsBounded (state_of state.old) }
     ensures { Leaves
-        (first_step (state_of state.old) (line_said line))
+        (first_step (state_of state.old) (line_value line))
         result (state_of state.new) IsPastNames }
 {
     match line {
@@ -60,10 +60,10 @@ fn take_first(alloc: Global, state: &mut State, line: Line) -> Result<(), TraceF
 }
 
 /// A line after the header that isn't blank: first those of the start, and then operations.
-fn take_later(alloc: Global, state: &mut State, line: Line) -> Result<(), TraceFaultKind>
+fn take_later(alloc: Global, state: &mut LinesSoFar, line: Line) -> Result<(), TraceFaultKind>
     requires { IsBounded (state_of state.old) }
     ensures { Leaves
-        (later_step (state_of state.old) (line_said line))
+        (later_step (state_of state.old) (line_value line))
         result (state_of state.new) IsPastNames }
 {
     let is_start = state.operations.is_empty();
@@ -81,7 +81,7 @@ fn take_later(alloc: Global, state: &mut State, line: Line) -> Result<(), TraceF
 }
 
 /// One line more.
-fn take(alloc: Global, state: &mut State, text: &str) -> Result<(), TraceFaultKind>
+fn take(alloc: Global, state: &mut LinesSoFar, text: &str) -> Result<(), TraceFaultKind>
     requires { IsBounded (state_of state.old) }
     ensures { Leaves
         (step (state_of state.old) text.now)
@@ -99,14 +99,14 @@ fn take(alloc: Global, state: &mut State, text: &str) -> Result<(), TraceFaultKi
 }
 
 /// What all lines of the text leave.
-pub(crate) fn take_lines(alloc: Global, text: &str) -> Result<State, TraceFault>
+pub(crate) fn take_lines(alloc: Global, text: &str) -> Result<LinesSoFar, TraceFault>
     ensures done { IfOk result (λ state. state_in (lines_in text.now) ≡ Ok (state_of state)) }
     ensures fault { IfErr result (λ fault. fault.kind ≢ Memory
         → state_in (lines_in text.now) ≡ Err fault) }
     ensures memory { IfErr result (λ fault. fault.kind ≡ Memory
         → MayWant (lines_in text.now) fault.line) }
 {
-    let mut state = State::new(alloc);
+    let mut state = LinesSoFar::new(alloc);
     for (i, line) in text.split('\n').enumerate() {
         if let Err(kind) = take(alloc, &mut state, line) {
             return Err(TraceFault { line: i + 1, kind });

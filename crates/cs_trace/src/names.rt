@@ -1,7 +1,7 @@
 //! The names of users and groups in a line: judged without memory, and kept.
 ghost use Rattle.std.specs.Prelude.{◌≡◌, IfOk};
 ghost use Rattle.cs_trace.specs.Names.{are_set_names, are_user_names, is_user_name};
-ghost use Rattle.cs_trace_lines.specs.Said.{change_said, claims_of};
+ghost use Rattle.cs_trace_lines.specs.Said.{change_value, claims_of};
 
 use cs_names::UserName;
 use cs_trace_lines::{Change, Claims};
@@ -21,7 +21,7 @@ pub(crate) fn are_user_names(claims: &Claims) -> bool
 
 /// Whether what is set has legal names.
 pub(crate) fn are_set_names(change: &Change) -> bool
-    ensures { result ≡ are_set_names (change_said change.now) }
+    ensures { result ≡ are_set_names (change_value change.now) }
 {
     match change {
         Change::Mode(_) => true,

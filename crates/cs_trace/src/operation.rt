@@ -1,9 +1,9 @@
 //! The operations of a trace, with the files that they name found.
 ghost use Rattle.std.specs.Prelude.{◌≡◌, IfOk};
 ghost use Rattle.cs_trace.specs.Attributes.{target_of};
-ghost use Rattle.cs_trace.specs.Judging.{changed};
+ghost use Rattle.cs_trace.specs.Judging.{rights_after};
 ghost use Rattle.cs_trace.specs.Names.{rights_of};
-ghost use Rattle.cs_trace_lines.specs.Said.{change_said, claims_of};
+ghost use Rattle.cs_trace_lines.specs.Said.{change_value, claims_of};
 
 use crate::names::keep_user_name;
 use cs_names::{Bytes, Path, UserName};
@@ -144,7 +144,7 @@ impl Rights {
 
     /// The rights with other permissions, or with an owner and a group whose names are legal.
     pub(crate) fn changed(&self, alloc: Global, change: &Change) -> Result<Rights, AllocError>
-        ensures { IfOk result (λ rights. rights ≡ changed (change_said change.now) self.now) }
+        ensures { IfOk result (λ rights. rights ≡ rights_after (change_value change.now) self.now) }
     {
         let mut rights = self.try_clone()?;
         match change {

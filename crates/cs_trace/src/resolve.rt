@@ -1,11 +1,13 @@
 //! An operation's line in what stands: its paths are judged, then kept, and then what it needs is
 //! asked.
 ghost use Rattle.std.specs.Prelude.{◌≡◌, ◌<◌, ◌^◌, length};
-ghost use Rattle.cs_trace.specs.Judging.{AreShort, IsPastNames, creat, fsync, fsync_range, legal, link, mkdir, rename, resolve, rmdir, say, set_attr, truncate, unlink, write};
+ghost use Rattle.cs_trace.specs.Judging.{AreShort, IsPastNames, creat, fsync, fsync_range};
+ghost use Rattle.cs_trace.specs.Judging.{or_bad_name, link, mkdir, rename, resolve, rmdir, say};
+ghost use Rattle.cs_trace.specs.Judging.{set_attr, truncate, unlink, write};
 ghost use Rattle.cs_trace.specs.Kept.{IsWithin, attributes_of};
 ghost use Rattle.cs_trace.specs.Names.{entry_path_of, new_path_of, path_of, set_path_of};
 ghost use Rattle.cs_trace.specs.Outcomes.{Gives};
-ghost use Rattle.cs_trace_lines.specs.Said.{change_said, claims_of, operation_said};
+ghost use Rattle.cs_trace_lines.specs.Said.{change_value, claims_of, operation_value};
 
 use crate::fault::TraceFaultKind;
 use crate::judge::{
@@ -15,7 +17,7 @@ use crate::judge::{
 use crate::names::{are_set_names, are_user_names};
 use crate::operation::{Covers, Node, Operation, Rights, Target};
 use crate::path_text::PathText;
-use crate::state::State;
+use crate::state::LinesSoFar;
 use crate::tree::Tree;
 use cs_names::limits::{FILE_BYTES, SAY_BYTES};
 use cs_names::{Bytes, Path};
@@ -24,21 +26,21 @@ use std::alloc::Global;
 
 /// A path, which may be the root's.
 fn any_path(text: &str) -> Result<PathText<'_>, TraceFaultKind>
-    ensures { result ≡ legal (path_of text.now) }
+    ensures { result ≡ or_bad_name (path_of text.now) }
 {
     PathText::of(text).ok_or(TraceFaultKind::BadName)
 }
 
 /// The path of an entry.
 pub(crate) fn entry_path(text: &str) -> Result<PathText<'_>, TraceFaultKind>
-    ensures { result ≡ legal (entry_path_of text.now) }
+    ensures { result ≡ or_bad_name (entry_path_of text.now) }
 {
     PathText::of_entry(text).ok_or(TraceFaultKind::BadName)
 }
 
 /// The path of a new entry, whose owner and group are judged with it.
 pub(crate) fn new_path<'a>(text: &'a str, claims: &Claims) -> Result<PathText<'a>, TraceFaultKind>
-    ensures { result ≡ legal (new_path_of text.now (claims_of claims.now)) }
+    ensures { result ≡ or_bad_name (new_path_of text.now (claims_of claims.now)) }
 {
     let path = entry_path(text)?;
     if !are_user_names(claims) {
@@ -49,7 +51,7 @@ pub(crate) fn new_path<'a>(text: &'a str, claims: &Claims) -> Result<PathText<'a
 
 /// The path of what is set, whose names are judged with it.
 fn set_path<'a>(text: &'a str, change: &Change) -> Result<PathText<'a>, TraceFaultKind>
-    ensures { result ≡ legal (set_path_of text.now (change_said change.now)) }
+    ensures { result ≡ or_bad_name (set_path_of text.now (change_value change.now)) }
 {
     let path = any_path(text)?;
     if !are_set_names(change) {
@@ -61,7 +63,7 @@ fn set_path<'a>(text: &'a str, change: &Change) -> Result<PathText<'a>, TraceFau
 #[tactic(auto, using(crate::proofs::Past::nothing_above, crate::proofs::Past::past_creat))]
 fn creat(
     alloc: Global,
-    state: &State,
+    state: &LinesSoFar,
     path: &PathText<'_>,
     claims: &Claims,
 ) -> Result<Operation, TraceFaultKind>
@@ -177,7 +179,7 @@ fn rename(
 #[tactic(auto, using(crate::proofs::Past::nothing_at, crate::proofs::Past::past_write))]
 fn write(
     alloc: Global,
-    state: &State,
+    state: &LinesSoFar,
     path: &PathText<'_>,
     offset: u64,
     bytes: Vec<u8>,
@@ -203,7 +205,7 @@ fn write(
 #[tactic(auto, using(crate::proofs::Past::nothing_at, crate::proofs::Past::past_truncate))]
 fn truncate(
     alloc: Global,
-    state: &State,
+    state: &LinesSoFar,
     path: &PathText<'_>,
     length: u64,
 ) -> Result<Operation, TraceFaultKind>
@@ -225,14 +227,14 @@ fn truncate(
 #[tactic(auto, using(crate::proofs::Past::nothing_at, crate::proofs::Past::past_set_attr))]
 fn set_attr(
     alloc: Global,
-    state: &State,
+    state: &LinesSoFar,
     path: &PathText<'_>,
     change: &Change,
 ) -> Result<Operation, TraceFaultKind>
     requires { AreShort state.now.tree.nodes }
     ensures { Gives
         (set_attr state.now.tree.nodes (attributes_of state.now.attributes)
-        path.now (change_said change.now))
+        path.now (change_value change.now))
         result IsPastNames }
 {
     let path = path.keep_or(alloc, TraceFaultKind::Missing)?;
@@ -298,14 +300,14 @@ fn say(text: &str) -> Result<Operation, TraceFaultKind>
 #[tactic(auto, using(crate::proofs::Past::past_say))]
 pub(crate) fn resolve(
     alloc: Global,
-    state: &State,
+    state: &LinesSoFar,
     line: OperationLine,
 ) -> Result<Operation, TraceFaultKind>
     requires short { AreShort state.now.tree.nodes }
     requires few { length state.now.sizes.items < 2 ^ 32 }
     ensures { Gives
         (resolve state.now.tree.nodes state.now.sizes.items state.now.made
-        (attributes_of state.now.attributes) (operation_said line))
+        (attributes_of state.now.attributes) (operation_value line))
         result IsPastNames }
 {
     let tree = &state.tree;

@@ -1,20 +1,23 @@
 //! The header and the start lines, each where the state stands.
-ghost use Rattle.std.specs.Prelude.{◌≡◌, ◌≢◌, ◌<◌, ◌^◌, IfErr, IfOk, IsOk, OnOk, None, Some, Ok, Err, length};
+ghost use Rattle.std.specs.Prelude.{◌≡◌, ◌≢◌, ◌<◌, ◌^◌, IfErr, IfOk, IsOk, OnOk, None, Some, Ok};
+ghost use Rattle.std.specs.Prelude.{Err, length};
 ghost use Rattle.std.specs.FinMap as map;
 ghost use Rattle.std.specs.Option.{is_some, option_map};
 ghost use Rattle.cs_tree_model.specs.Tree.{parent_path};
 ghost use Rattle.cs_trace.specs.Entries.{node_of, size_of};
-ghost use Rattle.cs_trace.specs.Judging.{IsPastNames, free_at, legal};
+ghost use Rattle.cs_trace.specs.Judging.{IsPastNames, free_at, or_bad_name};
 ghost use Rattle.cs_trace.specs.Kept.{IsBounded, state_of};
 ghost use Rattle.cs_trace_lines.specs.Lines.{Header};
 ghost use Rattle.cs_trace.specs.Names.{new_path_of};
 ghost use Rattle.cs_trace.specs.Outcomes.{Leaves};
 ghost use Rattle.cs_trace_lines.specs.Said.{claims_of, start_of};
-ghost use Rattle.cs_trace.specs.States.{entry_for, first_step, start_at, start_file_at, start_link_at, start_link_step, start_step, with_entry, with_link};
+ghost use Rattle.cs_trace.specs.States.{entry_for, first_step, start_at, start_file_at};
+ghost use Rattle.cs_trace.specs.States.{start_link_at, start_link_step, start_step, with_entry};
+ghost use Rattle.cs_trace.specs.States.{with_link};
 ghost use Rattle.cs_trace.specs.declared.fault.TraceFaultKind.TheVariants.{Memory};
 ghost use Rattle.cs_trace.specs.declared.operation.Node.TheVariants.{Directory};
 
-use crate::entry::Entry;
+use crate::entry::StartFile;
 use crate::fault::TraceFaultKind;
 use crate::judge::{check_free, is_too_much};
 use crate::names::are_user_names;
@@ -22,7 +25,7 @@ use crate::near::Near;
 use crate::operation::{Node, Rights};
 use crate::path_text::PathText;
 use crate::resolve::{entry_path, new_path};
-use crate::state::State;
+use crate::state::LinesSoFar;
 use crate::tree::Tree;
 use cs_names::Path;
 use cs_names::limits::FILE_BYTES;
@@ -42,22 +45,22 @@ fn size_of(content: &Option<Vec<u8>>) -> u64
 /// A file with its number, or a directory.
 fn keep_entry(
     alloc: Global,
-    state: &State,
+    state: &LinesSoFar,
     claims: &Claims,
     content: Option<Vec<u8>>,
-) -> Result<Entry, AllocError>
+) -> Result<StartFile, AllocError>
     requires { length state.now.sizes.items < 2 ^ 32 }
     ensures { IfOk result (λ entry. entry ≡ entry_for (state_of state.now)
         (claims_of claims.now) (option_map (λ bytes. bytes.items) content)) }
 {
     let rights = Rights::keep(alloc, claims)?;
     Ok(match content {
-        None => Entry {
+        None => StartFile {
             number: 0,
             rights,
             content: Content::directory(),
         },
-        Some(bytes) => Entry {
+        Some(bytes) => StartFile {
             number: state.sizes.len() as u32,
             rights,
             content: Content::file(bytes),
@@ -66,7 +69,12 @@ fn keep_entry(
 }
 
 /// One entry more at the start. It answers whether something stood there before.
-fn place(alloc: Global, state: &mut State, path: Path, entry: Entry) -> Result<bool, AllocError>
+fn place(
+    alloc: Global,
+    state: &mut LinesSoFar,
+    path: Path,
+    entry: StartFile,
+) -> Result<bool, AllocError>
     requires { state.old.made < 2 ^ 32 }
     ensures stood { IfOk result (λ stood. stood ≡ is_some (map.get state.old.tree.nodes path)) }
     ensures state { OnOk result (state_of state.new
@@ -119,7 +127,7 @@ fn find_above(
 #[tactic(auto, using(crate::proofs::Past::past_start_at))]
 fn start_in(
     alloc: Global,
-    state: &mut State,
+    state: &mut LinesSoFar,
     path: Path,
     names: usize,
     above: Near,
@@ -156,7 +164,7 @@ fn start_path<'a>(
     path: &'a str,
     claims: &Claims,
 ) -> Result<PathText<'a>, TraceFaultKind>
-    ensures { result ≡ legal (new_path_of path.now (claims_of claims.now)) }
+    ensures { result ≡ or_bad_name (new_path_of path.now (claims_of claims.now)) }
 {
     let Some(entry) = tree.near_entry(path) else {
         return new_path(path, claims);
@@ -171,7 +179,7 @@ fn start_path<'a>(
 #[tactic(auto, using(crate::proofs::Past::nothing_above, crate::proofs::Past::past_start_at))]
 fn start(
     alloc: Global,
-    state: &mut State,
+    state: &mut LinesSoFar,
     text: &PathText<'_>,
     claims: &Claims,
     content: Option<Vec<u8>>,
@@ -190,7 +198,7 @@ fn start(
 /// A file or a directory after the header.
 pub(crate) fn take_start(
     alloc: Global,
-    state: &mut State,
+    state: &mut LinesSoFar,
     line: StartLine,
 ) -> Result<(), TraceFaultKind>
     requires { IsBounded (state_of state.old) }
@@ -208,7 +216,7 @@ pub(crate) fn take_start(
 }
 
 /// The file at the path of the start.
-fn start_file<'a>(tree: &'a Tree, path: &Path) -> Result<&'a Entry, TraceFaultKind>
+fn start_file<'a>(tree: &'a Tree, path: &Path) -> Result<&'a StartFile, TraceFaultKind>
     ensures file { IfOk result (λ entry.
         start_file_at (map.get tree.now.start path.now) ≡ Ok entry.now) }
     ensures fault { IfErr result (λ kind.
@@ -224,7 +232,12 @@ fn start_file<'a>(tree: &'a Tree, path: &Path) -> Result<&'a Entry, TraceFaultKi
 }
 
 /// One path more for a file of the start, which has this entry.
-fn place_link(alloc: Global, state: &mut State, path: Path, entry: Entry) -> Result<(), AllocError>
+fn place_link(
+    alloc: Global,
+    state: &mut LinesSoFar,
+    path: Path,
+    entry: StartFile,
+) -> Result<(), AllocError>
     requires { state.old.made < 2 ^ 32 }
     ensures { OnOk result (state_of state.new ≡ with_link (state_of state.old) path entry) }
 {
@@ -238,7 +251,7 @@ fn place_link(alloc: Global, state: &mut State, path: Path, entry: Entry) -> Res
 #[tactic(auto, using(crate::proofs::Past::nothing_above, crate::proofs::Past::no_start_at, crate::proofs::Past::past_start_link_at))]
 fn link(
     alloc: Global,
-    state: &mut State,
+    state: &mut LinesSoFar,
     from: &PathText<'_>,
     to: &PathText<'_>,
 ) -> Result<(), TraceFaultKind>
@@ -263,7 +276,7 @@ fn link(
 /// A link after the header.
 pub(crate) fn take_link(
     alloc: Global,
-    state: &mut State,
+    state: &mut LinesSoFar,
     path: &str,
     from: &str,
 ) -> Result<(), TraceFaultKind>
@@ -280,7 +293,7 @@ pub(crate) fn take_link(
 /// The first line that isn't blank: the header tells the version and gives the root.
 pub(crate) fn take_header(
     alloc: Global,
-    state: &mut State,
+    state: &mut LinesSoFar,
     version: Version,
     claims: &Claims,
 ) -> Result<(), TraceFaultKind>

@@ -1,9 +1,10 @@
 //! What the lines of a trace leave.
-ghost use Rattle.std.specs.Prelude.{◌≡◌, ◌<◌, ◌≤◌, ◌+◌, ◌^◌, IfOk, OnOk, List, ℕ, length, slice_set};
+ghost use Rattle.std.specs.Prelude.{◌≡◌, ◌<◌, ◌≤◌, ◌+◌, ◌^◌, IfOk, OnOk, List, ℕ, length};
+ghost use Rattle.std.specs.Prelude.{slice_set};
 ghost use Rattle.cs_names.specs.declared.limits.TheConstants.{TREE_RECORDS};
 ghost use Rattle.cs_trace.specs.Kept.{IsWithin, state_of};
 ghost use Rattle.cs_trace.specs.Operations.{made_by, paths_after, sizes_after, written_size};
-ghost use Rattle.cs_trace.specs.States.{nothing, taken};
+ghost use Rattle.cs_trace.specs.States.{empty_state, after_operation};
 
 use crate::attributes::Attributes;
 use crate::operation::{Node, Operation};
@@ -14,7 +15,7 @@ use std::alloc::{AllocError, Global};
 
 /// What the lines so far leave.
 #[derive(Drop)]
-pub(crate) struct State {
+pub(crate) struct LinesSoFar {
     /// The first, until the header tells another.
     pub(crate) version: Version,
     /// What stood at the start, and what stands now.
@@ -134,12 +135,12 @@ fn made_by(operation: &Operation) -> usize
     }
 }
 
-impl State {
+impl LinesSoFar {
     /// Before the first line.
-    pub(crate) fn new(alloc: Global) -> State
-        ensures { state_of result ≡ nothing }
+    pub(crate) fn new(alloc: Global) -> LinesSoFar
+        ensures { state_of result ≡ empty_state }
     {
-        State {
+        LinesSoFar {
             version: Version::First,
             tree: Tree::new(alloc),
             files: Vec::new(alloc),
@@ -155,7 +156,7 @@ impl State {
     pub(crate) fn take(&mut self, alloc: Global, operation: Operation) -> Result<(), AllocError>
         requires within { IsWithin operation }
         requires few { self.old.made ≤ TREE_RECORDS }
-        ensures { OnOk result (state_of self.new ≡ taken (state_of self.old) operation) }
+        ensures { OnOk result (state_of self.new ≡ after_operation (state_of self.old) operation) }
     {
         move_paths(alloc, &mut self.tree, &operation)?;
         change_sizes(&mut self.sizes, &operation)?;

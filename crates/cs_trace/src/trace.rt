@@ -1,5 +1,6 @@
 //! A trace: the tree at its start, and its operations.
-ghost use Rattle.std.specs.Prelude.{◌≡◌, ◌≢◌, ◌≤◌, ℕ, List, Some, IfErr, IfOk, Ok, Err, length, map, slice_get};
+ghost use Rattle.std.specs.Prelude.{◌≡◌, ◌≢◌, ◌≤◌, ℕ, List, Some, IfErr, IfOk, Ok, Err, length};
+ghost use Rattle.std.specs.Prelude.{map, slice_get};
 ghost use Rattle.std.specs.FinMap.{get};
 ghost use Rattle.std.specs.List.{All};
 ghost use Rattle.std.specs.List.Sorted.{IsStrictlySortedBy};
@@ -10,13 +11,15 @@ ghost use Rattle.cs_trace.specs.Checks.{IsFaultOf};
 ghost use Rattle.cs_trace.specs.Kept.{state_of};
 ghost use Rattle.cs_trace.specs.Operations.{AreLegal, AreNested};
 ghost use Rattle.cs_trace.specs.States.{lines_in};
-ghost use Rattle.cs_trace.specs.Traces.{AreLinks, AreNodesOf, AreUnchanged, IsPathOf, IsTrace, MayWant, StandsAs, record_in, records_made, start_paths, start_sizes, trace_in, whole};
+ghost use Rattle.cs_trace.specs.Traces.{AreLinks, AreNodesOf, AreUnchanged, IsPathOf, IsTrace};
+ghost use Rattle.cs_trace.specs.Traces.{MayWant, StandsAs, record_in, records_made, start_paths};
+ghost use Rattle.cs_trace.specs.Traces.{start_sizes, trace_in, trace_of_state};
 ghost use Rattle.cs_trace.specs.declared.fault.TraceFaultKind.TheVariants.{Memory};
 
 use crate::fault::{TraceFault, TraceFaultKind};
 use crate::lines::{line_count, take_lines};
 use crate::operation::{Node, Operation};
-use crate::state::State;
+use crate::state::LinesSoFar;
 use cs_names::Path;
 use cs_trace_lines::Version;
 use cs_tree_model::Record;
@@ -132,9 +135,9 @@ impl Trace {
 }
 
 /// The state after the last line, as a trace.
-fn finish(alloc: Global, state: State) -> Result<Trace, AllocError>
-    requires { IsTrace (whole (state_of state)) }
-    ensures { IfOk result (λ trace. trace ≡ whole (state_of state)) }
+fn finish(alloc: Global, state: LinesSoFar) -> Result<Trace, AllocError>
+    requires { IsTrace (trace_of_state (state_of state)) }
+    ensures { IfOk result (λ trace. trace ≡ trace_of_state (state_of state)) }
 {
     let (records, nodes) = state.tree.into_start(alloc)?;
     Ok(Trace {

@@ -6,11 +6,11 @@ ghost use Rattle.cs_tree_model.specs.Tree.{parent_path};
 ghost use Rattle.cs_trace.specs.Below.{has_below};
 ghost use Rattle.cs_trace.specs.Entries.{nodes_in, records_in};
 ghost use Rattle.cs_trace.specs.Names.{entry_path_of};
-ghost use Rattle.cs_trace.specs.Trees.{bare, with_start};
+ghost use Rattle.cs_trace.specs.Trees.{empty_tree, with_start};
 ghost use Rattle.cs_trace.specs.declared.operation.Node.TheVariants.{Directory};
 
 use crate::entries::Entries;
-use crate::entry::Entry;
+use crate::entry::StartFile;
 use crate::near::Near;
 use crate::operation::Node;
 use crate::path_text::PathText;
@@ -53,7 +53,7 @@ impl Model for Tree {
 
 impl Tree {
     pub(crate) fn new(alloc: Global) -> Tree
-        ensures { result ≡ bare }
+        ensures { result ≡ empty_tree }
     {
         Tree {
             start: Entries::new(alloc),
@@ -73,7 +73,7 @@ impl Tree {
     }
 
     /// The entry at the path at the start. It takes no memory.
-    pub(crate) fn start_entry(&self, path: &Path) -> Option<&Entry>
+    pub(crate) fn start_entry(&self, path: &Path) -> Option<&StartFile>
         ensures { option_map (λ entry. entry.now) result ≡ map.get self.now.start path.now }
     {
         self.start.entry(path)
@@ -127,7 +127,7 @@ impl Tree {
         &mut self,
         alloc: Global,
         path: Path,
-        entry: Entry,
+        entry: StartFile,
     ) -> Result<bool, AllocError>
         ensures stood { IfOk result (λ stood. stood ≡ is_some (map.get self.old.nodes path)) }
         ensures state { OnOk result (self.new ≡ with_start self.old path entry) }

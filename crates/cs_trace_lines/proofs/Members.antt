@@ -1,5 +1,6 @@
 -- One member more, in the fields of an object.
-use Rattle.std.proofs.Common.{◌≡◌, ℕ, Bool, true, false, not, ◌||◌, List, Ordering, Less, Equal, Greater, nat_cmp, codes, refl, sym, ap, ◌∙◌}
+use Rattle.std.proofs.Common.{◌≡◌, ℕ, Bool, true, false, not, ◌||◌, List, Ordering, Less, Equal, Greater, nat_cmp, codes, refl, sym, ap}
+use Rattle.std.proofs.Common.{◌∙◌}
 use Rattle.std.proofs.lemmas.Bool.{false≢true}
 use Rattle.std.proofs.lemmas.Map.Text.{is_eq-slice_cmp}
 use Rattle.std.proofs.lemmas.Slice.Eq.{bytes_eq-Decides}
@@ -11,14 +12,16 @@ use Rattle.serde_json.proofs.Views.{get_member-put, get_member-put_other}
 use Rattle.cs_trace_lines.specs.Fields.{field_at, field_of, fields_of, has_others, is_key, is_known}
 use Rattle.cs_trace_lines.specs.Reading.{replaced_if, with_field}
 
-put_by : (same : Bool) (key k : List ℕ) (d : Data) (ms : Members) → is_key k key ≡ same → field_at key (put k d ms) ≡ replaced_if same (field_of d) (field_at key ms)
+put_by : (same : Bool) (key k : List ℕ) (d : Data) (ms : Members) → is_key k key ≡ same
+    → field_at key (put k d ms) ≡ replaced_if same (field_of d) (field_at key ms)
 put_by true key k d ms is =
     let here : k ≡ key = (bytes_eq-Decides k key).0 is in
     ap (λ name. field_at name (put k d ms)) (sym here) ∙ ap (option_map field_of) (get_member-put k d ms)
 put_by false key k d ms is =
     ap (option_map field_of) (get_member-put_other key k d ms (λ here. false≢true (sym is ∙ (bytes_eq-Decides k key).1 (sym here))))
 
-field_at-put : (key k : List ℕ) (d : Data) (ms : Members) → field_at key (put k d ms) ≡ replaced_if (is_key k key) (field_of d) (field_at key ms)
+field_at-put : (key k : List ℕ) (d : Data) (ms : Members)
+    → field_at key (put k d ms) ≡ replaced_if (is_key k key) (field_of d) (field_at key ms)
 field_at-put key k d ms = put_by (is_key k key) key k d ms refl
 
 swapped : (a b c : Bool) → a || (b || c) ≡ b || (a || c)
@@ -30,13 +33,16 @@ once : (a c : Bool) → a || c ≡ a || (a || c)
 once true c = refl
 once false c = refl
 
-others_by : (o : Ordering) (k l : List ℕ) (d e : Data) (ms : Members) → slice_cmp nat_cmp k l ≡ o → has_others (put k d ms) ≡ not (is_known k) || has_others ms
-    → has_others (match_ordering o (member k d (member l e ms)) (member l d ms) (member l e (put k d ms))) ≡ not (is_known k) || (not (is_known l) || has_others ms)
+others_by : (o : Ordering) (k l : List ℕ) (d e : Data) (ms : Members) → slice_cmp nat_cmp k l ≡ o
+    → has_others (put k d ms) ≡ not (is_known k) || has_others ms
+    → has_others (match_ordering o (member k d (member l e ms)) (member l d ms) (member l e (put k d ms))) ≡ not (is_known k)
+    || (not (is_known l) || has_others ms)
 others_by Less k l d e ms is later = refl
 others_by Equal k l d e ms is later =
     let same : k ≡ l = (bytes_eq-Decides k l).0 (sym (is_eq-slice_cmp k l) ∙ ap is_eq is) in
     once (not (is_known l)) (has_others ms) ∙ ap (λ name. not (is_known name) || (not (is_known l) || has_others ms)) (sym same)
-others_by Greater k l d e ms is later = ap (λ b. not (is_known l) || b) later ∙ swapped (not (is_known l)) (not (is_known k)) (has_others ms)
+others_by Greater k l d e ms is later =
+    ap (λ b. not (is_known l) || b) later ∙ swapped (not (is_known l)) (not (is_known k)) (has_others ms)
 
 has_others-put : (k : List ℕ) (d : Data) (ms : Members) → has_others (put k d ms) ≡ not (is_known k) || has_others ms
 has_others-put k d no_members = refl

@@ -5,7 +5,11 @@ use Rattle.std.specs.Option.{option_and_then, option_map, option_map_or}
 use Rattle.std.specs.Prelude.{if◌then◌else◌, ◌&&◌}
 use Rattle.serde_json.specs.Read.{read}
 use Rattle.cs_trace_lines.specs.Fields.{Field, Fields, fields_in}
-use Rattle.cs_trace_lines.specs.Lines.{Change, Claims, Header, Line, Mode, Operation, OperationLine, Owner, Creat, Mkdir, SetAttr, Sync, Start, StartLink, UnknownOperation, UnknownStart, claims_in, content_in, has_only, header_in, header_key_count, header_with, is_octal, key_count, kind_in, line_by, line_in, line_of, mode_in, operation_named, operation_of, operation_with, permissions_in, start_key_count, start_line_named, start_line_with, start_under, start_with, text_in, verb_in, version_in, whole_in}
+use Rattle.cs_trace_lines.specs.Lines.{Change, Claims, Header, Line, Mode, Operation, OperationLine, Owner, Creat, Mkdir, SetAttr, Sync}
+use Rattle.cs_trace_lines.specs.Lines.{Start, StartLink, UnknownOperation, UnknownStart, claims_in, content_in, has_only, header_in}
+use Rattle.cs_trace_lines.specs.Lines.{header_key_count, header_with, is_octal, key_count, kind_in, line_by, line_in, line_of, mode_in}
+use Rattle.cs_trace_lines.specs.Lines.{operation_named, operation_of, operation_with, permissions_in, start_key_count, start_line_named}
+use Rattle.cs_trace_lines.specs.Lines.{start_line_with, start_under, start_with, text_in, verb_in, version_in, whole_in}
 use Rattle.cs_trace_lines.specs.declared.start.StartKind.{StartKind}
 use Rattle.cs_trace_lines.specs.declared.start.StartKind.TheVariants as kind
 use Rattle.cs_trace_lines.specs.declared.verb.Verb.{Verb}
@@ -27,19 +31,23 @@ IsOctal (Operation (Mkdir path claims)) = HasOctal claims
 IsOctal (Operation (SetAttr path change)) = HasOctalChange change
 IsOctal _ = Unit {0}
 
-and_then_by : {A B : Type 0} (o : Option A) (f : A → Option B) (P : B → Type 0) → ((x : A) → (y : B) → f x ≡ Some y → P y) → (y : B) → option_and_then f o ≡ Some y → P y
+and_then_by : {A B : Type 0} (o : Option A) (f : A → Option B) (P : B → Type 0) → ((x : A) → (y : B) → f x ≡ Some y → P y) → (y : B)
+    → option_and_then f o ≡ Some y → P y
 and_then_by None f P each y is = absurd (cc)
 and_then_by (Some x) f P each y is = each x y is
 
-map_by : {A B : Type 0} (o : Option A) (f : A → B) (P : B → Type 0) → ((x : A) → o ≡ Some x → P (f x)) → (y : B) → option_map f o ≡ Some y → P y
+map_by : {A B : Type 0} (o : Option A) (f : A → B) (P : B → Type 0) → ((x : A) → o ≡ Some x → P (f x)) → (y : B) → option_map f o ≡ Some y
+    → P y
 map_by None f P each y is = absurd (cc)
 map_by (Some x) f P each y is = let same : f x ≡ y = cc in subst P same (each x refl)
 
-if_by : {B : Type 0} (t : Bool) (o : Option B) (P : B → Type 0) → ((y : B) → o ≡ Some y → P y) → (y : B) → (if t then o else None) ≡ Some y → P y
+if_by : {B : Type 0} (t : Bool) (o : Option B) (P : B → Type 0) → ((y : B) → o ≡ Some y → P y) → (y : B) → (if t then o else None) ≡ Some y
+    → P y
 if_by true o P each y is = each y is
 if_by false o P each y is = absurd (cc)
 
-octal_by : (a b c n : ℕ) (t : Bool) → is_octal a && is_octal b && is_octal c ≡ t → (if t then Some ((a - 48) * 64 + (b - 48) * 8 + (c - 48)) else None) ≡ Some n → n ≤ 511
+octal_by : (a b c n : ℕ) (t : Bool) → is_octal a && is_octal b && is_octal c ≡ t
+    → (if t then Some ((a - 48) * 64 + (b - 48) * 8 + (c - 48)) else None) ≡ Some n → n ≤ 511
 octal_by a b c n true is gives =
     let same : (a - 48) * 64 + (b - 48) * 8 + (c - 48) ≡ n = cc in
     grind (arith, nat_tests)
@@ -74,7 +82,8 @@ start_octal f content =
 under_octal : (version : Version) (f : Fields) (kind : StartKind) (line : Line) → start_under version f kind ≡ Some line → IsOctal line
 under_octal version f kind.Directory = start_octal f None
 under_octal version f kind.File = and_then_by (content_in version f) _ IsOctal (λ bytes. start_octal f (Some bytes))
-under_octal version f kind.Link = and_then_by (text_in f.path) _ IsOctal (λ path. map_by (text_in f.from) (StartLink path) IsOctal (λ _ _. tt))
+under_octal version f kind.Link =
+    and_then_by (text_in f.path) _ IsOctal (λ path. map_by (text_in f.from) (StartLink path) IsOctal (λ _ _. tt))
 
 kind_octal : (version : Version) (f : Fields) (kind : Option StartKind) (line : Line)
     → option_map_or (start_line_with version f) kind (Some UnknownStart) ≡ Some line → IsOctal line
@@ -95,18 +104,25 @@ operation_octal version verb.Mkdir f =
     and_then_by (text_in f.path) _ HasOctalOperation (λ path. map_by (claims_in f) (Mkdir path) HasOctalOperation (claims_octal f))
 operation_octal version verb.Unlink f = map_by (text_in f.path) _ HasOctalOperation (λ _ _. tt)
 operation_octal version verb.Rmdir f = map_by (text_in f.path) _ HasOctalOperation (λ _ _. tt)
-operation_octal version verb.Rename f = and_then_by (text_in f.from) _ HasOctalOperation (λ from. map_by (text_in f.to) _ HasOctalOperation (λ _ _. tt))
-operation_octal version verb.Link f = and_then_by (text_in f.from) _ HasOctalOperation (λ from. map_by (text_in f.to) _ HasOctalOperation (λ _ _. tt))
+operation_octal version verb.Rename f =
+    and_then_by (text_in f.from) _ HasOctalOperation (λ from. map_by (text_in f.to) _ HasOctalOperation (λ _ _. tt))
+operation_octal version verb.Link f =
+    and_then_by (text_in f.from) _ HasOctalOperation (λ from. map_by (text_in f.to) _ HasOctalOperation (λ _ _. tt))
 operation_octal version verb.Write f =
-    and_then_by (text_in f.path) _ HasOctalOperation (λ path. and_then_by (whole_in f.offset) _ HasOctalOperation (λ offset. map_by (content_in version f) _ HasOctalOperation (λ _ _. tt)))
-operation_octal version verb.Truncate f = and_then_by (text_in f.path) _ HasOctalOperation (λ path. map_by (whole_in f.length) _ HasOctalOperation (λ _ _. tt))
+    and_then_by (text_in f.path) _ HasOctalOperation
+    (λ path. and_then_by (whole_in f.offset) _ HasOctalOperation
+    (λ offset. map_by (content_in version f) _ HasOctalOperation (λ _ _. tt)))
+operation_octal version verb.Truncate f =
+    and_then_by (text_in f.path) _ HasOctalOperation (λ path. map_by (whole_in f.length) _ HasOctalOperation (λ _ _. tt))
 operation_octal version verb.Chmod f =
     and_then_by (text_in f.path) _ HasOctalOperation (λ path. map_by (mode_in f.mode) _ HasOctalOperation (λ n is. mode_octal f.mode n is))
 operation_octal version verb.Chown f =
-    and_then_by (text_in f.path) _ HasOctalOperation (λ path. and_then_by (text_in f.owner) _ HasOctalOperation (λ owner. map_by (text_in f.group) _ HasOctalOperation (λ _ _. tt)))
+    and_then_by (text_in f.path) _ HasOctalOperation
+    (λ path. and_then_by (text_in f.owner) _ HasOctalOperation (λ owner. map_by (text_in f.group) _ HasOctalOperation (λ _ _. tt)))
 operation_octal version verb.Fsync f = map_by (text_in f.path) _ HasOctalOperation (λ _ _. tt)
 operation_octal version verb.FsyncRange f =
-    and_then_by (text_in f.path) _ HasOctalOperation (λ path. and_then_by (whole_in f.offset) _ HasOctalOperation (λ offset. map_by (whole_in f.length) _ HasOctalOperation (λ _ _. tt)))
+    and_then_by (text_in f.path) _ HasOctalOperation
+    (λ path. and_then_by (whole_in f.offset) _ HasOctalOperation (λ offset. map_by (whole_in f.length) _ HasOctalOperation (λ _ _. tt)))
 operation_octal version verb.Sync f = sync_octal
 operation_octal version verb.Say f = map_by (text_in f.text) _ HasOctalOperation (λ _ _. tt)
 
@@ -114,9 +130,11 @@ named_octal : (version : Version) (f : Fields) (v : Option Verb) (line : Line)
     → option_map_or (operation_with version f) v (Some UnknownOperation) ≡ Some line → IsOctal line
 named_octal version f None line is = let same : UnknownOperation ≡ line = cc in subst IsOctal same tt
 named_octal version f (Some v) line is =
-    if_by (has_only version (key_count v) f) _ IsOctal (map_by (operation_of version v f) Operation IsOctal (operation_octal version v f)) line is
+    if_by (has_only version (key_count v) f) _ IsOctal (map_by (operation_of version v f) Operation IsOctal (operation_octal version v f))
+    line is
 
-line_octal_by : (version : Version) (f : Fields) (trace start op : Option Field) (line : Line) → line_by version f trace start op ≡ Some line → IsOctal line
+line_octal_by : (version : Version) (f : Fields) (trace start op : Option Field) (line : Line)
+    → line_by version f trace start op ≡ Some line → IsOctal line
 line_octal_by version f (Some trace) None None line is = header_octal f line is
 line_octal_by version f None (Some start) None line is =
     and_then_by (text_in f.start) (start_line_named version f) IsOctal (λ name. kind_octal version f (kind_in version name)) line is
@@ -129,4 +147,5 @@ line_octal_by version f None None None line is = absurd (cc)
 
 pub line_octal : (version : Version) (text : List ℕ) (line : Line) → line_in version text ≡ Some line → IsOctal line
 unfolding line_in
-line_octal version text = and_then_by (option_and_then fields_in (read text)) (line_of version) IsOctal (λ f. line_octal_by version f f.trace f.start f.op)
+line_octal version text =
+    and_then_by (option_and_then fields_in (read text)) (line_of version) IsOctal (λ f. line_octal_by version f f.trace f.start f.op)

@@ -1,5 +1,7 @@
 -- What a line of a trace says by itself, through what `serde_json` reads as a value.
-use Rattle.std.specs.Prelude.{ℕ, ◌+◌, ◌-◌, ◌*◌, ◌==◌, ◌||◌, ◌&&◌, Bool, false, true, List, [], ◌∷◌, nat_eq, nat_le, codes, Option, Some, None, option_and_then, if◌then◌else◌}
+use Rattle.std.specs.Prelude.{ℕ, ◌+◌, ◌-◌, ◌*◌, ◌==◌, ◌||◌, ◌&&◌, Bool, false, true, List, [], ◌∷◌}
+use Rattle.std.specs.Prelude.{nat_eq, nat_le, codes, Option, Some, None, option_and_then}
+use Rattle.std.specs.Prelude.{if◌then◌else◌}
 use Rattle.std.specs.Cmp.Lexicographic.{pointwise}
 use Rattle.std.specs.Option.{option_map, option_map_or}
 use Rattle.std.specs.List.{list_all}
@@ -16,7 +18,8 @@ use Rattle.cs_trace_lines.specs.declared.verb.Verb.TheVariants as verb
 use Rattle.cs_trace_lines.specs.declared.version.BlockSize.{BlockSize}
 use Rattle.cs_trace_lines.specs.declared.version.Version.{Version}
 use Rattle.cs_trace_lines.specs.declared.version.Version.TheVariants.{First, Second, Third}
-use Rattle.cs_trace_lines.specs.Fields.{Field, Number, Other, Text, Fields, fields_in, has_keys, text_of}
+use Rattle.cs_trace_lines.specs.Fields.{Field, Number, Other, Text, Fields, fields_in, has_keys}
+use Rattle.cs_trace_lines.specs.Fields.{text_of}
 use Rattle.cs_trace_lines.specs.Versions.{block_size_of_bytes, is_third}
 
 -- owner, group and permissions as a line has them

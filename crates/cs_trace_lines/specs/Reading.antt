@@ -8,29 +8,29 @@ use Rattle.cs_trace_lines.specs.declared.fields.Field.{Field as ReadField}
 use Rattle.cs_trace_lines.specs.declared.fields.Field.TheVariants as field
 use Rattle.cs_trace_lines.specs.declared.fields.Fields.{Fields as ReadFields}
 
-abbrev pub field_said : ReadField → Field
-field_said (field.Text text) = Text (string_bytes text)
-field_said (field.Number number) = Number (number_view number)
-field_said field.Other = Other
+abbrev pub field_value : ReadField → Field
+field_value (field.Text text) = Text (string_bytes text)
+field_value (field.Number number) = Number (number_view number)
+field_value field.Other = Other
 
-abbrev pub fields_said : ReadFields → Fields
-fields_said f = record {
-  trace = option_map field_said f.trace;
-  profile = option_map field_said f.profile;
-  block = option_map field_said f.block;
-  start = option_map field_said f.start;
-  op = option_map field_said f.op;
-  path = option_map field_said f.path;
-  from = option_map field_said f.from;
-  to = option_map field_said f.to;
-  owner = option_map field_said f.owner;
-  group = option_map field_said f.group;
-  mode = option_map field_said f.mode;
-  bytes = option_map field_said f.bytes;
-  offset = option_map field_said f.offset;
-  length = option_map field_said f.length;
-  text = option_map field_said f.text;
-  note = option_map field_said f.note;
+abbrev pub field_values : ReadFields → Fields
+field_values f = record {
+  trace = option_map field_value f.trace;
+  profile = option_map field_value f.profile;
+  block = option_map field_value f.block;
+  start = option_map field_value f.start;
+  op = option_map field_value f.op;
+  path = option_map field_value f.path;
+  from = option_map field_value f.from;
+  to = option_map field_value f.to;
+  owner = option_map field_value f.owner;
+  group = option_map field_value f.group;
+  mode = option_map field_value f.mode;
+  bytes = option_map field_value f.bytes;
+  offset = option_map field_value f.offset;
+  length = option_map field_value f.length;
+  text = option_map field_value f.text;
+  note = option_map field_value f.note;
   others = f.has_others;
 }
 

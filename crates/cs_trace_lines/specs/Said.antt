@@ -26,32 +26,32 @@ start_of s = record {
   content = option_map (λ bytes. bytes.items) s.content;
 }
 
-abbrev pub change_said : ReadChange → Change
-change_said (change.Mode permissions) = said.Mode permissions
-change_said (change.Owner owner group) = said.Owner (string_bytes owner) (string_bytes group)
+abbrev pub change_value : ReadChange → Change
+change_value (change.Mode permissions) = said.Mode permissions
+change_value (change.Owner owner group) = said.Owner (string_bytes owner) (string_bytes group)
 
-abbrev pub operation_said : ReadOperation → OperationLine
-operation_said (operation.Creat path claims) = said.Creat (string_bytes path) (claims_of claims)
-operation_said (operation.Mkdir path claims) = said.Mkdir (string_bytes path) (claims_of claims)
-operation_said (operation.Unlink path) = said.Unlink (string_bytes path)
-operation_said (operation.Rmdir path) = said.Rmdir (string_bytes path)
-operation_said (operation.Rename from to) = said.Rename (string_bytes from) (string_bytes to)
-operation_said (operation.Link from to) = said.Link (string_bytes from) (string_bytes to)
-operation_said (operation.Write path offset bytes) =
+abbrev pub operation_value : ReadOperation → OperationLine
+operation_value (operation.Creat path claims) = said.Creat (string_bytes path) (claims_of claims)
+operation_value (operation.Mkdir path claims) = said.Mkdir (string_bytes path) (claims_of claims)
+operation_value (operation.Unlink path) = said.Unlink (string_bytes path)
+operation_value (operation.Rmdir path) = said.Rmdir (string_bytes path)
+operation_value (operation.Rename from to) = said.Rename (string_bytes from) (string_bytes to)
+operation_value (operation.Link from to) = said.Link (string_bytes from) (string_bytes to)
+operation_value (operation.Write path offset bytes) =
     said.Write (string_bytes path) offset bytes.items
-operation_said (operation.Truncate path size) = said.Truncate (string_bytes path) size
-operation_said (operation.SetAttr path change) =
-    said.SetAttr (string_bytes path) (change_said change)
-operation_said (operation.Fsync path) = said.Fsync (string_bytes path)
-operation_said (operation.FsyncRange path offset length) =
+operation_value (operation.Truncate path size) = said.Truncate (string_bytes path) size
+operation_value (operation.SetAttr path change) =
+    said.SetAttr (string_bytes path) (change_value change)
+operation_value (operation.Fsync path) = said.Fsync (string_bytes path)
+operation_value (operation.FsyncRange path offset length) =
     said.FsyncRange (string_bytes path) offset length
-operation_said operation.Sync = said.Sync
-operation_said (operation.Say text) = said.Say (string_bytes text)
+operation_value operation.Sync = said.Sync
+operation_value (operation.Say text) = said.Say (string_bytes text)
 
-abbrev pub line_said : ReadLine → Line
-line_said (line.Header version claims) = said.Header version (claims_of claims)
-line_said (line.Start start) = said.Start (start_of start)
-line_said (line.StartLink path from) = said.StartLink (string_bytes path) (string_bytes from)
-line_said (line.Operation o) = said.Operation (operation_said o)
-line_said line.UnknownStart = said.UnknownStart
-line_said line.UnknownOperation = said.UnknownOperation
+abbrev pub line_value : ReadLine → Line
+line_value (line.Header version claims) = said.Header version (claims_of claims)
+line_value (line.Start start) = said.Start (start_of start)
+line_value (line.StartLink path from) = said.StartLink (string_bytes path) (string_bytes from)
+line_value (line.Operation o) = said.Operation (operation_value o)
+line_value line.UnknownStart = said.UnknownStart
+line_value line.UnknownOperation = said.UnknownOperation

@@ -3,7 +3,8 @@ use Rattle.std.specs.Prelude.{ℕ, ◌==◌, Bool, false, true, Option, None, So
 use Rattle.cs_trace_lines.specs.declared.profile.Profile.{Profile}
 use Rattle.cs_trace_lines.specs.declared.profile.Profile.TheVariants.{Blocks}
 use Rattle.cs_trace_lines.specs.declared.version.BlockSize.{BlockSize}
-use Rattle.cs_trace_lines.specs.declared.version.BlockSize.TheVariants.{Bytes512, Bytes1024, Bytes2048, Bytes4096}
+use Rattle.cs_trace_lines.specs.declared.version.BlockSize.TheVariants.{Bytes512, Bytes1024}
+use Rattle.cs_trace_lines.specs.declared.version.BlockSize.TheVariants.{Bytes2048, Bytes4096}
 use Rattle.cs_trace_lines.specs.declared.version.Version.{Version}
 use Rattle.cs_trace_lines.specs.declared.version.Version.TheVariants.{First, Second, Third}
 

@@ -3,7 +3,7 @@ ghost use Rattle.std.specs.Prelude.{◌≡◌, option_map};
 ghost use Rattle.serde_json.specs.Data.{no_members};
 ghost use Rattle.serde_json.specs.View.{members_view, view};
 ghost use Rattle.cs_trace_lines.specs.Fields.{field_of, fields_in, fields_of, has_keys};
-ghost use Rattle.cs_trace_lines.specs.Reading.{field_said, fields_said, with_field};
+ghost use Rattle.cs_trace_lines.specs.Reading.{field_value, field_values, with_field};
 
 use serde_json::{Map, Number, Value};
 
@@ -41,7 +41,7 @@ pub(crate) struct Fields {
 
 impl Field {
     fn of(value: Value) -> Field
-        ensures { field_said result ≡ field_of (view value) }
+        ensures { field_value result ≡ field_of (view value) }
     {
         match value {
             Value::String(text) => Field::Text(text),
@@ -53,7 +53,7 @@ impl Field {
 
 impl Fields {
     fn new() -> Fields
-        ensures { fields_said result ≡ fields_of no_members }
+        ensures { field_values result ≡ fields_of no_members }
     {
         Fields {
             trace: None,
@@ -78,8 +78,8 @@ impl Fields {
 
     /// Takes the value of a key, in the place of one before it.
     fn put(&mut self, key: &str, field: Field)
-        ensures { fields_said self.new
-            ≡ with_field key.now (field_said field) (fields_said self.old) }
+        ensures { field_values self.new
+            ≡ with_field key.now (field_value field) (field_values self.old) }
     {
         match key {
             "trace" => self.trace = Some(field),
@@ -104,7 +104,7 @@ impl Fields {
 
     /// The fields of these members.
     fn of(members: Map<String, Value>) -> Fields
-        ensures { fields_said result ≡ fields_of (members_view members.entries) }
+        ensures { field_values result ≡ fields_of (members_view members.entries) }
     {
         let mut fields = Fields::new();
         for (key, value) in members {
@@ -115,7 +115,7 @@ impl Fields {
 
     /// The fields of an object.
     pub(crate) fn of_value(value: Value) -> Option<Fields>
-        ensures { option_map fields_said result ≡ fields_in (view value) }
+        ensures { option_map field_values result ≡ fields_in (view value) }
     {
         match value {
             Value::Object(members) => Some(Fields::of(members)),
@@ -125,7 +125,7 @@ impl Fields {
 
     /// Whether there are exactly so many keys beside a note, and each is one of the format.
     pub(crate) fn has_keys(&self, count: usize) -> bool
-        ensures { result ≡ has_keys count (fields_said self.now) }
+        ensures { result ≡ has_keys count (field_values self.now) }
     {
         let are_given = [
             self.trace.is_some(),

@@ -1,9 +1,10 @@
 //! The header of a trace.
 ghost use Rattle.std.specs.Prelude.{◌≡◌, option_map};
 ghost use Rattle.cs_trace_lines.specs.Faults.{IsRead};
-ghost use Rattle.cs_trace_lines.specs.Lines.{block_size_in, header_in, header_key_count, profile_in, profile_named, version_in};
-ghost use Rattle.cs_trace_lines.specs.Reading.{field_said, fields_said};
-ghost use Rattle.cs_trace_lines.specs.Said.{line_said};
+ghost use Rattle.cs_trace_lines.specs.Lines.{block_size_in, header_in, header_key_count};
+ghost use Rattle.cs_trace_lines.specs.Lines.{profile_in, profile_named, version_in};
+ghost use Rattle.cs_trace_lines.specs.Reading.{field_value, field_values};
+ghost use Rattle.cs_trace_lines.specs.Said.{line_value};
 
 use crate::fault::LineFault;
 use crate::fields::{Field, Fields};
@@ -23,20 +24,20 @@ fn profile_named(name: &str) -> Option<Profile>
 }
 
 fn profile_in(profile: &Option<Field>) -> Result<Profile, LineFault>
-    ensures { IsRead (λ profile. profile) (profile_in (option_map field_said profile.now)) result }
+    ensures { IsRead (λ profile. profile) (profile_in (option_map field_value profile.now)) result }
 {
     profile_named(text_of(profile)?).ok_or(LineFault::Syntax)
 }
 
 fn block_size_in(block: &Option<Field>) -> Result<BlockSize, LineFault>
-    ensures { IsRead (λ block. block) (block_size_in (option_map field_said block.now)) result }
+    ensures { IsRead (λ block. block) (block_size_in (option_map field_value block.now)) result }
 {
     BlockSize::of_bytes(whole_in(block)?).ok_or(LineFault::Syntax)
 }
 
 /// The version of a header.
 fn version_in(fields: &Fields) -> Result<Version, LineFault>
-    ensures { IsRead (λ version. version) (version_in (fields_said fields.now)) result }
+    ensures { IsRead (λ version. version) (version_in (field_values fields.now)) result }
 {
     match whole_in(&fields.trace)? {
         1 => Ok(Version::First),
@@ -58,7 +59,7 @@ fn header_key_count(version: Version) -> usize
 }
 
 pub(crate) fn header_in(fields: &mut Fields) -> Result<Line, LineFault>
-    ensures { IsRead line_said (header_in (fields_said fields.old)) result }
+    ensures { IsRead line_value (header_in (field_values fields.old)) result }
 {
     let version = version_in(fields)?;
     if !has_only(version, header_key_count(version), fields) {

@@ -4,8 +4,8 @@ ghost use Rattle.serde_json.specs.Read.{read};
 ghost use Rattle.cs_trace_lines.specs.Faults.{IsRead};
 ghost use Rattle.cs_trace_lines.specs.Fields.{fields_in};
 ghost use Rattle.cs_trace_lines.specs.Lines.{is_blank, line_in, line_of};
-ghost use Rattle.cs_trace_lines.specs.Reading.{fields_said};
-ghost use Rattle.cs_trace_lines.specs.Said.{line_said};
+ghost use Rattle.cs_trace_lines.specs.Reading.{field_values};
+ghost use Rattle.cs_trace_lines.specs.Said.{line_value};
 ghost use Rattle.cs_trace_lines.specs.declared.fault.LineFault.TheVariants.{Syntax};
 
 use crate::fault::LineFault;
@@ -123,7 +123,7 @@ pub fn is_blank(line: &str) -> bool
 
 /// The fields of a line's object.
 fn fields_in(alloc: Global, text: &str) -> Result<Fields, LineFault>
-    ensures { IsRead fields_said (option_and_then fields_in (read text.now)) result }
+    ensures { IsRead field_values (option_and_then fields_in (read text.now)) result }
 {
     match Value::from_str(alloc, text) {
         Ok(value) => Fields::of_value(value).ok_or(LineFault::Syntax),
@@ -138,7 +138,7 @@ fn fields_in(alloc: Global, text: &str) -> Result<Fields, LineFault>
 
 /// What the line with these fields says.
 fn line_of(alloc: Global, version: Version, fields: &mut Fields) -> Result<Line, LineFault>
-    ensures { IsRead line_said (line_of version (fields_said fields.old)) result }
+    ensures { IsRead line_value (line_of version (field_values fields.old)) result }
 {
     match (&fields.trace, &fields.start, &fields.op) {
         (Some(_), None, None) => header_in(fields),
@@ -151,7 +151,7 @@ fn line_of(alloc: Global, version: Version, fields: &mut Fields) -> Result<Line,
 /// What the text of a line says in a trace of this version.
 #[tactic(auto, unfolding(crate::specs::Lines::line_in))]
 pub fn read_line(alloc: Global, version: Version, text: &str) -> Result<Line, LineFault>
-    ensures read { IfOk result (λ line. line_in version text.now ≡ Some (line_said line)) }
+    ensures read { IfOk result (λ line. line_in version text.now ≡ Some (line_value line)) }
     ensures fault { IfErr result (λ fault. fault ≡ Syntax → line_in version text.now ≡ None) }
 {
     let mut fields = fields_in(alloc, text)?;

@@ -2,8 +2,8 @@
 ghost use Rattle.std.specs.Prelude.{◌≡◌};
 ghost use Rattle.cs_trace_lines.specs.Faults.{IsRead};
 ghost use Rattle.cs_trace_lines.specs.Lines.{operation_in, operation_of};
-ghost use Rattle.cs_trace_lines.specs.Reading.{fields_said};
-ghost use Rattle.cs_trace_lines.specs.Said.{line_said, operation_said};
+ghost use Rattle.cs_trace_lines.specs.Reading.{field_values};
+ghost use Rattle.cs_trace_lines.specs.Said.{line_value, operation_value};
 ghost use Rattle.cs_trace_lines.specs.declared.verb.Verb.TheVariants as verb;
 ghost use Rattle.cs_trace_lines.specs.declared.version.Version.TheVariants.{First};
 
@@ -16,8 +16,8 @@ use crate::version::Version;
 use std::alloc::Global;
 
 fn creat(fields: &mut Fields) -> Result<OperationLine, LineFault>
-    ensures { IsRead operation_said
-        (operation_of First verb.Creat (fields_said fields.old)) result }
+    ensures { IsRead operation_value
+        (operation_of First verb.Creat (field_values fields.old)) result }
 {
     Ok(OperationLine::Creat {
         path: take_text(&mut fields.path)?,
@@ -26,8 +26,8 @@ fn creat(fields: &mut Fields) -> Result<OperationLine, LineFault>
 }
 
 fn mkdir(fields: &mut Fields) -> Result<OperationLine, LineFault>
-    ensures { IsRead operation_said
-        (operation_of First verb.Mkdir (fields_said fields.old)) result }
+    ensures { IsRead operation_value
+        (operation_of First verb.Mkdir (field_values fields.old)) result }
 {
     Ok(OperationLine::Mkdir {
         path: take_text(&mut fields.path)?,
@@ -36,8 +36,8 @@ fn mkdir(fields: &mut Fields) -> Result<OperationLine, LineFault>
 }
 
 fn unlink(fields: &mut Fields) -> Result<OperationLine, LineFault>
-    ensures { IsRead operation_said
-        (operation_of First verb.Unlink (fields_said fields.old)) result }
+    ensures { IsRead operation_value
+        (operation_of First verb.Unlink (field_values fields.old)) result }
 {
     Ok(OperationLine::Unlink {
         path: take_text(&mut fields.path)?,
@@ -45,8 +45,8 @@ fn unlink(fields: &mut Fields) -> Result<OperationLine, LineFault>
 }
 
 fn rmdir(fields: &mut Fields) -> Result<OperationLine, LineFault>
-    ensures { IsRead operation_said
-        (operation_of First verb.Rmdir (fields_said fields.old)) result }
+    ensures { IsRead operation_value
+        (operation_of First verb.Rmdir (field_values fields.old)) result }
 {
     Ok(OperationLine::Rmdir {
         path: take_text(&mut fields.path)?,
@@ -54,8 +54,8 @@ fn rmdir(fields: &mut Fields) -> Result<OperationLine, LineFault>
 }
 
 fn rename(fields: &mut Fields) -> Result<OperationLine, LineFault>
-    ensures { IsRead operation_said
-        (operation_of First verb.Rename (fields_said fields.old)) result }
+    ensures { IsRead operation_value
+        (operation_of First verb.Rename (field_values fields.old)) result }
 {
     Ok(OperationLine::Rename {
         from: take_text(&mut fields.from)?,
@@ -64,8 +64,8 @@ fn rename(fields: &mut Fields) -> Result<OperationLine, LineFault>
 }
 
 fn link(fields: &mut Fields) -> Result<OperationLine, LineFault>
-    ensures { IsRead operation_said
-        (operation_of First verb.Link (fields_said fields.old)) result }
+    ensures { IsRead operation_value
+        (operation_of First verb.Link (field_values fields.old)) result }
 {
     Ok(OperationLine::Link {
         from: take_text(&mut fields.from)?,
@@ -74,8 +74,8 @@ fn link(fields: &mut Fields) -> Result<OperationLine, LineFault>
 }
 
 fn write(alloc: Global, version: Version, fields: &mut Fields) -> Result<OperationLine, LineFault>
-    ensures { IsRead operation_said
-        (operation_of version verb.Write (fields_said fields.old)) result }
+    ensures { IsRead operation_value
+        (operation_of version verb.Write (field_values fields.old)) result }
 {
     Ok(OperationLine::Write {
         path: take_text(&mut fields.path)?,
@@ -85,8 +85,8 @@ fn write(alloc: Global, version: Version, fields: &mut Fields) -> Result<Operati
 }
 
 fn truncate(fields: &mut Fields) -> Result<OperationLine, LineFault>
-    ensures { IsRead operation_said
-        (operation_of First verb.Truncate (fields_said fields.old)) result }
+    ensures { IsRead operation_value
+        (operation_of First verb.Truncate (field_values fields.old)) result }
 {
     Ok(OperationLine::Truncate {
         path: take_text(&mut fields.path)?,
@@ -95,8 +95,8 @@ fn truncate(fields: &mut Fields) -> Result<OperationLine, LineFault>
 }
 
 fn chmod(fields: &mut Fields) -> Result<OperationLine, LineFault>
-    ensures { IsRead operation_said
-        (operation_of First verb.Chmod (fields_said fields.old)) result }
+    ensures { IsRead operation_value
+        (operation_of First verb.Chmod (field_values fields.old)) result }
 {
     Ok(OperationLine::SetAttr {
         path: take_text(&mut fields.path)?,
@@ -105,8 +105,8 @@ fn chmod(fields: &mut Fields) -> Result<OperationLine, LineFault>
 }
 
 fn chown(fields: &mut Fields) -> Result<OperationLine, LineFault>
-    ensures { IsRead operation_said
-        (operation_of First verb.Chown (fields_said fields.old)) result }
+    ensures { IsRead operation_value
+        (operation_of First verb.Chown (field_values fields.old)) result }
 {
     Ok(OperationLine::SetAttr {
         path: take_text(&mut fields.path)?,
@@ -118,8 +118,8 @@ fn chown(fields: &mut Fields) -> Result<OperationLine, LineFault>
 }
 
 fn fsync(fields: &mut Fields) -> Result<OperationLine, LineFault>
-    ensures { IsRead operation_said
-        (operation_of First verb.Fsync (fields_said fields.old)) result }
+    ensures { IsRead operation_value
+        (operation_of First verb.Fsync (field_values fields.old)) result }
 {
     Ok(OperationLine::Fsync {
         path: take_text(&mut fields.path)?,
@@ -127,8 +127,8 @@ fn fsync(fields: &mut Fields) -> Result<OperationLine, LineFault>
 }
 
 fn fsync_range(fields: &mut Fields) -> Result<OperationLine, LineFault>
-    ensures { IsRead operation_said
-        (operation_of First verb.FsyncRange (fields_said fields.old)) result }
+    ensures { IsRead operation_value
+        (operation_of First verb.FsyncRange (field_values fields.old)) result }
 {
     Ok(OperationLine::FsyncRange {
         path: take_text(&mut fields.path)?,
@@ -138,8 +138,8 @@ fn fsync_range(fields: &mut Fields) -> Result<OperationLine, LineFault>
 }
 
 fn say(fields: &mut Fields) -> Result<OperationLine, LineFault>
-    ensures { IsRead operation_said
-        (operation_of First verb.Say (fields_said fields.old)) result }
+    ensures { IsRead operation_value
+        (operation_of First verb.Say (field_values fields.old)) result }
 {
     Ok(OperationLine::Say {
         text: take_text(&mut fields.text)?,
@@ -153,7 +153,7 @@ fn operation_of(
     verb: Verb,
     fields: &mut Fields,
 ) -> Result<OperationLine, LineFault>
-    ensures { IsRead operation_said (operation_of version verb (fields_said fields.old)) result }
+    ensures { IsRead operation_value (operation_of version verb (field_values fields.old)) result }
 {
     match verb {
         Verb::Creat => creat(fields),
@@ -178,7 +178,7 @@ pub(crate) fn operation_in(
     version: Version,
     fields: &mut Fields,
 ) -> Result<Line, LineFault>
-    ensures { IsRead line_said (operation_in version (fields_said fields.old)) result }
+    ensures { IsRead line_value (operation_in version (field_values fields.old)) result }
 {
     let Some(verb) = Verb::of(version, text_of(&fields.op)?) else {
         return Ok(Line::UnknownOperation);

@@ -1,9 +1,10 @@
 //! The lines of what is there at the start.
 ghost use Rattle.std.specs.Prelude.{◌≡◌, option_map};
 ghost use Rattle.cs_trace_lines.specs.Faults.{IsRead};
-ghost use Rattle.cs_trace_lines.specs.Lines.{kind_in, start_key_count, start_line_in, start_under, start_with};
-ghost use Rattle.cs_trace_lines.specs.Reading.{fields_said};
-ghost use Rattle.cs_trace_lines.specs.Said.{line_said};
+ghost use Rattle.cs_trace_lines.specs.Lines.{kind_in, start_key_count, start_line_in, start_under};
+ghost use Rattle.cs_trace_lines.specs.Lines.{start_with};
+ghost use Rattle.cs_trace_lines.specs.Reading.{field_values};
+ghost use Rattle.cs_trace_lines.specs.Said.{line_value};
 ghost use Rattle.cs_trace_lines.specs.declared.start.StartKind.TheVariants.{File, Link};
 ghost use Rattle.cs_trace_lines.specs.declared.version.Version.TheVariants.{First};
 
@@ -49,8 +50,8 @@ impl StartKind {
 
 /// A file with these bytes, or a directory.
 fn start_with(fields: &mut Fields, content: Option<Vec<u8>>) -> Result<Line, LineFault>
-    ensures { IsRead line_said
-        (start_with (fields_said fields.old) (option_map (λ bytes. bytes.items) content)) result }
+    ensures { IsRead line_value
+        (start_with (field_values fields.old) (option_map (λ bytes. bytes.items) content)) result }
 {
     Ok(Line::Start(StartLine {
         path: take_text(&mut fields.path)?,
@@ -60,14 +61,14 @@ fn start_with(fields: &mut Fields, content: Option<Vec<u8>>) -> Result<Line, Lin
 }
 
 fn file(alloc: Global, version: Version, fields: &mut Fields) -> Result<Line, LineFault>
-    ensures { IsRead line_said (start_under version (fields_said fields.old) File) result }
+    ensures { IsRead line_value (start_under version (field_values fields.old) File) result }
 {
     let bytes = take_content(alloc, version, &fields.bytes, &mut fields.text)?;
     start_with(fields, Some(bytes))
 }
 
 fn link(fields: &mut Fields) -> Result<Line, LineFault>
-    ensures { IsRead line_said (start_under First (fields_said fields.old) Link) result }
+    ensures { IsRead line_value (start_under First (field_values fields.old) Link) result }
 {
     Ok(Line::StartLink {
         path: take_text(&mut fields.path)?,
@@ -82,7 +83,7 @@ fn start_of(
     kind: StartKind,
     fields: &mut Fields,
 ) -> Result<Line, LineFault>
-    ensures { IsRead line_said (start_under version (fields_said fields.old) kind) result }
+    ensures { IsRead line_value (start_under version (field_values fields.old) kind) result }
 {
     match kind {
         StartKind::Directory => start_with(fields, None),
@@ -96,7 +97,7 @@ pub(crate) fn start_line_in(
     version: Version,
     fields: &mut Fields,
 ) -> Result<Line, LineFault>
-    ensures { IsRead line_said (start_line_in version (fields_said fields.old)) result }
+    ensures { IsRead line_value (start_line_in version (field_values fields.old)) result }
 {
     let Some(kind) = StartKind::of(version, text_of(&fields.start)?) else {
         return Ok(Line::UnknownStart);

@@ -2,8 +2,9 @@
 ghost use Rattle.std.specs.Prelude.{◌≡◌, None, option_map};
 ghost use Rattle.std.specs.String.{string_bytes};
 ghost use Rattle.cs_trace_lines.specs.Faults.{IsRead};
-ghost use Rattle.cs_trace_lines.specs.Lines.{bytes_in, claims_in, content_by, has_only, is_octal, may_note, mode_in, permissions_in, text_in, whole_in};
-ghost use Rattle.cs_trace_lines.specs.Reading.{field_said, fields_said};
+ghost use Rattle.cs_trace_lines.specs.Lines.{bytes_in, claims_in, content_by, has_only, is_octal};
+ghost use Rattle.cs_trace_lines.specs.Lines.{may_note, mode_in, permissions_in, text_in, whole_in};
+ghost use Rattle.cs_trace_lines.specs.Reading.{field_value, field_values};
 ghost use Rattle.cs_trace_lines.specs.Said.{claims_of};
 
 use crate::fault::LineFault;
@@ -15,7 +16,7 @@ use std::alloc::Global;
 
 /// The text of a field, lent.
 pub(crate) fn text_of(field: &Option<Field>) -> Result<&str, LineFault>
-    ensures { IsRead (λ text. text.now) (text_in (option_map field_said field.now)) result }
+    ensures { IsRead (λ text. text.now) (text_in (option_map field_value field.now)) result }
 {
     match field {
         Some(Field::Text(text)) => Ok(text.as_str()),
@@ -25,7 +26,7 @@ pub(crate) fn text_of(field: &Option<Field>) -> Result<&str, LineFault>
 
 /// Takes the text of a field.
 pub(crate) fn take_text(field: &mut Option<Field>) -> Result<String, LineFault>
-    ensures { IsRead string_bytes (text_in (option_map field_said field.old)) result }
+    ensures { IsRead string_bytes (text_in (option_map field_value field.old)) result }
 {
     match field.take() {
         Some(Field::Text(text)) => Ok(text),
@@ -35,7 +36,7 @@ pub(crate) fn take_text(field: &mut Option<Field>) -> Result<String, LineFault>
 
 /// The whole number of a field.
 pub(crate) fn whole_in(field: &Option<Field>) -> Result<u64, LineFault>
-    ensures { IsRead (λ n. n) (whole_in (option_map field_said field.now)) result }
+    ensures { IsRead (λ n. n) (whole_in (option_map field_value field.now)) result }
 {
     match field {
         Some(Field::Number(number)) => number.as_u64().ok_or(LineFault::Syntax),
@@ -64,14 +65,14 @@ fn permissions_in(text: &str) -> Option<u16>
 
 /// The permissions of a mode.
 pub(crate) fn mode_in(mode: &Option<Field>) -> Result<u16, LineFault>
-    ensures { IsRead (λ n. n) (mode_in (option_map field_said mode.now)) result }
+    ensures { IsRead (λ n. n) (mode_in (option_map field_value mode.now)) result }
 {
     permissions_in(text_of(mode)?).ok_or(LineFault::Syntax)
 }
 
 /// Takes owner, group and mode.
 pub(crate) fn take_claims(fields: &mut Fields) -> Result<Claims, LineFault>
-    ensures { IsRead claims_of (claims_in (fields_said fields.old)) result }
+    ensures { IsRead claims_of (claims_in (field_values fields.old)) result }
 {
     Ok(Claims {
         owner: take_text(&mut fields.owner)?,
@@ -82,7 +83,7 @@ pub(crate) fn take_claims(fields: &mut Fields) -> Result<Claims, LineFault>
 
 /// The bytes that hexadecimal digits of either case spell.
 fn bytes_in(alloc: Global, field: &Option<Field>) -> Result<Vec<u8>, LineFault>
-    ensures { IsRead (λ bytes. bytes.items) (bytes_in (option_map field_said field.now)) result }
+    ensures { IsRead (λ bytes. bytes.items) (bytes_in (option_map field_value field.now)) result }
 {
     let digits = text_of(field)?;
     match hex::decode(alloc, digits) {
@@ -100,7 +101,7 @@ pub(crate) fn take_content(
     text: &mut Option<Field>,
 ) -> Result<Vec<u8>, LineFault>
     ensures { IsRead (λ bytes. bytes.items)
-        (content_by version (option_map field_said digits.now) (option_map field_said text.old))
+        (content_by version (option_map field_value digits.now) (option_map field_value text.old))
         result }
 {
     if digits.is_some() {
@@ -114,7 +115,7 @@ pub(crate) fn take_content(
 
 /// Whether a note is a text, in a version that has notes.
 fn may_note(version: Version, note: &Option<Field>) -> bool
-    ensures { result ≡ may_note version (option_map field_said note.now) }
+    ensures { result ≡ may_note version (option_map field_value note.now) }
 {
     match note {
         None => true,
@@ -125,7 +126,7 @@ fn may_note(version: Version, note: &Option<Field>) -> bool
 
 /// Whether there are exactly so many keys, beside a note.
 pub(crate) fn has_only(version: Version, count: usize, fields: &Fields) -> bool
-    ensures { result ≡ has_only version count (fields_said fields.now) }
+    ensures { result ≡ has_only version count (field_values fields.now) }
 {
     fields.has_keys(count) && may_note(version, &fields.note)
 }

@@ -1,6 +1,7 @@
 //! The version of a trace, which its header says.
 ghost use Rattle.std.specs.Prelude.{◌≡◌};
-ghost use Rattle.cs_trace_lines.specs.Versions.{block_bytes, block_size_of, block_size_of_bytes, is_third, profile_of, says_first};
+ghost use Rattle.cs_trace_lines.specs.Versions.{block_bytes, block_size_of, block_size_of_bytes};
+ghost use Rattle.cs_trace_lines.specs.Versions.{is_third, profile_of, says_first};
 
 use crate::profile::Profile;
 
@@ -45,8 +46,8 @@ pub enum Version {
     First,
     /// With `chmod` and `chown`, on a file system of that profile.
     Second(Profile),
-    /// With links, syncs of a range, notes and texts, and blocks of that size. What was acknowledged
-    /// comes before all that follows it.
+    /// With links, syncs of a range, notes and texts, and blocks of that size. What was
+    /// acknowledged comes before all that follows it.
     Third(Profile, BlockSize),
 }
 

@@ -4,7 +4,7 @@ use Rattle.std.proofs.lemmas.Bool.{cases_eq, eq-eqb, ne_eqb}
 use Rattle.cs_tree_model.specs.Laws.Lookups.{place_cases, set_kid_here, set_kid_other}
 use Rattle.cs_tree_model.specs.Lookups.{Lookup, set_kid}
 use Rattle.cs_tree_model.specs.Table as table
-use Rattle.cs_tree_model.specs.Table.{Nodes, set_node, tree_of, unset_node, with_file}
+use Rattle.cs_tree_model.specs.Table.{Nodes, set_node}
 use Rattle.cs_tree_model.specs.Tree.{NameBytes}
 
 -- ---- tables of the model in which the same numbers are set in another order
@@ -40,7 +40,8 @@ module _ (at : Nodes) (n u : ℕ) (apart : n ≢ u) (a b c d : table.Node) where
           (cases_eq q n)
 
 -- two names of a directory can be set in either order
-pub set_kid_swap : (k : Lookup) (u : ℕ) (x y : NameBytes) (v w : Option ℕ) → x ≢ y → set_kid (set_kid k u y v) u x w ≡ set_kid (set_kid k u x w) u y v
+pub set_kid_swap : (k : Lookup) (u : ℕ) (x y : NameBytes) (v w : Option ℕ) → x ≢ y
+    → set_kid (set_kid k u y v) u x w ≡ set_kid (set_kid k u x w) u y v
 set_kid_swap k u x y v w apart = λ i a b. each a b i
   where
     each : (a : ℕ) (b : NameBytes) → set_kid (set_kid k u y v) u x w a b ≡ set_kid (set_kid k u x w) u y v a b
@@ -50,7 +51,9 @@ set_kid_swap k u x y v w apart = λ i a b. each a b i
         (λ i. set_kid (set_kid k u y v) u x w (e.0 i) (e.1 i)) ∙ set_kid_here (set_kid k u y v) u x w
         ∙ sym (set_kid_other (set_kid k u x w) u y v a b no ∙ (λ i. set_kid k u x w (e.0 i) (e.1 i)) ∙ set_kid_here k u x w))
         (λ (ne : (a ≡ u) × (b ≡ x) → ⊥). set_kid_other (set_kid k u y v) u x w a b ne ∙ ⊎_elim
-        (λ (f : (a ≡ u) × (b ≡ y)). (λ i. set_kid k u y v (f.0 i) (f.1 i)) ∙ set_kid_here k u y v ∙ sym ((λ i. set_kid (set_kid k u x w) u y v (f.0 i) (f.1 i)) ∙ set_kid_here (set_kid k u x w) u y v))
-        (λ (nf : (a ≡ u) × (b ≡ y) → ⊥). set_kid_other k u y v a b nf ∙ sym (set_kid_other (set_kid k u x w) u y v a b nf ∙ set_kid_other k u x w a b ne))
+        (λ (f : (a ≡ u) × (b ≡ y)). (λ i. set_kid k u y v (f.0 i) (f.1 i)) ∙ set_kid_here k u y v ∙ sym
+        ((λ i. set_kid (set_kid k u x w) u y v (f.0 i) (f.1 i)) ∙ set_kid_here (set_kid k u x w) u y v))
+        (λ (nf : (a ≡ u) × (b ≡ y) → ⊥). set_kid_other k u y v a b nf ∙ sym
+        (set_kid_other (set_kid k u x w) u y v a b nf ∙ set_kid_other k u x w a b ne))
         (place_cases u y a b))
         (place_cases u x a b)

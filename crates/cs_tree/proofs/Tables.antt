@@ -12,7 +12,7 @@ use Rattle.cs_tree_model.specs.Tree.{NameBytes}
 use Rattle.cs_tree.specs.declared.node.Body.{Body}
 use Rattle.cs_tree.specs.declared.node.Body.TheVariants.{Directory, File}
 use Rattle.cs_tree.specs.declared.node.Node.{Node}
-use Rattle.cs_tree.specs.Held.{shapes, kids, IsNode}
+use Rattle.cs_tree.specs.Held.{model_nodes, child_lookup, IsNode}
 use Rattle.cs_tree.specs.Node.{Alike, body_with_child, body_without_child, child_in, content_of, shape_of, step_at, with_at}
 
 -- tables that answer alike are one
@@ -31,70 +31,82 @@ module _ (at : ℕ → Option Node) (k : ℕ) where
 
   -- ---- in the model
 
-  pub shapes_put : (e : Node) → shapes (with_at at k (Some e)) ≡ set_node (shapes at) k (shape_of e)
+  pub shapes_put : (e : Node) → model_nodes (with_at at k (Some e)) ≡ set_node (model_nodes at) k (shape_of e)
   shapes_put e = λ i q. each q i
     where
-      each : (q : ℕ) → shapes (with_at at k (Some e)) q ≡ set_node (shapes at) k (shape_of e) q
+      each : (q : ℕ) → model_nodes (with_at at k (Some e)) q ≡ set_node (model_nodes at) k (shape_of e) q
       each q = ⊎_elim
-          (λ (s : q ≡ k). let t : q == k ≡ true = eq-eqb q k s in rw t (ap (shapes (with_at at k (Some e))) s ∙ ap (option_map shape_of) (with_at_here (Some e))))
+          (λ (s : q ≡ k). let t : q == k ≡ true = eq-eqb q k s in
+          rw t (ap (model_nodes (with_at at k (Some e))) s ∙ ap (option_map shape_of) (with_at_here (Some e))))
           (λ (ne : q ≢ k). let t : q == k ≡ false = ne_eqb q k ne in rw t (ap (option_map shape_of) (with_at_other (Some e) q ne)))
           (cases_eq q k)
 
-  pub shapes_gone : shapes (with_at at k None) ≡ unset_node (shapes at) k
+  pub shapes_gone : model_nodes (with_at at k None) ≡ unset_node (model_nodes at) k
   shapes_gone = λ i q. each q i
     where
-      each : (q : ℕ) → shapes (with_at at k None) q ≡ unset_node (shapes at) k q
+      each : (q : ℕ) → model_nodes (with_at at k None) q ≡ unset_node (model_nodes at) k q
       each q = ⊎_elim
-          (λ (s : q ≡ k). let t : q == k ≡ true = eq-eqb q k s in rw t (ap (shapes (with_at at k None)) s ∙ ap (option_map shape_of) (with_at_here None)))
+          (λ (s : q ≡ k). let t : q == k ≡ true = eq-eqb q k s in
+          rw t (ap (model_nodes (with_at at k None)) s ∙ ap (option_map shape_of) (with_at_here None)))
           (λ (ne : q ≢ k). let t : q == k ≡ false = ne_eqb q k ne in rw t (ap (option_map shape_of) (with_at_other None q ne)))
           (cases_eq q k)
 
   -- ---- for the look-ups
 
-  kids_there : (w : Option Node) (y : NameBytes) → kids (with_at at k w) k y ≡ option_and_then (λ o. child_in o.body y) w
+  kids_there : (w : Option Node) (y : NameBytes) → child_lookup (with_at at k w) k y ≡ option_and_then (λ o. child_in o.body y) w
   kids_there w y = ap (option_and_then (λ o. child_in o.body y)) (with_at_here w)
 
-  kids_elsewhere : (w : Option Node) (v : ℕ) (y : NameBytes) → v ≢ k → kids (with_at at k w) v y ≡ kids at v y
+  kids_elsewhere : (w : Option Node) (v : ℕ) (y : NameBytes) → v ≢ k → child_lookup (with_at at k w) v y ≡ child_lookup at v y
   kids_elsewhere w v y ne = ap (option_and_then (λ o. child_in o.body y)) (with_at_other w v ne)
 
   -- the children that the node k has
-  kids_at : (d : Node) → at k ≡ Some d → (y : NameBytes) → kids at k y ≡ child_in d.body y
+  kids_at : (d : Node) → at k ≡ Some d → (y : NameBytes) → child_lookup at k y ≡ child_in d.body y
   kids_at d here y = ap (option_and_then (λ o. child_in o.body y)) here
 
   -- a node that answers as before changes no look-up
-  kids_stay : (w : Option Node) → ((y : NameBytes) → option_and_then (λ o. child_in o.body y) w ≡ kids at k y) → kids (with_at at k w) ≡ kids at
+  kids_stay : (w : Option Node) → ((y : NameBytes) → option_and_then (λ o. child_in o.body y) w ≡ child_lookup at k y)
+      → child_lookup (with_at at k w) ≡ child_lookup at
   kids_stay w same = λ i v y. each v y i
     where
-      each : (v : ℕ) (y : NameBytes) → kids (with_at at k w) v y ≡ kids at v y
+      each : (v : ℕ) (y : NameBytes) → child_lookup (with_at at k w) v y ≡ child_lookup at v y
       each v y = ⊎_elim
-          (λ (e : v ≡ k). ap (λ u. kids (with_at at k w) u y) e ∙ kids_there w y ∙ same y ∙ ap (λ u. kids at u y) (sym e))
+          (λ (e : v ≡ k). ap (λ u. child_lookup (with_at at k w) u y) e ∙ kids_there w y ∙ same y ∙ ap (λ u. child_lookup at u y) (sym e))
           (λ (ne : v ≢ k). kids_elsewhere w v y ne)
           (cases_eq v k)
 
-  pub kids_same : (d e : Node) → at k ≡ Some d → ((y : NameBytes) → child_in e.body y ≡ child_in d.body y) → kids (with_at at k (Some e)) ≡ kids at
+  pub kids_same : (d e : Node) → at k ≡ Some d → ((y : NameBytes) → child_in e.body y ≡ child_in d.body y)
+      → child_lookup (with_at at k (Some e)) ≡ child_lookup at
   kids_same d e here same = kids_stay (Some e) (λ y. same y ∙ sym (kids_at d here y))
 
-  pub kids_new : (e : Node) → at k ≡ None → ((y : NameBytes) → child_in e.body y ≡ None) → kids (with_at at k (Some e)) ≡ kids at
+  pub kids_new : (e : Node) → at k ≡ None → ((y : NameBytes) → child_in e.body y ≡ None)
+      → child_lookup (with_at at k (Some e)) ≡ child_lookup at
   kids_new e none childless = kids_stay (Some e) (λ y. childless y ∙ sym (ap (option_and_then (λ o. child_in o.body y)) none))
 
-  pub kids_gone : ((y : NameBytes) → kids at k y ≡ None) → kids (with_at at k None) ≡ kids at
+  pub kids_gone : ((y : NameBytes) → child_lookup at k y ≡ None) → child_lookup (with_at at k None) ≡ child_lookup at
   kids_gone leaf = kids_stay None (λ y. sym (leaf y))
 
   -- a node that answers otherwise under one name
-  kids_set : (e : Node) (x : NameBytes) (w : Option ℕ) → child_in e.body x ≡ w → ((y : NameBytes) → y ≢ x → child_in e.body y ≡ kids at k y) → kids (with_at at k (Some e)) ≡ set_kid (kids at) k x w
+  kids_set : (e : Node) (x : NameBytes) (w : Option ℕ) → child_in e.body x ≡ w
+      → ((y : NameBytes) → y ≢ x → child_in e.body y ≡ child_lookup at k y)
+      → child_lookup (with_at at k (Some e)) ≡ set_kid (child_lookup at) k x w
   kids_set e x w new old = λ i v y. each v y i
     where
-      each : (v : ℕ) (y : NameBytes) → kids (with_at at k (Some e)) v y ≡ set_kid (kids at) k x w v y
+      each : (v : ℕ) (y : NameBytes) → child_lookup (with_at at k (Some e)) v y ≡ set_kid (child_lookup at) k x w v y
       each v y = ⊎_elim
-          (λ (here : (v ≡ k) × (y ≡ x)). (λ i. kids (with_at at k (Some e)) (here.0 i) (here.1 i)) ∙ kids_there (Some e) x ∙ new ∙ sym ((λ i. set_kid (kids at) k x w (here.0 i) (here.1 i)) ∙ set_kid_here (kids at) k x w))
+          (λ (here : (v ≡ k) × (y ≡ x)). (λ i. child_lookup (with_at at k (Some e)) (here.0 i) (here.1 i)) ∙ kids_there (Some e) x ∙ new ∙
+          sym ((λ i. set_kid (child_lookup at) k x w (here.0 i) (here.1 i)) ∙ set_kid_here (child_lookup at) k x w))
           (λ (other : (v ≡ k) × (y ≡ x) → ⊥). ⊎_elim
-          (λ (s : v ≡ k). ap (λ u. kids (with_at at k (Some e)) u y) s ∙ kids_there (Some e) y ∙ old y (λ f. other (s, f)) ∙ ap (λ u. kids at u y) (sym s))
+          (λ (s : v ≡ k). ap (λ u. child_lookup (with_at at k (Some e)) u y) s ∙ kids_there (Some e) y ∙ old y (λ f. other (s, f)) ∙ ap
+          (λ u. child_lookup at u y) (sym s))
           (λ (ne : v ≢ k). kids_elsewhere (Some e) v y ne)
-          (cases_eq v k) ∙ sym (set_kid_other (kids at) k x w v y other))
+          (cases_eq v k) ∙ sym (set_kid_other (child_lookup at) k x w v y other))
           (place_cases k x v y)
 
-  pub kids_with : (d e : Node) → at k ≡ Some d → content_of d.body ≡ None → (x : NameBytes) (n : ℕ) → e.body ≡ body_with_child d.body x n → kids (with_at at k (Some e)) ≡ set_kid (kids at) k x (Some n)
-  kids_with d e here directory x n is = kids_set e x (Some n) (ap (λ b. child_in b x) is ∙ child_new d.body directory) (λ y ne. ap (λ b. child_in b y) is ∙ child_old d.body y ne ∙ sym (kids_at d here y))
+  pub kids_with : (d e : Node) → at k ≡ Some d → content_of d.body ≡ None → (x : NameBytes) (n : ℕ) → e.body ≡ body_with_child d.body x n
+      → child_lookup (with_at at k (Some e)) ≡ set_kid (child_lookup at) k x (Some n)
+  kids_with d e here directory x n is =
+      kids_set e x (Some n) (ap (λ b. child_in b x) is ∙ child_new d.body directory)
+      (λ y ne. ap (λ b. child_in b y) is ∙ child_old d.body y ne ∙ sym (kids_at d here y))
     where
       child_new : (b : Body) → content_of b ≡ None → child_in (body_with_child b x n) x ≡ Some n
       child_new (Directory m) dir = get-insert_same total exact m x n
@@ -104,8 +116,11 @@ module _ (at : ℕ → Option Node) (k : ℕ) where
       child_old (Directory m) y ne = get-insert_other total exact m y x n ne
       child_old (File bytes) y ne = refl
 
-  pub kids_without : (d e : Node) → at k ≡ Some d → (x : NameBytes) → e.body ≡ body_without_child d.body x → kids (with_at at k (Some e)) ≡ set_kid (kids at) k x None
-  kids_without d e here x is = kids_set e x None (ap (λ b. child_in b x) is ∙ child_gone d.body) (λ y ne. ap (λ b. child_in b y) is ∙ child_old d.body y ne ∙ sym (kids_at d here y))
+  pub kids_without : (d e : Node) → at k ≡ Some d → (x : NameBytes) → e.body ≡ body_without_child d.body x
+      → child_lookup (with_at at k (Some e)) ≡ set_kid (child_lookup at) k x None
+  kids_without d e here x is =
+      kids_set e x None (ap (λ b. child_in b x) is ∙ child_gone d.body)
+      (λ y ne. ap (λ b. child_in b y) is ∙ child_old d.body y ne ∙ sym (kids_at d here y))
     where
       child_gone : (b : Body) → child_in (body_without_child b x) x ≡ None
       child_gone (Directory m) = get-remove_same total exact m x
@@ -117,7 +132,8 @@ module _ (at : ℕ → Option Node) (k : ℕ) where
 
   -- ---- each node by itself
 
-  pub nodes_put : ((n : ℕ) (c : Node) → at n ≡ Some c → IsNode n c) → (e : Node) → IsNode k e → (n : ℕ) (c : Node) → with_at at k (Some e) n ≡ Some c → IsNode n c
+  pub nodes_put : ((n : ℕ) (c : Node) → at n ≡ Some c → IsNode n c) → (e : Node) → IsNode k e → (n : ℕ) (c : Node)
+      → with_at at k (Some e) n ≡ Some c → IsNode n c
   nodes_put nodes e node n c is = ⊎_elim
       (λ (s : n ≡ k).
       let one : e ≡ c = (let two : Some e ≡ Some c = sym (ap (with_at at k (Some e)) s ∙ with_at_here (Some e)) ∙ is in cc) in
@@ -141,7 +157,8 @@ content_without_child (Directory m) x = refl
 content_without_child (File bytes) x = refl
 
 -- a node that the model has is one of the program's
-pub node_behind : (at : ℕ → Option Node) (n : ℕ) (d : table.Node) → shapes at n ≡ Some d → (c : Node) × (at n ≡ Some c) × (shape_of c ≡ d)
+pub node_behind : (at : ℕ → Option Node) (n : ℕ) (d : table.Node) → model_nodes at n ≡ Some d → (c : Node) × (at n ≡ Some c)
+    × (shape_of c ≡ d)
 node_behind at n d is = by (at n) refl is
   where
     by : (o : Option Node) → at n ≡ o → option_map shape_of o ≡ Some d → (c : Node) × (at n ≡ Some c) × (shape_of c ≡ d)

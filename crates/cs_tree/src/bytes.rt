@@ -1,6 +1,7 @@
 //! The bytes of a file.
-ghost use Rattle.std.specs.Prelude.{◌≡◌, ◌+◌, ◌++◌, ◌<◌, ◌≤◌, ◌^◌, IfOk, OnOk, OnErr, take, drop, length, replicate};
-ghost use Rattle.cs_tree_model.specs.Effects.{placed};
+ghost use Rattle.std.specs.Prelude.{◌≡◌, ◌+◌, ◌++◌, ◌<◌, ◌≤◌, ◌^◌, IfOk, OnOk, OnErr, take, drop};
+ghost use Rattle.std.specs.Prelude.{length, replicate};
+ghost use Rattle.cs_tree_model.specs.Effects.{bytes_after_write};
 
 use std::alloc::{AllocError, Global};
 use std::marker::Model;
@@ -39,19 +40,19 @@ impl Bytes {
         part(&self.bytes, offset as usize, count)
     }
 
-    /// Puts bytes over those at an offset, with zeros between the end and the offset. Takes memory
-    /// only where the file grows.
+    /// Puts bytes over those at an offset, with zeros between the end and the offset. Allocates
+    /// only if the file grows.
     pub fn place(&mut self, offset: u64, bytes: &[u8]) -> Result<(), AllocError>
         requires some { 0 < length bytes.now }
         requires room { offset + length bytes.now < 2 ^ 63 }
-        ensures ok { OnOk result (self.new ≡ placed offset bytes.now self.old) }
+        ensures ok { OnOk result (self.new ≡ bytes_after_write offset bytes.now self.old) }
         ensures err { OnErr result (self.new ≡ self.old) }
     {
         place(&mut self.bytes, offset as usize, bytes)?;
         Ok(())
     }
 
-    /// The first bytes, so many, with zeros after the last one where there are fewer.
+    /// The first bytes, so many, with zeros after the last one if there are fewer.
     pub fn resized(&self, alloc: Global, length: u64) -> Result<Bytes, AllocError>
         requires { length < 2 ^ 63 }
         ensures { IfOk result (λ file. file ≡ take length (self.now ++ replicate length 0)) }
@@ -73,7 +74,8 @@ fn part(bytes: &[u8], offset: usize, count: usize) -> &[u8]
 fn place(content: &mut Vec<u8>, offset: usize, bytes: &[u8]) -> Result<(), AllocError>
     requires some { 0 < length bytes.now }
     requires room { offset + length bytes.now < 2 ^ 63 }
-    ensures ok { OnOk result (content.new.items ≡ placed offset bytes.now content.old.items) }
+    ensures ok { OnOk result
+        (content.new.items ≡ bytes_after_write offset bytes.now content.old.items) }
     ensures err { OnErr result (content.new.items ≡ content.old.items) }
 {
     let end = offset + bytes.len();
@@ -86,7 +88,8 @@ fn place(content: &mut Vec<u8>, offset: usize, bytes: &[u8]) -> Result<(), Alloc
 /// Puts bytes over others, which reach as far.
 fn overwrite(content: &mut [u8], offset: usize, bytes: &[u8])
     requires { offset + length bytes.now ≤ length content.old }
-    ensures bytes { content.new ≡ take offset content.old ++ bytes.now ++ drop (offset + length bytes.now) content.old }
+    ensures bytes { content.new ≡ take offset content.old ++ bytes.now
+        ++ drop (offset + length bytes.now) content.old }
     ensures length { length content.new ≡ length content.old }
 {
     content[offset..offset + bytes.len()].copy_from_slice(bytes);

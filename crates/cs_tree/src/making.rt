@@ -8,7 +8,7 @@ use cs_tree_model::{Content, Kind, New, Record, Stamp, is_directory_mode};
 use std::alloc::{AllocError, Global};
 
 /// The bytes in a memory of their own; no byte takes none.
-pub fn copied(alloc: Global, bytes: &[u8]) -> Result<Vec<u8>, AllocError>
+pub fn try_clone_bytes(alloc: Global, bytes: &[u8]) -> Result<Vec<u8>, AllocError>
     ensures value { IfOk result (λ v. v.items ≡ bytes.now) }
     ensures memory { IsErr result → bytes.now ≢ [] }
 {
@@ -19,7 +19,7 @@ pub fn copied(alloc: Global, bytes: &[u8]) -> Result<Vec<u8>, AllocError>
 }
 
 /// The name again, if there is one.
-pub fn copied_name(name: &Option<UserName>) -> Result<Option<UserName>, AllocError>
+pub fn try_clone_name(name: &Option<UserName>) -> Result<Option<UserName>, AllocError>
     ensures { IfOk result (λ again. again ≡ name.now) }
 {
     match name {
@@ -63,7 +63,7 @@ fn new_content(alloc: Global, mode: u32) -> Content
     }
 }
 
-/// Whether the mode says rightly what the record is: a directory or a file.
+/// Whether the mode has a directory's bit exactly if the record is a directory's.
 pub fn is_marked(file: &Record) -> bool
     ensures { result ≡ is_marked file.now }
 {

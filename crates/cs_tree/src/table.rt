@@ -1,8 +1,13 @@
 //! The nodes by their numbers.
-ghost use Rattle.std.specs.Prelude.{◌≡◌, ◌≢◌, ◌+◌, ◌<◌, ◌^◌, ℕ, nat_eq, List, None, Some, OnOk, OnErr, IfOk, IfSome, IsSome, length, option_and_then, string_bytes, unwrap_or};
+ghost use Rattle.std.specs.Prelude.{◌≡◌, ◌≢◌, ◌+◌, ◌<◌, ◌^◌, ℕ, nat_eq, List, None, Some, OnOk};
+ghost use Rattle.std.specs.Prelude.{OnErr, IfOk, IfSome, IsSome, length, option_and_then};
+ghost use Rattle.std.specs.Prelude.{string_bytes, unwrap_or};
 ghost use Rattle.std.specs.Option.{option_map};
 ghost use Rattle.std.specs.HashMap.{get, spare};
-ghost use Rattle.cs_tree.specs.Node.{Alike, CanStampNode, IsNodeOf, IsRootTable, renamed, resized_bytes, step_at, with_at, with_attributes, with_bytes, with_child, with_name, with_stamp, with_write, without_child, without_node};
+ghost use Rattle.cs_tree.specs.Node.{Alike, CanStampNode, IsNodeOf, IsRootTable, renamed};
+ghost use Rattle.cs_tree.specs.Node.{resized_bytes, step_at, with_at, with_attributes, with_bytes};
+ghost use Rattle.cs_tree.specs.Node.{with_child, with_name, with_stamp, with_write, without_child};
+ghost use Rattle.cs_tree.specs.Node.{without_node};
 
 use crate::bytes::Bytes;
 use crate::node::{Body, Node};
@@ -28,7 +33,9 @@ fn link(
     name: String,
     number: u64,
 ) -> Result<(), AllocError>
-    ensures ok { OnOk result (Alike (step_at (get nat_eq nodes.old) directory (λ d. with_child d (string_bytes name) number)) (get nat_eq nodes.new)) }
+    ensures ok { OnOk result
+        (Alike (step_at (get nat_eq nodes.old) directory
+        (λ d. with_child d (string_bytes name) number)) (get nat_eq nodes.new)) }
     ensures err { OnErr result (Alike (get nat_eq nodes.old) (get nat_eq nodes.new)) }
     ensures spare { spare nodes.new ≡ spare nodes.old }
 {
@@ -57,7 +64,10 @@ pub fn grow(
     number: u64,
     node: Node,
 ) -> Result<(), AllocError>
-    ensures ok { OnOk result (Alike (with_at (step_at (get nat_eq nodes.old) directory (λ d. with_child d (string_bytes name) number)) number (Some node)) (get nat_eq nodes.new)) }
+    ensures ok { OnOk result
+        (Alike (with_at
+        (step_at (get nat_eq nodes.old) directory (λ d. with_child d (string_bytes name) number))
+        number (Some node)) (get nat_eq nodes.new)) }
     ensures err { OnErr result (Alike (get nat_eq nodes.old) (get nat_eq nodes.new)) }
 {
     nodes.reserve(1)?;
@@ -69,29 +79,34 @@ pub fn grow(
 /// Counts a change of a directory's entries.
 pub fn stamp_node(nodes: &mut HashMap<u64, Node>, number: u64, stamp: Stamp)
     requires { CanStampNode (get nat_eq nodes.old) number }
-    ensures { Alike (step_at (get nat_eq nodes.old) number (λ d. with_stamp d stamp)) (get nat_eq nodes.new) }
+    ensures { Alike (step_at (get nat_eq nodes.old) number (λ d. with_stamp d stamp))
+        (get nat_eq nodes.new) }
 {
     if let Some(node) = nodes.get_mut(&number) {
-        node.stamp(stamp);
+        node.metadata.stamp(stamp);
     }
 }
 
 /// Takes a name out of a directory, and stamps the directory.
 fn unlink(nodes: &mut HashMap<u64, Node>, directory: u64, name: &str, stamp: Stamp)
     requires { CanStampNode (get nat_eq nodes.old) directory }
-    ensures { Alike (step_at (get nat_eq nodes.old) directory (λ d. with_stamp (without_child d name.now) stamp)) (get nat_eq nodes.new) }
+    ensures { Alike
+        (step_at (get nat_eq nodes.old) directory
+        (λ d. with_stamp (without_child d name.now) stamp)) (get nat_eq nodes.new) }
 {
     if let Some(node) = nodes.get_mut(&directory) {
         node.unlink(name);
-        node.stamp(stamp);
+        node.metadata.stamp(stamp);
     }
 }
 
 /// Takes a file out of the table and out of its directory, which is stamped.
 pub fn take_out(nodes: &mut HashMap<u64, Node>, number: u64, stamp: Stamp)
     requires named { IfSome (get nat_eq nodes.old number) (λ d. IsSome d.name) }
-    requires vers { IfSome (get nat_eq nodes.old number) (λ d. CanStampNode (get nat_eq nodes.old) d.parent) }
-    ensures { IfSome (get nat_eq nodes.old number) (λ d. Alike (without_node (get nat_eq nodes.old) number d stamp) (get nat_eq nodes.new)) }
+    requires vers { IfSome (get nat_eq nodes.old number)
+        (λ d. CanStampNode (get nat_eq nodes.old) d.parent) }
+    ensures { IfSome (get nat_eq nodes.old number)
+        (λ d. Alike (without_node (get nat_eq nodes.old) number d stamp) (get nat_eq nodes.new)) }
 {
     let Some(node) = nodes.remove(&number) else {
         return;
@@ -112,7 +127,9 @@ pub fn write(
     requires vers { CanStampNode (get nat_eq nodes.old) number }
     requires some { 0 < length bytes.now }
     requires room { offset + length bytes.now < 2 ^ 63 }
-    ensures ok { OnOk result (Alike (step_at (get nat_eq nodes.old) number (λ d. with_write d offset bytes.now stamp)) (get nat_eq nodes.new)) }
+    ensures ok { OnOk result
+        (Alike (step_at (get nat_eq nodes.old) number (λ d. with_write d offset bytes.now stamp))
+        (get nat_eq nodes.new)) }
     ensures err { OnErr result (Alike (get nat_eq nodes.old) (get nat_eq nodes.new)) }
 {
     match nodes.get_mut(&number) {
@@ -124,7 +141,8 @@ pub fn write(
 /// Gives a file another name, and gives back the one that it had.
 fn set_name(nodes: &mut HashMap<u64, Node>, number: u64, name: Name) -> Option<Name>
     ensures old { result ≡ option_and_then (λ d. d.name) (get nat_eq nodes.old number) }
-    ensures set { Alike (step_at (get nat_eq nodes.old) number (λ d. with_name d name)) (get nat_eq nodes.new) }
+    ensures set { Alike (step_at (get nat_eq nodes.old) number (λ d. with_name d name))
+        (get nat_eq nodes.new) }
 {
     match nodes.get_mut(&number) {
         Some(node) => mem::replace(&mut node.name, Some(name)),
@@ -140,8 +158,12 @@ pub fn rename(
     stamp: Stamp,
 ) -> Result<(), AllocError>
     requires named { IfSome (get nat_eq nodes.old number) (λ d. IsSome d.name) }
-    requires vers { IfSome (get nat_eq nodes.old number) (λ d. CanStampNode (get nat_eq nodes.old) d.parent) }
-    ensures ok { OnOk result (IfSome (get nat_eq nodes.old number) (λ d. Alike (renamed (get nat_eq nodes.old) number d name.now stamp) (get nat_eq nodes.new))) }
+    requires vers { IfSome (get nat_eq nodes.old number)
+        (λ d. CanStampNode (get nat_eq nodes.old) d.parent) }
+    ensures ok { OnOk result
+        (IfSome (get nat_eq nodes.old number)
+        (λ d. Alike (renamed (get nat_eq nodes.old) number d name.now stamp)
+        (get nat_eq nodes.new))) }
     ensures err { OnErr result (Alike (get nat_eq nodes.old) (get nat_eq nodes.new)) }
 {
     let directory = match nodes.get(&number) {
@@ -157,7 +179,7 @@ pub fn rename(
     Ok(())
 }
 
-/// The bytes of a file, so many as are asked; None where no length is asked, and of a directory.
+/// The bytes of a file, so many as are asked; None if no length is asked, and of a directory.
 pub fn resized(
     alloc: Global,
     nodes: &HashMap<u64, Node>,
@@ -179,8 +201,8 @@ pub fn resized(
     }
 }
 
-/// Gives a file the fields of a change but its name: `group` is the change's group, and `bytes` what
-/// the change's length makes of the bytes.
+/// Gives a file the fields of a change but its name: `group` is the change's group, and `bytes`
+/// what the change's length makes of the bytes.
 pub fn change(
     nodes: &mut HashMap<u64, Node>,
     number: u64,
@@ -190,10 +212,14 @@ pub fn change(
     stamp: Stamp,
 )
     requires { CanStampNode (get nat_eq nodes.old) number }
-    ensures { Alike (step_at (get nat_eq nodes.old) number (λ d. with_attributes (with_bytes d bytes stamp) change.now.mode group change.now.mtime)) (get nat_eq nodes.new) }
+    ensures { Alike
+        (step_at (get nat_eq nodes.old) number
+        (λ d. with_attributes (with_bytes d bytes stamp) change.now.mode group change.now.mtime))
+        (get nat_eq nodes.new) }
 {
     if let Some(node) = nodes.get_mut(&number) {
         node.set_bytes(bytes, stamp);
-        node.set_attributes(change.mode, group, change.mtime);
+        node.metadata
+            .set_attributes(change.mode, group, change.mtime);
     }
 }

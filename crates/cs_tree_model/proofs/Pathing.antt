@@ -1,13 +1,15 @@
 -- A step of the walk up, by what a store answers.
-use Rattle.std.proofs.Common.{◌≡◌, ◌≢◌, ◌<◌, ℕ, zero, suc, true, false, List, [], ◌∷◌, ◌++◌, Option, None, Some, IsSome, refl, sym, ap, ◌∙◌, subst, ⊎_elim, reverse, append_assoc}
+use Rattle.std.proofs.Common.{◌≡◌, ◌≢◌, ◌<◌, ℕ, zero, suc, true, false, List, [], ◌∷◌, ◌++◌, Option, None, Some, IsSome, refl, sym, ap, ◌∙◌}
+use Rattle.std.proofs.Common.{subst, ⊎_elim, reverse, append_assoc}
 use Rattle.std.proofs.lemmas.Bool.{false≢true}
 use Rattle.std.proofs.lemmas.List.{reverse-append}
 use Rattle.std.specs.Option.{option_and_then, option_map, is_some, IsSomeAnd}
 use Rattle.cs_tree_model.specs.declared.record.Metadata.{Metadata}
 use Rattle.cs_tree_model.specs.Lookups.{IsIndexed}
-use Rattle.cs_tree_model.specs.Record.{lent, metadata_of}
+use Rattle.cs_tree_model.specs.Record.{metadata_of_ref, metadata_of}
 use Rattle.cs_tree_model.specs.Table.{Node, path_of, node_in}
-use Rattle.cs_tree_model.specs.Tree.{NameBytes, Path, Tree, IsTree, last_name, name_numbered, number_in, parent_numbered, path_numbered, record_numbered}
+use Rattle.cs_tree_model.specs.Tree.{NameBytes, Path, Tree, IsTree, last_name, name_numbered, number_in, parent_numbered, path_numbered}
+use Rattle.cs_tree_model.specs.Tree.{record_numbered}
 use Rattle.cs_tree_model.specs.Laws.Lookups.{links_of_tree, tree_round}
 use Rattle.cs_tree_model.specs.Laws.Paths.{option_cases, path_of_root, path_step}
 use Rattle.cs_tree_model.specs.Laws.Round.{last_of_snoc, table_of_tree}
@@ -40,18 +42,21 @@ module _ (t : Tree) (h : IsTree t) where
       by zero None e = refl
       by zero (Some d) e = ap last_name (path_of_root (node_in t))
       by (suc n) None e = refl
-      by (suc n) (Some d) e = ap last_name (path_step (node_in t) indexed.table.parent_below (suc n) d e (λ z. (cc))) ∙ last_of_snoc (path_of (node_in t) d.parent) d.name
+      by (suc n) (Some d) e =
+          ap last_name (path_step (node_in t) indexed.table.parent_below (suc n) d e (λ z. (cc))) ∙ last_of_snoc
+          (path_of (node_in t) d.parent) d.name
 
 module _ (t : Tree) (h : IsTree t) where
   -- a store's answer for the record of n tells whether there is a node
-  module _ (n : ℕ) (m : Option Metadata) (told : option_map lent m ≡ option_map metadata_of (record_numbered t n)) where
-    same : option_map lent m ≡ option_map metadata_of (option_map (λ d. d.file) (node_in t n))
+  module _ (n : ℕ) (m : Option Metadata) (told : option_map metadata_of_ref m ≡ option_map metadata_of (record_numbered t n)) where
+    same : option_map metadata_of_ref m ≡ option_map metadata_of (option_map (λ d. d.file) (node_in t n))
     same = told ∙ ap (option_map metadata_of) (record_here t h n)
 
     pub no_path : is_some m ≡ false → None ≡ path_numbered t n
     no_path none = by m (node_in t n) same none ∙ sym (path_here t h n)
       where
-        by : (v : Option Metadata) (o : Option Node) → option_map lent v ≡ option_map metadata_of (option_map (λ d. d.file) o) → is_some v ≡ false → None ≡ option_map (λ _. path_of (node_in t) n) o
+        by : (v : Option Metadata) (o : Option Node) → option_map metadata_of_ref v ≡ option_map metadata_of (option_map (λ d. d.file) o)
+            → is_some v ≡ false → None ≡ option_map (λ _. path_of (node_in t) n) o
         by v None w e = refl
         by None (Some d) w e = absurd (false≢true (ap is_some w))
         by (Some k) (Some d) w e = absurd (false≢true (sym e))
@@ -59,7 +64,8 @@ module _ (t : Tree) (h : IsTree t) where
     pub node_there : is_some m ≡ true → IsSome (node_in t n)
     node_there some = by m (node_in t n) same some
       where
-        by : (v : Option Metadata) (o : Option Node) → option_map lent v ≡ option_map metadata_of (option_map (λ d. d.file) o) → is_some v ≡ true → IsSome o
+        by : (v : Option Metadata) (o : Option Node) → option_map metadata_of_ref v ≡ option_map metadata_of (option_map (λ d. d.file) o)
+            → is_some v ≡ true → IsSome o
         by None None w e = e
         by (Some k) None w e = absurd (false≢true (ap is_some (sym w)))
         by v (Some d) w e = refl
@@ -89,17 +95,25 @@ module _ (t : Tree) (h : IsTree t) where
   module _ (n : ℕ) (not_root : n ≢ 0) (u : ℕ) (parent : Some u ≡ parent_numbered t n) where
     node : (d : Node) × (node_in t n ≡ Some d) × (d.parent ≡ u)
     node = ⊎_elim
-        (λ (none : node_in t n ≡ None). absurd (false≢true (sym (ap is_some (parent ∙ parent_here t h n ∙ ap (option_map (λ (d : Node). d.parent)) none)))))
-        (λ (some : (d : Node) × (node_in t n ≡ Some d)). (some.0, some.1, (let two : Some some.0.parent ≡ Some u = sym (parent ∙ parent_here t h n ∙ ap (option_map (λ (d : Node). d.parent)) some.1) in cc)))
+        (λ (none : node_in t n ≡ None). absurd
+        (false≢true (sym (ap is_some (parent ∙ parent_here t h n ∙ ap (option_map (λ (d : Node). d.parent)) none)))))
+        (λ (some : (d : Node) × (node_in t n ≡ Some d)). (
+          some.0,
+          some.1,
+          (let two : Some some.0.parent ≡ Some u = sym (parent ∙ parent_here t h n ∙ ap (option_map (λ (d : Node). d.parent)) some.1) in
+              cc),
+        ))
         (option_cases (node_in t n))
 
     pub parent_less : u < n
     parent_less = subst (λ k. k < n) node.2 ((table_of_tree t h).parent_below n node.0 node.1 not_root)
 
     pub parent_there : IsSome (node_in t u)
-    parent_there = subst (λ k. IsSome (node_in t k)) node.2 (subst IsSome (sym ((table_of_tree t h).in_directory n node.0 node.1 not_root).1) refl)
+    parent_there =
+        subst (λ k. IsSome (node_in t k)) node.2 (subst IsSome (sym ((table_of_tree t h).in_directory n node.0 node.1 not_root).1) refl)
 
-    pub step_up : (x : NameBytes) → Some x ≡ name_numbered t n → (names more : List NameBytes) → more ≡ names ++ x ∷ [] → path_of (node_in t) n ++ reverse names ≡ path_of (node_in t) u ++ reverse more
+    pub step_up : (x : NameBytes) → Some x ≡ name_numbered t n → (names more : List NameBytes) → more ≡ names ++ x ∷ []
+        → path_of (node_in t) n ++ reverse names ≡ path_of (node_in t) u ++ reverse more
     step_up x name names more is =
         ap (λ p. p ++ reverse names) (path_step (node_in t) (table_of_tree t h).parent_below n node.0 node.1 not_root)
         ∙ append_assoc (path_of (node_in t) node.0.parent) (node.0.name ∷ []) (reverse names)
@@ -114,9 +128,11 @@ module _ (t : Tree) (h : IsTree t) where
         same = by n not_root (node_in t n) node.0 node.1 (name ∙ name_here t h n)
 
     -- there is a name above the root, and so a path that has one
-    pub has_names : (names : List NameBytes) (m : ℕ) → IsSome (node_in t m) → path_of (node_in t) m ≡ path_of (node_in t) n ++ names → IsSomeAnd (path_numbered t m) (λ p. p ≢ [])
+    pub has_names : (names : List NameBytes) (m : ℕ) → IsSome (node_in t m) → path_of (node_in t) m ≡ path_of (node_in t) n ++ names
+        → IsSomeAnd (path_numbered t m) (λ p. p ≢ [])
     has_names names m there is = subst (λ o. IsSomeAnd o (λ p. p ≢ [])) (some_path m there)
-        (λ none. some_names (path_of (node_in t) node.0.parent) node.0.name names (ap (λ p. p ++ names) (sym (path_step (node_in t) (table_of_tree t h).parent_below n node.0 node.1 not_root)) ∙ sym is ∙ none))
+        (λ none. some_names (path_of (node_in t) node.0.parent) node.0.name names
+        (ap (λ p. p ++ names) (sym (path_step (node_in t) (table_of_tree t h).parent_below n node.0 node.1 not_root)) ∙ sym is ∙ none))
       where
         some_names : (q : Path) (x : NameBytes) (w : List NameBytes) → (q ++ x ∷ []) ++ w ≡ [] → ⊥
         some_names [] x w e = (cc)

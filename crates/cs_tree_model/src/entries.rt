@@ -1,5 +1,6 @@
 //! The entries of a directory, one after the other.
-ghost use Rattle.std.specs.Prelude.{◌≡◌, None, Some, IfNone, IfSome, IsFalse, IsSome, IsTrue, string_bytes};
+ghost use Rattle.std.specs.Prelude.{◌≡◌, None, Some, IfNone, IfSome, IsFalse, IsSome, IsTrue};
+ghost use Rattle.std.specs.Prelude.{string_bytes};
 ghost use Rattle.std.specs.BTreeMap.{get_by_text};
 ghost use Rattle.std.specs.Option.{option_copied};
 ghost use Rattle.cs_tree_model.specs.Nexts.{comes_before, IsEntry, IsEntryBelow};
@@ -12,16 +13,19 @@ use std::ops::Bound;
 
 /// A file's name in its directory, lent by the store, and its number.
 #[derive(Clone, Copy, Debug)]
-pub struct Entry<'a> {
+pub struct ListedEntry<'a> {
     pub name: &'a Name,
     pub number: u64,
 }
 
 /// The first entry of a map after a name, or of all.
 fn after<'a, X>(map: &'a BTreeMap<String, X>, last: Option<&Name>) -> Option<(&'a String, &'a X)>
-    ensures some { IfSome result (λ e. IsEntry (λ y. IsSome (get_by_text map.now y)) (option_copied last.entry) (Some (string_bytes e.0.now))) }
+    ensures some { IfSome result
+        (λ e. IsEntry (λ y. IsSome (get_by_text map.now y)) (option_copied last.entry)
+        (Some (string_bytes e.0.now))) }
     ensures value { IfSome result (λ e. get_by_text map.now (string_bytes e.0.now) ≡ Some e.1.now) }
-    ensures none { IfNone result (IsEntry (λ y. IsSome (get_by_text map.now y)) (option_copied last.entry) None) }
+    ensures none { IfNone result
+        (IsEntry (λ y. IsSome (get_by_text map.now y)) (option_copied last.entry) None) }
 {
     match last {
         Some(last) => {
@@ -46,16 +50,20 @@ fn is_before(bound: Option<&Name>, name: &str) -> bool
     }
 }
 
-/// The first entry of a map after a name, or of all, if it comes before the bound. It takes no memory,
-/// and time logarithmic in the map.
+/// The first entry of a map after a name, or of all, if it comes before the bound. It takes no
+/// memory, and time logarithmic in the map.
 pub fn first_after<'a, X>(
     map: &'a BTreeMap<String, X>,
     last: Option<&Name>,
     bound: Option<&Name>,
 ) -> Option<(&'a String, &'a X)>
-    ensures some { IfSome result (λ e. IsEntryBelow (λ y. IsSome (get_by_text map.now y)) (option_copied last.entry) (option_copied bound.entry) (Some (string_bytes e.0.now))) }
+    ensures some { IfSome result
+        (λ e. IsEntryBelow (λ y. IsSome (get_by_text map.now y)) (option_copied last.entry)
+        (option_copied bound.entry) (Some (string_bytes e.0.now))) }
     ensures value { IfSome result (λ e. get_by_text map.now (string_bytes e.0.now) ≡ Some e.1.now) }
-    ensures none { IfNone result (IsEntryBelow (λ y. IsSome (get_by_text map.now y)) (option_copied last.entry) (option_copied bound.entry) None) }
+    ensures none { IfNone result
+        (IsEntryBelow (λ y. IsSome (get_by_text map.now y)) (option_copied last.entry)
+        (option_copied bound.entry) None) }
 {
     let (name, value) = after(map, last)?;
     if !is_before(bound, name.as_str()) {
@@ -64,10 +72,12 @@ pub fn first_after<'a, X>(
     Some((name, value))
 }
 
-/// Whether no file is in the directory; true of a file too, and where no record has the number.
+/// Whether no file is in the directory; true also of a file, and of a number without a record.
 pub fn is_empty<T: TreeRead>(tree: &T, directory: u64) -> bool
-    ensures empty { IsTrue result → (x : NameBytes) → number_in (T.tree tree.now) directory x ≡ None }
-    ensures entry { IsFalse result → (x : NameBytes) × IsSome (number_in (T.tree tree.now) directory x) }
+    ensures empty { IsTrue result → (x : NameBytes)
+        → number_in (T.tree tree.now) directory x ≡ None }
+    ensures entry { IsFalse result → (x : NameBytes)
+        × IsSome (number_in (T.tree tree.now) directory x) }
 {
     tree.entry_after(directory, None, None).is_none()
 }

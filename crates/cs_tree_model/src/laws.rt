@@ -1,11 +1,15 @@
 //! Laws of trees that change. A call of a function here does nothing: its contract is the law.
-ghost use Rattle.std.specs.Prelude.{◌≡◌, ◌≢◌, ◌+◌, ◌≤◌, ◌∷◌, [], ◌++◌, ℕ, List, Option, None, Some, IfSome, IsSome};
+ghost use Rattle.std.specs.Prelude.{◌≡◌, ◌≢◌, ◌+◌, ◌≤◌, ◌∷◌, [], ◌++◌, ℕ, List, Option, None, Some};
+ghost use Rattle.std.specs.Prelude.{IfSome, IsSome};
 ghost use Rattle.std.specs.Option.{option_map, option_map_or};
 ghost use Rattle.cs_tree_model.specs.Effects.{replace_prefix};
 ghost use Rattle.cs_tree_model.specs.Listing.{IsListing, tree_of_records};
 ghost use Rattle.cs_tree_model.specs.Nexts.{names_after, next_name};
-ghost use Rattle.cs_tree_model.specs.Stores.{AreMarked, IsDirectoryNumbered, KeepsKind, added, changed, removed, written_to};
-ghost use Rattle.cs_tree_model.specs.Tree.{IsTree, NameBytes, Path, number_in, parent_numbered, parent_path, path_numbered, record_numbered};
+ghost use Rattle.cs_tree_model.specs.Stores.{AreMarked, IsDirectoryNumbered, KeepsKind};
+ghost use Rattle.cs_tree_model.specs.Stores.{tree_with_file, tree_with_change, tree_without_file};
+ghost use Rattle.cs_tree_model.specs.Stores.{written_to};
+ghost use Rattle.cs_tree_model.specs.Tree.{IsTree, NameBytes, Path, number_in, parent_numbered};
+ghost use Rattle.cs_tree_model.specs.Tree.{parent_path, path_numbered, record_numbered};
 ghost use Rattle.cs_tree_model.specs.declared.change.Change as change;
 ghost use Rattle.cs_tree_model.specs.declared.change.New as new;
 ghost use Rattle.cs_tree_model.specs.declared.change.Stamp as stamp;
@@ -25,15 +29,20 @@ pub fn listings_are_marked(records: &[(Path, Record)])
 pub fn calls_keep_marks<T: TreeRead>(tree: &T)
     requires is_tree { IsTree (T.tree tree.now) }
     requires marked { AreMarked (T.tree tree.now) }
-    ensures added { (d : ℕ) (x : NameBytes) (w : new.New) (s : stamp.Stamp) → AreMarked (added d x w s (T.tree tree.now)) }
-    ensures removed { (n : ℕ) (s : stamp.Stamp) → AreMarked (removed n s (T.tree tree.now)) }
-    ensures written { (n k : ℕ) (w : List ℕ) (s : stamp.Stamp) → AreMarked (written_to n k w s (T.tree tree.now)) }
-    ensures changed { (n : ℕ) (c : change.Change) (s : stamp.Stamp) → KeepsKind c (record_numbered (T.tree tree.now) n) → AreMarked (changed n c s (T.tree tree.now)) }
+    ensures added { (d : ℕ) (x : NameBytes) (w : new.New) (s : stamp.Stamp)
+        → AreMarked (tree_with_file d x w s (T.tree tree.now)) }
+    ensures removed { (n : ℕ) (s : stamp.Stamp)
+        → AreMarked (tree_without_file n s (T.tree tree.now)) }
+    ensures written { (n k : ℕ) (w : List ℕ) (s : stamp.Stamp)
+        → AreMarked (written_to n k w s (T.tree tree.now)) }
+    ensures changed { (n : ℕ) (c : change.Change) (s : stamp.Stamp)
+        → KeepsKind c (record_numbered (T.tree tree.now) n)
+        → AreMarked (tree_with_change n c s (T.tree tree.now)) }
 {}
 
 /// A new name of a file renames every path that begins with the file's own, and leaves every other:
-/// all below a directory keep their numbers and move with it. It changes no record but the file's own
-/// and its directory's.
+/// all below a directory keep their numbers and move with it. It changes no record but the file's
+/// own and its directory's.
 pub fn rename_moves_what_is_below<T: TreeRead>(
     tree: &T,
     number: u64,
@@ -42,47 +51,90 @@ pub fn rename_moves_what_is_below<T: TreeRead>(
 )
     requires is_tree { IsTree (T.tree tree.now) }
     requires not_root { number ≢ 0 }
-    requires free { IfSome change.now.name (λ y. IfSome (parent_numbered (T.tree tree.now) number) (λ d. number_in (T.tree tree.now) d y ≡ None)) }
-    ensures others { IsSome change.now.name → (n : ℕ) → n ≢ number → parent_numbered (T.tree tree.now) number ≢ Some n → record_numbered (changed number change.now stamp.entry.now (T.tree tree.now)) n ≡ record_numbered (T.tree tree.now) n }
-    ensures paths { IfSome change.now.name (λ y. IfSome (path_numbered (T.tree tree.now) number) (λ q. (n : ℕ) → path_numbered (changed number change.now stamp.entry.now (T.tree tree.now)) n ≡ option_map (replace_prefix q (parent_path q ++ y ∷ [])) (path_numbered (T.tree tree.now) n))) }
+    requires free { IfSome change.now.name
+        (λ y. IfSome (parent_numbered (T.tree tree.now) number)
+        (λ d. number_in (T.tree tree.now) d y ≡ None)) }
+    ensures others { IsSome change.now.name → (n : ℕ) → n ≢ number
+        → parent_numbered (T.tree tree.now) number ≢ Some n
+        → record_numbered (tree_with_change number change.now stamp.entry.now (T.tree tree.now)) n
+        ≡ record_numbered (T.tree tree.now) n }
+    ensures paths { IfSome change.now.name
+        (λ y. IfSome (path_numbered (T.tree tree.now) number)
+        (λ q. (n : ℕ)
+        → path_numbered (tree_with_change number change.now stamp.entry.now (T.tree tree.now)) n
+        ≡ option_map (replace_prefix q (parent_path q ++ y ∷ []))
+        (path_numbered (T.tree tree.now) n))) }
 {}
 
-/// A remove takes one file out of the tree. Every other keeps its path, and its record too unless it is
-/// the directory that had the file.
+/// A remove takes one file out of the tree. Every other keeps its path, and its record too unless
+/// it is the directory that had the file.
 pub fn remove_leaves_the_others<T: TreeRead>(tree: &T, number: u64, stamp: &Stamp)
     requires is_tree { IsTree (T.tree tree.now) }
     requires not_root { number ≢ 0 }
     requires empty { (x : NameBytes) → number_in (T.tree tree.now) number x ≡ None }
-    ensures gone { record_numbered (removed number stamp.entry.now (T.tree tree.now)) number ≡ None }
-    ensures paths { (n : ℕ) → n ≢ number → path_numbered (removed number stamp.entry.now (T.tree tree.now)) n ≡ path_numbered (T.tree tree.now) n }
-    ensures others { (n : ℕ) → n ≢ number → parent_numbered (T.tree tree.now) number ≢ Some n → record_numbered (removed number stamp.entry.now (T.tree tree.now)) n ≡ record_numbered (T.tree tree.now) n }
+    ensures gone { record_numbered (tree_without_file number stamp.entry.now (T.tree tree.now))
+        number ≡ None }
+    ensures paths { (n : ℕ) → n ≢ number
+        → path_numbered (tree_without_file number stamp.entry.now (T.tree tree.now)) n
+        ≡ path_numbered (T.tree tree.now) n }
+    ensures others { (n : ℕ) → n ≢ number → parent_numbered (T.tree tree.now) number ≢ Some n
+        → record_numbered (tree_without_file number stamp.entry.now (T.tree tree.now)) n
+        ≡ record_numbered (T.tree tree.now) n }
 {}
 
 /// A tree stays a tree after any call of a store, under the call's own conditions.
 pub fn calls_keep_trees<T: TreeRead>(tree: &T)
     requires { IsTree (T.tree tree.now) }
-    ensures added { (d : ℕ) (x : NameBytes) (w : new.New) (s : stamp.Stamp) → IsDirectoryNumbered (T.tree tree.now) d → number_in (T.tree tree.now) d x ≡ None → IsTree (added d x w s (T.tree tree.now)) }
-    ensures removed { (n : ℕ) (s : stamp.Stamp) → n ≢ 0 → ((x : NameBytes) → number_in (T.tree tree.now) n x ≡ None) → IsTree (removed n s (T.tree tree.now)) }
-    ensures written { (n k : ℕ) (w : List ℕ) (s : stamp.Stamp) → IsTree (written_to n k w s (T.tree tree.now)) }
-    ensures changed { (n : ℕ) (c : change.Change) (s : stamp.Stamp) → (IsSome c.name → n ≢ 0) → IfSome c.name (λ y. IfSome (parent_numbered (T.tree tree.now) n) (λ d. number_in (T.tree tree.now) d y ≡ None)) → IsTree (changed n c s (T.tree tree.now)) }
+    ensures added { (d : ℕ) (x : NameBytes) (w : new.New) (s : stamp.Stamp)
+        → IsDirectoryNumbered (T.tree tree.now) d → number_in (T.tree tree.now) d x ≡ None
+        → IsTree (tree_with_file d x w s (T.tree tree.now)) }
+    ensures removed { (n : ℕ) (s : stamp.Stamp) → n ≢ 0
+        → ((x : NameBytes) → number_in (T.tree tree.now) n x ≡ None)
+        → IsTree (tree_without_file n s (T.tree tree.now)) }
+    ensures written { (n k : ℕ) (w : List ℕ) (s : stamp.Stamp)
+        → IsTree (written_to n k w s (T.tree tree.now)) }
+    ensures changed { (n : ℕ) (c : change.Change) (s : stamp.Stamp) → (IsSome c.name → n ≢ 0)
+        → IfSome c.name
+        (λ y. IfSome (parent_numbered (T.tree tree.now) n)
+        (λ d. number_in (T.tree tree.now) d y ≡ None))
+        → IsTree (tree_with_change n c s (T.tree tree.now)) }
 {}
 
-/// A number is given once. No file has the next number or one above it; a new file takes the next one,
-/// which grows by one; and no other call gives a number to a file.
+/// A number is given once. No file has the next number or one above it; a new file takes the next
+/// one, which grows by one; and no other call gives a number to a file.
 pub fn numbers_are_given_once<T: TreeRead>(tree: &T)
     requires { IsTree (T.tree tree.now) }
-    ensures free { (n : ℕ) → (T.tree tree.now).next ≤ n → record_numbered (T.tree tree.now) n ≡ None }
-    ensures next_added { (d : ℕ) (x : NameBytes) (w : new.New) (s : stamp.Stamp) → IsDirectoryNumbered (T.tree tree.now) d → number_in (T.tree tree.now) d x ≡ None → (added d x w s (T.tree tree.now)).next ≡ (T.tree tree.now).next + 1 }
-    ensures next_removed { (n : ℕ) (s : stamp.Stamp) → (removed n s (T.tree tree.now)).next ≡ (T.tree tree.now).next }
-    ensures next_written { (n k : ℕ) (w : List ℕ) (s : stamp.Stamp) → (written_to n k w s (T.tree tree.now)).next ≡ (T.tree tree.now).next }
-    ensures next_changed { (n : ℕ) (c : change.Change) (s : stamp.Stamp) → (changed n c s (T.tree tree.now)).next ≡ (T.tree tree.now).next }
-    ensures added { (d : ℕ) (x : NameBytes) (w : new.New) (s : stamp.Stamp) → IsDirectoryNumbered (T.tree tree.now) d → number_in (T.tree tree.now) d x ≡ None → (n : ℕ) → n ≢ (T.tree tree.now).next → record_numbered (T.tree tree.now) n ≡ None → record_numbered (added d x w s (T.tree tree.now)) n ≡ None }
-    ensures written { (f k : ℕ) (w : List ℕ) (s : stamp.Stamp) (n : ℕ) → record_numbered (T.tree tree.now) n ≡ None → record_numbered (written_to f k w s (T.tree tree.now)) n ≡ None }
-    ensures changed { (f : ℕ) (c : change.Change) (s : stamp.Stamp) → (IsSome c.name → f ≢ 0) → IfSome c.name (λ y. IfSome (parent_numbered (T.tree tree.now) f) (λ d. number_in (T.tree tree.now) d y ≡ None)) → (n : ℕ) → record_numbered (T.tree tree.now) n ≡ None → record_numbered (changed f c s (T.tree tree.now)) n ≡ None }
+    ensures free { (n : ℕ) → (T.tree tree.now).next ≤ n
+        → record_numbered (T.tree tree.now) n ≡ None }
+    ensures next_added { (d : ℕ) (x : NameBytes) (w : new.New) (s : stamp.Stamp)
+        → IsDirectoryNumbered (T.tree tree.now) d → number_in (T.tree tree.now) d x ≡ None
+        → (tree_with_file d x w s (T.tree tree.now)).next ≡ (T.tree tree.now).next + 1 }
+    ensures next_removed { (n : ℕ) (s : stamp.Stamp)
+        → (tree_without_file n s (T.tree tree.now)).next ≡ (T.tree tree.now).next }
+    ensures next_written { (n k : ℕ) (w : List ℕ) (s : stamp.Stamp)
+        → (written_to n k w s (T.tree tree.now)).next ≡ (T.tree tree.now).next }
+    ensures next_changed { (n : ℕ) (c : change.Change) (s : stamp.Stamp)
+        → (tree_with_change n c s (T.tree tree.now)).next ≡ (T.tree tree.now).next }
+    ensures added { (d : ℕ) (x : NameBytes) (w : new.New) (s : stamp.Stamp)
+        → IsDirectoryNumbered (T.tree tree.now) d → number_in (T.tree tree.now) d x ≡ None → (n : ℕ)
+        → n ≢ (T.tree tree.now).next → record_numbered (T.tree tree.now) n ≡ None
+        → record_numbered (tree_with_file d x w s (T.tree tree.now)) n ≡ None }
+    ensures written { (f k : ℕ) (w : List ℕ) (s : stamp.Stamp) (n : ℕ)
+        → record_numbered (T.tree tree.now) n ≡ None
+        → record_numbered (written_to f k w s (T.tree tree.now)) n ≡ None }
+    ensures changed { (f : ℕ) (c : change.Change) (s : stamp.Stamp) → (IsSome c.name → f ≢ 0)
+        → IfSome c.name
+        (λ y. IfSome (parent_numbered (T.tree tree.now) f)
+        (λ d. number_in (T.tree tree.now) d y ≡ None)) → (n : ℕ)
+        → record_numbered (T.tree tree.now) n ≡ None
+        → record_numbered (tree_with_change f c s (T.tree tree.now)) n ≡ None }
 {}
 
 /// A listing goes on: the names of a directory after the last one are the next name and the names
 /// after it. So a reader that asks for one entry after the other meets each name once.
 pub fn listing_goes_on<T: TreeRead>(tree: &T, directory: u64)
-    ensures { (last : Option NameBytes) → names_after (T.tree tree.now) directory last ≡ option_map_or (λ x. x ∷ names_after (T.tree tree.now) directory (Some x)) (next_name (T.tree tree.now) directory last) [] }
+    ensures { (last : Option NameBytes)
+        → names_after (T.tree tree.now) directory last
+        ≡ option_map_or (λ x. x ∷ names_after (T.tree tree.now) directory (Some x))
+        (next_name (T.tree tree.now) directory last) [] }
 {}

@@ -6,7 +6,7 @@ use crate::read::TreeRead;
 use cs_names::Path;
 use std::alloc::{AllocError, Global};
 
-/// The names from the root down to the file; none for the root, and None where no record has the
+/// The names from the root down to the file; none for the root, and None if no record has the
 /// number. Only the names that are given take memory.
 pub fn path_of<T: TreeRead>(
     alloc: Global,
@@ -14,7 +14,8 @@ pub fn path_of<T: TreeRead>(
     number: u64,
 ) -> Result<Option<Path>, AllocError>
     ensures value { IfOk result (λ path. path ≡ path_numbered (T.tree tree.now) number) }
-    ensures memory { IsErr result → IsSomeAnd (path_numbered (T.tree tree.now) number) (λ path. path ≢ []) }
+    ensures memory { IsErr result
+        → IsSomeAnd (path_numbered (T.tree tree.now) number) (λ path. path ≢ []) }
 {
     if tree.record(number).is_none() {
         return Ok(None);

@@ -1,15 +1,19 @@
 //! A tree that changes.
-ghost use Rattle.std.specs.Prelude.{◌≡◌, ◌≢◌, ◌+◌, ◌<◌, ◌^◌, ℕ, List, None, Some, length, OnOk, OnErr, IfOk, IfSome, IsSome};
-ghost use Rattle.cs_tree_model.specs.Tree.{record_numbered, parent_numbered, number_in, content_numbered};
-ghost use Rattle.cs_tree_model.specs.Stores.{added, removed, written_to, changed, CanStamp, CanStampParent, IsDirectoryNumbered, KeepsKind};
+ghost use Rattle.std.specs.Prelude.{◌≡◌, ◌≢◌, ◌+◌, ◌<◌, ◌^◌, ℕ, List, None, Some, length, OnOk};
+ghost use Rattle.std.specs.Prelude.{OnErr, IfOk, IfSome, IsSome};
+ghost use Rattle.cs_tree_model.specs.Tree.{record_numbered, parent_numbered, number_in};
+ghost use Rattle.cs_tree_model.specs.Tree.{content_numbered};
+ghost use Rattle.cs_tree_model.specs.Stores.{tree_with_file, tree_without_file, written_to};
+ghost use Rattle.cs_tree_model.specs.Stores.{tree_with_change, CanStamp, CanStampParent};
+ghost use Rattle.cs_tree_model.specs.Stores.{IsDirectoryNumbered, KeepsKind};
 
 use crate::change::{Change, New, Stamp};
 use crate::read::TreeRead;
 use cs_names::Name;
 use std::alloc::{AllocError, Global};
 
-/// A store whose tree changes. Each call makes its growths before it changes anything, and after want
-/// of memory the tree is as it was.
+/// A store whose tree changes. Each call allocates before it changes anything, and after
+/// an error the tree is as it was.
 pub trait TreeStore: TreeRead {
     /// A new file in a directory, whose group it takes; the directory is stamped. Gives the file's
     /// number, the next one.
@@ -26,7 +30,8 @@ pub trait TreeStore: TreeRead {
         requires vers { CanStamp (Self.tree self.old) directory }
         requires next { (Self.tree self.old).next < 2 ^ 64 }
         ensures number { IfOk result (λ n. n ≡ (Self.tree self.old).next) }
-        ensures ok { OnOk result (Self.tree self.new ≡ added directory name new stamp (Self.tree self.old)) }
+        ensures ok { OnOk result
+            (Self.tree self.new ≡ tree_with_file directory name new stamp (Self.tree self.old)) }
         ensures err { OnErr result (Self.tree self.new ≡ Self.tree self.old) };
 
     /// Takes out a file, or a directory without entries; not the root. Its directory is stamped.
@@ -35,11 +40,12 @@ pub trait TreeStore: TreeRead {
         requires there { IsSome (record_numbered (Self.tree self.old) number) }
         requires empty { (x : List ℕ) → number_in (Self.tree self.old) number x ≡ None }
         requires vers { CanStampParent (Self.tree self.old) number }
-        ensures ok { OnOk result (Self.tree self.new ≡ removed number stamp (Self.tree self.old)) }
+        ensures ok { OnOk result
+            (Self.tree self.new ≡ tree_without_file number stamp (Self.tree self.old)) }
         ensures err { OnErr result (Self.tree self.new ≡ Self.tree self.old) };
 
-    /// Puts at least one byte into a file, at an offset; between its end and the offset stand zeros.
-    /// The file is stamped.
+    /// Puts at least one byte into a file, at an offset; between its end and the offset stand
+    /// zeros. The file is stamped.
     fn write_at(
         &mut self,
         alloc: Global,
@@ -52,12 +58,13 @@ pub trait TreeStore: TreeRead {
         requires some { 0 < length bytes.now }
         requires room { offset + length bytes.now < 2 ^ 63 }
         requires vers { CanStamp (Self.tree self.old) number }
-        ensures ok { OnOk result (Self.tree self.new ≡ written_to number offset bytes.now stamp (Self.tree self.old)) }
+        ensures ok { OnOk result
+            (Self.tree self.new ≡ written_to number offset bytes.now stamp (Self.tree self.old)) }
         ensures err { OnErr result (Self.tree self.new ≡ Self.tree self.old) };
 
-    /// Gives a file the fields that the change names: all of them, or after want of memory none. The
-    /// file's version grows by one; another length also sets its mtime and muid to the stamp's, before
-    /// an mtime that is named; another name stamps its directory.
+    /// Gives a file the fields that the change names: all of them, or after an error none.
+    /// The file's version grows by one; another length also sets its mtime and muid to the stamp's,
+    /// before an mtime that is named; another name stamps its directory.
     fn change(
         &mut self,
         alloc: Global,
@@ -67,12 +74,16 @@ pub trait TreeStore: TreeRead {
     ) -> Result<(), AllocError>
         requires there { IsSome (record_numbered (Self.tree self.old) number) }
         requires vers { CanStamp (Self.tree self.old) number }
-        requires file { IsSome change.now.length → IsSome (content_numbered (Self.tree self.old) number) }
+        requires file { IsSome change.now.length
+            → IsSome (content_numbered (Self.tree self.old) number) }
         requires room { IfSome change.now.length (λ n. n < 2 ^ 63) }
         requires kind { KeepsKind change.now (record_numbered (Self.tree self.old) number) }
         requires not_root { IsSome change.now.name → number ≢ 0 }
-        requires free { IfSome change.now.name (λ y. IfSome (parent_numbered (Self.tree self.old) number) (λ d. number_in (Self.tree self.old) d y ≡ None)) }
+        requires free { IfSome change.now.name
+            (λ y. IfSome (parent_numbered (Self.tree self.old) number)
+            (λ d. number_in (Self.tree self.old) d y ≡ None)) }
         requires vers_above { IsSome change.now.name → CanStampParent (Self.tree self.old) number }
-        ensures ok { OnOk result (Self.tree self.new ≡ changed number change.now stamp (Self.tree self.old)) }
+        ensures ok { OnOk result
+            (Self.tree self.new ≡ tree_with_change number change.now stamp (Self.tree self.old)) }
         ensures err { OnErr result (Self.tree self.new ≡ Self.tree self.old) };
 }

@@ -1,6 +1,5 @@
 //! The start tree of the worked examples in each kind of store, read and changed as any tree.
 
-mod allowed;
 mod attributes;
 mod calls;
 mod changes;

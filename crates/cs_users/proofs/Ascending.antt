@@ -1,5 +1,6 @@
 -- Ascending numbers, and where they are found.
-use Rattle.std.proofs.Common.{◌≡◌, ℕ, zero, suc, ◌+◌, ◌<◌, ◌≤◌, ◌==◌, ◌||◌, Bool, true, false, Result, Ok, Err, List, [], ◌∷◌, length, get_or, refl, sym, subst, ap, ◌∙◌, ⊎_elim, add-one, arith, Contains}
+use Rattle.std.proofs.Common.{◌≡◌, ℕ, zero, suc, ◌+◌, ◌<◌, ◌≤◌, ◌==◌, ◌||◌, Bool, true, false, Result, Ok, Err, List, [], ◌∷◌, length}
+use Rattle.std.proofs.Common.{get_or, refl, sym, subst, ap, ◌∙◌, ⊎_elim, add-one, arith, Contains}
 use Rattle.std.specs.Prelude.{nat_eq, is_ok}
 use Rattle.std.specs.List.{dedup, filter, list_any, range_with_len}
 use Rattle.std.specs.List.Sorted.{IsBinarySearchResult, IsPermutation, IsSorted, IsStrictlyIncreasing}
@@ -64,11 +65,13 @@ is_filter p (suc count) a (x ∷ xs) up past says =
     (λ (differs : x ≡ a → ⊥).
     let above : a + 1 ≤ x = let h = up.0 in omega arith in
     let fails : p a ≡ false = sym (says a (omega arith) (omega arith)) ∙ none_below (a + 1) a (x ∷ xs) (above, up.1) (omega arith) in
-    rw fails (is_filter p count (a + 1) (x ∷ xs) (above, up.1) (λ n h. past n (omega arith)) (λ n low high. says n (omega arith) (omega arith))))
+    rw fails (is_filter p count (a + 1) (x ∷ xs) (above, up.1) (λ n h. past n (omega arith))
+    (λ n low high. says n (omega arith) (omega arith))))
     (cases_eq x a)
 
 pub from_has : (xs : List ℕ) (n : ℕ) → has xs n ≡ true → Contains xs n
-from_has xs n h = let a = Any-from_list_any (λ x. x == n) xs h in let same : a.1 ≡ n = eqb-true a.1 n a.4 in (a.0, a.2, subst (λ (m : ℕ). get_or xs a.0 m ≡ m) same a.3)
+from_has xs n h = let a = Any-from_list_any (λ x. x == n) xs h in let same : a.1 ≡ n = eqb-true a.1 n a.4 in
+    (a.0, a.2, subst (λ (m : ℕ). get_or xs a.0 m ≡ m) same a.3)
 
 pub to_has : (xs : List ℕ) (n : ℕ) → Contains xs n → has xs n ≡ true
 to_has xs n c = list_any-from_Any (λ x. x == n) xs (c.0, n, c.1, c.2, eq-eqb n n refl)
@@ -88,7 +91,8 @@ has-dedup xs sorted n moved =
 
 -- sorted numbers, each of them once, that are just those below a bound that pass a test
 pub dedup-filter : (p : ℕ → Bool) (count : ℕ) (xs sorted : List ℕ) → IsPermutation xs sorted → IsSorted nat_cmp sorted
-    → ((n : ℕ) → count ≤ n → has xs n ≡ false) → ((n : ℕ) → n < count → has xs n ≡ p n) → dedup nat_eq sorted ≡ filter p (range_with_len 0 count)
+    → ((n : ℕ) → count ≤ n → has xs n ≡ false) → ((n : ℕ) → n < count → has xs n ≡ p n)
+    → dedup nat_eq sorted ≡ filter p (range_with_len 0 count)
 dedup-filter p count xs sorted moved up past says =
     is_filter p count 0 (dedup nat_eq sorted) (ascends_all (dedup nat_eq sorted) (IsStrictlyIncreasing-dedup sorted up))
     (λ n h. has-dedup xs sorted n moved ∙ past n (omega arith))
@@ -109,7 +113,8 @@ filter_increasing p count = IsStrictlyIncreasing-filter p (range_with_len 0 coun
 pub has-range : (count n : ℕ) → n < count → has (range_with_len 0 count) n ≡ true
 has-range count n h =
     let at = get_or-range_with_len 0 count n 0 h in
-    list_any_at (λ x. x == n) (range_with_len 0 count) n 0 (let long = length-range_with_len 0 count in omega arith) (eq-eqb (get_or (range_with_len 0 count) n 0) n (omega arith))
+    list_any_at (λ x. x == n) (range_with_len 0 count) n 0 (let long = length-range_with_len 0 count in omega arith)
+    (eq-eqb (get_or (range_with_len 0 count) n 0) n (omega arith))
 
 steady : (xs : List ℕ) → IsStrictlyIncreasing xs → (i j : ℕ) → i ≤ j → j < length xs → get_or xs i 0 ≤ get_or xs j 0
 steady xs up i j order within =
@@ -118,7 +123,8 @@ steady xs up i j order within =
     (λ (differs : i ≡ j → ⊥). let rises = AllPairs-from_increasing xs up i j 0 (omega arith) within in omega arith)
     (cases_eq i j)
 
-missing : (xs : List ℕ) (n i : ℕ) → ((k : ℕ) → k < i → get_or xs k 0 < n) → ((k : ℕ) → i ≤ k → k < length xs → n < get_or xs k 0) → has xs n ≡ false
+missing : (xs : List ℕ) (n i : ℕ) → ((k : ℕ) → k < i → get_or xs k 0 < n) → ((k : ℕ) → i ≤ k → k < length xs → n < get_or xs k 0)
+    → has xs n ≡ false
 missing xs n i below above = list_any_none (λ x. x == n) xs (λ k d within.
     let same = get_or_default_zero xs k d within in
     ne_eqb (get_or xs k d) n (λ e. ⊎_elim
@@ -127,7 +133,8 @@ missing xs n i below above = list_any_none (λ x. x == n) xs (λ k d within.
     (cases_lt k i)))
 
 -- a search in numbers that ascend finds just those that are there
-pub is_ok-searched : (xs : List ℕ) (n : ℕ) (r : Result ℕ ℕ) → IsStrictlyIncreasing xs → IsBinarySearchResult (λ x. nat_cmp x n) xs r → is_ok r ≡ has xs n
+pub is_ok-searched : (xs : List ℕ) (n : ℕ) (r : Result ℕ ℕ) → IsStrictlyIncreasing xs → IsBinarySearchResult (λ x. nat_cmp x n) xs r
+    → is_ok r ≡ has xs n
 is_ok-searched xs n (Ok i) up told =
     let at = searched xs n (Ok i) told (steady xs up) in
     sym (to_has xs n (i, at.0, get_or_default_zero xs i n at.0 ∙ at.1))

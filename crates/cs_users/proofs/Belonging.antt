@@ -6,9 +6,11 @@ use Rattle.std.specs.List.{list_any}
 use Rattle.std.proofs.lemmas.Bool.Decides.{Decides-and, Decides-or, Decides-not, Decides-like}
 use Rattle.std.proofs.lemmas.List.Folds.{Any-from_list_any, list_any-from_Any}
 use Rattle.cs_users.specs.Rows.{Row, none_name}
-use Rattle.cs_users.specs.Members.{IsKnown, Lists, HasLeader, IsMember, IsLeader, is_known, lists, has_leader, is_member, is_leader, same_name}
+use Rattle.cs_users.specs.Members.{IsKnown, Lists, HasLeader, IsMember, IsLeader, is_known, lists_member, has_leader, is_member, is_leader}
+use Rattle.cs_users.specs.Members.{same_name}
 
-any_decides : {X : Type 0} (p : X → Bool) (P : X → Type 0) → ((x : X) → Decides (p x) (P x)) → (xs : List X) → Decides (list_any p xs) (Any P xs)
+any_decides : {X : Type 0} (p : X → Bool) (P : X → Type 0) → ((x : X) → Decides (p x) (P x)) → (xs : List X)
+    → Decides (list_any p xs) (Any P xs)
 any_decides p P each xs = (
   λ found. let a = Any-from_list_any p xs found in (a.0, a.1, a.2, a.3, (each a.1).0 a.4),
   λ a. list_any-from_Any p xs (a.0, a.1, a.2, a.3, (each a.1).1 a.4),
@@ -24,7 +26,7 @@ contains_decides texts text =
 pub is_known-decides : (rows : List Row) (name : List ℕ) → Decides (is_known rows name) (IsKnown rows name)
 is_known-decides rows name = any_decides (λ row. same_name row.name name) (λ row. row.name ≡ name) (λ row. bytes_decides row.name name) rows
 
-lists_decides : (rows : List Row) (group user : List ℕ) → Decides (lists rows group user) (Lists rows group user)
+lists_decides : (rows : List Row) (group user : List ℕ) → Decides (lists_member rows group user) (Lists rows group user)
 lists_decides rows group user =
     any_decides (λ row. same_name row.name group && list_any (λ member. same_name member user) row.members)
     (λ row. (row.name ≡ group) × Contains row.members user)
@@ -37,9 +39,11 @@ leader_decides rows group leader =
     (λ row. Decides-and _ _ (bytes_decides row.name group) (bytes_decides row.leader leader)) rows
 
 both_decide : (rows : List Row) (user group : List ℕ)
-    → Decides (is_known rows user && is_known rows group && not (same_name user none_name)) ((IsKnown rows user × IsKnown rows group) × (user ≢ none_name))
+    → Decides (is_known rows user && is_known rows group && not (same_name user none_name))
+    ((IsKnown rows user × IsKnown rows group) × (user ≢ none_name))
 both_decide rows user group =
-    Decides-and _ _ (Decides-and _ _ (is_known-decides rows user) (is_known-decides rows group)) (Decides-not _ (bytes_decides user none_name))
+    Decides-and _ _ (Decides-and _ _ (is_known-decides rows user) (is_known-decides rows group))
+    (Decides-not _ (bytes_decides user none_name))
 
 pub is_member-decides : (rows : List Row) (user group : List ℕ) → Decides (is_member rows user group) (IsMember rows user group)
 is_member-decides rows user group =

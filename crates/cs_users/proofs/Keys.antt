@@ -11,7 +11,8 @@ use Rattle.std.proofs.lemmas.Bool.{cases_Bool, cond-true, cond-false}
 abbrev pub get_by_bytes : {X S : Type 0} → HashMap (Vec ℕ Global) X S → List ℕ → Option X
 get_by_bytes m bytes = get_by (λ key. pointwise nat_eq bytes key.items) m
 
-others_kept : {K X : Type 0} (eq : K → K → Bool) (test : K → Bool) (old new : List (K × X)) → KeepsOthers eq test old new → (other : K → Bool) → IsKeyTest eq other → AreApart test other → lookup other new ≡ lookup other old
+others_kept : {K X : Type 0} (eq : K → K → Bool) (test : K → Bool) (old new : List (K × X)) → KeepsOthers eq test old new
+    → (other : K → Bool) → IsKeyTest eq other → AreApart test other → lookup other new ≡ lookup other old
 unfolding KeepsOthers
 others_kept eq test old new h = h
 
@@ -19,10 +20,13 @@ apart : (bs cs ks : List ℕ) → pointwise nat_eq bs cs ≡ false → pointwise
 apart bs cs ks n y = nat_list_eq_equiv.symm cs ks ∙ sym (nat_list_eq_equiv.congr bs ks cs y) ∙ n
 
 -- it has the new value under those bytes, and what it had under others
-pub get_by_bytes-updated : {X S : Type 0} (bs : List ℕ) (m n : HashMap (Vec ℕ Global) X S) (w : Option X) → UpdatesBy (λ x y. pointwise nat_eq x.items y.items) (λ key. pointwise nat_eq bs key.items) m n w
+pub get_by_bytes-updated : {X S : Type 0} (bs : List ℕ) (m n : HashMap (Vec ℕ Global) X S) (w : Option X)
+    → UpdatesBy (λ x y. pointwise nat_eq x.items y.items) (λ key. pointwise nat_eq bs key.items) m n w
     → (cs : List ℕ) → get_by_bytes n cs ≡ cond (pointwise nat_eq bs cs) w (get_by_bytes m cs)
 get_by_bytes-updated {X} {S} bs m n w h cs =
     ⊎_elim
-    (λ y. subst (λ (l : List ℕ). get_by_bytes n l ≡ w) ((bytes_decides bs cs).0 y) h.1 ∙ sym (cond-true (pointwise nat_eq bs cs) w (get_by_bytes m cs) y))
-    (λ e. others_kept _ _ _ _ h.3 _ (λ x y. nat_list_eq_equiv.congr cs x.items y.items) (λ key. apart bs cs key.items e) ∙ sym (cond-false (pointwise nat_eq bs cs) w (get_by_bytes m cs) e))
+    (λ y. subst (λ (l : List ℕ). get_by_bytes n l ≡ w) ((bytes_decides bs cs).0 y) h.1 ∙ sym
+    (cond-true (pointwise nat_eq bs cs) w (get_by_bytes m cs) y))
+    (λ e. others_kept _ _ _ _ h.3 _ (λ x y. nat_list_eq_equiv.congr cs x.items y.items) (λ key. apart bs cs key.items e) ∙ sym
+    (cond-false (pointwise nat_eq bs cs) w (get_by_bytes m cs) e))
     (cases_Bool (pointwise nat_eq bs cs))

@@ -1,5 +1,6 @@
 -- The pieces of a text are texts.
-use Rattle.std.proofs.Common.{◌≡◌, ℕ, ◌<◌, Bool, true, false, ◌||◌, List, [], ◌∷◌, ◌++◌, get_or, refl, sym, ap, subst, ◌∙◌, arith, All, ⊎_elim}
+use Rattle.std.proofs.Common.{◌≡◌, ℕ, ◌<◌, Bool, true, false, ◌||◌, List, [], ◌∷◌, ◌++◌, get_or, refl, sym, ap, subst, ◌∙◌, arith, All}
+use Rattle.std.proofs.Common.{⊎_elim}
 use Rattle.std.specs.Prelude.{◌==◌, not, if◌then◌else◌, Option, None, IfSome}
 use Rattle.std.specs.Char.{encode_utf8}
 use Rattle.std.specs.List.{list_any}
@@ -25,7 +26,8 @@ IsText-append bs cs t u = record {
   no_nul = list_any-append (λ c. c == 0) bs cs ∙ ap (λ (b : Bool). b || has_nul cs) t.no_nul ∙ u.no_nul;
 }
 
-first_by : (separates : Bool) (b : ℕ) (cut : List (List ℕ)) → (first : List ℕ) × (others : List (List ℕ)) × ((if separates then [] ∷ cut else put_first b cut) ≡ first ∷ others)
+first_by : (separates : Bool) (b : ℕ) (cut : List (List ℕ)) → (first : List ℕ) × (others : List (List ℕ))
+    × ((if separates then [] ∷ cut else put_first b cut) ≡ first ∷ others)
 first_by true b cut = ([], cut, refl)
 first_by false b [] = (b ∷ [], [], refl)
 first_by false b (piece ∷ cut) = (b ∷ piece, cut, refl)
@@ -36,11 +38,13 @@ first_piece sep [] = ([], [], refl)
 first_piece sep (b ∷ bs) = first_by (b == sep) b (pieces sep bs)
 
 -- bytes that don't separate go to the first piece
-pieces-past : (sep : ℕ) (xs rest first : List ℕ) (others : List (List ℕ)) → list_any (λ b. b == sep) xs ≡ false → pieces sep rest ≡ first ∷ others → pieces sep (xs ++ rest) ≡ (xs ++ first) ∷ others
+pieces-past : (sep : ℕ) (xs rest first : List ℕ) (others : List (List ℕ)) → list_any (λ b. b == sep) xs ≡ false
+    → pieces sep rest ≡ first ∷ others → pieces sep (xs ++ rest) ≡ (xs ++ first) ∷ others
 pieces-past sep [] rest first others h e = e
 pieces-past sep (x ∷ xs) rest first others h e =
     let told = or_parts (x == sep) (list_any (λ b. b == sep) xs) h in
-    ap (λ (t : Bool). if t then [] ∷ pieces sep (xs ++ rest) else put_first x (pieces sep (xs ++ rest))) told.0 ∙ ap (put_first x) (pieces-past sep xs rest first others told.1 e)
+    ap (λ (t : Bool). if t then [] ∷ pieces sep (xs ++ rest) else put_first x (pieces sep (xs ++ rest))) told.0 ∙ ap (put_first x)
+    (pieces-past sep xs rest first others told.1 e)
 
 pieces-separated : (sep : ℕ) (bs : List ℕ) → pieces sep (sep ∷ bs) ≡ [] ∷ pieces sep bs
 pieces-separated sep bs = ap (λ (t : Bool). if t then [] ∷ pieces sep bs else put_first sep (pieces sep bs)) (nat_eq_equiv.refl sep)
@@ -54,25 +58,34 @@ separates sep c low h =
     inside_one c [] (encode_utf8 c) a.0 (sym (append-nil (encode_utf8 c))) a.2 (omega (arith, read)) ∙ read
 
 -- one character before them: it is the separator, or part of the first piece
-texts_past : (sep c : ℕ) (bs : List ℕ) → sep < 128 → IsText (encode_utf8 c) → All IsText (pieces sep bs) → All IsText (pieces sep (encode_utf8 c ++ bs))
+texts_past : (sep c : ℕ) (bs : List ℕ) → sep < 128 → IsText (encode_utf8 c) → All IsText (pieces sep bs)
+    → All IsText (pieces sep (encode_utf8 c ++ bs))
 texts_past sep c bs low front rest =
     ⊎_elim
     (λ y.
     let sole : encode_utf8 c ≡ sep ∷ [] = ap encode_utf8 (separates sep c low y) ∙ encode_ascii sep low in
-    subst (λ (l : List ℕ). All IsText (pieces sep (l ++ bs))) (sym sole) (subst (All IsText) (sym (pieces-separated sep bs)) (All-cons IsText [] (pieces sep bs) IsText-nil rest)))
+    subst (λ (l : List ℕ). All IsText (pieces sep (l ++ bs))) (sym sole)
+    (subst (All IsText) (sym (pieces-separated sep bs)) (All-cons IsText [] (pieces sep bs) IsText-nil rest)))
     (λ n.
     let cut = first_piece sep bs in
     let texts = subst (All IsText) cut.2 rest in
     subst (All IsText) (sym (pieces-past sep (encode_utf8 c) bs cut.0 cut.1 n cut.2))
-    (All-cons IsText (encode_utf8 c ++ cut.0) cut.1 (IsText-append (encode_utf8 c) cut.0 front (All-head IsText cut.0 cut.1 texts)) (All-tail IsText cut.0 cut.1 texts)))
+    (All-cons IsText (encode_utf8 c ++ cut.0) cut.1 (IsText-append (encode_utf8 c) cut.0 front (All-head IsText cut.0 cut.1 texts))
+    (All-tail IsText cut.0 cut.1 texts)))
     (cases_Bool (list_any (λ b. b == sep) (encode_utf8 c)))
 
-all_texts : (sep : ℕ) → sep < 128 → (cs : List ℕ) → all_scalars cs ≡ true → has_nul (encode_utf8_all cs) ≡ false → All IsText (pieces sep (encode_utf8_all cs))
+all_texts : (sep : ℕ) → sep < 128 → (cs : List ℕ) → all_scalars cs ≡ true → has_nul (encode_utf8_all cs) ≡ false
+    → All IsText (pieces sep (encode_utf8_all cs))
 all_texts sep low [] scalars clean = All-cons IsText [] [] IsText-nil (All-nil IsText)
 all_texts sep low (c ∷ cs) scalars clean =
     let scalar = and_parts _ (all_scalars cs) scalars in
-    let no_nul = or_parts (has_nul (encode_utf8 c)) (has_nul (encode_utf8_all cs)) (sym (list_any-append (λ b. b == 0) (encode_utf8 c) (encode_utf8_all cs)) ∙ clean) in
-    texts_past sep c (encode_utf8_all cs) low (record { utf8 = IsUtf8-encode c scalar.0; no_nul = no_nul.0 }) (all_texts sep low cs scalar.1 no_nul.1)
+    let no_nul =
+    or_parts (has_nul (encode_utf8 c)) (has_nul (encode_utf8_all cs))
+    (sym (list_any-append (λ b. b == 0) (encode_utf8 c) (encode_utf8_all cs)) ∙ clean) in
+    texts_past sep c (encode_utf8_all cs) low (record {
+      utf8 = IsUtf8-encode c scalar.0;
+      no_nul = no_nul.0;
+    }) (all_texts sep low cs scalar.1 no_nul.1)
 
 -- the pieces of a text are texts
 pub IsText-pieces : (sep : ℕ) (bs : List ℕ) → sep < 128 → IsText bs → All IsText (pieces sep bs)
@@ -88,13 +101,16 @@ name_text (id ∷ name ∷ leader ∷ []) texts = tt
 name_text (id ∷ name ∷ leader ∷ members ∷ []) texts = texts 1 [] (omega arith)
 name_text (id ∷ name ∷ leader ∷ members ∷ more ∷ others) texts = tt
 
-unless_skipped : (skipped : Bool) (spelled : Option Row) (P : Row → Type 0) → IfSome spelled P → IfSome (if skipped then None else spelled) P
+unless_skipped : (skipped : Bool) (spelled : Option Row) (P : Row → Type 0) → IfSome spelled P
+    → IfSome (if skipped then None else spelled) P
 unless_skipped true spelled P h = tt
 unless_skipped false spelled P h = h
 
 -- a name on a line that is a text is one
 pub IsText-row_in : (line : List ℕ) → IsText line → IfSome (row_in line) (λ row. IsText row.name)
-IsText-row_in line text = unless_skipped (is_skipped line) (row_of_fields (pieces 58 line)) (λ row. IsText row.name) (name_text (pieces 58 line) (IsText-pieces 58 line (omega arith) text))
+IsText-row_in line text =
+    unless_skipped (is_skipped line) (row_of_fields (pieces 58 line)) (λ row. IsText row.name)
+    (name_text (pieces 58 line) (IsText-pieces 58 line (omega arith) text))
 
 not_true : (b : Bool) → not b ≡ true → b ≡ false
 not_true true h = absurd (cc)

@@ -1,7 +1,8 @@
 -- A fault of the users file as the program prints it.
 use Rattle.std.specs.Prelude.{ℕ, List, ◌++◌, codes, decimal}
 use Rattle.cs_users.specs.declared.fault.UsersFault.{UsersFault}
-use Rattle.cs_users.specs.declared.fault.UsersFault.TheVariants.{NotText, FieldCount, EmptyName, LongName, Twice, Memory}
+use Rattle.cs_users.specs.declared.fault.UsersFault.TheVariants.{NotText, FieldCount, EmptyName}
+use Rattle.cs_users.specs.declared.fault.UsersFault.TheVariants.{LongName, Twice, Memory}
 
 -- the line's number, and what is wrong there
 abbrev pub line_text : ℕ → List ℕ → List ℕ

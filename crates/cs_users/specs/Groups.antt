@@ -17,10 +17,14 @@ place_of rows name = position (λ row. same_name row.name name) rows
 abbrev pub somebody_at : List Row → List ℕ → Option ℕ
 somebody_at rows name = if same_name name none_name then None else place_of rows name
 
--- the place of the leader that the line at that place names, if it is that of a row, and not of `none`
+-- the place of the leader that the line at that place names, if it is that of a row, and not of
+-- `none`
 abbrev pub leader_of : List Row → ℕ → Option ℕ
-leader_of rows group = option_map_or (λ row. somebody_at rows row.leader) (slice_get rows group) None
+leader_of rows group =
+    option_map_or (λ row. somebody_at rows row.leader) (slice_get rows group) None
 
 -- the places of the members of the group at that place, in ascending order
 unfoldable pub members_of : List Row → ℕ → List ℕ
-members_of rows group = filter (λ user. is_member rows (name_at rows user) (name_at rows group)) (range_with_len 0 (length rows))
+members_of rows group =
+    filter (λ user. is_member rows (name_at rows user) (name_at rows group))
+    (range_with_len 0 (length rows))

@@ -9,4 +9,6 @@ is_marked words place = bit_at (slice_index_or words (place / 64) 0) (place % 64
 
 -- of the rows, so many as the count, just those at the places are marked
 abbrev pub AreMarks : ℕ → List ℕ → List ℕ → Type 0
-AreMarks count places words = (place : ℕ) → place < count → is_marked words place ≡ list_any (λ member. member == place) places
+AreMarks count places words =
+    (place : ℕ) → place < count
+    → is_marked words place ≡ list_any (λ member. member == place) places

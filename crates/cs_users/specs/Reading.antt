@@ -1,5 +1,6 @@
 -- The users file: lines `id:name:leader:members`, the members with commas between them.
-use Rattle.std.specs.Prelude.{◌≡◌, ℕ, ◌+◌, Bool, true, false, ◌==◌, List, [], ◌∷◌, ◌++◌, length, nat_lt, Option, Some, None, Result, Ok, Err, if◌then◌else◌}
+use Rattle.std.specs.Prelude.{◌≡◌, ℕ, ◌+◌, Bool, true, false, ◌==◌, List, [], ◌∷◌, ◌++◌, length}
+use Rattle.std.specs.Prelude.{nat_lt, Option, Some, None, Result, Ok, Err, if◌then◌else◌}
 use Rattle.std.specs.List.{filter_map}
 use Rattle.std.specs.Option.{option_map_or}
 use Rattle.std.specs.Str.{IsUtf8}
@@ -9,7 +10,8 @@ use Rattle.cs_names.specs.declared.limits.TheConstants.{USER_NAME_BYTES}
 use Rattle.cs_users.specs.Rows.{Row}
 use Rattle.cs_users.specs.Members.{is_known, same_name}
 use Rattle.cs_users.specs.declared.fault.UsersFault.{UsersFault}
-use Rattle.cs_users.specs.declared.fault.UsersFault.TheVariants.{NotText, FieldCount, EmptyName, LongName, Twice}
+use Rattle.cs_users.specs.declared.fault.UsersFault.TheVariants.{NotText, FieldCount, EmptyName}
+use Rattle.cs_users.specs.declared.fault.UsersFault.TheVariants.{LongName, Twice}
 
 -- an empty line, or one that begins with `#`
 abbrev pub is_skipped : List ℕ → Bool
@@ -22,7 +24,12 @@ row_of_fields [] = None
 row_of_fields (id ∷ []) = None
 row_of_fields (id ∷ name ∷ []) = None
 row_of_fields (id ∷ name ∷ leader ∷ []) = None
-row_of_fields (id ∷ name ∷ leader ∷ members ∷ []) = Some (record { id = id; name = name; leader = leader; members = pieces 44 members })
+row_of_fields (id ∷ name ∷ leader ∷ members ∷ []) = Some (record {
+  id = id;
+  name = name;
+  leader = leader;
+  members = pieces 44 members;
+})
 row_of_fields (id ∷ name ∷ leader ∷ members ∷ more ∷ others) = None
 
 -- the row that the line spells, if it spells one
@@ -48,17 +55,21 @@ fault_of_name is_taken number name =
 abbrev pub fault_of_line : List Row → ℕ → List ℕ → Option UsersFault
 fault_of_line rows number line =
     if is_skipped line then None
-    else option_map_or (λ row. fault_of_name (is_known rows row.name) number row.name) (row_in line) (Some (FieldCount number))
+    else option_map_or (λ row. fault_of_name (is_known rows row.name) number row.name) (row_in line)
+    (Some (FieldCount number))
 
 -- the first of the faults, if there is one
 abbrev pub or_else : Option UsersFault → Option UsersFault → Option UsersFault
 or_else None later = later
 or_else (Some fault) later = Some fault
 
--- what is wrong with the first bad line, where the first list of lines precedes the second; lines are counted from 1
+-- what is wrong with the first bad line, where the first list of lines precedes the second; lines
+-- are counted from 1
 abbrev pub first_fault : List (List ℕ) → List (List ℕ) → Option UsersFault
 first_fault before [] = None
-first_fault before (line ∷ lines) = or_else (fault_of_line (rows_in before) (length before + 1) line) (first_fault (before ++ line ∷ []) lines)
+first_fault before (line ∷ lines) =
+    or_else (fault_of_line (rows_in before) (length before + 1) line)
+    (first_fault (before ++ line ∷ []) lines)
 
 -- UTF-8 without NUL
 pub record IsText (bytes : List ℕ) : Type 0 where

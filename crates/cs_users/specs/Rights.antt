@@ -31,12 +31,15 @@ owns user owner = same_name user owner && not (same_name user none_name)
 -- others may, or the owner, who is the user, may, or the group, of which the user is a member, may
 abbrev pub HasRight : List Row → List ℕ → List ℕ → List ℕ → ℕ → Right → Type 0
 HasRight rows user owner group mode right =
-    HasBit mode (bit_of right) ⊎ (Owns user owner × HasBit mode (bit_of right * 64)) ⊎ (IsMember rows user group × HasBit mode (bit_of right * 8))
+    HasBit mode (bit_of right) ⊎ (Owns user owner × HasBit mode (bit_of right * 64))
+    ⊎ (IsMember rows user group × HasBit mode (bit_of right * 8))
 
 -- the bit is set for others, or for the owner, or for the group
-abbrev pub allows : ℕ → Bool → Bool → ℕ → Bool
-allows mode owner member bit = has_bit mode bit || (owner && has_bit mode (bit * 64)) || (member && has_bit mode (bit * 8))
+abbrev pub mode_allows : ℕ → Bool → Bool → ℕ → Bool
+mode_allows mode owner member bit =
+    has_bit mode bit || (owner && has_bit mode (bit * 64)) || (member && has_bit mode (bit * 8))
 
 -- the test of the same
 abbrev pub has_right : List Row → List ℕ → List ℕ → List ℕ → ℕ → Right → Bool
-has_right rows user owner group mode right = allows mode (owns user owner) (is_member rows user group) (bit_of right)
+has_right rows user owner group mode right =
+    mode_allows mode (owns user owner) (is_member rows user group) (bit_of right)

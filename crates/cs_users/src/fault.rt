@@ -6,8 +6,8 @@ ghost use Rattle.cs_users.specs.declared.fault.UsersFault.TheVariants.{Memory};
 use std::alloc::{AllocError, AllocFailed};
 use std::fmt;
 
-/// The first thing that is wrong with bytes that were read as a users file, or want of memory to keep
-/// it. A line's number counts from 1, skipped lines among the rest.
+/// The first thing that is wrong with bytes that were read as a users file, or want of memory to
+/// keep it. A line's number counts from 1, skipped lines among the rest.
 #[derive(Clone, Copy, Debug, PartialEq, Eq)]
 pub enum UsersFault {
     /// Bytes that are no UTF-8, or a NUL.

@@ -29,7 +29,8 @@ const FEW_AMONG: usize = 1024;
 
 /// The places of those that the line lists, as they come.
 fn listed(alloc: Global, rows: &Rows, row: &Row) -> Result<Vec<usize>, AllocError>
-    ensures { IfOk result (λ places. places.items ≡ filter_map (somebody_at rows.now) row.now.members) }
+    ensures { IfOk result
+        (λ places. places.items ≡ filter_map (somebody_at rows.now) row.now.members) }
 {
     row.members()
         .filter_map(|name| rows.somebody_at(name))
@@ -38,7 +39,9 @@ fn listed(alloc: Global, rows: &Rows, row: &Row) -> Result<Vec<usize>, AllocErro
 
 /// The same, and the place of the line's own user.
 fn belonging(alloc: Global, rows: &Rows, row: &Row) -> Result<Vec<usize>, AllocError>
-    ensures { IfOk result (λ places. places.items ≡ filter_map (somebody_at rows.now) (row.now.members ++ row.now.name ∷ [])) }
+    ensures { IfOk result
+        (λ places. places.items
+        ≡ filter_map (somebody_at rows.now) (row.now.members ++ row.now.name ∷ [])) }
 {
     let mut places = listed(alloc, rows, row)?;
     if let Some(own) = rows.somebody_at(row.name()) {
@@ -53,7 +56,8 @@ fn marks_if_many(
     count: usize,
     members: &[usize],
 ) -> Result<Option<Marks>, AllocError>
-    ensures { IfOk result (λ kept. IfSome kept (λ marks. AreMarks count members.now marks.words.items)) }
+    ensures { IfOk result
+        (λ kept. IfSome kept (λ marks. AreMarks count members.now marks.words.items)) }
 {
     if members.len() <= count / FEW_AMONG {
         return Ok(None);
@@ -88,7 +92,9 @@ impl Group {
     /// Whether the user at that place is a member.
     pub(crate) fn has(&self, user: usize) -> bool
         requires ascending { IsStrictlyIncreasing self.now.members.items }
-        requires marked { IfSome self.now.marks (λ marks. is_marked marks.words.items user ≡ list_any (λ place. place == user) self.now.members.items) }
+        requires marked { IfSome self.now.marks
+            (λ marks. is_marked marks.words.items user
+            ≡ list_any (λ place. place == user) self.now.members.items) }
         ensures { result ≡ list_any (λ place. place == user) self.now.members.items }
     {
         match &self.marks {

@@ -1,5 +1,6 @@
 //! The lines of a users file kept as rows, each looked at once.
-ghost use Rattle.std.specs.Prelude.{◌≡◌, ◌⊎◌, ◌++◌, None, Some, IfErr, IfOk, IfSome, IsTrue, OnOk, option_to_list};
+ghost use Rattle.std.specs.Prelude.{◌≡◌, ◌⊎◌, ◌++◌, None, Some, IfErr, IfOk, IfSome, IsTrue, OnOk};
+ghost use Rattle.std.specs.Prelude.{option_to_list};
 ghost use Rattle.cs_names.specs.Pieces.{pieces};
 ghost use Rattle.cs_names.specs.Texts.{is_text};
 ghost use Rattle.cs_users.specs.Reading.{IsText, fault_of_line, row_in, rows_or_fault};
@@ -16,7 +17,8 @@ fn keep_line(alloc: Global, rows: Rows, number: usize, line: &[u8]) -> Result<Ro
     requires { IfSome (row_in line.now) (λ row. IsText row.name) }
     ensures good { OnOk result (fault_of_line rows number line.now ≡ None) }
     ensures kept { IfOk result (λ more. more ≡ rows ++ option_to_list (row_in line.now)) }
-    ensures fault { IfErr result (λ fault. (fault ≡ UsersFault.Memory) ⊎ (fault_of_line rows number line.now ≡ Some fault)) }
+    ensures fault { IfErr result
+        (λ fault. (fault ≡ UsersFault.Memory) ⊎ (fault_of_line rows number line.now ≡ Some fault)) }
 {
     if is_skipped(line) {
         return Ok(rows);
@@ -34,7 +36,8 @@ fn keep_line(alloc: Global, rows: Rows, number: usize, line: &[u8]) -> Result<Ro
 pub(crate) fn keep_lines(alloc: Global, text: &[u8]) -> Result<Rows, UsersFault>
     requires { IsTrue (is_text text.now) }
     ensures kept { IfOk result (λ rows. rows_or_fault (pieces 10 text.now) ≡ Ok rows) }
-    ensures fault { IfErr result (λ fault. (fault ≡ UsersFault.Memory) ⊎ (rows_or_fault (pieces 10 text.now) ≡ Err fault)) }
+    ensures fault { IfErr result
+        (λ fault. (fault ≡ UsersFault.Memory) ⊎ (rows_or_fault (pieces 10 text.now) ≡ Err fault)) }
 {
     let mut rows = Rows::new(alloc);
     let mut before = 0;

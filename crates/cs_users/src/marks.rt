@@ -14,7 +14,8 @@ pub(crate) struct Marks {
 fn mark(words: &mut Vec<u64>, place: usize)
     requires { place / 64 < length words.old.items }
     ensures long { length words.new.items ≡ length words.old.items }
-    ensures marked { (other : ℕ) → is_marked words.new.items other ≡ (place == other || is_marked words.old.items other) }
+    ensures marked { (other : ℕ)
+        → is_marked words.new.items other ≡ (place == other || is_marked words.old.items other) }
 {
     words[place / 64] |= 1 << (place % 64);
 }

@@ -35,7 +35,8 @@ fn names(name: &[u8], line: &[u8]) -> bool
     }
 }
 
-/// Whether one of the first so many lines has the name. It reads them again, and so takes no memory.
+/// Whether one of the first so many lines has the name. It reads them again, and so takes no
+/// memory.
 fn is_named_before(text: &[u8], before: usize, name: &[u8]) -> bool
     ensures { result ≡ is_known (rows_in (take before (pieces 10 text.now))) name.now }
 {
@@ -47,7 +48,8 @@ fn is_named_before(text: &[u8], before: usize, name: &[u8]) -> bool
 /// Looks at the line that so many lines precede.
 fn check_line(text: &[u8], before: usize, line: &[u8]) -> Result<(), UsersFault>
     requires { before ≤ length text.now }
-    ensures { result_err result ≡ fault_of_line (rows_in (take before (pieces 10 text.now))) (before + 1) line.now }
+    ensures { result_err result
+        ≡ fault_of_line (rows_in (take before (pieces 10 text.now))) (before + 1) line.now }
 {
     if is_skipped(line) {
         return Ok(());

@@ -45,8 +45,8 @@ pub fn owns(user: &[u8], owner: &[u8]) -> bool
     user == owner && !is_none(user)
 }
 
-/// Whether the user has the right on a file of this owner, group and mode: by the bits of others, by
-/// the owner's where the user owns the file, or by the group's where the user is a member of its
+/// Whether the user has the right on a file of this owner, group and mode: by the bits of others,
+/// by the owner's where the user owns the file, or by the group's where the user is a member of its
 /// group. So `none` has others' bits alone. The group is asked for only where its bit decides.
 pub fn has_right(
     users: &Users,

@@ -35,7 +35,13 @@ impl Model for Row {
 
     ghost Value = { Row };
 
-    ghost view = { λ row. record { id = row.id.items; name = row.name; leader = row.leader.items; members = pieces 44 row.members.items } };
+    ghost view = { λ row. record {
+      id = row.id.items;
+      name = row.name;
+      leader = row.leader.items;
+      members =
+          pieces 44 row.members.items;
+    } };
 }
 
 /// Whether the line is empty or begins with `#`.

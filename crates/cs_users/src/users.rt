@@ -1,11 +1,13 @@
 //! Who is known, who belongs to a group, and who leads it.
-ghost use Rattle.std.specs.Prelude.{◌≡◌, ◌⊎◌, ◌↔◌, ◌<◌, Ok, Err, length, IfErr, IfOk, IfSome, IsSome, IsTrue};
+ghost use Rattle.std.specs.Prelude.{◌≡◌, ◌⊎◌, ◌↔◌, ◌<◌, Ok, Err, length, IfErr, IfOk, IfSome};
+ghost use Rattle.std.specs.Prelude.{IsSome, IsTrue};
 ghost use Rattle.cs_names.specs.Legal.{IsUserName};
 ghost use Rattle.cs_names.specs.Pieces.{pieces};
 ghost use Rattle.cs_names.specs.Reading.{ReadsAs};
 ghost use Rattle.cs_names.specs.Texts.{is_text};
 ghost use Rattle.cs_users.specs.Groups.{members_of, name_at};
-ghost use Rattle.cs_users.specs.Members.{IsKnown, IsMember, IsLeader, is_known, is_member, is_leader};
+ghost use Rattle.cs_users.specs.Members.{IsKnown, IsMember, IsLeader, is_known, is_member};
+ghost use Rattle.cs_users.specs.Members.{is_leader};
 ghost use Rattle.cs_users.specs.Reading.{rows_or_fault, users_in};
 ghost use Rattle.cs_users.specs.Rows.{AreNamed};
 
@@ -42,9 +44,9 @@ impl Model for Users {
 
 impl Users {
     /// The users file that the bytes spell: lines `id:name:leader:members`, the members with commas
-    /// between them, where empty lines and those that begin with `#` are skipped. Else NotText, or the
-    /// first of FieldCount, EmptyName, LongName, Twice on the first bad line; Memory only where the
-    /// file has no fault. So each row has a legal name of its own.
+    /// between them, where empty lines and those that begin with `#` are skipped. Else NotText, or
+    /// the first of FieldCount, EmptyName, LongName, Twice on the first bad line; Memory only where
+    /// the file has no fault. So each row has a legal name of its own.
     pub fn read(alloc: Global, bytes: &[u8]) -> Result<Users, UsersFault>
         ensures exact { ReadsAs UsersFault.Memory result (users_in bytes.now) }
         ensures named { IfOk result AreNamed }
@@ -67,7 +69,9 @@ impl Users {
         requires { IsTrue (is_text text.now) }
         ensures kept { IfOk result (λ users. rows_or_fault (pieces 10 text.now) ≡ Ok users) }
         ensures named { IfOk result AreNamed }
-        ensures fault { IfErr result (λ fault. (fault ≡ UsersFault.Memory) ⊎ (rows_or_fault (pieces 10 text.now) ≡ Err fault)) }
+        ensures fault { IfErr result
+            (λ fault. (fault ≡ UsersFault.Memory)
+            ⊎ (rows_or_fault (pieces 10 text.now) ≡ Err fault)) }
     {
         let rows = keep_lines(alloc, text)?;
         let groups = groups_of(alloc, &rows)?;
@@ -92,8 +96,8 @@ impl Users {
         self.rows.knows(name)
     }
 
-    /// Whether the user is a member of the group: both are known, the user is not `none`, and is the
-    /// group itself or listed on its line.
+    /// Whether the user is a member of the group: both are known, the user is not `none`, and is
+    /// the group itself or listed on its line.
     pub fn is_member(&self, user: &[u8], group: &[u8]) -> bool
         ensures test { result ≡ is_member self.now user.now group.now }
         ensures member { IsTrue result ↔ IsMember self.now user.now group.now }

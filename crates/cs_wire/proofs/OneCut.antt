@@ -1,12 +1,13 @@
 -- There is one way to cut the bytes of a stream into whole messages.
-use Rattle.std.proofs.Common.{◌≡◌, ℕ, ◌<◌, ◌≤◌, Option, Some, List, [], ◌∷◌, ◌++◌, length, take, drop, refl, sym, ap, subst, ◌∙◌, append_assoc, arith, inl, inr}
+use Rattle.std.proofs.Common.{◌≡◌, ℕ, ◌<◌, ◌≤◌, Option, Some, List, [], ◌∷◌, ◌++◌, length, take, drop, refl, sym, ap, subst, ◌∙◌}
+use Rattle.std.proofs.Common.{append_assoc, arith, inl, inr}
 use Rattle.std.specs.Prelude.{MatchOption, IsSomeAnd, ⊤}
 use Rattle.std.specs.List.{concat, AllByRecursion}
 use Rattle.std.proofs.lemmas.Bool.{cases_lt, le-ltb}
 use Rattle.std.proofs.lemmas.List.{append-nil, length-append, take_at, drop_at}
 use Rattle.cs_names.specs.declared.limits.TheConstants.{MESSAGE_BYTES}
 use Rattle.cs_wire.specs.Framing.{size_in, IsWhole, IsUnfinished, IsUndersized, IsOversized, Begins, Holds, HasNoWhole}
-use Rattle.cs_wire.specs.Cutting.{Call, Fed, Gave, Leaves, fed, given}
+use Rattle.cs_wire.specs.Cutting.{Call, Fed, Gave, Leaves, bytes_fed, messages_given}
 use Rattle.cs_wire.proofs.Framing.{whole_size}
 
 some_is : (m n : ℕ) → Some m ≡ Some n → m ≡ n
@@ -15,23 +16,29 @@ some_is m n e = cc
 -- one whole message at most stands in front
 one_front : (a b x y : List ℕ) → IsWhole a → IsWhole b → a ++ x ≡ b ++ y → (a ≡ b) × (x ≡ y)
 one_front a b x y p q e =
-    let long : length a ≡ length b = some_is _ _ (sym (whole_size a x p) ∙ ap size_in e ∙ whole_size b y q) in
-    (sym (take_at a x (length a) refl) ∙ ap (take (length a)) e ∙ take_at b y (length a) (sym long), sym (drop_at a x (length a) refl) ∙ ap (drop (length a)) e ∙ drop_at b y (length a) (sym long))
+    let long : length a ≡ length b = some_is _ _ (sym (whole_size a x p) ∙ ap size_in e ∙ whole_size b y q) in (
+      sym (take_at a x (length a) refl) ∙ ap (take (length a)) e ∙ take_at b y (length a) (sym long),
+      sym (drop_at a x (length a) refl) ∙ ap
+          (drop (length a)) e ∙ drop_at b y (length a) (sym long),
+    )
 
 -- ---- what calls come to
 
-begins_on : (left : List ℕ) (calls : List Call) (rest : List ℕ) → Leaves left calls rest → Begins (left ++ fed calls) (given calls) rest
+begins_on : (left : List ℕ) (calls : List Call) (rest : List ℕ) → Leaves left calls rest
+    → Begins (left ++ bytes_fed calls) (messages_given calls) rest
 begins_on left [] rest h = record { each = tt; parts = append-nil left ∙ sym h }
 begins_on left (Fed piece ∷ calls) rest h =
-    subst (λ (bytes : List ℕ). Begins bytes (given calls) rest) (append_assoc left piece (fed calls)) (begins_on (left ++ piece) calls rest h)
+    subst (λ (bytes : List ℕ). Begins bytes (messages_given calls) rest) (append_assoc left piece (bytes_fed calls))
+    (begins_on (left ++ piece) calls rest h)
 begins_on left (Gave message ∷ calls) rest h =
     let more = begins_on h.0 calls rest h.1.2 in
     record {
       each = (h.1.0, more.each);
-      parts = ap (λ (z : List ℕ). z ++ fed calls) h.1.1 ∙ append_assoc message h.0 (fed calls) ∙ ap (λ (z : List ℕ). message ++ z) more.parts ∙ sym (append_assoc message (concat (given calls)) rest);
+      parts = ap (λ (z : List ℕ). z ++ bytes_fed calls) h.1.1 ∙ append_assoc message h.0 (bytes_fed calls) ∙ ap
+          (λ (z : List ℕ). message ++ z) more.parts ∙ sym (append_assoc message (concat (messages_given calls)) rest);
     }
 
-pub begins : (calls : List Call) (left : List ℕ) → Leaves [] calls left → Begins (fed calls) (given calls) left
+pub begins : (calls : List Call) (left : List ℕ) → Leaves [] calls left → Begins (bytes_fed calls) (messages_given calls) left
 begins calls left h = begins_on [] calls left h
 
 -- ---- one way to cut
@@ -43,26 +50,31 @@ first_of [] left all rest each whole stops e = (all, (refl, record { begins = re
 first_of (message ∷ messages) left [] rest each whole stops e =
     absurd (stops message (concat messages ++ left) each.0 (sym e ∙ append_assoc message (concat messages) left))
 first_of (message ∷ messages) left (other ∷ others) rest each whole stops e =
-    let same = one_front message other (concat messages ++ left) (concat others ++ rest) each.0 whole.0 (sym (append_assoc message (concat messages) left) ∙ e ∙ append_assoc other (concat others) rest) in
+    let same =
+    one_front message other (concat messages ++ left) (concat others ++ rest) each.0 whole.0
+    (sym (append_assoc message (concat messages) left) ∙ e ∙ append_assoc other (concat others) rest) in
     let on = first_of messages left others rest each.1 whole.1 stops same.1 in
     (on.0, ((λ k. sym same.0 k ∷ on.1.0 k), on.1.1))
 
-pub first : (calls : List Call) (left : List ℕ) (messages : List (List ℕ)) (rest : List ℕ) → Leaves [] calls left → Holds (fed calls) messages rest
-    → (more : List (List ℕ)) × ((messages ≡ given calls ++ more) × Holds left more rest)
+pub first : (calls : List Call) (left : List ℕ) (messages : List (List ℕ)) (rest : List ℕ) → Leaves [] calls left
+    → Holds (bytes_fed calls) messages rest
+    → (more : List (List ℕ)) × ((messages ≡ messages_given calls ++ more) × Holds left more rest)
 first calls left messages rest h whole =
     let b = begins calls left h in
-    first_of (given calls) left messages rest b.each whole.begins.each whole.stops (sym b.parts ∙ whole.begins.parts)
+    first_of (messages_given calls) left messages rest b.each whole.begins.each whole.stops (sym b.parts ∙ whole.begins.parts)
 
 none_more : (left : List ℕ) (more : List (List ℕ)) (rest : List ℕ) → HasNoWhole left → Begins left more rest → (more ≡ []) × (left ≡ rest)
 none_more left [] rest stops b = (refl, b.parts)
-none_more left (message ∷ more) rest stops b = absurd (stops message (concat more ++ rest) b.each.0 (b.parts ∙ append_assoc message (concat more) rest))
+none_more left (message ∷ more) rest stops b =
+    absurd (stops message (concat more ++ rest) b.each.0 (b.parts ∙ append_assoc message (concat more) rest))
 
-pub same : (calls others : List Call) (left rest : List ℕ) → Leaves [] calls left → Leaves [] others rest → fed calls ≡ fed others → HasNoWhole left → HasNoWhole rest
-    → (given calls ≡ given others) × (left ≡ rest)
+pub same : (calls others : List Call) (left rest : List ℕ) → Leaves [] calls left → Leaves [] others rest
+    → bytes_fed calls ≡ bytes_fed others → HasNoWhole left → HasNoWhole rest
+    → (messages_given calls ≡ messages_given others) × (left ≡ rest)
 same calls others left rest h g e stops ends =
-    let on = first calls left (given others) rest h (record { begins = rw e (begins others rest g); stops = ends }) in
+    let on = first calls left (messages_given others) rest h (record { begins = rw e (begins others rest g); stops = ends }) in
     let end = none_more left on.0 rest stops on.1.1.begins in
-    (sym (append-nil (given calls)) ∙ ap (λ (z : List (List ℕ)). given calls ++ z) (sym end.0) ∙ sym on.1.0, end.1)
+    (sym (append-nil (messages_given calls)) ∙ ap (λ (z : List (List ℕ)). messages_given calls ++ z) (sym end.0) ∙ sym on.1.0, end.1)
 
 -- ---- where no message is given
 
@@ -71,7 +83,9 @@ size_of_front bytes message rest whole e = ap size_in e ∙ whole_size message r
 
 pub unfinished : (bytes : List ℕ) → IsUnfinished bytes → HasNoWhole bytes
 unfinished bytes h message rest whole e =
-    let short = subst (λ (size : Option ℕ). MatchOption size ⊤ (λ n. (7 ≤ n) × (n ≤ MESSAGE_BYTES) × (length bytes < n))) (size_of_front bytes message rest whole e) h in
+    let short =
+    subst (λ (size : Option ℕ). MatchOption size ⊤ (λ n. (7 ≤ n) × (n ≤ MESSAGE_BYTES) × (length bytes < n)))
+    (size_of_front bytes message rest whole e) h in
     omega (arith, short.2, ap length e, length-append message rest)
 
 pub undersized : (bytes : List ℕ) → IsUndersized bytes → HasNoWhole bytes

@@ -2,7 +2,7 @@
 use Rattle.std.specs.Prelude.{ℕ, List, Option}
 use Rattle.cs_wire.specs.declared.message.TBody.{TBody}
 use Rattle.cs_wire.specs.declared.message.RBody.{RBody}
-use Rattle.cs_wire.specs.Fields.{spelled, size_of, IsIn}
+use Rattle.cs_wire.specs.Fields.{bytes_of_field, size_of, IsIn}
 use Rattle.cs_wire.specs.Messages.{t_number, t_layout, r_number, r_layout, with_request, with_reply}
 
 -- the number of its type
@@ -11,9 +11,9 @@ request_number body = with_request (λ kind _. t_number kind) body
 
 -- the bytes of its fields
 abbrev pub request_bytes : TBody → List ℕ
-request_bytes body = with_request (λ kind fields. spelled (t_layout kind) fields) body
+request_bytes body = with_request (λ kind fields. bytes_of_field (t_layout kind) fields) body
 
--- none where a field can't hold what it is to hold
+-- none if a field can't hold what it is to hold
 abbrev pub request_size : TBody → Option ℕ
 request_size body = with_request (λ kind fields. size_of (t_layout kind) fields) body
 
@@ -22,7 +22,7 @@ abbrev pub reply_number : RBody → ℕ
 reply_number body = with_reply (λ kind _. r_number kind) body
 
 abbrev pub reply_bytes : RBody → List ℕ
-reply_bytes body = with_reply (λ kind fields. spelled (r_layout kind) fields) body
+reply_bytes body = with_reply (λ kind fields. bytes_of_field (r_layout kind) fields) body
 
 abbrev pub reply_size : RBody → Option ℕ
 reply_size body = with_reply (λ kind fields. size_of (r_layout kind) fields) body

@@ -1,5 +1,7 @@
 -- The fields of messages: what each holds, and its one spelling.
-use Rattle.std.specs.Prelude.{ℕ, ◌<◌, ◌≤◌, ◌+◌, ◌^◌, ◌≡◌, Bool, true, false, not, ◌&&◌, ◌||◌, ◌==◌, nat_lt, if◌then◌else◌, Option, Some, None, List, [], ◌∷◌, ◌++◌, length}
+use Rattle.std.specs.Prelude.{ℕ, ◌<◌, ◌≤◌, ◌+◌, ◌^◌, ◌≡◌, Bool, true, false, not, ◌&&◌, ◌||◌, ◌==◌}
+use Rattle.std.specs.Prelude.{nat_lt, if◌then◌else◌, Option, Some, None, List, [], ◌∷◌, ◌++◌}
+use Rattle.std.specs.Prelude.{length}
 use Rattle.std.specs.List.{flat_map, list_any, AllByRecursion}
 use Rattle.std.specs.Int.{w8, w16, w32, w64, to_le_bytes}
 use Rattle.std.specs.Str.{is_utf8}
@@ -61,17 +63,18 @@ abbrev pub entry : List ℕ → List ℕ
 entry fields = to_le_bytes w16 (length fields) ++ fields
 
 -- the bytes of a field that holds this
-unfoldable pub spelled : (s : Shape) → Value s → List ℕ
-spelled Nothing v = []
-spelled One v = to_le_bytes w8 v
-spelled Two v = to_le_bytes w16 v
-spelled Four v = to_le_bytes w32 v
-spelled Eight v = to_le_bytes w64 v
-spelled Text v = to_le_bytes w16 (length v) ++ v
-spelled Raw v = to_le_bytes w32 (length v) ++ v
-spelled (Several s) v = to_le_bytes w16 (length v) ++ flat_map (spelled s) v
-spelled (Boxed s) v = to_le_bytes w16 (length (entry (spelled s v))) ++ entry (spelled s v)
-spelled (s ▸ t) v = spelled s v.0 ++ spelled t v.1
+unfoldable pub bytes_of_field : (s : Shape) → Value s → List ℕ
+bytes_of_field Nothing v = []
+bytes_of_field One v = to_le_bytes w8 v
+bytes_of_field Two v = to_le_bytes w16 v
+bytes_of_field Four v = to_le_bytes w32 v
+bytes_of_field Eight v = to_le_bytes w64 v
+bytes_of_field Text v = to_le_bytes w16 (length v) ++ v
+bytes_of_field Raw v = to_le_bytes w32 (length v) ++ v
+bytes_of_field (Several s) v = to_le_bytes w16 (length v) ++ flat_map (bytes_of_field s) v
+bytes_of_field (Boxed s) v =
+    to_le_bytes w16 (length (entry (bytes_of_field s v))) ++ entry (bytes_of_field s v)
+bytes_of_field (s ▸ t) v = bytes_of_field s v.0 ++ bytes_of_field t v.1
 
 -- a field can hold this
 abbrev pub IsIn : (s : Shape) → Value s → Type 0
@@ -83,38 +86,39 @@ IsIn Eight v = v < 2 ^ 64
 IsIn Text v = (length v < 2 ^ 16) × (is_text v ≡ true)
 IsIn Raw v = length v < 2 ^ 32
 IsIn (Several s) v = (length v ≤ WALK_NAMES) × AllByRecursion (IsIn s) v
-IsIn (Boxed s) v = IsIn s v × (length (entry (spelled s v)) < 2 ^ 16)
+IsIn (Boxed s) v = IsIn s v × (length (entry (bytes_of_field s v)) < 2 ^ 16)
 IsIn (s ▸ t) v = IsIn s v.0 × IsIn t v.1
 
 -- the sum, if both are there
-abbrev pub plus : Option ℕ → Option ℕ → Option ℕ
-plus (Some n) (Some m) = Some (n + m)
-plus (Some n) None = None
-plus None m = None
+abbrev pub sum_if_both : Option ℕ → Option ℕ → Option ℕ
+sum_if_both (Some n) (Some m) = Some (n + m)
+sum_if_both (Some n) None = None
+sum_if_both None m = None
 
 -- the number, if the test holds
-abbrev pub provided : Bool → ℕ → Option ℕ
-provided holds n = if holds then Some n else None
+abbrev pub number_if : Bool → ℕ → Option ℕ
+number_if holds n = if holds then Some n else None
 
 -- how many bytes a list's items take, if each can be spelled
 unfoldable pub sizes_of : {A : Type 0} → (A → Option ℕ) → List A → Option ℕ
 sizes_of size [] = Some 0
-sizes_of size (v ∷ vs) = plus (size v) (sizes_of size vs)
+sizes_of size (v ∷ vs) = sum_if_both (size v) (sizes_of size vs)
 
 -- an entry's size above its fields', if it is less than 65,536
 abbrev pub entry_size : Option ℕ → Option ℕ
-entry_size (Some n) = provided (nat_lt (n + 2) (2 ^ 16)) (n + 2)
+entry_size (Some n) = number_if (nat_lt (n + 2) (2 ^ 16)) (n + 2)
 entry_size None = None
 
 -- how many bytes the field takes, if it can hold this
 unfoldable pub size_of : (s : Shape) → Value s → Option ℕ
 size_of Nothing v = Some 0
-size_of One v = provided (nat_lt v (2 ^ 8)) 1
-size_of Two v = provided (nat_lt v (2 ^ 16)) 2
-size_of Four v = provided (nat_lt v (2 ^ 32)) 4
-size_of Eight v = provided (nat_lt v (2 ^ 64)) 8
-size_of Text v = provided (nat_lt (length v) (2 ^ 16) && is_text v) (length v + 2)
-size_of Raw v = provided (nat_lt (length v) (2 ^ 32)) (length v + 4)
-size_of (Several s) v = if nat_lt WALK_NAMES (length v) then None else plus (Some 2) (sizes_of (size_of s) v)
-size_of (Boxed s) v = plus (Some 2) (entry_size (size_of s v))
-size_of (s ▸ t) v = plus (size_of s v.0) (size_of t v.1)
+size_of One v = number_if (nat_lt v (2 ^ 8)) 1
+size_of Two v = number_if (nat_lt v (2 ^ 16)) 2
+size_of Four v = number_if (nat_lt v (2 ^ 32)) 4
+size_of Eight v = number_if (nat_lt v (2 ^ 64)) 8
+size_of Text v = number_if (nat_lt (length v) (2 ^ 16) && is_text v) (length v + 2)
+size_of Raw v = number_if (nat_lt (length v) (2 ^ 32)) (length v + 4)
+size_of (Several s) v =
+    if nat_lt WALK_NAMES (length v) then None else sum_if_both (Some 2) (sizes_of (size_of s) v)
+size_of (Boxed s) v = sum_if_both (Some 2) (entry_size (size_of s v))
+size_of (s ▸ t) v = sum_if_both (size_of s v.0) (size_of t v.1)

@@ -1,6 +1,7 @@
--- How messages follow one another in a stream: each begins with its size, in four bytes, the low one first, and the
--- size counts all of the message, these four bytes among it (intro(5)).
-use Rattle.std.specs.Prelude.{◌≡◌, ℕ, ◌<◌, ◌≤◌, nat_lt, if◌then◌else◌, Option, Some, None, List, ◌++◌, length, take, IsSomeAnd, MatchOption, ⊤}
+-- How messages follow one another in a stream: each begins with its size, in four bytes, the low
+-- one first, and the size counts all of the message, these four bytes among it (intro(5)).
+use Rattle.std.specs.Prelude.{◌≡◌, ℕ, ◌<◌, ◌≤◌, nat_lt, if◌then◌else◌, Option, Some, None, List}
+use Rattle.std.specs.Prelude.{◌++◌, length, take, IsSomeAnd, MatchOption, ⊤}
 use Rattle.std.specs.Int.{w32, from_le_bytes}
 use Rattle.std.specs.List.{concat, AllByRecursion}
 use Rattle.cs_names.specs.declared.limits.TheConstants.{MESSAGE_BYTES}
@@ -9,7 +10,8 @@ use Rattle.cs_names.specs.declared.limits.TheConstants.{MESSAGE_BYTES}
 unfoldable pub size_in : List ℕ → Option ℕ
 size_in bytes = if nat_lt (length bytes) 4 then None else Some (from_le_bytes w32 (take 4 bytes))
 
--- a whole message: as long as its size says, with room for size, type and tag, and no longer than a message may be
+-- a whole message: as long as its size says, with room for size, type and tag, and no longer than a
+-- message may be
 pub record IsWhole (message : List ℕ) : Type 0 where
   pub sized : size_in message ≡ Some (length message)
   pub at_least : 7 ≤ length message
@@ -17,7 +19,9 @@ pub record IsWhole (message : List ℕ) : Type 0 where
 
 -- a message of which something is still to come: bytes of its size, or bytes that its size counts
 abbrev pub IsUnfinished : List ℕ → Type 0
-IsUnfinished bytes = MatchOption (size_in bytes) ⊤ (λ size. (7 ≤ size) × (size ≤ MESSAGE_BYTES) × (length bytes < size))
+IsUnfinished bytes =
+    MatchOption (size_in bytes) ⊤
+    (λ size. (7 ≤ size) × (size ≤ MESSAGE_BYTES) × (length bytes < size))
 
 -- a size in front that is below that of any message
 abbrev pub IsUndersized : List ℕ → Type 0

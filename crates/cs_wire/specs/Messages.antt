@@ -1,5 +1,6 @@
 -- The messages: the number of each type, its fields, and the one spelling of a message.
-use Rattle.std.specs.Prelude.{ℕ, ◌<◌, ◌≤◌, ◌+◌, ◌^◌, ◌==◌, Bool, true, false, not, ◌&&◌, if◌then◌else◌, Option, Some, None, List, ◌++◌, length, map}
+use Rattle.std.specs.Prelude.{ℕ, ◌<◌, ◌≤◌, ◌+◌, ◌^◌, ◌==◌, Bool, true, false, not, ◌&&◌}
+use Rattle.std.specs.Prelude.{if◌then◌else◌, Option, Some, None, List, ◌++◌, length, map}
 use Rattle.std.specs.Int.{w8, w16, w32, to_le_bytes}
 use Rattle.std.specs.Prelude.{String}
 use Rattle.std.specs.String.{string_bytes}
@@ -20,7 +21,8 @@ use Rattle.cs_wire.specs.declared.message.RBody.TheVariants as r
 use Rattle.cs_wire.specs.declared.message.Qid.{Qid}
 use Rattle.cs_wire.specs.declared.message.Stat.{Stat}
 use Rattle.cs_wire.specs.declared.stat.StatRef.{StatRef}
-use Rattle.cs_wire.specs.Fields.{Shape, Nothing, One, Two, Four, Eight, Text, Raw, Several, Boxed, ◌▸◌, Value, spelled, IsIn, entry, holds_bytes}
+use Rattle.cs_wire.specs.Fields.{Shape, Nothing, One, Two, Four, Eight, Text, Raw, Several, Boxed}
+use Rattle.cs_wire.specs.Fields.{◌▸◌, Value, bytes_of_field, IsIn, entry, holds_bytes}
 
 -- the number of a type of a client's message
 abbrev pub t_number : TKind → ℕ
@@ -41,7 +43,13 @@ t_number tk.Wstat = 126
 -- the type with that number
 unfoldable pub t_kind_of : ℕ → Option TKind
 t_kind_of n =
-    if n == 100 then Some tk.Version else if n == 102 then Some tk.Auth else if n == 104 then Some tk.Attach else if n == 108 then Some tk.Flush else if n == 110 then Some tk.Walk else if n == 112 then Some tk.Open else if n == 114 then Some tk.Create else if n == 116 then Some tk.Read else if n == 118 then Some tk.Write else if n == 120 then Some tk.Clunk else if n == 122 then Some tk.Remove else if n == 124 then Some tk.Stat else if n == 126 then Some tk.Wstat else None
+    if n == 100 then Some tk.Version else if n == 102 then Some tk.Auth
+    else if n == 104 then Some tk.Attach else if n == 108 then Some tk.Flush
+    else if n == 110 then Some tk.Walk else if n == 112 then Some tk.Open
+    else if n == 114 then Some tk.Create else if n == 116 then Some tk.Read
+    else if n == 118 then Some tk.Write else if n == 120 then Some tk.Clunk
+    else if n == 122 then Some tk.Remove else if n == 124 then Some tk.Stat
+    else if n == 126 then Some tk.Wstat else None
 
 -- the number of a type of reply
 abbrev pub r_number : RKind → ℕ
@@ -63,7 +71,13 @@ r_number rk.Wstat = 127
 -- the type with that number
 unfoldable pub r_kind_of : ℕ → Option RKind
 r_kind_of n =
-    if n == 101 then Some rk.Version else if n == 103 then Some rk.Auth else if n == 105 then Some rk.Attach else if n == 107 then Some rk.Error else if n == 109 then Some rk.Flush else if n == 111 then Some rk.Walk else if n == 113 then Some rk.Open else if n == 115 then Some rk.Create else if n == 117 then Some rk.Read else if n == 119 then Some rk.Write else if n == 121 then Some rk.Clunk else if n == 123 then Some rk.Remove else if n == 125 then Some rk.Stat else if n == 127 then Some rk.Wstat else None
+    if n == 101 then Some rk.Version else if n == 103 then Some rk.Auth
+    else if n == 105 then Some rk.Attach else if n == 107 then Some rk.Error
+    else if n == 109 then Some rk.Flush else if n == 111 then Some rk.Walk
+    else if n == 113 then Some rk.Open else if n == 115 then Some rk.Create
+    else if n == 117 then Some rk.Read else if n == 119 then Some rk.Write
+    else if n == 121 then Some rk.Clunk else if n == 123 then Some rk.Remove
+    else if n == 125 then Some rk.Stat else if n == 127 then Some rk.Wstat else None
 
 -- qid[13]: type[1] vers[4] path[8]
 abbrev pub qid_shape : Shape
@@ -111,7 +125,8 @@ abbrev pub t_lent : TKind → Bool
 t_lent tk.Write = true
 t_lent kind = false
 
--- One way of the conversation: its types, their numbers and their fields, and which are read with no copy.
+-- One way of the conversation: its types, their numbers and their fields, and which are read with
+-- no copy.
 pub record Side (Kind : Type 0) : Type 0 where
   pub number : Kind → ℕ
   pub kind_of : ℕ → Option Kind
@@ -134,9 +149,9 @@ pub record Message {Kind : Type 0} (side : Side Kind) : Type 0 where
 
 -- the bytes of its fields
 unfoldable pub fields_of : {Kind : Type 0} {side : Side Kind} → Message side → List ℕ
-fields_of {Kind} {side} m = spelled (side.layout m.kind) m.fields
+fields_of {Kind} {side} m = bytes_of_field (side.layout m.kind) m.fields
 
--- a field of the message takes memory where it is copied
+-- a field of the message takes memory if it is copied
 abbrev pub takes_memory : {Kind : Type 0} {side : Side Kind} → Message side → Bool
 takes_memory {Kind} {side} m = not (side.lent m.kind) && holds_bytes (side.layout m.kind) m.fields
 
@@ -146,7 +161,9 @@ FieldsFit {Kind} {side} m = IsIn (side.layout m.kind) m.fields
 
 -- size[4] type[1] tag[2] and the fields; the size counts itself
 unfoldable pub spelling : {Kind : Type 0} {side : Side Kind} → Message side → List ℕ
-spelling {Kind} {side} m = to_le_bytes w32 (length (fields_of m) + 7) ++ (to_le_bytes w8 (side.number m.kind) ++ (to_le_bytes w16 m.tag ++ fields_of m))
+spelling {Kind} {side} m =
+    to_le_bytes w32 (length (fields_of m) + 7)
+    ++ (to_le_bytes w8 (side.number m.kind) ++ (to_le_bytes w16 m.tag ++ fields_of m))
 
 -- what has a spelling: each field is in its range, and the size is
 pub record IsMessage {Kind : Type 0} {side : Side Kind} (m : Message side) : Type 0 where
@@ -165,13 +182,37 @@ qid_of q = (q.kind, (q.vers, q.path))
 
 -- a stat as its fields
 abbrev pub stat_of : Stat → Value stat_shape
-stat_of s = (s.kind, (s.dev, (qid_of s.qid, (s.mode, (s.atime, (s.mtime, (s.length, (string_bytes s.name, (string_bytes s.uid, (string_bytes s.gid, string_bytes s.muid))))))))))
+stat_of s = (
+  s.kind,
+  (
+    s.dev,
+    (
+      qid_of s.qid,
+      (
+        s.mode,
+        (
+          s.atime,
+          (
+            s.mtime,
+            (
+              s.length,
+              (
+                string_bytes s.name,
+                (string_bytes s.uid, (string_bytes s.gid, string_bytes s.muid)),
+              ),
+            ),
+          ),
+        ),
+      ),
+    ),
+  ),
+)
 
 -- texts without where they lie in memory
 abbrev pub names_of : List (String Global) → List (List ℕ)
 names_of names = map string_bytes names
 
--- likewise, where the texts are borrowed
+-- likewise, of texts that are borrowed
 abbrev pub texts_in : List (Bor (List ℕ)) → List (List ℕ)
 texts_in texts = map (λ text. text.now) texts
 
@@ -181,21 +222,25 @@ users_in s = (s.name.now, (s.uid.now, (s.gid.now, s.muid.now)))
 
 -- a borrowed stat as its fields
 abbrev pub stat_in : StatRef → Value stat_shape
-stat_in s = (s.kind, (s.dev, (qid_of s.qid, (s.mode, (s.atime, (s.mtime, (s.length, users_in s)))))))
+stat_in s =
+    (s.kind, (s.dev, (qid_of s.qid, (s.mode, (s.atime, (s.mtime, (s.length, users_in s)))))))
 
 -- The bytes of a stat entry (stat(5)): its size, which doesn't count itself, and its fields.
 unfoldable pub stat_entry : Value stat_shape → List ℕ
-stat_entry v = entry (spelled stat_shape v)
+stat_entry v = entry (bytes_of_field stat_shape v)
 
 -- what has an entry, of less than 65,536 bytes
 unfoldable pub IsEntry : Value stat_shape → Type 0
 IsEntry v = IsIn (Boxed stat_shape) v
 
 -- What a client's message asks, as its type and what its fields hold.
-abbrev pub with_request {ℓ} : {A : Type ℓ} → ((kind : TKind) → Value (t_layout kind) → A) → TBody → A
+abbrev pub with_request {ℓ} : {A : Type ℓ} → ((kind : TKind) → Value (t_layout kind) → A) → TBody
+    → A
 with_request f (t.Version msize version) = f tk.Version (msize, string_bytes version)
-with_request f (t.Auth afid uname aname) = f tk.Auth (afid, (string_bytes uname, string_bytes aname))
-with_request f (t.Attach fid afid uname aname) = f tk.Attach (fid, (afid, (string_bytes uname, string_bytes aname)))
+with_request f (t.Auth afid uname aname) =
+    f tk.Auth (afid, (string_bytes uname, string_bytes aname))
+with_request f (t.Attach fid afid uname aname) =
+    f tk.Attach (fid, (afid, (string_bytes uname, string_bytes aname)))
 with_request f (t.Flush oldtag) = f tk.Flush oldtag
 with_request f (t.Walk fid newfid wname) = f tk.Walk (fid, (newfid, names_of wname.items))
 with_request f (t.Open fid mode) = f tk.Open (fid, mode)

@@ -6,8 +6,9 @@ ghost use Rattle.std.specs.List.{list_any};
 ghost use Rattle.cs_wire.specs.Few.{items_of};
 ghost use Rattle.cs_wire.specs.Fields.{is_text, Text};
 ghost use Rattle.cs_wire.specs.Messages.{qid_of, qid_shape, stat_in, stat_shape, texts_in};
-ghost use Rattle.cs_wire.specs.Reading.{end_at, front_at, number_at, raw_at, times_at, several_at, sized_in, entry_in, boxed_at, field_at};
-ghost use Rattle.cs_wire.specs.Answers.{Finds, FindsFront};
+ghost use Rattle.cs_wire.specs.Reading.{end_at, front_at, number_at, raw_at, times_at, several_at};
+ghost use Rattle.cs_wire.specs.Reading.{sized_in, entry_in, boxed_at, field_at};
+ghost use Rattle.cs_wire.specs.Answers.{IsSeenAs, IsFrontSeenAs};
 
 use crate::fault::WireFault;
 use crate::few::Few;
@@ -41,7 +42,7 @@ fn as_text(bytes: &[u8]) -> Option<&str>
 /// The stat whose size and fields fill the bytes.
 #[tactic(auto, unfolding(crate::specs::Reading::sized_in))]
 fn sized(bytes: &[u8]) -> Result<StatRef, WireFault>
-    ensures { Finds stat_in result (sized_in (field_at stat_shape) bytes.now) }
+    ensures { IsSeenAs stat_in result (sized_in (field_at stat_shape) bytes.now) }
 {
     let mut cursor = Cursor { rest: bytes };
     let size = cursor.two()?;
@@ -55,9 +56,9 @@ fn sized(bytes: &[u8]) -> Result<StatRef, WireFault>
     Ok(stat)
 }
 
-/// Likewise, where fields that end too early or too late say that the sizes lie.
+/// Likewise, but fields that end too early or too late say that the sizes lie.
 fn entry(bytes: &[u8]) -> Result<StatRef, WireFault>
-    ensures { Finds stat_in result (entry_in (field_at stat_shape) bytes.now) }
+    ensures { IsSeenAs stat_in result (entry_in (field_at stat_shape) bytes.now) }
 {
     match sized(bytes) {
         Err(WireFault::Short | WireFault::Trailing) => Err(WireFault::SizeLies),
@@ -68,7 +69,8 @@ fn entry(bytes: &[u8]) -> Result<StatRef, WireFault>
 impl<'a> Cursor<'a> {
     /// So many bytes.
     pub(crate) fn front(&mut self, count: usize) -> Result<&'a [u8], WireFault>
-        ensures { FindsFront (λ x. x.now) result self.new.rest.now (front_at count self.old.rest.now) }
+        ensures { IsFrontSeenAs (λ x. x.now) result self.new.rest.now
+            (front_at count self.old.rest.now) }
     {
         if self.rest.len() < count {
             return Err(WireFault::Short);
@@ -80,7 +82,7 @@ impl<'a> Cursor<'a> {
 
     /// That no byte is left.
     pub(crate) fn end(&self) -> Result<(), WireFault>
-        ensures { Finds (λ _. tt) result (end_at self.now.rest.now) }
+        ensures { IsSeenAs (λ _. tt) result (end_at self.now.rest.now) }
     {
         if !self.rest.is_empty() {
             return Err(WireFault::Trailing);
@@ -89,7 +91,7 @@ impl<'a> Cursor<'a> {
     }
 
     fn array<const N: usize>(&mut self) -> Result<[u8; N], WireFault>
-        ensures { FindsFront (λ x. x) result self.new.rest.now (front_at N self.old.rest.now) }
+        ensures { IsFrontSeenAs (λ x. x) result self.new.rest.now (front_at N self.old.rest.now) }
     {
         let Some((front, rest)) = self.rest.split_first_chunk::<N>() else {
             return Err(WireFault::Short);
@@ -100,28 +102,31 @@ impl<'a> Cursor<'a> {
 
     /// A number of one byte.
     pub(crate) fn one(&mut self) -> Result<u8, WireFault>
-        ensures { FindsFront (λ x. x) result self.new.rest.now (number_at w8 self.old.rest.now) }
+        ensures { IsFrontSeenAs (λ x. x) result self.new.rest.now (number_at w8 self.old.rest.now) }
     {
         Ok(u8::from_le_bytes(self.array()?))
     }
 
     /// A number of two bytes, the low one first.
     pub(crate) fn two(&mut self) -> Result<u16, WireFault>
-        ensures { FindsFront (λ x. x) result self.new.rest.now (number_at w16 self.old.rest.now) }
+        ensures { IsFrontSeenAs (λ x. x) result self.new.rest.now
+            (number_at w16 self.old.rest.now) }
     {
         Ok(u16::from_le_bytes(self.array()?))
     }
 
     /// A number of four bytes, the low one first.
     pub(crate) fn four(&mut self) -> Result<u32, WireFault>
-        ensures { FindsFront (λ x. x) result self.new.rest.now (number_at w32 self.old.rest.now) }
+        ensures { IsFrontSeenAs (λ x. x) result self.new.rest.now
+            (number_at w32 self.old.rest.now) }
     {
         Ok(u32::from_le_bytes(self.array()?))
     }
 
     /// A number of eight bytes, the low one first.
     pub(crate) fn eight(&mut self) -> Result<u64, WireFault>
-        ensures { FindsFront (λ x. x) result self.new.rest.now (number_at w64 self.old.rest.now) }
+        ensures { IsFrontSeenAs (λ x. x) result self.new.rest.now
+            (number_at w64 self.old.rest.now) }
     {
         Ok(u64::from_le_bytes(self.array()?))
     }
@@ -129,7 +134,8 @@ impl<'a> Cursor<'a> {
     /// A text: its length in two bytes, and UTF-8 without NUL.
     #[tactic(auto, unfolding(crate::specs::Reading::field_at, crate::specs::Reading::text_at))]
     pub(crate) fn text(&mut self) -> Result<&'a str, WireFault>
-        ensures { FindsFront (λ x. x.now) result self.new.rest.now (field_at Text self.old.rest.now) }
+        ensures { IsFrontSeenAs (λ x. x.now) result self.new.rest.now
+            (field_at Text self.old.rest.now) }
     {
         let count = self.two()?;
         let front = self.front(count as usize)?;
@@ -142,7 +148,8 @@ impl<'a> Cursor<'a> {
     /// The 13 bytes of a qid.
     #[tactic(auto, unfolding(crate::specs::Reading::field_at))]
     pub(crate) fn qid(&mut self) -> Result<Qid, WireFault>
-        ensures { FindsFront qid_of result self.new.rest.now (field_at qid_shape self.old.rest.now) }
+        ensures { IsFrontSeenAs qid_of result self.new.rest.now
+            (field_at qid_shape self.old.rest.now) }
     {
         Ok(Qid {
             kind: self.one()?,
@@ -154,7 +161,7 @@ impl<'a> Cursor<'a> {
     /// Bytes, after their count in four.
     #[tactic(auto, unfolding(crate::specs::Reading::raw_at))]
     pub(crate) fn data(&mut self) -> Result<&'a [u8], WireFault>
-        ensures { FindsFront (λ x. x.now) result self.new.rest.now (raw_at self.old.rest.now) }
+        ensures { IsFrontSeenAs (λ x. x.now) result self.new.rest.now (raw_at self.old.rest.now) }
     {
         let count = self.four()?;
         self.front(count as usize)
@@ -162,7 +169,8 @@ impl<'a> Cursor<'a> {
 
     fn times_text(&mut self, count: u16) -> Result<Few<&'a str>, WireFault>
         requires { count ≤ WALK_NAMES }
-        ensures { FindsFront (λ names. texts_in (items_of names)) result self.new.rest.now (times_at (field_at Text) count self.old.rest.now) }
+        ensures { IsFrontSeenAs (λ names. texts_in (items_of names)) result self.new.rest.now
+            (times_at (field_at Text) count self.old.rest.now) }
     {
         let mut names = Few::new("");
         for _ in 0..count {
@@ -174,7 +182,8 @@ impl<'a> Cursor<'a> {
 
     fn times_qid(&mut self, count: u16) -> Result<Few<Qid>, WireFault>
         requires { count ≤ WALK_NAMES }
-        ensures { FindsFront (λ qids. map qid_of (items_of qids)) result self.new.rest.now (times_at (field_at qid_shape) count self.old.rest.now) }
+        ensures { IsFrontSeenAs (λ qids. map qid_of (items_of qids)) result self.new.rest.now
+            (times_at (field_at qid_shape) count self.old.rest.now) }
     {
         let blank = Qid {
             kind: 0,
@@ -192,7 +201,8 @@ impl<'a> Cursor<'a> {
     /// The names of a walk, after their count in two bytes.
     #[tactic(auto, unfolding(crate::specs::Reading::several_at))]
     pub(crate) fn names(&mut self) -> Result<Few<&'a str>, WireFault>
-        ensures { FindsFront (λ names. texts_in (items_of names)) result self.new.rest.now (several_at (field_at Text) self.old.rest.now) }
+        ensures { IsFrontSeenAs (λ names. texts_in (items_of names)) result self.new.rest.now
+            (several_at (field_at Text) self.old.rest.now) }
     {
         let count = self.two()?;
         if count > WALK_NAMES {
@@ -204,7 +214,8 @@ impl<'a> Cursor<'a> {
     /// The qids of a walk, after their count in two bytes.
     #[tactic(auto, unfolding(crate::specs::Reading::several_at))]
     pub(crate) fn qids(&mut self) -> Result<Few<Qid>, WireFault>
-        ensures { FindsFront (λ qids. map qid_of (items_of qids)) result self.new.rest.now (several_at (field_at qid_shape) self.old.rest.now) }
+        ensures { IsFrontSeenAs (λ qids. map qid_of (items_of qids)) result self.new.rest.now
+            (several_at (field_at qid_shape) self.old.rest.now) }
     {
         let count = self.two()?;
         if count > WALK_NAMES {
@@ -215,7 +226,8 @@ impl<'a> Cursor<'a> {
 
     #[tactic(auto, unfolding(crate::specs::Reading::field_at))]
     fn stat_fields(&mut self) -> Result<StatRef<'a>, WireFault>
-        ensures { FindsFront stat_in result self.new.rest.now (field_at stat_shape self.old.rest.now) }
+        ensures { IsFrontSeenAs stat_in result self.new.rest.now
+            (field_at stat_shape self.old.rest.now) }
     {
         Ok(StatRef {
             kind: self.two()?,
@@ -235,7 +247,8 @@ impl<'a> Cursor<'a> {
     /// A stat: its length in two bytes, and an entry of that length.
     #[tactic(auto, unfolding(crate::specs::Reading::boxed_at))]
     pub(crate) fn stat(&mut self) -> Result<StatRef<'a>, WireFault>
-        ensures { FindsFront stat_in result self.new.rest.now (boxed_at (field_at stat_shape) self.old.rest.now) }
+        ensures { IsFrontSeenAs stat_in result self.new.rest.now
+            (boxed_at (field_at stat_shape) self.old.rest.now) }
     {
         let count = self.two()?;
         let front = self.front(count as usize)?;

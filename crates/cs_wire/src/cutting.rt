@@ -2,19 +2,27 @@
 
 ghost use Rattle.std.specs.Prelude.{◌≡◌, ◌<◌, ℕ, List, [], ◌++◌, length};
 ghost use Rattle.cs_wire.specs.Messages.{requests, replies, Message, Fits, spelling};
-ghost use Rattle.cs_wire.specs.Framing.{Begins, Holds, HasNoWhole, IsWhole, IsUnfinished, IsUndersized, IsOversized};
+ghost use Rattle.cs_wire.specs.Framing.{Begins, Holds, HasNoWhole, IsWhole, IsUnfinished};
+ghost use Rattle.cs_wire.specs.Framing.{IsUndersized, IsOversized};
 ghost use Rattle.cs_names.specs.declared.limits.TheConstants.{MESSAGE_BYTES};
-ghost use Rattle.cs_wire.specs.Cutting.{Call, Leaves, fed, given};
+ghost use Rattle.cs_wire.specs.Cutting.{Call, Leaves, bytes_fed, messages_given};
 
-/// What was given and what is left are the messages of the pieces joined and their rest, however the
-/// stream was cut, and whenever its messages were taken.
+/// What was given and what is left are the messages of the pieces joined and their rest, however
+/// the stream was cut, and whenever its messages were taken.
 pub fn any_cutting()
     // What came is the messages given, in their order, and what is left.
-    ensures joined { (calls : List Call) (left : List ℕ) → Leaves [] calls left → Begins (fed calls) (given calls) left }
-    // The messages given are the first of those of the pieces joined, and what is left holds the others.
-    ensures first { (calls : List Call) (left : List ℕ) (messages : List (List ℕ)) (rest : List ℕ) → Leaves [] calls left → Holds (fed calls) messages rest → (more : List (List ℕ)) × ((messages ≡ given calls ++ more) × Holds left more rest) }
-    // Where no whole message is left, any other cutting of the same bytes gave the same, and left the same.
-    ensures same { (calls others : List Call) (left rest : List ℕ) → Leaves [] calls left → Leaves [] others rest → fed calls ≡ fed others → HasNoWhole left → HasNoWhole rest → (given calls ≡ given others) × (left ≡ rest) }
+    ensures joined { (calls : List Call) (left : List ℕ) → Leaves [] calls left
+        → Begins (bytes_fed calls) (messages_given calls) left }
+    // The messages given are the first of those of the pieces joined, and what is left holds the
+    // others.
+    ensures first { (calls : List Call) (left : List ℕ) (messages : List (List ℕ)) (rest : List ℕ)
+        → Leaves [] calls left → Holds (bytes_fed calls) messages rest → (more : List (List ℕ))
+        × ((messages ≡ messages_given calls ++ more) × Holds left more rest) }
+    // Where no whole message is left, any other cutting of the same bytes gave the same, and left
+    // the same.
+    ensures same { (calls others : List Call) (left rest : List ℕ) → Leaves [] calls left
+        → Leaves [] others rest → bytes_fed calls ≡ bytes_fed others → HasNoWhole left
+        → HasNoWhole rest → (messages_given calls ≡ messages_given others) × (left ≡ rest) }
     // Where a framer has no message to give, none is left.
     ensures unfinished { (bytes : List ℕ) → IsUnfinished bytes → HasNoWhole bytes }
     ensures undersized { (bytes : List ℕ) → IsUndersized bytes → HasNoWhole bytes }

@@ -1,5 +1,5 @@
-//! Messages for people, as one line: the type, the tag, and the fields in the manual's order. Each form of fields
-//! has a function of its own.
+//! Messages for people, as one line: the type, the tag, and the fields in the manual's order. Each
+//! form of fields has a function of its own.
 
 use crate::message::{Qid, RBody, RMessage, Stat, TBody, TMessage};
 use crate::table::{each_reply, each_request};

@@ -1,15 +1,18 @@
-//! Which messages have a spelling, and how long it is. A private function gives the bytes that a field
-//! takes, and None where it can't hold the value.
+//! Which messages have a spelling, and how long it is. A private function gives the bytes that a
+//! field takes, and None if it can't hold the value.
 
 ghost use Rattle.std.specs.Prelude.{◌≡◌, ◌≤◌, ◌<◌, length, true, IfSome, Some, Option, map, ◌↔◌};
-ghost use Rattle.cs_wire.specs.Fields.{One, Two, Four, Eight, Text, Several, Raw, ◌▸◌, is_text, size_of, sizes_of, entry_size, plus};
-ghost use Rattle.cs_wire.specs.Messages.{names_of, qid_of, qid_shape, stat_in, stat_shape, t_view, r_view, Fits, spelling, IsEntry, stat_entry};
+ghost use Rattle.cs_wire.specs.Fields.{One, Two, Four, Eight, Text, Several, Raw, ◌▸◌, is_text};
+ghost use Rattle.cs_wire.specs.Fields.{size_of, sizes_of, entry_size, sum_if_both};
+ghost use Rattle.cs_wire.specs.Messages.{names_of, qid_of, qid_shape, stat_in, stat_shape, t_view};
+ghost use Rattle.cs_wire.specs.Messages.{r_view, Fits, spelling, IsEntry, stat_entry};
 ghost use Rattle.cs_wire.specs.Bodies.{request_size, reply_size};
 
 use crate::cursor::has_nul;
 use crate::message::{Qid, RBody, RMessage, TBody, TMessage};
 use crate::stat::StatRef;
 use crate::table::{each_reply, each_request};
+use cs_names::laws::know;
 use cs_names::limits::{MESSAGE_BYTES, WALK_NAMES};
 
 #[tactic(auto, unfolding(crate::specs::Fields::size_of))]
@@ -17,7 +20,7 @@ fn one(number: &u8) -> usize
     ensures size { size_of One number.now ≡ Some result }
     ensures small { result ≡ 1 }
 {
-    let _number = *number;
+    know(*number);
     1
 }
 
@@ -26,7 +29,7 @@ fn two(number: &u16) -> usize
     ensures size { size_of Two number.now ≡ Some result }
     ensures small { result ≡ 2 }
 {
-    let _number = *number;
+    know(*number);
     2
 }
 
@@ -35,7 +38,7 @@ fn four(number: &u32) -> usize
     ensures size { size_of Four number.now ≡ Some result }
     ensures small { result ≡ 4 }
 {
-    let _number = *number;
+    know(*number);
     4
 }
 
@@ -44,7 +47,7 @@ fn eight(number: &u64) -> usize
     ensures size { size_of Eight number.now ≡ Some result }
     ensures small { result ≡ 8 }
 {
-    let _number = *number;
+    know(*number);
     8
 }
 
@@ -153,7 +156,7 @@ fn entry(stat: &StatRef) -> Option<usize>
     Some(size)
 }
 
-/// The bytes of a field; where it can't hold the value, the function ends with None.
+/// The bytes of a field; if it can't hold the value, the function ends with None.
 macro_rules! field_size {
     (text $text:ident) => { text($text.as_str())? };
     (names $names:ident) => { names($names)? };
@@ -189,9 +192,9 @@ fn of_reply(body: &RBody) -> Option<usize>
 }
 
 #[tactic(auto, unfolding(crate::specs::Fields::size_of))]
-fn spelled(tag: &u16, fields: Option<usize>) -> Option<usize>
+fn size_with_header(tag: &u16, fields: Option<usize>) -> Option<usize>
     requires { IfSome fields (λ size. size ≤ 4295000000) }
-    ensures size { result ≡ plus (size_of (Four ▸ One ▸ Two) (0, (0, tag.now))) fields }
+    ensures size { result ≡ sum_if_both (size_of (Four ▸ One ▸ Two) (0, (0, tag.now))) fields }
 {
     Some(5 + two(tag) + fields?)
 }
@@ -202,7 +205,7 @@ impl TMessage<'_> {
     pub fn fits(&self) -> bool
         ensures { result ≡ true ↔ Fits (t_view self.now) }
     {
-        match spelled(&self.tag, of_request(&self.body)) {
+        match size_with_header(&self.tag, of_request(&self.body)) {
             Some(length) => length <= MESSAGE_BYTES as usize,
             None => false,
         }
@@ -213,17 +216,18 @@ impl TMessage<'_> {
         requires { Fits (t_view self.now) }
         ensures { result ≡ length (spelling (t_view self.now)) }
     {
-        spelled(&self.tag, of_request(&self.body)).unwrap()
+        size_with_header(&self.tag, of_request(&self.body)).unwrap()
     }
 }
 
 impl RMessage {
     /// Whether it has a spelling, and one of at most 65,536 bytes: each text is shorter than 65,536
-    /// bytes and has no NUL, a walk has at most 16 qids, and a stat's entry is shorter than 65,536 bytes.
+    /// bytes and has no NUL, a walk has at most 16 qids, and a stat's entry is shorter than 65,536
+    /// bytes.
     pub fn fits(&self) -> bool
         ensures { result ≡ true ↔ Fits (r_view self.now) }
     {
-        match spelled(&self.tag, of_reply(&self.body)) {
+        match size_with_header(&self.tag, of_reply(&self.body)) {
             Some(length) => length <= MESSAGE_BYTES as usize,
             None => false,
         }
@@ -234,7 +238,7 @@ impl RMessage {
         requires { Fits (r_view self.now) }
         ensures { result ≡ length (spelling (r_view self.now)) }
     {
-        spelled(&self.tag, of_reply(&self.body)).unwrap()
+        size_with_header(&self.tag, of_reply(&self.body)).unwrap()
     }
 }
 

@@ -1,10 +1,13 @@
-//! A stream of messages in one buffer: bytes come in pieces, and whole messages are lent from where they lie.
+//! A stream of messages in one buffer: bytes come in pieces, and whole messages are lent from where
+//! they lie.
 
-ghost use Rattle.std.specs.Prelude.{◌≡◌, ◌≢◌, ◌+◌, ◌≤◌, ◌<◌, ℕ, List, [], ◌++◌, length, take, drop, vec_len, IsOk, OnOk, OnErr, MatchResult, MatchOption, IfOk, IfErr};
+ghost use Rattle.std.specs.Prelude.{◌≡◌, ◌≢◌, ◌+◌, ◌≤◌, ◌<◌, ℕ, List, [], ◌++◌, length, take, drop};
+ghost use Rattle.std.specs.Prelude.{vec_len, IsOk, OnOk, OnErr, MatchResult, MatchOption, IfOk};
+ghost use Rattle.std.specs.Prelude.{IfErr};
 ghost use Rattle.std.specs.Borrow.{sem};
 ghost use Rattle.std.specs.Io.BufRead.{Rests};
 ghost use Rattle.cs_wire.specs.Framing.{size_in};
-ghost use Rattle.cs_wire.specs.Held.{left, size_of, taken};
+ghost use Rattle.cs_wire.specs.Held.{pending_bytes, size_of, after_advance};
 ghost use Rattle.cs_wire.specs.Buffers.{NextGives, FrontIs};
 
 use cs_names::limits::MESSAGE_BYTES;
@@ -70,9 +73,10 @@ fn whole_in_front(bytes: &[u8]) -> Result<Option<usize>, FrameFault>
 
 /// The bytes of a stream that came, in one buffer, and the place up to which they were given.
 ///
-/// Bytes move only where the room behind them doesn't do: then those that weren't given yet move to
+/// Bytes move only if the room behind them doesn't do: then those that weren't given yet move to
 /// the front, and the buffer grows if that isn't enough. A caller that takes every whole message
-/// before it feeds again moves each byte at most once, unless the buffer grows, which moves all of them.
+/// before it feeds again moves each byte at most once, unless the buffer grows, which moves all of
+/// them.
 #[derive(Drop)]
 pub struct Framer {
     buffer: Vec<u8>,
@@ -86,7 +90,12 @@ impl Model for Framer {
 
     ghost Value = { Held };
 
-    ghost view = { λ f. record { bytes = take f.filled f.buffer.items; place = f.place; room = drop f.filled f.buffer.items } };
+    ghost view = { λ f. record {
+      bytes = take f.filled f.buffer.items;
+      place = f.place;
+      room =
+          drop f.filled f.buffer.items;
+    } };
 
     ghost invariant = { λ f. (f.place ≤ f.filled) × (f.filled ≤ vec_len f.buffer) };
 }
@@ -115,15 +124,16 @@ impl Framer {
         (&self.buffer[..self.filled], self.place)
     }
 
-    /// Sees to room for so many bytes behind those that came. Where it is there nothing moves; else the
-    /// bytes that weren't given yet move to the front, and the buffer grows if that isn't enough. After
-    /// an `Err` the framer is as it was.
+    /// Sees to room for so many bytes behind those that came. Where it is there nothing moves; else
+    /// the bytes that weren't given yet move to the front, and the buffer grows if that isn't
+    /// enough. After an `Err` the framer is as it was.
     pub fn reserve(&mut self, count: usize) -> Result<(), AllocError>
         ensures ok { OnOk result (count ≤ length self.new.room) }
-        ensures left { left self.new ≡ left self.old }
+        ensures left { pending_bytes self.new ≡ pending_bytes self.old }
         ensures stays { count ≤ length self.old.room → IsOk result × (self.new ≡ self.old) }
         // A buffer that holds what is left and so many bytes more neither grows nor shrinks.
-        ensures enough { length (left self.old) + count ≤ size_of self.old → IsOk result × (size_of self.new ≡ size_of self.old) }
+        ensures enough { length (pending_bytes self.old) + count ≤ size_of self.old → IsOk result
+            × (size_of self.new ≡ size_of self.old) }
         ensures err { OnErr result (self.new ≡ self.old) }
     {
         if count <= self.buffer.len() - self.filled {
@@ -138,12 +148,12 @@ impl Framer {
         Ok(())
     }
 
-    /// Moves the bytes that weren't given yet to the front, so that all behind them is room. It takes
-    /// no memory.
+    /// Moves the bytes that weren't given yet to the front, so that all behind them is room. It
+    /// takes no memory.
     pub fn make_room(&mut self)
-        ensures left { left self.new ≡ left self.old }
+        ensures left { pending_bytes self.new ≡ pending_bytes self.old }
         ensures size { size_of self.new ≡ size_of self.old }
-        ensures room { length (left self.new) + length self.new.room ≡ size_of self.new }
+        ensures room { length (pending_bytes self.new) + length self.new.room ≡ size_of self.new }
     {
         if self.place == 0 {
             return;
@@ -153,7 +163,8 @@ impl Framer {
         self.place = 0;
     }
 
-    /// The room behind the bytes that came, to be written to: `took` then says how much of it was.
+    /// The room behind the bytes that came, to be written to: `advance` then says how much of it
+    /// was.
     pub fn room(&mut self) -> &mut [u8]
         ensures* writes_back { sem 𝓛 (LendsRoom self.entry result) }
         ensures value { result.now ≡ self.old.room }
@@ -162,33 +173,36 @@ impl Framer {
     }
 
     /// So many bytes that were written to the room have come.
-    pub fn took(&mut self, count: usize)
+    pub fn advance(&mut self, count: usize)
         requires { count ≤ length self.old.room }
-        ensures left { left self.new ≡ left self.old ++ take count self.old.room }
-        ensures exact { self.new ≡ taken self.old count }
+        ensures left { pending_bytes self.new ≡ pending_bytes self.old ++ take count self.old.room }
+        ensures exact { self.new ≡ after_advance self.old count }
     {
         self.filled += count;
     }
 
-    /// Takes the next piece of the stream. Where the room does, nothing moves and no memory is taken.
-    /// After an `Err` the framer is as it was.
+    /// Takes the next piece of the stream. Where the room does, nothing moves and no memory is
+    /// taken. After an `Err` the framer is as it was.
     pub fn feed(&mut self, piece: &[u8]) -> Result<(), AllocError>
-        ensures ok { OnOk result (left self.new ≡ left self.old ++ piece.now) }
-        ensures enough { length (left self.old) + length piece.now ≤ size_of self.old → IsOk result }
-        ensures stays { length piece.now ≤ length self.old.room → IsOk result × (self.new.bytes ≡ self.old.bytes ++ piece.now) × (self.new.place ≡ self.old.place) }
+        ensures ok { OnOk result (pending_bytes self.new ≡ pending_bytes self.old ++ piece.now) }
+        ensures enough { length (pending_bytes self.old) + length piece.now ≤ size_of self.old
+            → IsOk result }
+        ensures stays { length piece.now ≤ length self.old.room → IsOk result
+            × (self.new.bytes ≡ self.old.bytes ++ piece.now) × (self.new.place ≡ self.old.place) }
         ensures err { OnErr result (self.new ≡ self.old) }
     {
         self.reserve(piece.len())?;
         let (front, _) = self.room().split_at_mut(piece.len());
         front.copy_from_slice(piece);
-        self.took(piece.len());
+        self.advance(piece.len());
         Ok(())
     }
 
-    /// Whether the stream may end here: Cut where bytes are left that weren't given, be they a part of a
-    /// message or whole messages that `next` wasn't asked for. The framer stays.
+    /// Whether the stream may end here: Cut if bytes are left that weren't given, be they a part
+    /// of a message or whole messages that `next` wasn't asked for. The framer stays.
     pub fn end(&self) -> Result<(), FrameFault>
-        ensures { MatchResult result (λ _. left self.now ≡ []) (λ fault. (fault ≡ FrameFault.Cut) × (left self.now ≢ [])) }
+        ensures { MatchResult result (λ _. pending_bytes self.now ≡ [])
+            (λ fault. (fault ≡ FrameFault.Cut) × (pending_bytes self.now ≢ [])) }
     {
         if self.place < self.filled {
             return Err(FrameFault::Cut);
@@ -196,10 +210,10 @@ impl Framer {
         Ok(())
     }
 
-    /// The next whole message, lent from where it lies; None where it hasn't come yet (intro(5)).
+    /// The next whole message, lent from where it lies; None if it hasn't come yet (intro(5)).
     ///
-    /// A size below 7 is Undersize and one above 65,536 Oversize, as soon as its four bytes are there.
-    /// After these, and after None, the framer is as it was, and answers the same again.
+    /// A size below 7 is Undersize and one above 65,536 Oversize, as soon as its four bytes are
+    /// there. After these, and after None, the framer is as it was, and answers the same again.
     pub fn next(&mut self) -> Result<Option<&[u8]>, FrameFault>
         ensures* { sem 𝓛 (Rests the_row self.entry (λ new. NextGives result self.old new)) }
     {

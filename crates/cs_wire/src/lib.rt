@@ -23,6 +23,6 @@ pub use fault::WireFault;
 pub use framer::{FrameFault, Framer};
 pub use kind::{RKind, TKind};
 pub use message::{Qid, RBody, RMessage, Stat, TBody, TMessage};
-pub use reading::{decode, decode_r, one_spelling, what_is_written_is_read};
+pub use reading::{decode_reply, decode_request, one_spelling, what_is_written_is_read};
 pub use stat::StatRef;
-pub use writing::{encode, encode_t};
+pub use writing::{encode_reply, encode_request};

@@ -2,9 +2,10 @@
 
 ghost use Rattle.std.specs.Prelude.{◌≡◌, ◌++◌, ℕ, List, IfOk, IsOk, IsErrOf, Ok};
 ghost use Rattle.cs_wire.specs.declared.fault.WireFault.TheVariants.{Memory};
-ghost use Rattle.cs_wire.specs.Messages.{requests, replies, t_view, r_view, Message, IsMessage, spelling};
+ghost use Rattle.cs_wire.specs.Messages.{requests, replies, t_view, r_view, Message, IsMessage};
+ghost use Rattle.cs_wire.specs.Messages.{spelling};
 ghost use Rattle.cs_wire.specs.Reading.{header_at, message_of};
-ghost use Rattle.cs_wire.specs.Answers.{Decodes, Finds, Gives, IsReadBack, TakesMemory};
+ghost use Rattle.cs_wire.specs.Answers.{IsSeenAsOrMemory, IsSeenAs, Gives, IsReadBack, TakesMemory};
 
 use crate::cursor::Cursor;
 use crate::fault::WireFault;
@@ -17,7 +18,7 @@ use std::alloc::Global;
 /// Type, tag and the fields' bytes of what is as long as its size says.
 #[tactic(auto, unfolding(crate::specs::Reading::header_at))]
 fn header(bytes: &[u8]) -> Result<(u8, u16, Cursor), WireFault>
-    ensures { Finds (λ x. (x.0, x.1, x.2.rest.now)) result (header_at bytes.now) }
+    ensures { IsSeenAs (λ x. (x.0, x.1, x.2.rest.now)) result (header_at bytes.now) }
 {
     if bytes.len() < 7 {
         return Err(WireFault::Short);
@@ -34,7 +35,7 @@ fn header(bytes: &[u8]) -> Result<(u8, u16, Cursor), WireFault>
 
 #[tactic(auto, unfolding(crate::specs::Reading::message_of))]
 fn read_request(alloc: Global, bytes: &[u8]) -> Result<TMessage<'_>, WireFault>
-    ensures { Decodes t_view result (message_of requests bytes.now) }
+    ensures { IsSeenAsOrMemory t_view result (message_of requests bytes.now) }
 {
     let (number, tag, fields) = header(bytes)?;
     let kind = TKind::of_number(number).ok_or(WireFault::UnknownType)?;
@@ -43,7 +44,7 @@ fn read_request(alloc: Global, bytes: &[u8]) -> Result<TMessage<'_>, WireFault>
 
 #[tactic(auto, unfolding(crate::specs::Reading::message_of))]
 fn read_reply(alloc: Global, bytes: &[u8]) -> Result<RMessage, WireFault>
-    ensures { Decodes r_view result (message_of replies bytes.now) }
+    ensures { IsSeenAsOrMemory r_view result (message_of replies bytes.now) }
 {
     let (number, tag, fields) = header(bytes)?;
     let kind = RKind::of_number(number).ok_or(WireFault::UnknownType)?;
@@ -54,34 +55,37 @@ fn read_reply(alloc: Global, bytes: &[u8]) -> Result<RMessage, WireFault>
 ///
 /// Else the first fault, from the left: fewer than 7 bytes, a size that isn't their number, a type
 /// that isn't known, then the fields one after the other, then bytes that are left. It is
-/// `Memory` only where the bytes are a message, and one of its texts has a byte, or its list an
-/// item: nothing is taken for an empty one, nor for the bytes of a write, which stay where they are.
-pub fn decode(alloc: Global, bytes: &[u8]) -> Result<TMessage<'_>, WireFault>
+/// `Memory` only if the bytes are a message, and one of its texts has a byte, or its list an
+/// item: nothing is taken for an empty one, nor for the bytes of a write, which stay where they
+/// are.
+pub fn decode_request(alloc: Global, bytes: &[u8]) -> Result<TMessage<'_>, WireFault>
     // What is read is spelled so.
     ensures found { IfOk result (λ m. IsMessage (t_view m) × (bytes.now ≡ spelling (t_view m))) }
     // What is spelled so is read, unless memory runs out.
-    ensures only { (m : Message requests) → IsMessage m → bytes.now ≡ spelling m → Gives t_view result (Ok m) }
+    ensures only { (m : Message requests) → IsMessage m → bytes.now ≡ spelling m
+        → Gives t_view result (Ok m) }
     // Which fault it is.
     ensures exact { Gives t_view result (message_of requests bytes.now) }
-    // Want of memory comes last.
+    // Out of memory comes last.
     ensures memory { IsErrOf result Memory → IsOk (message_of requests bytes.now) }
-    // Only what is copied can want memory.
+    // Only what is copied takes memory.
     ensures grows { IsErrOf result Memory → TakesMemory requests bytes.now }
 {
     read_request(alloc, bytes)
 }
 
-/// The reply that the bytes spell, or the first fault, as `decode` has it.
-pub fn decode_r(alloc: Global, bytes: &[u8]) -> Result<RMessage, WireFault>
+/// The reply that the bytes spell, or the first fault, as `decode_request` has it.
+pub fn decode_reply(alloc: Global, bytes: &[u8]) -> Result<RMessage, WireFault>
     // What is read is spelled so.
     ensures found { IfOk result (λ m. IsMessage (r_view m) × (bytes.now ≡ spelling (r_view m))) }
     // What is spelled so is read, unless memory runs out.
-    ensures only { (m : Message replies) → IsMessage m → bytes.now ≡ spelling m → Gives r_view result (Ok m) }
+    ensures only { (m : Message replies) → IsMessage m → bytes.now ≡ spelling m
+        → Gives r_view result (Ok m) }
     // Which fault it is.
     ensures exact { Gives r_view result (message_of replies bytes.now) }
-    // Want of memory comes last.
+    // Out of memory comes last.
     ensures memory { IsErrOf result Memory → IsOk (message_of replies bytes.now) }
-    // Only what is copied can want memory.
+    // Only what is copied takes memory.
     ensures grows { IsErrOf result Memory → TakesMemory replies bytes.now }
 {
     read_reply(alloc, bytes)
@@ -90,12 +94,14 @@ pub fn decode_r(alloc: Global, bytes: &[u8]) -> Result<RMessage, WireFault>
 /// A message has one spelling, and no spelling begins another: what was written is read again,
 /// whatever follows it.
 pub fn one_spelling()
-    ensures requests { (a b : Message requests) (x y : List ℕ) → IsMessage a → IsMessage b → spelling a ++ x ≡ spelling b ++ y → (a ≡ b) × (x ≡ y) }
-    ensures replies { (a b : Message replies) (x y : List ℕ) → IsMessage a → IsMessage b → spelling a ++ x ≡ spelling b ++ y → (a ≡ b) × (x ≡ y) }
+    ensures requests { (a b : Message requests) (x y : List ℕ) → IsMessage a → IsMessage b
+        → spelling a ++ x ≡ spelling b ++ y → (a ≡ b) × (x ≡ y) }
+    ensures replies { (a b : Message replies) (x y : List ℕ) → IsMessage a → IsMessage b
+        → spelling a ++ x ≡ spelling b ++ y → (a ≡ b) × (x ≡ y) }
 {}
 
-/// What `encode_t` appends to an empty `Vec` of a message that fits, `decode` reads as the same message, and what
-/// `encode` appends of a reply `decode_r` does, unless memory is refused.
+/// What `encode_request` appends to an empty `Vec` of a message that fits, `decode_request` reads as
+/// the same message, and so does `decode_reply` what `encode_reply` appends, unless memory runs out.
 pub fn what_is_written_is_read()
     ensures requests { IsReadBack requests t_view }
     ensures replies { IsReadBack replies r_view }

@@ -3,7 +3,7 @@
 ghost use Rattle.cs_wire.specs.declared.kind.RKind.TheVariants as rk;
 ghost use Rattle.cs_wire.specs.Messages.{replies, r_view};
 ghost use Rattle.cs_wire.specs.Reading.{all_of};
-ghost use Rattle.cs_wire.specs.Answers.{Decodes, Finds};
+ghost use Rattle.cs_wire.specs.Answers.{IsSeenAsOrMemory, IsSeenAs};
 
 use crate::copying::{items_copied, text_copied};
 use crate::cursor::Cursor;
@@ -15,7 +15,7 @@ use std::borrow::CowStr;
 
 #[tactic(auto, unfolding(crate::specs::Reading::all_of, crate::specs::Reading::field_at))]
 fn version(alloc: Global, tag: u16, mut fields: Cursor) -> Result<RMessage, WireFault>
-    ensures { Decodes r_view result (all_of replies rk.Version tag fields.entry.rest.now) }
+    ensures { IsSeenAsOrMemory r_view result (all_of replies rk.Version tag fields.entry.rest.now) }
 {
     let msize = fields.four()?;
     let version = fields.text()?;
@@ -29,7 +29,7 @@ fn version(alloc: Global, tag: u16, mut fields: Cursor) -> Result<RMessage, Wire
 
 #[tactic(auto, unfolding(crate::specs::Reading::all_of))]
 fn auth(tag: u16, mut fields: Cursor) -> Result<RMessage, WireFault>
-    ensures { Finds r_view result (all_of replies rk.Auth tag fields.entry.rest.now) }
+    ensures { IsSeenAs r_view result (all_of replies rk.Auth tag fields.entry.rest.now) }
 {
     let aqid = fields.qid()?;
     fields.end()?;
@@ -41,7 +41,7 @@ fn auth(tag: u16, mut fields: Cursor) -> Result<RMessage, WireFault>
 
 #[tactic(auto, unfolding(crate::specs::Reading::all_of))]
 fn attach(tag: u16, mut fields: Cursor) -> Result<RMessage, WireFault>
-    ensures { Finds r_view result (all_of replies rk.Attach tag fields.entry.rest.now) }
+    ensures { IsSeenAs r_view result (all_of replies rk.Attach tag fields.entry.rest.now) }
 {
     let qid = fields.qid()?;
     fields.end()?;
@@ -53,7 +53,7 @@ fn attach(tag: u16, mut fields: Cursor) -> Result<RMessage, WireFault>
 
 #[tactic(auto, unfolding(crate::specs::Reading::all_of))]
 fn error(alloc: Global, tag: u16, mut fields: Cursor) -> Result<RMessage, WireFault>
-    ensures { Decodes r_view result (all_of replies rk.Error tag fields.entry.rest.now) }
+    ensures { IsSeenAsOrMemory r_view result (all_of replies rk.Error tag fields.entry.rest.now) }
 {
     let ename = fields.text()?;
     fields.end()?;
@@ -66,7 +66,7 @@ fn error(alloc: Global, tag: u16, mut fields: Cursor) -> Result<RMessage, WireFa
 
 #[tactic(auto, unfolding(crate::specs::Reading::all_of, crate::specs::Reading::field_at))]
 fn flush(tag: u16, fields: Cursor) -> Result<RMessage, WireFault>
-    ensures { Finds r_view result (all_of replies rk.Flush tag fields.entry.rest.now) }
+    ensures { IsSeenAs r_view result (all_of replies rk.Flush tag fields.entry.rest.now) }
 {
     fields.end()?;
     Ok(RMessage {
@@ -77,7 +77,7 @@ fn flush(tag: u16, fields: Cursor) -> Result<RMessage, WireFault>
 
 #[tactic(auto, unfolding(crate::specs::Reading::all_of, crate::specs::Reading::field_at))]
 fn walk(alloc: Global, tag: u16, mut fields: Cursor) -> Result<RMessage, WireFault>
-    ensures { Decodes r_view result (all_of replies rk.Walk tag fields.entry.rest.now) }
+    ensures { IsSeenAsOrMemory r_view result (all_of replies rk.Walk tag fields.entry.rest.now) }
 {
     let wqid = fields.qids()?;
     fields.end()?;
@@ -90,7 +90,7 @@ fn walk(alloc: Global, tag: u16, mut fields: Cursor) -> Result<RMessage, WireFau
 
 #[tactic(auto, unfolding(crate::specs::Reading::all_of, crate::specs::Reading::field_at))]
 fn open(tag: u16, mut fields: Cursor) -> Result<RMessage, WireFault>
-    ensures { Finds r_view result (all_of replies rk.Open tag fields.entry.rest.now) }
+    ensures { IsSeenAs r_view result (all_of replies rk.Open tag fields.entry.rest.now) }
 {
     let qid = fields.qid()?;
     let iounit = fields.four()?;
@@ -103,7 +103,7 @@ fn open(tag: u16, mut fields: Cursor) -> Result<RMessage, WireFault>
 
 #[tactic(auto, unfolding(crate::specs::Reading::all_of, crate::specs::Reading::field_at))]
 fn create(tag: u16, mut fields: Cursor) -> Result<RMessage, WireFault>
-    ensures { Finds r_view result (all_of replies rk.Create tag fields.entry.rest.now) }
+    ensures { IsSeenAs r_view result (all_of replies rk.Create tag fields.entry.rest.now) }
 {
     let qid = fields.qid()?;
     let iounit = fields.four()?;
@@ -116,7 +116,7 @@ fn create(tag: u16, mut fields: Cursor) -> Result<RMessage, WireFault>
 
 #[tactic(auto, unfolding(crate::specs::Reading::all_of, crate::specs::Reading::field_at))]
 fn read(alloc: Global, tag: u16, mut fields: Cursor) -> Result<RMessage, WireFault>
-    ensures { Decodes r_view result (all_of replies rk.Read tag fields.entry.rest.now) }
+    ensures { IsSeenAsOrMemory r_view result (all_of replies rk.Read tag fields.entry.rest.now) }
 {
     let data = fields.data()?;
     fields.end()?;
@@ -129,7 +129,7 @@ fn read(alloc: Global, tag: u16, mut fields: Cursor) -> Result<RMessage, WireFau
 
 #[tactic(auto, unfolding(crate::specs::Reading::all_of, crate::specs::Reading::field_at))]
 fn write(tag: u16, mut fields: Cursor) -> Result<RMessage, WireFault>
-    ensures { Finds r_view result (all_of replies rk.Write tag fields.entry.rest.now) }
+    ensures { IsSeenAs r_view result (all_of replies rk.Write tag fields.entry.rest.now) }
 {
     let count = fields.four()?;
     fields.end()?;
@@ -141,7 +141,7 @@ fn write(tag: u16, mut fields: Cursor) -> Result<RMessage, WireFault>
 
 #[tactic(auto, unfolding(crate::specs::Reading::all_of, crate::specs::Reading::field_at))]
 fn clunk(tag: u16, fields: Cursor) -> Result<RMessage, WireFault>
-    ensures { Finds r_view result (all_of replies rk.Clunk tag fields.entry.rest.now) }
+    ensures { IsSeenAs r_view result (all_of replies rk.Clunk tag fields.entry.rest.now) }
 {
     fields.end()?;
     Ok(RMessage {
@@ -152,7 +152,7 @@ fn clunk(tag: u16, fields: Cursor) -> Result<RMessage, WireFault>
 
 #[tactic(auto, unfolding(crate::specs::Reading::all_of, crate::specs::Reading::field_at))]
 fn remove(tag: u16, fields: Cursor) -> Result<RMessage, WireFault>
-    ensures { Finds r_view result (all_of replies rk.Remove tag fields.entry.rest.now) }
+    ensures { IsSeenAs r_view result (all_of replies rk.Remove tag fields.entry.rest.now) }
 {
     fields.end()?;
     Ok(RMessage {
@@ -163,7 +163,7 @@ fn remove(tag: u16, fields: Cursor) -> Result<RMessage, WireFault>
 
 #[tactic(auto, unfolding(crate::specs::Reading::all_of, crate::specs::Reading::field_at))]
 fn stat(alloc: Global, tag: u16, mut fields: Cursor) -> Result<RMessage, WireFault>
-    ensures { Decodes r_view result (all_of replies rk.Stat tag fields.entry.rest.now) }
+    ensures { IsSeenAsOrMemory r_view result (all_of replies rk.Stat tag fields.entry.rest.now) }
 {
     let stat = fields.stat()?;
     fields.end()?;
@@ -176,7 +176,7 @@ fn stat(alloc: Global, tag: u16, mut fields: Cursor) -> Result<RMessage, WireFau
 
 #[tactic(auto, unfolding(crate::specs::Reading::all_of, crate::specs::Reading::field_at))]
 fn wstat(tag: u16, fields: Cursor) -> Result<RMessage, WireFault>
-    ensures { Finds r_view result (all_of replies rk.Wstat tag fields.entry.rest.now) }
+    ensures { IsSeenAs r_view result (all_of replies rk.Wstat tag fields.entry.rest.now) }
 {
     fields.end()?;
     Ok(RMessage {
@@ -192,7 +192,7 @@ pub(crate) fn reply(
     tag: u16,
     fields: Cursor,
 ) -> Result<RMessage, WireFault>
-    ensures { Decodes r_view result (all_of replies kind tag fields.entry.rest.now) }
+    ensures { IsSeenAsOrMemory r_view result (all_of replies kind tag fields.entry.rest.now) }
 {
     match kind {
         RKind::Version => version(alloc, tag, fields),

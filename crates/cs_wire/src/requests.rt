@@ -1,11 +1,11 @@
-//! The fields of each request, from all of the bytes that a cursor has: first they are read, then the
-//! end is met, and only then are they copied, so that no fault comes after want of memory. The bytes of
-//! a write are lent.
+//! The fields of each request, from all of the bytes that a cursor has: first they are read, then
+//! the end is met, and only then are they copied, so that out of memory is the last fault. The bytes
+//! of a write are lent.
 
 ghost use Rattle.cs_wire.specs.declared.kind.TKind.TheVariants as tk;
 ghost use Rattle.cs_wire.specs.Messages.{requests, t_view};
 ghost use Rattle.cs_wire.specs.Reading.{all_of};
-ghost use Rattle.cs_wire.specs.Answers.{Decodes, Finds};
+ghost use Rattle.cs_wire.specs.Answers.{IsSeenAsOrMemory, IsSeenAs};
 
 use crate::copying::{names_copied, text_copied};
 use crate::cursor::Cursor;
@@ -16,7 +16,8 @@ use std::alloc::Global;
 
 #[tactic(auto, unfolding(crate::specs::Reading::all_of, crate::specs::Reading::field_at))]
 fn version(alloc: Global, tag: u16, mut fields: Cursor<'_>) -> Result<TMessage<'_>, WireFault>
-    ensures { Decodes t_view result (all_of requests tk.Version tag fields.entry.rest.now) }
+    ensures { IsSeenAsOrMemory t_view result
+        (all_of requests tk.Version tag fields.entry.rest.now) }
 {
     let msize = fields.four()?;
     let version = fields.text()?;
@@ -30,7 +31,7 @@ fn version(alloc: Global, tag: u16, mut fields: Cursor<'_>) -> Result<TMessage<'
 
 #[tactic(auto, unfolding(crate::specs::Reading::all_of, crate::specs::Reading::field_at))]
 fn auth(alloc: Global, tag: u16, mut fields: Cursor<'_>) -> Result<TMessage<'_>, WireFault>
-    ensures { Decodes t_view result (all_of requests tk.Auth tag fields.entry.rest.now) }
+    ensures { IsSeenAsOrMemory t_view result (all_of requests tk.Auth tag fields.entry.rest.now) }
 {
     let afid = fields.four()?;
     let uname = fields.text()?;
@@ -46,7 +47,7 @@ fn auth(alloc: Global, tag: u16, mut fields: Cursor<'_>) -> Result<TMessage<'_>,
 
 #[tactic(auto, unfolding(crate::specs::Reading::all_of, crate::specs::Reading::field_at))]
 fn attach(alloc: Global, tag: u16, mut fields: Cursor<'_>) -> Result<TMessage<'_>, WireFault>
-    ensures { Decodes t_view result (all_of requests tk.Attach tag fields.entry.rest.now) }
+    ensures { IsSeenAsOrMemory t_view result (all_of requests tk.Attach tag fields.entry.rest.now) }
 {
     let fid = fields.four()?;
     let afid = fields.four()?;
@@ -64,7 +65,7 @@ fn attach(alloc: Global, tag: u16, mut fields: Cursor<'_>) -> Result<TMessage<'_
 
 #[tactic(auto, unfolding(crate::specs::Reading::all_of, crate::specs::Reading::field_at))]
 fn flush(tag: u16, mut fields: Cursor<'_>) -> Result<TMessage<'_>, WireFault>
-    ensures { Finds t_view result (all_of requests tk.Flush tag fields.entry.rest.now) }
+    ensures { IsSeenAs t_view result (all_of requests tk.Flush tag fields.entry.rest.now) }
 {
     let oldtag = fields.two()?;
     fields.end()?;
@@ -76,7 +77,7 @@ fn flush(tag: u16, mut fields: Cursor<'_>) -> Result<TMessage<'_>, WireFault>
 
 #[tactic(auto, unfolding(crate::specs::Reading::all_of, crate::specs::Reading::field_at))]
 fn walk(alloc: Global, tag: u16, mut fields: Cursor<'_>) -> Result<TMessage<'_>, WireFault>
-    ensures { Decodes t_view result (all_of requests tk.Walk tag fields.entry.rest.now) }
+    ensures { IsSeenAsOrMemory t_view result (all_of requests tk.Walk tag fields.entry.rest.now) }
 {
     let fid = fields.four()?;
     let newfid = fields.four()?;
@@ -92,7 +93,7 @@ fn walk(alloc: Global, tag: u16, mut fields: Cursor<'_>) -> Result<TMessage<'_>,
 
 #[tactic(auto, unfolding(crate::specs::Reading::all_of, crate::specs::Reading::field_at))]
 fn open(tag: u16, mut fields: Cursor<'_>) -> Result<TMessage<'_>, WireFault>
-    ensures { Finds t_view result (all_of requests tk.Open tag fields.entry.rest.now) }
+    ensures { IsSeenAs t_view result (all_of requests tk.Open tag fields.entry.rest.now) }
 {
     let fid = fields.four()?;
     let mode = fields.one()?;
@@ -105,7 +106,7 @@ fn open(tag: u16, mut fields: Cursor<'_>) -> Result<TMessage<'_>, WireFault>
 
 #[tactic(auto, unfolding(crate::specs::Reading::all_of, crate::specs::Reading::field_at))]
 fn create(alloc: Global, tag: u16, mut fields: Cursor<'_>) -> Result<TMessage<'_>, WireFault>
-    ensures { Decodes t_view result (all_of requests tk.Create tag fields.entry.rest.now) }
+    ensures { IsSeenAsOrMemory t_view result (all_of requests tk.Create tag fields.entry.rest.now) }
 {
     let fid = fields.four()?;
     let name = fields.text()?;
@@ -123,7 +124,7 @@ fn create(alloc: Global, tag: u16, mut fields: Cursor<'_>) -> Result<TMessage<'_
 
 #[tactic(auto, unfolding(crate::specs::Reading::all_of, crate::specs::Reading::field_at))]
 fn read(tag: u16, mut fields: Cursor<'_>) -> Result<TMessage<'_>, WireFault>
-    ensures { Finds t_view result (all_of requests tk.Read tag fields.entry.rest.now) }
+    ensures { IsSeenAs t_view result (all_of requests tk.Read tag fields.entry.rest.now) }
 {
     let fid = fields.four()?;
     let offset = fields.eight()?;
@@ -137,7 +138,7 @@ fn read(tag: u16, mut fields: Cursor<'_>) -> Result<TMessage<'_>, WireFault>
 
 #[tactic(auto, unfolding(crate::specs::Reading::all_of, crate::specs::Reading::field_at))]
 fn write(tag: u16, mut fields: Cursor<'_>) -> Result<TMessage<'_>, WireFault>
-    ensures { Finds t_view result (all_of requests tk.Write tag fields.entry.rest.now) }
+    ensures { IsSeenAs t_view result (all_of requests tk.Write tag fields.entry.rest.now) }
 {
     let fid = fields.four()?;
     let offset = fields.eight()?;
@@ -151,7 +152,7 @@ fn write(tag: u16, mut fields: Cursor<'_>) -> Result<TMessage<'_>, WireFault>
 
 #[tactic(auto, unfolding(crate::specs::Reading::all_of, crate::specs::Reading::field_at))]
 fn clunk(tag: u16, mut fields: Cursor<'_>) -> Result<TMessage<'_>, WireFault>
-    ensures { Finds t_view result (all_of requests tk.Clunk tag fields.entry.rest.now) }
+    ensures { IsSeenAs t_view result (all_of requests tk.Clunk tag fields.entry.rest.now) }
 {
     let fid = fields.four()?;
     fields.end()?;
@@ -163,7 +164,7 @@ fn clunk(tag: u16, mut fields: Cursor<'_>) -> Result<TMessage<'_>, WireFault>
 
 #[tactic(auto, unfolding(crate::specs::Reading::all_of, crate::specs::Reading::field_at))]
 fn remove(tag: u16, mut fields: Cursor<'_>) -> Result<TMessage<'_>, WireFault>
-    ensures { Finds t_view result (all_of requests tk.Remove tag fields.entry.rest.now) }
+    ensures { IsSeenAs t_view result (all_of requests tk.Remove tag fields.entry.rest.now) }
 {
     let fid = fields.four()?;
     fields.end()?;
@@ -175,7 +176,7 @@ fn remove(tag: u16, mut fields: Cursor<'_>) -> Result<TMessage<'_>, WireFault>
 
 #[tactic(auto, unfolding(crate::specs::Reading::all_of, crate::specs::Reading::field_at))]
 fn stat(tag: u16, mut fields: Cursor<'_>) -> Result<TMessage<'_>, WireFault>
-    ensures { Finds t_view result (all_of requests tk.Stat tag fields.entry.rest.now) }
+    ensures { IsSeenAs t_view result (all_of requests tk.Stat tag fields.entry.rest.now) }
 {
     let fid = fields.four()?;
     fields.end()?;
@@ -187,7 +188,7 @@ fn stat(tag: u16, mut fields: Cursor<'_>) -> Result<TMessage<'_>, WireFault>
 
 #[tactic(auto, unfolding(crate::specs::Reading::all_of, crate::specs::Reading::field_at))]
 fn wstat(alloc: Global, tag: u16, mut fields: Cursor<'_>) -> Result<TMessage<'_>, WireFault>
-    ensures { Decodes t_view result (all_of requests tk.Wstat tag fields.entry.rest.now) }
+    ensures { IsSeenAsOrMemory t_view result (all_of requests tk.Wstat tag fields.entry.rest.now) }
 {
     let fid = fields.four()?;
     let stat = fields.stat()?;
@@ -206,7 +207,7 @@ pub(crate) fn request(
     tag: u16,
     fields: Cursor<'_>,
 ) -> Result<TMessage<'_>, WireFault>
-    ensures { Decodes t_view result (all_of requests kind tag fields.entry.rest.now) }
+    ensures { IsSeenAsOrMemory t_view result (all_of requests kind tag fields.entry.rest.now) }
 {
     match kind {
         TKind::Version => version(alloc, tag, fields),

@@ -25,7 +25,7 @@ pub struct StatRef<'a> {
 }
 
 impl StatRef<'_> {
-    /// A stat with texts of its own, which takes memory only where one of them has a byte.
+    /// A stat with texts of its own, which takes memory only if one of them has a byte.
     pub fn copied(&self, alloc: Global) -> Result<Stat, AllocError>
         ensures same { IfOk result (λ copy. stat_of copy ≡ stat_in self.now) }
         ensures grows { OnErr result (holds_bytes stat_shape (stat_in self.now) ≡ true) }

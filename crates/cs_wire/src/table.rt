@@ -1,5 +1,5 @@
-//! Each type of message: its name, its number, and its fields in the manual's order by what they hold. A macro
-//! that is handed the table writes one arm a row.
+//! Each type of message: its name, its number, and its fields in the manual's order by what they
+//! hold. A macro that is handed the table writes one arm a row.
 
 /// What clients send.
 macro_rules! each_request {

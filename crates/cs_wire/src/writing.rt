@@ -1,10 +1,15 @@
 //! Messages as bytes.
 
-ghost use Rattle.std.specs.Prelude.{◌≡◌, ◌≤◌, ◌+◌, ◌++◌, length, map, vec_len, vec_capacity, OnOk, OnErr, IsOk};
+ghost use Rattle.std.specs.Prelude.{◌≡◌, ◌≤◌, ◌+◌, ◌++◌, length, map, vec_len, vec_capacity, OnOk};
+ghost use Rattle.std.specs.Prelude.{OnErr, IsOk};
 ghost use Rattle.std.specs.List.{flat_map, AllByRecursion};
-ghost use Rattle.cs_wire.specs.Fields.{One, Two, Four, Eight, Text, Raw, Several, Boxed, ◌▸◌, IsIn, spelled};
-ghost use Rattle.cs_wire.specs.Messages.{names_of, qid_of, qid_shape, users_in, stat_in, stat_shape, stat_entry, IsEntry, t_view, r_view, Fits, spelling};
-ghost use Rattle.cs_wire.specs.Bodies.{request_number, request_bytes, RequestFits, reply_number, reply_bytes, ReplyFits};
+ghost use Rattle.cs_wire.specs.Fields.{One, Two, Four, Eight, Text, Raw, Several, Boxed, ◌▸◌, IsIn};
+ghost use Rattle.cs_wire.specs.Fields.{bytes_of_field};
+ghost use Rattle.cs_wire.specs.Messages.{names_of, qid_of, qid_shape, users_in, stat_in};
+ghost use Rattle.cs_wire.specs.Messages.{stat_shape, stat_entry, IsEntry, t_view, r_view, Fits};
+ghost use Rattle.cs_wire.specs.Messages.{spelling};
+ghost use Rattle.cs_wire.specs.Bodies.{request_number, request_bytes, RequestFits, reply_number};
+ghost use Rattle.cs_wire.specs.Bodies.{reply_bytes, ReplyFits};
 
 use crate::message::{Qid, RBody, RMessage, TBody, TMessage};
 use crate::stat::StatRef;
@@ -21,51 +26,51 @@ fn put(out: &mut Vec<u8>, bytes: &[u8])
     out.extend_from_slice(bytes).unwrap();
 }
 
-#[tactic(auto, unfolding(crate::specs::Fields::spelled))]
+#[tactic(auto, unfolding(crate::specs::Fields::bytes_of_field))]
 fn put_one(out: &mut Vec<u8>, number: u8)
     requires { vec_len out.old + 1 ≤ vec_capacity out.old }
-    ensures items { out.new.items ≡ out.old.items ++ spelled One number }
+    ensures items { out.new.items ≡ out.old.items ++ bytes_of_field One number }
     ensures len { vec_len out.new ≡ vec_len out.old + 1 }
     ensures capacity { vec_capacity out.old ≤ vec_capacity out.new }
 {
     put(out, &number.to_le_bytes());
 }
 
-#[tactic(auto, unfolding(crate::specs::Fields::spelled))]
+#[tactic(auto, unfolding(crate::specs::Fields::bytes_of_field))]
 fn put_two(out: &mut Vec<u8>, number: u16)
     requires { vec_len out.old + 2 ≤ vec_capacity out.old }
-    ensures items { out.new.items ≡ out.old.items ++ spelled Two number }
+    ensures items { out.new.items ≡ out.old.items ++ bytes_of_field Two number }
     ensures len { vec_len out.new ≡ vec_len out.old + 2 }
     ensures capacity { vec_capacity out.old ≤ vec_capacity out.new }
 {
     put(out, &number.to_le_bytes());
 }
 
-#[tactic(auto, unfolding(crate::specs::Fields::spelled))]
+#[tactic(auto, unfolding(crate::specs::Fields::bytes_of_field))]
 fn put_four(out: &mut Vec<u8>, number: u32)
     requires { vec_len out.old + 4 ≤ vec_capacity out.old }
-    ensures items { out.new.items ≡ out.old.items ++ spelled Four number }
+    ensures items { out.new.items ≡ out.old.items ++ bytes_of_field Four number }
     ensures len { vec_len out.new ≡ vec_len out.old + 4 }
     ensures capacity { vec_capacity out.old ≤ vec_capacity out.new }
 {
     put(out, &number.to_le_bytes());
 }
 
-#[tactic(auto, unfolding(crate::specs::Fields::spelled))]
+#[tactic(auto, unfolding(crate::specs::Fields::bytes_of_field))]
 fn put_eight(out: &mut Vec<u8>, number: u64)
     requires { vec_len out.old + 8 ≤ vec_capacity out.old }
-    ensures items { out.new.items ≡ out.old.items ++ spelled Eight number }
+    ensures items { out.new.items ≡ out.old.items ++ bytes_of_field Eight number }
     ensures len { vec_len out.new ≡ vec_len out.old + 8 }
     ensures capacity { vec_capacity out.old ≤ vec_capacity out.new }
 {
     put(out, &number.to_le_bytes());
 }
 
-#[tactic(auto, unfolding(crate::specs::Fields::spelled))]
+#[tactic(auto, unfolding(crate::specs::Fields::bytes_of_field))]
 fn put_text(out: &mut Vec<u8>, text: &str)
     requires fits { IsIn Text text.now }
     requires room { vec_len out.old + (length text.now + 2) ≤ vec_capacity out.old }
-    ensures items { out.new.items ≡ out.old.items ++ spelled Text text.now }
+    ensures items { out.new.items ≡ out.old.items ++ bytes_of_field Text text.now }
     ensures len { vec_len out.new ≡ vec_len out.old + (length text.now + 2) }
     ensures capacity { vec_capacity out.old ≤ vec_capacity out.new }
 {
@@ -73,10 +78,10 @@ fn put_text(out: &mut Vec<u8>, text: &str)
     put(out, text.as_bytes());
 }
 
-#[tactic(auto, unfolding(crate::specs::Fields::spelled))]
+#[tactic(auto, unfolding(crate::specs::Fields::bytes_of_field))]
 fn put_qid(out: &mut Vec<u8>, qid: &Qid)
     requires { vec_len out.old + 13 ≤ vec_capacity out.old }
-    ensures items { out.new.items ≡ out.old.items ++ spelled qid_shape (qid_of qid.now) }
+    ensures items { out.new.items ≡ out.old.items ++ bytes_of_field qid_shape (qid_of qid.now) }
     ensures len { vec_len out.new ≡ vec_len out.old + 13 }
     ensures capacity { vec_capacity out.old ≤ vec_capacity out.new }
 {
@@ -87,9 +92,12 @@ fn put_qid(out: &mut Vec<u8>, qid: &Qid)
 
 fn put_texts(out: &mut Vec<u8>, texts: &[String])
     requires fits { AllByRecursion (IsIn Text) (names_of texts.now) }
-    requires room { vec_len out.old + length (flat_map (spelled Text) (names_of texts.now)) ≤ vec_capacity out.old }
-    ensures items { out.new.items ≡ out.old.items ++ flat_map (spelled Text) (names_of texts.now) }
-    ensures len { vec_len out.new ≡ vec_len out.old + length (flat_map (spelled Text) (names_of texts.now)) }
+    requires room { vec_len out.old + length (flat_map (bytes_of_field Text) (names_of texts.now))
+        ≤ vec_capacity out.old }
+    ensures items { out.new.items ≡ out.old.items
+        ++ flat_map (bytes_of_field Text) (names_of texts.now) }
+    ensures len { vec_len out.new
+        ≡ vec_len out.old + length (flat_map (bytes_of_field Text) (names_of texts.now)) }
     ensures capacity { vec_capacity out.old ≤ vec_capacity out.new }
 {
     for name in texts {
@@ -98,9 +106,12 @@ fn put_texts(out: &mut Vec<u8>, texts: &[String])
 }
 
 fn put_qids(out: &mut Vec<u8>, qids: &[Qid])
-    requires room { vec_len out.old + length (flat_map (spelled qid_shape) (map qid_of qids.now)) ≤ vec_capacity out.old }
-    ensures items { out.new.items ≡ out.old.items ++ flat_map (spelled qid_shape) (map qid_of qids.now) }
-    ensures len { vec_len out.new ≡ vec_len out.old + length (flat_map (spelled qid_shape) (map qid_of qids.now)) }
+    requires room { vec_len out.old + length
+        (flat_map (bytes_of_field qid_shape) (map qid_of qids.now)) ≤ vec_capacity out.old }
+    ensures items { out.new.items ≡ out.old.items
+        ++ flat_map (bytes_of_field qid_shape) (map qid_of qids.now) }
+    ensures len { vec_len out.new
+        ≡ vec_len out.old + length (flat_map (bytes_of_field qid_shape) (map qid_of qids.now)) }
     ensures capacity { vec_capacity out.old ≤ vec_capacity out.new }
 {
     for qid in qids {
@@ -108,35 +119,41 @@ fn put_qids(out: &mut Vec<u8>, qids: &[Qid])
     }
 }
 
-#[tactic(auto, unfolding(crate::specs::Fields::spelled))]
+#[tactic(auto, unfolding(crate::specs::Fields::bytes_of_field))]
 fn put_names(out: &mut Vec<u8>, names: &[String])
     requires fits { IsIn (Several Text) (names_of names.now) }
-    requires room { vec_len out.old + length (spelled (Several Text) (names_of names.now)) ≤ vec_capacity out.old }
-    ensures items { out.new.items ≡ out.old.items ++ spelled (Several Text) (names_of names.now) }
-    ensures len { vec_len out.new ≡ vec_len out.old + length (spelled (Several Text) (names_of names.now)) }
+    requires room { vec_len out.old + length (bytes_of_field (Several Text) (names_of names.now))
+        ≤ vec_capacity out.old }
+    ensures items { out.new.items ≡ out.old.items
+        ++ bytes_of_field (Several Text) (names_of names.now) }
+    ensures len { vec_len out.new
+        ≡ vec_len out.old + length (bytes_of_field (Several Text) (names_of names.now)) }
     ensures capacity { vec_capacity out.old ≤ vec_capacity out.new }
 {
     put_two(out, names.len() as u16);
     put_texts(out, names);
 }
 
-#[tactic(auto, unfolding(crate::specs::Fields::spelled))]
+#[tactic(auto, unfolding(crate::specs::Fields::bytes_of_field))]
 fn put_wqid(out: &mut Vec<u8>, wqid: &[Qid])
     requires fits { IsIn (Several qid_shape) (map qid_of wqid.now) }
-    requires room { vec_len out.old + length (spelled (Several qid_shape) (map qid_of wqid.now)) ≤ vec_capacity out.old }
-    ensures items { out.new.items ≡ out.old.items ++ spelled (Several qid_shape) (map qid_of wqid.now) }
-    ensures len { vec_len out.new ≡ vec_len out.old + length (spelled (Several qid_shape) (map qid_of wqid.now)) }
+    requires room { vec_len out.old + length
+        (bytes_of_field (Several qid_shape) (map qid_of wqid.now)) ≤ vec_capacity out.old }
+    ensures items { out.new.items ≡ out.old.items
+        ++ bytes_of_field (Several qid_shape) (map qid_of wqid.now) }
+    ensures len { vec_len out.new
+        ≡ vec_len out.old + length (bytes_of_field (Several qid_shape) (map qid_of wqid.now)) }
     ensures capacity { vec_capacity out.old ≤ vec_capacity out.new }
 {
     put_two(out, wqid.len() as u16);
     put_qids(out, wqid);
 }
 
-#[tactic(auto, unfolding(crate::specs::Fields::spelled))]
+#[tactic(auto, unfolding(crate::specs::Fields::bytes_of_field))]
 fn put_data(out: &mut Vec<u8>, bytes: &[u8])
     requires fits { IsIn Raw bytes.now }
     requires room { vec_len out.old + (length bytes.now + 4) ≤ vec_capacity out.old }
-    ensures items { out.new.items ≡ out.old.items ++ spelled Raw bytes.now }
+    ensures items { out.new.items ≡ out.old.items ++ bytes_of_field Raw bytes.now }
     ensures len { vec_len out.new ≡ vec_len out.old + (length bytes.now + 4) }
     ensures capacity { vec_capacity out.old ≤ vec_capacity out.new }
 {
@@ -144,11 +161,13 @@ fn put_data(out: &mut Vec<u8>, bytes: &[u8])
     put(out, bytes);
 }
 
-#[tactic(auto, unfolding(crate::specs::Fields::spelled))]
+#[tactic(auto, unfolding(crate::specs::Fields::bytes_of_field))]
 fn put_stat_texts(out: &mut Vec<u8>, stat: &StatRef)
     requires fits { IsIn (Text ▸ Text ▸ Text ▸ Text) (users_in stat.now) }
-    requires room { vec_len out.old + length (spelled (Text ▸ Text ▸ Text ▸ Text) (users_in stat.now)) ≤ vec_capacity out.old }
-    ensures items { out.new.items ≡ out.old.items ++ spelled (Text ▸ Text ▸ Text ▸ Text) (users_in stat.now) }
+    requires room { vec_len out.old + length
+        (bytes_of_field (Text ▸ Text ▸ Text ▸ Text) (users_in stat.now)) ≤ vec_capacity out.old }
+    ensures items { out.new.items ≡ out.old.items
+        ++ bytes_of_field (Text ▸ Text ▸ Text ▸ Text) (users_in stat.now) }
     ensures capacity { vec_capacity out.old ≤ vec_capacity out.new }
 {
     put_text(out, stat.name);
@@ -159,8 +178,10 @@ fn put_stat_texts(out: &mut Vec<u8>, stat: &StatRef)
 
 fn put_stat_fields(out: &mut Vec<u8>, stat: &StatRef)
     requires fits { IsIn (Text ▸ Text ▸ Text ▸ Text) (users_in stat.now) }
-    requires room { vec_len out.old + (39 + length (spelled (Text ▸ Text ▸ Text ▸ Text) (users_in stat.now))) ≤ vec_capacity out.old }
-    ensures items { out.new.items ≡ out.old.items ++ spelled stat_shape (stat_in stat.now) }
+    requires room { vec_len
+        out.old + (39 + length (bytes_of_field (Text ▸ Text ▸ Text ▸ Text) (users_in stat.now)))
+        ≤ vec_capacity out.old }
+    ensures items { out.new.items ≡ out.old.items ++ bytes_of_field stat_shape (stat_in stat.now) }
     ensures capacity { vec_capacity out.old ≤ vec_capacity out.new }
 {
     put_two(out, stat.kind);
@@ -175,7 +196,8 @@ fn put_stat_fields(out: &mut Vec<u8>, stat: &StatRef)
 
 fn put_entry(out: &mut Vec<u8>, stat: &StatRef)
     requires fits { IsEntry (stat_in stat.now) }
-    requires room { vec_len out.old + length (stat_entry (stat_in stat.now)) ≤ vec_capacity out.old }
+    requires room { vec_len out.old + length (stat_entry (stat_in stat.now))
+        ≤ vec_capacity out.old }
     ensures items { out.new.items ≡ out.old.items ++ stat_entry (stat_in stat.now) }
     ensures capacity { vec_capacity out.old ≤ vec_capacity out.new }
 {
@@ -185,8 +207,10 @@ fn put_entry(out: &mut Vec<u8>, stat: &StatRef)
 
 fn put_stat(out: &mut Vec<u8>, stat: &StatRef)
     requires fits { IsIn (Boxed stat_shape) (stat_in stat.now) }
-    requires room { vec_len out.old + length (spelled (Boxed stat_shape) (stat_in stat.now)) ≤ vec_capacity out.old }
-    ensures items { out.new.items ≡ out.old.items ++ spelled (Boxed stat_shape) (stat_in stat.now) }
+    requires room { vec_len out.old + length (bytes_of_field (Boxed stat_shape) (stat_in stat.now))
+        ≤ vec_capacity out.old }
+    ensures items { out.new.items ≡ out.old.items
+        ++ bytes_of_field (Boxed stat_shape) (stat_in stat.now) }
     ensures capacity { vec_capacity out.old ≤ vec_capacity out.new }
 {
     put_two(out, stat.entry_length() as u16);
@@ -215,7 +239,7 @@ macro_rules! put_body {
     };
 }
 
-#[tactic(auto, unfolding(crate::specs::Fields::spelled))]
+#[tactic(auto, unfolding(crate::specs::Fields::bytes_of_field))]
 fn put_request(out: &mut Vec<u8>, body: &TBody<'_>)
     requires fits { RequestFits body.now }
     requires room { vec_len out.old + length (request_bytes body.now) ≤ vec_capacity out.old }
@@ -225,7 +249,7 @@ fn put_request(out: &mut Vec<u8>, body: &TBody<'_>)
     each_request!(put_body (body TBody out))
 }
 
-#[tactic(auto, unfolding(crate::specs::Fields::spelled))]
+#[tactic(auto, unfolding(crate::specs::Fields::bytes_of_field))]
 fn put_reply(out: &mut Vec<u8>, body: &RBody)
     requires fits { ReplyFits body.now }
     requires room { vec_len out.old + length (reply_bytes body.now) ≤ vec_capacity out.old }
@@ -259,7 +283,8 @@ fn reply_kind(body: &RBody) -> u8
 /// The size, the type and the tag of a message.
 fn put_header(out: &mut Vec<u8>, size: u32, kind: u8, tag: u16)
     requires { vec_len out.old + 7 ≤ vec_capacity out.old }
-    ensures items { out.new.items ≡ out.old.items ++ (spelled Four size ++ (spelled One kind ++ spelled Two tag)) }
+    ensures items { out.new.items ≡ out.old.items
+        ++ (bytes_of_field Four size ++ (bytes_of_field One kind ++ bytes_of_field Two tag)) }
     ensures len { vec_len out.new ≡ vec_len out.old + 7 }
     ensures capacity { vec_capacity out.old ≤ vec_capacity out.new }
 {
@@ -270,10 +295,11 @@ fn put_header(out: &mut Vec<u8>, size: u32, kind: u8, tag: u16)
 
 /// Appends the one spelling of a reply that fits (intro(5)). Where the room is there it takes no
 /// memory and succeeds. After an `Err` the bytes are as before.
-pub fn encode(message: &RMessage, out: &mut Vec<u8>) -> Result<(), AllocError>
+pub fn encode_reply(message: &RMessage, out: &mut Vec<u8>) -> Result<(), AllocError>
     requires { Fits (r_view message.now) }
     ensures ok { OnOk result (out.new.items ≡ out.old.items ++ spelling (r_view message.now)) }
-    ensures room { vec_len out.old + length (spelling (r_view message.now)) ≤ vec_capacity out.old → IsOk result }
+    ensures room { vec_len out.old + length (spelling (r_view message.now)) ≤ vec_capacity out.old
+        → IsOk result }
     ensures capacity { vec_capacity out.old ≤ vec_capacity out.new }
     ensures err { OnErr result (out.new.items ≡ out.old.items) }
 {
@@ -284,11 +310,12 @@ pub fn encode(message: &RMessage, out: &mut Vec<u8>) -> Result<(), AllocError>
     Ok(())
 }
 
-/// Appends the one spelling of a client's message that fits, as `encode` does.
-pub fn encode_t(message: &TMessage<'_>, out: &mut Vec<u8>) -> Result<(), AllocError>
+/// Appends the one spelling of a client's message that fits, as `encode_reply` does.
+pub fn encode_request(message: &TMessage<'_>, out: &mut Vec<u8>) -> Result<(), AllocError>
     requires { Fits (t_view message.now) }
     ensures ok { OnOk result (out.new.items ≡ out.old.items ++ spelling (t_view message.now)) }
-    ensures room { vec_len out.old + length (spelling (t_view message.now)) ≤ vec_capacity out.old → IsOk result }
+    ensures room { vec_len out.old + length (spelling (t_view message.now)) ≤ vec_capacity out.old
+        → IsOk result }
     ensures capacity { vec_capacity out.old ≤ vec_capacity out.new }
     ensures err { OnErr result (out.new.items ≡ out.old.items) }
 {
@@ -305,7 +332,8 @@ impl StatRef<'_> {
     pub fn encode_entry(&self, out: &mut Vec<u8>) -> Result<(), AllocError>
         requires { IsEntry (stat_in self.now) }
         ensures ok { OnOk result (out.new.items ≡ out.old.items ++ stat_entry (stat_in self.now)) }
-        ensures room { vec_len out.old + length (stat_entry (stat_in self.now)) ≤ vec_capacity out.old → IsOk result }
+        ensures room { vec_len out.old + length (stat_entry (stat_in self.now))
+            ≤ vec_capacity out.old → IsOk result }
         ensures err { OnErr result (out.new.items ≡ out.old.items) }
     {
         out.reserve(self.entry_length())?;

@@ -1,5 +1,6 @@
 -- The moment at which a run began: before it nothing is put to the run, and from then on the run is there.
-use Rattle.std.proofs.Common.{◌≡◌, ◌∙◌, ℕ, ◌+◌, Bool, true, false, not, cond, List, [], ◌∷◌, ◌++◌, Option, None, Some, Result, Err, refl, ap}
+use Rattle.std.proofs.Common.{◌≡◌, ◌∙◌, ℕ, ◌+◌, Bool, true, false, not, cond, List, [], ◌∷◌, ◌++◌, Option, None, Some, Result, Err, refl}
+use Rattle.std.proofs.Common.{ap}
 use Rattle.std.specs.Prelude.{is_some, map}
 use Rattle.std.specs.Option.{option_map_or, option_or}
 use Rattle.cs_journal.specs.Runs.{RunOf}
@@ -15,22 +16,22 @@ use Rattle.cs_registry.specs.Runs.{Runs, change, has_no_room, held_at, place_of,
 use Rattle.cs_run.specs.declared.answer.Answer.TheVariants.{Denied}
 use Rattle.cs_permit.specs.declared.fault.PassFault.TheVariants.{Foreign}
 use Rattle.cs_session.specs.Questions.{Question, FindRun, AttachTo, CallOn, PortAnswer, AttachAnswer, CallAnswer}
-use Rattle.cs_session.specs.Steps.{Front, Done, Asks, front_by}
+use Rattle.cs_session.specs.Steps.{FirstMove, Done, Asks, first_move_by}
 use Rattle.cs_session.specs.Steps as c
 use Rattle.cs_users.specs.Rows.{Row}
 use Rattle.cs_world.specs.declared.run_call.RunCall.{RunCall}
 use Rattle.cs_world.specs.declared.step.Step.{Step}
 use Rattle.cs_world.specs.declared.step.Step.TheVariants as t
-use Rattle.cs_world.specs.Asking.{answered, found_by, given_run, with_run_at}
+use Rattle.cs_world.specs.Asking.{answer_of_runs, found_by, given_run, with_run_at}
 use Rattle.cs_world.specs.Isolation.{users_made_with}
 use Rattle.cs_world.specs.Lists.{steps_of}
 use Rattle.cs_world.specs.ConnectionSteps.{session_step}
-use Rattle.cs_world.specs.Marks.{WorldMark, RunMark, below, in_run, refuses_own}
+use Rattle.cs_world.specs.Marks.{WorldMark, RunMark, run_mark_of, step_mark_of, refuses_own}
 use Rattle.cs_world.specs.Projections.{answers_of, projection_of, put_to, run_with_key, answers_there}
 use Rattle.cs_world.specs.Questions.{question_of_step}
-use Rattle.cs_world.specs.Runs.{attached, called}
+use Rattle.cs_world.specs.Runs.{attach_on, call_on}
 use Rattle.cs_world.specs.Steps.{from_front, on_connection, step_of}
-use Rattle.cs_world.specs.Worlds.{World, connection}
+use Rattle.cs_world.specs.Worlds.{World, session_at}
 use Rattle.cs_world.proofs.Ending.{on_ends}
 use Rattle.cs_world.proofs.Alone.{MadeWith}
 use Rattle.cs_world.proofs.Keyed as keyed
@@ -56,10 +57,15 @@ module _ (key : Key) where
     changed new n = ap (λ (o : Option ℕ). is_some o) (keyed.place_change key new n r.runs) ∙ there
 
     pushed : (own : Key) (held : RunOf) → has_run (record r { runs = with_run r.runs own held }) ≡ true
-    pushed own held = ap (λ (o : Option ℕ). is_some o) (keyed.place_push key r.runs own (record { finds = 1; held = held })) ∙ or_some (place_of key r.runs) _ there
+    pushed own held = ap (λ (o : Option ℕ). is_some o) (keyed.place_push key r.runs own (record {
+      finds = 1;
+      held = held;
+    })) ∙ or_some (place_of key r.runs) _ there
 
     found_cases : (own : Key) (unpublished full : Bool) (o : Option ℕ) (g : Option RunOf)
-        → has_run (cond {A = Result ℕ FindFault × Registry RunOf} unpublished (Err Unpublished, r) (cond full (Err Full, r) (option_map_or (found_again r) o (made r own g)))).1 ≡ true
+        → has_run
+        (cond {A = Result ℕ FindFault × Registry RunOf} unpublished (Err Unpublished, r)
+        (cond full (Err Full, r) (option_map_or (found_again r) o (made r own g)))).1 ≡ true
     found_cases own true full o g = there
     found_cases own false true o g = there
     found_cases own false false (Some n) g = changed (λ run. record run { finds = run.finds + 1 }) n
@@ -68,25 +74,33 @@ module _ (key : Key) where
 
     finds : (mark : RunMark) (o : Option Key) → has_run (found_by r mark o).1 ≡ true
     finds mark None = there
-    finds mark (Some own) = found_cases own (not (is_published r own.number)) (has_no_room r.runs own) (place_of own r.runs) (given_run r own.number mark)
+    finds mark (Some own) =
+        found_cases own (not (is_published r own.number)) (has_no_room r.runs own) (place_of own r.runs) (given_run r own.number mark)
 
     puts : (n : ℕ) (o : Option RunOf) (new : RunOf → RunOf) (told : RunOf → PortAnswer) (none : PortAnswer)
-        → has_run (option_map_or {T = RunOf} {U = PortAnswer × Registry RunOf} (λ run. (told run, with_run_at r n (new run))) o (none, r)).1 ≡ true
+        → has_run (option_map_or {T = RunOf} {U = PortAnswer × Registry RunOf} (λ run. (told run, with_run_at r n (new run))) o (none, r)).1
+        ≡ true
     puts n None new told none = there
     puts n (Some run) new told none = changed (λ (found : Found RunOf). record found { held = new run }) n
 
-    asked : (q : Question) (m : RunMark) → has_run (answered r q m).1 ≡ true
+    asked : (q : Question) (m : RunMark) → has_run (answer_of_runs r q m).1 ≡ true
     asked (FindRun state_name run_name) m = finds m (key_in state_name run_name)
-    asked (AttachTo now n call) m = puts n (held_at r.runs n) (λ run. (attached run now call m).1) (λ run. AttachAnswer (attached run now call m).0) (AttachAnswer (Err Foreign))
-    asked (CallOn now n pass call) m = puts n (held_at r.runs n) (λ run. (called run now pass call (in_run m)).1) (λ run. CallAnswer (called run now pass call (in_run m)).0) (CallAnswer (Denied S5))
+    asked (AttachTo now n call) m =
+        puts n (held_at r.runs n) (λ run. (attach_on run now call m).1) (λ run. AttachAnswer (attach_on run now call m).0)
+        (AttachAnswer (Err Foreign))
+    asked (CallOn now n pass call) m =
+        puts n (held_at r.runs n) (λ run. (call_on run now pass call (step_mark_of m)).1)
+        (λ run. CallAnswer (call_on run now pass call (step_mark_of m)).0) (CallAnswer (Denied S5))
 
   module _ (w : World) (there : has_run w.registry ≡ true) where
-    fronted : (conn : ℕ) (x : c.Step) (m : RunMark) (f : Front) → has_run (from_front w conn x m f).1.registry ≡ true
+    fronted : (conn : ℕ) (x : c.Step) (m : RunMark) (f : FirstMove) → has_run (from_front w conn x m f).1.registry ≡ true
     fronted conn x m (Done reply s) = there
     fronted conn x m (Asks q) = asked w.registry there q m
 
     connected : (conn now : ℕ) (x : c.Step) (mark : WorldMark) → has_run (on_connection w conn now x mark).1.registry ≡ true
-    connected conn now x mark = on_ends w conn now x mark (λ q y. has_run y.1.registry ≡ true) (λ low. fronted conn x (below mark) (front_by now (connection w conn) x (refuses_own mark))) (λ high. there)
+    connected conn now x mark =
+        on_ends w conn now x mark (λ q y. has_run y.1.registry ≡ true)
+        (λ low. fronted conn x (run_mark_of mark) (first_move_by now (session_at w conn) x (refuses_own mark))) (λ high. there)
 
     stays : (x : Step) (mark : WorldMark) → has_run (step_of w x mark).1.registry ≡ true
     stays (t.Publish number) mark = ap (λ (runs : Runs RunOf). is_some (place_of key runs)) (publish_keeps w.registry number mark) ∙ there
@@ -112,33 +126,42 @@ module _ (key : Key) where
     made_with w [] is = tt
     made_with w (x ∷ xs) is = by (has_run (step_of w x.0 x.1).1.registry) refl is (made_with (step_of w x.0 x.1).1 xs)
       where
-        by : (b : Bool) → has_run (step_of w x.0 x.1).1.registry ≡ b → cond b (Some w.registry.users) (users_made_with (step_of w x.0 x.1).1 xs key) ≡ Some users
-            → (users_made_with (step_of w x.0 x.1).1 xs key ≡ Some users → MadeWith key users (step_of w x.0 x.1).1 xs) → MadeWith key users w (x ∷ xs)
-        by true e is rest = (λ none there. (let same : Some w.registry.users ≡ Some users = is in cc), there_made (step_of w x.0 x.1).1 e xs)
+        by : (b : Bool) → has_run (step_of w x.0 x.1).1.registry ≡ b
+            → cond b (Some w.registry.users) (users_made_with (step_of w x.0 x.1).1 xs key) ≡ Some users
+            → (users_made_with (step_of w x.0 x.1).1 xs key ≡ Some users → MadeWith key users (step_of w x.0 x.1).1 xs)
+            → MadeWith key users w (x ∷ xs)
+        by true e is rest =
+            (λ none there. (let same : Some w.registry.users ≡ Some users = is in cc), there_made (step_of w x.0 x.1).1 e xs)
         by false e is rest = (λ none there. absurd (cc), rest is)
 
-    ends_there : (w : World) (xs : List (Step × WorldMark)) → users_made_with w xs key ≡ Some users → has_run (steps_of w xs).1.registry ≡ true
+    ends_there : (w : World) (xs : List (Step × WorldMark)) → users_made_with w xs key ≡ Some users
+        → has_run (steps_of w xs).1.registry ≡ true
     ends_there w [] is = absurd (cc)
     ends_there w (x ∷ xs) is = by (has_run (step_of w x.0 x.1).1.registry) refl is (ends_there (step_of w x.0 x.1).1 xs)
       where
-        by : (b : Bool) → has_run (step_of w x.0 x.1).1.registry ≡ b → cond b (Some w.registry.users) (users_made_with (step_of w x.0 x.1).1 xs key) ≡ Some users
-            → (users_made_with (step_of w x.0 x.1).1 xs key ≡ Some users → has_run (steps_of (step_of w x.0 x.1).1 xs).1.registry ≡ true) → has_run (steps_of (step_of w x.0 x.1).1 xs).1.registry ≡ true
+        by : (b : Bool) → has_run (step_of w x.0 x.1).1.registry ≡ b
+            → cond b (Some w.registry.users) (users_made_with (step_of w x.0 x.1).1 xs key) ≡ Some users
+            → (users_made_with (step_of w x.0 x.1).1 xs key ≡ Some users → has_run (steps_of (step_of w x.0 x.1).1 xs).1.registry ≡ true)
+            → has_run (steps_of (step_of w x.0 x.1).1 xs).1.registry ≡ true
         by true e is rest = all_stay (step_of w x.0 x.1).1 e xs
         by false e is rest = rest is
 
-    run_by : (r : Registry RunOf) (o : Option ℕ) → place_of key r.runs ≡ o → is_some o ≡ true → (run : RunOf) × (run_with_key r key ≡ Some run)
+    run_by : (r : Registry RunOf) (o : Option ℕ) → place_of key r.runs ≡ o → is_some o ≡ true → (run : RunOf)
+        × (run_with_key r key ≡ Some run)
     run_by r None is some = absurd (cc)
     run_by r (Some n) is some =
         let its = keyed.there key r.runs n is in
         (its.0.held, rw (is, its.1) refl)
 
     -- and it is there in the end
-    pub stands : (w : World) (xs : List (Step × WorldMark)) → users_made_with w xs key ≡ Some users → (run : RunOf) × (run_with_key (steps_of w xs).1.registry key ≡ Some run)
+    pub stands : (w : World) (xs : List (Step × WorldMark)) → users_made_with w xs key ≡ Some users → (run : RunOf)
+        × (run_with_key (steps_of w xs).1.registry key ≡ Some run)
     stands w xs is = run_by (steps_of w xs).1.registry (place_of key (steps_of w xs).1.registry.runs) refl (ends_there w xs is)
 
   -- ---- a run that never began
 
-  nothing : {A : Type 0} (of : Question → List A) (none : (q : Question) → of q ≡ []) (asked : Option Question) → option_map_or of asked [] ≡ []
+  nothing : {A : Type 0} (of : Question → List A) (none : (q : Question) → of q ≡ []) (asked : Option Question)
+      → option_map_or of asked [] ≡ []
   nothing of none None = refl
   nothing of none (Some q) = none q
 
@@ -149,7 +172,7 @@ module _ (key : Key) where
     none_put (CallOn now place pass call) = rw none refl
 
     none_told : (q : Question) → answers_there r key q mark ≡ []
-    none_told q = ap (λ (l : List (RunCall × RunMark)). map (λ (put : RunCall × RunMark). (answered r q mark).0) l) (none_put q)
+    none_told q = ap (λ (l : List (RunCall × RunMark)). map (λ (put : RunCall × RunMark). (answer_of_runs r q mark).0) l) (none_put q)
 
   -- nothing was put to it, and it isn't there in the end
   pub record Never (w : World) (xs : List (Step × WorldMark)) : Type 0 where
@@ -157,17 +180,23 @@ module _ (key : Key) where
     pub answers : answers_of w xs key ≡ []
     pub gone : place_of key (steps_of w xs).1.registry.runs ≡ None
 
-  pub never : (w : World) (xs : List (Step × WorldMark)) → place_of key w.registry.runs ≡ None → users_made_with w xs key ≡ None → Never w xs
+  pub never : (w : World) (xs : List (Step × WorldMark)) → place_of key w.registry.runs ≡ None → users_made_with w xs key ≡ None
+      → Never w xs
   never w [] none is = record { puts = refl; answers = refl; gone = none }
   never w (x ∷ xs) none is = by (has_run (step_of w x.0 x.1).1.registry) refl is (never (step_of w x.0 x.1).1 xs)
     where
-      by : (b : Bool) → has_run (step_of w x.0 x.1).1.registry ≡ b → cond b (Some w.registry.users) (users_made_with (step_of w x.0 x.1).1 xs key) ≡ None
-          → (place_of key (step_of w x.0 x.1).1.registry.runs ≡ None → users_made_with (step_of w x.0 x.1).1 xs key ≡ None → Never (step_of w x.0 x.1).1 xs) → Never w (x ∷ xs)
+      by : (b : Bool) → has_run (step_of w x.0 x.1).1.registry ≡ b
+          → cond b (Some w.registry.users) (users_made_with (step_of w x.0 x.1).1 xs key) ≡ None
+          → (place_of key (step_of w x.0 x.1).1.registry.runs ≡ None → users_made_with (step_of w x.0 x.1).1 xs key ≡ None
+          → Never (step_of w x.0 x.1).1 xs) → Never w (x ∷ xs)
       by true e is rest = absurd (cc)
       by false e is rest =
           let later = rest (none_if (place_of key (step_of w x.0 x.1).1.registry.runs) e) is in
           record {
-            puts = λ i. nothing (λ q. put_to w.registry key q (below x.1)) (none_put w.registry none (below x.1)) (question_of_step w x.0 x.1) i ++ later.puts i;
-            answers = λ i. nothing (λ q. answers_there w.registry key q (below x.1)) (none_told w.registry none (below x.1)) (question_of_step w x.0 x.1) i ++ later.answers i;
+            puts = λ i. nothing (λ q. put_to w.registry key q (run_mark_of x.1)) (none_put w.registry none (run_mark_of x.1))
+                (question_of_step w x.0 x.1) i ++ later.puts i;
+            answers =
+                λ i. nothing (λ q. answers_there w.registry key q (run_mark_of x.1)) (none_told w.registry none (run_mark_of x.1))
+                (question_of_step w x.0 x.1) i ++ later.answers i;
             gone = later.gone;
           }

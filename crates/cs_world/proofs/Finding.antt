@@ -24,7 +24,8 @@ module _ (old : Registry RunOf) (key : Key) (answer : Result ℕ FindFault) (new
   by_given : (g : Option RunOf) → IfSome g (IsNew is_fresh old key) → (answer, new) ≡ found old key g → IsFound
   by_given None fresh e = (NoRun, e)
   by_given (Some run) fresh e =
-      let given : given_run old key.number (InRun Ample) ≡ Some run = ap (option_map (λ (tree : Tree). fresh_run tree old.users)) fresh.1 ∙ ap Some (sym fresh.2) in
+      let given : given_run old key.number (InRun Ample) ≡ Some run =
+      ap (option_map (λ (tree : Tree). fresh_run tree old.users)) fresh.1 ∙ ap Some (sym fresh.2) in
       (InRun Ample, e ∙ ap (found old key) (sym given))
 
   pub finds : Finds is_fresh old key answer new → IsFound

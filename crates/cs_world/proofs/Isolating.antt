@@ -15,7 +15,7 @@ use Rattle.cs_world.specs.declared.step.Step.{Step}
 use Rattle.cs_world.specs.Isolation.{AreSame, HaveSameUsers, IsAlone, IsIsolated, NoneReachesAnother, run_after, users_made_with}
 use Rattle.cs_world.specs.Lists.{IsStepList, steps_of}
 use Rattle.cs_world.specs.Marks.{WorldMark, RunMark}
-use Rattle.cs_world.specs.Projections.{alone, answers_of, projection_of}
+use Rattle.cs_world.specs.Projections.{calls_alone, answers_of, projection_of}
 use Rattle.cs_world.specs.Worlds.{World, new_world}
 use Rattle.cs_world.proofs.Alone.{alone_there, first_found, first_of, from, from_none}
 use Rattle.cs_world.proofs.Began.{made_with, never, stands}
@@ -35,8 +35,10 @@ module _ (scene : Scene) (users : List Row) (key : Key) where
   puts marked = projection_of w marked key
 
   ends : (marked : List (Step × WorldMark)) (own : List Row) → users_made_with w marked key ≡ Some own → (o : Option RunOf) → start own ≡ o
-      → ◌≡◌ {A = List PortAnswer × Option RunOf} (answers_of w marked key, first_of key own (steps_of w marked).1.registry) (from o (puts marked))
-  ends marked own stood o is = alone_there key own w marked (made_with key own w marked stood) ∙ ap (λ (o : Option RunOf). from o (puts marked)) is
+      → ◌≡◌ {A = List PortAnswer × Option RunOf} (answers_of w marked key, first_of key own (steps_of w marked).1.registry)
+      (from o (puts marked))
+  ends marked own stood o is =
+      alone_there key own w marked (made_with key own w marked stood) ∙ ap (λ (o : Option RunOf). from o (puts marked)) is
 
   -- ---- a run that was found is that of what reached it, alone
 
@@ -45,32 +47,48 @@ module _ (scene : Scene) (users : List Row) (key : Key) where
     stood : users_made_with w marked key ≡ Some own
     fresh : RunOf
     begins : start own ≡ Some fresh
-    answers : answers_of w marked key ≡ (alone fresh (puts marked)).0
-    ends : run ≡ (alone fresh (puts marked)).1
+    answers : answers_of w marked key ≡ (calls_alone fresh (puts marked)).0
+    ends : run ≡ (calls_alone fresh (puts marked)).1
 
-  from_by : (marked : List (Step × WorldMark)) (own : List Row) → users_made_with w marked key ≡ Some own → (o : Option RunOf) → start own ≡ o → (run : RunOf) → run_after w marked key ≡ Some run → IsFrom marked run
+  from_by : (marked : List (Step × WorldMark)) (own : List Row) → users_made_with w marked key ≡ Some own → (o : Option RunOf)
+      → start own ≡ o → (run : RunOf) → run_after w marked key ≡ Some run → IsFrom marked run
   from_by marked own stood None is run found =
-      let there : first_of key own (steps_of w marked).1.registry ≡ Some run = first_found key own (steps_of w marked).1.registry run found in
-      absurd (let none : first_of key own (steps_of w marked).1.registry ≡ None = ap (λ (x : List PortAnswer × Option RunOf). x.1) (ends marked own stood None is) in cc)
+      let there : first_of key own (steps_of w marked).1.registry ≡ Some run =
+      first_found key own (steps_of w marked).1.registry run found in
+      absurd (let none : first_of key own (steps_of w marked).1.registry ≡ None =
+      ap (λ (x : List PortAnswer × Option RunOf). x.1) (ends marked own stood None is) in cc)
   from_by marked own stood (Some fresh) is run found =
       let its = ends marked own stood (Some fresh) is in
-      let there : Some run ≡ Some (alone fresh (puts marked)).1 = sym (first_found key own (steps_of w marked).1.registry run found) ∙ ap (λ (x : List PortAnswer × Option RunOf). x.1) its in
-      record { own = own; stood = stood; fresh = fresh; begins = is; answers = ap (λ (x : List PortAnswer × Option RunOf). x.0) its; ends = cc }
+      let there : Some run ≡ Some (calls_alone fresh (puts marked)).1 =
+      sym (first_found key own (steps_of w marked).1.registry run found) ∙ ap (λ (x : List PortAnswer × Option RunOf). x.1) its in
+      record {
+        own = own;
+        stood = stood;
+        fresh = fresh;
+        begins = is;
+        answers = ap (λ (x : List PortAnswer × Option RunOf). x.0) its;
+        ends = cc;
+      }
 
-  began : (marked : List (Step × WorldMark)) (run : RunOf) → run_after w marked key ≡ Some run → (o : Option (List Row)) → users_made_with w marked key ≡ o → IsFrom marked run
+  began : (marked : List (Step × WorldMark)) (run : RunOf) → run_after w marked key ≡ Some run → (o : Option (List Row))
+      → users_made_with w marked key ≡ o → IsFrom marked run
   began marked run found None stood =
-      absurd (let its = never key w marked refl stood in let none : run_after w marked key ≡ None = ap (λ (o : Option ℕ). option_and_then (held_at (steps_of w marked).1.registry.runs) o) its.gone in cc)
+      absurd (let its = never key w marked refl stood in let none : run_after w marked key ≡ None =
+      ap (λ (o : Option ℕ). option_and_then (held_at (steps_of w marked).1.registry.runs) o) its.gone in cc)
   began marked run found (Some own) stood = from_by marked own stood (start own) refl run found
 
   its_from : (marked : List (Step × WorldMark)) (run : RunOf) → run_after w marked key ≡ Some run → IsFrom marked run
   its_from marked run found = began marked run found (users_made_with w marked key) refl
 
-  begin_users : (own : List Row) (o : Option Tree) (fresh : RunOf) → option_map (λ tree. fresh_run tree own) o ≡ Some fresh → fresh.users ≡ own
+  begin_users : (own : List Row) (o : Option Tree) (fresh : RunOf) → option_map (λ tree. fresh_run tree own) o ≡ Some fresh
+      → fresh.users ≡ own
   begin_users own None fresh is = absurd (cc)
   begin_users own (Some tree) fresh is = let same : fresh_run tree own ≡ fresh = cc in ap (λ (r : RunOf). r.users) (sym same)
 
   own_users : (marked : List (Step × WorldMark)) (run : RunOf) (its : IsFrom marked run) → run.users ≡ its.own
-  own_users marked run its = ap (λ (r : RunOf). r.users) its.ends ∙ alone_users its.fresh (puts marked) ∙ begin_users its.own (state_at scene key.number) its.fresh its.begins
+  own_users marked run its =
+      ap (λ (r : RunOf). r.users) its.ends ∙ alone_users its.fresh (puts marked) ∙ begin_users its.own (state_at scene key.number) its.fresh
+      its.begins
 
   is_alone : (marked : List (Step × WorldMark)) (run : RunOf) → run_after w marked key ≡ Some run → IsAlone w marked key run
   is_alone marked run found =
@@ -86,13 +104,16 @@ module _ (scene : Scene) (users : List Row) (key : Key) where
   -- ---- the same calls leave the same run
 
   -- where nothing was put to it, nothing was told
-  untold : (marked : List (Step × WorldMark)) (o : Option (List Row)) → users_made_with w marked key ≡ o → puts marked ≡ [] → answers_of w marked key ≡ []
+  untold : (marked : List (Step × WorldMark)) (o : Option (List Row)) → users_made_with w marked key ≡ o → puts marked ≡ []
+      → answers_of w marked key ≡ []
   untold marked None stood none = (never key w marked refl stood).answers
   untold marked (Some own) stood none =
-      ap (λ (x : List PortAnswer × Option RunOf). x.0) (ends marked own stood (start own) refl) ∙ ap (λ (l : List (RunCall × RunMark)). (from (start own) l).0) none
+      ap (λ (x : List PortAnswer × Option RunOf). x.0) (ends marked own stood (start own) refl) ∙ ap
+      (λ (l : List (RunCall × RunMark)). (from (start own) l).0) none
       ∙ ap (λ (x : List PortAnswer × Option RunOf). x.0) (sym (from_none (start own)))
 
-module _ (scene : Scene) (users others : List Row) (key : Key) (xs ys : List (Step × WorldMark)) (have : HaveSameUsers (new_world scene users) xs (new_world scene others) ys key)
+module _ (scene : Scene) (users others : List Row) (key : Key) (xs ys : List (Step × WorldMark))
+    (have : HaveSameUsers (new_world scene users) xs (new_world scene others) ys key)
     (alike : projection_of (new_world scene users) xs key ≡ projection_of (new_world scene others) ys key) where
   abbrev one_world : World
   one_world = new_world scene users
@@ -107,24 +128,30 @@ module _ (scene : Scene) (users others : List Row) (key : Key) (xs ys : List (St
   puts_other = projection_of other_world ys key
 
   -- both runs began the same
-  same_fresh : (run other : RunOf) → run_after one_world xs key ≡ Some run → run_after other_world ys key ≡ Some other → (one : IsFrom scene users key xs run) (two : IsFrom scene others key ys other)
+  same_fresh : (run other : RunOf) → run_after one_world xs key ≡ Some run → run_after other_world ys key ≡ Some other
+      → (one : IsFrom scene users key xs run) (two : IsFrom scene others key ys other)
       → two.fresh ≡ one.fresh
   same_fresh run other found there one two =
-      let own : two.own ≡ one.own = sym (own_users scene others key ys other two) ∙ sym (have run other found there) ∙ own_users scene users key xs run one in
-      let both : Some two.fresh ≡ Some one.fresh = sym two.begins ∙ ap (λ (list : List Row). option_map (λ tree. fresh_run tree list) (state_at scene key.number)) own ∙ one.begins in
+      let own : two.own ≡ one.own =
+      sym (own_users scene others key ys other two) ∙ sym (have run other found there) ∙ own_users scene users key xs run one in
+      let both : Some two.fresh ≡ Some one.fresh =
+      sym two.begins ∙ ap (λ (list : List Row). option_map (λ tree. fresh_run tree list) (state_at scene key.number)) own ∙ one.begins
+      in
       cc
 
-  runs_same : (run other : RunOf) → run_after one_world xs key ≡ Some run → run_after other_world ys key ≡ Some other → (answers_of one_world xs key ≡ answers_of other_world ys key) × (run ≡ other)
+  runs_same : (run other : RunOf) → run_after one_world xs key ≡ Some run → run_after other_world ys key ≡ Some other
+      → (answers_of one_world xs key ≡ answers_of other_world ys key) × (run ≡ other)
   runs_same run other found there =
       let one = its_from scene users key xs run found in
       let two = its_from scene others key ys other there in
       let fresh = same_fresh run other found there one two in
-      let both : alone one.fresh puts_one ≡ alone two.fresh puts_other = λ i. alone (sym fresh i) (alike i) in (
+      let both : calls_alone one.fresh puts_one ≡ calls_alone two.fresh puts_other = λ i. calls_alone (sym fresh i) (alike i) in (
         one.answers ∙ ap (λ (x : List PortAnswer × RunOf). x.0) both ∙ sym two.answers,
         one.ends ∙ ap (λ (x : List PortAnswer × RunOf). x.1) both ∙ sym two.ends,
       )
 
-  answers_by : (o p : Option (List Row)) → users_made_with one_world xs key ≡ o → users_made_with other_world ys key ≡ p → answers_of one_world xs key ≡ answers_of other_world ys key
+  answers_by : (o p : Option (List Row)) → users_made_with one_world xs key ≡ o → users_made_with other_world ys key ≡ p
+      → answers_of one_world xs key ≡ answers_of other_world ys key
   answers_by None p is js =
       let its = never key one_world xs refl is in
       its.answers ∙ sym (untold scene others key ys p js (sym alike ∙ its.puts))
@@ -152,7 +179,12 @@ module _ (scene : Scene) (users : List Row) where
   }
 
   -- and of one that was run
-  pub by_run : (w : World) → w ≡ new_world scene users → (steps : List Step) (replies : List Reply) (w' : World) → IsStepList w steps replies w' → IsIsolated w steps replies w'
+  pub by_run : (w : World) → w ≡ new_world scene users → (steps : List Step) (replies : List Reply) (w' : World)
+      → IsStepList w steps replies w' → IsIsolated w steps replies w'
   by_run w new steps replies w' run =
       let its = run_told w steps replies w' run in
-      record { taken = its.0; wants = its.1; laws = subst (λ (x : World). NoneReachesAnother x its.0.marked) (sym new) (none_reaches its.0.marked) }
+      record {
+        taken = its.0;
+        wants = its.1;
+        laws = subst (λ (x : World). NoneReachesAnother x its.0.marked) (sym new) (none_reaches its.0.marked);
+      }

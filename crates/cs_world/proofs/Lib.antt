@@ -4,6 +4,7 @@ pub mod Alone
 pub mod AmpleSteps
 pub mod Answering
 pub mod Apart
+pub mod ApartLists
 pub mod Asked
 pub mod Began
 pub mod Coming

@@ -8,14 +8,14 @@ use Rattle.cs_world.specs.declared.reply.Reply.{Reply}
 use Rattle.cs_world.specs.declared.reply.Reply.TheVariants.{Published, NotPublished}
 use Rattle.cs_world.specs.declared.reply.StateFault.TheVariants.{Twice, Memory}
 use Rattle.cs_world.specs.Marks.{WorldMark, Below, NoPass, NoKeeping}
-use Rattle.cs_world.specs.Publishing.{published}
+use Rattle.cs_world.specs.Publishing.{publish_step}
 
 module _ (old new : Registry RunOf) (number made : ℕ) (e : made ≡ number) (low : made < length old.scene.plan) where
   inside : nat_lt made (length old.scene.plan) ≡ true
   inside = grind (arith, nat_tests)
 
   abbrev pub Comes : Reply → WorldMark → ℕ → Type 0
-  Comes reply mark n = ◌≡◌ {A = Reply × Registry RunOf} (reply, new) (published old n mark)
+  Comes reply mark n = ◌≡◌ {A = Reply × Registry RunOf} (reply, new) (publish_step old n mark)
 
   pub is_kept : is_published old made ≡ false → new ≡ with_published old made → Comes Published (Below NoPass) number
   is_kept free is = subst (Comes Published (Below NoPass)) e (rw (inside, free, is) refl)

@@ -4,7 +4,8 @@ use Rattle.std.proofs.lemmas.Option.{slice_get_within}
 use Rattle.std.specs.Prelude.{replicate, slice_get, slice_index_or, slice_set}
 
 -- what was at another place, or the new one at its own
-pub get_set : {A : Type 0} (xs : List A) (n k : ℕ) (x y : A) → slice_get (slice_set xs n x) k ≡ Some y → ((k ≡ n) × (y ≡ x)) ⊎ ((k ≢ n) × (slice_get xs k ≡ Some y))
+pub get_set : {A : Type 0} (xs : List A) (n k : ℕ) (x y : A) → slice_get (slice_set xs n x) k ≡ Some y → ((k ≡ n) × (y ≡ x))
+    ⊎ ((k ≢ n) × (slice_get xs k ≡ Some y))
 get_set [] n k x y there = absurd (cc)
 get_set (a ∷ xs) zero zero x y there = inl (refl, cc)
 get_set (a ∷ xs) zero (suc k) x y there = inr (λ e. omega arith, there)
@@ -16,7 +17,8 @@ get_set (a ∷ xs) (suc n) (suc k) x y there =
     ]
 
 -- what was there, or the new one at the end
-pub get_pushed : {A : Type 0} (xs : List A) (k : ℕ) (x y : A) → slice_get (xs ++ x ∷ []) k ≡ Some y → ((k ≡ length xs) × (y ≡ x)) ⊎ ((k ≢ length xs) × (slice_get xs k ≡ Some y))
+pub get_pushed : {A : Type 0} (xs : List A) (k : ℕ) (x y : A) → slice_get (xs ++ x ∷ []) k ≡ Some y → ((k ≡ length xs) × (y ≡ x))
+    ⊎ ((k ≢ length xs) × (slice_get xs k ≡ Some y))
 get_pushed [] zero x y there = inl (refl, cc)
 get_pushed [] (suc k) x y there = absurd (cc)
 get_pushed (a ∷ xs) zero x y there = inr (λ e. omega arith, there)

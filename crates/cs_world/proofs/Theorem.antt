@@ -15,7 +15,7 @@ use Rattle.cs_tree_model.specs.Tree.{Tree}
 use Rattle.cs_world.specs.declared.reply.Reply.{Reply}
 use Rattle.cs_world.specs.declared.step.Step.{Step}
 use Rattle.cs_world.specs.declared.step.Step.TheVariants as s
-use Rattle.cs_world.specs.Ample.{ample, tells_want}
+use Rattle.cs_world.specs.Ample.{nothing_refused, says_out_of_memory}
 use Rattle.cs_world.specs.Isolation.{RefusesOnlyWhereTold}
 use Rattle.cs_world.specs.Lists.{IsStepList, steps_of}
 use Rattle.cs_world.specs.ConnectionSteps.{session_step}
@@ -23,7 +23,7 @@ use Rattle.cs_world.specs.Marks.{WorldMark, refuses_own}
 use Rattle.cs_world.specs.Consistent.{HasAttached, IsConsistent}
 use Rattle.cs_world.specs.Steps.{IsStep, step_of}
 use Rattle.cs_world.specs.Theorem.{AllBegan, StepComesTo, IsCrashState, IsForAttachedFid, ListIsJudged, StepIsJudged, StepsAreJudged}
-use Rattle.cs_world.specs.Worlds.{World, connection}
+use Rattle.cs_world.specs.Worlds.{World, session_at}
 use Rattle.cs_world.proofs.Coming.{comes}
 use Rattle.cs_world.proofs.NoWant.{no_want}
 use Rattle.cs_world.proofs.Staying.{stays_consistent}
@@ -36,29 +36,39 @@ module _ (w : World) (ok : IsConsistent w) where
   comes_to (s.Reload users) mark = refl
   comes_to (s.On conn now x) mark = comes w ok conn now (session_step x) mark
 
-  wants : (x : Step) (mark : WorldMark) → (tells_want (step_of w x mark).0 ≡ false → mark ≡ ample) → (tells_want (step_of w x mark).0 ≡ false) ↔ (mark ≡ ample)
-  wants x mark told = (told, λ is. subst (λ (m : WorldMark). tells_want (step_of w x m).0 ≡ false) (sym is) (no_want w ok x))
+  wants : (x : Step) (mark : WorldMark) → (says_out_of_memory (step_of w x mark).0 ≡ false → mark ≡ nothing_refused)
+      → (says_out_of_memory (step_of w x mark).0 ≡ false) ↔ (mark ≡ nothing_refused)
+  wants x mark told = (told, λ is. subst (λ (m : WorldMark). says_out_of_memory (step_of w x m).0 ≡ false) (sym is) (no_want w ok x))
 
   -- the user of the fid that a call is made for was attached
-  for_attached : (conn now moment place pass : ℕ) (call : Call) → IsForFid (connection w conn) now moment place pass call → IsForAttachedFid w conn now moment place pass call
+  for_attached : (conn now moment place pass : ℕ) (call : Call) → IsForFid (session_at w conn) now moment place pass call
+      → IsForAttachedFid w conn now moment place pass call
   for_attached conn now moment place pass call its = record {
     its_fid = its;
-    attached = subst (λ p. HasAttached w.registry p pass (user_of its.entry)) (sym its.run_is) (subst (λ p. HasAttached w.registry (run_of its.entry) p (user_of its.entry)) (sym its.pass_is) (ok.there.fids conn its.fid its.entry its.there));
+    attached =
+        subst (λ p. HasAttached w.registry p pass (user_of its.entry)) (sym its.run_is)
+        (subst (λ p. HasAttached w.registry (run_of its.entry) p (user_of its.entry)) (sym its.pass_is)
+        (ok.there.fids conn its.fid its.entry its.there));
   }
 
-  judged : (x : Step) (mark : WorldMark) → (tells_want (step_of w x mark).0 ≡ false → mark ≡ ample) → StepIsJudged w x mark (step_of w x mark).0 (step_of w x mark).1
+  judged : (x : Step) (mark : WorldMark) → (says_out_of_memory (step_of w x mark).0 ≡ false → mark ≡ nothing_refused)
+      → StepIsJudged w x mark (step_of w x mark).0 (step_of w x mark).1
   judged x mark told =
       let left = leaves w x mark in
       record {
         comes = comes_to x mark;
-        of_its_fid = λ conn now own moment place pass call is asks. for_attached conn now moment place pass call (for_fid now (connection w conn) (session_step own) (refuses_own mark) moment place pass call asks);
-        own_denial = λ conn now own rule left is denies. first_rule now (connection w conn) left (session_step own) (refuses_own mark) rule denies;
+        of_its_fid =
+            λ conn now own moment place pass call is asks. for_attached conn now moment place pass call
+            (for_fid now (session_at w conn) (session_step own) (refuses_own mark) moment place pass call asks);
+        own_denial =
+            λ conn now own rule left is denies. first_rule now (session_at w conn) left (session_step own) (refuses_own mark) rule denies;
         want = wants x mark told;
         others = left.others;
         scene = left.scene;
       }
 
-all_judged : (w : World) → IsConsistent w → (xs : List (Step × WorldMark)) → RefusesOnlyWhereTold w xs → StepsAreJudged w xs (steps_of w xs).0 (steps_of w xs).1
+all_judged : (w : World) → IsConsistent w → (xs : List (Step × WorldMark)) → RefusesOnlyWhereTold w xs
+    → StepsAreJudged w xs (steps_of w xs).0 (steps_of w xs).1
 all_judged w ok [] told = refl
 all_judged w ok (x ∷ xs) told = (
   (step_of w x.0 x.1).1,
@@ -67,16 +77,19 @@ all_judged w ok (x ∷ xs) told = (
 )
 
 -- of a list that was run
-pub by_run : (w : World) → IsConsistent w → (steps : List Step) (replies : List Reply) (w' : World) → IsStepList w steps replies w' → ListIsJudged w steps replies w'
+pub by_run : (w : World) → IsConsistent w → (steps : List Step) (replies : List Reply) (w' : World) → IsStepList w steps replies w'
+    → ListIsJudged w steps replies w'
 by_run w ok steps replies w' run =
     let its = run_told w steps replies w' run in
     record {
       taken = its.0;
-      judged = subst (λ (y : List Reply × World). StepsAreJudged w its.0.marked y.0 y.1) (sym its.0.leads) (all_judged w ok its.0.marked its.1);
+      judged = subst (λ (y : List Reply × World). StepsAreJudged w its.0.marked y.0 y.1) (sym its.0.leads)
+          (all_judged w ok its.0.marked its.1);
     }
 
 -- and of one step
-pub by_step : (w : World) → IsConsistent w → (x : Step) (reply : Reply) (w' : World) → IsStep w x reply w' → (mark : WorldMark) × StepIsJudged w x mark reply w'
+pub by_step : (w : World) → IsConsistent w → (x : Step) (reply : Reply) (w' : World) → IsStep w x reply w' → (mark : WorldMark)
+    × StepIsJudged w x mark reply w'
 by_step w ok x reply w' step =
     let mark : WorldMark = told_mark w (x, step.0) in
     let leads : (reply, w') ≡ step_of w x mark = step.1 ∙ sym (same_step w x step.0) in
@@ -86,7 +99,9 @@ by_step w ok x reply w' step =
 
 -- the state of a number is one that a crash may leave
 module _ (scene : Scene) (number : ℕ) (tree : Tree) (planned : IsPlan (order_in scene) scene.plan) where
-  by_recipe : (o : Option Recipe) → slice_get scene.plan number ≡ o → option_map (crash_state_of scene.trace (micros_of scene)) (option_map (set_in (order_in scene)) o) ≡ Some tree → IsCrashState scene number tree
+  by_recipe : (o : Option Recipe) → slice_get scene.plan number ≡ o
+      → option_map (crash_state_of scene.trace (micros_of scene)) (option_map (set_in (order_in scene)) o) ≡ Some tree
+      → IsCrashState scene number tree
   by_recipe None there is = absurd (cc)
   by_recipe (Some recipe) there is = record {
     set = set_in (order_in scene) recipe;
@@ -100,4 +115,5 @@ module _ (scene : Scene) (number : ℕ) (tree : Tree) (planned : IsPlan (order_i
 
 -- so is what each run of a consistent world began as
 pub began : (w : World) → IsConsistent w → IsPlan (order_in w.registry.scene) w.registry.scene.plan → AllBegan w
-began w ok planned place key run there = crash_state w.registry.scene key.number run.held.fresh planned (ok.there.runs place key run there).fresh
+began w ok planned place key run there =
+    crash_state w.registry.scene key.number run.held.fresh planned (ok.there.runs place key run there).fresh

@@ -17,9 +17,9 @@ use Rattle.cs_run.specs.declared.answer.Answer.{Answer}
 use Rattle.cs_run.specs.declared.answer.Answer.TheVariants.{Denied}
 use Rattle.cs_session.specs.Questions.{Question, FindRun, AttachTo, CallOn}
 use Rattle.cs_session.specs.Questions.{PortAnswer, FindAnswer, AttachAnswer, CallAnswer}
-use Rattle.cs_world.specs.Marks.{RunMark, in_run, refuses_run}
+use Rattle.cs_world.specs.Marks.{RunMark, step_mark_of, refuses_run}
 use Rattle.cs_journal.specs.Runs.{RunOf, fresh_run}
-use Rattle.cs_world.specs.Runs.{attached, called}
+use Rattle.cs_world.specs.Runs.{attach_on, call_on}
 
 -- ---- find
 
@@ -49,18 +49,19 @@ attach_answer registry place pair = (AttachAnswer pair.0, with_run_at registry p
 abbrev pub call_answer : Registry RunOf → ℕ → Answer × RunOf → PortAnswer × Registry RunOf
 call_answer registry place pair = (CallAnswer pair.0, with_run_at registry place pair.1)
 
--- the answer to a question where memory refuses that growth, and the registry then
-abbrev pub answered : Registry RunOf → Question → RunMark → PortAnswer × Registry RunOf
-answered registry (FindRun state_name run_name) mark =
+-- the answer to a question in which memory refuses that growth, and the registry then
+abbrev pub answer_of_runs : Registry RunOf → Question → RunMark → PortAnswer × Registry RunOf
+answer_of_runs registry (FindRun state_name run_name) mark =
     found_by registry mark (key_in state_name run_name)
-answered registry (AttachTo now place call) mark =
-    option_map_or (λ run. attach_answer registry place (attached run now call mark))
+answer_of_runs registry (AttachTo now place call) mark =
+    option_map_or (λ run. attach_answer registry place (attach_on run now call mark))
     (held_at registry.runs place) (AttachAnswer (Err Foreign), registry)
-answered registry (CallOn now place pass call) mark =
-    option_map_or (λ run. call_answer registry place (called run now pass call (in_run mark)))
+answer_of_runs registry (CallOn now place pass call) mark =
+    option_map_or
+    (λ run. call_answer registry place (call_on run now pass call (step_mark_of mark)))
     (held_at registry.runs place) (CallAnswer (Denied S5), registry)
 
 -- the answer is the definition's, with some growth refused
 abbrev pub IsGiven : Registry RunOf → Question → PortAnswer → Registry RunOf → Type 0
 IsGiven registry question answer after =
-    (mark : RunMark) × ((answer, after) ≡ answered registry question mark)
+    (mark : RunMark) × ((answer, after) ≡ answer_of_runs registry question mark)

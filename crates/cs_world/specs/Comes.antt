@@ -1,4 +1,4 @@
--- What a step of a connection comes to.
+-- What a step of a connection results in.
 use Rattle.std.specs.Prelude.{◌≡◌, ℕ, ◌<◌, ◌≤◌, Bool, List, Some, Ok, Err}
 use Rattle.cs_journal.specs.Runs.{RunOf, with_pass}
 use Rattle.cs_names.specs.declared.limits.TheConstants.{CONNECTIONS, RUN_ATTACHES}
@@ -12,8 +12,8 @@ use Rattle.cs_run.specs.declared.answer.Answer.{Answer}
 use Rattle.cs_session.specs.declared.reply.Reply.{Reply as SessionReply}
 use Rattle.cs_session.specs.declared.reply.Reply.TheVariants.{Error}
 use Rattle.cs_session.specs.Questions.{FindRun, AttachTo, CallOn, AttachAnswer, CallAnswer}
-use Rattle.cs_session.specs.Sessions.{Sess}
-use Rattle.cs_session.specs.Steps.{Step as SessionStep, Done, Asks, front_by}
+use Rattle.cs_session.specs.Sessions.{SessionState}
+use Rattle.cs_session.specs.Steps.{Step as SessionStep, Done, Asks, first_move_by}
 use Rattle.cs_world.specs.declared.reply.Reply.{Reply}
 use Rattle.cs_world.specs.declared.reply.Reply.TheVariants.{Connection}
 use Rattle.cs_registry.specs.Naming.{key_in}
@@ -21,38 +21,38 @@ use Rattle.cs_world.specs.Asking.{found_by, with_run_at}
 use Rattle.cs_world.specs.Ends.{CallComesTo}
 use Rattle.cs_world.specs.Marks.{RunMark, WorldMark, refuses_own}
 use Rattle.cs_world.specs.Steps.{continued_from, on_connection}
-use Rattle.cs_world.specs.Worlds.{World, connection, with_both}
+use Rattle.cs_world.specs.Worlds.{World, session_at, with_both}
 
--- what a step of a connection comes to, by whether memory for what it takes of its own is refused;
--- in a consistent world each step comes to one of these
+-- what a step of a connection results in, by whether memory for what it takes of its own is
+-- refused; in a consistent world each step results in one of these
 pub data ConnectionStepComesTo (world : World) (conn now : ℕ) (step : SessionStep) (refused : Bool)
     (reply : Reply) (after : World) : Type 0 where
   -- no connection has the number: S5
-  Nobody : CONNECTIONS ≤ conn → reply ≡ Connection (Error S5) → after ≡ world
+  NoConnection : CONNECTIONS ≤ conn → reply ≡ Connection (Error S5) → after ≡ world
       → ConnectionStepComesTo world conn now step refused reply after
-  -- the connection answers by itself, by its own rules, for want of memory for what it takes of its
-  -- own, or by a change of its table: no run changes
-  OwnReply : (own_reply : SessionReply) (session : Sess)
-      → front_by now (connection world conn) step refused ≡ Done own_reply session
+  -- the connection answers by itself, by its own rules, out of memory for what it takes of its own,
+  -- or by a change of its table: no run changes
+  OwnReply : (own_reply : SessionReply) (session : SessionState)
+      → first_move_by now (session_at world conn) step refused ≡ Done own_reply session
       → reply ≡ Connection own_reply → after ≡ with_both world conn session world.registry
       → ConnectionStepComesTo world conn now step refused reply after
-  -- the registry is asked for a run, where memory refuses that growth; from its answer, and from
+  -- the registry is asked for a run, and memory may refuse that growth; from its answer, and from
   -- those below, the connection goes on
   AsksRegistry : (state_name run_name : List ℕ) (mark : RunMark)
-      → front_by now (connection world conn) step refused ≡ Asks (FindRun state_name run_name)
+      → first_move_by now (session_at world conn) step refused ≡ Asks (FindRun state_name run_name)
       → (reply, after) ≡ continued_from world conn step
       (found_by world.registry mark (key_in state_name run_name))
       → ConnectionStepComesTo world conn now step refused reply after
   -- the run at a place has no memory for a new pass, and stays
   AttachShort : (place : ℕ) (attach : AttachCall) (run : RunOf)
-      → front_by now (connection world conn) step refused ≡ Asks (AttachTo now place attach)
+      → first_move_by now (session_at world conn) step refused ≡ Asks (AttachTo now place attach)
       → held_at world.registry.runs place ≡ Some run
       → (reply, after) ≡ continued_from world conn step
       (AttachAnswer (Err faults.Memory), with_run_at world.registry place run)
       → ConnectionStepComesTo world conn now step refused reply after
   -- the attach is judged on the run at a place, under a new pass
   AttachOnRun : (place : ℕ) (attach : AttachCall) (run run' : RunOf) (answer : Answer)
-      → front_by now (connection world conn) step refused ≡ Asks (AttachTo now place attach)
+      → first_move_by now (session_at world conn) step refused ≡ Asks (AttachTo now place attach)
       → held_at world.registry.runs place ≡ Some run → run.passes < RUN_ATTACHES
       → CallComesTo (with_pass run) now run.passes (calls.Attach attach) answer run'
       → (reply, after) ≡ continued_from world conn step
@@ -60,14 +60,14 @@ pub data ConnectionStepComesTo (world : World) (conn now : ℕ) (step : SessionS
       → ConnectionStepComesTo world conn now step refused reply after
   -- the call is judged on the run at a place, under a pass that it gave
   CallOnRun : (place pass : ℕ) (call : Call) (run run' : RunOf) (answer : Answer)
-      → front_by now (connection world conn) step refused ≡ Asks (CallOn now place pass call)
+      → first_move_by now (session_at world conn) step refused ≡ Asks (CallOn now place pass call)
       → held_at world.registry.runs place ≡ Some run → pass < run.passes
       → CallComesTo run now pass call answer run'
       → (reply, after) ≡ continued_from world conn step
       (CallAnswer answer, with_run_at world.registry place run')
       → ConnectionStepComesTo world conn now step refused reply after
 
--- the reply of a step and the world that it leaves are what it comes to
+-- the reply of a step and the world that it leaves are what it results in
 abbrev pub ConnectionStepComes : World → ℕ → ℕ → SessionStep → WorldMark → Type 0
 ConnectionStepComes world conn now step mark =
     ConnectionStepComesTo world conn now step (refuses_own mark)

@@ -2,14 +2,14 @@
 use Rattle.std.specs.Prelude.{◌≡◌, ℕ, ◌+◌, ◌<◌, ◌≤◌, ◌==◌, Bool, true, false, filter, List, length}
 use Rattle.std.specs.Prelude.{IsSome, IsSomeAnd, Some, slice_get}
 use Rattle.std.specs.Option.{option_map_or}
-use Rattle.cs_fids.specs.declared.entry.Entry.{Entry}
-use Rattle.cs_fids.specs.declared.entry.Entry.TheVariants as entry
+use Rattle.cs_fids.specs.declared.entry.FidEntry.{FidEntry}
+use Rattle.cs_fids.specs.declared.entry.FidEntry.TheVariants as entry
 use Rattle.cs_fids.specs.declared.fid.Opened.{Opened}
 use Rattle.cs_fids.specs.FidOf.{FidOf}
 use Rattle.cs_fids.specs.Entries.{pass_of, run_of, user_of}
 use Rattle.cs_permit.specs.declared.call.Call.TheVariants.{Attach}
 use Rattle.cs_run.specs.Opens.{open_numbered}
-use Rattle.cs_run.specs.Outcomes.{closes}
+use Rattle.cs_run.specs.Outcomes.{closed_open_number}
 use Rattle.cs_run.specs.declared.answer.Outcome.TheVariants.{Granted}
 use Rattle.cs_journal.specs.Calls.{is_full}
 use Rattle.cs_journal.specs.Journals.{HasRoom, IsLegal}
@@ -21,18 +21,18 @@ use Rattle.cs_registry.specs.Keys.{Key}
 use Rattle.cs_registry.specs.Registries.{Registry, is_published}
 use Rattle.cs_registry.specs.Runs.{held_at}
 use Rattle.cs_session.specs.Questions.{Question, FindRun, AttachTo, CallOn}
-use Rattle.cs_session.specs.Sessions.{Awaited, Sess, entry_at}
-use Rattle.cs_session.specs.Steps.{Step as SessionStep, Asks, front_by}
+use Rattle.cs_session.specs.Sessions.{Awaited, SessionState, entry_at}
+use Rattle.cs_session.specs.Steps.{Step as SessionStep, Asks, first_move_by}
 use Rattle.cs_world.specs.Ends.{entry_by}
-use Rattle.cs_world.specs.Worlds.{World, connection}
+use Rattle.cs_world.specs.Worlds.{World, session_at}
 
 -- the run at a place awaits the connection's attach
-abbrev pub awaits : ℕ → Sess → Bool
+abbrev pub awaits : ℕ → SessionState → Bool
 awaits place session = option_map_or (λ awaited. awaited.run == place) session.awaited false
 
 -- how many connections have found it, and are still to attach to it
-abbrev pub waiting : ℕ → List Sess → ℕ
-waiting place connections = length (filter (awaits place) connections)
+abbrev pub count_awaiting : ℕ → List SessionState → ℕ
+count_awaiting place connections = length (filter (awaits place) connections)
 
 -- an entry of the run's journal, under that pass, is a granted attach of that user
 pub record IsAttachedAs (run : RunOf) (pass : ℕ) (user : List ℕ) : Type 0 where
@@ -52,7 +52,7 @@ HasAttached registry place pass user =
 -- of its number, which is published
 pub record IsConsistentRun (world : World) (place : ℕ) (key : Key) (found : Found RunOf)
     : Type 0 where
-  pub attaches : found.held.passes + waiting place world.connections ≤ found.finds
+  pub attaches : found.held.passes + count_awaiting place world.connections ≤ found.finds
   pub few : found.finds ≤ RUN_ATTACHES
   pub room : HasRoom (state_of found.held)
   pub legal : IsLegal (first_state found.held) found.held.journal
@@ -68,31 +68,31 @@ pub record HasConsistentRuns (world : World) : Type 0 where
   pub runs : (place : ℕ) (key : Key) (found : Found RunOf)
       → slice_get world.registry.runs place ≡ Some (key, found)
       → IsConsistentRun world place key found
-  pub awaited : (conn : ℕ) (awaited : Awaited) → (connection world conn).awaited ≡ Some awaited
+  pub awaited : (conn : ℕ) (awaited : Awaited) → (session_at world conn).awaited ≡ Some awaited
       → IsSome (held_at world.registry.runs awaited.run)
-  pub fids : (conn fid : ℕ) (one : Entry) → entry_at (connection world conn) fid ≡ Some one
+  pub fids : (conn fid : ℕ) (one : FidEntry) → entry_at (session_at world conn) fid ≡ Some one
       → HasAttached world.registry (run_of one) (pass_of one) (user_of one)
 
--- an open of that number stands in the run at a place, under that pass
+-- the run at a place has an open of that number, under that pass
 abbrev pub HasOpen : Registry RunOf → ℕ → ℕ → ℕ → Type 0
 HasOpen registry place pass number =
     IsSomeAnd (held_at registry.runs place)
     (λ run. IsSome (open_numbered number pass (state_of run).opens))
 
--- each open fid's open stands, and no other fid has it
-pub record OpensStand (world : World) : Type 0 where
+-- the open of each open fid is in its run, and no other fid has it
+pub record HaveTheirOpens (world : World) : Type 0 where
   pub stand : (conn fid : ℕ) (one : FidOf Opened)
-      → entry_at (connection world conn) fid ≡ Some (entry.Opened one)
+      → entry_at (session_at world conn) fid ≡ Some (entry.Opened one)
       → HasOpen world.registry one.run one.pass one.state.open_number
   pub own : (conn fid other_conn other_fid : ℕ) (one other : FidOf Opened)
-      → entry_at (connection world conn) fid ≡ Some (entry.Opened one)
-      → entry_at (connection world other_conn) other_fid ≡ Some (entry.Opened other)
+      → entry_at (session_at world conn) fid ≡ Some (entry.Opened one)
+      → entry_at (session_at world other_conn) other_fid ≡ Some (entry.Opened other)
       → one.run ≡ other.run → one.state.open_number ≡ other.state.open_number
       → (conn ≡ other_conn) × (fid ≡ other_fid)
 
 pub record IsConsistent (world : World) : Type 0 where
   pub there : HasConsistentRuns world
-  pub opens : OpensStand world
+  pub opens : HaveTheirOpens world
 
 -- what a question is put to is there: of an attach a run that can give a pass, and of a call a run
 -- that gave the pass; and a close, and a remove of an open fid, has room for its entry
@@ -102,11 +102,11 @@ CanBeAsked registry (AttachTo now place call) =
     IsSomeAnd (held_at registry.runs place) (λ run. run.passes < RUN_ATTACHES)
 CanBeAsked registry (CallOn now place pass call) =
     IsSomeAnd (held_at registry.runs place) (λ run. (pass < run.passes)
-    × (IsSome (closes call) → is_full (state_of run) pass call ≡ false))
+    × (IsSome (closed_open_number call) → is_full (state_of run) pass call ≡ false))
 
 -- so can all that a connection asks
 abbrev pub AsksWhatCanBeAsked : World → ℕ → Type 0
 AsksWhatCanBeAsked world conn =
     (now : ℕ) (step : SessionStep) (refused : Bool) (question : Question)
-    → front_by now (connection world conn) step refused ≡ Asks question
+    → first_move_by now (session_at world conn) step refused ≡ Asks question
     → CanBeAsked world.registry question

@@ -9,7 +9,7 @@ use Rattle.cs_run.specs.declared.answer.Answer.TheVariants as answers
 use Rattle.cs_run.specs.declared.answer.Outcome.{Outcome}
 use Rattle.cs_run.specs.declared.answer.Outcome.TheVariants as outcomes
 use Rattle.cs_run.specs.Outcomes.{takes_memory}
-use Rattle.cs_journal.specs.Calls.{ended, is_full}
+use Rattle.cs_journal.specs.Calls.{open_that_ends, is_full}
 use Rattle.cs_journal.specs.Journals.{EntryOf, answer_to, apply, rules_view_of, turn_in}
 use Rattle.cs_journal.specs.Runs.{RunOf, state_of}
 use Rattle.cs_journal.specs.Steps.{run_with_entry}
@@ -39,7 +39,7 @@ pub data CallComesTo (run : RunOf) (now pass : ℕ) (call : Call) (answer : Answ
       → CallComesTo run now pass call answer run'
   -- the entry isn't reserved, and the call is answered short: nothing changes
   ShortBefore : is_full (state_of run) pass call ≡ false
-      → ended (state_of run).opens pass call ≡ None → answer ≡ answers.Short → run' ≡ run
+      → open_that_ends (state_of run).opens pass call ≡ None → answer ≡ answers.Short → run' ≡ run
       → CallComesTo run now pass call answer run'
   -- a rule fails, and this is the first
   Denied : (rule : RuleId) → is_full (state_of run) pass call ≡ false

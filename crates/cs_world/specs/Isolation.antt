@@ -11,21 +11,21 @@ use Rattle.cs_session.specs.Steps.{Step as SessionStep}
 use Rattle.cs_users.specs.Rows.{Row}
 use Rattle.cs_world.specs.declared.reply.Reply.{Reply}
 use Rattle.cs_world.specs.declared.step.Step.{Step}
-use Rattle.cs_world.specs.Ample.{ample, tells_want}
+use Rattle.cs_world.specs.Ample.{nothing_refused, says_out_of_memory}
 use Rattle.cs_world.specs.Groups.{AreApart, NoneMeetsLimit, first_replies, first_steps}
 use Rattle.cs_world.specs.Lists.{AreOwnSteps, IsStepList, steps_of, steps_on}
 use Rattle.cs_world.specs.Marks.{WorldMark}
 use Rattle.cs_world.specs.Places.{with_places}
-use Rattle.cs_world.specs.Projections.{alone, answers_of, projection_of, run_with_key}
+use Rattle.cs_world.specs.Projections.{calls_alone, answers_of, projection_of, run_with_key}
 use Rattle.cs_world.specs.Steps.{step_of}
-use Rattle.cs_world.specs.Worlds.{World, connection, new_world}
+use Rattle.cs_world.specs.Worlds.{World, session_at, new_world}
 
 -- the run of a key after steps, if it was found
 abbrev pub run_after : World → List (Step × WorldMark) → Key → Option RunOf
 run_after world marked key = run_with_key (steps_of world marked).1.registry key
 
--- the list of users that stood at the first granted find of a key, which made its run; none where
--- no find of it was granted. Of steps from a world in which it has no run
+-- the list of users at the time of the first granted find of a key, which made its run; none if no
+-- find of it was granted. Of steps from a world in which it has no run
 abbrev pub users_made_with : World → List (Step × WorldMark) → Key → Option (List Row)
 users_made_with world [] key = None
 users_made_with world (one ∷ rest) key =
@@ -35,16 +35,17 @@ users_made_with world (one ∷ rest) key =
 
 -- ---- a run is what reached it
 
--- the run has the users that stood at its first granted find; and it is the fresh run of its state,
--- with these, after the calls alone that reached it, which are answered as they are there
+-- the run has the users of its first granted find; and it is the fresh run of its state, with
+-- these, after the calls alone that reached it, which are answered as they are there
 pub record IsAlone (world : World) (marked : List (Step × WorldMark)) (key : Key) (run : RunOf)
     : Type 0 where
   pub users : users_made_with world marked key ≡ Some run.users
   pub first_run : RunOf
   pub begins : option_map (λ tree. fresh_run tree run.users)
       (state_at world.registry.scene key.number) ≡ Some first_run
-  pub answers : answers_of world marked key ≡ (alone first_run (projection_of world marked key)).0
-  pub ends : run ≡ (alone first_run (projection_of world marked key)).1
+  pub answers : answers_of world marked key
+      ≡ (calls_alone first_run (projection_of world marked key)).0
+  pub ends : run ≡ (calls_alone first_run (projection_of world marked key)).1
 
 -- ---- the same calls leave the same run
 
@@ -75,8 +76,8 @@ pub record IsSameWithoutSecond (first : ℕ → Bool) (world : World)
       ≡ first_replies first marked (steps_of world marked).0
   pub places : ℕ → ℕ
   pub connections : (conn : ℕ) → first conn ≡ true
-      → connection (steps_of world marked).1 conn
-      ≡ with_places places (connection (steps_of world (first_steps first marked)).1 conn)
+      → session_at (steps_of world marked).1 conn
+      ≡ with_places places (session_at (steps_of world (first_steps first marked)).1 conn)
   pub messages : (conn now : ℕ) (message : Message) (own : List (SessionStep × WorldMark))
       (reply : SessionReply) → first conn ≡ true
       → AreApart first (marked ++ steps_on conn now own)
@@ -105,15 +106,15 @@ pub record NoneReachesAnother (world : World) (marked : List (Step × WorldMark)
 
 -- ---- of a list that was run
 
--- memory refuses a growth only in steps whose replies tell it
+-- memory refuses a growth only in steps whose replies say so
 abbrev pub RefusesOnlyWhereTold : World → List (Step × WorldMark) → Type 0
 RefusesOnlyWhereTold world [] = Unit {0}
 RefusesOnlyWhereTold world (one ∷ rest) =
-    (tells_want (step_of world one.0 one.1).0 ≡ false → one.1 ≡ ample)
+    (says_out_of_memory (step_of world one.0 one.1).0 ≡ false → one.1 ≡ nothing_refused)
     × RefusesOnlyWhereTold (step_of world one.0 one.1).1 rest
 
 -- the steps have these replies and lead there, with marks that `taken` has, one a step; of these
--- memory refuses a growth only where the reply tells it; and no run reaches another
+-- memory refuses a growth only if the reply says so; and no run reaches another
 pub record IsIsolated (world : World) (steps : List Step) (replies : List Reply) (after : World)
     : Type 0 where
   pub taken : IsStepList world steps replies after

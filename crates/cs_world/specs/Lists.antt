@@ -6,10 +6,11 @@ use Rattle.cs_permit.specs.Refusals.{IsFirstToFail}
 use Rattle.cs_session.specs.declared.message.Message.{Message}
 use Rattle.cs_session.specs.declared.reply.Reply.{Reply as SessionReply}
 use Rattle.cs_session.specs.declared.reply.Reply.TheVariants.{Error, Memory}
-use Rattle.cs_session.specs.Messages.{Either, goes_on, next_step}
-use Rattle.cs_session.specs.Receiving.{IsLetIn, IsSpelled, message_in, rules_before_decoding}
+use Rattle.cs_session.specs.Messages.{IfElse, goes_on, next_step}
+use Rattle.cs_session.specs.Receiving.{PassesBeforeDecoding, IsSpelled, message_in}
+use Rattle.cs_session.specs.Receiving.{rules_before_decoding}
 use Rattle.cs_session.specs.Receiving.{tag_in, wire_of}
-use Rattle.cs_session.specs.Sessions.{Sess}
+use Rattle.cs_session.specs.Sessions.{SessionState}
 use Rattle.cs_session.specs.Steps.{Step as SessionStep}
 use Rattle.cs_wire.specs.declared.message.TMessage.{TMessage}
 use Rattle.cs_wire.specs.Answers.{TakesMemory}
@@ -22,7 +23,7 @@ use Rattle.cs_world.specs.declared.step.Step.TheVariants.{On}
 use Rattle.cs_world.specs.ConnectionSteps.{connection_step}
 use Rattle.cs_world.specs.Marks.{WorldMark}
 use Rattle.cs_world.specs.Steps.{step_of}
-use Rattle.cs_world.specs.Worlds.{World, connection}
+use Rattle.cs_world.specs.Worlds.{World, session_at}
 
 -- a reply before others
 abbrev pub reply_before : Reply → List Reply × World → List Reply × World
@@ -35,7 +36,7 @@ steps_of world (one ∷ rest) =
     reply_before (step_of world one.0 one.1).0
     (steps_of (step_of world one.0 one.1).1 rest)
 
--- the replies to steps before, and then to these, from where those led
+-- the replies to earlier steps, and then to these, from the world that those led to
 abbrev pub follow_on : List Reply × World → List (Step × WorldMark) → List Reply × World
 follow_on first others = (first.0 ++ (steps_of first.1 others).0, (steps_of first.1 others).1)
 
@@ -56,16 +57,16 @@ abbrev pub steps_on : ℕ → ℕ → List (SessionStep × WorldMark) → List (
 steps_on conn now marked = map (λ one. (step_on conn now one.0, one.1)) marked
 
 -- a message's own steps on a connection, each with its mark: each is the one that it takes next
--- where those before it led, another follows just where the message goes on, and the last one's
--- reply is the message's
+-- in the world that those before it led to, another follows exactly if the message goes on, and the
+-- last one's reply is the message's
 abbrev pub AreOwnSteps : Message → ℕ → ℕ → World → List (SessionStep × WorldMark) → SessionReply
     → Type 0
 AreOwnSteps message conn now world [] reply = ⊥
 AreOwnSteps message conn now world (one ∷ rest) reply =
-    (one.0 ≡ next_step message (connection world conn))
+    (one.0 ≡ next_step message (session_at world conn))
     × ((own_reply : SessionReply)
     × ((step_of world (step_on conn now one.0) one.1).0 ≡ Connection own_reply)
-    × Either (goes_on message one.0 own_reply)
+    × IfElse (goes_on message one.0 own_reply)
     (AreOwnSteps message conn now (step_of world (step_on conn now one.0) one.1).1 rest
     reply)
     ((rest ≡ []) × (reply ≡ own_reply)))
@@ -81,21 +82,22 @@ pub record IsByOwnSteps (world : World) (conn now : ℕ) (message : Message) (re
 -- the reply to bytes that take no step: the first of the rules before decoding that fails; S2 if
 -- they are no message; out of memory, only if they are a message with something to copy; or the
 -- reply of a message that takes no step
-pub data IsOwnReply (session : Sess) (bytes : List ℕ) (reply : SessionReply) : Type 0 where
+pub data IsOwnReply (session : SessionState) (bytes : List ℕ) (reply : SessionReply) : Type 0 where
   FailsARule : (rule : RuleId) → IsFirstToFail (rules_before_decoding session.msize bytes) rule
       → reply ≡ Error rule → IsOwnReply session bytes reply
-  IsNoMessage : IsLetIn session.msize bytes → IsErr (message_of requests bytes)
+  IsNoMessage : PassesBeforeDecoding session.msize bytes → IsErr (message_of requests bytes)
       → reply ≡ Error S2 → IsOwnReply session bytes reply
-  IsOutOfMemory : IsLetIn session.msize bytes → TakesMemory requests bytes
+  IsOutOfMemory : PassesBeforeDecoding session.msize bytes → TakesMemory requests bytes
       → reply ≡ Memory → IsOwnReply session bytes reply
-  TakesNoStep : (spelled : TMessage) → IsLetIn session.msize bytes → IsSpelled bytes spelled
+  TakesNoStep : (spelled : TMessage) → PassesBeforeDecoding session.msize bytes
+      → IsSpelled bytes spelled
       → message_in spelled.body ≡ Err reply → IsOwnReply session bytes reply
 
 -- the reply on the wire to bytes is that of the last of the steps of the message that they spell;
 -- or the connection's own, and no step was taken
 pub data IsRepliedBySteps (world : World) (conn now : ℕ) (bytes : List ℕ)
     (wire_reply : Spelled reply_side) (after : World) : Type 0 where
-  ByItself : (reply : SessionReply) → IsOwnReply (connection world conn) bytes reply
+  ByItself : (reply : SessionReply) → IsOwnReply (session_at world conn) bytes reply
       → wire_reply ≡ wire_of (tag_in bytes) reply → after ≡ world
       → IsRepliedBySteps world conn now bytes wire_reply after
   BySteps : (spelled : TMessage) (message : Message) (reply : SessionReply)

@@ -35,9 +35,9 @@ refuses_own NoOwn = true
 refuses_own other = false
 
 -- what is left of it for the runs
-abbrev pub below : WorldMark → RunMark
-below (Below mark) = mark
-below other = InRun Ample
+abbrev pub run_mark_of : WorldMark → RunMark
+run_mark_of (Below mark) = mark
+run_mark_of other = InRun Ample
 
 abbrev pub refuses_run : RunMark → Bool
 refuses_run NoRun = true
@@ -48,6 +48,6 @@ refuses_pass NoPass = true
 refuses_pass other = false
 
 -- what is left of it for a call in a run
-abbrev pub in_run : RunMark → StepMark
-in_run (InRun mark) = mark
-in_run other = Ample
+abbrev pub step_mark_of : RunMark → StepMark
+step_mark_of (InRun mark) = mark
+step_mark_of other = Ample

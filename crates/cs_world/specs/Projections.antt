@@ -19,10 +19,10 @@ use Rattle.cs_session.specs.Questions.{PortAnswer, FindAnswer, AttachAnswer, Cal
 use Rattle.cs_world.specs.declared.run_call.RunCall.{RunCall}
 use Rattle.cs_world.specs.declared.step.Step.{Step}
 use Rattle.cs_world.specs.Ample.{all_ample}
-use Rattle.cs_world.specs.Asking.{answered}
-use Rattle.cs_world.specs.Marks.{WorldMark, RunMark, InRun, below, in_run}
+use Rattle.cs_world.specs.Asking.{answer_of_runs}
+use Rattle.cs_world.specs.Marks.{WorldMark, RunMark, InRun, run_mark_of, step_mark_of}
 use Rattle.cs_world.specs.Questions.{question_of_step}
-use Rattle.cs_world.specs.Runs.{attached, called}
+use Rattle.cs_world.specs.Runs.{attach_on, call_on}
 use Rattle.cs_world.specs.Steps.{step_of}
 use Rattle.cs_world.specs.Worlds.{World}
 
@@ -33,66 +33,67 @@ run_with_key registry key = option_and_then (held_at registry.runs) (place_of ke
 -- ---- what reaches it
 
 -- the run of the key is at that place
-abbrev pub stands_at : Registry RunOf → Key → ℕ → Bool
-stands_at registry key place =
+abbrev pub is_at : Registry RunOf → Key → ℕ → Bool
+is_at registry key place =
     option_map_or (λ own. own == place) (place_of key registry.runs) false
 
 -- how many passes the run at a place gave: the number of the next one
 abbrev pub next_pass : Registry RunOf → ℕ → ℕ
 next_pass registry place = option_map_or (λ run. run.passes) (held_at registry.runs place) 0
 
--- an answer tells want of memory
-abbrev pub answer_tells_want : Answer → Bool
-answer_tells_want Short = true
-answer_tells_want answer = false
+-- an answer says out of memory
+abbrev pub answer_says_out_of_memory : Answer → Bool
+answer_says_out_of_memory Short = true
+answer_says_out_of_memory answer = false
 
-abbrev pub port_tells_want : PortAnswer → Bool
-port_tells_want (FindAnswer (Err not_found.Memory)) = true
-port_tells_want (AttachAnswer (Err no_pass.Memory)) = true
-port_tells_want (AttachAnswer (Ok given)) = answer_tells_want given.1
-port_tells_want (CallAnswer answer) = answer_tells_want answer
-port_tells_want answer = false
+abbrev pub port_says_out_of_memory : PortAnswer → Bool
+port_says_out_of_memory (FindAnswer (Err not_found.Memory)) = true
+port_says_out_of_memory (AttachAnswer (Err no_pass.Memory)) = true
+port_says_out_of_memory (AttachAnswer (Ok given)) = answer_says_out_of_memory given.1
+port_says_out_of_memory (CallAnswer answer) = answer_says_out_of_memory answer
+port_says_out_of_memory answer = false
 
--- the growth that memory refused: a mark beside an answer that tells no want counts for nothing
-abbrev pub wanted : PortAnswer → RunMark → RunMark
-wanted answer mark = if port_tells_want answer then mark else InRun Ample
+-- the growth that memory refused: a mark counts only if the answer says out of memory
+abbrev pub mark_that_counts : PortAnswer → RunMark → RunMark
+mark_that_counts answer mark = if port_says_out_of_memory answer then mark else InRun Ample
 
--- what a question puts to the run of a key: an attach, or another call, with the growth that it
--- wanted and memory refused, if any
+-- what a question puts to the run of a key: an attach, or another call, with the growth that
+-- memory refused, if any
 abbrev pub put_to : Registry RunOf → Key → Question → RunMark → List (RunCall × RunMark)
 put_to registry key (FindRun state_name run_name) mark = []
 put_to registry key (AttachTo now place call) mark =
-    if stands_at registry key place
+    if is_at registry key place
     then (
       record { pass = next_pass registry place; moment = now; call = Attach call },
-      wanted (answered registry (AttachTo now place call) mark).0 mark,
+      mark_that_counts (answer_of_runs registry (AttachTo now place call) mark).0 mark,
     ) ∷ []
     else []
 put_to registry key (CallOn now place pass call) mark =
-    if stands_at registry key place
+    if is_at registry key place
     then (
       record { pass = pass; moment = now; call = call },
-      wanted (answered registry (CallOn now place pass call) mark).0 mark,
+      mark_that_counts (answer_of_runs registry (CallOn now place pass call) mark).0 mark,
     ) ∷ []
     else []
 
 -- and what that is answered
 abbrev pub answers_there : Registry RunOf → Key → Question → RunMark → List PortAnswer
 answers_there registry key question mark =
-    map (λ put. (answered registry question mark).0) (put_to registry key question mark)
+    map (λ put. (answer_of_runs registry question mark).0) (put_to registry key question mark)
 
 -- what a step puts to it, by the question that it asks, if it asks one
 abbrev pub puts_of : World → Key → WorldMark → Option Question → List (RunCall × RunMark)
 puts_of world key mark asked =
-    option_map_or (λ question. put_to world.registry key question (below mark)) asked []
+    option_map_or (λ question. put_to world.registry key question (run_mark_of mark)) asked []
 
 -- and what that is answered
 abbrev pub answers_by : World → Key → WorldMark → Option Question → List PortAnswer
 answers_by world key mark asked =
-    option_map_or (λ question. answers_there world.registry key question (below mark)) asked []
+    option_map_or (λ question. answers_there world.registry key question (run_mark_of mark)) asked
+    []
 
--- the calls of a list of steps that reach the run of a key, each with the growth that it wanted and
--- memory refused, if any
+-- the calls of a list of steps that reach the run of a key, each with the growth that memory
+-- refused, if any
 abbrev pub projection_of : World → List (Step × WorldMark) → Key → List (RunCall × RunMark)
 projection_of world [] key = []
 projection_of world (one ∷ rest) key =
@@ -103,7 +104,7 @@ projection_of world (one ∷ rest) key =
 abbrev pub calls_of : List (RunCall × RunMark) → List RunCall
 calls_of puts = map (λ put. put.0) puts
 
--- the calls that steps put to the run of a key where memory refuses nothing
+-- the calls that steps put to the run of a key if memory refuses nothing
 abbrev pub calls_put : World → List Step → Key → List RunCall
 calls_put world steps key = calls_of (projection_of world (all_ample steps) key)
 
@@ -127,18 +128,18 @@ attach_in other = None
 -- a call on a run: an attach gets a pass, and any other has one
 abbrev pub alone_by : RunOf → ℕ → ℕ → Call → RunMark → Option AttachCall → PortAnswer × RunOf
 alone_by run now pass call mark (Some attach) =
-    (AttachAnswer (attached run now attach mark).0, (attached run now attach mark).1)
+    (AttachAnswer (attach_on run now attach mark).0, (attach_on run now attach mark).1)
 alone_by run now pass call mark None = (
-  CallAnswer (called run now pass call (in_run mark)).0,
-  (called run now pass call (in_run mark)).1,
+  CallAnswer (call_on run now pass call (step_mark_of mark)).0,
+  (call_on run now pass call (step_mark_of mark)).1,
 )
 
 abbrev pub call_alone : RunOf → ℕ → ℕ → Call → RunMark → PortAnswer × RunOf
 call_alone run now pass call mark = alone_by run now pass call mark (attach_in call)
 
 -- the answers of a run to calls, and the run then
-abbrev pub alone : RunOf → List (RunCall × RunMark) → List PortAnswer × RunOf
-alone run [] = ([], run)
-alone run (one ∷ rest) =
+abbrev pub calls_alone : RunOf → List (RunCall × RunMark) → List PortAnswer × RunOf
+calls_alone run [] = ([], run)
+calls_alone run (one ∷ rest) =
     answer_before (call_alone run one.0.moment one.0.pass one.0.call one.1)
-    (alone (call_alone run one.0.moment one.0.pass one.0.call one.1).1 rest)
+    (calls_alone (call_alone run one.0.moment one.0.pass one.0.call one.1).1 rest)

@@ -10,8 +10,8 @@ use Rattle.cs_journal.specs.Runs.{RunOf}
 
 -- the plan has to have the number; then the state is made; then it must not be published; then it
 -- is kept
-abbrev pub published : Registry RunOf → ℕ → WorldMark → Reply × Registry RunOf
-published registry number mark =
+abbrev pub publish_step : Registry RunOf → ℕ → WorldMark → Reply × Registry RunOf
+publish_step registry number mark =
     if not (nat_lt number (length registry.scene.plan))
     then (NotPublished NoSuchState, registry) else
     if refuses_state mark then (NotPublished Memory, registry) else

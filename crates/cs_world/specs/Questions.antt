@@ -2,23 +2,23 @@
 use Rattle.std.specs.Prelude.{ℕ, nat_lt, Option, None, Some, if◌then◌else◌}
 use Rattle.cs_names.specs.declared.limits.TheConstants.{CONNECTIONS}
 use Rattle.cs_session.specs.Questions.{Question}
-use Rattle.cs_session.specs.Steps.{Step as SessionStep, Front, Done, Asks, front_by}
+use Rattle.cs_session.specs.Steps.{Step as SessionStep, FirstMove, Done, Asks, first_move_by}
 use Rattle.cs_world.specs.declared.step.Step.{Step}
 use Rattle.cs_world.specs.declared.step.Step.TheVariants.{On}
 use Rattle.cs_world.specs.ConnectionSteps.{session_step}
 use Rattle.cs_world.specs.Marks.{WorldMark, refuses_own}
-use Rattle.cs_world.specs.Worlds.{World, connection}
+use Rattle.cs_world.specs.Worlds.{World, session_at}
 
 -- what passes the connection's own rules is a question
-abbrev pub question_of_front : Front → Option Question
-question_of_front (Done reply session) = None
-question_of_front (Asks question) = Some question
+abbrev pub question_of_move : FirstMove → Option Question
+question_of_move (Done reply session) = None
+question_of_move (Asks question) = Some question
 
 -- of a step of a connection
 abbrev pub question_on : World → ℕ → ℕ → SessionStep → WorldMark → Option Question
 question_on world conn now step mark =
     if nat_lt conn CONNECTIONS
-    then question_of_front (front_by now (connection world conn) step (refuses_own mark))
+    then question_of_move (first_move_by now (session_at world conn) step (refuses_own mark))
     else None
 
 -- of any step: a publish and a reload ask nothing

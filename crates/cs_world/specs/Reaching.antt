@@ -15,7 +15,7 @@ use Rattle.cs_world.specs.declared.step.Step.{Step}
 use Rattle.cs_world.specs.Marks.{WorldMark}
 use Rattle.cs_world.specs.Questions.{question_of_step, question_on}
 use Rattle.cs_world.specs.Steps.{on_connection}
-use Rattle.cs_world.specs.Worlds.{World, connection}
+use Rattle.cs_world.specs.Worlds.{World, session_at}
 
 -- the place of the run that a question is put to
 abbrev pub run_asked : Question → Option ℕ
@@ -50,7 +50,7 @@ pub record ChangesWhatItAsks (world : World) (conn now : ℕ) (step : SessionSte
       → slice_get (on_connection world conn now step mark).1.registry.runs place
       ≡ slice_get world.registry.runs place
   pub connections : (other : ℕ) → other ≢ conn
-      → connection (on_connection world conn now step mark).1 other ≡ connection world other
+      → session_at (on_connection world conn now step mark).1 other ≡ session_at world other
 
 -- the same runs and connections
 abbrev pub KeepsRuns : World → World → Type 0

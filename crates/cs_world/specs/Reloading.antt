@@ -8,7 +8,7 @@ use Rattle.cs_world.specs.declared.reply.Reply.TheVariants.{NotReloaded, Reloade
 use Rattle.cs_world.specs.Marks.{WorldMark, refuses_users}
 
 -- the runs that are made from then on have the list, if memory holds it
-abbrev pub reloaded : Registry RunOf → List Row → WorldMark → Reply × Registry RunOf
-reloaded registry users mark =
+abbrev pub reload_step : Registry RunOf → List Row → WorldMark → Reply × Registry RunOf
+reload_step registry users mark =
     if refuses_users mark then (NotReloaded, registry) else
     (Reloaded, with_users registry users)

@@ -1,4 +1,4 @@
--- The theorem, of a list of steps: what each of them comes to, and how the runs began.
+-- The theorem, of a list of steps: what each of them results in, and how the runs began.
 use Rattle.std.specs.Prelude.{◌≡◌, ◌≢◌, ◌↔◌, ◌<◌, ℕ, false, List, [], ◌∷◌, length, slice_get, Some}
 use Rattle.cs_apm.specs.States.{crash_state_of}
 use Rattle.cs_fids.specs.Entries.{user_of}
@@ -13,15 +13,15 @@ use Rattle.cs_registry.specs.Keys.{Key}
 use Rattle.cs_session.specs.OfFids.{IsForFid}
 use Rattle.cs_session.specs.OwnRules.{own_rules}
 use Rattle.cs_session.specs.Questions.{CallOn}
-use Rattle.cs_session.specs.Sessions.{Sess}
-use Rattle.cs_session.specs.Steps.{Asks, Done, front_by}
+use Rattle.cs_session.specs.Sessions.{SessionState}
+use Rattle.cs_session.specs.Steps.{Asks, Done, first_move_by}
 use Rattle.cs_session.specs.declared.reply.Reply.TheVariants.{Error}
 use Rattle.cs_tree_model.specs.Tree.{Tree}
 use Rattle.cs_world.specs.declared.step.ConnectionStep.{ConnectionStep}
 use Rattle.cs_world.specs.declared.reply.Reply.{Reply}
 use Rattle.cs_world.specs.declared.step.Step.{Step}
 use Rattle.cs_world.specs.declared.step.Step.TheVariants.{On}
-use Rattle.cs_world.specs.Ample.{ample, tells_want}
+use Rattle.cs_world.specs.Ample.{nothing_refused, says_out_of_memory}
 use Rattle.cs_world.specs.Comes.{ConnectionStepComesTo}
 use Rattle.cs_world.specs.ConnectionSteps.{session_step}
 use Rattle.cs_world.specs.Consistent.{HasAttached}
@@ -29,16 +29,16 @@ use Rattle.cs_world.specs.Lists.{IsStepList}
 use Rattle.cs_world.specs.Marks.{WorldMark, refuses_own}
 use Rattle.cs_world.specs.Reaching.{run_asked_or_found_by}
 use Rattle.cs_world.specs.Steps.{step_of}
-use Rattle.cs_world.specs.Worlds.{World, connection}
+use Rattle.cs_world.specs.Worlds.{World, session_at}
 
 -- a call is made for a fid of the connection: on the fid's run, under its pass, on its file, for
 -- its user; and a granted attach of that pass named the user
 pub record IsForAttachedFid (world : World) (conn now moment place pass : ℕ) (call : Call)
     : Type 0 where
-  pub its_fid : IsForFid (connection world conn) now moment place pass call
+  pub its_fid : IsForFid (session_at world conn) now moment place pass call
   pub attached : HasAttached world.registry place pass (user_of its_fid.entry)
 
--- a step of a connection comes to what that says; a publish and a reload are the registry's
+-- what a step of a connection results in; a publish and a reload are the registry's
 abbrev pub StepComesTo : World → Step → WorldMark → Reply → World → Type 0
 StepComesTo world (On conn now step) mark reply after =
     ConnectionStepComesTo world conn now (session_step step) (refuses_own mark) reply after
@@ -52,17 +52,17 @@ pub record StepIsJudged (world : World) (step : Step) (mark : WorldMark) (reply 
   -- attach of the fid's pass named
   pub of_its_fid : (conn now : ℕ) (own : ConnectionStep) (moment place pass : ℕ) (call : Call)
       → step ≡ On conn now own
-      → front_by now (connection world conn) (session_step own) (refuses_own mark)
+      → first_move_by now (session_at world conn) (session_step own) (refuses_own mark)
       ≡ Asks (CallOn moment place pass call)
       → IsForAttachedFid world conn now moment place pass call
   -- a denial that a connection gives by itself is the first of its own rules that fails
-  pub own_denial : (conn now : ℕ) (own : ConnectionStep) (rule : RuleId) (left : Sess)
+  pub own_denial : (conn now : ℕ) (own : ConnectionStep) (rule : RuleId) (left : SessionState)
       → step ≡ On conn now own
-      → front_by now (connection world conn) (session_step own) (refuses_own mark)
+      → first_move_by now (session_at world conn) (session_step own) (refuses_own mark)
       ≡ Done (Error rule) left
-      → IsFirstToFail (own_rules now (connection world conn) (session_step own)) rule
+      → IsFirstToFail (own_rules now (session_at world conn) (session_step own)) rule
   -- the reply says out of memory exactly if a growth was refused
-  pub want : (tells_want reply ≡ false) ↔ (mark ≡ ample)
+  pub want : (says_out_of_memory reply ≡ false) ↔ (mark ≡ nothing_refused)
   -- no run changes but the one that it asks or finds, and the scene stays
   pub others : (place : ℕ) → run_asked_or_found_by world step mark ≢ Some place
       → place < length world.registry.runs

@@ -8,7 +8,7 @@ use Rattle.cs_run.specs.declared.answer.Answer.{Answer}
 use Rattle.cs_session.specs.Questions.{Question, PortAnswer}
 use Rattle.cs_world.specs.declared.run_call.RunCall.{RunCall}
 use Rattle.cs_world.specs.declared.watched.WatchedRuns.{WatchedRuns}
-use Rattle.cs_world.specs.Asking.{answered}
+use Rattle.cs_world.specs.Asking.{answer_of_runs}
 use Rattle.cs_world.specs.Marks.{RunMark}
 use Rattle.cs_world.specs.Projections.{calls_of, put_to}
 
@@ -35,7 +35,7 @@ NotesAttach old short true now call (Err fault) new = ⊥
 pub record IsWatched (old : WatchedRuns) (question : Question) (answer : PortAnswer)
     (new : WatchedRuns) : Type 0 where
   pub mark : RunMark
-  pub answers : (answer, new.runs) ≡ answered old.runs question mark
+  pub answers : (answer, new.runs) ≡ answer_of_runs old.runs question mark
   pub key : new.key ≡ old.key
   pub noted : new.is_short ≡ false → (old.is_short ≡ false)
       × (new.calls.items ≡ old.calls.items ++ calls_of (put_to old.runs old.key question mark))

@@ -3,7 +3,7 @@ ghost use Rattle.std.specs.Prelude.{◌≡◌};
 ghost use Rattle.cs_journal.specs.Marks.{StepMark};
 ghost use Rattle.cs_run.specs.Laws.{FitsCall};
 ghost use Rattle.cs_world.specs.Marks.{RunMark};
-ghost use Rattle.cs_world.specs.Runs.{attached, called};
+ghost use Rattle.cs_world.specs.Runs.{attach_on, call_on};
 
 use cs_journal::{Pass, Run};
 use cs_names::limits::RUN_ATTACHES;
@@ -19,14 +19,14 @@ use std::marker::Model;
 use std::sync::Arc;
 
 /// A run, with the passes that it gave, each at the place of its number. Contracts see the run, as
-/// its journal tells it.
+/// its journal has it.
 #[derive(Drop)]
-pub struct AttendedRun {
+pub struct RunWithPasses {
     run: Run<Built>,
     passes: Vec<Pass>,
 }
 
-impl Model for AttendedRun {
+impl Model for RunWithPasses {
     ghost use Rattle.cs_journal.specs.Runs.{RunOf, run_code};
     ghost use Rattle.cs_world.specs.Passes.{AreOf};
 
@@ -39,7 +39,7 @@ impl Model for AttendedRun {
     ghost invariant = { λ attended. AreOf attended.run attended.passes.items };
 }
 
-impl Held for AttendedRun {
+impl Held for RunWithPasses {
     ghost use Rattle.std.specs.Prelude.{◌≡◌};
     ghost use Rattle.cs_journal.specs.Bounds.{CanGrow};
     ghost use Rattle.cs_journal.specs.Runs.{fresh_run};
@@ -53,17 +53,17 @@ impl Held for AttendedRun {
         _key: &RunKey,
         lower: Arc<Built>,
         users: Arc<Users>,
-    ) -> Result<AttendedRun, AllocError> {
-        Ok(AttendedRun {
+    ) -> Result<RunWithPasses, AllocError> {
+        Ok(RunWithPasses {
             run: Run::fresh(alloc, lower, users)?,
             passes: Vec::new(alloc),
         })
     }
 }
 
-impl AttendedRun {
+impl RunWithPasses {
     /// Attaches a user under a new pass, at that moment: the pass's number, and the answer. Room
-    /// where RUN_ATTACHES passes were given. Where it gives no pass it is unchanged.
+    /// if RUN_ATTACHES passes were given. If it gives no pass it is unchanged.
     pub(crate) fn attach(
         &mut self,
         alloc: Global,
@@ -71,7 +71,7 @@ impl AttendedRun {
         user: Text,
     ) -> Result<(u32, Answer), PassFault>
         ensures { (mark : RunMark)
-            × ((result, self.new) ≡ attached self.old now (record { user = user }) mark) }
+            × ((result, self.new) ≡ attach_on self.old now (record { user = user }) mark) }
     {
         if self.passes.len() >= RUN_ATTACHES as usize {
             return Err(PassFault::Room);
@@ -87,10 +87,10 @@ impl AttendedRun {
         Ok((number, answer))
     }
 
-    /// Does a call under the pass of that number, at that moment; S5 where it gave no such pass.
+    /// Makes a call under the pass of that number, at that moment; S5 if it gave no such pass.
     pub(crate) fn call(&mut self, alloc: Global, now: u32, pass: u32, call: Call<'_>) -> Answer
         ensures called { (mark : StepMark)
-            × ((result, self.new) ≡ called self.old now pass call.entry mark) }
+            × ((result, self.new) ≡ call_on self.old now pass call.entry mark) }
         ensures fits { FitsCall call.entry result }
     {
         let Some(pass) = self.passes.get_mut(pass as usize) else {

@@ -10,7 +10,7 @@ ghost use Rattle.cs_session.specs.Steps.{Step as SessionStep};
 ghost use Rattle.cs_users.specs.Rows.{Row};
 ghost use Rattle.cs_world.specs.declared.step.Step.{Step};
 ghost use Rattle.cs_world.specs.declared.step.Step.TheVariants.{Publish, Reload};
-ghost use Rattle.cs_world.specs.Ample.{ample, tells_want};
+ghost use Rattle.cs_world.specs.Ample.{nothing_refused, says_out_of_memory};
 ghost use Rattle.cs_world.specs.Comes.{ConnectionStepComes};
 ghost use Rattle.cs_world.specs.Isolation.{NoneReachesAnother};
 ghost use Rattle.cs_world.specs.Ends.{CallComesTo};
@@ -24,10 +24,10 @@ ghost use Rattle.cs_world.specs.Steps.{on_connection, step_of};
 ghost use Rattle.cs_world.specs.Theorem.{AllBegan};
 ghost use Rattle.cs_world.specs.Worlds.{World, new_world};
 
-/// A call on a run ends in one of five ways: L1 where its journal is full; want of memory for its
-/// entry, which isn't reserved; and with an entry, the last of the journal, under that pass and of
-/// that moment: denied by the first rule that fails on the run's tree, opens and users, or, where
-/// none fails, short of memory that it takes, or granted with the effect of its kind. Only a grant
+/// A call on a run ends in one of five ways: L1 if its journal is full; out of memory for its entry,
+/// which isn't reserved; and with an entry, the last of the journal, under that pass and of that
+/// moment: denied by the first rule that fails on the run's tree, opens and users, or, if none
+/// fails, short of memory that it takes, or granted with the effect of its kind. Only a grant
 /// changes the tree.
 pub fn calls_are_judged()
     ensures { (run : RunOf) (now pass : ℕ) (call : Call) (mark : StepMark) →
@@ -96,20 +96,20 @@ pub fn messages_are_steps()
         steps_of world (ones ++ others) ≡ follow_on (steps_of world ones) others }
 {}
 
-/// A step whose reply doesn't tell want of memory is the one in which memory refuses nothing; and
-/// in a consistent world the reply of that one doesn't tell it.
-pub fn only_want_of_memory_differs()
+/// A step whose reply doesn't say out of memory is the one in which memory refuses nothing; and in a
+/// consistent world the reply of that one doesn't say it.
+pub fn only_out_of_memory_differs()
     ensures differs { (world : World) (step : Step) (mark : WorldMark) →
-        tells_want (step_of world step mark).0 ≡ false →
-        step_of world step mark ≡ step_of world step ample }
+        says_out_of_memory (step_of world step mark).0 ≡ false →
+        step_of world step mark ≡ step_of world step nothing_refused }
     ensures suffices { (world : World) → IsConsistent world → (step : Step) →
-        tells_want (step_of world step ample).0 ≡ false }
+        says_out_of_memory (step_of world step nothing_refused).0 ≡ false }
 {}
 
 /// No run reaches another: three laws of every list of steps from a new world, whatever growths
-/// memory refuses in them; so also of what `step`, `message` and `hang_up` come to, one after the
-/// other. Each run that was found has the users that stood at its first granted find, whatever was
-/// loaded later.
+/// memory refuses in them; so also of what `step`, `message` and `hang_up` result in, one after
+/// the other. Each run that was found has the users of the time of its first granted find, whatever
+/// was loaded later.
 pub fn no_run_reaches_another()
     ensures { (scene : Scene) (users : List Row) (marked : List (Step × WorldMark)) →
         NoneReachesAnother (new_world scene users) marked }

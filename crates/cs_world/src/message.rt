@@ -7,15 +7,16 @@ ghost use Rattle.cs_session.specs.declared.message.Message.TheVariants as messag
 ghost use Rattle.cs_session.specs.declared.reply.Reply.TheVariants as reply;
 ghost use Rattle.cs_session.specs.Ready.{IsAgreed};
 ghost use Rattle.cs_session.specs.Receiving.{tag_in, wire_of};
-ghost use Rattle.cs_session.specs.Sessions.{blank};
+ghost use Rattle.cs_session.specs.Sessions.{empty_session};
 ghost use Rattle.cs_session.specs.Sizes.{FitsWithin, room_of};
 ghost use Rattle.cs_wire.specs.Messages.{r_view};
 ghost use Rattle.cs_world.specs.Consistent.{IsConsistent};
 ghost use Rattle.cs_world.specs.Replies.{IsAnsweredOn, IsRepliedOn};
-ghost use Rattle.cs_world.specs.Worlds.{connection};
+ghost use Rattle.cs_world.specs.Worlds.{session_at};
 
 use crate::world::World;
 use cs_names::RuleId;
+use cs_names::laws::know;
 use cs_names::limits::CONNECTIONS;
 use cs_session::Reply;
 use cs_wire::{RBody, RMessage};
@@ -39,26 +40,26 @@ fn out_of_turn(bytes: &[u8]) -> RMessage
 
 impl World {
     /// Answers one message of a connection, of 7 bytes at least, at that moment: by its steps, one
-    /// after the other, and their last reply. The reply carries the message's tag; the first rule
-    /// that fails, or want of memory, is told by an Rerror (error(5)). While a run awaits its
+    /// after the other, and their last reply. The reply carries the message's tag; an Rerror has
+    /// the first rule that fails, or says out of memory (error(5)). While a run awaits its
     /// attach the connection can take none of a message's steps: the reply is S5, and nothing
     /// changes. No other connection changes.
     pub fn message(&mut self, alloc: Global, conn: u32, now: u32, bytes: &[u8]) -> RMessage
         requires connection { conn < CONNECTIONS }
         requires whole { 7 ≤ length bytes.now }
-        ensures replied { (connection self.old conn).awaited ≡ None →
+        ensures replied { (session_at self.old conn).awaited ≡ None →
             IsRepliedOn self.old conn now bytes.now (r_view result) self.new }
-        ensures out_of_turn { (connection self.old conn).awaited ≢ None →
+        ensures out_of_turn { (session_at self.old conn).awaited ≢ None →
             (r_view result ≡ wire_of (tag_in bytes.now) (reply.Error S5)) × (self.new ≡ self.old) }
         ensures others { self.new.connections
-            ≡ slice_set self.old.connections conn (connection self.new conn) }
+            ≡ slice_set self.old.connections conn (session_at self.new conn) }
         ensures consistent { IsConsistent self.old → IsConsistent self.new }
-        ensures fits { FitsWithin (room_of (connection self.old conn).msize) (r_view result) }
+        ensures fits { FitsWithin (room_of (session_at self.old conn).msize) (r_view result) }
     {
         let session = &mut self.sessions[conn as usize];
         if session.awaits() {
             // the session's size is one that S5 fits
-            let _agreed = session.msize();
+            know(session.msize());
             return out_of_turn(bytes);
         }
         session.reply(alloc, &mut self.runs, now, bytes)
@@ -69,15 +70,15 @@ impl World {
     /// none of these steps: the reply is S5, and nothing changes. No other connection changes.
     pub fn hang_up(&mut self, alloc: Global, conn: u32, now: u32) -> Reply
         requires connection { conn < CONNECTIONS }
-        ensures closed { (connection self.old conn).awaited ≡ None →
+        ensures closed { (session_at self.old conn).awaited ≡ None →
             (result ≡ reply.Closed)
             × IsAnsweredOn self.old conn now message.HangUp reply.Closed self.new }
-        ensures ended { (connection self.old conn).awaited ≡ None →
-            connection self.new conn ≡ blank None }
-        ensures out_of_turn { (connection self.old conn).awaited ≢ None →
+        ensures ended { (session_at self.old conn).awaited ≡ None →
+            session_at self.new conn ≡ empty_session None }
+        ensures out_of_turn { (session_at self.old conn).awaited ≢ None →
             (result ≡ reply.Error S5) × (self.new ≡ self.old) }
         ensures others { self.new.connections
-            ≡ slice_set self.old.connections conn (connection self.new conn) }
+            ≡ slice_set self.old.connections conn (session_at self.new conn) }
         ensures consistent { IsConsistent self.old → IsConsistent self.new }
     {
         let session = &mut self.sessions[conn as usize];

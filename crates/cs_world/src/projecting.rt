@@ -90,9 +90,9 @@ impl World {
     }
 
     /// What of a list of steps reaches one run, of that name and of the state of that number: the
-    /// calls that reach it where the steps are those of a new world, of this one's scene and users,
-    /// in which memory refuses nothing, each with its pass and its moment; a reload among the steps
-    /// is taken. Want of memory while this is found out is the error. This world stays as it is.
+    /// calls that reach it if the steps are those of a new world, of this one's scene and users, in
+    /// which memory refuses nothing, each with its pass and its moment; a reload among the steps is
+    /// taken. The error is out of memory while this is found out. This world stays as it is.
     pub fn project(
         &self,
         alloc: Global,
@@ -107,7 +107,7 @@ impl World {
         let mut world = self.watching(alloc, RunKey::new(number, name))?;
         for step in steps {
             let copy = step.try_clone(alloc)?;
-            if world.step(alloc, copy).tells_want() {
+            if world.step(alloc, copy).says_out_of_memory() {
                 return Err(AllocError);
             }
         }

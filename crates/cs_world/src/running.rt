@@ -11,12 +11,13 @@ ghost use Rattle.cs_world.specs.Worlds.{new_world};
 use crate::reply::Reply;
 use crate::step::Step;
 use crate::world::World;
+use cs_names::laws::know;
 use std::alloc::{AllocError, Global};
 
 impl World {
     /// Takes steps, one after the other; their replies. The memory for the replies is taken first:
-    /// where it is refused, no step was taken, and they come back. Where steps led to this world,
-    /// each call is refused for want of memory or room, or denied by the first rule that fails, or
+    /// if there is none, no step was taken, and they come back. If steps led to this world, each
+    /// call is refused, out of memory or of room, or denied by the first rule that fails, or
     /// granted with its effect; no other run changes; and each run that is there then began as the
     /// state of its number, which a crash may leave. Of a new world's steps, no run reaches
     /// another.
@@ -44,7 +45,7 @@ impl World {
             replies.push_reserved(self.step(alloc, step));
         }
         // a crash may leave each state of the scene's plan
-        let _scene = self.scene();
+        know(self.scene());
         Ok(replies)
     }
 }

@@ -1,6 +1,6 @@
 //! The runs of a world, as the port of its connections.
 
-use crate::attended::AttendedRun;
+use crate::attended::RunWithPasses;
 use crate::reply::{Reply, StateFault};
 use cs_names::{RuleId, Text};
 use cs_permit::{Call, TreeName};
@@ -15,7 +15,7 @@ use std::marker::Model;
 /// The published states of a scene, and their runs. Contracts see the registry.
 #[derive(Drop)]
 pub struct Runs {
-    pub(crate) states: States<AttendedRun>,
+    pub(crate) states: States<RunWithPasses>,
 }
 
 impl Model for Runs {
@@ -33,12 +33,12 @@ impl Model for Runs {
 impl Runs {
     ghost use Rattle.std.specs.Prelude.{◌≡◌};
     ghost use Rattle.cs_world.specs.Marks.{WorldMark};
-    ghost use Rattle.cs_world.specs.Publishing.{published};
-    ghost use Rattle.cs_world.specs.Reloading.{reloaded};
+    ghost use Rattle.cs_world.specs.Publishing.{publish_step};
+    ghost use Rattle.cs_world.specs.Reloading.{reload_step};
 
     /// Makes the state of that number and publishes it.
     pub(crate) fn publish(&mut self, alloc: Global, number: u32) -> Reply
-        ensures { (mark : WorldMark) × ((result, self.new) ≡ published self.old number mark) }
+        ensures { (mark : WorldMark) × ((result, self.new) ≡ publish_step self.old number mark) }
     {
         let state = match Scene::make(alloc, self.states.scene(), number) {
             Ok(state) => state,
@@ -56,7 +56,7 @@ impl Runs {
 
     /// Loads another list of users: a run that is there keeps the one with which it was made.
     pub(crate) fn reload(&mut self, alloc: Global, users: Users) -> Reply
-        ensures { (mark : WorldMark) × ((result, self.new) ≡ reloaded self.old users mark) }
+        ensures { (mark : WorldMark) × ((result, self.new) ≡ reload_step self.old users mark) }
     {
         match self.states.reload(alloc, users) {
             Ok(()) => Reply::Reloaded,

@@ -1,5 +1,5 @@
 //! Steps of a connection over the runs.
-ghost use Rattle.cs_session.specs.Steps.{IsTaken};
+ghost use Rattle.cs_session.specs.Steps.{IsStepTaken};
 ghost use Rattle.cs_world.specs.ConnectionSteps.{session_step};
 
 use crate::step::ConnectionStep;
@@ -14,7 +14,7 @@ pub(crate) fn take<P: Port>(
     now: u32,
     step: ConnectionStep,
 ) -> Reply
-    ensures { IsTaken P.gives now session.old runs.old (session_step step) result session.new
+    ensures { IsStepTaken P.gives now session.old runs.old (session_step step) result session.new
         runs.new }
 {
     match step {

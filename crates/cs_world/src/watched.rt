@@ -1,7 +1,7 @@
 //! The runs of a world, with what reaches one of them.
 ghost use Rattle.std.specs.Prelude.{◌≡◌, false, IfOk};
 ghost use Rattle.cs_permit.specs.declared.call.Call.TheVariants.{Attach};
-ghost use Rattle.cs_world.specs.Projections.{stands_at};
+ghost use Rattle.cs_world.specs.Projections.{is_at};
 ghost use Rattle.cs_world.specs.Watching.{NotesAttach, NotesCall, NotesOne};
 
 use crate::run_call::RunCall;
@@ -14,7 +14,7 @@ use cs_session::{FindFault, PassFault, Port};
 use std::alloc::{AllocError, Global};
 
 /// The runs of a world, which are the port of its connections, and what reached the run of a key.
-/// It is short where memory for a note was refused.
+/// It is short if there was no memory for a note.
 #[derive(Drop)]
 pub(crate) struct WatchedRuns {
     pub(crate) runs: Runs,
@@ -24,9 +24,9 @@ pub(crate) struct WatchedRuns {
 }
 
 impl WatchedRuns {
-    /// Whether the run of the key stands at that place.
-    fn stands_at(&self, place: u32) -> bool
-        ensures { result ≡ stands_at self.now.runs self.now.key place }
+    /// Whether the run of the key is at that place.
+    fn is_at(&self, place: u32) -> bool
+        ensures { result ≡ is_at self.now.runs self.now.key place }
     {
         match self.runs.states.place_of(&self.key) {
             Some(found) => found == place,
@@ -70,7 +70,7 @@ impl WatchedRuns {
         }
     }
 
-    /// Notes an attach that got a pass, if it reaches the run. One that got none is taken for want
+    /// Notes an attach that got a pass, if it reaches the run. One that got none is taken as out
     /// of memory.
     fn note_attach(
         &mut self,
@@ -110,7 +110,7 @@ impl Port for WatchedRuns {
         run: u32,
         user: Text,
     ) -> Result<(u32, Answer), PassFault> {
-        let reaches = self.stands_at(run);
+        let reaches = self.is_at(run);
         let call = attach_of(&user);
         let given = self.runs.attach(alloc, now, run, user);
         self.note_attach(reaches, now, call, &given);
@@ -118,7 +118,7 @@ impl Port for WatchedRuns {
     }
 
     fn call(&mut self, alloc: Global, now: u32, run: u32, pass: u32, call: Call<'_>) -> Answer {
-        let reaches = self.stands_at(run);
+        let reaches = self.is_at(run);
         self.note_call(alloc, reaches, pass, now, &call);
         self.runs.call(alloc, now, run, pass, call)
     }

@@ -1,11 +1,11 @@
 //! All states of a scene, published by workers in a registry that threads share.
 ghost use Rattle.std.specs.Arc.{arc_value};
-ghost use Rattle.cs_shared.specs.Serving.{IsOnly, ServesAll};
+ghost use Rattle.cs_shared_runs.specs.Serving.{IsOnly, ServesAll};
 
 use cs_bench::{Row, Total};
 use cs_plan::Scene;
 use cs_publish::{NoGate, publish_own_into};
-use cs_shared::{Served, SharedRegistry};
+use cs_shared_runs::{ServerBrand, SharedRegistry};
 use cs_users::Users;
 use std::alloc::Global;
 use std::io;
@@ -17,7 +17,7 @@ use std::time::Instant;
 
 /// A registry of the scene with all states published, by so many workers. None if some state is
 /// missing then.
-fn published<S: Served, R: Threads + Wait + Sync>(
+fn published<S: ServerBrand, R: Threads + Wait + Sync>(
     rt: &R,
     alloc: Global,
     scene: Arc<Scene>,
@@ -38,7 +38,7 @@ fn published<S: Served, R: Threads + Wait + Sync>(
 }
 
 /// Publishes the states once more. How long the registry takes to be let go doesn't count.
-fn time_scene<S: Served, R: Threads + Wait + Sync + Clock>(
+fn time_scene<S: ServerBrand, R: Threads + Wait + Sync + Clock>(
     rt: &R,
     alloc: Global,
     scene: Arc<Scene>,

@@ -11,8 +11,8 @@ const ASKED: u64 = 500;
 /// What each group's file has: all rights for its group, and none for others.
 const GROUP_ALONE: u32 = 0o070;
 
-/// The names of members of the group.
-fn asked(alloc: Global, size: Size) -> Option<Vec<String>> {
+/// The names of members of the group, all over the file.
+fn names_of_members(alloc: Global, size: Size) -> Option<Vec<String>> {
     let mut names = Vec::new(alloc);
     for index in 0..ASKED {
         let place = size.member(index.wrapping_mul(7_919));
@@ -30,7 +30,7 @@ pub struct Membership<'a> {
 
 impl<'a> Membership<'a> {
     pub fn of(alloc: Global, users: &'a Users, size: Size) -> Option<Membership<'a>> {
-        let names = asked(alloc, size)?;
+        let names = names_of_members(alloc, size)?;
         Some(Membership { users, names })
     }
 }
@@ -55,7 +55,7 @@ pub struct MayRead<'a> {
 
 impl<'a> MayRead<'a> {
     pub fn of(alloc: Global, users: &'a Users, size: Size) -> Option<MayRead<'a>> {
-        let names = asked(alloc, size)?;
+        let names = names_of_members(alloc, size)?;
         Some(MayRead { users, names })
     }
 }

@@ -3,7 +3,8 @@
 use cs_users::Users;
 use std::alloc::{AllocError, Global};
 
-/// How many lines a users file has, and how many of its users the group of its first line has as members.
+/// How many lines a users file has, and how many of its users the group of its first line has as
+/// members.
 #[derive(Clone, Copy)]
 pub struct Size {
     pub lines: u64,

@@ -1,5 +1,5 @@
-//! Memberships and rights, timed among users of few lines and of many. Run by hand with the word `time`, each row
-//! tells how long its work takes, and whether it is within its bound.
+//! Memberships and rights, timed among users of few lines and of many. Run by hand with the word
+//! `time`, each row tells how long its work takes, and whether it is within its bound.
 #![tactic(auto)]
 
 mod asking;
@@ -11,8 +11,8 @@ use cs_bench::{Row, Work, compare};
 use std::rt::Clock;
 use std::{env, io};
 
-/// A short users file, a long one, one whose group is the largest that is searched by halves, and one in which all are
-/// members of the group.
+/// A short users file, a long one, one whose group is the largest that is searched by halves, and
+/// one in which all are members of the group.
 const FEW: Size = Size {
     lines: 5,
     members: 4,

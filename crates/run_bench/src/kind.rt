@@ -29,8 +29,8 @@ pub fn blocks(alloc: Global) -> Option<Vec<u8>> {
     vec![in alloc; 9u8; BLOCK * 2].ok()
 }
 
-/// The bytes of a write. Those of the next lie further on by a message, as on a connection: how fast
-/// a processor copies depends on where in their pages both places lie.
+/// The bytes of a write. Those of the next lie further on by a message, as on a connection: how
+/// fast a processor copies depends on where in their pages both places lie.
 fn written(blocks: &[u8], place: u64) -> Option<&[u8]> {
     let begin = (place.wrapping_mul(MESSAGE) % BLOCK as u64) as usize;
     blocks.get(begin..begin + BLOCK)

@@ -28,7 +28,7 @@ impl Link {
     pub fn read(&mut self) -> io::Result<bool> {
         self.framer.make_room();
         let count = self.stream.read(self.framer.room())?;
-        self.framer.took(count);
+        self.framer.advance(count);
         Ok(count > 0)
     }
 

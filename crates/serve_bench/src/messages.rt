@@ -1,7 +1,7 @@
 //! The messages that a client sends, as bytes.
 
 use crate::kind::{BLOCK, Kind};
-use cs_wire::{TBody, TMessage, encode_t};
+use cs_wire::{TBody, TMessage, encode_request};
 use std::alloc::{AllocError, Global};
 use std::io;
 
@@ -30,7 +30,7 @@ fn spelled(alloc: Global, body: TBody<'_>) -> io::Result<Vec<u8>> {
         return Err(io::Error::from(io::ErrorKind::InvalidInput));
     }
     let mut bytes = Vec::new(alloc);
-    encode_t(&message, &mut bytes)?;
+    encode_request(&message, &mut bytes)?;
     Ok(bytes)
 }
 

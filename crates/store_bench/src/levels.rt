@@ -1,4 +1,5 @@
-//! An overlay over a crash state, in which nothing was changed, beside the same state as a plain store.
+//! An overlay over a crash state, in which nothing was changed, beside the same state as a plain
+//! store.
 ghost use Rattle.std.specs.Prelude.{◌≡◌, length};
 ghost use Rattle.cs_micro.specs.Legal.{AreLegal};
 ghost use Rattle.cs_micro.specs.Micros.{block_of_version, micros_in};

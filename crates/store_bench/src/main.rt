@@ -1,5 +1,6 @@
-//! What lies below the server, timed: traces that are read, trees, states, and files of the largest size. Run by
-//! hand with the word `time`, each row tells how long its work takes, and whether it is within its bound.
+//! What lies below the server, timed: traces that are read, trees, states, and files of the largest
+//! size. Run by hand with the word `time`, each row tells how long its work takes, and whether it
+//! is within its bound.
 #![tactic(auto)]
 
 mod large;

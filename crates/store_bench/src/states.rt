@@ -150,7 +150,8 @@ fn keep(
     Ok(total)
 }
 
-/// Keeps all states of a trace, with holes if they are asked for, and makes plain stores beside them.
+/// Keeps all states of a trace, with holes if they are asked for, and makes plain stores beside
+/// them.
 fn keep_beside(
     rt: &(impl Clock + Files + Print + AllocGlobal),
     (what, each): (&str, &str),

@@ -10,7 +10,7 @@ use cs_plan::{Built, Scene};
 use cs_run::Answer;
 use cs_session::{FindFault, PassFault, Port, Session};
 use cs_users::Users;
-use cs_wire::{RBody, encode};
+use cs_wire::{RBody, encode_reply};
 use std::alloc::Global;
 use std::marker::Model;
 use std::sync::Arc;
@@ -108,6 +108,6 @@ impl Alone {
             return None;
         }
         out.clear();
-        encode(&reply, out).ok()
+        encode_reply(&reply, out).ok()
     }
 }

@@ -1,7 +1,7 @@
 //! Messages as bytes, and what they come to.
 
 use cs_names::limits::CONNECTIONS;
-use cs_wire::{RBody, RMessage, TBody, TMessage, encode, encode_t};
+use cs_wire::{RBody, RMessage, TBody, TMessage, encode_reply, encode_request};
 use cs_world::World;
 use std::alloc::Global;
 
@@ -12,7 +12,7 @@ pub fn spelled(alloc: Global, body: TBody<'_>) -> Option<Vec<u8>> {
         return None;
     }
     let mut bytes = Vec::new(alloc);
-    encode_t(&message, &mut bytes).ok()?;
+    encode_request(&message, &mut bytes).ok()?;
     Some(bytes)
 }
 
@@ -33,7 +33,7 @@ pub fn send_on(
         return None;
     }
     out.clear();
-    encode(&reply, out).ok()
+    encode_reply(&reply, out).ok()
 }
 
 /// Sends a message on the connection 0.

@@ -1,5 +1,7 @@
--- What stands at a path after a set's operations: what stood there after the last of them that touches it.
-use Rattle.std.proofs.Common.{◌≡◌, ◌≢◌, ℕ, zero, suc, ◌<◌, ◌≤◌, Bool, true, false, cond, ◌&&◌, List, ◌⊎◌, inl, inr, refl, sym, ap, ◌∙◌, subst, arith, ⊎_elim}
+-- What stands at a path after a set's operations: what stood there after the last of them that
+-- touches it.
+use Rattle.std.proofs.Common.{◌≡◌, ◌≢◌, ℕ, zero, suc, ◌<◌, ◌≤◌, Bool, true, false, cond, ◌&&◌, List}
+use Rattle.std.proofs.Common.{◌⊎◌, inl, inr, refl, sym, ap, ◌∙◌, subst, arith, ⊎_elim}
 use Rattle.std.proofs.lemmas.Bool.{cases_eq, false≢true, cases_Bool, and_parts}
 use Rattle.std.specs.FinMap.{get}
 use Rattle.cs_tree_model.specs.Tree.{Path}
@@ -39,24 +41,39 @@ module _ (start : Paths) (ops : List MicroOp) (has : ℕ → Bool) where
   cut_by p (suc k) = ⊎_elim
       (λ (yes : (has k && touches (op_at ops k) p) ≡ true).
       let b = and_parts (has k) (touches (op_at ops k) p) yes in
-      inr (record { place = k; next = ap (λ t. cond t (suc k) (cut ops has p k)) yes; below = omega arith; member = b.0; touching = b.1 }))
+      inr (record {
+        place = k;
+        next = ap (λ t. cond t (suc k) (cut ops has p k)) yes;
+        below = omega arith;
+        member = b.0;
+        touching = b.1;
+      }))
       (λ (no_member : (has k && touches (op_at ops k) p) ≡ false).
-      let same : cut ops has p (suc k) ≡ cut ops has p k = ap (λ t. cond t (suc k) (cut ops has p k)) no_member in
+      let same : cut ops has p (suc k) ≡ cut ops has p k =
+      ap (λ t. cond t (suc k) (cut ops has p k)) no_member in
       ⊎_elim
       (λ (z : cut ops has p k ≡ 0). inl (same ∙ z))
-      (λ (c : IsCutBy ops has p k (cut ops has p k)). inr (record { place = c.place; next = same ∙ c.next; below = (let l = c.below in omega arith); member = c.member; touching = c.touching }))
+      (λ (c : IsCutBy ops has p k (cut ops has p k)). inr (record {
+        place = c.place;
+        next = same ∙ c.next;
+        below = (let l = c.below in omega arith);
+        member = c.member;
+        touching = c.touching;
+      }))
       (cut_by p k))
       (cases_Bool (has k && touches (op_at ops k) p))
 
   -- from the cut on none of the set touches p
-  pub after_cut : (p : Path) (k : ℕ) → NonePass (λ i. has i && touches (op_at ops i) p) (cut ops has p k) k
+  pub after_cut : (p : Path) (k : ℕ)
+      → NonePass (λ i. has i && touches (op_at ops i) p) (cut ops has p k) k
   after_cut p zero i le lt = absurd (omega (arith, lt))
   after_cut p (suc k) i le lt = ⊎_elim
       (λ (yes : (has k && touches (op_at ops k) p) ≡ true).
       let here : cut ops has p (suc k) ≡ suc k = ap (λ t. cond t (suc k) (cut ops has p k)) yes in
       absurd (omega (arith, here, le, lt)))
       (λ (no_member : (has k && touches (op_at ops k) p) ≡ false).
-      let same : cut ops has p (suc k) ≡ cut ops has p k = ap (λ t. cond t (suc k) (cut ops has p k)) no_member in
+      let same : cut ops has p (suc k) ≡ cut ops has p k =
+      ap (λ t. cond t (suc k) (cut ops has p k)) no_member in
       ⊎_elim
       (λ (e : i ≡ k). ap (λ j. has j && touches (op_at ops j) p) e ∙ no_member)
       (λ (e : i ≢ k). after_cut p k i (subst (λ c. c ≤ i) same le) (omega (arith, lt, e)))
@@ -66,11 +83,13 @@ module _ (start : Paths) (ops : List MicroOp) (has : ℕ → Bool) where
   pub cut_below : (p : Path) (k : ℕ) → cut ops has p k ≤ k
   cut_below p k = ⊎_elim
       (λ (z : cut ops has p k ≡ 0). omega (arith, z))
-      (λ (c : IsCutBy ops has p k (cut ops has p k)). (let n = c.next in let l = c.below in omega (arith, n, l)))
+      (λ (c : IsCutBy ops has p k (cut ops has p k)).
+      (let n = c.next in let l = c.below in omega (arith, n, l)))
       (cut_by p k)
 
   -- what no operation between touches stays
-  pub steady : (p : Path) (a b : ℕ) → a ≤ b → NonePass (λ i. touches (op_at ops i) p) a b → get (whole a) p ≡ get (whole b) p
+  pub steady : (p : Path) (a b : ℕ) → a ≤ b → NonePass (λ i. touches (op_at ops i) p) a b
+      → get (whole a) p ≡ get (whole b) p
   steady p a zero le none = let e : a ≡ 0 = omega (arith, le) in ap (λ k. get (whole k) p) e
   steady p a (suc b) le none = ⊎_elim
       (λ (e : a ≡ suc b). ap (λ k. get (whole k) p) e)
@@ -80,7 +99,8 @@ module _ (start : Paths) (ops : List MicroOp) (has : ℕ → Bool) where
 
   module _ (needs : HasNeeds ops has) where
     -- before a member that touches p all is done that touches p
-    pub current : (p : Path) (k : ℕ) → has k ≡ true → touches (op_at ops k) p ≡ true → get (whole (cut ops has p k)) p ≡ get (whole k) p
+    pub current : (p : Path) (k : ℕ) → has k ≡ true → touches (op_at ops k) p ≡ true
+        → get (whole (cut ops has p k)) p ≡ get (whole k) p
     current p k member touching = steady p (cut ops has p k) k (cut_below p k) (λ i le lt. ⊎_elim
         (λ (yes : touches (op_at ops i) p ≡ true).
         let has_i = needs.path i k p lt member yes touching in
@@ -92,8 +112,11 @@ module _ (start : Paths) (ops : List MicroOp) (has : ℕ → Bool) where
     shown zero p = refl
     shown (suc k) p = ⊎_elim
         (λ (member : has k ≡ true). rw member (⊎_elim
-        (λ (touching : touches (op_at ops k) p ≡ true). rw touching (agree (left k) (whole k) (op_at ops k) (λ q t. shown k q ∙ current q k member t) p touching))
-        (λ (free : touches (op_at ops k) p ≡ false). rw free (untouched (left k) (op_at ops k) p free ∙ shown k p))
+        (λ (touching : touches (op_at ops k) p ≡ true). rw touching
+        (agree (left k) (whole k) (op_at ops k) (λ q t. shown k q ∙ current q k member t) p
+        touching))
+        (λ (free : touches (op_at ops k) p ≡ false). rw free
+        (untouched (left k) (op_at ops k) p free ∙ shown k p))
         (cases_Bool (touches (op_at ops k) p))))
         (λ (other : has k ≡ false). rw other (shown k p))
         (cases_Bool (has k))

@@ -1,5 +1,5 @@
 //! Archives against headers that another program made.
-use cs_archive::{States, tar_of};
+use cs_archive::{StateRange, States, tar_of};
 use cs_serve::Inputs;
 use std::alloc::Global;
 use std::process::Abort;
@@ -14,7 +14,8 @@ const TRACE: &str = r#"{"trace":1,"owner":"cat","group":"staff","mode":"775"}
 "#;
 
 /// Bytes at an offset.
-struct Part(usize, &'static [u8]);
+#[derive(Drop)]
+pub struct Part(pub usize, pub &'static [u8]);
 
 /// Parts of the archive of both, at their offsets, as GNU tar 1.34 writes the same entries.
 const PARTS: [Part; 11] = [
@@ -47,15 +48,22 @@ const GIVEN_AWAY_PARTS: [Part; 4] = [
     Part(809, b"staff\0"),
 ];
 
-/// What the command came to.
+/// What the command wrote, and its status.
 #[derive(Drop)]
-struct Made {
-    out: Vec<u8>,
-    err: Vec<u8>,
-    status: u8,
+pub struct Made {
+    pub out: Vec<u8>,
+    pub err: Vec<u8>,
+    pub status: u8,
 }
 
-fn tar(alloc: Global, trace: &str, states: States) -> Made {
+pub fn tar_from(alloc: Global, inputs: &Inputs, states: &States) -> Made {
+    let mut out = Vec::new(alloc);
+    let mut err = Vec::new(alloc);
+    let status = tar_of(alloc, inputs, states, &mut out, &mut err);
+    Made { out, err, status }
+}
+
+fn tar(alloc: Global, trace: &str, states: &States) -> Made {
     let inputs = Inputs {
         users: &[],
         trace: trace.as_bytes(),
@@ -63,14 +71,16 @@ fn tar(alloc: Global, trace: &str, states: States) -> Made {
         holes: false,
         verbose: false,
     };
-    let mut out = Vec::new(alloc);
-    let mut err = Vec::new(alloc);
-    let status = tar_of(alloc, &inputs, states, &mut out, &mut err);
-    Made { out, err, status }
+    tar_from(alloc, &inputs, states)
 }
 
-/// Whether these bytes stand at the offset.
-fn stands_at(out: &[u8], part: &Part) -> bool {
+/// The states from one number to another.
+fn range(rt: &impl Abort, alloc: Global, first: u32, last: u32) -> States {
+    States::Each(Vec::from_array(alloc, [StateRange { first, last }]).expect(rt, "memory"))
+}
+
+/// Whether these bytes are at the offset.
+fn is_at(out: &[u8], part: &Part) -> bool {
     match out.split_at_checked(part.0) {
         Some((_, rest)) => rest.starts_with(part.1),
         None => false,
@@ -78,31 +88,38 @@ fn stands_at(out: &[u8], part: &Part) -> bool {
 }
 
 /// Looks at the length of an archive, and at parts of it.
-fn expect_archive(rt: &impl Abort, made: &Made, length: usize, parts: &[Part]) {
+pub fn expect_archive(rt: &impl Abort, made: &Made, length: usize, parts: &[Part]) {
     assert!(rt; made.status == 0 && made.err.is_empty());
     assert_eq!(rt; made.out.len(), length);
     for part in parts {
-        assert!(rt; stands_at(&made.out, part), "at {}", part.0);
+        assert!(rt; is_at(&made.out, part), "at {}", part.0);
     }
 }
 
+/// The start tree in two states: 7,168 bytes, with names, modes, owners, sums and the bytes of `f`
+/// where GNU tar 1.34 has them; of one state 4,096 bytes, and the root is `./`.
 #[test]
 fn two_states_make_one_archive(rt: HostRuntime) {
-    let both = tar(rt.alloc(), TRACE, States::Range(0, 1));
+    let alloc = rt.alloc();
+    let both = tar(alloc, TRACE, &range(&rt, alloc, 0, 1));
     expect_archive(&rt, &both, 7_168, &PARTS);
-    let one = tar(rt.alloc(), TRACE, States::One(1));
+    let one = tar(alloc, TRACE, &States::One(1));
     expect_archive(&rt, &one, 4_096, &[Part(0, b"./\0")]);
 }
 
+/// A file that is made (ann, 644), whose mode is set to 600 and its owner to bob: the last state
+/// has `0000600`, `bob` and `staff`, and the sum that GNU tar 1.34 has.
 #[test]
 fn owners_and_modes_are_those_of_the_state(rt: HostRuntime) {
-    let made = tar(rt.alloc(), GIVEN_AWAY, States::One(3));
+    let made = tar(rt.alloc(), GIVEN_AWAY, &States::One(3));
     expect_archive(&rt, &made, 2_048, &GIVEN_AWAY_PARTS);
 }
 
+/// A state past the plan: `no such state`, status 1, and nothing is written.
 #[test]
 fn a_state_past_the_plan_is_told(rt: HostRuntime) {
-    let made = tar(rt.alloc(), TRACE, States::Range(1, 2));
+    let alloc = rt.alloc();
+    let made = tar(alloc, TRACE, &range(&rt, alloc, 1, 2));
     assert!(rt; made.status == 1 && made.out.is_empty());
     assert!(rt; made.err.as_slice() == b"crashfs: no such state\n".as_slice());
 }

@@ -4,7 +4,8 @@ use cs_serve::Inputs;
 use std::alloc::Global;
 use std::process::Abort;
 
-/// A log is made and waited for, a record is put into it, a text is told, and another file gets a byte.
+/// A log is made and waited for, a record is put into it, a text is told, and another file gets a
+/// byte.
 const TRACE: &str = r#"{"trace":1,"owner":"kv","group":"kv","mode":"750"}
 {"start":"file","path":"/t","owner":"kv","group":"kv","mode":"640","bytes":""}
 {"op":"creat","path":"/log","owner":"kv","group":"kv","mode":"640"}
@@ -56,12 +57,17 @@ fn expect_picks(rt: &impl Abort, alloc: Global, trace: &str, family: Family, wan
     assert!(rt; out.as_slice() == wanted);
 }
 
+/// A log that is waited for, a record in it, a byte in another file, a sync of the log and a text:
+/// the sets of both families, by hand.
 #[test]
 fn families_of_a_small_store(rt: HostRuntime) {
     expect_picks(&rt, rt.alloc(), TRACE, Family::Lost, LOST);
     expect_picks(&rt, rt.alloc(), TRACE, Family::Files, FILES);
 }
 
+/// A file's mode is set, the root's too, the file is moved, waited for, and a text is told:
+/// `--files` gives `[0]`, `[0,2]` and `[0,2,3]`, in which the file stands at its new path with its
+/// old mode, and the root has its new one.
 #[test]
 fn a_file_may_lose_its_mode(rt: HostRuntime) {
     expect_picks(&rt, rt.alloc(), MODES, Family::Files, MODES_LOST);

@@ -1,5 +1,5 @@
 //! What `list` prints of the worked trace, and of one of version 2.
-use cs_lists::{ListOptions, list_with};
+use cs_list_lines::{ListOptions, list_with};
 use cs_serve::{Inputs, list_of};
 use std::alloc::Global;
 
@@ -105,18 +105,23 @@ fn listed(alloc: Global, trace: &str, options: Option<ListOptions>) -> (Vec<u8>,
 const LINES_AND_SAME: ListOptions = ListOptions {
     lines: true,
     same: true,
+    json: false,
 };
 
 const LINES: ListOptions = ListOptions {
     lines: true,
     same: false,
+    json: false,
 };
 
 const NEITHER: ListOptions = ListOptions {
     lines: false,
     same: false,
+    json: false,
 };
 
+/// The worked trace, with holes: each operation's line and path, and for each state the first with
+/// an equal tree.
 #[test]
 fn tells_lines_and_first_states(rt: HostRuntime) {
     let (out, status) = listed(rt.alloc(), STORE, Some(LINES_AND_SAME));
@@ -124,6 +129,9 @@ fn tells_lines_and_first_states(rt: HostRuntime) {
     assert_eq!(rt; std::str::from_utf8(&out).ok(), Some(LISTED));
 }
 
+/// A chmod that changes nothing, one that does, a rename, a chown, and a chmod of the root: of the
+/// first there is nothing, the others have their lines, and the two of the file the path at which
+/// it then stands.
 #[test]
 fn tells_where_a_file_was_whose_rights_are_set(rt: HostRuntime) {
     let (out, status) = listed(rt.alloc(), GIVEN_AWAY, Some(LINES));
@@ -131,6 +139,7 @@ fn tells_where_a_file_was_whose_rights_are_set(rt: HostRuntime) {
     assert!(rt; out.starts_with(GIVEN_AWAY_LISTED.as_bytes()));
 }
 
+/// With no option it is what `list` prints.
 #[test]
 fn tells_no_more_than_is_asked_for(rt: HostRuntime) {
     let (out, status) = listed(rt.alloc(), STORE, Some(NEITHER));

@@ -2,9 +2,9 @@
 
 use super::scene::start_world;
 use cs_fids::NOFID;
-use cs_hoard::Hoard;
 use cs_names::Text;
 use cs_session::{AttachMessage, Reply, TableStep};
+use cs_test_memory::Hoard;
 use cs_world::{ConnectionStep, Step, World};
 use std::alloc::Global;
 use std::process::Abort;
@@ -45,12 +45,13 @@ fn finds(rt: &impl Abort, alloc: Global, world: &mut World) -> bool {
     matches!(reply, cs_world::Reply::Connection(Reply::Found))
 }
 
-/// Attaches to the run that was found, with no byte left: whether that is refused for want of memory.
+/// Attaches to the run that was found, with no byte left: whether that is refused for want of
+/// memory.
 fn is_refused(rt: &impl Abort, alloc: Global, hoard: &mut Hoard, world: &mut World) -> bool {
     hoard.close(alloc, 0).expect(rt, "memory");
     let reply = world.step(alloc, taken(ConnectionStep::Attach));
     hoard.open(alloc);
-    reply.tells_want()
+    reply.says_out_of_memory()
 }
 
 /// How many of 64 attaches were found and refused.
@@ -73,6 +74,7 @@ fn spend(rt: &impl Abort, alloc: Global, hoard: &mut Hoard) -> String {
     format!(in alloc; "{refused} {last:?}").expect(rt, "memory")
 }
 
+/// 64 attaches are refused after their finds: the next find is A5.
 #[test]
 fn an_attach_that_is_refused_is_among_the_64_of_its_run(rt: HostRuntime) {
     let mut hoard = Hoard::new(rt.alloc()).expect(&rt, "memory");

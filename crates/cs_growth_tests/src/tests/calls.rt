@@ -187,7 +187,8 @@ fn push_stat(text: &mut String, stat: &Stat) -> Option<()> {
     write!(text, " {mode:o} {length} {} {}", stat.atime, stat.mtime).ok()
 }
 
-/// Adds an answer. The texts in it are told as they are, which takes no memory. The number of an open is left out: a call that was refused before may count.
+/// Adds an answer. The texts in it are told as they are, which takes no memory. The number of an
+/// open is left out: a call that was refused before may count.
 pub fn push_answer(text: &mut String, answer: Answer) -> Option<()> {
     match answer {
         Answer::Opened { qid, number, .. } => write!(text, "open {qid:?} {number}").ok(),

@@ -2,8 +2,8 @@
 
 use super::messages::{attach, create, open, read, text, walk, walk_on, write, wstat};
 use super::rows::{Row, expect_no_growth, expect_swept};
-use cs_hoard::{End, Subject};
 use cs_session::{AttachMessage, CallMessage, TableStep};
+use cs_test_memory::{End, Subject};
 use std::alloc::{AllocError, Global};
 
 /// What is copied.
@@ -113,6 +113,8 @@ const NO_GROWTH: [Row<Word>; 4] = [
     Row("cs_session TableStep::try_clone", Word::HangUp),
 ];
 
+/// Copies of messages and of a version. That of a walk by no name, of an open, of a read and of a
+/// hang-up meets no growth.
 #[test]
 fn what_is_copied_stays_as_it_was(rt: HostRuntime) {
     expect_swept::<Word, Kept>(&rt, &ROWS);

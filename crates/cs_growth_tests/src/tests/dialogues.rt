@@ -1,4 +1,5 @@
-//! The dialogues whose messages are sent with a growth refused. With ample memory each has its replies.
+//! The dialogues whose messages are sent with a growth refused. With ample memory each has its
+//! replies.
 
 use super::scene::start_world;
 use super::talking::push_dialogue;
@@ -11,7 +12,8 @@ pub const FIRST: &str = r#"0 version 8192 9P2000 => Rversion tag 1 msize 8192 ve
 0 walk 0 1 f => Rwalk tag 1 wqid [(00 0 4)]
 0 open 1 0 => Ropen tag 1 qid (00 0 4) iounit 0
 0 read 1 0 64 => Rread tag 1 count 5 [104, 101, 108, 108, 111]
-0 stat 1 => Rstat tag 1 type 0 dev 0 qid (00 0 4) mode 664 atime 0 mtime 0 length 5 name "f" uid "ann" gid "staff" muid "ann"
+0 stat 1 => Rstat tag 1 type 0 dev 0 qid (00 0 4) mode 664 atime 0 mtime 0 length 5 name "f" uid
+    "ann" gid "staff" muid "ann"
 0 clunk 1 => Rclunk tag 1
 "#;
 
@@ -95,6 +97,7 @@ fn expect_told(rt: &(impl Abort + AllocGlobal), dialogue: &str) {
     assert!(rt; told.as_str() == dialogue, "{told}");
 }
 
+/// The five dialogues have their replies if memory is ample.
 #[test]
 fn no_message_is_always_out_of_memory(rt: HostRuntime) {
     for dialogue in &ALL {

@@ -1,9 +1,9 @@
-//! An open that removes its file on close, whose removal is refused: the open is released, and the file
-//! stays.
+//! An open that removes its file on close, whose removal is refused: the open is released, and the
+//! file stays.
 
 use super::scene::start_world;
 use super::talking::{ask, asked_by, push_dialogue, push_line};
-use cs_hoard::Hoard;
+use cs_test_memory::Hoard;
 use cs_world::World;
 use std::alloc::Global;
 use std::process::Abort;
@@ -17,8 +17,8 @@ const BEFORE: &str = r#"0 version 8192 9P2000 => Rversion tag 1 msize 8192 versi
 1 attach 0 ann 0/x => Rattach tag 1 qid (80 0 0)
 "#;
 
-/// How that open ends: a dialogue where the removal is refused in the first line, and the same where it
-/// is not.
+/// How that open ends: a dialogue where the removal is refused in the first line, and the same
+/// where it is not.
 struct Ending(&'static str, &'static str);
 
 const ENDINGS: [Ending; 3] = [
@@ -90,6 +90,9 @@ fn refusals(rt: &(impl Abort + AllocGlobal), hoard: &mut Hoard, ending: &Ending)
     0
 }
 
+/// ann has `/f` open with 0x41, and the removal is refused: in a clunk, `out of memory`, and the
+/// second is N1; in a hang-up, Closed; in a Tremove, `out of memory`, and the second is M1. Each
+/// time a walk to `f` gives number 4, vers 0, until the removal has its memory.
 #[test]
 fn a_removal_that_is_refused_releases_the_open_and_leaves_the_file(rt: HostRuntime) {
     let mut hoard = Hoard::new(rt.alloc()).expect(&rt, "memory");

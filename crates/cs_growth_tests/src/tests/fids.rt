@@ -2,9 +2,9 @@
 
 use super::rows::{Row, expect_swept};
 use super::start::user;
-use cs_fids::{Entry, Fid, FidFault, FidTable, Place, Walked};
-use cs_hoard::{End, Subject};
+use cs_fids::{Fid, FidEntry, FidFault, FidTable, Place, Walked};
 use cs_names::Name;
+use cs_test_memory::{End, Subject};
 use std::alloc::Global;
 
 #[derive(Clone, Copy)]
@@ -34,7 +34,7 @@ fn put_each(alloc: Global, table: &mut FidTable, count: u32) -> Option<()> {
         if !table.has_room() || number == u32::MAX {
             return None;
         }
-        let entry = Entry::Walked(fid(alloc, u64::from(number))?);
+        let entry = FidEntry::Walked(fid(alloc, u64::from(number))?);
         table.put(number, entry).ok()?;
     }
     Some(())
@@ -114,6 +114,7 @@ const ROWS: [Row<Call>; 5] = [
     Row("cs_fids FidTable::reserve", Call::Reserve(16)),
 ];
 
+/// A copy of a fid and of a place; room for one fid more among 0, 4 and 16.
 #[test]
 fn a_table_of_fids_stays_as_it_was(rt: HostRuntime) {
     expect_swept::<Call, Kept>(&rt, &ROWS);

@@ -4,10 +4,10 @@ use super::calls::{Word, call_of, mode_before, open, push_answer, read, stat};
 use super::rows::{Row, expect_no_growth, expect_swept};
 use super::scene::start_users;
 use super::start::{start_tree, user};
-use cs_hoard::{End, Subject};
 use cs_journal::{Pass, PassFault, Run, can_grow};
 use cs_permit::Call;
 use cs_run::Answer;
+use cs_test_memory::{End, Subject};
 use cs_tree::PlainTree;
 use std::alloc::Global;
 use std::sync::Arc;
@@ -157,8 +157,8 @@ impl Subject for Kept {
         }
     }
 
-    /// Asks of each file, and for the bytes of `/f` and the entries of the root. How many entries there
-    /// are isn't told: a call that is short of memory has one.
+    /// Asks of each file, and for the bytes of `/f` and the entries of the root. How many entries
+    /// there are isn't told: a call that is short of memory has one.
     fn tell(&mut self, alloc: Global, told: &mut String) -> Option<()> {
         for number in 0..8u64 {
             self.push(alloc, stat(number), told)?;
@@ -204,6 +204,8 @@ const CHANGES: [Row<Kind>; 7] = [
 
 const NO_GROWTH: [Row<Kind>; 1] = [Row("cs_journal Run::step", Kind::Step(Word::ClosePlainly))];
 
+/// The same on a run with a journal, a pass, and the answer of an entry. A close without remove on
+/// close, whose open stands, meets no growth at all.
 #[test]
 fn a_run_that_is_looked_at_stays_as_it_was(rt: HostRuntime) {
     expect_swept::<Kind, Kept>(&rt, &PASSES);
@@ -211,6 +213,8 @@ fn a_run_that_is_looked_at_stays_as_it_was(rt: HostRuntime) {
     expect_no_growth::<Kind, Kept>(&rt, &NO_GROWTH);
 }
 
+/// The same on a run with a journal, a pass, and the answer of an entry. A close without remove on
+/// close, whose open stands, meets no growth at all.
 #[test]
 fn a_run_stays_as_it_was(rt: HostRuntime) {
     expect_swept::<Kind, Kept>(&rt, &CHANGES);

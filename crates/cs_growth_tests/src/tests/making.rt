@@ -1,14 +1,14 @@
 //! Calls that make a tree: of records, of an overlay that changes no more, and over a lower tree.
 
-use super::allowed::{has_bytes, takes_changes};
 use super::rows::{Row, expect_swept};
 use super::shown::push_tree;
 use super::start::{start_overlay, start_records, start_tree, user};
-use cs_hoard::{End, Subject};
-use cs_lower::Lower;
+use cs_frozen::Lower;
 use cs_names::{Path, UserName};
 use cs_overlay::Overlay;
 use cs_overlay::laws::lower_stays;
+use cs_test_memory::{End, Subject};
+use cs_test_stores::{has_bytes, takes_changes};
 use cs_tree::{PlainTree, RecordsFault};
 use cs_tree_model::{Content, DMDIR, Record, Stamp};
 use std::alloc::Global;
@@ -191,6 +191,7 @@ const ROWS: [Row<Call>; 4] = [
     Row("cs_overlay laws::lower_stays", Call::Over),
 ];
 
+/// A tree of records; an overlay that is frozen, or given back; a write into one of two overlays.
 #[test]
 fn trees_are_made_or_not(rt: HostRuntime) {
     expect_swept::<Call, Maker>(&rt, &ROWS);

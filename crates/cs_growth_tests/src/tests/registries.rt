@@ -3,10 +3,10 @@ ghost use Rattle.std.specs.Prelude.{◌≡◌};
 
 use super::rows::{Row, expect_swept};
 use super::scene::{of_world, start_users};
-use cs_hoard::{End, Subject};
 use cs_names::RunName;
 use cs_plan::{Built, MakeFault, Scene};
 use cs_registry::{FindFault, Held, PublishFault, RunKey, States};
+use cs_test_memory::{End, Subject};
 use cs_users::Users;
 use std::alloc::{AllocError, Global};
 use std::sync::Arc;
@@ -175,6 +175,7 @@ const ROWS: [Row<Call>; 6] = [
     Row("cs_registry States::reload", Call::Reload),
 ];
 
+/// A registry that is made, a state that is published, a run that is found, users that are loaded.
 #[test]
 fn a_registry_stays_as_it_was(rt: HostRuntime) {
     expect_swept::<Call, Kept>(&rt, &ROWS);

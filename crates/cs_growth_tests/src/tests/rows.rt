@@ -1,6 +1,6 @@
 //! Tables of calls.
 
-use cs_hoard::{Hoard, Subject, sweep};
+use cs_test_memory::{Hoard, Subject, sweep};
 use std::process::Abort;
 
 /// A call by its name, and what it is made with.

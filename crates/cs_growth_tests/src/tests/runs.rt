@@ -5,10 +5,10 @@ use super::rows::{Row, expect_no_growth, expect_swept};
 use super::scene::start_users;
 use super::shown::push_tree;
 use super::start::{start_overlay, user};
-use cs_hoard::{End, Subject};
 use cs_overlay::Overlay;
 use cs_permit::Call;
 use cs_run::{Answer, CountedRun, Data, Opens, Outcome, Walk, read, walk};
+use cs_test_memory::{End, Subject};
 use cs_tree::PlainTree;
 use cs_users::Users;
 use std::alloc::Global;
@@ -88,7 +88,7 @@ fn call_in(alloc: Global, kind: Kind) -> Option<Call<'static>> {
     }
 }
 
-/// A run over the start tree, in which the call's file is open where the call ends an open.
+/// A run over the start tree, in which the call's file is open if the call ends an open.
 fn run_before(alloc: Global, kind: Kind) -> Option<CountedRun<Tree>> {
     let mut run = CountedRun::new(alloc, start_overlay(alloc)?, start_users(alloc)?);
     if let Kind::Step(word) = kind {
@@ -167,6 +167,8 @@ const NO_GROWTH: [Row<Kind>; 2] = [
     Row("cs_run CountedRun::step", Kind::Step(Word::ClosePlainly)),
 ];
 
+/// Each call that takes memory on a run without a journal; a close that would remove its file has
+/// released the open, and the file stays. An attach and a plain close meet no growth.
 #[test]
 fn a_tree_stays_as_it_was(rt: HostRuntime) {
     expect_swept::<Kind, Kept>(&rt, &ROWS);

@@ -2,13 +2,13 @@
 
 use super::messages::{attach, create, open, read, text, walk, write, wstat};
 use super::rows::{Row, expect_no_growth, expect_swept};
-use cs_hoard::{End, Subject};
 use cs_names::{RuleId, Text, Texts};
 use cs_permit::{Call, TreeName};
 use cs_run::Answer;
 use cs_session::{
     AttachMessage, CallMessage, FindFault, Message, PassFault, Port, Reply, Session, WalkMessage,
 };
+use cs_test_memory::{End, Subject};
 use cs_wire::{Qid, RBody, RMessage};
 use std::alloc::Global;
 
@@ -144,7 +144,7 @@ impl Kept {
         Some(())
     }
 
-    /// The reply to bytes: whether it tells want of memory.
+    /// The reply to bytes: whether it says out of memory.
     fn read_bytes(&mut self, alloc: Global) -> Option<End<Told>> {
         if self.session.awaits() {
             return None;
@@ -229,7 +229,8 @@ impl Subject for Kept {
         }
     }
 
-    /// Asks what each fid is: one that there isn't fails another rule, and so does one that is open.
+    /// Asks what each fid is: one that there isn't fails another rule, and so does one that is
+    /// open.
     fn tell(&mut self, alloc: Global, told: &mut String) -> Option<()> {
         write!(told, "{:?}", self.session.msize()).ok()?;
         for fid in 0..4u32 {
@@ -271,6 +272,7 @@ const NO_GROWTH: [Row<Word>; 6] = [
     Row("cs_session Session::hang_up", Word::HangUp),
 ];
 
+/// Steps and messages of a connection over a port that takes no memory.
 #[test]
 fn a_connection_stays_as_it_was(rt: HostRuntime) {
     expect_swept::<Word, Kept>(&rt, &ROWS);

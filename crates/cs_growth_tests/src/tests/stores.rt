@@ -1,14 +1,14 @@
 //! The calls of a store: a plain tree, and an overlay over one.
 
-use super::allowed::{
-    can_leave, has_bytes, takes_changes, takes_entries, takes_length, takes_mode, takes_name,
-};
 use super::rows::{Row, expect_swept};
 use super::shown::push_tree;
 use super::start::{start_overlay, start_tree, user};
-use cs_hoard::{End, Subject};
 use cs_names::Name;
 use cs_overlay::Overlay;
+use cs_test_memory::{End, Subject};
+use cs_test_stores::{
+    can_leave, has_bytes, takes_changes, takes_entries, takes_length, takes_mode, takes_name,
+};
 use cs_tree::PlainTree;
 use cs_tree_model::{Change, New, Stamp, TreeStore, is_empty};
 use std::alloc::{AllocError, Global};
@@ -233,11 +233,15 @@ const OF_OVERLAY: [Row<Call>; 9] = [
     Row("cs_overlay Overlay::change", Call::Regroup),
 ];
 
+/// A read, an add, a long write, another name, length and group, on the plain start tree; and with
+/// a remove on an overlay over it.
 #[test]
 fn a_plain_tree_stays_as_it_was(rt: HostRuntime) {
     expect_swept::<Call, Kept<PlainTree>>(&rt, &OF_PLAIN);
 }
 
+/// A read, an add, a long write, another name, length and group, on the plain start tree; and with
+/// a remove on an overlay over it.
 #[test]
 fn an_overlay_stays_as_it_was(rt: HostRuntime) {
     expect_swept::<Call, Kept<Overlay<PlainTree>>>(&rt, &OF_OVERLAY);

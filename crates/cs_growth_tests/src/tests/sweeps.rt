@@ -1,11 +1,11 @@
-//! Messages of which a growth is refused, each in its turn: want of memory is told, nothing has changed,
-//! and the same message again has its reply. A clunk or a remove has freed its fid.
+//! Messages of which a growth is refused, each in its turn: want of memory is told, nothing has
+//! changed, and the same message again has its reply. A clunk or a remove has freed its fid.
 
 use super::dialogues::{CREATES, FIRST, REMOVES, SHARED, WSTATS};
 use super::rows::FEW;
 use super::scene::start_world;
 use super::talking::{Asked, Told, ask, asked_by, push_asked, push_told, tells_memory};
-use cs_hoard::{End, Hoard, Subject, sweep};
+use cs_test_memory::{End, Hoard, Subject, sweep};
 use cs_world::World;
 use std::alloc::Global;
 use std::process::Abort;
@@ -39,7 +39,7 @@ impl Row {
         }
     }
 
-    /// Whether a fid is free also where memory is wanting.
+    /// Whether a fid is free also if it is out of memory.
     fn frees_fid(&self) -> bool {
         self.has(" clunk ") || self.has(" remove ")
     }
@@ -166,7 +166,8 @@ fn push_unmet(rt: &(impl Abort + AllocGlobal), hoard: &mut Hoard, unmet: &mut St
     unmet.push('\n').expect(rt, "memory");
 }
 
-/// Sends each message of a dialogue with its growths refused in turn. Those that meet none are told.
+/// Sends each message of a dialogue with its growths refused in turn. Those that meet none are
+/// told.
 fn expect_refused(rt: &(impl Abort + AllocGlobal), dialogue: &'static str, wanted: &str) {
     let mut hoard = Hoard::new(rt.alloc()).expect(rt, "memory");
     let mut unmet = String::new(rt.alloc());
@@ -177,28 +178,37 @@ fn expect_refused(rt: &(impl Abort + AllocGlobal), dialogue: &'static str, wante
     assert!(rt; unmet.as_str() == wanted, "{unmet}");
 }
 
+/// Version, attach, walk, open, read, stat. The clunk of the open fid meets no growth.
 #[test]
-fn the_first_exchange_is_told_want_of_memory(rt: HostRuntime) {
+fn the_first_exchange_is_answered_out_of_memory(rt: HostRuntime) {
     // The close of an open that stands, and doesn't remove its file.
     expect_refused(&rt, FIRST, "0 clunk 1 => Rclunk tag 1\n");
 }
 
+/// ann creates a file in `/d`, and a file and a directory in `/p`.
 #[test]
-fn creates_are_told_want_of_memory(rt: HostRuntime) {
+fn creates_are_answered_out_of_memory(rt: HostRuntime) {
     expect_refused(&rt, CREATES, "");
 }
 
+/// ann opens `/f` with 0x41, cat takes w on the root away, and ann's open with 0x40 on another
+/// connection is O9.
 #[test]
-fn who_may_remove_on_close_is_told_want_of_memory(rt: HostRuntime) {
+fn who_may_remove_on_close_is_answered_out_of_memory(rt: HostRuntime) {
     expect_refused(&rt, REMOVES, "");
 }
 
+/// bob's wstat of `/f` is Q12, and his of nothing is granted. ann's to `nosuch` is Q13, to `cat`
+/// Q14; to `ann`, and to another name, mode and length at once, it is granted.
 #[test]
-fn wstats_are_told_want_of_memory(rt: HostRuntime) {
+fn wstats_are_answered_out_of_memory(rt: HostRuntime) {
     expect_refused(&rt, WSTATS, "");
 }
 
+/// ann writes `HI` in run `0/a`. bob reads `hello` in `0/b`, and cat `HIllo` in `0/a`. ann removes
+/// `/f` by her open fid: after a refusal the second Tremove is M1. cat's clunk, of what is gone,
+/// meets no growth.
 #[test]
-fn those_who_share_a_run_are_told_want_of_memory(rt: HostRuntime) {
+fn those_who_share_a_run_are_answered_out_of_memory(rt: HostRuntime) {
     expect_refused(&rt, SHARED, "2 clunk 1 => Rclunk tag 1\n");
 }

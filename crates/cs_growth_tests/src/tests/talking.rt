@@ -1,8 +1,8 @@
 //! Dialogues with a world. Each line has what is asked, an arrow, and the reply. What is asked is a
 //! connection's number, and a message in words or `hangup`.
 
-use cs_asking::message_of;
 use cs_session::Reply;
+use cs_test_messages::message_of;
 use cs_wire::{RBody, RMessage};
 use cs_world::World;
 use std::alloc::Global;
@@ -11,7 +11,7 @@ use std::alloc::Global;
 #[derive(Drop)]
 pub struct Asked {
     conn: u32,
-    /// None where the connection hangs up.
+    /// None if the connection hangs up.
     message: Option<Vec<u8>>,
 }
 

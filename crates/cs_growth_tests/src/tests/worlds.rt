@@ -3,10 +3,10 @@
 use super::rows::{Row, expect_no_growth, expect_swept};
 use super::scene::{of_world, start_users};
 use cs_fids::NOFID;
-use cs_hoard::{End, Subject};
 use cs_names::{RunName, Text, Texts};
 use cs_plan::Scene;
 use cs_session::{AttachMessage, CallMessage, TableStep, WalkMessage};
+use cs_test_memory::{End, Subject};
 use cs_users::Users;
 use cs_wire::{RBody, RMessage};
 use cs_world::{ConnectionStep, Reply, RunCall, Step, World};
@@ -146,7 +146,7 @@ struct Kept {
 }
 
 fn end_of(reply: Reply) -> Option<End<Told>> {
-    if reply.tells_want() {
+    if reply.says_out_of_memory() {
         return Some(End::Short);
     }
     Some(End::Done(Told::Reply(reply)))
@@ -155,7 +155,7 @@ fn end_of(reply: Reply) -> Option<End<Told>> {
 /// None of the steps takes memory.
 fn end_of_all(replies: Vec<Reply>) -> Option<End<Told>> {
     for reply in &replies {
-        if reply.tells_want() {
+        if reply.says_out_of_memory() {
             return None;
         }
     }
@@ -300,6 +300,9 @@ const ROWS: [Row<Word>; 9] = [
 
 const NO_GROWTH: [Row<Word>; 1] = [Row("cs_world World::hang_up", Word::HangUp)];
 
+/// Steps of a world; a message; a list of steps, for whose replies memory is wanting before any
+/// step; a projection. An attach that is refused is awaited no more. A hang-up with nothing open
+/// meets no growth.
 #[test]
 fn a_world_stays_as_it_was(rt: HostRuntime) {
     expect_swept::<Word, Kept>(&rt, &ROWS);

@@ -75,6 +75,9 @@ const Y: &str = "ann stat\nbob walk";
 
 const Z: &str = "bob stat\nann stat";
 
+/// In the first ann makes a stat (2), then bob (3): its audit by both passes is ok, by ann's alone
+/// it is Count. In the second ann makes a stat and bob walks no names: the audit of the first by
+/// these passes is Changed(3). In the third bob makes his stat first: by these it is Missing(2).
 #[test]
 fn an_audit_tells_the_first_entry_without_its_own_receipt(rt: HostRuntime) {
     let mut x = after(&rt, X);
@@ -97,6 +100,8 @@ fn push_passes(rt: &impl Abort, passes: &mut Vec<Pass>, more: Vec<Pass>) {
 /// A run with as many entries as the passes of two others have receipts.
 const SEVEN: &str = "ann stat\nann stat\nann stat\nann stat\nann stat";
 
+/// By the passes of a run on which ann walked (2), and behind them those of the first run, a run on
+/// which she made a stat at 2 and four more is Changed(2): the first pass of her number counts.
 #[test]
 fn an_audit_takes_the_first_pass_of_a_number(rt: HostRuntime) {
     let mut passes = after(&rt, "ann walk").passes;
@@ -133,6 +138,8 @@ ann remove 8
 bob stat
 ann close 4";
 
+/// Stats, a walk, opens, writes, a remove and closes, some denied: the journal tells each answer as
+/// it was given, and None behind the last.
 #[test]
 fn a_journal_tells_each_answer_again(rt: HostRuntime) {
     let users = after(&rt, CALLS);
@@ -147,6 +154,8 @@ fn last_receipt(passes: &[Pass], place: usize) -> Option<&Receipt> {
     passes.get(place)?.receipts().last()
 }
 
+/// The last receipt of bob's pass in the first run: place 3, granted, and it is for a stat of that
+/// file.
 #[test]
 fn a_receipt_tells_its_entry(rt: HostRuntime) {
     let users = after(&rt, X);

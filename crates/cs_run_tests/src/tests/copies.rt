@@ -46,6 +46,7 @@ fn expect_copy(rt: &(impl Abort + AllocGlobal), words: &str) {
     assert!(rt; copy.as_str() == call.as_str(), "{copy}");
 }
 
+/// A copy of a call of each kind says the same.
 #[test]
 fn a_copy_of_each_call_says_the_same(rt: HostRuntime) {
     for words in CALLS.lines() {

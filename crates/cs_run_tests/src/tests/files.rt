@@ -2,6 +2,8 @@
 
 use super::world::run;
 
+/// bob walks from `/d` by `s`, `z`, `q`: one qid, and K7 stops him. From `/d/s` by `z` it is K7 at
+/// once, and ann goes on. zed's attach is A6.
 #[test]
 fn walk_stops_at_missing_search_right(rt: HostRuntime) {
     run(
@@ -17,6 +19,7 @@ fn walk_stops_at_missing_search_right(rt: HostRuntime) {
     );
 }
 
+/// `..` at the root is the root, no names are the same file, `.` is K8, and `..` of a file K6.
 #[test]
 fn walk_of_dot_dot_at_the_root_stays_there(rt: HostRuntime) {
     run(
@@ -30,6 +33,8 @@ fn walk_of_dot_dot_at_the_root_stays_there(rt: HostRuntime) {
     );
 }
 
+/// ann creates in `/d` with 0777: 0755. In `/p` with 0666: 0640, and a directory with 0777: 0750. A
+/// name that is there is C9, and bob has no right in `/d` (C8).
 #[test]
 fn create_takes_the_directory_as_a_mask(rt: HostRuntime) {
     run(
@@ -48,6 +53,7 @@ fn create_takes_the_directory_as_a_mask(rt: HostRuntime) {
     );
 }
 
+/// ann creates an exclusive file. bob's open is O10, and granted once she has closed hers.
 #[test]
 fn exclusive_file_is_open_once(rt: HostRuntime) {
     run(
@@ -61,6 +67,8 @@ fn exclusive_file_is_open_once(rt: HostRuntime) {
     );
 }
 
+/// A file with 0604 is open to bob by others' bits. none may not read `/n` (O6), may read `/f`, and
+/// may not write it (O7).
 #[test]
 fn open_asks_the_rights_of_its_mode(rt: HostRuntime) {
     run(
@@ -76,6 +84,9 @@ fn open_asks_the_rights_of_its_mode(rt: HostRuntime) {
     );
 }
 
+/// ann writes `HI` into `hello`: `HIllo`. A byte at 16,777,216 is E4, one before it is written, a
+/// read at 16,777,216 is empty, and four bytes at 1,048,576 are zeros. No byte at 20,000,000 is no
+/// change.
 #[test]
 fn write_may_reach_the_limit_of_a_file(rt: HostRuntime) {
     run(
@@ -95,6 +106,7 @@ fn write_may_reach_the_limit_of_a_file(rt: HostRuntime) {
     );
 }
 
+/// Two writes at 0 of an append-only file make `abcd`, and an open with 0x11 leaves them.
 #[test]
 fn append_only_file_grows_at_its_end(rt: HostRuntime) {
     run(
@@ -109,6 +121,8 @@ fn append_only_file_grows_at_its_end(rt: HostRuntime) {
     );
 }
 
+/// An open with 0x10 empties `/f`, its qid is the one after it, and of an empty file it is a change
+/// too. cat may not (O7); a directory is O5.
 #[test]
 fn open_that_truncates_is_a_change(rt: HostRuntime) {
     run(

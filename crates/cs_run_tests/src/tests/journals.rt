@@ -56,6 +56,8 @@ fn expect_stats(rt: &(impl Abort + AllocGlobal), side: &mut Side, count: u32) {
     }
 }
 
+/// An attach, a walk and an open make three entries and reserve one. 65,531 stats later an open is
+/// L1 and a stat is granted; the next stat is L1, the close is answered, and a stat is L1.
 #[test]
 fn an_open_reserves_the_entry_of_its_close(rt: HostRuntime) {
     let mut side = Side::new(&rt, rt.alloc());
@@ -82,6 +84,8 @@ stat => L1 journal full 65536 65536 0
     );
 }
 
+/// A write, a close of no open, an open, a remove of its fid and a stat of the file that is gone
+/// (H2) are an entry each; two opens reserve two, and the remove and the close use them.
 #[test]
 fn every_call_makes_an_entry(rt: HostRuntime) {
     let mut side = Side::new(&rt, rt.alloc());
@@ -131,6 +135,9 @@ const TURNED: &str = "attach\nwrite 0 hi\nstat";
 
 const OPENS: &str = "attach\nstat\nopen 0";
 
+/// A pass fits its run, and another on which the same calls were made, with other bytes written
+/// too; none with fewer places for closes, with its last two calls the other way round, or with a
+/// write at another offset.
 #[test]
 fn a_pass_fits_where_its_last_receipt_is_the_last_entry(rt: HostRuntime) {
     assert!(rt; !fits(&rt, WRITES_HI, TURNED));
@@ -140,6 +147,7 @@ fn a_pass_fits_where_its_last_receipt_is_the_last_entry(rt: HostRuntime) {
     assert!(rt; fits(&rt, OPENS, OPENS));
 }
 
+/// The 65th pass of a run is Room.
 #[test]
 fn a_run_gives_64_passes(rt: HostRuntime) {
     let mut run = run(&rt, rt.alloc());
@@ -151,6 +159,7 @@ fn a_run_gives_64_passes(rt: HostRuntime) {
     assert!(rt; run.entries() == 0);
 }
 
+/// An entry has 32 bytes, and so has a receipt.
 #[test]
 fn an_entry_and_a_receipt_have_32_bytes(rt: HostRuntime) {
     assert!(rt; size_of::<Entry>() == 32);

@@ -13,8 +13,9 @@ use std::sync::Arc;
 
 const HEADER: &str = "{\"trace\":1,\"owner\":\"cat\",\"group\":\"staff\",\"mode\":\"775\"}\n";
 
-const MKDIR: &str =
-    "{\"trace\":1,\"owner\":\"cat\",\"group\":\"staff\",\"mode\":\"775\"}\n{\"op\":\"mkdir\",\"path\":\"/d\",\"owner\":\"ann\",\"group\":\"staff\",\"mode\":\"755\"}\n";
+const MKDIR: &str = r#"{"trace":1,"owner":"cat","group":"staff","mode":"775"}
+{"op":"mkdir","path":"/d","owner":"ann","group":"staff","mode":"755"}
+"#;
 
 /// What is kept of a run in these tests: the number of its state, and what was noted.
 #[derive(Drop)]
@@ -82,6 +83,7 @@ fn publish_own(alloc: Global, states: &mut States<Note>, number: u32) -> Result<
     }
 }
 
+/// Of two states one is published, then again (Twice), then the other: 2, 1, 1 and 0 are missing.
 #[test]
 fn a_state_is_published_once(rt: HostRuntime) {
     let mut states = registry_of(&rt, MKDIR);
@@ -93,6 +95,8 @@ fn a_state_is_published_once(rt: HostRuntime) {
     assert!(rt; states.missing() == 0);
 }
 
+/// A state of a scene with other operations is a Stranger, under a number of the plan too; one of
+/// another scene of the same trace is taken.
 #[test]
 fn a_state_of_a_scene_of_other_content_is_a_stranger(rt: HostRuntime) {
     let mut states = registry_of(&rt, HEADER);
@@ -106,6 +110,7 @@ fn a_state_of_a_scene_of_other_content_is_a_stranger(rt: HostRuntime) {
     assert!(rt; states.missing() == 0);
 }
 
+/// A state of the registry's own scene is taken with no comparison, and is Twice then.
 #[test]
 fn a_state_of_its_own_scene_is_published_with_no_comparison(rt: HostRuntime) {
     let mut states = registry_of(&rt, HEADER);
@@ -126,6 +131,8 @@ fn find(
     }
 }
 
+/// Run `x` of state 0 is A4 before the state is published, and of state 1 after it. It is found 64
+/// times at place 0, and the 65th find is A5; run `y` is found at place 1.
 #[test]
 fn a_run_is_found_64_times_and_only_where_its_state_is_published(rt: HostRuntime) {
     let mut states = registry_of(&rt, HEADER);
@@ -150,6 +157,8 @@ fn expect_run(rt: &impl Abort, states: &States<Note>, place: u32, text: u32) {
     assert!(rt; key.number() == place && key.name() == "a");
 }
 
+/// Runs `a` of states 0 and 1 are two: what is written to the first is there at its next look, and
+/// not in the second.
 #[test]
 fn a_run_is_what_was_left_of_it_and_no_other_is(rt: HostRuntime) {
     let mut states = registry_of(&rt, MKDIR);
@@ -172,6 +181,7 @@ fn expect_numbered(rt: &(impl Abort + AllocGlobal), states: &mut States<Note>, n
     assert!(rt; states.find_key(rt.alloc(), key) == Ok(number));
 }
 
+/// 4,096 runs stand; one more is A5, and the last of them is found again. `A` is no run's name.
 #[test]
 fn a_new_run_is_one_of_4096(rt: HostRuntime) {
     let mut states = registry_of(&rt, HEADER);

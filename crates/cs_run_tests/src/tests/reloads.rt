@@ -139,6 +139,9 @@ fn expect(rt: &(impl Abort + AllocGlobal), states: &mut States<Own>, lines: &str
     assert!(rt; text.as_str() == lines, "{text}");
 }
 
+/// To run `x` bob is attached, and dan is A6. ann and dan are loaded: at `x` dan is A6 and bob
+/// attached, at `y` dan is attached and bob A6. There dan's open of `/f` to write is O7, and ann's
+/// is granted.
 #[test]
 fn a_run_keeps_the_users_with_which_it_was_made(rt: HostRuntime) {
     let mut states = registry(&rt, rt.alloc());
@@ -166,6 +169,7 @@ y ann open 1 1 => open 5 of 1: 1.0
     );
 }
 
+/// A list of ann and dan that is shared already is loaded: at `y` dan is attached, and bob A6.
 #[test]
 fn a_list_that_is_shared_already_is_loaded(rt: HostRuntime) {
     let mut states = registry(&rt, rt.alloc());

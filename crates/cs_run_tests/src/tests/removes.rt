@@ -2,6 +2,7 @@
 
 use super::world::run;
 
+/// bob removes `/f` and makes it again: number 7, and ann's fid on 4 is O4.
 #[test]
 fn removed_file_made_again_has_another_number(rt: HostRuntime) {
     run(
@@ -17,6 +18,7 @@ fn removed_file_made_again_has_another_number(rt: HostRuntime) {
     );
 }
 
+/// `/d` has entries (M5), the root can't go (M3), `/p` goes, and then is gone (M2).
 #[test]
 fn remove_refuses_the_root_and_a_directory_with_entries(rt: HostRuntime) {
     run(
@@ -30,6 +32,8 @@ fn remove_refuses_the_root_and_a_directory_with_entries(rt: HostRuntime) {
     );
 }
 
+/// ann opens `/f` with 0x41, cat takes the right in the root away (O9 for the next), and ann's
+/// close removes the file.
 #[test]
 fn close_removes_without_asking_again(rt: HostRuntime) {
     run(
@@ -44,6 +48,8 @@ fn close_removes_without_asking_again(rt: HostRuntime) {
     );
 }
 
+/// bob renames the file that ann opened with 0x40, and makes another under its name: her close
+/// removes the first.
 #[test]
 fn close_removes_the_file_under_its_new_name(rt: HostRuntime) {
     run(
@@ -59,6 +65,8 @@ fn close_removes_the_file_under_its_new_name(rt: HostRuntime) {
     );
 }
 
+/// bob removes the file that ann opened with 0x40, and makes another: her close leaves it. A close
+/// under another pass ends nothing.
 #[test]
 fn close_leaves_a_file_made_again(rt: HostRuntime) {
     run(
@@ -74,6 +82,7 @@ fn close_leaves_a_file_made_again(rt: HostRuntime) {
     );
 }
 
+/// A remove of an open fid that is denied (M4) ends the open and leaves the file, also with 0x40.
 #[test]
 fn denied_remove_ends_the_open_and_leaves_the_file(rt: HostRuntime) {
     run(

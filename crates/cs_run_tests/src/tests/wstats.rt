@@ -2,6 +2,8 @@
 
 use super::world::run;
 
+/// bob's wstat with a name and a mode is Q12, and the name stays. One that touches nothing is
+/// granted.
 #[test]
 fn wstat_that_is_denied_changes_nothing(rt: HostRuntime) {
     run(
@@ -16,6 +18,7 @@ fn wstat_that_is_denied_changes_nothing(rt: HostRuntime) {
     );
 }
 
+/// ann gives `/f` the group `nosuch` (Q13), `cat` (Q14) and `ann`: version 1.
 #[test]
 fn wstat_gives_a_group_of_ones_own(rt: HostRuntime) {
     run(
@@ -29,6 +32,8 @@ fn wstat_gives_a_group_of_ones_own(rt: HostRuntime) {
     );
 }
 
+/// ann gives a name, a length, a mode, an mtime and a group at once: version 1, and the mtime is
+/// hers. Another length sets it to now.
 #[test]
 fn wstat_changes_all_fields_at_once(rt: HostRuntime) {
     run(

@@ -2,11 +2,11 @@
 use crate::tests::server::{
     ANN_TO_X, BOB_TO_X, STAT, VERSION, WALK, audit, served, served_at_once, server_of,
 };
+use cs_connection::{Connection, GivenPasses, Server};
 use cs_journal::AuditFault;
 use cs_names::RunName;
 use cs_registry::RunKey;
-use cs_server::{Connection, GivenPasses, Server};
-use cs_shared::AnyScene;
+use cs_shared_runs::AnyScene;
 use std::alloc::Global;
 use std::process::Abort;
 use std::sync::Wait;
@@ -57,8 +57,8 @@ fn audit_of<R: Wait + Abort>(
     audit_named(rt, alloc, server, passes, b"x").1
 }
 
-/// Serves three streams, of which the first and the last attach to `0/x`, and looks for the audit by the
-/// passes of the first connections, so many.
+/// Serves three streams, of which the first and the last attach to `0/x`, and looks for the audit
+/// by the passes of the first connections, so many.
 fn expect_audit<R: thread::Threads + Wait + Sync + Abort>(
     rt: &R,
     alloc: Global,
@@ -72,6 +72,8 @@ fn expect_audit<R: thread::Threads + Wait + Sync + Abort>(
     assert!(rt; audit == wanted);
 }
 
+/// The same streams: the audit of `0/x` by the passes of all connections is ok. By those of the
+/// first two, where the second gave none, it is Count, and so by none.
 #[test]
 fn a_run_is_audited_by_what_its_connections_gave_back(rt: HostRuntime) {
     expect_audit(&rt, rt.alloc(), 3, Ok(()));
@@ -111,6 +113,10 @@ impl Ended {
     }
 }
 
+/// On two servers ann attaches to `0/x` (entry 0) and makes a stat (1), and after her bob attaches
+/// (2): to the first he sends a stat (3), to the second a walk. The audit of the first's run by the
+/// passes that its connections gave back is ok. By the same passes that of the second's run, put in
+/// its place, is Changed(3).
 #[test]
 fn a_run_put_in_the_place_of_a_servers_own_is_seen(rt: HostRuntime) {
     let alloc = rt.alloc();
@@ -129,6 +135,8 @@ const STAT_Y: &[u8] = b"\x0b\0\0\0|\x02\0\x03\0\0\0";
 
 const ANN_ON_TWO_RUNS: [&[u8]; 6] = [VERSION, ANN_TO_X, ANN_TO_Y, STAT_Y, STAT, STAT_Y];
 
+/// After ann and bob on `0/x`, ann attaches to `0/x` and to `0/y` on one connection, with a stat of
+/// the first and two of the second: six entries and three, and both audits are ok.
 #[test]
 fn a_connection_gives_back_the_passes_of_each_of_its_runs(rt: HostRuntime) {
     let alloc = rt.alloc();

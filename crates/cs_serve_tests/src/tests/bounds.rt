@@ -2,7 +2,7 @@
 use crate::tests::commands::inputs_of;
 use crate::tests::fixture::{TRACE, USERS};
 use cs_serve::{list_of, list_to, script_of, script_over};
-use cs_session::TwoEnded;
+use cs_stream::TwoEnded;
 use std::alloc::Global;
 use std::io::{self, Error, ErrorKind, Read, Write};
 use std::process::Abort;
@@ -136,6 +136,8 @@ const INPUT_FAILED: &str = "input failed\n";
 
 const OUTPUT_FAILED: &str = "output failed\n";
 
+/// A script that comes in pieces of one byte or of seven, and whose output is taken byte by byte:
+/// the same is printed. So of a list.
 #[test]
 fn a_script_in_pieces_prints_the_same(rt: HostRuntime) {
     let alloc = rt.alloc();
@@ -156,6 +158,8 @@ fn a_script_in_pieces_prints_the_same(rt: HostRuntime) {
     expect_list(&rt, taken_by(alloc, 1, 0, ENOUGH), "", LIST);
 }
 
+/// 999 interrupted reads in a row, and the stream goes on; 1,000 are a ReadFault. Likewise of
+/// writes; 1,000 are a WriteFault.
 #[test]
 fn a_thousand_interruptions_in_a_row_are_too_many(rt: HostRuntime) {
     let alloc = rt.alloc();
@@ -184,6 +188,7 @@ fn a_thousand_interruptions_in_a_row_are_too_many(rt: HostRuntime) {
     expect_list(&rt, taken_by(alloc, 64, 1_000, ENOUGH), OUTPUT_FAILED, b"");
 }
 
+/// A writer that takes no byte: `output failed`, for a script and for a list.
 #[test]
 fn a_write_that_takes_no_byte_is_a_fault(rt: HostRuntime) {
     let alloc = rt.alloc();
@@ -225,6 +230,8 @@ fn expect_list_front(rt: &(impl Abort + AllocGlobal), writes: u32) {
     expect_list(rt, out, fault_of(LIST, writes), front_of(LIST, writes));
 }
 
+/// A writer that fails behind each byte of a script's output, and of a list: what it took is the
+/// front of what would have been printed.
 #[test]
 fn what_was_written_before_a_fault_is_the_front(rt: HostRuntime) {
     for writes in 0..=REPLIES.len() as u32 {
@@ -235,6 +242,8 @@ fn what_was_written_before_a_fault_is_the_front(rt: HostRuntime) {
     }
 }
 
+/// A script of three lines over a stream: it meets the end once, and each line is one write. A list
+/// is one write, and reads nothing.
 #[test]
 fn a_stream_is_read_to_its_end_and_written(rt: HostRuntime) {
     let alloc = rt.alloc();

@@ -1,13 +1,14 @@
 //! The same dialogues with a world and with a server: `script` and `serve` reply the same bytes.
 use crate::tests::fixture::{TRACE, USERS, scene_of, world_over};
 use crate::tests::groups::{Client, LINES, sent};
-use cs_asking::message_of;
+use cs_connection::{Server, serve_connection};
 use cs_plan::Scene;
-use cs_server::{Server, serve_connection};
-use cs_session::{Clock, TwoEnded};
-use cs_shared::{AnyScene, SharedRegistry};
+use cs_session::Clock;
+use cs_shared_runs::{AnyScene, SharedRegistry};
+use cs_stream::TwoEnded;
+use cs_test_messages::message_of;
 use cs_users::Users;
-use cs_wire::encode;
+use cs_wire::encode_reply;
 use cs_world::World;
 use std::alloc::Global;
 use std::process::Abort;
@@ -60,7 +61,7 @@ impl Exchanged {
         self.sent.extend_from_slice(&message).expect(rt, "memory");
         let reply = world.message(alloc, conn, 7, &message);
         let begin = self.replied.len();
-        encode(&reply, &mut self.replied).expect(rt, "memory");
+        encode_reply(&reply, &mut self.replied).expect(rt, "memory");
         let number = self.replied.get(begin.saturating_add(4)).copied();
         let bit = u32::from(number.expect(rt, "a type").saturating_sub(101));
         self.types |= 1u32.checked_shl(bit).expect(rt, "a reply");
@@ -126,6 +127,9 @@ fn expect_same<R: Wait + Abort>(
     all.types
 }
 
+/// ann, bob, cat and dan, whom nobody knows, each have the dialogue of `groups.rt` with a world,
+/// and then with a server: the bytes of the replies are the same. All calls are among them, and all
+/// types of replies but Rauth.
 #[test]
 fn a_server_replies_as_a_world_does(rt: HostRuntime) {
     let alloc = rt.alloc();

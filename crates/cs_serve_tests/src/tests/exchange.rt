@@ -55,6 +55,7 @@ const FIRST: [Pair; 7] = [
     Pair("0b00000078010001000000", "07000000790100"),
 ];
 
+/// The first exchange, as a script.
 #[test]
 fn answers_the_first_exchange(rt: HostRuntime) {
     exchange(&rt, &FIRST);
@@ -99,6 +100,8 @@ const OFFSETS: [Pair; 9] = [
     ),
 ];
 
+/// A read before the open is G2. Three bytes from 1 on are `ell`; at the end, and far past it with
+/// the greatest count, there is none. The stat of the root has the name `/`.
 #[test]
 fn reads_from_an_offset_and_stats(rt: HostRuntime) {
     exchange(&rt, &OFFSETS);
@@ -115,6 +118,7 @@ const SEVENTEEN: [Pair; 2] = [
     ),
 ];
 
+/// A walk of 17 names is S2.
 #[test]
 fn seventeen_names_are_malformed(rt: HostRuntime) {
     exchange(&rt, &SEVENTEEN);

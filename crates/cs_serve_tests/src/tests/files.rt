@@ -1,6 +1,8 @@
 //! Opens, creates, reads, writes and removes.
 use crate::tests::fixture::expect;
 
+/// ann creates in `/d` with 0777: mode 755, number 7; in `/p` with 0666: 640, number 8; in `/p` a
+/// directory with 0777: 750, number 9.
 #[test]
 fn create_masks_its_permissions_by_the_directory(rt: HostRuntime) {
     expect(
@@ -9,17 +11,23 @@ fn create_masks_its_permissions_by_the_directory(rt: HostRuntime) {
         r#"
 0 walk 0 1 d => Rwalk tag 1 wqid [(80 0 1)]
 0 create 1 a 777 0 => Rcreate tag 1 qid (00 0 7) iounit 0
-0 stat 1 => Rstat tag 1 type 0 dev 0 qid (00 0 7) mode 755 atime 7 mtime 7 length 0 name "a" uid "ann" gid "staff" muid "ann"
+0 stat 1 => Rstat tag 1 type 0 dev 0 qid (00 0 7) mode 755 atime 7 mtime 7 length 0 name "a" uid
+    "ann" gid "staff" muid "ann"
 0 walk 0 2 p => Rwalk tag 1 wqid [(80 0 6)]
 0 create 2 b 666 0 => Rcreate tag 1 qid (00 0 8) iounit 0
-0 stat 2 => Rstat tag 1 type 0 dev 0 qid (00 0 8) mode 640 atime 7 mtime 7 length 0 name "b" uid "ann" gid "staff" muid "ann"
+0 stat 2 => Rstat tag 1 type 0 dev 0 qid (00 0 8) mode 640 atime 7 mtime 7 length 0 name "b" uid
+    "ann" gid "staff" muid "ann"
 0 walk 0 3 p => Rwalk tag 1 wqid [(80 1 6)]
 0 create 3 c dir:777 0 => Rcreate tag 1 qid (80 0 9) iounit 0
-0 stat 3 => Rstat tag 1 type 0 dev 0 qid (80 0 9) mode 20000000750 atime 7 mtime 7 length 0 name "c" uid "ann" gid "staff" muid "ann"
+0 stat 3 => Rstat tag 1 type 0 dev 0 qid (80 0 9) mode 20000000750 atime 7 mtime 7 length 0 name "c"
+    uid "ann" gid "staff" muid "ann"
 "#,
     );
 }
 
+/// Execution of `/f` is O8, mode 4 is O3, a directory in mode 3 O5 and in mode 0 granted. An open
+/// fid is opened and walked no more (O2, K2). none opens its own `/n` not (O6), `/f` to read and
+/// not to write (O7). bob reads ann's file of mode 604.
 #[test]
 fn opens_by_the_rights_of_the_user(rt: HostRuntime) {
     expect(
@@ -51,6 +59,7 @@ fn opens_by_the_rights_of_the_user(rt: HostRuntime) {
     );
 }
 
+/// ann creates an exclusive file. bob's open is O10, and granted once she has closed hers.
 #[test]
 fn exclusive_file_is_open_once(rt: HostRuntime) {
     expect(
@@ -67,6 +76,8 @@ fn exclusive_file_is_open_once(rt: HostRuntime) {
     );
 }
 
+/// ann opens `/f` with 0x41; cat takes w on the root away. ann's open with 0x40 on another
+/// connection is O9, and when the first hangs up `/f` is gone all the same.
 #[test]
 fn hang_up_removes_on_close_without_asking_again(rt: HostRuntime) {
     expect(
@@ -86,6 +97,8 @@ fn hang_up_removes_on_close_without_asking_again(rt: HostRuntime) {
     );
 }
 
+/// ann reads the root: 60 bytes are G5, 61 give `d`, 62 as offset is G4, 61 give `f`, 121 give `n`
+/// alone, and so on to an empty read at 245. From 0 it begins again.
 #[test]
 fn directory_gives_whole_entries_that_fit(rt: HostRuntime) {
     expect(
@@ -106,6 +119,7 @@ fn directory_gives_whole_entries_that_fit(rt: HostRuntime) {
     );
 }
 
+/// `/d` has entries (M5), the root can't go (M3), `/p` goes, and then is gone (M2).
 #[test]
 fn remove_refuses_the_root_and_a_directory_with_entries(rt: HostRuntime) {
     expect(
@@ -121,6 +135,9 @@ fn remove_refuses_the_root_and_a_directory_with_entries(rt: HostRuntime) {
     );
 }
 
+/// ann writes `HI` into `hello`: `HIllo`. A byte at 16,777,216 is E4, one before it is written, a
+/// read at 16,777,216 is empty, and four bytes at 1,048,576 are zeros. No byte at 20,000,000 is no
+/// change.
 #[test]
 fn write_may_reach_the_limit_of_a_file(rt: HostRuntime) {
     expect(
@@ -140,6 +157,7 @@ fn write_may_reach_the_limit_of_a_file(rt: HostRuntime) {
     );
 }
 
+/// Two writes at 0 of an append-only file make `abcd`, and an open with 0x11 leaves them.
 #[test]
 fn append_only_file_grows_at_its_end(rt: HostRuntime) {
     expect(

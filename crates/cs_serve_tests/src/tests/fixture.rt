@@ -1,8 +1,8 @@
 //! The start tree of the worked examples, its users, and dialogues with worlds over it.
 use crate::tests::telling::push_reply;
-use cs_asking::message_of;
 use cs_plan::Scene;
 use cs_serve::world_of;
+use cs_test_messages::message_of;
 use cs_trace::read_trace;
 use cs_users::Users;
 use cs_world::World;

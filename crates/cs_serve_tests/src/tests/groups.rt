@@ -121,12 +121,17 @@ const AMONG: [Client; 4] = [
     Client("1", "bob", "0/x"),
 ];
 
+/// ann and bob share `0/x`, send 35 messages each, of every kind, and hang up. ann and cat do the
+/// same in `0/y`, each before one of them: all 72 replies to the first two are the same as without
+/// the others.
 #[test]
 fn a_group_is_told_the_same_without_the_other(rt: HostRuntime) {
     let alone = told(&rt, &ALONE);
     assert!(rt; told(&rt, &BESIDE).as_str() == alone.as_str());
 }
 
+/// Where the others do it in `0/x`, some of the 72 are different: the file that ann creates is
+/// there already.
 #[test]
 fn a_group_is_told_of_what_others_do_in_its_run(rt: HostRuntime) {
     let alone = told(&rt, &ALONE);

@@ -1,6 +1,6 @@
 //! Journals that are full.
 use crate::tests::fixture::{TRACE, expect_in, join, world_over};
-use cs_asking::message_of;
+use cs_test_messages::message_of;
 use cs_wire::RBody;
 use cs_world::World;
 use std::process::Abort;
@@ -34,6 +34,9 @@ fn opened(rt: &(impl Abort + AllocGlobal)) -> World {
     world
 }
 
+/// An attach, a walk and an open of `/f`, and 65,532 stats: the next stat, a read and an attach to
+/// the same run are L1. The clunks of the open fid and of the walked one are answered, a stat
+/// between them is L1, and a run `0/y` takes an attach and a stat.
 #[test]
 fn a_full_journal_still_closes_what_is_open(rt: HostRuntime) {
     let mut world = opened(&rt);
@@ -55,6 +58,8 @@ fn a_full_journal_still_closes_what_is_open(rt: HostRuntime) {
     expect_stats(&rt, &mut world, 1, 1);
 }
 
+/// With 65,535 entries and reserved places an open is L1, the stat after it is granted, and the
+/// next one L1; both clunks are answered.
 #[test]
 fn an_open_needs_room_for_its_close_too(rt: HostRuntime) {
     let mut world = opened(&rt);
@@ -96,6 +101,8 @@ fn expect_refused(rt: &(impl Abort + AllocGlobal), world: &mut World) {
     assert!(rt; world.run_count() == 1);
 }
 
+/// zed's attach to `0/x` is A6, 64 times, and there is one run; ann's is A5 then, and to `0/y`
+/// granted.
 #[test]
 fn refused_attaches_are_among_the_64_of_a_run(rt: HostRuntime) {
     let mut world = world_over(&rt, rt.alloc(), TRACE);

@@ -131,6 +131,8 @@ pub fn renamed(rt: &(impl Abort + AllocGlobal)) -> String {
     trace
 }
 
+/// A header alone: one state. A file of 5,000 bytes is made, waited for and renamed, with holes:
+/// five micro-operations and twelve states; with the picks `[3]` and `[]` fourteen.
 #[test]
 fn lists_the_states_of_a_file_that_is_renamed(rt: HostRuntime) {
     let one = listed(&rt, rt.alloc(), &inputs_of(&[], HEADER.as_bytes()));
@@ -140,6 +142,8 @@ fn lists_the_states_of_a_file_that_is_renamed(rt: HostRuntime) {
     expect_listed(&rt, trace.as_str(), "[3]\n\n[]", [RENAMED_LIST, PICKS_LIST]);
 }
 
+/// A file that is moved twice, and a text: three holes, since the text needs none of them. With a
+/// sync before the text there is none.
 #[test]
 fn lists_a_hole_only_where_its_last_place_stays(rt: HostRuntime) {
     let trace = trace_of(&rt, rt.alloc(), MOVED_TWICE, SAY);
@@ -153,6 +157,8 @@ fn expect_refused(rt: &(impl Abort + AllocGlobal), trace: &str, picks: &str, fau
     expect_fault(rt, listed(rt, rt.alloc(), &with_holes(trace, picks)), fault);
 }
 
+/// The picks `[4]` and `[3,3]` aren't allowed; `[1,]` and a line of a blank are Syntax; 1,025 texts
+/// are too many micro-operations; a fault of the trace is told before one of the picks.
 #[test]
 fn tells_each_fault_of_a_plan(rt: HostRuntime) {
     let trace = renamed(&rt);
@@ -167,6 +173,7 @@ fn tells_each_fault_of_a_plan(rt: HostRuntime) {
     expect_fault(&rt, refused, "too many micro-operations");
 }
 
+/// 180 files that are made, with holes: 16,291 states. 181: `plan too large`.
 #[test]
 fn lists_up_to_16_384_states(rt: HostRuntime) {
     let most = creats(&rt, rt.alloc(), 180);
@@ -195,6 +202,7 @@ fn expect_broken(rt: &(impl Abort + AllocGlobal), left: usize, flushes: bool) {
     assert!(rt; err.as_slice() == b"crashfs: output failed\n".as_slice());
 }
 
+/// A writer that fails at once, after ten bytes, or when it is flushed: `output failed`, status 1.
 #[test]
 fn tells_an_output_that_fails(rt: HostRuntime) {
     expect_broken(&rt, 0, true);

@@ -1,12 +1,13 @@
 //! A connection while another run is looked at, under its lock.
 
 use crate::tests::server::{BOB_TO_B, Client, STAT, Standing, VERSION, come, counted, server_of};
+use cs_connection::{Server, serve_connection};
 use cs_journal::Run;
 use cs_names::RunName;
 use cs_plan::Built;
-use cs_server::{Server, serve_connection};
-use cs_session::{Counted, ServeFault};
-use cs_shared::{AnyScene, Look, SharedRun};
+use cs_session::ServeFault;
+use cs_shared_runs::{AnyScene, Look, SharedRun};
+use cs_stream::Counted;
 use std::alloc::Global;
 use std::process::Abort;
 use std::sync::atomic::{AtomicU32, Ordering};
@@ -68,6 +69,8 @@ fn run_of_a<R: Wait + Abort>(
         .expect(rt, "memory")
 }
 
+/// While one thread looks at run `0/a` under its lock, a connection attaches to `0/b` and has its
+/// stat, or the look gives up after ten million looks.
 #[test]
 fn a_connection_is_answered_while_another_run_is_locked(rt: HostRuntime) {
     let alloc = rt.alloc();

@@ -1,10 +1,10 @@
 //! What the port of a connection answers, of runs that others share.
 
 use crate::tests::server::{runs_of, server_of};
+use cs_connection::SharedPort;
 use cs_names::Text;
 use cs_permit::{Call, StatCall, TreeName};
 use cs_run::Answer;
-use cs_server::SharedPort;
 use cs_session::{FindFault, PassFault, Port};
 use std::alloc::Global;
 
@@ -27,6 +27,8 @@ fn find(alloc: Global, port: &mut impl Port, state: &str, run: &str) -> Result<u
     port.find(alloc, &name)
 }
 
+/// A run of state 1, which isn't published, is Unpublished (A4), before and after run `x` of state
+/// 0 was found 64 times; the 65th find of `x` is Full (A5), and `y` is found then.
 #[test]
 fn a_port_tells_why_a_run_is_not_found(rt: HostRuntime) {
     let alloc = rt.alloc();
@@ -53,6 +55,9 @@ fn attach(alloc: Global, port: &mut impl Port, run: u32, user: &str) -> Result<u
     }
 }
 
+/// A port: an attach before any find is Foreign. Runs `a` and `b` are found at places 0 and 1, and
+/// bob's pass of `b` is at place 0. A stat on run 1 under pass 0 is answered; on run 0 under pass
+/// 0, on run 1 under pass 1, and on run 2 it is S5.
 #[test]
 fn a_port_keeps_the_places_of_runs_and_passes(rt: HostRuntime) {
     let alloc = rt.alloc();

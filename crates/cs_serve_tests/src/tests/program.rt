@@ -17,6 +17,8 @@ const REPLIES: &str = "\
 0 160000006b01000d005331206e6f2073657373696f6e
 ";
 
+/// Hexadecimal digits of either case, leading zeros, the greatest moment, a `hangup`, and a last
+/// line without a line feed. A script of no byte prints nothing.
 #[test]
 fn runs_a_script(rt: HostRuntime) {
     let inputs = inputs_of(USERS, TRACE.as_bytes());
@@ -44,6 +46,8 @@ const SPOKEN_TEXT: &str = r#"0 <- Tversion tag 65535 msize 8192 version "9P2000"
 0 -> Rerror tag 1 ename "S1 no session"
 "#;
 
+/// A version and an unknown type with `verbose`: both messages and their replies as text on
+/// standard error, and nothing for a hang-up.
 #[test]
 fn tells_each_message_as_text(rt: HostRuntime) {
     let inputs = Inputs {
@@ -87,6 +91,9 @@ const OPERATION_FAULTS: [Faulty; 8] = [
     ),
 ];
 
+/// An unknown operation, a `sync` with a path, a path without its slash, an `rmdir` of what isn't
+/// there, of a file, and of a directory with an entry, an `unlink` of a directory, a length of
+/// 16,777,217: each fault with its line.
 #[test]
 fn tells_each_fault_of_an_operation(rt: HostRuntime) {
     for faulty in &OPERATION_FAULTS {
@@ -115,6 +122,9 @@ fn expect_users_fault(rt: &(impl Abort + AllocGlobal), users: &[u8], fault: &str
     );
 }
 
+/// `1:ann::` twice, three fields, an empty name, a name of 65 bytes behind skipped lines, a NUL, no
+/// UTF-8: each is one line on standard error with its line number, nothing on standard output, and
+/// status 1.
 #[test]
 fn tells_each_fault_of_the_users(rt: HostRuntime) {
     for faulty in &USERS_FAULTS {
@@ -151,6 +161,9 @@ const START_FAULTS: [Faulty; 5] = [
     ),
 ];
 
+/// BadName, UnknownOp, NoParent, Exists and NotDir of start lines, behind a line of blanks that
+/// counts; an operation; an empty trace; one that is no UTF-8. The trace is told before the users
+/// file.
 #[test]
 fn tells_each_fault_of_the_trace(rt: HostRuntime) {
     for faulty in &START_FAULTS {
@@ -206,6 +219,9 @@ fn expect_long_fault(
     expect_script_fault(rt, script.as_str(), fault);
 }
 
+/// Lines of a script that are none: an empty one, connection 64, two blanks, a sign, a moment of 33
+/// bits, 6 bytes, an odd digit, line 65,537, a message of 65,537 bytes. None of the lines before is
+/// run.
 #[test]
 fn tells_each_fault_of_the_script(rt: HostRuntime) {
     for faulty in &SCRIPT_FAULTS {
@@ -229,6 +245,8 @@ fn expect_broken(rt: &(impl Abort + AllocGlobal), left: usize) {
     assert!(rt; err.as_slice() == b"crashfs: output failed\n".as_slice());
 }
 
+/// A reader that fails is `input failed`. A writer that fails at once, in a line or after one is
+/// `output failed`.
 #[test]
 fn tells_an_input_or_an_output_that_fails(rt: HostRuntime) {
     let inputs = inputs_of(USERS, TRACE.as_bytes());
@@ -261,6 +279,8 @@ fn expect_first_fault(rt: &(impl Abort + AllocGlobal), files: &Files) {
     );
 }
 
+/// Faults of all three files: that of the trace is told, then that of the picks, then that of the
+/// users.
 #[test]
 fn tells_of_the_trace_and_then_the_picks_and_then_the_users(rt: HostRuntime) {
     for files in &FILES {

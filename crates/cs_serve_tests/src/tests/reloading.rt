@@ -1,14 +1,14 @@
 //! Users files that a script takes: runs that stand keep their users, and later ones have the new.
 use crate::tests::commands::{Faulty, expect_fault, expect_printed, inputs_of, outcome, scripted};
 use crate::tests::fixture::{HEADER, TRACE, USERS};
-use cs_asking::message_of;
 use cs_serve::{Inputs, script_of};
-use cs_wire::decode_r;
+use cs_test_messages::message_of;
+use cs_wire::decode_reply;
 use std::alloc::Global;
 use std::process::Abort;
 
-/// Adds a line of a script: what is asked by a connection's number and a message in words, or a line
-/// that is no connection's.
+/// Adds a line of a script: what is asked by a connection's number and a message in words, or a
+/// line that is no connection's.
 fn push_line(rt: &impl Abort, alloc: Global, script: &mut String, asked: &str) {
     let (conn, words) = asked.split_once(' ').expect(rt, "a value");
     if conn == "reload" {
@@ -38,7 +38,7 @@ fn push_printed(rt: &impl Abort, alloc: Global, text: &mut String, printed: &str
         return;
     }
     let bytes = hex::decode(alloc, digits).expect(rt, "digits");
-    let reply = decode_r(alloc, bytes.as_slice()).expect(rt, "a reply");
+    let reply = decode_reply(alloc, bytes.as_slice()).expect(rt, "a reply");
     write!(text, "{conn} {reply}").expect(rt, "memory")
 }
 
@@ -95,6 +95,10 @@ reload 313a616e6e3a => reload refused: users line 1: FieldCount
 0 attach 6 dan 0/z => 0 Rattach tag 1 qid (80 0 0)
 "#;
 
+/// bob attaches `0/x`, dan is A6. A `reload` with ann and dan is `reloaded`: at `0/x` dan is still
+/// A6 and bob granted; at `0/y` dan is granted and bob A6; dan's open of `/f` to write is O7, ann's
+/// granted. A line of three fields is `reload refused: users line 1: FieldCount`, and then `0/z`
+/// has dan and not bob.
 #[test]
 fn runs_keep_their_users_and_later_ones_have_the_new(rt: HostRuntime) {
     expect(&rt, RELOADED);
@@ -112,6 +116,9 @@ reload 0a => reloaded
 0 attach 2 bob 0/y => 0 Rerror tag 1 ename "A6 unknown user"
 "#;
 
+/// Users files that are refused: no UTF-8, a NUL, an empty name behind skipped lines, a name twice.
+/// bob attaches `0/x` after them. A `reload` with an empty line alone is taken: bob's attach to
+/// `0/x` is granted, and to `0/y` A6.
 #[test]
 fn a_list_that_is_refused_leaves_the_one_before(rt: HostRuntime) {
     expect(&rt, REFUSED);
@@ -133,6 +140,8 @@ fn expect_script_fault(rt: &(impl Abort + AllocGlobal), faulty: &Faulty) {
     expect_fault(rt, printed, faulty.1);
 }
 
+/// Lines that are no `reload`: without a byte, half a byte, two blanks, a word more, on a
+/// connection, with a capital. None of the lines before is run.
 #[test]
 fn tells_each_fault_of_a_reload(rt: HostRuntime) {
     for faulty in &SCRIPT_FAULTS {
@@ -140,6 +149,7 @@ fn tells_each_fault_of_a_reload(rt: HostRuntime) {
     }
 }
 
+/// With `verbose` a `reload` that is taken and one that is refused: nothing on standard error.
 #[test]
 fn a_reload_is_told_on_standard_output_alone(rt: HostRuntime) {
     let inputs = Inputs {

@@ -1,10 +1,11 @@
 //! Connections over runs that they share, of a state that is published.
 
+use cs_connection::{Connection, Server, serve_connection, serve_streams};
 use cs_journal::{AuditFault, Pass};
 use cs_plan::Scene;
-use cs_server::{Connection, Server, serve_connection, serve_streams};
-use cs_session::{Clock, ServeFault, TwoEnded};
-use cs_shared::{AnyScene, AuditBy, SharedRegistry, SharedRun};
+use cs_session::{Clock, ServeFault};
+use cs_shared_runs::{AnyScene, AuditBy, SharedRegistry, SharedRun};
+use cs_stream::TwoEnded;
 use cs_trace::read_trace;
 use cs_users::Users;
 use std::alloc::Global;
@@ -231,6 +232,11 @@ Err(FrameFault(Undersize))
 Ok(()) 0/x 3
 ";
 
+/// Two streams each send a version, an attach to `0/x` and a stat, the last one two; the second
+/// read of each waits for the other's first reply, or gives up after ten million looks. Both end
+/// well, each with one pass of `0/x`, of two and of three receipts; that run is the only one, with
+/// five entries. A stream between them sends a size of 5: it is reported in its place, as
+/// Undersize.
 #[test]
 fn streams_are_served_at_once_and_told_in_their_order(rt: HostRuntime) {
     let server = server_of(&rt, rt.alloc());
@@ -282,6 +288,8 @@ const CAT_READS: [&[u8]; 5] = [VERSION, CAT_TO_A, WALK, OPEN_TO_READ, READ];
 
 const BOB_READS: [&[u8]; 5] = [VERSION, BOB_TO_B, WALK, OPEN_TO_READ, READ];
 
+/// On a connection to `0/a` ann writes `HI` at 0 of `/f`. On the next one cat reads `HIllo` in
+/// `0/a`, and on the next bob reads `hello` in `0/b`.
 #[test]
 fn what_is_written_on_a_connection_is_read_on_others_of_its_run(rt: HostRuntime) {
     let alloc = rt.alloc();
@@ -317,6 +325,8 @@ const ANN_WRITES_AND_LOOKS: [&[u8]; 6] = [VERSION, ANN_TO_A, WALK, OPEN_TO_WRITE
 const WRITTEN_AT_720: &[u8] =
     b"\x46\0\0\0}\x05\0\x3d\0\x3b\0\0\0\0\0\0\0\0\x01\0\0\0\x01\0\0\0\0\0\0\0\xb4\x01\0\0\0\0\0\0\xd0\x02\0\0\x05\0\0\0\0\0\0\0\x01\0f\x03\0ann\x05\0staff\x03\0ann";
 
+/// At the moment 720 ann writes `HI` into `/f`, and her stat of it, in its 70 bytes, has version 1
+/// and the time 720.
 #[test]
 fn a_write_has_the_moment_of_its_message(rt: HostRuntime) {
     let alloc = rt.alloc();
@@ -324,6 +334,7 @@ fn a_write_has_the_moment_of_its_message(rt: HostRuntime) {
     expect_last(&rt, alloc, &server, &ANN_WRITES_AND_LOOKS, WRITTEN_AT_720);
 }
 
+/// What comes of a stream without a thread: want of memory, and no pass.
 #[test]
 fn a_stream_without_a_thread_is_not_served(rt: HostRuntime) {
     let unserved: Connection<AnyScene> = Connection::unserved(rt.alloc());

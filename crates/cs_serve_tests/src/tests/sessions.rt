@@ -4,6 +4,8 @@ use cs_world::World;
 use std::alloc::Global;
 use std::process::Abort;
 
+/// `9P2000.L` is answered `9P2000`. An msize of 1,024 stays, and the greatest becomes 65,536. `8P`
+/// is answered `unknown`: then an attach is S1, and a flush is answered. An msize of 1,023 is S4.
 #[test]
 fn agrees_on_a_version_and_a_message_size(rt: HostRuntime) {
     expect_over(
@@ -23,6 +25,8 @@ fn agrees_on_a_version_and_a_message_size(rt: HostRuntime) {
     );
 }
 
+/// A Tauth is S3, and an afid A2. `00/x`, `0`, `0/X` and `123456/x` are A3, `1/x` is A4, NOFID is
+/// A1. zed's attach to `0/x` is A6, and ann's to `0/y` granted. A fid in use is A1.
 #[test]
 fn attach_is_refused_by_its_rules(rt: HostRuntime) {
     expect_over(
@@ -47,6 +51,8 @@ fn attach_is_refused_by_its_rules(rt: HostRuntime) {
     );
 }
 
+/// ann hangs up: her stat is S1, and bob reads on from `/f`, which he has open. After a new version
+/// her fids are free.
 #[test]
 fn hang_up_frees_the_fids_of_its_connection_alone(rt: HostRuntime) {
     expect(
@@ -67,6 +73,7 @@ fn hang_up_frees_the_fids_of_its_connection_alone(rt: HostRuntime) {
     );
 }
 
+/// ann has `/f` open with 0x40 and sends a version: the fid 0 is free, and `/f` is gone for bob.
 #[test]
 fn version_removes_on_close_and_frees_every_fid(rt: HostRuntime) {
     expect(
@@ -100,6 +107,9 @@ fn walk_each(rt: &(impl Abort + AllocGlobal), world: &mut World) {
     }
 }
 
+/// On connection 63, 64 attaches are granted, and the next is A5. With 4,096 fids a walk to one
+/// more is K4, a walk of a fid to itself is granted, and an attach is A1; after a clunk there is
+/// room for one.
 #[test]
 fn holds_64_attaches_and_4096_fids(rt: HostRuntime) {
     let mut world = world_over(&rt, rt.alloc(), TRACE);
@@ -141,6 +151,8 @@ fn trace_of_2000(rt: &impl Abort, alloc: Global) -> String {
     trace
 }
 
+/// In a session of 1,024 bytes a read of the greatest count gives 1,013 bytes, and the next one the
+/// 987 that are left.
 #[test]
 fn cuts_a_read_to_the_message_size(rt: HostRuntime) {
     let trace = trace_of_2000(&rt, rt.alloc());

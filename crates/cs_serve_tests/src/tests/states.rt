@@ -9,6 +9,8 @@ const CUT: &str = r#"{"op":"truncate","path":"/f","length":2}
 {"op":"unlink","path":"/f"}
 "#;
 
+/// `/f` is cut to two bytes and then removed: state 0 has `hello`, state 1 `he`, state 2 no `/f`,
+/// and there is no state 3 (A4).
 #[test]
 fn each_state_is_served_under_its_number(rt: HostRuntime) {
     let trace = format!(in rt.alloc(); "{TRACE}{CUT}").expect(&rt, "memory");
@@ -32,6 +34,8 @@ fn each_state_is_served_under_its_number(rt: HostRuntime) {
     );
 }
 
+/// ann writes `HI` in `0/a` and reads `HIllo` back; bob in `0/b` reads `hello`; cat in `0/a` reads
+/// `HIllo`.
 #[test]
 fn what_is_written_in_a_run_is_read_in_that_run_alone(rt: HostRuntime) {
     expect_over(
@@ -58,6 +62,7 @@ fn what_is_written_in_a_run_is_read_in_that_run_alone(rt: HostRuntime) {
     );
 }
 
+/// zed's attach to `0/y` is A6, and its run stands.
 #[test]
 fn refused_attach_leaves_its_run(rt: HostRuntime) {
     let mut world = world_over(&rt, rt.alloc(), TRACE);
@@ -73,8 +78,8 @@ fn refused_attach_leaves_its_run(rt: HostRuntime) {
     assert!(rt; world.run_count() == 2);
 }
 
-/// In two runs of a state in which `/a` has 5,000 letters, one of them cuts it to 1 byte, grows it again
-/// and removes it.
+/// In two runs of a state in which `/a` has 5,000 letters, one of them cuts it to 1 byte, grows it
+/// again and removes it.
 fn cut_and_grown(rt: &impl Abort, alloc: Global) -> String {
     let zeros = "\0".repeat(alloc, 4_999).expect(rt, "a value");
     let letters = "a".repeat(alloc, 5_000).expect(rt, "a value");
@@ -104,6 +109,10 @@ fn cut_and_grown(rt: &impl Abort, alloc: Global) -> String {
     .expect(rt, "memory")
 }
 
+/// In run `5/x` of a state with 5,000 letters in `/a` the length is set to 1, and then to 5,000:
+/// versions 1 and 2, a letter and 4,999 zeros. In `5/y` it has version 0 and its 5,000 letters.
+/// After its remove in `5/x` a listing of the root of 61 bytes is empty; in `5/y` it has the one
+/// entry.
 #[test]
 fn a_length_is_cut_and_grown_in_one_run_alone(rt: HostRuntime) {
     let trace = renamed(&rt);

@@ -114,9 +114,9 @@ fn call(rt: &impl Abort, alloc: Global, word: &str, conn: &str) -> Step {
     }
 }
 
-/// The step that words ask for: `publish` and a state; `reload` and a line of a users file; `version`,
-/// `walk`, `open`, `write`, `read` or `stat` and a connection; `find`, `attach` or `close` and what these
-/// take.
+/// The step that words ask for: `publish` and a state; `reload` and a line of a users file;
+/// `version`, `walk`, `open`, `write`, `read` or `stat` and a connection; `find`, `attach` or
+/// `close` and what these take.
 pub fn step_of(rt: &impl Abort, alloc: Global, line: &str) -> Step {
     let (word, words) = line.split_once(' ').expect(rt, "a value");
     match word {

@@ -131,6 +131,9 @@ Connection(Error(S5))
 Connection(Error(S5))
 ";
 
+/// A list of steps publishes state 0; two connections begin, both find `0/x`, and then both attach:
+/// number 0 twice, and one run. An attach and a find on connection 64, which come after them, are
+/// S5.
 #[test]
 fn two_users_attach_to_one_run(rt: HostRuntime) {
     let mut world = new_world(&rt);
@@ -152,6 +155,8 @@ fn projected(rt: &impl Abort, alloc: Global, world: &World, lines: &str, run: &[
     text
 }
 
+/// The same list on the run `0/x` is the attach of ann at 7, under pass 0, and that of bob at 8,
+/// under pass 1; on `0/y` it is nothing. The world that is asked stays as it is.
 #[test]
 fn projection_on_a_run_has_what_reached_it(rt: HostRuntime) {
     let world = new_world(&rt);
@@ -177,14 +182,18 @@ attach 0 7
 walk 0
 ";
 
+/// Among steps a list of dan alone is loaded, then dan attaches to `0/x` and walks: both calls are
+/// of the projection on `0/x`, though the world's own list doesn't know dan.
 #[test]
-fn projection_takes_the_list_that_stands_at_the_find(rt: HostRuntime) {
+fn projection_takes_the_list_at_the_time_of_the_find(rt: HostRuntime) {
     let world = new_world(&rt);
     let calls = projected(&rt, rt.alloc(), &world, OTHER_USERS, b"x");
     // with the list of the start the attach is A6, and no walk reaches the run
     assert!(rt; calls.lines().count() == 2);
 }
 
+/// With users ann and bob, bob attaches to `0/x`: granted; dan: A6. A list of dan alone is loaded.
+/// To `0/x`, dan: A6; bob: granted. To `0/y`, dan: granted; bob: A6.
 #[test]
 fn a_run_keeps_the_users_it_was_made_with(rt: HostRuntime) {
     expect(
@@ -209,6 +218,8 @@ attach 0 7 => Connection(Error(A6))
     );
 }
 
+/// An attach without a find, a find on connection 64, and the close of a fid that isn't open are
+/// S5.
 #[test]
 fn steps_come_in_their_turn(rt: HostRuntime) {
     expect(
@@ -223,6 +234,8 @@ close 0 0 => Connection(Error(S5))
     );
 }
 
+/// Between a find and its attach a stat, a message and a hang-up are S5; the attach is granted
+/// then, and after it the hang-up.
 #[test]
 fn nothing_comes_between_a_find_and_its_attach(rt: HostRuntime) {
     expect(
@@ -240,6 +253,7 @@ hangup => Closed
     );
 }
 
+/// A version on connection 63, as bytes.
 #[test]
 fn a_message_is_answered(rt: HostRuntime) {
     let mut world = new_world(&rt);
@@ -252,6 +266,8 @@ fn a_message_is_answered(rt: HostRuntime) {
     );
 }
 
+/// State 0 is published again: Twice; state 1: NoSuchState. `1/x` is A4, `00/x` A3, and `0/x`
+/// granted.
 #[test]
 fn states_are_published_once(rt: HostRuntime) {
     let mut world = new_world(&rt);
@@ -280,6 +296,7 @@ fn expect_attached(rt: &(impl Abort + AllocGlobal), world: &mut World, fid: u32)
     expect_in(rt, world, lines.expect(rt, "memory").as_str());
 }
 
+/// The 65th attach to `0/x` is A5. An attach to `0/y` by zed is A6, and that run stands.
 #[test]
 fn a_run_is_attached_to_64_times(rt: HostRuntime) {
     let mut world = new_world(&rt);
@@ -306,6 +323,8 @@ attach 0 7 => Connection(Error(A6))
     assert!(rt; world.run_count() == 2);
 }
 
+/// ann in `0/a` writes `HI` at 0 of `/f`: count 2, and reads `HIllo`; bob in `0/b` reads `hello`;
+/// cat in `0/a` reads `HIllo`.
 #[test]
 fn runs_are_apart_and_shared_by_name(rt: HostRuntime) {
     expect(
@@ -321,9 +340,12 @@ find 1 0 bob 0/b => Connection(Found)
 attach 1 7 => Connection(Attach(Qid { kind: 128, vers: 0, path: 0 }))
 find 2 0 cat 0/a => Connection(Found)
 attach 2 7 => Connection(Attach(Qid { kind: 128, vers: 0, path: 0 }))
-walk 0 => Connection(Walk(Walk { qids: [Qid { kind: 0, vers: 0, path: 1 }], stopped: None, last: 1 }))
-walk 1 => Connection(Walk(Walk { qids: [Qid { kind: 0, vers: 0, path: 1 }], stopped: None, last: 1 }))
-walk 2 => Connection(Walk(Walk { qids: [Qid { kind: 0, vers: 0, path: 1 }], stopped: None, last: 1 }))
+walk 0 =>
+    Connection(Walk(Walk { qids: [Qid { kind: 0, vers: 0, path: 1 }], stopped: None, last: 1 }))
+walk 1 =>
+    Connection(Walk(Walk { qids: [Qid { kind: 0, vers: 0, path: 1 }], stopped: None, last: 1 }))
+walk 2 =>
+    Connection(Walk(Walk { qids: [Qid { kind: 0, vers: 0, path: 1 }], stopped: None, last: 1 }))
 open 0 => Connection(Open(Qid { kind: 0, vers: 0, path: 1 }))
 open 1 => Connection(Open(Qid { kind: 0, vers: 0, path: 1 }))
 open 2 => Connection(Open(Qid { kind: 0, vers: 0, path: 1 }))

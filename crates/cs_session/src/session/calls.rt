@@ -2,7 +2,7 @@
 ghost use Rattle.std.specs.Prelude.{◌≡◌};
 ghost use Rattle.cs_session.specs.declared.message.CallMessage.TheVariants as call;
 ghost use Rattle.cs_session.specs.Sizes.{CallFits, ReplyFits};
-ghost use Rattle.cs_session.specs.Steps.{CallStep, IsTaken};
+ghost use Rattle.cs_session.specs.Steps.{CallStep, IsStepTaken};
 
 use super::Session;
 use crate::message::{
@@ -26,7 +26,8 @@ impl Session {
         now: u32,
         message: WalkMessage,
     ) -> Reply
-        ensures takes { IsTaken P.gives now self.old port.old (CallStep (call.Walk message)) result
+        ensures takes { IsStepTaken P.gives now self.old port.old (CallStep (call.Walk message))
+            result
             self.new port.new }
         ensures fits { CallFits (call.Walk message) → ReplyFits self.old.msize result }
         ensures awaited { self.new.awaited ≡ self.old.awaited }
@@ -49,7 +50,8 @@ impl Session {
         now: u32,
         message: OpenMessage,
     ) -> Reply
-        ensures takes { IsTaken P.gives now self.old port.old (CallStep (call.Open message)) result
+        ensures takes { IsStepTaken P.gives now self.old port.old (CallStep (call.Open message))
+            result
             self.new port.new }
         ensures fits { ReplyFits self.old.msize result }
         ensures awaited { self.new.awaited ≡ self.old.awaited }
@@ -71,7 +73,7 @@ impl Session {
         now: u32,
         message: CreateMessage,
     ) -> Reply
-        ensures takes { IsTaken P.gives now self.old port.old (CallStep (call.Create message))
+        ensures takes { IsStepTaken P.gives now self.old port.old (CallStep (call.Create message))
             result self.new port.new }
         ensures fits { ReplyFits self.old.msize result }
         ensures awaited { self.new.awaited ≡ self.old.awaited }
@@ -94,7 +96,8 @@ impl Session {
         now: u32,
         message: ReadMessage,
     ) -> Reply
-        ensures takes { IsTaken P.gives now self.old port.old (CallStep (call.Read message)) result
+        ensures takes { IsStepTaken P.gives now self.old port.old (CallStep (call.Read message))
+            result
             self.new port.new }
         ensures fits { ReplyFits self.old.msize result }
         ensures awaited { self.new.awaited ≡ self.old.awaited }
@@ -116,7 +119,8 @@ impl Session {
         now: u32,
         message: WriteMessage<'_>,
     ) -> Reply
-        ensures takes { IsTaken P.gives now self.old port.old (CallStep (call.Write message.entry))
+        ensures takes { IsStepTaken P.gives now self.old port.old
+            (CallStep (call.Write message.entry))
             result self.new port.new }
         ensures fits { ReplyFits self.old.msize result }
         ensures awaited { self.new.awaited ≡ self.old.awaited }
@@ -131,7 +135,8 @@ impl Session {
     }
 
     fn remove_step<P: Port>(&mut self, alloc: Global, port: &mut P, now: u32, fid: u32) -> Reply
-        ensures takes { IsTaken P.gives now self.old port.old (CallStep (call.Remove fid)) result
+        ensures takes { IsStepTaken P.gives now self.old port.old (CallStep (call.Remove fid))
+            result
             self.new port.new }
         ensures fits { ReplyFits self.old.msize result }
         ensures awaited { self.new.awaited ≡ self.old.awaited }
@@ -146,7 +151,7 @@ impl Session {
     }
 
     fn stat_step<P: Port>(&mut self, alloc: Global, port: &mut P, now: u32, fid: u32) -> Reply
-        ensures takes { IsTaken P.gives now self.old port.old (CallStep (call.Stat fid)) result
+        ensures takes { IsStepTaken P.gives now self.old port.old (CallStep (call.Stat fid)) result
             self.new port.new }
         ensures fits { ReplyFits self.old.msize result }
         ensures awaited { self.new.awaited ≡ self.old.awaited }
@@ -167,7 +172,8 @@ impl Session {
         now: u32,
         message: WstatMessage,
     ) -> Reply
-        ensures takes { IsTaken P.gives now self.old port.old (CallStep (call.Wstat message)) result
+        ensures takes { IsStepTaken P.gives now self.old port.old (CallStep (call.Wstat message))
+            result
             self.new port.new }
         ensures fits { ReplyFits self.old.msize result }
         ensures awaited { self.new.awaited ≡ self.old.awaited }
@@ -191,7 +197,7 @@ impl Session {
         now: u32,
         message: CallMessage<'_>,
     ) -> Reply
-        ensures takes { IsTaken P.gives now self.old port.old (CallStep message.entry) result
+        ensures takes { IsStepTaken P.gives now self.old port.old (CallStep message.entry) result
             self.new port.new }
         ensures fits { CallFits message.entry → ReplyFits self.old.msize result }
         ensures awaited { self.new.awaited ≡ self.old.awaited }

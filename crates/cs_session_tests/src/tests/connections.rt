@@ -1,110 +1,11 @@
 //! Examples of a connection over a port that keeps no runs, and answers each call by its kind.
 use super::asking::{attaching, message_of};
-use cs_names::{RuleId, Text};
-use cs_permit::{Call, TreeName};
-use cs_run::Answer;
-use cs_session::{
-    CallMessage, FindFault, Message, PassFault, Port, Reply, Session, TableStep, message_is_steps,
-};
-use cs_wire::{Qid, encode};
+use super::fake_port::Fake;
+use cs_names::RuleId;
+use cs_session::{CallMessage, Message, Reply, Session, TableStep, message_is_steps};
+use cs_wire::{Qid, encode_reply};
 use std::alloc::Global;
 use std::process::Abort;
-
-/// The qid that each attach and open is answered.
-const QID: Qid = Qid {
-    kind: 0,
-    vers: 4,
-    path: 3,
-};
-
-/// Answers each call by its kind, and keeps which opens were closed and at which moments it was
-/// asked.
-#[derive(Drop)]
-pub struct Fake {
-    /// No user is known.
-    knows_none: bool,
-    /// Each close is short of memory.
-    is_short: bool,
-    opens: u32,
-    pub closed: Vec<u32>,
-    pub moments: Vec<u32>,
-}
-
-impl Fake {
-    pub fn new(alloc: Global) -> Fake {
-        Fake {
-            knows_none: false,
-            is_short: false,
-            opens: 0,
-            closed: Vec::new(alloc),
-            moments: Vec::new(alloc),
-        }
-    }
-
-    /// An open, whose number is the next one.
-    fn opened(&mut self) -> Answer {
-        let open_number = self.opens;
-        self.opens = open_number.wrapping_add(1);
-        Answer::Opened {
-            qid: QID,
-            open_number,
-            number: 3,
-        }
-    }
-
-    fn close(&mut self, open_number: u32) -> Answer {
-        if self.is_short || self.closed.push(open_number).is_err() {
-            return Answer::Short;
-        }
-        Answer::Closed
-    }
-}
-
-impl Port for Fake {
-    ghost gives = { λ p question told p'. Unit {0} };
-
-    fn find(&mut self, _alloc: Global, name: &TreeName) -> Result<u32, FindFault> {
-        if name.is_of_state_zero() {
-            Ok(0)
-        } else {
-            Err(FindFault::Unpublished)
-        }
-    }
-
-    fn attach(
-        &mut self,
-        _alloc: Global,
-        now: u32,
-        _run: u32,
-        _user: Text,
-    ) -> Result<(u32, Answer), PassFault> {
-        if self.moments.push(now).is_err() {
-            Err(PassFault::Memory)
-        } else if self.knows_none {
-            Ok((1, Answer::Denied(RuleId::A6)))
-        } else {
-            Ok((1, Answer::Attached(QID)))
-        }
-    }
-
-    fn call(&mut self, _alloc: Global, now: u32, _run: u32, _pass: u32, call: Call<'_>) -> Answer {
-        if self.moments.push(now).is_err() {
-            return Answer::Short;
-        }
-        match call {
-            Call::Attach(_) => Answer::Short,
-            Call::Walk(_) => Answer::Denied(RuleId::K8),
-            Call::Open(_) => self.opened(),
-            Call::Create(_) => self.opened(),
-            Call::Read(_) => Answer::Denied(RuleId::G3),
-            Call::Write(_) => Answer::Written(3),
-            Call::Close(call) => self.close(call.open_number),
-            Call::Remove(_) => Answer::Removed,
-            Call::Stat(_) => Answer::Denied(RuleId::H2),
-            Call::Wstat(_) => Answer::Changed,
-        }
-    }
-}
 
 /// The reply to a message, of a connection that awaits no attach.
 fn ask(alloc: Global, session: &mut Session, port: &mut Fake, message: Message<'_>) -> Reply {
@@ -150,6 +51,8 @@ fn expect(rt: &(impl Abort + AllocGlobal), session: &mut Session, port: &mut Fak
     assert!(rt; told.as_str() == lines, "{told}");
 }
 
+/// Fid 1 is open in mode 2: a write is answered 3, a read of a file that is gone G3, a walk K2;
+/// after a remove a stat is H1.
 #[test]
 fn asks_its_port_for_each_call_on_a_fid(rt: HostRuntime) {
     let mut port = Fake::new(rt.alloc());
@@ -172,6 +75,8 @@ stat 1 => Error(H1)
     assert!(rt; session.msize() == Some(8192));
 }
 
+/// Fid 1 isn't open: a walk from it whose first name is denied is K8, a stat is denied as the port
+/// says (H2), a wstat is answered.
 #[test]
 fn asks_its_port_for_each_call_on_a_fid_that_is_not_open(rt: HostRuntime) {
     let mut port = Fake::new(rt.alloc());
@@ -193,6 +98,8 @@ clunk 1 => Clunk
     assert!(rt; port.closed.as_slice() == [0].as_slice());
 }
 
+/// Fids 5, 2, 9 are opened in this order. A version with an msize of 1,023 is S4, and has closed
+/// the opens 1, 0, 2 of the fids 2, 5, 9.
 #[test]
 fn a_refused_version_closes_open_fids_in_ascending_order(rt: HostRuntime) {
     let mut port = Fake::new(rt.alloc());
@@ -217,6 +124,8 @@ version 1023 => Error(S4)
     assert!(rt; session.msize().is_none());
 }
 
+/// Fids 8, 4, 9 are opened in this order. A hang-up closes the opens 1, 0, 2 of the fids 4, 8, 9,
+/// and no session stands then.
 #[test]
 fn a_hang_up_closes_open_fids_in_ascending_order_and_frees_all(rt: HostRuntime) {
     let mut port = Fake::new(rt.alloc());
@@ -241,6 +150,7 @@ open 9 => Open(Qid { kind: 0, vers: 4, path: 3 })
     expect(&rt, &mut session, &mut port, "clunk 8 => Error(S1)\n");
 }
 
+/// The close of a clunk is short of memory: the next clunk is N1.
 #[test]
 fn frees_a_fid_whose_close_is_short_of_memory(rt: HostRuntime) {
     let mut port = Fake::new(rt.alloc());
@@ -259,6 +169,7 @@ clunk 3 => Error(N1)
     );
 }
 
+/// An attach that is A6 leaves its fid free for the next one.
 #[test]
 fn leaves_the_fid_of_a_refused_attach_free(rt: HostRuntime) {
     let mut port = Fake::new(rt.alloc());
@@ -310,6 +221,7 @@ open 1 => Open(Qid { kind: 0, vers: 4, path: 3 })
     session
 }
 
+/// Between the find of an attach and the attach every other step is S5; so is a second attach.
 #[test]
 fn takes_no_other_step_while_an_attach_is_awaited(rt: HostRuntime) {
     let mut port = Fake::new(rt.alloc());
@@ -375,10 +287,12 @@ fn expect_pair(
     assert!(rt; pair.0.len() >= 7);
     let reply = session.reply(rt.alloc(), port, 1, pair.0);
     let mut out = Vec::new(rt.alloc());
-    encode(&reply, &mut out).expect(rt, "memory");
+    encode_reply(&reply, &mut out).expect(rt, "memory");
     assert!(rt; out.as_slice() == pair.1);
 }
 
+/// Byte for byte: S1 without a session, a flush without one, an unknown version, an msize of
+/// 131,072 that becomes 65,536, a byte after the last field, a Tauth, and a clunk of no fid.
 #[test]
 fn answers_bytes_with_the_tag_of_the_message(rt: HostRuntime) {
     let mut port = Fake::new(rt.alloc());

@@ -54,6 +54,8 @@ fn expect_same(rt: &impl Abort, both: (String, String)) {
     assert!(rt; copy.as_str() == said.as_str(), "{copy}");
 }
 
+/// A copy of each message that asks a call, of an attach, of a version, and of each other change of
+/// the table, says the same.
 #[test]
 fn a_copy_of_each_message_says_the_same(rt: HostRuntime) {
     for words in CALLS.lines() {
@@ -62,6 +64,8 @@ fn a_copy_of_each_message_says_the_same(rt: HostRuntime) {
     expect_same(&rt, attach_and_copy(&rt, rt.alloc()));
 }
 
+/// A copy of each message that asks a call, of an attach, of a version, and of each other change of
+/// the table, says the same.
 #[test]
 fn a_copy_of_each_change_of_a_table_says_the_same(rt: HostRuntime) {
     let alloc = rt.alloc();

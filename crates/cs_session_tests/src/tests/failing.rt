@@ -2,7 +2,8 @@
 
 use super::lone_run::{Alone, REPLIES, REQUESTS, WHOLE};
 use super::streams::Standing;
-use cs_session::{ServeFault, TwoEnded, serve_stream};
+use cs_session::{ServeFault, serve_stream};
+use cs_stream::TwoEnded;
 use cs_wire::FrameFault;
 use std::alloc::Global;
 use std::io::{self, Error, ErrorKind, Read, Write};
@@ -151,6 +152,8 @@ fn expect_cut(rt: &(impl Abort + AllocGlobal), place: usize) {
     assert!(rt; opens == 0, "at {place}");
 }
 
+/// The first exchange's 121 bytes, ended behind each: Ok behind each message, else Cut, with the
+/// replies of the whole messages, and no file open.
 #[test]
 fn a_stream_that_is_cut_has_the_replies_of_its_whole_messages(rt: HostRuntime) {
     for place in 0..=121usize {
@@ -168,7 +171,8 @@ fn after(good: u32, interruptions: u32, end: End) -> Plan {
     }
 }
 
-/// Serves the exchange, and looks for what it comes to, and that what was written begins the replies.
+/// Serves the exchange, and looks for what it comes to, and that what was written begins the
+/// replies.
 fn expect_end(
     rt: &(impl Abort + AllocGlobal),
     reads: Plan,
@@ -238,6 +242,7 @@ fn any_two_pieces_of_a_read_join(rt: HostRuntime) {
     }
 }
 
+/// The exchange comes a byte at a time: the replies are whole.
 #[test]
 fn the_first_exchange_is_read_byte_by_byte(rt: HostRuntime) {
     let reads = Plan {

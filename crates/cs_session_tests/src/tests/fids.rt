@@ -1,5 +1,5 @@
 //! Examples of fids and of a connection's table of them.
-use cs_fids::{Entry, Fid, FidFault, FidTable, NOFID, Place, Walked};
+use cs_fids::{Fid, FidEntry, FidFault, FidTable, NOFID, Place, Walked};
 use cs_names::{Name, UserName};
 use std::process::Abort;
 
@@ -14,7 +14,7 @@ fn put(rt: &(impl Abort + AllocGlobal), table: &mut FidTable, fid: u32, number: 
     let walked = fid_of(rt, number);
     table.reserve().expect(rt, "room");
     assert!(rt; table.has_room() && fid != NOFID);
-    assert!(rt; table.put(fid, Entry::Walked(walked)).is_ok());
+    assert!(rt; table.put(fid, FidEntry::Walked(walked)).is_ok());
 }
 
 /// A table where fid 1 was walked to file 10, and fid 2 to file 20 and opened.
@@ -31,6 +31,8 @@ fn number_at(table: &FidTable, fid: u32) -> Option<u64> {
     Some(table.look(fid)?.number())
 }
 
+/// ann's fid of file 1 moves to file 7 and is opened in mode 0x41 by the open 12: run 2, pass 5 and
+/// file 7 stay.
 #[test]
 fn moves_a_fid_and_opens_it(rt: HostRuntime) {
     let walked = fid_of(&rt, 1).try_clone().expect(&rt, "memory").moved_to(7);
@@ -41,21 +43,24 @@ fn moves_a_fid_and_opens_it(rt: HostRuntime) {
 }
 
 /// Looks at the run, the pass, the file and the user of an entry.
-fn expect_entry(rt: &impl Abort, entry: &Entry, number: u64) {
+fn expect_entry(rt: &impl Abort, entry: &FidEntry, number: u64) {
     assert!(rt; entry.run() == 2 && entry.pass() == 5 && entry.number() == number);
     assert!(rt; entry.user().as_str() == "ann");
 }
 
+/// An entry that is walked to and one that is open tell run, pass, file and user alike, and each is
+/// only what it is.
 #[test]
 fn tells_of_an_entry_whatever_its_state(rt: HostRuntime) {
-    let walked = Entry::Walked(fid_of(&rt, 3));
+    let walked = FidEntry::Walked(fid_of(&rt, 3));
     expect_entry(&rt, &walked, 3);
     assert!(rt; walked.as_walked().is_some() && walked.as_opened().is_none());
-    let opened = Entry::Opened(fid_of(&rt, 4).open(1, 0));
+    let opened = FidEntry::Opened(fid_of(&rt, 4).open(1, 0));
     expect_entry(&rt, &opened, 4);
     assert!(rt; opened.as_walked().is_none() && opened.as_opened().is_some());
 }
 
+/// Fid 1 moves from file 10 to file 6 and is opened; fid 2 stays at file 20.
 #[test]
 fn changes_a_fid_in_its_place(rt: HostRuntime) {
     let mut table = table_of_two(&rt);
@@ -66,6 +71,7 @@ fn changes_a_fid_in_its_place(rt: HostRuntime) {
     assert!(rt; number_at(&table, 2) == Some(20));
 }
 
+/// A read of fid 2 ended at 61 with the name `s`.
 #[test]
 fn keeps_the_place_of_a_read(rt: HostRuntime) {
     let mut table = table_of_two(&rt);
@@ -85,6 +91,8 @@ fn expect_not_walked(rt: &impl Abort, table: &mut FidTable, fid: u32, fault: Fid
     assert!(rt; table.move_to(fid, 1) == Err(fault));
 }
 
+/// Numbers 0 and NOFID are Unknown and the open fid 2 is AlreadyOpen, to take, open and move; fid 1
+/// can be taken.
 #[test]
 fn refuses_to_take_or_open_what_was_not_walked_to(rt: HostRuntime) {
     let mut table = table_of_two(&rt);
@@ -100,6 +108,7 @@ fn expect_not_open(rt: &impl Abort, table: &mut FidTable, fid: u32, fault: FidFa
     assert!(rt; table.get_opened(fid).err() == Some(fault));
 }
 
+/// Number 0 is Unknown and fid 1 is NotOpen, to lend and to go on reading.
 #[test]
 fn refuses_to_read_on_where_no_fid_is_open(rt: HostRuntime) {
     let mut table = table_of_two(&rt);
@@ -113,6 +122,7 @@ fn expect_taken(rt: &impl Abort, table: &mut FidTable, fid: u32, number: u64) {
     assert!(rt; table.take_any(fid).is_err());
 }
 
+/// Fids 1 and 2 can be taken once, and not twice.
 #[test]
 fn takes_a_fid_in_any_state_once(rt: HostRuntime) {
     let mut table = table_of_two(&rt);
@@ -120,12 +130,13 @@ fn takes_a_fid_in_any_state_once(rt: HostRuntime) {
     expect_taken(&rt, &mut table, 2, 20);
 }
 
+/// A fid of file 30 put at 1 is InUse and comes back; 1 still stands for file 10.
 #[test]
 fn gives_a_fid_back_where_its_number_is_taken(rt: HostRuntime) {
     let mut table = table_of_two(&rt);
     let walked = fid_of(&rt, 30);
     table.reserve().expect(&rt, "room");
-    let refused = table.put(1, Entry::Walked(walked)).err();
+    let refused = table.put(1, FidEntry::Walked(walked)).err();
     let (fault, entry) = refused.expect(&rt, "a refusal");
     assert!(rt; fault == FidFault::InUse && entry.number() == 30);
     assert!(rt; number_at(&table, 1) == Some(10));
@@ -153,6 +164,7 @@ fn expect_after_take(rt: &impl Abort, table: &mut FidTable, fid: u32, least: u32
     assert!(rt; table.least_open() == Some(least));
 }
 
+/// Of 9, 1, 7 and 3 none is open; after the opens of 7, 3 and 9 the least is 7, 3 and 3.
 #[test]
 fn finds_the_least_open_fid(rt: HostRuntime) {
     let mut table = table_of_four(&rt);
@@ -167,9 +179,11 @@ fn put_opened(rt: &(impl Abort + AllocGlobal), table: &mut FidTable, fid: u32) {
     let opened = fid_of(rt, 0).open(0, fid);
     table.reserve().expect(rt, "room");
     assert!(rt; fid != NOFID);
-    assert!(rt; table.put(fid, Entry::Opened(opened)).is_ok());
+    assert!(rt; table.put(fid, FidEntry::Opened(opened)).is_ok());
 }
 
+/// Of 9, 1, 7 and 3 the first and the last are opened, and 5 is put as open: after the takes of 3,
+/// 7 and 5 the least is 5, 5 and 9.
 #[test]
 fn finds_the_next_open_fid_once_the_least_is_taken(rt: HostRuntime) {
     let mut table = table_of_four(&rt);
@@ -183,6 +197,8 @@ fn finds_the_next_open_fid_once_the_least_is_taken(rt: HostRuntime) {
     assert!(rt; table.least_open().is_none() && table.len() == 0);
 }
 
+/// 4,096 fids leave no room, and one more is TableFull. Fid 2,000 can be taken, and fid 4,095
+/// stays.
 #[test]
 fn takes_no_more_than_4_096_fids(rt: HostRuntime) {
     let mut table = FidTable::new(rt.alloc());
@@ -208,6 +224,7 @@ const SAID: [Said; 6] = [
     Said(FidFault::Memory, "out of memory"),
 ];
 
+/// The six faults in words.
 #[test]
 fn says_why_a_call_was_refused(rt: HostRuntime) {
     for said in &SAID {

@@ -42,6 +42,7 @@ fn expect_end(rt: &impl Abort, framer: &Framer, taken: usize) {
     assert!(rt; framer.end().is_ok());
 }
 
+/// The first exchange, fed in pieces of one byte: the same seven messages, and nothing is left.
 #[test]
 fn pieces_of_one_byte_give_the_same_messages(rt: HostRuntime) {
     assert!(rt; EXCHANGE.len() == 121);
@@ -61,6 +62,7 @@ fn expect_cut(rt: &(impl Abort + AllocGlobal), front: &[u8], back: &[u8]) {
     expect_end(rt, &framer, taken);
 }
 
+/// Cut in two at each place: the same.
 #[test]
 fn a_stream_cut_in_two_gives_the_same_messages(rt: HostRuntime) {
     for place in 0..=EXCHANGE.len() {
@@ -80,6 +82,8 @@ fn expect_none(rt: &impl Abort, framer: &mut Framer) {
     assert!(rt; framer.next().expect(rt, "no fault").is_none());
 }
 
+/// A Tversion and three bytes more: one message, then None; the three stay buffered, and an end
+/// there is Cut.
 #[test]
 fn three_bytes_more_stay_buffered(rt: HostRuntime) {
     let mut framer = Framer::new(rt.alloc());
@@ -103,12 +107,14 @@ fn expect_fault(rt: &(impl Abort + AllocGlobal), size: &[u8], fault: FrameFault)
     assert!(rt; framer.buffered().1 == 0);
 }
 
+/// A size of 6 is Undersize and one of 65,537 Oversize, and again after more bytes.
 #[test]
 fn a_size_that_no_message_has_is_told_again(rt: HostRuntime) {
     expect_fault(&rt, b"\x06\0\0\0", FrameFault::Undersize);
     expect_fault(&rt, b"\x01\0\x01\0", FrameFault::Oversize);
 }
 
+/// A message of 65,536 bytes comes when its last byte does.
 #[test]
 fn a_message_of_65536_bytes_is_whole(rt: HostRuntime) {
     let bytes = vec![in rt.alloc(); 0; 65_531].expect(&rt, "memory");
@@ -121,13 +127,15 @@ fn a_message_of_65536_bytes_is_whole(rt: HostRuntime) {
     assert!(rt; message.expect(&rt, "it is whole").len() == 65_536);
 }
 
+/// What is written into the room is taken; with room nothing moves, without it the place is 0
+/// again.
 #[test]
 fn what_is_written_to_the_room_comes_as_if_it_was_fed(rt: HostRuntime) {
     let mut framer = Framer::new(rt.alloc());
     framer.reserve(64).expect(&rt, "memory");
     let (front, _) = framer.room().split_at_mut(19);
     front.copy_from_slice(MESSAGES[0]);
-    framer.took(19);
+    framer.advance(19);
     expect_next(&rt, &mut framer, MESSAGES[0]);
     framer.reserve(45).expect(&rt, "memory");
     assert!(rt; framer.buffered().1 == 19);

@@ -2,7 +2,7 @@
 
 use super::lone_run::Alone;
 use cs_session::Session;
-use cs_wire::{WireFault, decode};
+use cs_wire::{WireFault, decode_request};
 use std::alloc::Global;
 use std::process::Abort;
 
@@ -71,11 +71,13 @@ fn expect_malformed(rt: &(impl Abort + AllocGlobal), bytes: &[u8]) {
 
 /// Looks for the fault, and that a session tells that it is malformed.
 fn expect_faulty(rt: &(impl Abort + AllocGlobal), faulty: &Faulty) {
-    let told = decode(rt.alloc(), faulty.0).err();
+    let told = decode_request(rt.alloc(), faulty.0).err();
     assert!(rt; told == Some(faulty.1));
     expect_malformed(rt, faulty.0);
 }
 
+/// Seven messages of a type that there isn't, that end too soon, that have a NUL in a text, 17
+/// names, a byte too many, or sizes that don't agree; each of them in a session is S2.
 #[test]
 fn a_malformed_message_is_told_in_a_session(rt: HostRuntime) {
     for faulty in &FAULTS {
@@ -102,6 +104,7 @@ fn write(rt: &impl Abort, alloc: Global, count: u16) -> Vec<u8> {
     bytes
 }
 
+/// In a session of 1,024 bytes a message of 1,025 bytes is S2, and one of 1,024 is not.
 #[test]
 fn a_message_past_its_sessions_size_is_malformed(rt: HostRuntime) {
     let bytes = write(&rt, rt.alloc(), 1_002);

@@ -1,7 +1,8 @@
 //! Messages as they stand on the wire, from outside.
 
 use cs_wire::{
-    RBody, RMessage, Stat, TBody, TMessage, WireFault, decode, decode_r, encode, encode_t,
+    RBody, RMessage, Stat, TBody, TMessage, WireFault, decode_reply, decode_request, encode_reply,
+    encode_request,
 };
 use std::borrow::CowStr;
 use std::process::Abort;
@@ -65,19 +66,22 @@ const REQUESTS: [Spelled; 14] = [
 fn expect_request_written(rt: &(impl Abort + AllocGlobal), message: &TMessage<'_>, bytes: &[u8]) {
     assert!(rt; message.fits());
     let mut out = Vec::new(rt.alloc());
-    encode_t(message, &mut out).expect(rt, "memory");
+    encode_request(message, &mut out).expect(rt, "memory");
     assert!(rt; out.as_slice() == bytes);
     assert!(rt; message.spelled_length() == bytes.len());
 }
 
 fn expect_request(rt: &(impl Abort + AllocGlobal), spelled: &Spelled) {
-    let message = decode(rt.alloc(), spelled.0).expect(rt, "a message");
+    let message = decode_request(rt.alloc(), spelled.0).expect(rt, "a message");
     let mut shown = String::new(rt.alloc());
     write!(shown, "{message}").expect(rt, "memory");
     assert!(rt; shown.as_str() == spelled.1, "{shown}");
     expect_request_written(rt, &message, spelled.0);
 }
 
+/// The requests of the first exchange, and versions `9P2000.L` and `8P`: read, printed, and written
+/// again to the same bytes. So are a Tcreate, a Twrite, a Tremove, and a Twstat that changes the
+/// name alone.
 #[test]
 fn requests_are_read_and_written_again(rt: HostRuntime) {
     for spelled in &REQUESTS {
@@ -136,19 +140,21 @@ const REPLIES: [Spelled; 15] = [
 fn expect_reply_written(rt: &(impl Abort + AllocGlobal), message: &RMessage, bytes: &[u8]) {
     assert!(rt; message.fits());
     let mut out = Vec::new(rt.alloc());
-    encode(message, &mut out).expect(rt, "memory");
+    encode_reply(message, &mut out).expect(rt, "memory");
     assert!(rt; out.as_slice() == bytes);
     assert!(rt; message.spelled_length() == bytes.len());
 }
 
 fn expect_reply(rt: &(impl Abort + AllocGlobal), spelled: &Spelled) {
-    let message = decode_r(rt.alloc(), spelled.0).expect(rt, "a reply");
+    let message = decode_reply(rt.alloc(), spelled.0).expect(rt, "a reply");
     let mut shown = String::new(rt.alloc());
     write!(shown, "{message}").expect(rt, "memory");
     assert!(rt; shown.as_str() == spelled.1, "{shown}");
     expect_reply_written(rt, &message, spelled.0);
 }
 
+/// Their replies, `unknown`, an Rerror `S1 no session`, an Rwalk of two qids, an Rcreate, an
+/// Rwrite, an Rremove and an Rwstat, likewise.
 #[test]
 fn replies_are_read_and_written_again(rt: HostRuntime) {
     for spelled in &REPLIES {
@@ -181,10 +187,14 @@ const FAULTS: [Faulty; 9] = [
 ];
 
 fn expect_fault(rt: &(impl Abort + AllocGlobal), faulty: &Faulty) {
-    let fault = decode(rt.alloc(), faulty.0).err().expect(rt, "a fault");
+    let fault = decode_request(rt.alloc(), faulty.0)
+        .err()
+        .expect(rt, "a fault");
     assert!(rt; fault == faulty.1);
 }
 
+/// Type 106; a size that lies; a text that runs past the end; a NUL; 17 names; a byte too many; 6
+/// bytes; a write with one byte less than its count, and one more. Each has its fault.
 #[test]
 fn the_first_fault_is_told(rt: HostRuntime) {
     for faulty in &FAULTS {
@@ -224,10 +234,15 @@ const REPLY_FAULTS: [Faulty; 10] = [
 ];
 
 fn expect_reply_fault(rt: &(impl Abort + AllocGlobal), faulty: &Faulty) {
-    let fault = decode_r(rt.alloc(), faulty.0).err().expect(rt, "a fault");
+    let fault = decode_reply(rt.alloc(), faulty.0)
+        .err()
+        .expect(rt, "a fault");
     assert!(rt; fault == faulty.1);
 }
 
+/// 17 qids; a stat whose inner size lies, and one of one byte; type 106; data that run past the
+/// end; a stat with a text that runs past it, a NUL, a byte left in it, a byte after it, and bytes
+/// that are missing.
 #[test]
 fn the_first_fault_of_a_reply_is_told(rt: HostRuntime) {
     for faulty in &REPLY_FAULTS {
@@ -284,6 +299,10 @@ const STAT_FAULTS: [Faulty; 12] = [
     Faulty(b"\x0c\0\0\0~\x01\0\x01\0\0\0\0", WireFault::Short),
 ];
 
+/// A Twstat whose stat has no room for its size; with a size one above and one below; with a text
+/// that runs past the stat; without its last text; with a NUL; with a text that is no UTF-8 before
+/// one that runs past; with a byte left in it, and after it; and with a stat that runs past the
+/// message.
 #[test]
 fn the_first_fault_of_a_stat_is_told(rt: HostRuntime) {
     for faulty in &STAT_FAULTS {
@@ -291,6 +310,7 @@ fn the_first_fault_of_a_stat_is_told(rt: HostRuntime) {
     }
 }
 
+/// A reply to a version whose text is a constant is written to its bytes.
 #[test]
 fn a_reply_to_version_can_have_a_constant_text(rt: HostRuntime) {
     let body = RBody::Version {
@@ -314,9 +334,10 @@ fn expect_entry(rt: &(impl Abort + AllocGlobal), stat: &Stat, bytes: &[u8]) {
     assert!(rt; stat.entry_length() == 61);
 }
 
+/// An entry alone is the last 61 bytes of the Rstat that has it.
 #[test]
 fn an_entry_is_what_a_reply_to_stat_holds(rt: HostRuntime) {
-    let reply = decode_r(rt.alloc(), F).expect(&rt, "a reply");
+    let reply = decode_reply(rt.alloc(), F).expect(&rt, "a reply");
     let RBody::Stat { stat } = &reply.body else {
         panic!(rt; "the reply is Rstat");
     };
@@ -338,9 +359,10 @@ fn taken_apart(stat: Stat) -> (u32, String, String) {
     (mode, name, gid)
 }
 
+/// The stat of a Twstat is taken apart, and its texts are moved out.
 #[test]
 fn a_stat_that_was_read_is_taken_apart(rt: HostRuntime) {
-    let request = decode(rt.alloc(), NAMED_G).expect(&rt, "a message");
+    let request = decode_request(rt.alloc(), NAMED_G).expect(&rt, "a message");
     let TBody::Wstat { fid, stat } = request.body else {
         panic!(rt; "the message is Twstat");
     };

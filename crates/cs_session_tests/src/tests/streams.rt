@@ -1,8 +1,7 @@
 //! Connections over streams, whose bytes come in every way, and whose calls fail.
-use super::connections::Fake;
-use cs_session::{
-    Clock, Counted, Counts, ServeFault, Stream, Transfer, TwoEnded, serve_stream, write_all,
-};
+use super::fake_port::Fake;
+use cs_session::{Clock, ServeFault, serve_stream};
+use cs_stream::{Counted, Counts, Stream, Transfer, TwoEnded, write_all};
 use cs_wire::FrameFault;
 use std::alloc::Global;
 use std::io::{self, Error, ErrorKind, Read, Write};
@@ -165,6 +164,7 @@ const UNDERSIZE: Result<(), ServeFault> = Err(ServeFault::FrameFault(FrameFault:
 
 const OVERSIZE: Result<(), ServeFault> = Err(ServeFault::FrameFault(FrameFault::Oversize));
 
+/// A Tversion and three bytes more through `serve_stream`: one Rversion, then FrameFault Cut.
 #[test]
 fn a_version_and_three_bytes_more_is_cut(rt: HostRuntime) {
     expect_served(
@@ -175,6 +175,7 @@ fn a_version_and_three_bytes_more_is_cut(rt: HostRuntime) {
     );
 }
 
+/// A size of 6 is FrameFault Undersize, one of 65,537 Oversize; nothing is written.
 #[test]
 fn a_size_that_no_message_has_ends_the_connection(rt: HostRuntime) {
     expect_served(&rt, b"\x06\0\0\0d\xff\xff".as_slice(), UNDERSIZE, b"");
@@ -190,6 +191,8 @@ fn cut_up(most: usize, interruptions: u32) -> Pieces<'static> {
     }
 }
 
+/// A version, an attach, an open and a clunk in pieces of one byte, of two, of seven, and whole:
+/// the same replies.
 #[test]
 fn pieces_of_one_byte_have_the_same_replies(rt: HostRuntime) {
     expect_served(&rt, cut_up(1, 0), Ok(()), REPLIES);
@@ -198,6 +201,7 @@ fn pieces_of_one_byte_have_the_same_replies(rt: HostRuntime) {
     expect_served(&rt, cut_up(1_000, 0), Ok(()), REPLIES);
 }
 
+/// Cut in two at each place: the same.
 #[test]
 fn a_stream_cut_in_two_has_the_same_replies(rt: HostRuntime) {
     for place in 0..=ALL_REQUESTS.len() {
@@ -233,6 +237,8 @@ const READ_FAULT: Result<(), ServeFault> = Err(ServeFault::ReadFault);
 
 const WRITE_FAULT: Result<(), ServeFault> = Err(ServeFault::WriteFault);
 
+/// 999 interrupted reads in a row, and the stream goes on; 1,000 are a ReadFault. Likewise of
+/// writes; 1,000 are a WriteFault.
 #[test]
 fn a_thousand_interruptions_in_a_row_are_too_many(rt: HostRuntime) {
     expect_served(&rt, cut_up(64, 999), Ok(()), REPLIES);
@@ -250,6 +256,8 @@ fn new_client(alloc: Global) -> Client {
     }
 }
 
+/// A client over `Counted` sends each request once it has the reply to the one before; then its
+/// connection is reset. All four replies, ReadFault, five reads of which one failed.
 #[test]
 fn a_client_has_each_reply_before_it_sends_more(rt: HostRuntime) {
     let mut stream = Counted::new(new_client(rt.alloc()));
@@ -261,6 +269,8 @@ fn a_client_has_each_reply_before_it_sends_more(rt: HostRuntime) {
     assert!(rt; stream.into_inner().replies.as_slice() == REPLIES);
 }
 
+/// The clock tells a minute more each time, from the second 720 on. A version asks nothing; the
+/// attach is asked at 780, the open at 840, and the close at the hang-up at 900.
 #[test]
 fn each_message_is_answered_at_a_moment_of_its_own(rt: HostRuntime) {
     let mut stream = TwoEnded::new(THREE_REQUESTS, Vec::new(rt.alloc()));
@@ -272,12 +282,15 @@ fn each_message_is_answered_at_a_moment_of_its_own(rt: HostRuntime) {
     assert!(rt; port.moments.as_slice() == [780, 840, 900].as_slice());
 }
 
+/// A writer that takes one byte at a time gets all; one that takes none is a WriteFault, and
+/// counted.
 #[test]
 fn writes_go_on_until_one_takes_no_byte(rt: HostRuntime) {
     expect_narrow(&rt, 1, 0, Ok(()), REPLIES, 0);
     expect_narrow(&rt, 0, 0, WRITE_FAULT, b"", 1);
 }
 
+/// A fid is open when the stream breaks off: its open is closed.
 #[test]
 fn it_hangs_up_before_it_returns(rt: HostRuntime) {
     let mut stream = TwoEnded::new(UNFINISHED, Vec::new(rt.alloc()));
@@ -287,6 +300,7 @@ fn it_hangs_up_before_it_returns(rt: HostRuntime) {
     assert!(rt; port.closed.as_slice() == [0].as_slice());
 }
 
+/// `Counted` over a cursor: one write, and one read that meets the end.
 #[test]
 fn counts_the_calls_of_a_stream(rt: HostRuntime) {
     let mut stream = Counted::new(io::Cursor::new(Vec::new(rt.alloc())));

@@ -66,6 +66,9 @@ state 23 hole 4 7 says 0
 state 24 hole 5 7 says 0
 ";
 
+/// `/t` is made, written, linked to `/m` and removed, `/m` is moved to itself and appended to: the
+/// whole list, of seven micro-operations and 25 states. State 4 has `/m` and `/t` with the same
+/// bytes.
 #[test]
 fn a_file_stays_while_it_has_a_path(rt: HostRuntime) {
     let alloc = rt.alloc();
@@ -87,6 +90,7 @@ fn a_file_may_lose_its_first_path_before_it_has_the_second(rt: HostRuntime) {
     has_files(&rt, alloc, &scene, 15, 1);
 }
 
+/// The pick `[3]`, the new path alone, isn't allowed.
 #[test]
 fn a_path_that_is_linked_needs_the_making_of_its_file(rt: HostRuntime) {
     let fault = fault_of(&rt, rt.alloc(), &SECOND_PATH, &[&[0, 3], &[3]]);
@@ -131,6 +135,8 @@ state 2 prefix 2 says 0
 state 3 hole 0 2 says 0
 ";
 
+/// `/f` and its link `/g` are there at the start; `/g` is written and `/f` removed. The list of
+/// four states; state 1 has the new byte at both, and state 3, `hole 0 2`, the old one at `/g`.
 #[test]
 fn a_write_by_one_path_of_a_file_shows_at_the_other(rt: HostRuntime) {
     let alloc = rt.alloc();
@@ -150,6 +156,7 @@ const KEPT: &str = "0 / 0 cat staff 775 0 0 cat d
 2 /g 0 ann staff 644 0 0 ann 1: 1y
 ";
 
+/// `/g` alone is written: the new byte shows at both, which no operation touches.
 #[test]
 fn paths_of_one_file_that_no_operation_touches_show_what_was_written(rt: HostRuntime) {
     let tree = state_of(&rt, rt.alloc(), START, &[OVERWRITTEN], &[0]);

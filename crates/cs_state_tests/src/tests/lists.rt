@@ -32,6 +32,9 @@ state 11 hole 2 4 says 0
 state 12 pick 3 says 0
 ";
 
+/// A file `/t` is made, written with 5,000 bytes, waited for by an fsync and renamed to `/a`, with
+/// holes and the pick `[3]`: the whole list, of five micro-operations and 13 states, with `state 11
+/// hole 2 4 says 0` and `state 12 pick 3 says 0`.
 #[test]
 fn a_file_that_is_written_and_moved_has_twelve_states(rt: HostRuntime) {
     let scene = whole_file(&rt, rt.alloc(), &[&[3]]);
@@ -83,6 +86,7 @@ fn is_told(rt: &impl Abort, alloc: Global, fault: SceneFault, wanted: &str) {
     assert!(rt; told.as_str() == wanted, "{told}");
 }
 
+/// The pick `[4]` is `pick 0 not allowed`; of several picks the first that isn't allowed is named.
 #[test]
 fn a_pick_that_lacks_what_it_needs_is_not_allowed(rt: HostRuntime) {
     let trace = written_and_moved(&rt, rt.alloc());
@@ -121,6 +125,8 @@ state 8 pick - says 0
 state 9 pick 0,3 says 1
 ";
 
+/// A file is made, moved twice and told of: states 5 to 7 are the holes that end with the text, and
+/// no other hole is listed; states that have the text say 1.
 #[test]
 fn a_hole_is_listed_where_its_last_place_stays(rt: HostRuntime) {
     let scene = scene_of(&rt, rt.alloc(), &TWO_MOVES, true, &[&[], &[0, 3]]);
@@ -140,12 +146,15 @@ const SYNCED_MOVES: [&str; 6] = [
     SAID,
 ];
 
+/// With a sync before the text there are five prefixes and no hole.
 #[test]
 fn what_a_sync_waits_for_has_no_hole(rt: HostRuntime) {
     let scene = scene_of(&rt, rt.alloc(), &SYNCED_MOVES, true, &[]);
     assert!(rt; scene.plan().len() == 5);
 }
 
+/// A header alone has the list `state 0 prefix 0 says 0`, and a state 0 without a file; there is no
+/// state 1.
 #[test]
 fn a_trace_without_operations_has_one_state(rt: HostRuntime) {
     let scene = scene_of(&rt, rt.alloc(), &[HEADER], true, &[]);
@@ -161,7 +170,8 @@ fn empty_picks(rt: &impl Abort, alloc: Global, count: u32) -> Vec<Places> {
     picks
 }
 
-/// The plan has so many states, with holes and so many picks of no place; with none it is too large.
+/// The plan has so many states, with holes and so many picks of no place; with none it is too
+/// large.
 fn has_states(rt: &impl Abort, alloc: Global, trace: Trace, picks: u32, wanted: Option<usize>) {
     let picks = empty_picks(rt, alloc, picks);
     match Scene::of(alloc, trace, true, picks) {
@@ -170,6 +180,8 @@ fn has_states(rt: &impl Abort, alloc: Global, trace: Trace, picks: u32, wanted: 
     }
 }
 
+/// 180 files that are made have 16,291 states; with 93 picks 16,384, with one more `plan too
+/// large`, as with 181 files.
 #[test]
 fn a_plan_has_16384_states_and_no_more(rt: HostRuntime) {
     let alloc = rt.alloc();
@@ -193,6 +205,8 @@ fn is_fault(rt: &impl Abort, alloc: Global, trace: Trace, wanted: SceneFault) {
     assert!(rt; Scene::of(alloc, trace, true, picks).err() == Some(wanted));
 }
 
+/// A plan that is too large is told before a pick that isn't allowed; and too many micro-operations
+/// before both.
 #[test]
 fn a_plan_that_is_too_large_is_told_before_a_pick(rt: HostRuntime) {
     let alloc = rt.alloc();
@@ -202,6 +216,8 @@ fn a_plan_that_is_too_large_is_told_before_a_pick(rt: HostRuntime) {
     is_fault(&rt, alloc, too_large, SceneFault::PlanTooLarge);
 }
 
+/// A plan that is too large is told before a pick that isn't allowed; and too many micro-operations
+/// before both.
 #[test]
 fn more_than_1024_micro_operations_make_no_scene(rt: HostRuntime) {
     let trace = creats(&rt, rt.alloc(), 1_025);
@@ -210,6 +226,7 @@ fn more_than_1024_micro_operations_make_no_scene(rt: HostRuntime) {
 
 const CREAT_T: &str = r#"{"op":"creat","path":"/t","owner":"ann","group":"staff","mode":"644"}"#;
 
+/// The faults in words.
 #[test]
 fn faults_are_told_as_the_program_tells_them(rt: HostRuntime) {
     let alloc = rt.alloc();

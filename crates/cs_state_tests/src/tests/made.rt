@@ -60,6 +60,8 @@ fn torn(rt: &impl Abort, alloc: Global) -> Vec<u8> {
     bytes
 }
 
+/// State 2 is `/t` of 5,000 zeros, state 5 `/a` whole, state 11 `/t` whose first 4,096 bytes are
+/// zero; states 9 and 12 have no file.
 #[test]
 fn a_file_that_is_written_and_moved_is_whole_torn_or_gone(rt: HostRuntime) {
     let alloc = rt.alloc();
@@ -80,6 +82,8 @@ fn is_missing(rt: &impl Abort, alloc: Global, scene: &Arc<Scene>, number: u32) {
     assert!(rt; fault == Some(MakeFault::NoSuchState));
 }
 
+/// A header alone has the list `state 0 prefix 0 says 0`, and a state 0 without a file; there is no
+/// state 1.
 #[test]
 fn a_state_is_one_of_the_plan(rt: HostRuntime) {
     let alloc = rt.alloc();
@@ -137,6 +141,7 @@ fn stands_alone(rt: &impl Abort, alloc: Global, scene: &Arc<Scene>, place: &Plac
     assert!(rt; state.store().count() == 2);
 }
 
+/// Its states have the file at `/a`, `/b` or `/c`, and without its making nowhere.
 #[test]
 fn a_hole_leaves_a_file_where_it_was_moved_from(rt: HostRuntime) {
     let alloc = rt.alloc();
@@ -236,6 +241,8 @@ fn has_grown(rt: &impl Abort, alloc: Global, scene: &Arc<Scene>, number: u32, la
     has_bytes(rt, alloc, scene, number, "/f", &wanted);
 }
 
+/// Six micro-operations of `/f` on the start tree of the first exchange: what states 0 to 6 and the
+/// picks `[2]` and `[1,4]` leave of it; `[3]` and `[4]` aren't allowed.
 #[test]
 fn a_file_that_grows_is_cut_written_and_moved(rt: HostRuntime) {
     let alloc = rt.alloc();
@@ -280,6 +287,7 @@ const AFTER_THE_MOVE: [At; 3] = [
     },
 ];
 
+/// After all six `/n` is ann's with mode 664 and number 4, and `/p` has number 5.
 #[test]
 fn a_file_that_is_moved_keeps_its_owner_and_takes_the_next_number(rt: HostRuntime) {
     let alloc = rt.alloc();
@@ -362,6 +370,8 @@ fn has_part(rt: &impl Abort, alloc: Global, scene: &Arc<Scene>, part: &Part) {
     );
 }
 
+/// A file grows to 16,777,216 bytes, its last byte is written, and it is cut to five: zeros at
+/// 1,048,576 and before the last byte, nothing from 16,777,216 on, and then five zeros.
 #[test]
 fn a_file_of_the_largest_size_has_zeros_before_its_last_byte(rt: HostRuntime) {
     let alloc = rt.alloc();

@@ -5,6 +5,8 @@ use std::process::Abort;
 
 const FOUR: [&[u32]; 4] = [&[3], &[1, 4], &[], &[4_294_967_295]];
 
+/// Lines of a picks file with `[3]`, nothing, `[ 1, 4 ]` and a carriage return, `[]` and
+/// `[4294967295]`.
 #[test]
 fn a_pick_is_an_array_of_places(rt: HostRuntime) {
     let text = b"[3]\n\n[ 1, 4 ]\r\n[]\n[4294967295]";
@@ -79,6 +81,8 @@ fn is_syntax(rt: &impl Abort, alloc: Global, faulty: &Faulty) {
     assert!(rt; fault == Some(PicksFault::Syntax(faulty.line)));
 }
 
+/// Lines that are none: blanks, a number, `[4294967296]`, `[-1]`, `[1.0]`, `["1"]`, two arrays,
+/// `{}`, `[[1]]`, bytes that are no text; the first is named.
 #[test]
 fn any_other_line_is_syntax(rt: HostRuntime) {
     for faulty in &FAULTS {

@@ -42,6 +42,9 @@ state 7 hole 1 4 says 0
 state 8 hole 2 4 says 0
 ";
 
+/// `blocks`: `/a` is made (ann, staff, 644), its mode set to 600 and its owner to bob, and it is
+/// moved to `/b`. `op 1 set_attr file 0 600 ann staff`, `op 2 set_attr file 0 600 bob staff`; with
+/// holes nine states, the last four `hole 0 2`, `hole 0 3`, `hole 1 4` and `hole 2 4`.
 #[test]
 fn a_file_that_is_given_away_and_moved_has_nine_states(rt: HostRuntime) {
     let scene = scene_of(&rt, rt.alloc(), &SET_AND_MOVED, true, &[]);
@@ -101,6 +104,9 @@ const GIVEN_AWAY: [Left; 5] = [
     },
 ];
 
+/// All four leave `/b` of bob, 600, changed last by bob; the first two and the last `/b` of ann,
+/// 600; the first and the last `/b` of ann, 644; the first alone `/a` of ann, 644; the two changes
+/// alone no file.
 #[test]
 fn a_file_has_the_rights_that_were_set_last(rt: HostRuntime) {
     for left in &GIVEN_AWAY {
@@ -129,6 +135,7 @@ const DIRECTORIES: [Left; 3] = [
     },
 ];
 
+/// A directory is made, and its mode and its group are set.
 #[test]
 fn a_directory_has_the_rights_that_were_set_last(rt: HostRuntime) {
     for left in &DIRECTORIES {
@@ -138,6 +145,7 @@ fn a_directory_has_the_rights_that_were_set_last(rt: HostRuntime) {
 
 const GIVEN_ROOT: &str = r#"{"op":"chown","path":"/","owner":"ann","group":"ann"}"#;
 
+/// The root is given to ann.
 #[test]
 fn the_root_may_be_given_away(rt: HostRuntime) {
     let tree = state_of(&rt, rt.alloc(), BLOCKS, &[GIVEN_ROOT], &[0]);
@@ -169,6 +177,7 @@ fn entries_of_one_directory_may_come_in_any_order(rt: HostRuntime) {
     assert!(rt; shown.as_str().strip_prefix(ROOT) == Some(second));
 }
 
+/// The same in `ordered`: three states, and the pick `[1]` isn't allowed.
 #[test]
 fn entries_may_be_kept_in_order(rt: HostRuntime) {
     let alloc = rt.alloc();
@@ -203,7 +212,8 @@ fn a_scene_of_another_version_is_another(rt: HostRuntime) {
     assert!(rt; !second.has_content_of(&third));
 }
 
-/// A store makes a table, waits for it, and only then gives it to its readers and moves it to its name.
+/// A store makes a table, waits for it, and only then gives it to its readers and moves it to its
+/// name.
 const STORE: &str =
     r#"{"start":"file","path":"/table","owner":"kv","group":"readers","mode":"640","bytes":"613d310a"}
 {"op":"creat","path":"/table.new","owner":"kv","group":"kv","mode":"644"}

@@ -3,7 +3,7 @@ ghost use Rattle.std.specs.Prelude.{◌<◌, length};
 ghost use Rattle.std.specs.Arc.{arc_value};
 
 use cs_plan::Scene;
-use cs_same::{Parts, are_same_states, are_seen_same, first_same};
+use cs_same_states::{Parts, are_same_states, are_seen_same, first_same};
 use cs_trace::read_trace;
 use std::alloc::Global;
 use std::process::Abort;
@@ -34,9 +34,9 @@ const FIRSTS: [u32; 26] = [
     0, 1, 2, 3, 3, 5, 6, 7, 8, 9, 10, 11, 1, 5, 6, 7, 3, 5, 8, 3, 5, 6, 9, 10, 11, 25,
 ];
 
-/// Each way in which what was done comes to nothing: bytes that stand there already, or that are written
-/// back, a file that is cut and filled again, one that is put in the place of its like, one that goes, and
-/// permissions that are set back.
+/// Each way in which what was done comes to nothing: bytes that stand there already, or that are
+/// written back, a file that is cut and filled again, one that is put in the place of its like, one
+/// that goes, and permissions that are set back.
 const BACK: &str = r#"{"trace":2,"profile":"blocks","owner":"kv","group":"kv","mode":"750"}
 {"start":"file","path":"/data","owner":"kv","group":"kv","mode":"640","bytes":"616263"}
 
@@ -56,8 +56,8 @@ const BACK: &str = r#"{"trace":2,"profile":"blocks","owner":"kv","group":"kv","m
 {"op":"write","path":"/data","offset":2,"bytes":"63"}
 "#;
 
-/// By hand: what is new is the letter that is wrong, the file that is cut or has zeros, the mode, and the
-/// file that stands beside.
+/// By hand: what is new is the letter that is wrong, the file that is cut or has zeros, the mode,
+/// and the file that stands beside.
 const BACK_FIRSTS: [u32; 18] = [0, 0, 2, 0, 4, 5, 0, 7, 0, 9, 10, 11, 0, 13, 14, 15, 0, 0];
 
 /// The first state with the tree of this one, by comparing whole trees.
@@ -138,12 +138,17 @@ fn expect_firsts(rt: &impl Abort, alloc: Global, scene: &Arc<Scene>, firsts: &[u
     }
 }
 
+/// The 26 states of the worked trace: the first states with equal trees, by digests, without the
+/// trees, and by whole trees.
 #[test]
 fn finds_the_first_states_with_equal_trees(rt: HostRuntime) {
     let scene = states_of(&rt, rt.alloc(), STORE, true);
     expect_firsts(&rt, rt.alloc(), &scene, &FIRSTS);
 }
 
+/// Bytes that are written back, a file that is cut and filled again, one that is put in the place
+/// of its like, one that goes, permissions that are set back: the first states with equal trees, by
+/// hand, found in each of these ways.
 #[test]
 fn equal_states_are_found_in_each_way(rt: HostRuntime) {
     let scene = states_of(&rt, rt.alloc(), BACK, false);
@@ -153,6 +158,7 @@ fn equal_states_are_found_in_each_way(rt: HostRuntime) {
 /// There are nine prefixes, and for each of the first seven writes those of the later ones.
 const ALL_EQUAL: [u32; 37] = [0; 37];
 
+/// A zero is written into each of eight blocks of zeros: all 37 states have the first one's tree.
 #[test]
 fn writes_of_what_stands_there_leave_equal_states(rt: HostRuntime) {
     let text = idle_text(&rt, rt.alloc(), 8);

@@ -35,6 +35,8 @@ fn without_the_first_sector(rt: &impl Abort, alloc: Global) -> Vec<u8> {
     bytes
 }
 
+/// Blocks of 512 bytes: `abcd` is written into `/f`, which has `x`, at 510. Two blocks of two
+/// bytes, seven states, and state 6 is `x`, 511 zeros and `cd`.
 #[test]
 fn a_write_across_a_sectors_end_may_be_torn(rt: HostRuntime) {
     let alloc = rt.alloc();
@@ -54,6 +56,8 @@ state 2 prefix 2 says 0
 state 3 hole 0 2 says 0
 ";
 
+/// The same with blocks of 4,096 bytes: one block of four bytes, four states. With 2,048 bytes the
+/// plan is the same, and the scene another.
 #[test]
 fn a_write_within_a_larger_block_is_whole(rt: HostRuntime) {
     let scene = scene_of(&rt, rt.alloc(), &[THIRD, SHORT, WRITTEN], true, &[]);
@@ -122,6 +126,8 @@ fn without_the_row(rt: &impl Abort, alloc: Global) -> Vec<u8> {
     bytes
 }
 
+/// `row` is written at 0 and `end` at 4,096; a sync of three bytes from 4,096 on; a line is
+/// acknowledged. 18 states; state 17 is `hole 2 6`, of 4,099 bytes whose first 4,096 are zeros.
 #[test]
 fn a_sync_of_a_part_covers_no_other_part(rt: HostRuntime) {
     let alloc = rt.alloc();

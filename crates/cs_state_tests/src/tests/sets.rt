@@ -49,7 +49,8 @@ fn needs_just(rt: &impl Abort, order: &Order, wanted: &[&[usize]]) {
     }
 }
 
-/// A file of five bytes grows over a block's end, is cut, written again and moved: six micro-operations.
+/// A file of five bytes grows over a block's end, is cut, written again and moved: six
+/// micro-operations.
 const ONE_FILE: [&str; 4] = [
     r#"{"op":"write","path":"/f","offset":4095,"bytes":"4849"}"#,
     r#"{"op":"truncate","path":"/f","length":1}"#,
@@ -63,6 +64,9 @@ const ALLOWED: [&[u32]; 5] = [&[], &[2], &[1, 4], &[0, 1, 2, 3, 4, 5], &[5]];
 
 const NOT_ALLOWED: [&[u32]; 6] = [&[3], &[4], &[4, 1], &[2, 2], &[6], &[1, 2, 4, 1]];
 
+/// Of the six micro-operations of one file, the second cut needs the first change of size, and the
+/// last write the first. `[2]` and `[1,4]` are allowed, `[3]`, `[4]`, `[4,1]`, `[2,2]` and `[6]`
+/// not.
 #[test]
 fn a_set_has_what_its_places_need(rt: HostRuntime) {
     let order = order_of(&rt, rt.alloc(), &ONE_FILE);
@@ -157,6 +161,8 @@ fn leaves_grown(rt: &impl Abort, alloc: Global, ops: &[MicroOp], places: &[u32],
     assert!(rt; bytes.iter().skip(5).take(4_090).all(|byte| *byte == 0));
 }
 
+/// What these sets leave of `/f`: `hello`, `xello`, `h`, `x`; 4,097 bytes that begin `hello`, with
+/// zeros and then `HI`.
 #[test]
 fn a_set_leaves_the_bytes_that_its_size_covers(rt: HostRuntime) {
     let micros = micros_of(&rt, rt.alloc(), &ONE_FILE);
@@ -203,6 +209,8 @@ const MOVE_TWICE: &str = r#"{"op":"rename","from":"/t","to":"/b"}
 
 const SAY_THERE: &str = r#"{"op":"say","text":"there"}"#;
 
+/// Two renames and a text: the second rename needs the first alone, and by a chain the making too;
+/// behind a sync the text needs all three.
 #[test]
 fn a_chain_is_no_need(rt: HostRuntime) {
     is_chain(&rt, rt.alloc(), "", &[]);
@@ -235,6 +243,8 @@ const DIRECTORY_NEEDS: [&[usize]; 8] = [
     &[0, 2, 3],
 ];
 
+/// A directory that is made, filled, emptied, removed and made again, between two texts and before
+/// an fsync of it.
 #[test]
 fn a_directory_is_there_for_its_entries(rt: HostRuntime) {
     let order = order_of(&rt, rt.alloc(), &DIRECTORY);
@@ -257,6 +267,8 @@ const IN_AND_OUT: [&str; 7] = [
 
 const IN_AND_OUT_NEEDS: [&[usize]; 6] = [&[], &[], &[0, 1], &[0, 2], &[0, 2, 3], &[0, 1, 2, 3, 4]];
 
+/// A file is moved into a directory and out of it, the directory is removed, and `/` is synced
+/// before a text: each move needs the directory, the removal both moves, and the text all of them.
 #[test]
 fn a_move_is_of_both_its_ends(rt: HostRuntime) {
     let order = order_of(&rt, rt.alloc(), &IN_AND_OUT);

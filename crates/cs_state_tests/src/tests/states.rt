@@ -23,7 +23,8 @@ const START: &str = r#"{"trace":1,"owner":"cat","group":"staff","mode":"775"}
 {"start":"dir","path":"/p","owner":"ann","group":"staff","mode":"750"}
 "#;
 
-/// A file of five bytes grows over a block's end, is cut, written again and moved: six micro-operations.
+/// A file of five bytes grows over a block's end, is cut, written again and moved: six
+/// micro-operations.
 const ONE_FILE: [&str; 4] = [
     r#"{"op":"write","path":"/f","offset":4095,"bytes":"4849"}"#,
     r#"{"op":"truncate","path":"/f","length":1}"#,
@@ -98,8 +99,8 @@ fn show_content<T: TreeRead>(
     }
 }
 
-/// A line of what stands at a number: number, path, version, owner, group, permissions, times, who changed
-/// it last, and what is in it.
+/// A line of what stands at a number: number, path, version, owner, group, permissions, times, who
+/// changed it last, and what is in it.
 fn show_line<T: TreeRead>(
     rt: &impl Abort,
     alloc: Global,
@@ -233,6 +234,8 @@ const WRITTEN: [State; 5] = [
     },
 ];
 
+/// States of the six micro-operations on the start tree of the first exchange: `/f` has `hello`,
+/// then 4,092 zeros; `hello`, 4,090 zeros and `HI`; `[2]` leaves `hello`, and `[1,4]` `xello`.
 #[test]
 fn bytes_of_a_state_are_those_that_its_members_wrote(rt: HostRuntime) {
     for state in &WRITTEN {
@@ -248,7 +251,8 @@ const MOVED: &str = "0 / 0 cat staff 775 0 0 cat d
 5 /p 0 ann staff 750 0 0 ann d
 ";
 
-/// The file keeps its owner where it comes to another's place, and the numbers are those of the paths.
+/// The file keeps its owner where it comes to another's place, and the numbers are those of the
+/// paths.
 #[test]
 fn a_moved_file_has_the_number_of_its_new_path(rt: HostRuntime) {
     let all = [0, 1, 2, 3, 4, 5];
@@ -368,6 +372,8 @@ const DIRECTORIES_MADE: [State; 6] = [
     },
 ];
 
+/// A directory is made between others, filled, emptied and removed, and a file is made where
+/// another was: numbers go by path, owner and mode are those of the making.
 #[test]
 fn directories_have_the_owners_of_their_making(rt: HostRuntime) {
     for state in &DIRECTORIES_MADE {

@@ -28,6 +28,8 @@ const AGAIN: Serving = Serving {
     ..LOOPBACK
 };
 
+/// With `--again` and one connection at once, two clients at the same time and one after them are
+/// served one after the other; once the input ends the run's line is `run 0/x entries 6 audit ok`.
 #[test]
 fn three_clients_are_served_one_after_another_until_the_input_ends(rt: HostRuntime) {
     let alloc = rt.alloc();

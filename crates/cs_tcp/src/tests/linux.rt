@@ -1,6 +1,6 @@
 //! A stream as Linux's own client needs it.
 
-use crate::for_linux::ForLinux;
+use crate::for_linux::LinuxStream;
 use std::alloc::Global;
 use std::collections::VecDeque;
 use std::io::{self, Read, Write};
@@ -60,17 +60,21 @@ fn gives<R: Read>(
     assert!(rt; bytes.as_slice() == joined.as_slice());
 }
 
+/// A clunk, a Twstat with an atime, a new mtime and a muid, a clunk and three bytes more, read five
+/// bytes at a time: the Twstat has neither atime nor muid, and all else is what was sent.
 #[test]
 fn a_wstat_asks_for_no_other_atime_or_muid(rt: HostRuntime) {
     let mut sent = VecDeque::new(rt.alloc());
     write_each(&mut sent, &SENT).expect(&rt, "memory");
-    let mut stream = ForLinux::new(rt.alloc(), sent);
+    let mut stream = LinuxStream::new(rt.alloc(), sent);
     gives(&rt, &mut stream, &mut [0u8; 5], &MEANT_ALL);
 }
 
+/// An Rerror with K8 and an Rclunk, written in two pieces: `No such file or directory`, and the
+/// Rclunk.
 #[test]
 fn a_denial_is_told_as_an_error_of_linux(rt: HostRuntime) {
-    let mut stream = ForLinux::new(rt.alloc(), VecDeque::new(rt.alloc()));
+    let mut stream = LinuxStream::new(rt.alloc(), VecDeque::new(rt.alloc()));
     let (front, rest) = DENIED.split_at(9);
     write_each(&mut stream, &[front, rest]).expect(&rt, "memory");
     // no Rerror is a request, so that its bytes come back as they are

@@ -31,6 +31,9 @@ pub fn expect_told(rt: &impl Abort, told: &Told, text: &str) {
     assert!(rt; err.contains(text), "{text}");
 }
 
+/// Two clients in threads of their own share the run `0/x`: once both have opened `/f` ann writes
+/// `HI` into it, and then bob reads `HIllo`; each gives up after ten million looks at what the
+/// other is to do. The line at the end is `run 0/x entries 10 audit ok`.
 #[test]
 fn two_clients_are_served_at_once_and_share_a_run(rt: HostRuntime) {
     let alloc = rt.alloc();
@@ -61,6 +64,9 @@ const TOLD: [&str; 5] = [
     "1 attached ann to 0/x\n1 ended\n",
 ];
 
+/// A client that hangs up after three bytes of a message: the command still ends with status 0, and
+/// tells why that connection ended. The next one's messages are told, and its attach once it is
+/// granted.
 #[test]
 fn a_client_that_hangs_up_inside_a_message(rt: HostRuntime) {
     let alloc = rt.alloc();
@@ -83,6 +89,8 @@ fn a_client_that_hangs_up_inside_a_message(rt: HostRuntime) {
     }
 }
 
+/// With a client of Linux, a walk to `/g`, which isn't made yet, is told as `No such file or
+/// directory` over the socket, and as K8 by `--verbose`.
 #[test]
 fn a_client_of_linux_is_told_an_error_that_it_knows(rt: HostRuntime) {
     let alloc = rt.alloc();

@@ -31,18 +31,43 @@ const NOWHERE: Serving = Serving {
     progress: false,
 };
 
+/// An address that is none: a line on standard error, and a second one with the address and the
+/// reason; nothing on standard output, status 1.
 #[test]
 fn an_address_that_is_none(rt: HostRuntime) {
-    let text = b"crashfs: cannot listen\n";
-    assert!(rt; is_refused(&rt, rt.alloc(), TRACE, NOWHERE, text));
+    let told = served(&rt, rt.alloc(), TRACE, NOWHERE, &AtomicU64::new(0));
+    assert!(rt; told.status == 1 && told.out.is_empty());
+    let first = b"crashfs: cannot listen\ncrashfs: nowhere: ";
+    assert!(rt; told.err.starts_with(first) && told.err.len() > first.len() + 1);
 }
 
+/// The port of another listener is refused, with the reason on the second line.
+#[test]
+fn a_port_that_is_in_use(rt: HostRuntime) {
+    let other = TcpListener::bind(&rt, (Ipv4Addr::LOCALHOST, 0)).expect(&rt, "a port");
+    let port = other.local_addr().expect(&rt, "a port").port();
+    let address = format!(in rt.alloc(); "127.0.0.1:{port}").expect(&rt, "memory");
+    let taken = Serving {
+        listen: address.as_str(),
+        ..NOWHERE
+    };
+    let told = served(&rt, rt.alloc(), TRACE, taken, &AtomicU64::new(0));
+    let err = std::str::from_utf8(told.err.as_slice()).expect(&rt, "a text");
+    assert!(rt; told.status == 1 && told.out.is_empty());
+    assert!(rt; err.starts_with("crashfs: cannot listen\ncrashfs: 127.0.0.1:"));
+    assert!(rt; err.contains(": Address already in use"));
+}
+
+/// An address that is none, a trace at fault, no workers: one line on standard error, nothing on
+/// standard output, status 1.
 #[test]
 fn a_trace_at_fault_comes_before_the_address(rt: HostRuntime) {
     let text = b"crashfs: trace line 1: Syntax\n";
     assert!(rt; is_refused(&rt, rt.alloc(), b"{}", NOWHERE, text));
 }
 
+/// An address that is none, a trace at fault, no workers: one line on standard error, nothing on
+/// standard output, status 1.
 #[test]
 fn no_workers_publish_nothing(rt: HostRuntime) {
     let idle = Serving {
@@ -85,6 +110,7 @@ fn accepted_after<R: Wait + Clock>(rt: &R, failures: u64) -> (bool, u64) {
     (accepted, listener.accepts.load(Ordering::SeqCst))
 }
 
+/// A listener whose accepts fail is given up at the hundredth failure in a row, and no sooner.
 #[test]
 fn accepts_that_fail_end_by_a_bound(rt: HostRuntime) {
     assert!(rt; accepted_after(&rt, 99) == (true, 100));

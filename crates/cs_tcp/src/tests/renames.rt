@@ -79,6 +79,8 @@ where
 
 const TO_A_FILE: [&[u8]; 7] = [CLONE_ROOT, F, TO_G, F_AGAIN, G, OPEN_G, READ_G];
 
+/// A client of Linux gives `/f` the name of `/g`, which stands: `/g` then reads `hello`, and
+/// `--verbose` tells the removal in between.
 #[test]
 fn a_file_gets_the_name_of_another_file(rt: HostRuntime) {
     let answered = ask_all(&rt, rt.alloc(), OPEN_ROOT, &TO_A_FILE);
@@ -92,6 +94,7 @@ const TO_A_DIRECTORY: [&[u8]; 5] = [CLONE_ROOT, F, D, F_AGAIN, TO_D];
 
 const TO_A_DIRECTORY_AT_ONCE: [&[u8]; 5] = [CLONE_ROOT, F, TO_D, D, F_AGAIN];
 
+/// A directory's name is refused as `File exists`, and all stays.
 #[test]
 fn a_file_does_not_get_the_name_of_a_directory(rt: HostRuntime) {
     let first = ask_all(&rt, rt.alloc(), OPEN_ROOT, &TO_A_DIRECTORY);
@@ -103,6 +106,7 @@ fn a_file_does_not_get_the_name_of_a_directory(rt: HostRuntime) {
 
 const NOT_ALLOWED: [&[u8]; 5] = [CLONE_ROOT, F, TO_G, G, F_AGAIN];
 
+/// Where the user has no write right in the directory, Q6 comes before Q7, and nothing is removed.
 #[test]
 fn nothing_is_removed_for_a_user_who_may_not_rename(rt: HostRuntime) {
     let answered = ask_all(&rt, rt.alloc(), CLOSED_ROOT, &NOT_ALLOWED);

@@ -4,10 +4,10 @@ use super::fixture::{TRACE, inputs_of, scene_in};
 use super::telling::Standing;
 use crate::serving::server_of;
 use crate::summary::summary_of;
+use cs_connection::{GivenPasses, Server, serve_connection};
 use cs_plan::Scene;
-use cs_server::{GivenPasses, Server, serve_connection};
-use cs_session::TwoEnded;
-use cs_shared::AnyScene;
+use cs_shared_runs::AnyScene;
+use cs_stream::TwoEnded;
 use std::alloc::Global;
 use std::process::Abort;
 use std::sync::Wait;
@@ -70,6 +70,10 @@ impl Ended {
     }
 }
 
+/// On a server of two states ann attaches to `1/a` and `0/x` on one connection, with a stat of
+/// each: `run 0/x entries 2 audit ok` and `run 1/a entries 2 audit ok`. Without passes both are
+/// `count`. By the passes of another server, where she walks in `0/x` and attaches to `1/a` on two
+/// connections, they are `changed 1` and `missing 1`.
 #[test]
 fn each_run_is_printed_with_its_own_audit(rt: HostRuntime) {
     let alloc = rt.alloc();

@@ -1,12 +1,12 @@
 //! Workers that publish for a server.
 ghost use Rattle.std.specs.Arc.{arc_value};
-ghost use Rattle.cs_shared.specs.Serving.{IsOnly, ServesAll};
+ghost use Rattle.cs_shared_runs.specs.Serving.{IsOnly, ServesAll};
 
 use super::fixture::{TRACE, comes, inputs_of, scene_in};
 use crate::serving::server_of;
 use cs_plan::Scene;
 use cs_publish::{Gate, publish_own_into};
-use cs_shared::Served;
+use cs_shared_runs::ServerBrand;
 use std::alloc::Global;
 use std::marker::Brand;
 use std::process::Abort;
@@ -33,7 +33,7 @@ impl Gate for UntilOne {
 }
 
 /// Two workers publish the states of the scene for a server.
-fn two_publish<S: Served, R: Threads + Wait + Sync + Abort>(
+fn two_publish<S: ServerBrand, R: Threads + Wait + Sync + Abort>(
     rt: &R,
     alloc: Global,
     scene: Arc<Scene>,
@@ -50,6 +50,8 @@ fn two_publish<S: Served, R: Threads + Wait + Sync + Abort>(
     assert!(rt; registry.missing(rt) == 0);
 }
 
+/// Two workers publish the two states of a server: the one that begins state 0 waits until state 1
+/// is begun, and it is, within ten million looks.
 #[test]
 fn two_workers_publish_for_a_server_at_once(rt: HostRuntime) {
     let gate = UntilOne {

@@ -144,7 +144,8 @@ pub const OPERATION_FAULTS: [Faulty; 10] = [
     },
 ];
 
-/// Operations of the third version, after a directory `/d`, a file in it and a file `/q` next to it.
+/// Operations of the third version, after a directory `/d`, a file in it and a file `/q` next to
+/// it.
 pub const LINK_FAULTS: [Faulty; 8] = [
     Faulty {
         kind: TraceFaultKind::Syntax,

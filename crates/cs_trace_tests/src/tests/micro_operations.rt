@@ -122,6 +122,9 @@ Some(120) to Some(120)
 
 ";
 
+/// On the start tree of the first exchange: a write that grows over a block's end, a cut, a write
+/// in place, and an empty write and a rename to itself, which are nothing: seven operations are six
+/// micro-operations.
 #[test]
 fn seven_operations_are_six_micro_operations(rt: HostRuntime) {
     let micros = broken(&rt, rt.alloc(), START, SEVEN);
@@ -161,6 +164,8 @@ Some(97) to Some(97)
 
 ";
 
+/// A write of 5,000 bytes is a change of size and two blocks, `write_block 0 1 0 904` the second;
+/// the fsync's sync point comes behind four micro-operations.
 #[test]
 fn a_write_of_5000_bytes_is_two_blocks_before_its_fsync(rt: HostRuntime) {
     let operations = written(rt.alloc()).expect(&rt, "memory");
@@ -191,6 +196,8 @@ move_dir_entry /a /b
 set_attr dir / 007 cat staff
 ";
 
+/// A chmod and a chown of a file and a chmod of the root are a `set_attr` each; a chmod to the mode
+/// that the file has is nothing. The profile is the trace's.
 #[test]
 fn what_changes_rights_is_one_micro_operation(rt: HostRuntime) {
     let micros = broken(&rt, rt.alloc(), SECOND, SET);
@@ -232,6 +239,8 @@ const ENTRIES_COVERED: &str = "\
 5 file 2
 ";
 
+/// Owner, group, mode and number of new entries; what an fsync of a directory, of a file, and a
+/// sync cover.
 #[test]
 fn entries_are_made_and_deleted_and_syncs_cover_what_they_name(rt: HostRuntime) {
     let micros = broken(&rt, rt.alloc(), START, ENTRIES);
@@ -249,6 +258,7 @@ fn fault_of(rt: &impl Abort, alloc: Global, start: &str, operations: &str) -> Op
     break_up(alloc, &trace).err()
 }
 
+/// 1,024 `say` lines are 1,024 micro-operations; with one more the trace is TooMany.
 #[test]
 fn a_trace_has_1024_micro_operations_and_no_more(rt: HostRuntime) {
     let lines = SAY.repeat(rt.alloc(), 1_024).expect(&rt, "memory");
@@ -265,6 +275,7 @@ fn a_trace_has_1024_micro_operations_and_no_more(rt: HostRuntime) {
 
 const LONGEST: &str = r#"{"op":"truncate","path":"/f","length":16777216}"#;
 
+/// A truncate to 16,777,216 is `change_file_size 1 16777216`.
 #[test]
 fn the_largest_length_is_one_micro_operation(rt: HostRuntime) {
     let micros = broken(&rt, rt.alloc(), START, LONGEST);
@@ -285,6 +296,8 @@ fn write_of(alloc: Global, blocks: usize) -> Result<String, AllocError> {
     [BLOCKS_HEAD, bytes.as_str(), "\"}"].concat(alloc)
 }
 
+/// A write of 1,023 blocks to a file without a byte is 1,024 micro-operations; one of 1,025 blocks
+/// is TooMany.
 #[test]
 fn a_write_of_1025_blocks_is_too_many_micro_operations(rt: HostRuntime) {
     let line = write_of(rt.alloc(), 1_023).expect(&rt, "memory");

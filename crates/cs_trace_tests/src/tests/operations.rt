@@ -27,6 +27,7 @@ fn fault_of(rt: &impl Abort, alloc: Global, lines: &[&str]) -> Option<TraceFault
     read_trace(alloc, text.as_str()).err()
 }
 
+/// A header alone is a trace: a root, no file, no operation.
 #[test]
 fn a_header_alone_is_a_trace(rt: HostRuntime) {
     let trace = read_trace(rt.alloc(), HEADER).expect(&rt, "a trace");
@@ -50,6 +51,8 @@ const THREE_NODES: [Node; 4] = [
     Node::File(0),
 ];
 
+/// `/z`, `/d` and `/b` stand at the start in this order of lines: `/z` is the file 0 and `/b` the
+/// file 1, while the records go by path.
 #[test]
 fn files_have_the_numbers_of_their_lines(rt: HostRuntime) {
     let trace = trace_after(&rt, rt.alloc(), HEADER, &THREE_FILES);
@@ -83,6 +86,9 @@ rename /f /n
 write 1 1 0 [240]
 ";
 
+/// On the start tree of the first exchange, writes and truncates of `/f` tell the file 1 and its
+/// size before each: 5, 4097, 4097, 1, 1; after `rename /f /n` a write of `/n` is one of the file
+/// 1.
 #[test]
 fn operations_name_files_by_number_and_the_size_before(rt: HostRuntime) {
     has_operations(&rt, rt.alloc(), START, &ONE_FILE, ONE_FILE_SHOWN);
@@ -104,6 +110,7 @@ creat /n 4 ann staff 604
 sync file 4
 ";
 
+/// `/n` is unlinked and made again, twice: it is the file 3 and then the file 4.
 #[test]
 fn a_number_is_never_given_again(rt: HostRuntime) {
     has_operations(&rt, rt.alloc(), START, &MADE_AGAIN, MADE_AGAIN_SHOWN);
@@ -146,6 +153,8 @@ truncate 1 4 0
 sync
 ";
 
+/// The trace of `examples/store.trace`, operation by operation: two fsyncs of files, two of the
+/// root, and a sync.
 #[test]
 fn a_store_that_logs_and_renames(rt: HostRuntime) {
     has_operations(&rt, rt.alloc(), STORE, &[], STORE_SHOWN);
@@ -166,6 +175,9 @@ fn are_faults(rt: &impl Abort, alloc: Global, faulty: &Faulty) {
     }
 }
 
+/// Each fault of each operation, below a directory with a file and a file: Syntax and UnknownOp
+/// with known and unknown names, BadName before what stands, then the faults of what stands, in
+/// their order, and TooLarge last.
 #[test]
 fn each_fault_of_an_operation(rt: HostRuntime) {
     for faulty in &OPERATION_FAULTS {
@@ -179,6 +191,8 @@ fn is_fault_at(rt: &impl Abort, alloc: Global, lines: &[&str], line: usize, kind
     assert!(rt; found == Some(TraceFault { line, kind }), "{found:?}");
 }
 
+/// Straight after the header: `link` UnknownOp at 2, `rmdir /q` Missing, `/d/x` NoParent, `/q`
+/// twice Exists at 3.
 #[test]
 fn the_first_line_after_the_header_is_judged_at_2(rt: HostRuntime) {
     let alloc = rt.alloc();
@@ -205,6 +219,8 @@ const NO_FAULTS: [&str; 6] = [
     r#"{"op":"fsync","path":"/"}"#,
 ];
 
+/// An empty write at 18446744073709551615, a write that ends at 16,777,216, a truncate to it, a
+/// rename onto a file, a NUL that is said, an fsync of the root.
 #[test]
 fn what_is_no_fault(rt: HostRuntime) {
     for line in &NO_FAULTS {
@@ -222,6 +238,7 @@ const MOVED: [&str; 5] = [MKDIR_D, CREAT_X, CREAT_Q, MOVE_X, UNLINK_X];
 
 const MADE_ANEW: [&str; 7] = [MKDIR_D, CREAT_X, CREAT_Q, MOVE_X, RMDIR_D, MKDIR_D, CREAT_X];
 
+/// After `rename /d/x /q`, `/d/x` is Missing, and `/d` can be removed and made again.
 #[test]
 fn a_rename_leaves_nothing_at_the_old_name(rt: HostRuntime) {
     is_fault_at(&rt, rt.alloc(), &MOVED, 6, TraceFaultKind::Missing);
@@ -237,6 +254,7 @@ const ENTRIES_ELSEWHERE: [&str; 5] = [
     RMDIR_D,
 ];
 
+/// `/d` is empty though `/d-`, `/dd` and `/dd/x` stand.
 #[test]
 fn an_entry_of_another_directory_leaves_one_empty(rt: HostRuntime) {
     is_no_fault(&rt, rt.alloc(), &ENTRIES_ELSEWHERE);
@@ -353,6 +371,8 @@ const LONG_PATHS: [LongPath; 11] = [
     },
 ];
 
+/// Below 64 directories: a path of 64 names Exists, of 65 TooLarge, of 66 NoParent; to be renamed
+/// to likewise, after what `from` lacks; to be removed, written or synced Missing.
 #[test]
 fn a_path_longer_than_64_names_is_too_large_or_nowhere(rt: HostRuntime) {
     let deep = deep(&rt, rt.alloc());
@@ -363,6 +383,7 @@ fn a_path_longer_than_64_names_is_too_large_or_nowhere(rt: HostRuntime) {
 
 const SAY: &str = "{\"op\":\"say\",\"text\":\"";
 
+/// A `say` of 1,024 bytes, and one of 1,025 with a letter of two bytes (TooLarge).
 #[test]
 fn a_text_of_1024_bytes_may_be_said(rt: HostRuntime) {
     let said = long_line(rt.alloc(), SAY, 512, "\"}").expect(&rt, "memory");

@@ -20,6 +20,7 @@ fn profile_of(rt: &impl Abort, alloc: Global, header: &str) -> Profile {
         .profile()
 }
 
+/// The profile of a header of version 1, and of two of version 2.
 #[test]
 fn a_header_tells_the_profile(rt: HostRuntime) {
     let alloc = rt.alloc();
@@ -56,6 +57,8 @@ const fn at(line: usize, kind: TraceFaultKind) -> Option<TraceFault> {
     Some(TraceFault { line, kind })
 }
 
+/// Syntax at 1: version 1 with a profile, version 2 without one, with `Blocks` and with 1, versions
+/// 3 and 2.0.
 #[test]
 fn a_header_has_the_profile_of_its_version(rt: HostRuntime) {
     for header in &BAD_HEADERS {
@@ -75,6 +78,7 @@ const UNKNOWN: [&str; 4] = [
     r#"{"op":"chown","path":7}"#,
 ];
 
+/// In version 1 a chmod and a chown are UnknownOp, also with keys that are odd.
 #[test]
 fn the_first_version_knows_neither(rt: HostRuntime) {
     let unknown = at(3, TraceFaultKind::UnknownOp);
@@ -111,6 +115,8 @@ fn are_faults(rt: &impl Abort, alloc: Global, lines: &[&str], kind: TraceFaultKi
     }
 }
 
+/// A chmod and a chown with keys too few and too many and odd modes (Syntax), bad paths and names
+/// (BadName), where nothing stands (Missing).
 #[test]
 fn each_fault_of_a_chmod_and_of_a_chown(rt: HostRuntime) {
     are_faults(&rt, rt.alloc(), &SYNTAX, TraceFaultKind::Syntax);
@@ -127,6 +133,8 @@ const SET_FILE: [&str; 5] = [
     r#"{"op":"chmod","path":"/b","mode":"600"}"#,
 ];
 
+/// `/q` of ann, 644: chmod 600, chown to bob, a rename, and chmod 600 again: each has owner, group
+/// and mode before and after it.
 #[test]
 fn a_chmod_keeps_the_owner_and_a_chown_the_mode(rt: HostRuntime) {
     has_operations(
@@ -154,6 +162,7 @@ const SET_DIRECTORIES: [&str; 6] = [
     r#"{"op":"chown","path":"/d","owner":"bob","group":"bob"}"#,
 ];
 
+/// A chown of `/`, a chmod of `/d` of the start, and a chown of the `/d` that is made in its place.
 #[test]
 fn a_directory_is_set_by_its_path(rt: HostRuntime) {
     has_operations(

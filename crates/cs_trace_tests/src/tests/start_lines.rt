@@ -64,6 +64,9 @@ const SHUFFLED_SHOWN: &str = "\
 6 /p ann staff ann 0 0 0 800001e8 None
 ";
 
+/// The start tree from lines that stand in another order, with keys in another order and
+/// hexadecimal digits of both cases: the numbers are those of the paths. Version and times are 0,
+/// muid is the owner, and directories have DMDIR.
 #[test]
 fn records_have_the_numbers_of_their_paths_in_order(rt: HostRuntime) {
     has_records(&rt, rt.alloc(), SHUFFLED, SHUFFLED_SHOWN);
@@ -91,6 +94,8 @@ const BLANKS_BETWEEN: [&str; 7] = ["", HEADER, " ", DIRECTORY, FILE, "", ""];
 
 const DIRECTORY_TWICE: [&str; 5] = ["", HEADER, " \t", DIRECTORY, DIRECTORY];
 
+/// Blank lines are skipped and counted. A text of none but these is Syntax at line 1. `trace line
+/// 5: Exists`; want of memory prints `out of memory`, without a line.
 #[test]
 fn lines_of_blanks_are_skipped_and_counted(rt: HostRuntime) {
     let alloc = rt.alloc();
@@ -120,6 +125,8 @@ const NO_HEADERS: [&str; 11] = [
     r#"{"trace":1,"owner":"","group":"staff","mode":"875"}"#,
 ];
 
+/// A start line, an operation, half an object, a form feed, version `1.0` or 2, a missing key, one
+/// too many, and a value of another kind: none is a header.
 #[test]
 fn a_first_line_that_is_no_header_of_this_version_is_syntax(rt: HostRuntime) {
     for line in &NO_HEADERS {
@@ -130,6 +137,7 @@ fn a_first_line_that_is_no_header_of_this_version_is_syntax(rt: HostRuntime) {
 const START_TWICE: &str =
     r#"{"start":"link","start":"dir","path":"/d","owner":"ann","group":"staff","mode":"755"}"#;
 
+/// A line with `start` twice is what the second says.
 #[test]
 fn the_last_of_two_equal_keys_counts(rt: HostRuntime) {
     let lines = [HEADER, START_TWICE, DIRECTORY];
@@ -151,6 +159,7 @@ fn are_faults(rt: &impl Abort, alloc: Global, faulty: &Faulty) {
     }
 }
 
+/// Syntax before UnknownOp, BadName, NoParent, NotDir and Exists, with several lines of each.
 #[test]
 fn each_fault_of_a_start_line(rt: HostRuntime) {
     for faulty in &START_FAULTS {
@@ -197,6 +206,9 @@ const NO_VALUES: [&str; 7] = [
     "1}, {\"b\":1",
 ];
 
+/// An operation of no known name is UnknownOp whatever another key has: lists and objects in one
+/// another, 126 lists in one another, a number above all N. It is Syntax with 127 lists in one
+/// another, a number that overflows, a list or object with a fault, or more behind the object.
 #[test]
 fn a_value_that_no_key_has_is_read_to_its_end(rt: HostRuntime) {
     let alloc = rt.alloc();
@@ -232,6 +244,8 @@ const SYNTAX_AT_2: Option<TraceFault> = Some(TraceFault {
     kind: TraceFaultKind::Syntax,
 });
 
+/// A start line counts though 100,000 lists stand under the same key before, or 100,000 times
+/// another mode and path; it is Syntax with a key too many.
 #[test]
 fn a_long_line_is_judged_by_its_last_values(rt: HostRuntime) {
     let alloc = rt.alloc();
@@ -253,6 +267,7 @@ const ESCAPES_SHOWN: &str = "\
 1 /\u{e9} \u{1f600} a \u{1f600} 0 0 0 800001ed None
 ";
 
+/// Keys and texts with `\u` escapes, a surrogate pair among them, are what they stand for.
 #[test]
 fn keys_and_texts_may_have_escapes(rt: HostRuntime) {
     let text = [HEADER, ESCAPES]
@@ -276,6 +291,7 @@ fn deep(alloc: Global, count: usize) -> Result<String, AllocError> {
     Ok(text)
 }
 
+/// 64 directories in one another are read; the 65th is TooLarge.
 #[test]
 fn a_path_has_at_most_64_names(rt: HostRuntime) {
     let text = deep(rt.alloc(), 64).expect(&rt, "memory");
@@ -344,6 +360,8 @@ const LONG_PATHS: [LongPath; 7] = [
     },
 ];
 
+/// Below these, a path of 64 names is Exists, of 65 TooLarge, and of 66 and more NoParent; with a
+/// name that is not legal each is BadName.
 #[test]
 fn a_path_longer_than_any_directorys_is_judged_by_its_names(rt: HostRuntime) {
     let deep = deep(rt.alloc(), 64).expect(&rt, "memory");
@@ -361,6 +379,7 @@ fn file(alloc: Global, length: usize) -> Result<String, AllocError> {
     [HEADER, "\n", FILE_HEAD, bytes.as_str(), "\"}"].concat(alloc)
 }
 
+/// A file of 16,777,216 bytes is read; one byte more is TooLarge.
 #[test]
 fn a_file_has_at_most_16777216_bytes(rt: HostRuntime) {
     let text = file(rt.alloc(), 16_777_216).expect(&rt, "memory");

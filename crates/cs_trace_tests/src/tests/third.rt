@@ -21,6 +21,7 @@ fn version_of(rt: &impl Abort, alloc: Global, header: &str) -> Version {
     read_trace(alloc, header).expect(rt, "a trace").version()
 }
 
+/// Headers of version 3: `blocks` with blocks of 4,096 bytes, `ordered` with 512.
 #[test]
 fn a_header_says_the_profile_and_the_size_of_a_block(rt: HostRuntime) {
     let version = version_of(&rt, rt.alloc(), HEADER);
@@ -56,6 +57,8 @@ const BAD_HEADERS: [&str; 7] = [
     r#"{"trace":3,"note":1,"profile":"blocks","block":512,"owner":"cat","group":"a","mode":"775"}"#,
 ];
 
+/// Syntax at 1: version 3 without a block or a profile, with a block of 8192, 512.0 or `"512"`,
+/// with a `note` of 1; version 2 with a block.
 #[test]
 fn a_block_has_512_to_4096_bytes(rt: HostRuntime) {
     for header in &BAD_HEADERS {
@@ -78,6 +81,8 @@ const SECOND_SYNTAX: [&str; 3] = [
     r#"{"start":"file","path":"/r","owner":"a","group":"a","mode":"644","text":""}"#,
 ];
 
+/// In version 2 `link`, `fsync_range` and a start line of a link are UnknownOp; a `note`, and
+/// `text` in place of `bytes`, are Syntax.
 #[test]
 fn the_second_version_has_no_links_notes_or_texts(rt: HostRuntime) {
     for line in &SECOND_UNKNOWN {
@@ -99,6 +104,8 @@ fn are_operation_faults(rt: &impl Abort, alloc: Global, faulty: &Faulty) {
     }
 }
 
+/// Each fault of `link` and `fsync_range`, in their order: Syntax (also a `note` of 1, and a write
+/// with both `bytes` and `text`), BadName (also `/`), Missing, NotFile, NoParent, NotDir, Exists.
 #[test]
 fn each_fault_of_a_link_and_of_a_sync_of_a_range(rt: HostRuntime) {
     for faulty in &LINK_FAULTS {
@@ -117,6 +124,7 @@ fn are_start_faults(rt: &impl Abort, alloc: Global, faulty: &Faulty) {
     }
 }
 
+/// The same of a link at the start: what `from` lacks comes before what the new path lacks.
 #[test]
 fn each_fault_of_a_start_link(rt: HostRuntime) {
     for faulty in &START_LINK_FAULTS {
@@ -136,6 +144,9 @@ const LINKED: [&str; 9] = [
     CREAT_Q,
 ];
 
+/// `/q` is linked as `/r`. A chmod of `/r` sets the file, a rename of `/q` to `/r` does nothing,
+/// and after `/q` is unlinked a text is written by `/r`, and a range that ends above 2^64 - 1 is
+/// synced. The next `/q` is the file 1.
 #[test]
 fn each_path_of_a_file_is_the_file(rt: HostRuntime) {
     has_operations(
@@ -178,6 +189,8 @@ say
 move_dir_entry /a /b
 ";
 
+/// A file is written and acknowledged twice, with a `note` and a text in place of digits, and
+/// renamed: eight micro-operations.
 #[test]
 fn a_note_says_nothing_and_a_text_is_its_bytes(rt: HostRuntime) {
     let micros = broken(&rt, rt.alloc(), HEADER, ACKNOWLEDGED);
@@ -191,6 +204,8 @@ const OVER_A_SECTOR: &str =
 {"op":"write","path":"/f","offset":510,"text":"abcd"}
 "#;
 
+/// Four bytes from offset 510 on: with blocks of 512 bytes `write_block 0 0 510 2` and `write_block
+/// 0 1 0 2`, with blocks of 4,096 one `write_block 0 0 510 4`.
 #[test]
 fn a_write_is_cut_at_the_blocks_of_the_header(rt: HostRuntime) {
     let sectors = broken(&rt, rt.alloc(), SECTORS, OVER_A_SECTOR);
@@ -226,6 +241,8 @@ write_block 0 1 0 3
 say
 ";
 
+/// Two writes and an fsync_range of the second: its sync point comes after five micro-operations,
+/// and has the offset 4096 and 3 bytes.
 #[test]
 fn a_sync_of_a_range_has_the_range(rt: HostRuntime) {
     let micros = broken(&rt, rt.alloc(), HEADER, SYNCED);
@@ -252,6 +269,8 @@ change_file_size 0 2
 write_block 0 0 1 1
 ";
 
+/// A file that is linked, loses its first path and is written by its second: `link_dir_entry /m 0`,
+/// then `delete_dir_entry /t`. A rename to itself is nothing.
 #[test]
 fn a_link_is_an_entry_of_a_file_that_exists(rt: HostRuntime) {
     let micros = broken(&rt, rt.alloc(), HEADER, MOVED_BY_LINK);
@@ -273,6 +292,7 @@ link_dir_entry /c 0
 delete_dir_entry /a
 ";
 
+/// `/a` is linked as `/c`, and renamed to `/c`: the rename is nothing, and `/a` can be unlinked.
 #[test]
 fn a_rename_to_another_path_of_the_file_does_nothing(rt: HostRuntime) {
     let micros = broken(&rt, rt.alloc(), HEADER, RENAMED_TO_LINK);
@@ -304,6 +324,9 @@ change_file_size 1 1
 write_block 1 0 0 1
 ";
 
+/// Links at the start, one of them of a link: each path has a record with the same bytes, owner and
+/// mode, the file keeps its number, and `starts` has its own path first. A write by a link is one
+/// of the file.
 #[test]
 fn a_start_link_has_a_record_and_no_number_of_its_own(rt: HostRuntime) {
     let text = [HEADER, START_LINK]

@@ -1,4 +1,5 @@
-//! Owner, group and mode as a crash leaves them, and what a file system that orders its entries allows.
+//! Owner, group and mode as a crash leaves them, and what a file system that orders its entries
+//! allows.
 ghost use Rattle.std.specs.Prelude.{◌≡◌, length};
 ghost use Rattle.cs_micro.specs.Legal.{AreLegal};
 ghost use Rattle.cs_micro.specs.Micros.{block_of_version, micros_in};
@@ -34,7 +35,8 @@ fn state_of(
     }
 }
 
-/// The state of a set of the trace that the header and the operations tell, if a crash may leave it.
+/// The state of a set of the trace that the header and the operations tell, if a crash may leave
+/// it.
 fn left_by(rt: &impl Abort, alloc: Global, pieces: &[&str], places: &[u32]) -> Option<PlainTree> {
     let text = pieces.join(alloc, "\n").expect(rt, "memory");
     let trace = read_trace(alloc, text.as_str()).expect(rt, "a trace");
@@ -60,6 +62,8 @@ const GIVEN: &str = r#"{"op":"creat","path":"/a","owner":"ann","group":"staff","
 
 const MOVED: &str = r#"{"op":"rename","from":"/a","to":"/b"}"#;
 
+/// A file is made, gets another mode and another owner, and is moved: the state of all has it at
+/// its new path with both.
 #[test]
 fn a_moved_file_has_what_was_set_of_it(rt: HostRuntime) {
     let pieces = [BLOCKS, GIVEN, MOVED];
@@ -67,6 +71,7 @@ fn a_moved_file_has_what_was_set_of_it(rt: HostRuntime) {
     leaves(&rt, rt.alloc(), &pieces, &[0, 1, 2, 3], line);
 }
 
+/// The move may come before both, or behind the mode alone.
 #[test]
 fn a_file_may_come_to_its_name_before_its_owner(rt: HostRuntime) {
     let pieces = [BLOCKS, GIVEN, MOVED];
@@ -76,11 +81,13 @@ fn a_file_may_come_to_its_name_before_its_owner(rt: HostRuntime) {
     leaves(&rt, rt.alloc(), &pieces, &[0, 1, 3], line);
 }
 
+/// The owner doesn't come without the mode that was set before it.
 #[test]
 fn what_is_set_of_one_file_comes_in_order(rt: HostRuntime) {
     assert!(&rt; left_by(&rt, rt.alloc(), &[BLOCKS, GIVEN], &[0, 2]).is_none());
 }
 
+/// Behind an fsync of the file the move doesn't come without the owner.
 #[test]
 fn an_fsync_waits_for_what_was_set_of_a_file(rt: HostRuntime) {
     let pieces = [BLOCKS, GIVEN, r#"{"op":"fsync","path":"/a"}"#, MOVED];
@@ -93,6 +100,8 @@ const CLOSED: &str = r#"{"op":"mkdir","path":"/d","owner":"ann","group":"staff",
 
 const TOLD: &str = r#"{"op":"say","text":"closed"}"#;
 
+/// A directory is made and gets another mode, and its parent is waited for: a text behind it may
+/// come without the mode.
 #[test]
 fn an_fsync_of_the_parent_leaves_out_what_was_set_of_a_directory(rt: HostRuntime) {
     let pieces = [BLOCKS, CLOSED, r#"{"op":"fsync","path":"/"}"#, TOLD];
@@ -100,6 +109,7 @@ fn an_fsync_of_the_parent_leaves_out_what_was_set_of_a_directory(rt: HostRuntime
     leaves(&rt, rt.alloc(), &pieces, &[0, 2], line);
 }
 
+/// The directory itself is waited for: the text doesn't come without the mode.
 #[test]
 fn an_fsync_of_a_directory_waits_for_what_was_set_of_it(rt: HostRuntime) {
     let pieces = [BLOCKS, CLOSED, r#"{"op":"fsync","path":"/d"}"#, TOLD];
@@ -111,6 +121,7 @@ fn an_fsync_of_a_directory_waits_for_what_was_set_of_it(rt: HostRuntime) {
 const TWO: &str = r#"{"op":"creat","path":"/a","owner":"ann","group":"staff","mode":"644"}
 {"op":"creat","path":"/b","owner":"ann","group":"staff","mode":"644"}"#;
 
+/// Two files are made: the second may be there alone, but with `ordered` it may not.
 #[test]
 fn entries_come_in_order_where_the_file_system_orders_them(rt: HostRuntime) {
     let line = "1 /b 0 ann staff -644 0 0 ann 0:";

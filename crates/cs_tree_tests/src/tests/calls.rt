@@ -1,9 +1,9 @@
 //! The changing calls of a store. Each has to be one that the store may be asked for.
 
-use super::allowed::{
+use cs_names::{Name, UserName};
+use cs_test_stores::{
     can_leave, has_bytes, takes_changes, takes_entries, takes_length, takes_mode, takes_name,
 };
-use cs_names::{Name, UserName};
 use cs_tree_model::{Change, New, Stamp, TreeStore, is_empty};
 use std::alloc::Global;
 use std::process::Abort;

@@ -73,12 +73,16 @@ fn is_found<T: TreeRead>(
     assert!(rt; number_of_path(tree, path.names()) == wanted);
 }
 
+/// A new file in `/d` has the number 7, and takes the group of its directory, which is stamped.
+/// `/d/g` is removed and made again with the number 10; removed once more, `/g` is 11.
 #[test]
 fn a_new_file_has_a_number_that_no_file_ever_had(rt: HostRuntime) {
     let left = Left { count: 8, last: 11 };
     work_on_each(&rt, rt.alloc(), &FILES, left);
 }
 
+/// `a` at 1 makes `hallo`, and `oween` at 4 `halloween`. Two bytes at 3 of an empty file stand
+/// behind three zeros. Each write stamps its file alone.
 #[test]
 fn a_write_changes_its_file_alone(rt: HostRuntime) {
     let left = Left { count: 7, last: 6 };
@@ -99,6 +103,7 @@ fn cut_and_grow<T: TreeStore + Drop>(rt: &impl Abort, alloc: Global, mut tree: T
     is_grown(rt, alloc, &tree);
 }
 
+/// Length 1 leaves `h`; length 5,000 then is one byte and 4,999 zeros.
 #[test]
 fn bytes_that_no_write_reached_are_zero(rt: HostRuntime) {
     cut_and_grow(&rt, rt.alloc(), start_tree(&rt, rt.alloc()));
@@ -107,6 +112,9 @@ fn bytes_that_no_write_reached_are_zero(rt: HostRuntime) {
     cut_and_grow(&rt, rt.alloc(), over_state(&rt, rt.alloc()));
 }
 
+/// An mtime alone leaves muid; with a length it comes after the length's. A mode or a group adds to
+/// the version alone; a length that the file has is a stamp too. A name stamps the directory. All
+/// fields at once are one version more.
 #[test]
 fn a_change_gives_the_fields_that_it_names(rt: HostRuntime) {
     let left = Left { count: 7, last: 6 };
@@ -137,6 +145,8 @@ fn rename_directories<T: TreeStore + Drop>(rt: &impl Abort, alloc: Global, mut t
     has_entries(rt, alloc, &tree, 0, "d 8, e 1, f 4, n 5, p 6, ");
 }
 
+/// `/d` becomes `/e`: all below keep their numbers, `/e/s/z` leads to 3, and `/d/s/z` nowhere. A
+/// new `/d` is another directory.
 #[test]
 fn a_directory_takes_all_below_it_to_its_new_name(rt: HostRuntime) {
     rename_directories(&rt, rt.alloc(), start_tree(&rt, rt.alloc()));

@@ -4,7 +4,7 @@ use super::calls::{Call, must_make, write};
 use super::runs::{BEFORE, cut_over, over, run_and_look};
 use super::shown::{has_entries, has_numbers, same_lines};
 use super::start::{START, frozen, over_frozen, over_plain, records, shared, start_lower, tree_of};
-use cs_lower::Lower;
+use cs_frozen::Lower;
 use cs_names::UserName;
 use cs_overlay::Overlay;
 use cs_tree::PlainTree;
@@ -16,6 +16,7 @@ use std::sync::Arc;
 /// A plain tree over which something was changed, frozen.
 type State = Arc<Lower<Overlay<PlainTree>>>;
 
+/// Files that were made in another order and changed since freeze to the start tree.
 #[test]
 fn files_made_in_another_order_freeze_to_the_start_tree(rt: HostRuntime) {
     let tree = over_frozen(&rt, rt.alloc());
@@ -32,7 +33,8 @@ const CALLS: [Call; 5] = [
     Call::Add(1, "b", DMDIR | 0o700),
 ];
 
-/// And how it stands when it is frozen: `/a`, the last file but one to be made, comes after the root.
+/// And how it stands when it is frozen: `/a`, the last file but one to be made, comes after the
+/// root.
 const AFTER: [&str; 7] = [
     "0 / 0 cat staff d775 0 0 cat",
     "1 /a 0 bob staff -640 0 0 bob 0:",
@@ -60,6 +62,8 @@ fn has_all_entries<T: TreeRead>(rt: &impl Abort, alloc: Global, tree: &T) {
     has_entries(rt, alloc, tree, 9, "");
 }
 
+/// `/a` is made, `/f` written, `/d/s` removed and `/d/b` made: the frozen tree has all numbers in
+/// the order of paths, and the lower tree stays.
 #[test]
 fn a_frozen_tree_has_fresh_numbers_in_the_order_of_paths(rt: HostRuntime) {
     let lower = start_lower(&rt, rt.alloc());
@@ -71,6 +75,7 @@ fn a_frozen_tree_has_fresh_numbers_in_the_order_of_paths(rt: HostRuntime) {
     same_lines(&rt, rt.alloc(), &*lower, &BEFORE);
 }
 
+/// `HI` is written to `/f` in a run: `HIllo`. The next run and the tree below read `hello`.
 #[test]
 fn a_run_over_a_frozen_tree_leaves_it(rt: HostRuntime) {
     let tree = over_plain(&rt, rt.alloc());
@@ -94,6 +99,10 @@ fn with_letters(rt: &impl Abort, alloc: Global) -> State {
     frozen(rt, alloc, tree)
 }
 
+/// `/a` has 5,000 bytes of 0x61, in the state because it was written at another name, waited for
+/// and moved. In one run it is cut to 1 byte and grows to 5,000: the first byte stays, the others
+/// are zero, with versions 1 and 2; then it is removed, and the root lists nothing. In another run
+/// and below it is whole, in version 0, and listed.
 #[test]
 fn a_cut_over_a_frozen_file_grows_by_zeros(rt: HostRuntime) {
     let state = with_letters(&rt, rt.alloc());

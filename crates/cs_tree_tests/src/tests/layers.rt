@@ -21,6 +21,7 @@ fn resized(length: u64) -> Call {
     )
 }
 
+/// An overlay with no change reads as the lower tree.
 #[test]
 fn nothing_changed_is_the_lower_tree(rt: HostRuntime) {
     let lower = start_lower(&rt, rt.alloc());
@@ -45,6 +46,7 @@ fn remove_over<T: TreeStore>(rt: &impl Abort, alloc: Global, upper: &mut T) {
     assert!(rt; upper.record(4).is_none());
 }
 
+/// `HI` is written to `/f`: `HIllo`, and the lower tree still reads `hello`.
 #[test]
 fn the_lower_tree_reads_as_before(rt: HostRuntime) {
     let lower = start_lower(&rt, rt.alloc());
@@ -56,6 +58,7 @@ fn the_lower_tree_reads_as_before(rt: HostRuntime) {
     same_lines(&rt, rt.alloc(), &*lower, &BEFORE);
 }
 
+/// `HI` is written to `/f` in a run: `HIllo`. The next run and the tree below read `hello`.
 #[test]
 fn a_run_over_a_plain_tree_leaves_it(rt: HostRuntime) {
     let lower = start_lower(&rt, rt.alloc());
@@ -69,6 +72,7 @@ fn has_one_letter<T: TreeRead>(rt: &impl Abort, alloc: Global, tree: &T) {
     assert!(rt; found.expect(rt, "bytes").starts_with(b"hello\0\0"));
 }
 
+/// A cut inside a block that was written.
 #[test]
 fn a_written_block_is_cut_too(rt: HostRuntime) {
     let mut tree = over_plain(&rt, rt.alloc());
@@ -79,6 +83,7 @@ fn a_written_block_is_cut_too(rt: HostRuntime) {
     has_one_letter(&rt, rt.alloc(), &tree);
 }
 
+/// A name is removed, listed, and made anew; a name of both is listed once.
 #[test]
 fn a_name_of_both_levels_is_listed_once(rt: HostRuntime) {
     let mut tree = over_plain(&rt, rt.alloc());

@@ -26,6 +26,8 @@ fn make_and_list<T: TreeStore + Drop>(rt: &impl Abort, alloc: Global, mut tree: 
     has_entries(rt, alloc, &tree, 99, "");
 }
 
+/// `D`, `d`, `d0`, `da`, `f`, `n`, `p`, `~`, `é`: the root's entries in byte order. An empty
+/// directory, a file and an absent number have none.
 #[test]
 fn entries_come_in_byte_order_of_their_names(rt: HostRuntime) {
     make_and_list(&rt, rt.alloc(), start_tree(&rt, rt.alloc()));
@@ -153,6 +155,8 @@ fn list_and_remove<T: TreeStore + Drop>(rt: &impl Abort, alloc: Global, mut tree
     step_through(rt, alloc, &tree, &WITHOUT_F);
 }
 
+/// The entry after each name, and before each bound; after `f` was removed, the next one after `f`
+/// is `n`.
 #[test]
 fn a_listing_goes_on_behind_a_name_that_is_gone(rt: HostRuntime) {
     list_and_remove(&rt, rt.alloc(), start_tree(&rt, rt.alloc()));

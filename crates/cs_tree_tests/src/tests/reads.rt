@@ -18,6 +18,8 @@ fn is_at_path(rt: &impl Abort, alloc: Global, tree: &PlainTree, row: &Row) {
     assert!(rt; found == Some(path));
 }
 
+/// Each path leads to its number, and each number has its path and name; seven records, and the
+/// greatest number is 6.
 #[test]
 fn numbers_are_found_by_path_and_paths_by_number(rt: HostRuntime) {
     let tree = start_tree(&rt, rt.alloc());
@@ -47,6 +49,7 @@ fn has_record(rt: &impl Abort, tree: &PlainTree, row: &Row) {
     assert!(rt; found.kind == kind_of(row));
 }
 
+/// Owner, group, mode, kind and length of each; number 7 has no record.
 #[test]
 fn records_say_who_owns_them_and_how_long_they_are(rt: HostRuntime) {
     let tree = start_tree(&rt, rt.alloc());
@@ -121,6 +124,8 @@ fn gives(rt: &impl Abort, alloc: Global, tree: &PlainTree, reading: &Reading) {
     }
 }
 
+/// `/f` from the offsets 0, 2, 5, 6 and the greatest there is; three bytes from 1 are `ell`. A
+/// directory, and a number without a record, have nothing to read.
 #[test]
 fn reads_begin_at_the_offset_and_stop_at_the_end(rt: HostRuntime) {
     let tree = start_tree(&rt, rt.alloc());
@@ -143,6 +148,8 @@ const PARENTS: [Parent; 5] = [
 /// A directory, a file and no file.
 const WITHOUT_Q: [u64; 3] = [0, 4, 9];
 
+/// From `/d/s/z` up to the root, whose parent is the root. Absent names, and names in a file, are
+/// not found.
 #[test]
 fn parents_lead_up_to_the_root(rt: HostRuntime) {
     let tree = start_tree(&rt, rt.alloc());
@@ -201,6 +208,7 @@ fn is_found(rt: &impl Abort, alloc: Global, tree: &PlainTree, number: u64, wante
 
 const SOME: [u64; 6] = [1, 2, 999, 2500, 4999, 5000];
 
+/// Six of 5,000 files of one directory are found by their names, and an absent name isn't.
 #[test]
 fn names_are_found_among_thousands(rt: HostRuntime) {
     let tree = wide_tree(&rt, rt.alloc(), 5000);

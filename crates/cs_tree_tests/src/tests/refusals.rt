@@ -110,6 +110,9 @@ fn is_no_tree(rt: &impl Abort, alloc: Global, rows: &[Row]) {
     assert!(rt; made.err() == Some(RecordsFault::NoTree));
 }
 
+/// No record; a first record that isn't the root, or whose number isn't 0; a missing parent; a
+/// parent that is a file; a path or a number twice; a root, a directory or a file whose mode says
+/// the other: all are NoTree.
 #[test]
 fn records_that_make_no_tree_are_refused(rt: HostRuntime) {
     for rows in &NO_TREES {
@@ -125,6 +128,7 @@ const FAR: Row = Row {
     ..CATS
 };
 
+/// The numbers 0, 1 and 1,099,511,627,776 make a tree.
 #[test]
 fn numbers_may_have_gaps(rt: HostRuntime) {
     let records = records(&rt, rt.alloc(), &[ROOT, FILE, FAR]);
@@ -155,6 +159,7 @@ fn tree_of_root(rt: &impl Abort, alloc: Global) -> PlainTree {
     PlainTree::from_records(alloc, records).expect(rt, "memory")
 }
 
+/// A root alone makes a tree of one record.
 #[test]
 fn records_that_are_known_to_make_a_tree_are_taken(rt: HostRuntime) {
     let tree = tree_of_root(&rt, rt.alloc());

@@ -1,11 +1,11 @@
 //! What runs over one lower tree leave, of it and of each other.
 
-use super::allowed::{has_bytes, takes_changes};
 use super::calls::{Call, Fields, NONE, must_make};
 use super::shown::{has_bytes_from, has_entries, same_lines};
 use cs_names::UserName;
 use cs_overlay::Overlay;
 use cs_overlay::laws::lower_stays;
+use cs_test_stores::{has_bytes, takes_changes};
 use cs_tree_model::{Stamp, TreeRead, TreeStore};
 use std::alloc::Global;
 use std::process::Abort;
@@ -101,8 +101,8 @@ pub fn over<L: TreeRead + Drop>(rt: &impl Abort, alloc: Global, lower: &Arc<L>) 
     Overlay::over(alloc, lower.clone().expect(rt, "a share"))
 }
 
-/// Over a tree of `/a`, with 5,000 bytes of 0x61, a run cuts it, lets it grow and removes it. Another run
-/// and the tree itself show it as it was.
+/// Over a tree of `/a`, with 5,000 bytes of 0x61, a run cuts it, lets it grow and removes it.
+/// Another run and the tree itself show it as it was.
 pub fn cut_over<L: TreeRead + Drop>(rt: &impl Abort, alloc: Global, state: &Arc<L>) {
     let mut first = over(rt, alloc, state);
     let other = over(rt, alloc, state);

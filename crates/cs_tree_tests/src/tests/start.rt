@@ -1,6 +1,6 @@
 //! The start tree, plain and below an overlay.
 
-use cs_lower::Lower;
+use cs_frozen::Lower;
 use cs_names::{Path, UserName};
 use cs_overlay::Overlay;
 use cs_tree::PlainTree;

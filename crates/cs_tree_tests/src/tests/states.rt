@@ -32,8 +32,8 @@ fn state_of(rt: &impl Abort, alloc: Global, text: &str, places: &[u32]) -> Arc<S
     shared(rt, alloc, built(rt, alloc, &atlas, places))
 }
 
-/// Without two files of the start tree, which the operations make; the last file is in no state of the
-/// members before it.
+/// Without two files of the start tree, which the operations make; the last file is in no state of
+/// the members before it.
 const MAKING: &str = r#"{"trace":1,"owner":"cat","group":"staff","mode":"775"}
 {"start":"dir","path":"/d","owner":"ann","group":"staff","mode":"755"}
 {"start":"dir","path":"/d/s","owner":"ann","group":"ann","mode":"700"}
@@ -56,6 +56,7 @@ pub fn over_state(rt: &impl Abort, alloc: Global) -> Overlay<StateTree> {
     Overlay::over(alloc, start_state(rt, alloc))
 }
 
+/// Operations make `/d/s/z`, and `/f` under another name: the state is the start tree.
 #[test]
 fn members_make_what_the_start_tree_has(rt: HostRuntime) {
     let state = start_state(&rt, rt.alloc());
@@ -63,6 +64,7 @@ fn members_make_what_the_start_tree_has(rt: HostRuntime) {
     has_numbers(&rt, &*state, 7, 6);
 }
 
+/// `HI` is written to `/f` in a run: `HIllo`. The next run and the tree below read `hello`.
 #[test]
 fn a_run_over_a_state_leaves_it(rt: HostRuntime) {
     let state = start_state(&rt, rt.alloc());
@@ -86,6 +88,10 @@ fn with_letters(rt: &impl Abort, alloc: Global) -> Arc<StateTree> {
     state_of(rt, alloc, text.as_str(), &[0, 1, 2, 3, 4])
 }
 
+/// `/a` has 5,000 bytes of 0x61, in the state because it was written at another name, waited for
+/// and moved. In one run it is cut to 1 byte and grows to 5,000: the first byte stays, the others
+/// are zero, with versions 1 and 2; then it is removed, and the root lists nothing. In another run
+/// and below it is whole, in version 0, and listed.
 #[test]
 fn a_cut_over_a_states_file_grows_by_zeros(rt: HostRuntime) {
     let state = with_letters(&rt, rt.alloc());

@@ -1,7 +1,7 @@
 use Rattle.std.proofs.Common.{◌∷◌, [], ◌++◌, ◌∙◌, ap, subst, sym, length, take, drop}
 use Rattle.std.proofs.lemmas.List.{take_more}
 use Rattle.cs_apm.specs.Atlases.{AreChanged}
-use Rattle.cs_apm.specs.Making.{marked}
+use Rattle.cs_apm.specs.Making.{with_file_marked}
 use Rattle.cs_apm.proofs.Marking.{changed_more, length-marked, put_back}
 use Rattle.cs_apm.proofs.flags.changed_by.Goals as goal
 
@@ -11,6 +11,9 @@ loop-op-preserved c =
     let o = c.op-item.result in
     let flags = c.loop-op.changed.items in
     let more = take_more c.args.ops.now i o c.loop-op-test.true ∙ ap (λ x. take i c.args.ops.now ++ x ∷ []) (sym c.op-item.is) in
-    let new = c.mark.ensures ∙ ap (λ f. marked f o) c.deref_mut.ensures.value in
+    let new = c.mark.ensures ∙ ap (λ f. with_file_marked f o) c.deref_mut.ensures.value in
     let back = put_back c.mark.new.changed flags c.loop-op.changed.len (ap length new ∙ length-marked flags o) c.loop-op.changed.ok.0 in
-    subst (λ ops. AreChanged ops c.args.count (take c.loop-op.changed.len (c.mark.new.changed ++ drop (length c.mark.new.changed) flags))) (sym more) (subst (AreChanged (take i c.args.ops.now ++ o ∷ []) c.args.count) (sym (back ∙ new)) (changed_more (take i c.args.ops.now) c.args.count flags o c.loop-op.invariant))
+    subst (λ ops. AreChanged ops c.args.count (take c.loop-op.changed.len (c.mark.new.changed ++ drop (length c.mark.new.changed) flags)))
+    (sym more)
+    (subst (AreChanged (take i c.args.ops.now ++ o ∷ []) c.args.count) (sym (back ∙ new))
+    (changed_more (take i c.args.ops.now) c.args.count flags o c.loop-op.invariant))

@@ -11,6 +11,10 @@ loop-k-preserved c =
     let q = parent_path c.args.path.now in
     let k = c.loop-k.k in
     elim c.if-creates_parent.branch [
-      | then-creates_parent w ↦ subst (λ found. IsLatestSoFar ops q found (k + 1)) (sym w.latest-is) (latest_here ops q c.loop-k.latest k (ap (λ o. creates o q) (sym c.op_at.ensures) ∙ (sym c.creates_parent.ensures ∙ w.if-creates_parent.true)) c.loop-k.invariant)
-      | else-creates_parent w ↦ subst (λ found. IsLatestSoFar ops q found (k + 1)) (sym w.latest-is) (latest_same ops q c.loop-k.latest k (ap (λ o. creates o q) (sym c.op_at.ensures) ∙ (sym c.creates_parent.ensures ∙ w.if-creates_parent.false)) c.loop-k.invariant)
+      | then-creates_parent w ↦ subst (λ found. IsLatestSoFar ops q found (k + 1)) (sym w.latest-is)
+          (latest_here ops q c.loop-k.latest k
+          (ap (λ o. creates o q) (sym c.op_at.ensures) ∙ (sym c.creates_parent.ensures ∙ w.if-creates_parent.true)) c.loop-k.invariant)
+      | else-creates_parent w ↦ subst (λ found. IsLatestSoFar ops q found (k + 1)) (sym w.latest-is)
+          (latest_same ops q c.loop-k.latest k
+          (ap (λ o. creates o q) (sym c.op_at.ensures) ∙ (sym c.creates_parent.ensures ∙ w.if-creates_parent.false)) c.loop-k.invariant)
     ]

@@ -16,7 +16,10 @@ returns c =
       order = λ i j low. entry_of_rules m.ops m.syncs m.version n i j low;
       before = λ i j is. (needs_says m.ops m.syncs m.version i j is).before;
       sets = λ places. (
-        (λ h. same_allowed (needs_in (order_of m)) (needs_of m) n places (λ i j low. entry_of_rules m.ops m.syncs m.version n i j low) (subst (λ k. IsAllowed (needs_in (order_of m)) k places) long h)),
-        (λ h. subst (λ k. IsAllowed (needs_in (order_of m)) k places) (sym long) (same_allowed (needs_of m) (needs_in (order_of m)) n places (λ i j low. sym (entry_of_rules m.ops m.syncs m.version n i j low)) h)),
+        (λ h. same_allowed (needs_in (order_of m)) (needs_of m) n places (λ i j low. entry_of_rules m.ops m.syncs m.version n i j low)
+            (subst (λ k. IsAllowed (needs_in (order_of m)) k places) long h)),
+        (λ h. subst (λ k. IsAllowed (needs_in (order_of m)) k places) (sym long)
+            (same_allowed (needs_of m) (needs_in (order_of m)) n places (λ i j low. sym (entry_of_rules m.ops m.syncs m.version n i j low))
+            h)),
       );
     }

@@ -6,22 +6,28 @@ use Rattle.cs_apm.proofs.places.add_path.Goals as goal
 
 pub returns-in-Ok-clause-there : goal.returns-in-Ok-clause-there
 returns-in-Ok-clause-there c =
-    subst (λ ps. Contains ps c.args.path.now) c.deref.ensures.value (found_there c.deref.result.now c.args.path.now c.in-Ok._found c.in-Ok.ensures.bound c.in-Ok.ensures.ok)
+    subst (λ ps. Contains ps c.args.path.now) c.deref.ensures.value
+    (found_there c.deref.result.now c.args.path.now c.in-Ok._found c.in-Ok.ensures.bound c.in-Ok.ensures.ok)
 
 pub returns-in_ok-insert-in-Err-clause-ascending : goal.returns-in_ok-insert-in-Err-clause-ascending
 returns-in_ok-insert-in-Err-clause-ascending c =
     let same = c.deref.ensures.value in
     let q = c.args.path.now in
     let up = subst AreAscending (sym same) c.requires in
-    subst AreAscending ((λ w. insert (same w) c.in-Err.place q) ∙ sym (c.in_ok-insert-in-Err.ensures.items ∙ ap (insert c.args.paths.now.items c.in-Err.place) c.in_ok-try_clone-in-Err.ensures))
-    (ascending_between c.deref.result.now q c.in-Err.place c.in-Err.ensures.bound up (c.in-Err.ensures.position (searchable c.deref.result.now q up)))
+    subst AreAscending
+    ((λ w. insert (same w) c.in-Err.place q) ∙ sym
+    (c.in_ok-insert-in-Err.ensures.items ∙ ap (insert c.args.paths.now.items c.in-Err.place) c.in_ok-try_clone-in-Err.ensures))
+    (ascending_between c.deref.result.now q c.in-Err.place c.in-Err.ensures.bound up
+    (c.in-Err.ensures.position (searchable c.deref.result.now q up)))
 
 pub returns-in_ok-insert-in-Err-clause-others : goal.returns-in_ok-insert-in-Err-clause-others
 returns-in_ok-insert-in-Err-clause-others c = λ p there.
-    subst (λ ps. Contains ps p) (sym (c.in_ok-insert-in-Err.ensures.items ∙ ap (insert c.args.paths.now.items c.in-Err.place) c.in_ok-try_clone-in-Err.ensures))
+    subst (λ ps. Contains ps p)
+    (sym (c.in_ok-insert-in-Err.ensures.items ∙ ap (insert c.args.paths.now.items c.in-Err.place) c.in_ok-try_clone-in-Err.ensures))
     (contains_insert c.args.paths.now.items c.in-Err.place c.args.path.now p there)
 
 pub returns-in_ok-insert-in-Err-clause-only : goal.returns-in_ok-insert-in-Err-clause-only
 returns-in_ok-insert-in-Err-clause-only c = λ p there.
     insert_contains c.args.paths.now.items c.in-Err.place c.args.path.now p
-    (subst (λ ps. Contains ps p) (c.in_ok-insert-in-Err.ensures.items ∙ ap (insert c.args.paths.now.items c.in-Err.place) c.in_ok-try_clone-in-Err.ensures) there)
+    (subst (λ ps. Contains ps p)
+    (c.in_ok-insert-in-Err.ensures.items ∙ ap (insert c.args.paths.now.items c.in-Err.place) c.in_ok-try_clone-in-Err.ensures) there)

@@ -11,6 +11,7 @@ abbrev pub invariant-loop-record : goal.invariant-loop-record
 invariant-loop-record l = record {
   ascending : AreAscending l.paths.items;
   there : HasFirst l.paths.items l.records l.record-index;
-  only : (p : Path) → Contains l.paths.items p → Contains l.fn.paths.items p ⊎ ((k : ℕ) × (k < l.record-index) × ((slice_index_or l.records k no_record).0 ≡ p));
+  only : (p : Path) → Contains l.paths.items p → Contains l.fn.paths.items p
+      ⊎ ((k : ℕ) × (k < l.record-index) × ((slice_index_or l.records k no_record).0 ≡ p));
   few : length l.paths.items ≤ length l.fn.paths.items + l.record-index;
 }

@@ -7,14 +7,15 @@ use Rattle.std.proofs.lemmas.List.{get_or_read}
 use Rattle.cs_micro.specs.declared.micro_op.MicroOp.TheVariants.{Say}
 use Rattle.cs_apm.specs.Atlases.{no_record}
 use Rattle.cs_apm.specs.Making.{HasAllNamed, HasNamed, IsKnownPath}
-use Rattle.cs_apm.specs.Rules.{op_at, named}
+use Rattle.cs_apm.specs.Rules.{op_at, paths_named}
 use Rattle.cs_apm.proofs.places.paths_of.Goals as goal
 use borrow.Author.Count.{below_more}
 
-more : (records : List (Path × Record)) (ops : List MicroOp) (i : ℕ) (p : Path) → IsKnownPath records ops i p → IsKnownPath records ops (i + 1) p
+more : (records : List (Path × Record)) (ops : List MicroOp) (i : ℕ) (p : Path) → IsKnownPath records ops i p
+    → IsKnownPath records ops (i + 1) p
 more records ops i p h = ⊎_elim
     (λ (w : (k : ℕ) × (k < length records) × ((get_or records k no_record).0 ≡ p)). inl w)
-    (λ (w : (k : ℕ) × (k < i) × Contains (named (op_at ops k)) p). let l = w.1 in inr (w.0, omega (arith, l), w.2))
+    (λ (w : (k : ℕ) × (k < i) × Contains (paths_named (op_at ops k)) p). let l = w.1 in inr (w.0, omega (arith, l), w.2))
     h
 
 pub loop-op-preserved : goal.loop-op-preserved
@@ -24,11 +25,18 @@ loop-op-preserved c =
     record {
       ascending = c.in_ok-add_named.ensures.ascending;
       starts = λ k low. c.in_ok-add_named.ensures.others _ (c.loop-op.invariant.starts k low);
-      named = below_more (λ k. HasNamed now (op_at c.args.ops.now k)) i (λ k low p h. c.in_ok-add_named.ensures.others p (c.loop-op.invariant.named k low p h))
-          (subst (HasNamed now) (get_or_read c.args.ops.now i c.op-item.result c.loop-op-test.true c.op-item.is Say) c.in_ok-add_named.ensures.there);
+      named = below_more (λ k. HasNamed now (op_at c.args.ops.now k)) i
+          (λ k low p h. c.in_ok-add_named.ensures.others p (c.loop-op.invariant.named k low p h))
+          (subst (HasNamed now) (get_or_read c.args.ops.now i c.op-item.result c.loop-op-test.true c.op-item.is Say)
+          c.in_ok-add_named.ensures.there);
       only = λ p h. ⊎_elim
           (λ (old : Contains c.loop-op.paths.items p). more c.args.records.now c.args.ops.now i p (c.loop-op.invariant.only p old))
-          (λ (new : Contains (named c.op-item.result) p). inr (i, omega arith, subst (λ o. Contains (named o) p) (get_or_read c.args.ops.now i c.op-item.result c.loop-op-test.true c.op-item.is Say) new))
+          (λ (new : Contains (paths_named c.op-item.result) p). inr (
+            i,
+            omega arith,
+            subst (λ o. Contains (paths_named o) p)
+                (get_or_read c.args.ops.now i c.op-item.result c.loop-op-test.true c.op-item.is Say) new,
+          ))
           (c.in_ok-add_named.ensures.only p h);
       few = omega (arith, c.in_ok-add_named.ensures.few);
     }
@@ -49,7 +57,8 @@ loop-op-init c = record {
   starts = c.in_ok-add_starts.ensures.there;
   named = λ k low. absurd (omega (arith, low));
   only = λ p h. ⊎_elim
-      (λ (old : Contains c.new-paths.result.items p). absurd (let l = old.1 in let none = ap length c.new-paths.ensures.items in omega (arith, l, none)))
+      (λ (old : Contains c.new-paths.result.items p). absurd
+      (let l = old.1 in let none = ap length c.new-paths.ensures.items in omega (arith, l, none)))
       (λ (w : (k : ℕ) × (k < length c.args.records.now) × ((get_or c.args.records.now k no_record).0 ≡ p)). inl w)
       (c.in_ok-add_starts.ensures.only p h);
   few = omega (arith, c.in_ok-add_starts.ensures.few);

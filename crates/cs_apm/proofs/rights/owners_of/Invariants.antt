@@ -5,4 +5,5 @@ use Rattle.cs_apm.specs.States.{owners_made, rights_of}
 use Rattle.cs_apm.proofs.rights.owners_of.Given as goal
 
 abbrev pub invariant-loop-op : goal.invariant-loop-op
-invariant-loop-op l = l.owners.items ≡ map (λ place. rights_of (slice_index_or l.records place no_record).1) l.places ++ owners_made (take l.op-index l.ops)
+invariant-loop-op l =
+    l.owners.items ≡ map (λ place. rights_of (slice_index_or l.records place no_record).1) l.places ++ owners_made (take l.op-index l.ops)

@@ -5,4 +5,5 @@ use Rattle.cs_apm.specs.States.{rights_of}
 use Rattle.cs_apm.proofs.rights.push_starts.Given as goal
 
 abbrev pub invariant-loop-place : goal.invariant-loop-place
-invariant-loop-place l = l.table.items ≡ l.fn.table.items ++ map (λ place. rights_of (slice_index_or l.records place no_record).1) (take l.place-index l.places)
+invariant-loop-place l =
+    l.table.items ≡ l.fn.table.items ++ map (λ place. rights_of (slice_index_or l.records place no_record).1) (take l.place-index l.places)

@@ -10,5 +10,6 @@ loop-k-preserved c =
     record {
       long = ap length e ∙ length_push c.loop-k.reach.items c.reach_row-row.result ∙ ap (λ n. n + 1) c.loop-k.invariant.long;
       reached = subst (λ v. AreReach c.args.rows.now v (c.loop-k.k + 1)) (sym e)
-          (reach_more c.args.rows.now c.loop-k.reach.items c.reach_row-row.result c.loop-k.k c.loop-k.invariant.long c.loop-k.invariant.reached c.reach_row-row.ensures);
+          (reach_more c.args.rows.now c.loop-k.reach.items c.reach_row-row.result c.loop-k.k c.loop-k.invariant.long
+          c.loop-k.invariant.reached c.reach_row-row.ensures);
     }

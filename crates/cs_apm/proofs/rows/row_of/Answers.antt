@@ -12,11 +12,13 @@ loop-i-preserved c =
     let need = rules.needs c.args.ops.now c.args.syncs.now c.args.version in
     elim c.if-needs.branch [
       | then-needs w ↦ subst (λ r. IsFilled need c.args.j r (c.loop-i.i + 1)) (sym w.row-is)
-          (filled_set need c.args.j c.loop-i.row w.set.new.self c.loop-i.i (sym c.needs.ensures ∙ w.if-needs.true) w.set.ensures c.loop-i.invariant)
+          (filled_set need c.args.j c.loop-i.row w.set.new.self c.loop-i.i (sym c.needs.ensures ∙ w.if-needs.true) w.set.ensures
+          c.loop-i.invariant)
       | else-needs w ↦ subst (λ r. IsFilled need c.args.j r (c.loop-i.i + 1)) (sym w.row-is)
           (filled_skip need c.args.j c.loop-i.row c.loop-i.i (sym c.needs.ensures ∙ w.if-needs.false) c.loop-i.invariant)
     ]
 
 pub returns : goal.returns
 returns c = filled_all c.args.ops.now c.args.syncs.now c.args.version c.args.j c.loop-i.row
-    (subst (λ w. IsFilled (rules.needs c.args.ops.now c.args.syncs.now c.args.version) c.args.j c.loop-i.row w) (omega arith) c.loop-i.invariant)
+    (subst (λ w. IsFilled (rules.needs c.args.ops.now c.args.syncs.now c.args.version) c.args.j c.loop-i.row w) (omega arith)
+    c.loop-i.invariant)

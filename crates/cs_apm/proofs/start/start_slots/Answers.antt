@@ -13,10 +13,12 @@ use Rattle.cs_apm.proofs.start.start_slots.Goals as goal
 
 pub loop-k-init : goal.loop-k-init
 loop-k-init c =
-    let nothing = all_nothing (length c.args.paths.now) c.in_ok-slots.slots.items (c.in_ok-slots.ensures.items_if_clones_equal (λ y is. is)) in
+    let nothing =
+    all_nothing (length c.args.paths.now) c.in_ok-slots.slots.items (c.in_ok-slots.ensures.items_if_clones_equal (λ y is. is)) in
     record {
       long = sym c.in_ok-slots.slots.ok.0 ∙ c.in_ok-slots.ensures.len;
-      mirror = λ p. none_first c.args.records.now c.args.nodes.now p ∙ sym (none_stand c.args.table.now.items c.args.paths.now c.in_ok-slots.slots.items p nothing);
+      mirror = λ p. none_first c.args.records.now c.args.nodes.now p ∙ sym
+          (none_stand c.args.table.now.items c.args.paths.now c.in_ok-slots.slots.items p nothing);
       there = λ i. subst (HasRights (length c.args.table.now.items)) (sym (nothing i)) tt;
       few = omega arith;
     }
@@ -25,7 +27,8 @@ pub place_of-place-requires-clause-there : goal.place_of-place-requires-clause-t
 place_of-place-requires-clause-there c =
     let k = c.loop-k.k - 1 in
     let low : k < length c.args.records.now = omega arith in
-    subst (λ (e : Path × Record). Contains c.args.paths.now e.0) (get_or_default c.args.records.now k no_record c.index-records-k.result low) (c.requires.there k low)
+    subst (λ (e : Path × Record). Contains c.args.paths.now e.0)
+    (get_or_default c.args.records.now k no_record c.index-records-k.result low) (c.requires.there k low)
 
 pub loop-k-preserved : goal.loop-k-preserved
 loop-k-preserved c =
@@ -35,14 +38,20 @@ loop-k-preserved c =
     let s = c.in_ok-slots-2.field-0 in
     let some : 0 < c.loop-k.k = omega arith in
     let le : c.loop-k.k ≤ length c.args.records.now = omega arith in
-    let read = get_or_default c.args.records.now (c.loop-k.k - 1) c.index-records-k-in-loop-k.result c.index-records-k.result (omega arith) in
+    let read =
+    get_or_default c.args.records.now (c.loop-k.k - 1) c.index-records-k-in-loop-k.result c.index-records-k.result (omega arith) in
     record {
       long = length-set c.loop-k.slots.items i s ∙ c.loop-k.invariant.long;
       mirror = subst (λ m. Mirror new c.args.paths.now (slice_set c.loop-k.slots.items i s) m)
-          (sym (entries_from c.args.records.now c.args.nodes.now c.loop-k.k c.index-records-k.result nodes.Directory some le c.requires.each))
-          (start_mirror old new c.in_ok-slots-2.ensures.grows c.args.paths.now c.loop-k.slots.items i s _ (start_entries (drop c.loop-k.k c.args.records.now) (drop c.loop-k.k c.args.nodes.now)) _
+          (sym (entries_from c.args.records.now c.args.nodes.now c.loop-k.k c.index-records-k.result nodes.Directory some le
+          c.requires.each))
+          (start_mirror old new c.in_ok-slots-2.ensures.grows c.args.paths.now c.loop-k.slots.items i s _
+          (start_entries (drop c.loop-k.k c.args.records.now) (drop c.loop-k.k c.args.nodes.now)) _
           c.requires.ascending c.loop-k.invariant.long c.place_of-place.ensures c.loop-k.invariant.there c.loop-k.invariant.mirror
-          (c.in_ok-slots-2.ensures.entry ∙ ap (λ (e : Path × Record). Some (start_entry (get_or c.args.nodes.now (c.loop-k.k - 1) nodes.Directory) e.1)) read));
-      there = with_rights old new c.in_ok-slots-2.ensures.grows c.loop-k.slots.items i s (let l = c.place_of-place.ensures in let m = c.loop-k.invariant.long in omega (arith, l.0, m)) c.loop-k.invariant.there c.in_ok-slots-2.ensures.there;
+          (c.in_ok-slots-2.ensures.entry ∙ ap
+          (λ (e : Path × Record). Some (start_entry (get_or c.args.nodes.now (c.loop-k.k - 1) nodes.Directory) e.1)) read));
+      there = with_rights old new c.in_ok-slots-2.ensures.grows c.loop-k.slots.items i s
+          (let l = c.place_of-place.ensures in let m = c.loop-k.invariant.long in omega (arith, l.0, m)) c.loop-k.invariant.there
+          c.in_ok-slots-2.ensures.there;
       few = (let l = c.in_ok-slots-2.ensures.few in let m = c.loop-k.invariant.few in omega (arith, l, m));
     }

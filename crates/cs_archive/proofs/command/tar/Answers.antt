@@ -5,5 +5,9 @@ use Rattle.cs_archive.proofs.command.tar.Goals as goal
 
 pub returns-in-Ok-flush : goal.returns-in-Ok-flush
 returns-in-Ok-flush g c =
-    let scene = arc_value c.in-Ok.scene in
-    (scene, Appends-kept (g.W.Write.contents c.args.out.now) (g.W.Write.contents c.write_states.new.out) (g.W.Write.contents c.flush.new.self) (archive_in scene c.args.states) c.in_ok-write_states.ensures.archive c.in-Ok-flush.ensures.bytes)
+    let scene = arc_value c.in-Ok.scene in (
+      scene,
+      Appends-kept (g.W.Write.contents c.args.out.now) (g.W.Write.contents c.write_states.new.out)
+          (g.W.Write.contents c.flush.new.self) (archive_in scene c.args.states.now) c.in_ok-write_states.ensures.archive
+          c.in-Ok-flush.ensures.bytes,
+    )

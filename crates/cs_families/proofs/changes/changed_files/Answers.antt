@@ -10,10 +10,13 @@ loop-number-preserved c =
     let p = is_changed c.args.ops.now in
     let k = c.loop-number.number in
     elim c.if-is_changed.branch [
-      | then-is_changed+in_ok-push w ↦ ap (λ r. r.items) w.files-is ∙ w.in_ok-push.ensures.items ∙ ap (λ v. v ++ k ∷ []) c.loop-number.invariant ∙ sym (kept_more p k (sym c.is_changed.ensures ∙ w.if-is_changed.true))
-      | else-is_changed w ↦ ap (λ r. r.items) w.files-is ∙ c.loop-number.invariant ∙ sym (kept_same p k (sym c.is_changed.ensures ∙ w.if-is_changed.false))
+      | then-is_changed+in_ok-push w ↦ ap (λ r. r.items) w.files-is ∙ w.in_ok-push.ensures.items ∙ ap (λ v. v ++ k ∷ [])
+          c.loop-number.invariant ∙ sym (kept_more p k (sym c.is_changed.ensures ∙ w.if-is_changed.true))
+      | else-is_changed w ↦ ap (λ r. r.items) w.files-is ∙ c.loop-number.invariant ∙ sym
+          (kept_same p k (sym c.is_changed.ensures ∙ w.if-is_changed.false))
     ]
 
 pub returns : goal.returns
 unfolding changed_files
-returns c = let e : c.loop-number.number ≡ file_end c.args.ops.now = omega arith in c.loop-number.invariant ∙ ap (λ n. filter (is_changed c.args.ops.now) (range_with_len 0 n)) e
+returns c = let e : c.loop-number.number ≡ file_end c.args.ops.now = omega arith in
+    c.loop-number.invariant ∙ ap (λ n. filter (is_changed c.args.ops.now) (range_with_len 0 n)) e

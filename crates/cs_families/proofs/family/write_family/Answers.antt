@@ -5,7 +5,11 @@ use Rattle.cs_families.proofs.Allowed.{family_good}
 use Rattle.cs_families.proofs.family.write_family.Goals as goal
 
 pub returns-in-Lost-clause-allowed : goal.returns-in-Lost-clause-allowed
-returns-in-Lost-clause-allowed g c = family_good c.args.scene.now c.args.family (subst (λ (order : List (List Bool)). IsBackward (needs_in order)) c.order-order.ensures.value c.len-few.ensures.backward)
+returns-in-Lost-clause-allowed g c =
+    family_good c.args.scene.now c.args.family
+    (subst (λ (order : List (List Bool)). IsBackward (needs_in order)) c.order-order.ensures.value c.len.ensures.backward)
 
 pub returns-in-Files-clause-allowed : goal.returns-in-Files-clause-allowed
-returns-in-Files-clause-allowed g c = family_good c.args.scene.now c.args.family (subst (λ (order : List (List Bool)). IsBackward (needs_in order)) c.order-order.ensures.value c.len-few.ensures.backward)
+returns-in-Files-clause-allowed g c =
+    family_good c.args.scene.now c.args.family
+    (subst (λ (order : List (List Bool)). IsBackward (needs_in order)) c.order-order.ensures.value c.len.ensures.backward)

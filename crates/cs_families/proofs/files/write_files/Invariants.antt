@@ -5,4 +5,6 @@ use Rattle.cs_families.specs.Texts.{picks_text}
 use Rattle.cs_families.proofs.files.write_files.Given as goal
 
 abbrev pub invariant-loop-end : goal.invariant-loop-end
-invariant-loop-end g l = Appends (g.W.Write.contents l.fn.out) (g.W.Write.contents l.out) (picks_text (flat_map (prefix_sets l.micros l.order) (range_with_len 0 l.end)))
+invariant-loop-end g l =
+    Appends (g.W.Write.contents l.fn.out) (g.W.Write.contents l.out)
+    (picks_text (flat_map (prefix_sets l.micros l.order) (range_with_len 0 l.end)))

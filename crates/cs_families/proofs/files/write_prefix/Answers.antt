@@ -15,9 +15,11 @@ loop-file-init g c = Appends-nil (g.W.Write.contents c.args.out.now)
 pub loop-file-preserved : goal.loop-file-preserved
 loop-file-preserved g c =
     let f = sets_without (needs_in c.args.order.now) c.args.shorter.now c.args.losses.now in
-    written_more (g.W.Write.contents c.args.out.now) (g.W.Write.contents c.loop-file.out) (g.W.Write.contents c.write_without.new.out) _ _ _ c.loop-file.invariant c.in_ok-write_without.ensures (files_more f c.args.files.now c.loop-file.file-index c.loop-file-test.true)
+    written_more (g.W.Write.contents c.args.out.now) (g.W.Write.contents c.loop-file.out) (g.W.Write.contents c.write_without.new.out) _ _ _
+    c.loop-file.invariant c.in_ok-write_without.ensures (files_more f c.args.files.now c.loop-file.file-index c.loop-file-test.true)
 
 pub returns : goal.returns
 returns g c =
     let f = sets_without (needs_in c.args.order.now) c.args.shorter.now c.args.losses.now in
-    subst (λ v. Appends (g.W.Write.contents c.args.out.now) (g.W.Write.contents c.loop-file.out) (picks_text (flat_map f v))) (take_all c.loop-file.file-index c.args.files.now (omega arith)) c.loop-file.invariant
+    subst (λ v. Appends (g.W.Write.contents c.args.out.now) (g.W.Write.contents c.loop-file.out) (picks_text (flat_map f v)))
+    (take_all c.loop-file.file-index c.args.files.now (omega arith)) c.loop-file.invariant

@@ -7,4 +7,6 @@ use Rattle.cs_families.specs.Texts.{picks_text}
 use Rattle.cs_families.proofs.files.write_prefix.Given as goal
 
 abbrev pub invariant-loop-file : goal.invariant-loop-file
-invariant-loop-file g l = Appends (g.W.Write.contents l.fn.out) (g.W.Write.contents l.out) (picks_text (flat_map (sets_without (needs_in l.order) l.shorter l.losses) (take l.file-index l.files)))
+invariant-loop-file g l =
+    Appends (g.W.Write.contents l.fn.out) (g.W.Write.contents l.out)
+    (picks_text (flat_map (sets_without (needs_in l.order) l.shorter l.losses) (take l.file-index l.files)))

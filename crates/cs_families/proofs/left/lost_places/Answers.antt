@@ -14,8 +14,10 @@ loop-place-preserved c =
     let inside = λ (place : ℕ). place < length c.args.losses.now in
     elim c.if-loses_at.branch [
       | then-loses_at+in_ok-push w ↦ (let items = ap (λ r. r.items) w.lost-is ∙ w.in_ok-push.ensures.items in record {
-        so_far = items ∙ ap (λ v. v ++ k ∷ []) c.loop-place.invariant.so_far ∙ sym (kept_more p k (sym c.loses_at.ensures ∙ w.if-loses_at.true));
-        inside = subst (λ (v : List ℕ). All inside v) (sym items) (All-push inside c.loop-place.lost.items k c.loop-place.invariant.inside low);
+        so_far = items ∙ ap (λ v. v ++ k ∷ []) c.loop-place.invariant.so_far ∙ sym
+            (kept_more p k (sym c.loses_at.ensures ∙ w.if-loses_at.true));
+        inside = subst (λ (v : List ℕ). All inside v) (sym items)
+            (All-push inside c.loop-place.lost.items k c.loop-place.invariant.inside low);
       })
       | else-loses_at w ↦ (let items = ap (λ r. r.items) w.lost-is in record {
         so_far = items ∙ c.loop-place.invariant.so_far ∙ sym (kept_same p k (sym c.loses_at.ensures ∙ w.if-loses_at.false));

@@ -13,15 +13,19 @@ loop-needed-preserved c =
     let p = is_needed (needs_in c.args.order.now) c.args.place in
     let k = c.loop-needed.needed in
     elim c.if-is_needed.branch [
-      | then-is_needed+in_ok-push w ↦ ap (λ r. r.items) w.set-is ∙ w.in_ok-push.ensures.items ∙ ap (λ v. v ++ k ∷ []) c.loop-needed.invariant ∙ sym (kept_more p k (sym c.is_needed.ensures ∙ w.if-is_needed.true))
-      | else-is_needed w ↦ ap (λ r. r.items) w.set-is ∙ c.loop-needed.invariant ∙ sym (kept_same p k (sym c.is_needed.ensures ∙ w.if-is_needed.false))
+      | then-is_needed+in_ok-push w ↦ ap (λ r. r.items) w.set-is ∙ w.in_ok-push.ensures.items ∙ ap (λ v. v ++ k ∷ [])
+          c.loop-needed.invariant ∙ sym (kept_more p k (sym c.is_needed.ensures ∙ w.if-is_needed.true))
+      | else-is_needed w ↦ ap (λ r. r.items) w.set-is ∙ c.loop-needed.invariant ∙ sym
+          (kept_same p k (sym c.is_needed.ensures ∙ w.if-is_needed.false))
     ]
 
 pub returns-clause-value : goal.returns-clause-value
-returns-clause-value c = let e : c.loop-needed.needed ≡ c.args.place + 1 = omega arith in c.loop-needed.invariant ∙ ap (λ n. filter (is_needed (needs_in c.args.order.now) c.args.place) (range_with_len 0 n)) e
+returns-clause-value c = let e : c.loop-needed.needed ≡ c.args.place + 1 = omega arith in
+    c.loop-needed.invariant ∙ ap (λ n. filter (is_needed (needs_in c.args.order.now) c.args.place) (range_with_len 0 n)) e
 
 pub returns-clause-allowed : goal.returns-clause-allowed
 returns-clause-allowed c =
     let e : c.loop-needed.needed ≡ c.args.place + 1 = omega arith in
     let is = c.loop-needed.invariant ∙ ap (λ n. filter (is_needed (needs_in c.args.order.now) c.args.place) (range_with_len 0 n)) e in
-    subst (IsAllowed (needs_in c.args.order.now) (length c.args.order.now)) (sym is) (least_allowed (needs_in c.args.order.now) (length c.args.order.now) c.len-few.ensures.backward c.args.place c.requires)
+    subst (IsAllowed (needs_in c.args.order.now) (length c.args.order.now)) (sym is)
+    (least_allowed (needs_in c.args.order.now) (length c.args.order.now) c.len.ensures.backward c.args.place c.requires)

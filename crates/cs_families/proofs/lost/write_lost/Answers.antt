@@ -17,9 +17,11 @@ loop-place-preserved g c =
     let n = c.loop-place.place in
     let before = picks_text (map f (range_with_len 0 n)) in
     let e = ap (λ v. before ++ pick_line v) (c.of-pick.ensures ∙ c.in_ok-set.ensures.value) ∙ lines_more f n in
-    written_more (g.W.Write.contents c.args.out.now) (g.W.Write.contents c.loop-place.out) (g.W.Write.contents c.write_pick.new.out) before (pick_line c.of-pick.result) _ c.loop-place.invariant c.in_ok-write_pick.ensures e
+    written_more (g.W.Write.contents c.args.out.now) (g.W.Write.contents c.loop-place.out) (g.W.Write.contents c.write_pick.new.out) before
+    (pick_line c.of-pick.result) _ c.loop-place.invariant c.in_ok-write_pick.ensures e
 
 pub returns : goal.returns
 returns g c =
     let e : c.loop-place.place ≡ length c.args.order.now = omega arith in
-    subst (λ n. Appends (g.W.Write.contents c.args.out.now) (g.W.Write.contents c.loop-place.out) (picks_text (map (least_with (needs_in c.args.order.now)) (range_with_len 0 n)))) e c.loop-place.invariant
+    subst (λ n. Appends (g.W.Write.contents c.args.out.now) (g.W.Write.contents c.loop-place.out)
+    (picks_text (map (least_with (needs_in c.args.order.now)) (range_with_len 0 n)))) e c.loop-place.invariant

@@ -7,4 +7,6 @@ use Rattle.cs_families.specs.Texts.{picks_text}
 use Rattle.cs_families.proofs.lost.write_lost.Given as goal
 
 abbrev pub invariant-loop-place : goal.invariant-loop-place
-invariant-loop-place g l = Appends (g.W.Write.contents l.fn.out) (g.W.Write.contents l.out) (picks_text (map (least_with (needs_in l.order)) (range_with_len 0 l.place)))
+invariant-loop-place g l =
+    Appends (g.W.Write.contents l.fn.out) (g.W.Write.contents l.out)
+    (picks_text (map (least_with (needs_in l.order)) (range_with_len 0 l.place)))

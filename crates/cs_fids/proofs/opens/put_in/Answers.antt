@@ -11,4 +11,5 @@ returns-clause-descending c =
     let greater = rw c.as_slice.ensures.value at c.place_of-place.ensures.greater in
     let rest = rw c.as_slice.ensures.value at c.place_of-place.ensures.rest in
     let within = rw c.as_slice.ensures.value at c.place_of-place.ensures.within in
-    rw c.in-Ok.ensures.items (descending_put c.args.opens.now.items c.requires.descending c.args.fid c.place_of-place.result greater rest within c.requires.new)
+    rw c.in-Ok.ensures.items
+    (descending_put c.args.opens.now.items c.requires.descending c.args.fid c.place_of-place.result greater rest within c.requires.new)

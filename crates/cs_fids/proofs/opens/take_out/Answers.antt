@@ -7,7 +7,8 @@ pub remove-requires : goal.remove-requires
 remove-requires c =
     let greater = rw c.as_slice.ensures.value at c.place_of-place.ensures.greater in
     let rest = rw c.as_slice.ensures.value at c.place_of-place.ensures.rest in
-    let there = stands_there c.args.opens.now.items c.requires.descending c.args.fid c.place_of-place.result greater rest c.requires.there in
+    let there =
+    stands_there c.args.opens.now.items c.requires.descending c.args.fid c.place_of-place.result greater rest c.requires.there in
     let within : c.place_of-place.result < length c.args.opens.now.items = there.0 in
     omega (arith, c.as_slice.ensures.len, ap length c.as_slice.ensures.value)
 
@@ -15,5 +16,7 @@ pub returns-clause-among : goal.returns-clause-among
 returns-clause-among c = λ n.
     let greater = rw c.as_slice.ensures.value at c.place_of-place.ensures.greater in
     let rest = rw c.as_slice.ensures.value at c.place_of-place.ensures.rest in
-    let there = stands_there c.args.opens.now.items c.requires.descending c.args.fid c.place_of-place.result greater rest c.requires.there in
-    ap (is_among n) c.remove.ensures.items ∙ among_taken c.args.opens.now.items c.requires.descending c.args.fid c.place_of-place.result there.0 (sym there.1) n
+    let there =
+    stands_there c.args.opens.now.items c.requires.descending c.args.fid c.place_of-place.result greater rest c.requires.there in
+    ap (is_among n) c.remove.ensures.items ∙ among_taken c.args.opens.now.items c.requires.descending c.args.fid c.place_of-place.result
+    there.0 (sym there.1) n

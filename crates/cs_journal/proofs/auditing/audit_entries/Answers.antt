@@ -5,7 +5,10 @@ use Rattle.cs_journal.proofs.Audits.{first_fault, found_for, next_rest, rests_mo
 use Rattle.cs_journal.proofs.auditing.audit_entries.Goals as goal
 
 pub from_place-rest-requires : goal.from_place-rest-requires
-from_place-rest-requires c = (c.loop-place.invariant.rests c.pass-number.result _ (slice_get-get_or c.loop-place.rests c.pass-number.result c.index-rests-number.result (omega (arith, c.pass-number.ensures.few, c.loop-place.invariant.many)))).ascending
+from_place-rest-requires c =
+    (c.loop-place.invariant.rests c.pass-number.result _
+    (slice_get-get_or c.loop-place.rests c.pass-number.result c.index-rests-number.result
+    (omega (arith, c.pass-number.ensures.few, c.loop-place.invariant.many)))).ascending
 
 pub returns-in-Err : goal.returns-in-Err
 returns-in-Err c =
@@ -13,7 +16,9 @@ returns-in-Err c =
     let e = c.entry-entry.result in
     let n = c.pass-number.result in
     let within : n < length c.loop-place.rests = omega (arith, c.pass-number.ensures.few, c.loop-place.invariant.many) in
-    let rest = next_rest (λ r. r.now) c.args.passes.now c.loop-place.rests n k c.index-rests-number.result c.from_place-rest.result.now c.loop-place.invariant.rests within c.from_place-rest.ensures.same c.from_place-rest.ensures.ascending in
+    let rest =
+    next_rest (λ r. r.now) c.args.passes.now c.loop-place.rests n k c.index-rests-number.result c.from_place-rest.result.now
+    c.loop-place.invariant.rests within c.from_place-rest.ensures.same c.from_place-rest.ensures.ascending in
     let found = found_for c.args.passes.now n k e c.from_place-rest.result.now _ rest c.pass-number.ensures.value c.first_at.ensures in
     let there : slice_get c.args.journal.now.items k ≡ Some e = c.entry-entry.ensures in
     first_fault c.args.passes.now c.args.journal.now.items k e _ c.in-Err.fault c.loop-place.invariant.told there found c.in-Err.ensures
@@ -24,7 +29,9 @@ loop-place-preserved c =
     let e = c.entry-entry.result in
     let n = c.pass-number.result in
     let within : n < length c.loop-place.rests = omega (arith, c.pass-number.ensures.few, c.loop-place.invariant.many) in
-    let rest = next_rest (λ r. r.now) c.args.passes.now c.loop-place.rests n k c.index-rests-number.result c.from_place-rest.result.now c.loop-place.invariant.rests within c.from_place-rest.ensures.same c.from_place-rest.ensures.ascending in
+    let rest =
+    next_rest (λ r. r.now) c.args.passes.now c.loop-place.rests n k c.index-rests-number.result c.from_place-rest.result.now
+    c.loop-place.invariant.rests within c.from_place-rest.ensures.same c.from_place-rest.ensures.ascending in
     let found = found_for c.args.passes.now n k e c.from_place-rest.result.now _ rest c.pass-number.ensures.value c.first_at.ensures in
     let there : slice_get c.args.journal.now.items k ≡ Some e = c.entry-entry.ensures in
     record {

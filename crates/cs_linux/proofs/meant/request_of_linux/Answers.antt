@@ -1,7 +1,7 @@
 use Rattle.std.proofs.Common.{ap, sym, ◌∙◌}
 use Rattle.cs_wire.specs.declared.message.TBody.{TBody}
 use Rattle.cs_wire.specs.Messages.{t_view}
-use Rattle.cs_linux.specs.Messages.{meant}
+use Rattle.cs_linux.specs.Messages.{as_client_means}
 use Rattle.cs_linux.proofs.Changed.{meant_other, meant_wstat}
 use Rattle.cs_linux.proofs.meant.request_of_linux.Goals as goal
 use Rattle.cs_linux.proofs.meant.request_of_linux.Goals.{in-Wstat, in_default}
@@ -12,7 +12,7 @@ returns c =
     elim c.match-body.branch [
       | in-Wstat w ↦ ap (λ (body : TBody). t_view record { tag = tag; body = body }) w.body-is
           ∙ meant_wstat tag w.in-Wstat.fid w.in-Wstat.stat w.asked_of.result w.asked_of.ensures
-          ∙ ap (λ (body : TBody). meant (t_view record { tag = tag; body = body })) (sym w.in-Wstat.is)
+          ∙ ap (λ (body : TBody). as_client_means (t_view record { tag = tag; body = body })) (sym w.in-Wstat.is)
       | in_default w ↦ ap (λ (body : TBody). t_view record { tag = tag; body = body }) w.body-is
           ∙ meant_other tag c.args.request.body w.in_default.not-Wstat
     ]

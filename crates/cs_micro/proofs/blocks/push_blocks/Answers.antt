@@ -31,5 +31,6 @@ returns c =
     let first = block_of size c.args.offset in
     let last = block_of size (c.args.offset + length c.args.bytes.now - 1) in
     let ascend = blocks_ascend c.args.size c.args.offset (c.args.offset + length c.args.bytes.now - 1) (omega (arith, c.requires.some)) in
-    let whole : c.loop-block.block - first ≡ last + 1 - first = omega (arith, c.loop-block-test.false, c.loop-block.auto.block-end, ascend) in
+    let whole : c.loop-block.block - first ≡ last + 1 - first =
+    omega (arith, c.loop-block-test.false, c.loop-block.auto.block-end, ascend) in
     c.loop-block.invariant ∙ ap (λ n. c.args.ops.now.items ++ map f (range_with_len first n)) whole

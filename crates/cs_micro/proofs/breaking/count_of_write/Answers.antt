@@ -9,7 +9,9 @@ pub returns : goal.returns
 returns c file =
     let bytes = c.args.bytes.now in
     let end = c.args.offset + length bytes in
-    let count = count_written (block_bytes c.args.block) file c.args.size c.args.offset bytes (λ none. false≢true (sym c.if-is_empty.false ∙ c.is_empty.ensures ∙ eq-eqb (length bytes) 0 none)) in
+    let count =
+    count_written (block_bytes c.args.block) file c.args.size c.args.offset bytes
+    (λ none. false≢true (sym c.if-is_empty.false ∙ c.is_empty.ensures ∙ eq-eqb (length bytes) 0 none)) in
     elim c.if-size-end.branch [
       | then-size-end w ↦ omega (arith, count, w.changes-is, grown_one file c.args.size end w.if-size-end.true)
       | else-size-end w ↦ omega (arith, count, w.changes-is, grown_none file c.args.size end w.if-size-end.false)

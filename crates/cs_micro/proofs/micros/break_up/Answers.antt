@@ -29,7 +29,8 @@ paths_of_files-requires c = λ k d low.
     let t = c.args.trace.now in
     let links = c.links.ensures.value in
     let known = links_known t c.links.ensures.linked c.files.ensures.found k d (subst (λ v. k < length v) links low) in
-    subst (λ v. (get_or v k d).1 < length c.files.result.now) (sym links) (subst (λ v. (get_or t.links k d).1 < length v) (sym c.files.ensures.value) known)
+    subst (λ v. (get_or v k d).1 < length c.files.result.now) (sym links)
+    (subst (λ v. (get_or t.links k d).1 < length v) (sym c.files.ensures.value) known)
 
 pub returns-in_err-starts-clause-memory : goal.returns-in_err-starts-clause-memory
 returns-in_err-starts-clause-memory c refused =
@@ -49,4 +50,5 @@ returns-clause-legal c =
     let starts = c.in_ok-starts.ensures.value ∙ (λ w. paths_of_files (c.files.ensures.value w) (c.links.ensures.value w)) in
     let counted = ap length starts ∙ length-paths_of_files t.files t.links ∙ sym (length-map t.files (size_at t.records)) in
     subst (λ n. AreLegal size (start_paths t) n c.in_ok-ops.ops.items) (sym counted)
-    (subst (AreLegal size (start_paths t) (length (start_sizes t))) (sym broken) (all_legal (block_size_of t.version) (start_paths t) (start_sizes t) t.operations lent.legal))
+    (subst (AreLegal size (start_paths t) (length (start_sizes t))) (sym broken)
+    (all_legal (block_size_of t.version) (start_paths t) (start_sizes t) t.operations lent.legal))

@@ -12,8 +12,11 @@ index_mut-requires c =
     let k = c.loop-path.path-index in
     let files = c.args.files.now in
     let link = c.loop-path-item.result in
-    let known : link.1 < length files = subst (λ l. l.1 < length files) (sym c.loop-path-item.is) (c.requires k link c.loop-path-test.true) in
-    let long = sym (length-map c.loop-path.starts.items (λ paths. paths.items)) ∙ ap length c.loop-path.invariant ∙ length-paths_of_files files (take k c.args.links.now) in
+    let known : link.1 < length files =
+    subst (λ l. l.1 < length files) (sym c.loop-path-item.is) (c.requires k link c.loop-path-test.true) in
+    let long =
+    sym (length-map c.loop-path.starts.items (λ paths. paths.items)) ∙ ap length c.loop-path.invariant ∙ length-paths_of_files files
+    (take k c.args.links.now) in
     omega (arith, known, long, c.loop-path.starts.ok.0)
 
 pub loop-path-preserved : goal.loop-path-preserved
@@ -21,6 +24,9 @@ loop-path-preserved c =
     let k = c.loop-path.path-index in
     let files = c.args.files.now in
     let link = c.loop-path-item.result in
-    let known : link.1 < length files = subst (λ l. l.1 < length files) (sym c.loop-path-item.is) (c.requires k link c.loop-path-test.true) in
-    link_pushed (λ paths. paths.items) c.loop-path.starts.items files c.args.links.now k link c.in_ok-try_clone.field-0 c.index_mut.result.now c.push.new.self
-    c.loop-path-test.true c.loop-path-item.is known c.loop-path.invariant c.index_mut.ensures.value c.in_ok-try_clone.ensures c.in_ok-push.ensures.items
+    let known : link.1 < length files =
+    subst (λ l. l.1 < length files) (sym c.loop-path-item.is) (c.requires k link c.loop-path-test.true) in
+    link_pushed (λ paths. paths.items) c.loop-path.starts.items files c.args.links.now k link c.in_ok-try_clone.field-0
+    c.index_mut.result.now c.push.new.self
+    c.loop-path-test.true c.loop-path-item.is known c.loop-path.invariant c.index_mut.ensures.value c.in_ok-try_clone.ensures
+    c.in_ok-push.ensures.items

@@ -9,5 +9,8 @@ returns-clause-bytes c =
     let r = c.requires in
     let long = ap length c.copy_from_slice.ensures.after in
     sym (take-append-drop n _)
-    ∙ (λ i. take-put_mid c.args.start (n - c.args.start) c.args.bytes.now c.copy_from_slice.new.self n (omega (arith, long)) (omega (arith, r)) i ++ drop-put_mid c.args.start (n - c.args.start) c.args.bytes.now c.copy_from_slice.new.self n (omega (arith)) (omega (arith, r)) (omega (arith, long)) i)
+    ∙ (λ i. take-put_mid c.args.start (n - c.args.start) c.args.bytes.now c.copy_from_slice.new.self n (omega (arith, long))
+    (omega (arith, r)) i
+    ++ drop-put_mid c.args.start (n - c.args.start) c.args.bytes.now c.copy_from_slice.new.self n (omega (arith)) (omega (arith, r))
+    (omega (arith, long)) i)
     ∙ ap (λ v. take c.args.start c.args.bytes.now ++ v ++ drop n c.args.bytes.now) c.copy_from_slice.ensures.after

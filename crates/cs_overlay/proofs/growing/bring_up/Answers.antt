@@ -8,6 +8,7 @@ pub loop-at-preserved : goal.loop-at-preserved
 loop-at-preserved g c =
     let inv = c.loop-at.invariant in (
       omega (arith, inv.0, c.min-stop.ensures, c.loop-at-test.true),
-      reaches_more (get nat_cmp c.loop-at.blocks) (get nat_cmp c.reach.new.blocks) c.args.offset c.loop-at.at c.min-stop.result c.reach.ensures.keeps inv.1 (omega (arith, c.min-stop.ensures)) c.in_ok-reach.ensures.there,
+      reaches_more (get nat_cmp c.loop-at.blocks) (get nat_cmp c.reach.new.blocks) c.args.offset c.loop-at.at c.min-stop.result
+          c.reach.ensures.keeps inv.1 (omega (arith, c.min-stop.ensures)) c.in_ok-reach.ensures.there,
       (λ i. c.reach.ensures.same i ∙ inv.2 i),
     )

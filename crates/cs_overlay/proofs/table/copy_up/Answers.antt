@@ -12,5 +12,6 @@ returns-in_err-insert-clause-same g c = same_alike _ _ _ (λ q. ap (λ es. looku
 pub returns-in_ok-insert-clause-same : goal.returns-in_ok-insert-clause-same
 returns-in_ok-insert-clause-same g c =
     let t = g.L.TreeRead.tree c.args.lower.now in
-    same_copied t (get nat_eq c.args.nodes.now) (get nat_eq c.insert.new.self) c.args.number (absent (get nat_eq c.args.nodes.now c.args.number) (sym c.contains_key.ensures ∙ c.if-contains_key.false)) c.in-Some.node
+    same_copied t (get nat_eq c.args.nodes.now) (get nat_eq c.insert.new.self) c.args.number
+    (absent (get nat_eq c.args.nodes.now c.args.number) (sym c.contains_key.ensures ∙ c.if-contains_key.false)) c.in-Some.node
     (subst (λ o. IfSome o (IsCopy t c.args.number)) c.in-Some.is c.in_ok-node.ensures.copy) c.in_ok-insert.ensures.updates.0

@@ -7,7 +7,9 @@ use Rattle.cs_overlay.proofs.writing.overwrite.Given as goal
 -- the bytes before here are written, and the blocks reach to the end
 abbrev pub invariant-loop-at : goal.invariant-loop-at
 invariant-loop-at l = (l.offset ≤ l.at) × (l.at ≤ l.end) × Reaches (get nat_cmp l.blocks) l.offset l.end
-    × ((lower : List ℕ) (kept i : ℕ) → byte_at lower kept (get nat_cmp l.blocks) i ≡ written_byte l.offset (take (l.at - l.offset) l.bytes) (byte_at lower kept (get nat_cmp l.fn.blocks)) i)
+    × ((lower : List ℕ) (kept i : ℕ)
+    → byte_at lower kept (get nat_cmp l.blocks) i
+    ≡ written_byte l.offset (take (l.at - l.offset) l.bytes) (byte_at lower kept (get nat_cmp l.fn.blocks)) i)
 
 abbrev pub decreases-loop-at : goal.decreases-loop-at
 decreases-loop-at l = l.end - l.at

@@ -10,11 +10,13 @@ none_if : (o : Option ℕ) → (IsSome o → ⊥) → o ≡ None
 none_if None absent = refl
 none_if (Some n) absent = absurd (absent refl)
 
-none_there : (t : Tree) (d : ℕ) (o : Option NameBytes) → IsEntryBelow (HasName t d) None None (entry_below None o) → is_some o ≡ false → (x : NameBytes) → number_in t d x ≡ None
+none_there : (t : Tree) (d : ℕ) (o : Option NameBytes) → IsEntryBelow (HasName t d) None None (entry_below None o) → is_some o ≡ false
+    → (x : NameBytes) → number_in t d x ≡ None
 none_there t d None holds none x = none_if (number_in t d x) (λ there. false≢true (sym (holds x (there, refl))))
 none_there t d (Some y) holds none x = absurd (false≢true (sym none))
 
-some_there : (t : Tree) (d : ℕ) (o : Option NameBytes) → IsEntryBelow (HasName t d) None None (entry_below None o) → is_some o ≡ true → (x : NameBytes) × IsSome (number_in t d x)
+some_there : (t : Tree) (d : ℕ) (o : Option NameBytes) → IsEntryBelow (HasName t d) None None (entry_below None o) → is_some o ≡ true
+    → (x : NameBytes) × IsSome (number_in t d x)
 some_there t d None holds some = absurd (false≢true some)
 some_there t d (Some y) holds some = (y, holds.there.0)
 

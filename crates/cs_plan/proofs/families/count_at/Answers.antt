@@ -13,17 +13,22 @@ loop-missing-preserved c =
     let k = c.args.last in
     elim c.if-keeps.branch [
       | then-keeps w ↦ record {
-        so_far = w.count-is ∙ ap (λ n. n + 1) c.loop-missing.invariant.so_far ∙ sym (ap length (below_more needs k i (sym c.keeps.ensures ∙ w.if-keeps.true)) ∙ length_push (holes_below needs k i) (Hole i (k + 1)));
+        so_far = w.count-is ∙ ap (λ n. n + 1) c.loop-missing.invariant.so_far ∙ sym
+            (ap length (below_more needs k i (sym c.keeps.ensures ∙ w.if-keeps.true)) ∙ length_push (holes_below needs k i)
+            (Hole i (k + 1)));
         small = omega arith;
       }
       | else-keeps w ↦ record {
-        so_far = w.count-is ∙ c.loop-missing.invariant.so_far ∙ sym (ap length (below_same needs k i (sym c.keeps.ensures ∙ w.if-keeps.false)));
+        so_far = w.count-is ∙ c.loop-missing.invariant.so_far ∙ sym
+            (ap length (below_same needs k i (sym c.keeps.ensures ∙ w.if-keeps.false)));
         small = omega arith;
       }
     ]
 
 pub returns : goal.returns
 returns c = record {
-  value = c.loop-missing.invariant.so_far ∙ (let e : c.loop-missing.missing ≡ c.args.last = omega arith in ap (λ i. length (holes_below (needs_in c.args.order.now) c.args.last i)) e);
+  value = c.loop-missing.invariant.so_far ∙
+      (let e : c.loop-missing.missing ≡ c.args.last = omega arith in
+      ap (λ i. length (holes_below (needs_in c.args.order.now) c.args.last i)) e);
   small = omega arith;
 }

@@ -20,6 +20,7 @@ loop-last-preserved c =
 
 pub returns : goal.returns
 returns c = record {
-  value = c.loop-last.invariant.so_far ∙ (let e : c.loop-last.last ≡ length c.args.order.now = omega arith in ap (λ k. length (holes_of (needs_in c.args.order.now) k)) e);
+  value = c.loop-last.invariant.so_far ∙
+      (let e : c.loop-last.last ≡ length c.args.order.now = omega arith in ap (λ k. length (holes_of (needs_in c.args.order.now) k)) e);
   small = omega arith;
 }

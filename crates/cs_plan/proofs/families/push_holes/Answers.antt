@@ -13,8 +13,12 @@ pub loop-last-preserved : goal.loop-last-preserved
 loop-last-preserved c =
     let needs = needs_in c.args.order.now in
     let k = c.loop-last.last in
-    push_after c.push_holes_at.new.recipes.items c.loop-last.recipes.items c.args.recipes.now.items (holes_of needs k) (holes_at needs k) c.in_ok-push_holes_at.ensures c.loop-last.invariant
+    push_after c.push_holes_at.new.recipes.items c.loop-last.recipes.items c.args.recipes.now.items (holes_of needs k) (holes_at needs k)
+    c.in_ok-push_holes_at.ensures c.loop-last.invariant
     ∙ ap (λ v. c.args.recipes.now.items ++ v) (sym (holes_more needs k))
 
 pub returns : goal.returns
-returns c = c.loop-last.invariant ∙ (let e : c.loop-last.last ≡ length c.args.order.now = omega arith in ap (λ k. c.args.recipes.now.items ++ holes_of (needs_in c.args.order.now) k) e)
+returns c =
+    c.loop-last.invariant ∙
+    (let e : c.loop-last.last ≡ length c.args.order.now = omega arith in
+    ap (λ k. c.args.recipes.now.items ++ holes_of (needs_in c.args.order.now) k) e)

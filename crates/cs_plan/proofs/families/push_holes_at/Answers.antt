@@ -12,10 +12,15 @@ loop-missing-preserved c =
     let k = c.args.last in
     let old = c.args.recipes.now.items in
     elim c.if-keeps.branch [
-      | then-keeps+in_ok-push w ↦ ap (λ r. r.items) w.recipes-is ∙ push_after w.push.new.self.items c.loop-missing.recipes.items old (holes_below needs k i) (Hole i (k + 1) ∷ []) w.in_ok-push.ensures.items c.loop-missing.invariant
+      | then-keeps+in_ok-push w ↦ ap (λ r. r.items) w.recipes-is ∙ push_after w.push.new.self.items c.loop-missing.recipes.items old
+          (holes_below needs k i) (Hole i (k + 1) ∷ []) w.in_ok-push.ensures.items c.loop-missing.invariant
           ∙ ap (λ v. old ++ v) (sym (below_more needs k i (sym c.keeps.ensures ∙ w.if-keeps.true)))
-      | else-keeps w ↦ ap (λ r. r.items) w.recipes-is ∙ c.loop-missing.invariant ∙ ap (λ v. old ++ v) (sym (below_same needs k i (sym c.keeps.ensures ∙ w.if-keeps.false)))
+      | else-keeps w ↦ ap (λ r. r.items) w.recipes-is ∙ c.loop-missing.invariant ∙ ap (λ v. old ++ v)
+          (sym (below_same needs k i (sym c.keeps.ensures ∙ w.if-keeps.false)))
     ]
 
 pub returns : goal.returns
-returns c = c.loop-missing.invariant ∙ (let e : c.loop-missing.missing ≡ c.args.last = omega arith in ap (λ i. c.args.recipes.now.items ++ holes_below (needs_in c.args.order.now) c.args.last i) e)
+returns c =
+    c.loop-missing.invariant ∙
+    (let e : c.loop-missing.missing ≡ c.args.last = omega arith in
+    ap (λ i. c.args.recipes.now.items ++ holes_below (needs_in c.args.order.now) c.args.last i) e)

@@ -13,14 +13,16 @@ loop-place-preserved c =
     let low : k < length c.args.places.now = omega arith in
     let before = c.loop-place.invariant in
     elim c.if-is_say_at.branch [
-      | then-is_say_at w ↦ (let told = count_by_more_yes p c.args.places.now k 0 low (sym c.is_say_at.ensures ∙ w.if-is_say_at.true) in record {
-        so_far = omega (arith, told, w.count-is, before.so_far);
-        small = omega (arith, w.count-is, before.small);
-      })
-      | else-is_say_at w ↦ (let untold = count_by_more_no p c.args.places.now k 0 low (sym c.is_say_at.ensures ∙ w.if-is_say_at.false) in record {
-        so_far = omega (arith, untold, w.count-is, before.so_far);
-        small = omega (arith, w.count-is, before.small);
-      })
+      | then-is_say_at w ↦
+          (let told = count_by_more_yes p c.args.places.now k 0 low (sym c.is_say_at.ensures ∙ w.if-is_say_at.true) in record {
+            so_far = omega (arith, told, w.count-is, before.so_far);
+            small = omega (arith, w.count-is, before.small);
+          })
+      | else-is_say_at w ↦
+          (let untold = count_by_more_no p c.args.places.now k 0 low (sym c.is_say_at.ensures ∙ w.if-is_say_at.false) in record {
+            so_far = omega (arith, untold, w.count-is, before.so_far);
+            small = omega (arith, w.count-is, before.small);
+          })
     ]
 
 pub returns : goal.returns

@@ -1,6 +1,6 @@
 use Rattle.std.proofs.Common.{arith, ap, sym, ◌∙◌, ◌≡◌, true, false}
 use Rattle.cs_apm.specs.Rules.{op_at}
-use Rattle.cs_plan.specs.Plans.{first}
+use Rattle.cs_plan.specs.Plans.{places_below}
 use Rattle.cs_plan.specs.Scenes.{is_say, says_of}
 use Rattle.cs_plan.proofs.Counting.{first_more}
 use Rattle.cs_plan.proofs.members.says_before.Goals.{then-is_say_at, else-is_say_at}
@@ -22,4 +22,5 @@ loop-place-preserved c =
     ]
 
 pub returns : goal.returns
-returns c = let e : c.loop-place.place ≡ c.args.end = omega arith in c.loop-place.invariant.so_far ∙ ap (λ place. says_of c.args.ops.now (first place)) e
+returns c = let e : c.loop-place.place ≡ c.args.end = omega arith in
+    c.loop-place.invariant.so_far ∙ ap (λ place. says_of c.args.ops.now (places_below place)) e

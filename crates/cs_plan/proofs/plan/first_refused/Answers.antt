@@ -18,7 +18,9 @@ returns-then-not-is_allowed c =
     record {
       there = c.loop-w-test.true;
       before = c.loop-w.invariant;
-      refused = λ h. false≢true (sym c.if-not-is_allowed.true ∙ c.is_allowed.ensures.1 (subst (IsAllowedIn c.args.order.now) (sym (c.as_slice.ensures ∙ is)) h));
+      refused =
+          λ h. false≢true
+          (sym c.if-not-is_allowed.true ∙ c.is_allowed.ensures.1 (subst (IsAllowedIn c.args.order.now) (sym (c.as_slice.ensures ∙ is)) h));
     }
 
 pub returns : goal.returns

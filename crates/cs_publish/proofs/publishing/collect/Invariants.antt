@@ -4,7 +4,8 @@ use Rattle.cs_publish.proofs.publishing.collect.Given as goal
 
 abbrev pub invariant-missing : goal.invariant-missing
 invariant-missing g l =
-    (l.states.scene ≡ l.fn.states.scene) × (l.states.users ≡ l.fn.states.users) × (length l.states.published ≡ length l.states.scene.plan) × (l.states.runs ≡ [])
+    (l.states.scene ≡ l.fn.states.scene) × (l.states.users ≡ l.fn.states.users) × (length l.states.published ≡ length l.states.scene.plan)
+    × (l.states.runs ≡ [])
 
 abbrev pub decreases-missing : goal.decreases-missing
 decreases-missing g l = missing_of l.states

@@ -19,6 +19,7 @@ loop-digit-preserved c =
     let digit = digit_at c.args.digits.now c.requires c.loop-digit.digit-index (omega arith) in
     let more = power_more c.loop-digit.digit-index in
     record {
-      is = ap (λ n. 10 * n + (slice_index_or c.args.digits.now c.loop-digit.digit-index 0 - 48)) c.loop-digit.invariant.is ∙ sym (fold_more (λ n digit. 10 * n + (digit - 48)) 0 c.args.digits.now c.loop-digit.digit-index 0 (omega arith));
+      is = ap (λ n. 10 * n + (slice_index_or c.args.digits.now c.loop-digit.digit-index 0 - 48)) c.loop-digit.invariant.is ∙ sym
+          (fold_more (λ n digit. 10 * n + (digit - 48)) 0 c.args.digits.now c.loop-digit.digit-index 0 (omega arith));
       below = omega (arith, c.loop-digit.invariant.below);
     }

@@ -17,5 +17,10 @@ pub returns-clause-ok : goal.returns-clause-ok
 returns-clause-ok g c =
     let run : Found g.row.H.Denot = c.pair_mut-run.result.1.now in
     let there = c.pair_mut-run.ensures.value in
-    let fewer : nat_le RUN_ATTACHES run.finds ≡ false = grind (arith, nat_tests) in
-    (refl, room_at c.args.runs.now.entries c.args.place _ run there ∙ fewer, changed (λ (f : Found g.row.H.Denot). record f { finds = f.finds + 1 }) c.args.runs.now.entries c.args.place _ run there)
+    let fewer : nat_le RUN_ATTACHES run.finds ≡ false = grind (arith, nat_tests) in (
+      refl,
+      room_at c.args.runs.now.entries c.args.place _ run there ∙ fewer,
+      changed (λ (f : Found g.row.H.Denot). record f {
+        finds = f.finds + 1;
+      }) c.args.runs.now.entries c.args.place _ run there,
+    )

@@ -16,7 +16,7 @@ unwrap-requires g c =
     sym (some_mapped fields_of c.entry_stat.result) ∙ ap is_some c.entry_stat.ensures.value
     ∙ some_mapped (stat_of_file (entry_name c.args.entry)) (file_at t c.args.entry.number)
     ∙ some_mapped metadata_of (record_numbered t c.args.entry.number)
-    ∙ name_leads t c.requires.is_tree c.args.directory (entry_name c.args.entry) c.args.entry.number c.requires.found
+    ∙ name_leads t c.requires.is_tree c.args._directory (entry_name c.args.entry) c.args.entry.number c.requires.found
 
 pub returns-clause-entry : goal.returns-clause-entry
 unfolding IsEntry

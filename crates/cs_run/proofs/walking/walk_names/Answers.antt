@@ -7,15 +7,20 @@ use Rattle.cs_run.proofs.walking.walk_names.Goals as goal
 pub returns-in-Err-clause-value : goal.returns-in-Err-clause-value
 returns-in-Err-clause-value g c =
     let t = g.T.TreeRead.tree c.args.tree.now in
-    let fails = sym c.in-Err.is ∙ c.element_of.ensures ∙ ap (element t c.args.users.now c.args.user.now c.loop-name.last) c.as_str.ensures.value in
-    c.new.ensures ∙ stops_at t c.args.users.now c.args.user.now c.loop-name.last c.args.names.now c.loop-name.name-index c.name-item.result c.loop-name.qids.items _ c.loop-name-test.true c.name-item.is c.in-Err.rule fails c.loop-name.invariant.going
+    let fails =
+    sym c.in-Err.is ∙ c.element_of.ensures ∙ ap (element t c.args.users.now c.args.user.now c.loop-name.last) c.as_str.ensures.value in
+    c.new.ensures ∙ stops_at t c.args.users.now c.args.user.now c.loop-name.last c.args.names.now c.loop-name.name-index c.name-item.result
+    c.loop-name.qids.items _ c.loop-name-test.true c.name-item.is c.in-Err.rule fails c.loop-name.invariant.going
 
 pub loop-name-preserved : goal.loop-name-preserved
 loop-name-preserved g c =
     let t = g.T.TreeRead.tree c.args.tree.now in
-    let leads = sym c.in-Ok.is ∙ c.element_of.ensures ∙ ap (element t c.args.users.now c.args.user.now c.loop-name.last) c.as_str.ensures.value in
+    let leads =
+    sym c.in-Ok.is ∙ c.element_of.ensures ∙ ap (element t c.args.users.now c.args.user.now c.loop-name.last) c.as_str.ensures.value in
     record {
-      going = rw (c.push_reserved.ensures.items, c.qid_known.ensures.value ∙ ap qid_or_zeros c.record-file.ensures.value) (goes_on t c.args.users.now c.args.user.now c.loop-name.last c.args.names.now c.loop-name.name-index c.name-item.result c.loop-name.qids.items _ c.loop-name-test.true c.name-item.is c.in-Ok.next leads c.loop-name.invariant.going);
+      going = rw (c.push_reserved.ensures.items, c.qid_known.ensures.value ∙ ap qid_or_zeros c.record-file.ensures.value)
+          (goes_on t c.args.users.now c.args.user.now c.loop-name.last c.args.names.now c.loop-name.name-index c.name-item.result
+          c.loop-name.qids.items _ c.loop-name-test.true c.name-item.is c.in-Ok.next leads c.loop-name.invariant.going);
       known = c.record-file.ensures.value;
       fit = rw c.push_reserved.ensures.items (all-append c.loop-name.qids.items _ c.loop-name.invariant.fit c.qid_known.ensures.fits);
       len = c.push_reserved.ensures.len ∙ ap (λ n. n + 1) c.loop-name.invariant.len;
@@ -23,4 +28,6 @@ loop-name-preserved g c =
     }
 
 pub returns-clause-value : goal.returns-clause-value
-returns-clause-value g c = c.new-2.ensures ∙ ends_at (g.T.TreeRead.tree c.args.tree.now) c.args.users.now c.args.user.now c.loop-name.last c.args.names.now c.loop-name.name-index c.loop-name.qids.items _ c.loop-name-test.false c.loop-name.invariant.going
+returns-clause-value g c =
+    c.new-2.ensures ∙ ends_at (g.T.TreeRead.tree c.args.tree.now) c.args.users.now c.args.user.now c.loop-name.last c.args.names.now
+    c.loop-name.name-index c.loop-name.qids.items _ c.loop-name-test.false c.loop-name.invariant.going

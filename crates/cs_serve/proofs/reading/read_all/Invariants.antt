@@ -1,6 +1,6 @@
 use Rattle.std.proofs.Common.{◌≡◌, ◌≤◌, ◌<◌, vec_len}
 use Rattle.std.specs.Io.KnownBytes.{Consumes}
-use Rattle.cs_session.specs.Streams.{KeepsFaults, up}
+use Rattle.cs_stream.specs.Streams.{KeepsFaults, saturating_sum}
 use Rattle.cs_serve.proofs.reading.read_all.Given as goal
 
 abbrev pub invariant-loop : goal.invariant-loop
@@ -14,7 +14,7 @@ invariant-loop g l =
       few : l.waits < 1000;
       waits : l.waits ≤ is.interrupted_reads;
       made : l.waits ≤ l.counter;
-      reads : is.reads ≡ up l.counter was.reads;
+      reads : is.reads ≡ saturating_sum l.counter was.reads;
       failed : was.failed_reads ≤ is.failed_reads;
       ends : is.ends ≡ was.ends;
       faults : KeepsFaults was is;

@@ -6,7 +6,8 @@ use Rattle.cs_serve.proofs.running.reload.Goals as goal
 
 pub returns-in-Err-clause-ok : goal.returns-in-Err-clause-ok
 returns-in-Err-clause-ok c =
-    told_ok string_bytes (λ text. Loaded c.args.world.now c.args.file.now text c.args.world.now) (refused_text c.in-Err.fault) c.refused_text.result
+    told_ok string_bytes (λ text. Loaded c.args.world.now c.args.file.now text c.args.world.now) (refused_text c.in-Err.fault)
+    c.refused_text.result
     (NotRead c.in-Err.fault c.in-Err.ensures.exact refl refl) c.refused_text.ensures
 
 pub returns-in-Err-clause-err : goal.returns-in-Err-clause-err

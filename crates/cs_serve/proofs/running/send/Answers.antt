@@ -9,11 +9,20 @@ use Rattle.cs_serve.proofs.running.send.Goals as goal
 pub returns-clause-ok : goal.returns-clause-ok
 returns-clause-ok g c =
     let said = c.message-reply.ensures in
-    told_ok string_bytes (λ text. Acts c.args.world.now c.args.conn c.args.now (Send c.args.message.now) text c.message-reply.new.self) (reply_text c.args.conn (r_view c.message-reply.result)) c.reply_text.result
-    (r_view c.message-reply.result, record { replied = said.replied; out_of_turn = said.out_of_turn; others = said.others }, refl) c.reply_text.ensures
+    told_ok string_bytes (λ text. Acts c.args.world.now c.args.conn c.args.now (Send c.args.message.now) text c.message-reply.new.self)
+    (reply_text c.args.conn (r_view c.message-reply.result)) c.reply_text.result (
+      r_view c.message-reply.result,
+      record {
+        replied = said.replied;
+        out_of_turn = said.out_of_turn;
+        others = said.others;
+      },
+      refl,
+    ) c.reply_text.ensures
 
 pub returns-clause-err : goal.returns-clause-err
 returns-clause-err g c =
     let said = c.message-reply.ensures in
-    told_err (λ text. Acts c.args.world.now c.args.conn c.args.now (Send c.args.message.now) text c.message-reply.new.self) (reply_text c.args.conn (r_view c.message-reply.result)) c.reply_text.result
+    told_err (λ text. Acts c.args.world.now c.args.conn c.args.now (Send c.args.message.now) text c.message-reply.new.self)
+    (reply_text c.args.conn (r_view c.message-reply.result)) c.reply_text.result
     (r_view c.message-reply.result, record { replied = said.replied; out_of_turn = said.out_of_turn; others = said.others }, refl)

@@ -7,4 +7,12 @@ pub overflow_add-before : goal.overflow_add-before
 overflow_add-before c =
     let most = length-pieces 10 c.without_last_feed.result.now in
     let one_more = ap length c.in-Some.ensures.steps in
-    omega (arith, most, one_more, ap length c.without_last_feed.ensures.value, c.without_last_feed.ensures.shorter, c.loop-text.invariant.bounded, ap (λ bytes. length (pieces 10 bytes)) c.without_last_feed.ensures.value)
+    omega (
+      arith,
+      most,
+      one_more,
+      ap length c.without_last_feed.ensures.value,
+      c.without_last_feed.ensures.shorter,
+      c.loop-text.invariant.bounded,
+      ap (λ bytes. length (pieces 10 bytes)) c.without_last_feed.ensures.value,
+    )

@@ -1,5 +1,5 @@
 use Rattle.std.proofs.Common.{◌∙◌, ap, arith, length, length-append}
-use Rattle.cs_wire.specs.Held.{left, size_of}
+use Rattle.cs_wire.specs.Held.{pending_bytes, size_of}
 use Rattle.cs_session.proofs.Conversing.{served_more}
 use Rattle.cs_session.proofs.serving.answer_some.Goals as goal
 
@@ -9,7 +9,7 @@ loop-alloc-preserved g c =
     let on = rw (c.in-Ok-Some.is, c.in-Ok-Some.field-0-is) at c.next.follows.holds-at-none in
     let one = c.answer_one.ensures.answered in
     let len = ap length on.front in
-    let parts = length-append c.in-Ok-Some.message.now (left c.next.follows.lender-at-none) in
+    let parts = length-append c.in-Ok-Some.message.now (pending_bytes c.next.follows.lender-at-none) in
     record {
       served = rw one.adds (served_more g.P.Port.gives _ _ _ _ _ _ _ _ _ _ _ _ _ was.served on.front on.whole one.replied);
       less = omega (arith, len, parts, was.less);

@@ -1,4 +1,4 @@
-use Rattle.cs_session.proofs.Listening.{conversed_nothing}
+use Rattle.cs_session.proofs.Listening.{conversed_nothing, nothing_read}
 use Rattle.cs_session.proofs.serving.serve_stream.Goals as goal
 use Rattle.cs_session.proofs.serving.serve_stream.Goals.{in-Ok, in-Err}
 
@@ -13,3 +13,21 @@ returns-clause-serves g c = record {
   ];
   hung_up = rw c.hang_up.ensures.ended at c.hang_up.ensures.answered;
 }
+
+pub returns-clause-faults : goal.returns-clause-faults
+returns-clause-faults g c = elim c.match-buffers.branch [
+  | in-Ok w ↦
+      let done = w.converse-result.ensures in
+      rw (w.result-is, w.stream-is) (record {
+        read_fault = done.read_fault;
+        write_fault = done.write_fault;
+        ended = done.ended;
+        cut = done.cut;
+        no_end = done.no_end;
+        bounded = done.bounded;
+        reads_in_time = done.reads_in_time;
+        writes_in_time = done.writes_in_time;
+        memory = λ e. absurd (done.memory e);
+      })
+  | in-Err w ↦ rw (w.result-is, w.stream-is) (nothing_read _)
+]

@@ -10,13 +10,15 @@ use Rattle.cs_state.proofs.bytes.size_left.Goals as goal
 pub returns-then-count-eq0 : goal.returns-then-count-eq0
 returns-then-count-eq0 c =
     let e = c.first_members-count.ensures in
-    no_last ℕ (size_after c.args.file) (resizes c.args.file) (size_says c.args.file) c.args.size c.args.ops.now c.args.members.now c.args.sizes.now c.first_members-count.result c.requires.sizes c.requires.long e.bound e.low e.high c.if-count-eq0.true
+    no_last ℕ (size_after c.args.file) (resizes c.args.file) (size_says c.args.file) c.args.size c.args.ops.now c.args.members.now
+    c.args.sizes.now c.first_members-count.result c.requires.sizes c.requires.long e.bound e.low e.high c.if-count-eq0.true
 
 pub bounds-ops-sizes : goal.bounds-ops-sizes
 bounds-ops-sizes c =
     let e = c.first_members-count.ensures in
     let some = c.if-count-eq0.false in
-    last_inside ℕ (size_after c.args.file) (resizes c.args.file) (size_says c.args.file) c.args.size c.args.ops.now c.args.members.now c.args.sizes.now c.first_members-count.result c.requires.sizes c.requires.long e.bound e.low e.high (omega (arith, some))
+    last_inside ℕ (size_after c.args.file) (resizes c.args.file) (size_says c.args.file) c.args.size c.args.ops.now c.args.members.now
+    c.args.sizes.now c.first_members-count.result c.requires.sizes c.requires.long e.bound e.low e.high (omega (arith, some))
 
 pub returns : goal.returns
 returns c =
@@ -25,7 +27,10 @@ returns c =
     let r = c.first_members-count.result in
     let ops = c.args.ops.now in
     let p = get_or c.args.sizes.now (r - 1) 0 in
-    let inside = last_inside ℕ (size_after c.args.file) (resizes c.args.file) (size_says c.args.file) c.args.size ops c.args.members.now c.args.sizes.now r c.requires.sizes c.requires.long e.bound e.low e.high (omega (arith, some)) in
+    let inside =
+    last_inside ℕ (size_after c.args.file) (resizes c.args.file) (size_says c.args.file) c.args.size ops c.args.members.now
+    c.args.sizes.now r c.requires.sizes c.requires.long e.bound e.low e.high (omega (arith, some)) in
     c.size_after.ensures
     ∙ ap (size_after c.args.file c.args.size) (get_or_read ops p c.index-ops-sizes.result inside c.index-ops-sizes.is Say)
-    ∙ last_says ℕ (size_after c.args.file) (resizes c.args.file) (size_says c.args.file) c.args.size ops c.args.members.now c.args.sizes.now r c.requires.sizes c.requires.long e.bound e.low e.high (omega (arith, some))
+    ∙ last_says ℕ (size_after c.args.file) (resizes c.args.file) (size_says c.args.file) c.args.size ops c.args.members.now c.args.sizes.now
+    r c.requires.sizes c.requires.long e.bound e.low e.high (omega (arith, some))

@@ -7,5 +7,6 @@ use Rattle.cs_state.proofs.bytes.take.Given as goal
 abbrev pub invariant-loop-place : goal.invariant-loop-place
 invariant-loop-place l = record {
   long : length l.part ≡ length l.initial.part;
-  part : (f : Content) → IsPart l.offset f l.initial.part → IsPart l.offset (struck_by l.ops l.members f (take l.place-index l.places)) l.part;
+  part : (f : Content) → IsPart l.offset f l.initial.part
+      → IsPart l.offset (struck_by l.ops l.members f (take l.place-index l.places)) l.part;
 }

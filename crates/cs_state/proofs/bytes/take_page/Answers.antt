@@ -22,12 +22,15 @@ returns-clause-inside c = λ f was k low ge less.
     let middle = middle_long from end part (omega (arith, last)) in
     let long : length c.take.new.part ≡ end - from = c.take.ensures.long ∙ middle in
     let here : k < length part = (let all = c.take.auto.part in omega (arith, low)) in
-    mid_inside from (end - from) part c.take.new.part (omega (arith, first, begins)) long k (omega (arith, first, ge)) (omega (arith, first, last, ge, less, here))
+    mid_inside from (end - from) part c.take.new.part (omega (arith, first, begins)) long k (omega (arith, first, ge))
+    (omega (arith, first, last, ge, less, here))
     ∙ c.take.ensures.part f (λ j l.
     middle_at from end j part (omega (arith, l, middle))
     ∙ was (from + j) (omega (arith, l, middle, last)) (omega (arith, first)) (omega (arith, l, middle, last, first, ends))
-    ∙ (let e : offset + (from + j) ≡ offset + from + j = omega arith in ap (byte_of f) e)) (k - from) (omega (arith, long, first, last, ge, less, here))
-    ∙ (let e : offset + from + (k - from) ≡ offset + k = omega (arith, first, ge) in ap (byte_of (struck_by c.args.ops.now c.args.members.now f c.args.places.now)) e)
+    ∙ (let e : offset + (from + j) ≡ offset + from + j = omega arith in ap (byte_of f) e)) (k - from)
+    (omega (arith, long, first, last, ge, less, here))
+    ∙ (let e : offset + from + (k - from) ≡ offset + k = omega (arith, first, ge) in
+    ap (byte_of (struck_by c.args.ops.now c.args.members.now f c.args.places.now)) e)
 
 pub returns-clause-outside : goal.returns-clause-outside
 returns-clause-outside c = λ k apart.
@@ -45,6 +48,8 @@ returns-clause-outside c = λ k apart.
     let last : end ≡ min (length part) (page * PAGE_BYTES + PAGE_BYTES - offset) = omega (arith, past, least, room, ends) in
     let long : length c.take.new.part ≡ end - from = c.take.ensures.long ∙ middle_long from end part (omega (arith, last)) in
     ⊎_elim
-    (λ (before : offset + k < page * PAGE_BYTES). mid_below from (end - from) part c.take.new.part (omega (arith, first, begins)) long k (omega (arith, first, before)))
-    (λ (behind : page * PAGE_BYTES + PAGE_BYTES ≤ offset + k). mid_above from (end - from) part c.take.new.part (omega (arith, first, begins)) long k (omega (arith, first, last, begins, ends, behind)))
+    (λ (before : offset + k < page * PAGE_BYTES). mid_below from (end - from) part c.take.new.part (omega (arith, first, begins)) long k
+    (omega (arith, first, before)))
+    (λ (behind : page * PAGE_BYTES + PAGE_BYTES ≤ offset + k). mid_above from (end - from) part c.take.new.part
+    (omega (arith, first, begins)) long k (omega (arith, first, last, begins, ends, behind)))
     apart

@@ -15,9 +15,15 @@ loop-file-preserved c =
     let long = c.loop-file.invariant.long in
     record {
       long = ap length pushed ∙ length_push all one ∙ ap (λ n. n + 1) long;
-      each = subst (λ xs. (file : _) (steps : FileSteps) → slice_get xs file ≡ Some steps → slice_get c.args.tables.now.changed.items file ≡ Some true
+      each = subst
+          (λ xs. (file : _) (steps : FileSteps) → slice_get xs file ≡ Some steps
+          → slice_get c.args.tables.now.changed.items file ≡ Some true
           → AreFileSteps file (length (content_before c.args.trace.now c.args.ops.now file).bytes) c.args.ops.now steps) (sym pushed)
-          (each_more (λ file steps. slice_get c.args.tables.now.changed.items file ≡ Some true → AreFileSteps file (length (content_before c.args.trace.now c.args.ops.now file).bytes) c.args.ops.now steps) all one
+          (each_more
+          (λ file steps. slice_get c.args.tables.now.changed.items file ≡ Some true
+          → AreFileSteps file (length (content_before c.args.trace.now c.args.ops.now file).bytes) c.args.ops.now steps) all one
           c.loop-file.invariant.each
-          (subst (λ file. slice_get c.args.tables.now.changed.items file ≡ Some true → AreFileSteps file (length (content_before c.args.trace.now c.args.ops.now file).bytes) c.args.ops.now one) (sym long) c.in_ok-steps_of.ensures));
+          (subst (λ file. slice_get c.args.tables.now.changed.items file ≡ Some true
+          → AreFileSteps file (length (content_before c.args.trace.now c.args.ops.now file).bytes) c.args.ops.now one) (sym long)
+          c.in_ok-steps_of.ensures));
     }

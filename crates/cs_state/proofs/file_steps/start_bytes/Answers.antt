@@ -9,7 +9,8 @@ use Rattle.cs_state.proofs.Filing.{made_bytes, start_bytes}
 use Rattle.cs_state.proofs.file_steps.start_bytes.Goals as goal
 
 -- what is lent, or nothing
-lent_or : (o : Option (Bor (List ℕ))) (r d : Bor (List ℕ)) (content : Option (List ℕ)) → r ≡ unwrap_or o d → d.now ≡ [] → option_copied o ≡ content → r.now ≡ unwrap_or content []
+lent_or : (o : Option (Bor (List ℕ))) (r d : Bor (List ℕ)) (content : Option (List ℕ)) → r ≡ unwrap_or o d → d.now ≡ []
+    → option_copied o ≡ content → r.now ≡ unwrap_or content []
 lent_or None r d content is none same = ap (λ (v : Bor (List ℕ)). v.now) is ∙ none ∙ ap (λ w. unwrap_or w []) same
 lent_or (Some b) r d content is none same = ap (λ (v : Bor (List ℕ)). v.now) is ∙ ap (λ w. unwrap_or w []) same
 
@@ -27,11 +28,15 @@ returns c =
     let long : c.len.result ≡ length starts = c.len.ensures ∙ c.args.tables.now.starts.ok.0 in
     let not_high = c.if-file-len.false in
     let low : c.args.file < length starts = omega (arith, long, not_high) in
-    let place : c.index.result.now ≡ get_or starts c.args.file 0 = get_or_read starts c.args.file c.index.result.now low c.index.ensures 0 in
+    let place : c.index.result.now ≡ get_or starts c.args.file 0 =
+    get_or_read starts c.args.file c.index.result.now low c.index.ensures 0 in
     let records = c.records.ensures.value in
     let inside : c.index.result.now < length c.records.result.now =
-    subst (λ (es : List (Path × Record)). c.index.result.now < length es) (sym records) (subst (λ n. n < length trace.records) (sym place) (c.requires.each c.args.file low)) in
+    subst (λ (es : List (Path × Record)). c.index.result.now < length es) (sym records)
+    (subst (λ n. n < length trace.records) (sym place) (c.requires.each c.args.file low)) in
     let entry : Path × Record = c.index-records-index.result in
     lent_or c.bytes.result c.unwrap_or.result _ _ c.unwrap_or.ensures refl c.bytes.ensures
-    ∙ ap (λ (e : Path × Record). bytes_of e.1) (sym c.index-records-index.is ∙ get_or_read c.records.result.now c.index.result.now entry inside c.index-records-index.is no_record ∙ (λ i. get_or (records i) (place i) no_record))
+    ∙ ap (λ (e : Path × Record). bytes_of e.1)
+    (sym c.index-records-index.is ∙ get_or_read c.records.result.now c.index.result.now entry inside c.index-records-index.is
+    no_record ∙ (λ i. get_or (records i) (place i) no_record))
     ∙ start_bytes trace c.args._ops.now starts c.requires c.args.file low

@@ -1,7 +1,7 @@
 use Rattle.std.proofs.Common.{◌≡◌, ◌<◌, false, true, [], ◌∷◌, ◌++◌, sym, ap, ◌∙◌, arith, length, replicate, get_or}
 use Rattle.std.proofs.lemmas.List.{length-replicate, length-set, take_more}
 use Rattle.std.specs.Prelude.{slice_set}
-use Rattle.cs_state.specs.Shares.{ids, mark_at}
+use Rattle.cs_state.specs.Shares.{numbers_that_pass, mark_at}
 use Rattle.cs_state.specs.Steps.{members_in}
 use Rattle.cs_state.proofs.Including.{mark_kept, marked_more, no_ids, none_marked}
 use Rattle.cs_state.proofs.members.members_of.Goals as goal
@@ -11,7 +11,8 @@ loop-place-init c =
     let is : c.in_ok-members.members.items ≡ replicate c.args.count false = c.in_ok-members.ensures.items_if_clones_equal (λ y e. e) in
     record {
       long = ap length is ∙ length-replicate c.args.count false;
-      so_far = ap members_in is ∙ no_ids (mark_at (replicate c.args.count false)) (none_marked c.args.count) (length (replicate c.args.count false));
+      so_far = ap members_in is ∙ no_ids (mark_at (replicate c.args.count false)) (none_marked c.args.count)
+          (length (replicate c.args.count false));
       later = λ k after. ap (λ marks. mark_at marks k) is ∙ none_marked c.args.count k;
     }
 
@@ -28,9 +29,11 @@ loop-place-preserved c =
     record {
       long = same ∙ long;
       so_far =
-          ap (ids (mark_at (slice_set marks p true))) same
-          ∙ marked_more marks (length marks) p (omega arith) inside (λ k le. c.loop-place.invariant.later k (λ j less. let up = c.requires.ascending j i less low in omega (arith, up, le)))
+          ap (numbers_that_pass (mark_at (slice_set marks p true))) same
+          ∙ marked_more marks (length marks) p (omega arith) inside
+          (λ k le. c.loop-place.invariant.later k (λ j less. let up = c.requires.ascending j i less low in omega (arith, up, le)))
           ∙ ap (λ xs. xs ++ p ∷ []) c.loop-place.invariant.so_far
           ∙ sym (take_more places i 0 low);
-      later = λ k after. mark_kept marks p k (after i (omega arith)) ∙ c.loop-place.invariant.later k (λ j less. after j (omega (arith, less)));
+      later = λ k after. mark_kept marks p k (after i (omega arith)) ∙ c.loop-place.invariant.later k
+          (λ j less. after j (omega (arith, less)));
     }

@@ -10,4 +10,5 @@ returns-clause-each c =
     (rights_places c.args.ops.now) c.in_ok-row.ensures
 
 pub returns-clause-keeps : goal.returns-clause-keeps
-returns-clause-keeps c = rows_keep (get nat_cmp c.args.rows.now) (get nat_cmp c.insert.new.self) c.args.file c.in_ok-row.row c.in_ok-insert.ensures.updates.0
+returns-clause-keeps c =
+    rows_keep (get nat_cmp c.args.rows.now) (get nat_cmp c.insert.new.self) c.args.file c.in_ok-row.row c.in_ok-insert.ensures.updates.0

@@ -12,14 +12,16 @@ pub returns-then-count-eq0 : goal.returns-then-count-eq0
 unfolding owner_left
 returns-then-count-eq0 c =
     let e = c.first_members-count.ensures in
-    no_last Rights (owner_after c.args.file) (sets_rights c.args.file) (owner_says c.args.file) c.args.owner.now c.args.ops.now c.args.members.now c.args.places.now
+    no_last Rights (owner_after c.args.file) (sets_rights c.args.file) (owner_says c.args.file) c.args.owner.now c.args.ops.now
+    c.args.members.now c.args.places.now
     c.first_members-count.result c.requires.places c.requires.long e.bound e.low e.high c.if-count-eq0.true
 
 pub bounds-ops-places : goal.bounds-ops-places
 bounds-ops-places c =
     let e = c.first_members-count.ensures in
     let some = c.if-count-eq0.false in
-    last_inside Rights (owner_after c.args.file) (sets_rights c.args.file) (owner_says c.args.file) c.args.owner.now c.args.ops.now c.args.members.now c.args.places.now
+    last_inside Rights (owner_after c.args.file) (sets_rights c.args.file) (owner_says c.args.file) c.args.owner.now c.args.ops.now
+    c.args.members.now c.args.places.now
     c.first_members-count.result c.requires.places c.requires.long e.bound e.low e.high (omega (arith, some))
 
 pub returns : goal.returns
@@ -30,9 +32,12 @@ returns c =
     let r = c.first_members-count.result in
     let ops = c.args.ops.now in
     let p = get_or c.args.places.now (r - 1) 0 in
-    let inside = last_inside Rights (owner_after c.args.file) (sets_rights c.args.file) (owner_says c.args.file) c.args.owner.now ops c.args.members.now c.args.places.now
+    let inside =
+    last_inside Rights (owner_after c.args.file) (sets_rights c.args.file) (owner_says c.args.file) c.args.owner.now ops
+    c.args.members.now c.args.places.now
     r c.requires.places c.requires.long e.bound e.low e.high (omega (arith, some)) in
     c.owner_after.ensures
     ∙ ap (owner_after c.args.file c.args.owner.now) (get_or_read ops p c.index-ops-places.result inside c.index-ops-places.is Say)
-    ∙ last_says Rights (owner_after c.args.file) (sets_rights c.args.file) (owner_says c.args.file) c.args.owner.now ops c.args.members.now c.args.places.now
+    ∙ last_says Rights (owner_after c.args.file) (sets_rights c.args.file) (owner_says c.args.file) c.args.owner.now ops c.args.members.now
+    c.args.places.now
     r c.requires.places c.requires.long e.bound e.low e.high (omega (arith, some))

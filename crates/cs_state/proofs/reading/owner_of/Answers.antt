@@ -14,10 +14,12 @@ owner_left-requires-clause-places c =
 pub owner_left-requires-clause-first : goal.owner_left-requires-clause-first
 owner_left-requires-clause-first c =
     first_under c.args.parts.now.micros (length c.args.parts.now.micros.ops) c.args.members.now c.requires.set.allowed
-    (sets_rights c.args.file) (owner_needed c.args.parts.now.micros c.args.file) c.row-steps.result.now (c.row-steps.ensures ∙ c.requires.parts.owner_steps c.args.file)
+    (sets_rights c.args.file) (owner_needed c.args.parts.now.micros c.args.file) c.row-steps.result.now
+    (c.row-steps.ensures ∙ c.requires.parts.owner_steps c.args.file)
 
 pub returns : goal.returns
 returns c =
     c.owner_left.ensures
     ∙ ap (λ os. owner_left c.args.file c.index-made.result.now os (members_in c.args.members.now)) c.ops.ensures.value
-    ∙ owner_of_left c.args.parts.now c.requires.parts c.args.file (members_in c.args.members.now) c.requires.known c.index-made.result.now c.index-made.ensures
+    ∙ owner_of_left c.args.parts.now c.requires.parts c.args.file (members_in c.args.members.now) c.requires.known c.index-made.result.now
+    c.index-made.ensures

@@ -7,4 +7,6 @@ use Rattle.cs_state.proofs.reading.size_of.Goals as goal
 pub returns-else-index : goal.returns-else-index
 returns-else-index c =
     ap length c.start_of.ensures
-    ∙ ap (λ (f : Content). f.size) (left_same c.args.parts.now c.requires.parts c.args.file (members_in c.args.members.now) c.requires.known c.index.result.now c.index.ensures c.if-index.false)
+    ∙ ap (λ (f : Content). f.size)
+    (left_same c.args.parts.now c.requires.parts c.args.file (members_in c.args.members.now) c.requires.known c.index.result.now
+    c.index.ensures c.if-index.false)

@@ -21,24 +21,35 @@ found_at-requires-clause-merge c = subst (λ k. IsMerge k c.args.own.now) (sym c
 
 pub found_at-requires-clause-inside : goal.found_at-requires-clause-inside
 found_at-requires-clause-inside c =
-    subst (λ (ss : List _). (k : ℕ) → k < length c.deref.result.now → kept_at c.deref.result.now k < length ss) (sym c.deref-2.ensures.value)
-    (subst (λ (ks : List ℕ). (k : ℕ) → k < length ks → kept_at ks k < length c.args.parts.now.tables.slots.items) (sym c.deref.ensures.value)
-    (λ k low. stands_inside c.args.parts.now.tables.slots.items (kept_at c.args.parts.now.shares.kept.items k) (c.requires.whole.shares.kept_stand k low)))
+    subst (λ (ss : List _). (k : ℕ) → k < length c.deref.result.now → kept_at c.deref.result.now k < length ss)
+    (sym c.deref-2.ensures.value)
+    (subst (λ (ks : List ℕ). (k : ℕ) → k < length ks → kept_at ks k < length c.args.parts.now.tables.slots.items)
+    (sym c.deref.ensures.value)
+    (λ k low. stands_inside c.args.parts.now.tables.slots.items (kept_at c.args.parts.now.shares.kept.items k)
+    (c.requires.whole.shares.kept_stand k low)))
 
 pub returns-clause-slot : goal.returns-clause-slot
 returns-clause-slot c = if_some c.found_at.result
-    (λ f is. found_slot c.args.parts.now (members_in c.args._members.now) c.args.own.now c.requires f (subst (λ ks. IsFound ks c.args.parts.now.tables.slots.items c.args.own.now f) c.deref.ensures.value (subst (λ ss. IsFound c.deref.result.now ss c.args.own.now f) c.deref-2.ensures.value is)))
+    (λ f is. found_slot c.args.parts.now (members_in c.args._members.now) c.args.own.now c.requires f
+    (subst (λ ks. IsFound ks c.args.parts.now.tables.slots.items c.args.own.now f) c.deref.ensures.value
+    (subst (λ ss. IsFound c.deref.result.now ss c.args.own.now f) c.deref-2.ensures.value is)))
     c.found_at.ensures.found
 
 pub returns-clause-place : goal.returns-clause-place
 returns-clause-place c = both c.found_at.result c.found_at.ensures.found c.found_at.ensures.number
   where
-    both : (o : Option Found) → IfSome o (IsFound c.deref.result.now c.deref-2.result.now c.args.own.now) → IfSome o (λ f. number_in c.deref.result.now c.args.own.now f.id ≡ c.args.number) → IfSome o (λ f. place_of (slots_left c.args.parts.now.tables (members_in c.args._members.now)) f.id ≡ Some c.args.number)
+    both : (o : Option Found) → IfSome o (IsFound c.deref.result.now c.deref-2.result.now c.args.own.now)
+        → IfSome o (λ f. number_in c.deref.result.now c.args.own.now f.id ≡ c.args.number)
+        → IfSome o (λ f. place_of (slots_left c.args.parts.now.tables (members_in c.args._members.now)) f.id ≡ Some c.args.number)
     both None is number = tt
-    both (Some f) is number = found_place c.args.parts.now (members_in c.args._members.now) c.args.own.now c.requires f c.args.number (subst (λ ks. IsFound ks c.args.parts.now.tables.slots.items c.args.own.now f) c.deref.ensures.value (subst (λ ss. IsFound c.deref.result.now ss c.args.own.now f) c.deref-2.ensures.value is))
+    both (Some f) is number =
+        found_place c.args.parts.now (members_in c.args._members.now) c.args.own.now c.requires f c.args.number
+        (subst (λ ks. IsFound ks c.args.parts.now.tables.slots.items c.args.own.now f) c.deref.ensures.value
+        (subst (λ ss. IsFound c.deref.result.now ss c.args.own.now f) c.deref-2.ensures.value is))
         (ap (λ ks. number_in ks c.args.own.now f.id) (sym c.deref.ensures.value) ∙ number)
 
 pub returns-clause-none : goal.returns-clause-none
 returns-clause-none c = if_none c.found_at.result
-    (λ le. let same = ap length c.deref.ensures.value in let count = count_is c.args.parts.now (members_in c.args._members.now) c.args.own.now c.requires in omega (arith, le, same, count))
+    (λ le. let same = ap length c.deref.ensures.value in let count =
+    count_is c.args.parts.now (members_in c.args._members.now) c.args.own.now c.requires in omega (arith, le, same, count))
     c.found_at.ensures.none

@@ -1,6 +1,6 @@
 use Rattle.std.proofs.Common.{◌≡◌, ◌<◌, ℕ, List, inl, inr, Option, None, Some, refl, sym, ap, ◌∙◌, subst, arith, length}
 use Rattle.std.specs.Option.{IfNone, IfSome}
-use Rattle.cs_state.specs.Numbers.{below, kept_at, number_in, HasId, IsMerge}
+use Rattle.cs_state.specs.Numbers.{count_with_key_below, kept_at, number_in, HasId, IsMerge}
 use Rattle.cs_state.specs.Steps.{members_in}
 use Rattle.cs_state.proofs.Sharing.{id_low, id_place, own_few}
 use Rattle.cs_state.proofs.state.number_in.Goals as goal
@@ -17,7 +17,8 @@ number_of-requires-clause-there c =
 
 pub number_of-requires-clause-counted : goal.number_of-requires-clause-counted
 number_of-requires-clause-counted c =
-    ap (λ ks. kept_at ks c.args.id) c.deref-2.ensures.value ∙ c.requires.state.whole.shares.below c.args.id c.requires.there ∙ ap (λ ks. below (λ k. k) ks c.args.id) (sym c.deref.ensures.value)
+    ap (λ ks. kept_at ks c.args.id) c.deref-2.ensures.value ∙ c.requires.state.whole.shares.below c.args.id c.requires.there ∙ ap
+    (λ ks. count_with_key_below (λ k. k) ks c.args.id) (sym c.deref.ensures.value)
 
 pub number_of-requires-clause-kept_inside : goal.number_of-requires-clause-kept_inside
 number_of-requires-clause-kept_inside c =
@@ -49,9 +50,12 @@ no_one (Some k) A none is a = absurd (cc)
 pub returns : goal.returns
 returns c =
     let h = c.number_of.ensures in
-    let same : HasId c.args.parts.now.shares.kept.items c.args.own.now c.args.id ≡ HasId c.deref.result.now c.args.own.now c.args.id = ap (λ ks. HasId ks c.args.own.now c.args.id) (sym c.deref.ensures.value) in
+    let same : HasId c.args.parts.now.shares.kept.items c.args.own.now c.args.id ≡ HasId c.deref.result.now c.args.own.now c.args.id =
+    ap (λ ks. HasId ks c.args.own.now c.args.id) (sym c.deref.ensures.value) in
     id_place c.args.parts.now (members_in c.args._members.now) c.args.own.now c.requires.state c.number_of.result c.args.id
-    (subst (λ ks. (n : ℕ) → c.number_of.result ≡ Some n → HasId ks c.args.own.now c.args.id × (number_in ks c.args.own.now c.args.id ≡ n)) c.deref.ensures.value
-    (both c.number_of.result (HasId c.deref.result.now c.args.own.now c.args.id) (number_in c.deref.result.now c.args.own.now c.args.id) h.there h.number))
+    (subst (λ ks. (n : ℕ) → c.number_of.result ≡ Some n → HasId ks c.args.own.now c.args.id × (number_in ks c.args.own.now c.args.id ≡ n))
+    c.deref.ensures.value
+    (both c.number_of.result (HasId c.deref.result.now c.args.own.now c.args.id) (number_in c.deref.result.now c.args.own.now c.args.id)
+    h.there h.number))
     (subst (λ ks. c.number_of.result ≡ None → HasId ks c.args.own.now c.args.id → ⊥) c.deref.ensures.value
     (no_one c.number_of.result (HasId c.deref.result.now c.args.own.now c.args.id) h.none))

@@ -9,7 +9,8 @@ use Rattle.cs_state.proofs.state_tree.entry_in.Given as goal
 -- what is next from here is what was asked for
 abbrev pub invariant-loop-entry : goal.invariant-loop-entry
 invariant-loop-entry l =
-    (o : Option NameBytes) → IsEntryBelow (λ y. IsSome (number_shown l.state l.directory y)) (option_copied l.from) (option_copied l.bound) o
+    (o : Option NameBytes)
+    → IsEntryBelow (λ y. IsSome (number_shown l.state l.directory y)) (option_copied l.from) (option_copied l.bound) o
     → IsEntryBelow (λ y. IsSome (number_shown l.state l.directory y)) (option_copied l.fn.last) (option_copied l.bound) o
 
 abbrev pub decreases-loop-entry : goal.decreases-loop-entry

@@ -3,4 +3,4 @@ use Rattle.cs_tcp.specs.Summary.{AreReported}
 use Rattle.cs_tcp.proofs.summary.runs_text.Given as goal
 
 abbrev pub invariant-loop-run : goal.invariant-loop-run
-invariant-loop-run g l = AreReported g.S.Served.serves l.passes (take l.run-index l.runs) (string_bytes l.text)
+invariant-loop-run g l = AreReported g.S.ServerBrand.serves l.passes (take l.run-index l.runs) (string_bytes l.text)

@@ -4,7 +4,7 @@ use Rattle.std.proofs.lemmas.Result.{err_from_is_err_and}
 use Rattle.std.specs.Result.{is_ok}
 use Rattle.cs_trace.specs.Judging.{and_then}
 use Rattle.cs_trace.specs.States.{State, lines_in, state_in}
-use Rattle.cs_trace.specs.Traces.{MayWant, trace_by, trace_in, trace_of, whole}
+use Rattle.cs_trace.specs.Traces.{MayWant, trace_by, trace_in, trace_of, trace_of_state}
 use Rattle.cs_trace.specs.declared.fault.TraceFaultKind.TheVariants.{Syntax}
 use Rattle.cs_trace.proofs.FirstFaults.{first_of, no_header_of}
 use Rattle.cs_trace.proofs.LineByLine.{MayWant-last}
@@ -19,7 +19,7 @@ module _ (lines : List (List ℕ)) (s : State) (read : state_in lines ≡ Ok s) 
   not_zero : s.made ≢ 0 → s.made == 0 ≡ false
   not_zero made = grind arith
 
-  a_trace : s.made ≢ 0 → trace_by lines ≡ Ok (whole s)
+  a_trace : s.made ≢ 0 → trace_by lines ≡ Ok (trace_of_state s)
   a_trace made = ap (λ r. and_then r trace_of) read ∙ rw (not_zero made) refl
 
   last_line : s.made ≢ 0 → 0 < length lines → MayWant lines (length lines)

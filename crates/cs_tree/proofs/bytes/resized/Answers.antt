@@ -4,7 +4,8 @@ use Rattle.std.proofs.lemmas.List.{take-append-le, take-replicate, append-nil, t
 use Rattle.std.proofs.Math.Seq.{take-append-add}
 use Rattle.cs_tree.proofs.bytes.resized.Goals as goal
 
-cut_or_filled : (bytes : List ℕ) (n kept : ℕ) → kept ≡ min (length bytes) n → take n (take kept bytes) ++ replicate (n - kept) 0 ≡ take n (bytes ++ replicate n 0)
+cut_or_filled : (bytes : List ℕ) (n kept : ℕ) → kept ≡ min (length bytes) n
+    → take n (take kept bytes) ++ replicate (n - kept) 0 ≡ take n (bytes ++ replicate n 0)
 cut_or_filled bytes n kept is = ⊎_elim
     (λ (a : length bytes < n).
     let k : kept ≡ length bytes = omega (arith, is) in
@@ -19,7 +20,8 @@ cut_or_filled bytes n kept is = ⊎_elim
     let z : n - n ≡ 0 = omega arith in
     (λ i. take n (take (k i) bytes) ++ replicate (n - k i) 0)
     ∙ ap (λ j. take n (take n bytes) ++ replicate j 0) z
-    ∙ append-nil (take n (take n bytes)) ∙ take_all n (take n bytes) (omega (arith, length-take n bytes)) ∙ sym (take-append-le n bytes (replicate n 0) a))
+    ∙ append-nil (take n (take n bytes)) ∙ take_all n (take n bytes) (omega (arith, length-take n bytes)) ∙ sym
+    (take-append-le n bytes (replicate n 0) a))
     (cases_lt (length bytes) n)
 
 pub returns : goal.returns
@@ -27,6 +29,8 @@ returns c =
     let kept = c.min-kept.result in
     let n = c.args.length in
     let bytes = c.args.bytes.now in
-    let first : c.extend_from_slice.new.self.items ≡ take kept bytes = c.in_ok-extend_from_slice.ensures.items ∙ ap (λ w. w ++ take kept bytes) c.in_ok-resized.ensures.items in
-    let len : c.extend_from_slice.new.self.len ≡ kept = omega (arith, c.in_ok-extend_from_slice.ensures.len, c.in_ok-resized.ensures.len, length-take kept bytes, c.min-kept.ensures) in
+    let first : c.extend_from_slice.new.self.items ≡ take kept bytes =
+    c.in_ok-extend_from_slice.ensures.items ∙ ap (λ w. w ++ take kept bytes) c.in_ok-resized.ensures.items in
+    let len : c.extend_from_slice.new.self.len ≡ kept =
+    omega (arith, c.in_ok-extend_from_slice.ensures.len, c.in_ok-resized.ensures.len, length-take kept bytes, c.min-kept.ensures) in
     c.in_ok-resize.ensures.items ∙ (λ i. take n (first i) ++ replicate (n - len i) 0) ∙ cut_or_filled bytes n kept c.min-kept.ensures

@@ -8,4 +8,5 @@ use Rattle.cs_tree.proofs.table.grow.Goals as goal
 pub returns-clause-ok : goal.returns-clause-ok
 returns-clause-ok c = λ q. c.put.ensures q ∙ ap (λ v. with_at v c.args.number (Some c.args.node) q)
     (sym (one_table _ (get nat_eq c.link.new.nodes) c.in_ok-link.ensures.ok)
-    ∙ ap (λ v. step_at v c.args.directory (λ d. with_child d (string_bytes c.args.name) c.args.number)) (sym (one_table (get nat_eq c.args.nodes.now) (get nat_eq c.reserve.new.self) c.in_ok-reserve.ensures.entries.2)))
+    ∙ ap (λ v. step_at v c.args.directory (λ d. with_child d (string_bytes c.args.name) c.args.number))
+    (sym (one_table (get nat_eq c.args.nodes.now) (get nat_eq c.reserve.new.self) c.in_ok-reserve.ensures.entries.2)))

@@ -12,9 +12,13 @@ returns c =
     let name_is = ap (somebody_at c.args.rows.now) (sym c.name.ensures.value) ∙ sym c.somebody_at.ensures in
     elim c.match-somebody_at.branch [
       | in-Some+in_ok-push w ↦
-          let more = filter_map-push (somebody_at c.args.rows.now) c.args.row.now.members c.args.row.now.name (Some w.in-Some.own) (name_is ∙ w.in-Some.is) in
-          ap (λ (v : Vec ℕ Global). v.items) w.places-is ∙ w.in_ok-push.ensures.items ∙ ap (λ (places : List ℕ). places ++ w.in-Some.own ∷ []) c.in_ok-places.ensures ∙ sym more
+          let more =
+          filter_map-push (somebody_at c.args.rows.now) c.args.row.now.members c.args.row.now.name (Some w.in-Some.own)
+          (name_is ∙ w.in-Some.is) in
+          ap (λ (v : Vec ℕ Global). v.items) w.places-is ∙ w.in_ok-push.ensures.items ∙ ap
+          (λ (places : List ℕ). places ++ w.in-Some.own ∷ []) c.in_ok-places.ensures ∙ sym more
       | in_default w ↦
-          let more = filter_map-push (somebody_at c.args.rows.now) c.args.row.now.members c.args.row.now.name None (name_is ∙ w.in_default.is) in
+          let more =
+          filter_map-push (somebody_at c.args.rows.now) c.args.row.now.members c.args.row.now.name None (name_is ∙ w.in_default.is) in
           ap (λ (v : Vec ℕ Global). v.items) w.places-is ∙ c.in_ok-places.ensures ∙ sym (more ∙ append-nil _)
     ]

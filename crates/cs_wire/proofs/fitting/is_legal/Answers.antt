@@ -5,4 +5,5 @@ use Rattle.cs_wire.proofs.Texts.{text_is}
 use Rattle.cs_wire.proofs.fitting.is_legal.Goals as goal
 
 pub returns : goal.returns
-returns c = sym (text_is c.args.text.now c.has_nul.result c.utf8.text (c.has_nul.ensures ∙ ap (list_any (λ b. b == 0)) c.as_bytes.ensures.value))
+returns c =
+    sym (text_is c.args.text.now c.has_nul.result c.utf8.text (c.has_nul.ensures ∙ ap (list_any (λ b. b == 0)) c.as_bytes.ensures.value))

@@ -4,13 +4,17 @@ use Rattle.cs_apm.proofs.order.Order.needs_by_chain.Goals as goal
 
 pub index-requires : goal.index-requires
 index-requires c =
-    let inside = reach_low c.self.inside.rows.items c.self.inside.reach.items c.self.invariant c.args.self.now c.self.view_is c.args.j c.requires.second in
+    let inside =
+    reach_low c.self.inside.rows.items c.self.inside.reach.items c.self.invariant c.args.self.now c.self.view_is c.args.j
+    c.requires.second in
     omega (arith, inside, c.self.inside.reach.ok)
 
 pub has-requires : goal.has-requires
-has-requires c = few c.self.inside.rows.items c.self.inside.reach.items c.self.invariant c.args.self.now c.self.view_is c.args.i c.requires.first
+has-requires c =
+    few c.self.inside.rows.items c.self.inside.reach.items c.self.invariant c.args.self.now c.self.view_is c.args.i c.requires.first
 
 pub returns : goal.returns
 returns c =
     c.has.ensures
-    ∙ chain_read c.self.inside.rows.items c.self.inside.reach.items c.self.invariant c.args.self.now c.self.view_is c.args.j c.args.i c.index.result.now c.requires.second c.index.ensures
+    ∙ chain_read c.self.inside.rows.items c.self.inside.reach.items c.self.invariant c.args.self.now c.self.view_is c.args.j c.args.i
+    c.index.result.now c.requires.second c.index.ensures

@@ -5,9 +5,11 @@ use Rattle.cs_fids.proofs.fid_table.FidTable.least_open.Goals as goal
 pub returns-clause-least : goal.returns-clause-least
 returns-clause-least c =
     let last = c.copied.ensures ∙ c.last.ensures.value ∙ ap (λ xs. slice_get xs (length xs - 1)) c.deref.ensures.value in
-    rw (← c.self.view_is) (last ∙ is_least c.self.inside.table.fids c.self.inside.opens.items c.self.invariant.descending c.self.invariant.among)
+    rw (← c.self.view_is)
+    (last ∙ is_least c.self.inside.table.fids c.self.inside.opens.items c.self.invariant.descending c.self.invariant.among)
 
 pub returns-clause-found : goal.returns-clause-found
 returns-clause-found c =
     let last = c.copied.ensures ∙ c.last.ensures.value ∙ ap (λ xs. slice_get xs (length xs - 1)) c.deref.ensures.value in
-    rw (last, ← c.self.view_is) (is_open_there c.self.inside.table.fids c.self.inside.opens.items c.self.invariant.descending c.self.invariant.among)
+    rw (last, ← c.self.view_is)
+    (is_open_there c.self.inside.table.fids c.self.inside.opens.items c.self.invariant.descending c.self.invariant.among)

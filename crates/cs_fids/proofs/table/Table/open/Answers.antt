@@ -9,12 +9,16 @@ use Rattle.cs_fids.proofs.table.Table.open.Goals as goal
 
 pub returns-in_default-clause-faults : goal.returns-in_default-clause-faults
 returns-in_default-clause-faults c =
-    let none = found_at c.self.inside.fids.entries (spare c.self.inside.fids) c.args.self.now c.args.fid None c.self.view_is c.in_default.ensures.value in
+    let none =
+    found_at c.self.inside.fids.entries (spare c.self.inside.fids) c.args.self.now c.args.fid None c.self.view_is
+    c.in_default.ensures.value in
     rw none refl
 
 pub returns-in_default-clause-fids : goal.returns-in_default-clause-fids
 returns-in_default-clause-fids c =
-    let none = found_at c.self.inside.fids.entries (spare c.self.inside.fids) c.args.self.now c.args.fid None c.self.view_is c.in_default.ensures.value in
+    let none =
+    found_at c.self.inside.fids.entries (spare c.self.inside.fids) c.args.self.now c.args.fid None c.self.view_is
+    c.in_default.ensures.value in
     rw none tt
 
 pub returns-clause-faults : goal.returns-clause-faults
@@ -25,9 +29,14 @@ returns-clause-faults c =
 pub returns-clause-fids : goal.returns-clause-fids
 returns-clause-fids c =
     let there = was_at c.self.inside.fids c.args.self.now c.args.fid c.in-Some.slot.now c.self.view_is c.in-Some.ensures.value in
-    let after = now_at c.self.inside.fids c.args.self.now c.args.fid c.in-Some.slot.now c.self.view_is c.in-Some.ensures.value c.open.new.self _ (c.get_mut.follows.holds c.open.new.self) in
-    rw there (if_ok (walked_in (Some c.in-Some.slot.now)) _ _ (λ x e. after ∙ ap (insert c.args.self.now.fids c.args.fid) e) c.open.ensures.entry)
+    let after =
+    now_at c.self.inside.fids c.args.self.now c.args.fid c.in-Some.slot.now c.self.view_is c.in-Some.ensures.value c.open.new.self _
+    (c.get_mut.follows.holds c.open.new.self) in
+    rw there (if_ok (walked_in (Some c.in-Some.slot.now)) _ _ (λ x e. after ∙ ap (insert c.args.self.now.fids c.args.fid) e)
+    c.open.ensures.entry)
 
 pub returns-clause-unchanged : goal.returns-clause-unchanged
 returns-clause-unchanged c =
-    on_err c.open.result _ _ (stays c.self.inside.fids c.args.self.now c.args.fid c.in-Some.slot.now c.self.view_is c.in-Some.ensures.value c.open.new.self _ (c.get_mut.follows.holds c.open.new.self)) c.open.ensures.unchanged
+    on_err c.open.result _ _
+    (stays c.self.inside.fids c.args.self.now c.args.fid c.in-Some.slot.now c.self.view_is c.in-Some.ensures.value c.open.new.self _
+    (c.get_mut.follows.holds c.open.new.self)) c.open.ensures.unchanged

@@ -6,15 +6,18 @@ use Rattle.cs_fids.proofs.table.Table.reserve.Goals as goal
 
 pub returns-then-len-ge-FIDS-clause-memory : goal.returns-then-len-ge-FIDS-clause-memory
 returns-then-len-ge-FIDS-clause-memory c = λ few.
-    let same : len c.args.self.now.fids ≡ length c.self.inside.fids.entries = ap (λ (t : Fids). len t.fids) (sym c.self.view_is) ∙ len_is c.self.inside.fids.entries c.self.invariant.distinct in
+    let same : len c.args.self.now.fids ≡ length c.self.inside.fids.entries =
+    ap (λ (t : Fids). len t.fids) (sym c.self.view_is) ∙ len_is c.self.inside.fids.entries c.self.invariant.distinct in
     absurd (omega arith)
 
 pub returns-in_err-reserve-clause-full : goal.returns-in_err-reserve-clause-full
 returns-in_err-reserve-clause-full c = λ full.
-    let same : len c.args.self.now.fids ≡ length c.self.inside.fids.entries = ap (λ (t : Fids). len t.fids) (sym c.self.view_is) ∙ len_is c.self.inside.fids.entries c.self.invariant.distinct in
+    let same : len c.args.self.now.fids ≡ length c.self.inside.fids.entries =
+    ap (λ (t : Fids). len t.fids) (sym c.self.view_is) ∙ len_is c.self.inside.fids.entries c.self.invariant.distinct in
     absurd (omega arith)
 
 pub returns-clause-full : goal.returns-clause-full
 returns-clause-full c = λ full.
-    let same : len c.args.self.now.fids ≡ length c.self.inside.fids.entries = ap (λ (t : Fids). len t.fids) (sym c.self.view_is) ∙ len_is c.self.inside.fids.entries c.self.invariant.distinct in
+    let same : len c.args.self.now.fids ≡ length c.self.inside.fids.entries =
+    ap (λ (t : Fids). len t.fids) (sym c.self.view_is) ∙ len_is c.self.inside.fids.entries c.self.invariant.distinct in
     absurd (omega arith)

@@ -8,5 +8,7 @@ returns c =
     let items = c.self.inside.bytes.items in
     let w = c.put_over.new.bytes in
     let long : length w ≡ length items = c.put_over.ensures.length ∙ ap length c.deref_mut.ensures.value in
-    ap (λ n. take n (w ++ drop (length w) items)) c.self.inside.bytes.ok.0 ∙ ap (take (length items)) (ap (λ z. w ++ z) (drop_all (length w) items (omega (arith, long))) ∙ append-nil w)
-    ∙ take_all (length items) w (omega (arith, long)) ∙ c.put_over.ensures.bytes ∙ ap (put_in c.args.start c.args.piece.now) (c.deref_mut.ensures.value ∙ c.self.view_is)
+    ap (λ n. take n (w ++ drop (length w) items)) c.self.inside.bytes.ok.0 ∙ ap (take (length items))
+    (ap (λ z. w ++ z) (drop_all (length w) items (omega (arith, long))) ∙ append-nil w)
+    ∙ take_all (length items) w (omega (arith, long)) ∙ c.put_over.ensures.bytes ∙ ap (put_in c.args.start c.args.piece.now)
+    (c.deref_mut.ensures.value ∙ c.self.view_is)

@@ -12,14 +12,22 @@ use Rattle.cs_overlay.proofs.names.Names.after.Goals as goal
 pub returns-in_err-_key-clause-none : goal.returns-in_err-_key-clause-none
 returns-in_err-_key-clause-none c =
     rw c.from_residual.ensures
-    (entry_same (get_by_text c.self.inside.said) (map.get c.args.self.now) (λ y. same_names c.self.inside.said y ∙ ap (λ m. is_some (map.get m y)) c.self.view_is) (option_copied c.args.last) (option_copied c.args.bound) None c.in_err-_key.ensures.none)
+    (entry_same (get_by_text c.self.inside.entries) (map.get c.args.self.now)
+    (λ y. same_names c.self.inside.entries y ∙ ap (λ m. is_some (map.get m y)) c.self.view_is) (option_copied c.args.last)
+    (option_copied c.args.bound) None c.in_err-_key.ensures.none)
 
 pub returns-clause-some : goal.returns-clause-some
-returns-clause-some c = subst (λ x. IsEntryBelow (λ y. IsSome (map.get c.args.self.now y)) (option_copied c.args.last) (option_copied c.args.bound) (Some x))
+returns-clause-some c =
+    subst (λ x. IsEntryBelow (λ y. IsSome (map.get c.args.self.now y)) (option_copied c.args.last) (option_copied c.args.bound) (Some x))
     (sym (c.self.invariant (string_bytes c.in_ok-_key._key.now) c.in_ok-_key.said.now c.in_ok-_key.ensures.value))
-    (entry_same (get_by_text c.self.inside.said) (map.get c.args.self.now) (λ y. same_names c.self.inside.said y ∙ ap (λ m. is_some (map.get m y)) c.self.view_is) (option_copied c.args.last) (option_copied c.args.bound) (Some (string_bytes c.in_ok-_key._key.now)) c.in_ok-_key.ensures.some)
+    (entry_same (get_by_text c.self.inside.entries) (map.get c.args.self.now)
+    (λ y. same_names c.self.inside.entries y ∙ ap (λ m. is_some (map.get m y)) c.self.view_is) (option_copied c.args.last)
+    (option_copied c.args.bound) (Some (string_bytes c.in_ok-_key._key.now)) c.in_ok-_key.ensures.some)
 
 pub returns-clause-value : goal.returns-clause-value
 returns-clause-value c =
-    ap (λ m. map.get m c.in_ok-_key.said.now.name) (sym c.self.view_is) ∙ get_number c.self.inside.said c.in_ok-_key.said.now.name
-    ∙ ap (option_map (λ (s : Said). s.number)) (ap (get_by_text c.self.inside.said) (c.self.invariant (string_bytes c.in_ok-_key._key.now) c.in_ok-_key.said.now c.in_ok-_key.ensures.value) ∙ c.in_ok-_key.ensures.value)
+    ap (λ m. map.get m c.in_ok-_key.said.now.name) (sym c.self.view_is) ∙ get_number c.self.inside.entries c.in_ok-_key.said.now.name
+    ∙ ap (option_map (λ (s : Said). s.number))
+    (ap (get_by_text c.self.inside.entries)
+    (c.self.invariant (string_bytes c.in_ok-_key._key.now) c.in_ok-_key.said.now c.in_ok-_key.ensures.value) ∙
+    c.in_ok-_key.ensures.value)

@@ -5,8 +5,10 @@ use Rattle.cs_overlay.proofs.ByText.{named_insert, numbers_insert}
 use Rattle.cs_overlay.proofs.names.Names.insert.Goals as goal
 
 pub invariant_of-self-2 : goal.invariant_of-self-2
-invariant_of-self-2 c = named_insert c.self.inside.said c.insert.new.self (string_bytes c.in_ok-key.key) _ c.in_ok-insert.ensures.updates (sym (c.in_ok-key.ensures.cases ∙ c.as_string.ensures)) c.self.invariant
+invariant_of-self-2 c =
+    named_insert c.self.inside.entries c.insert.new.self (string_bytes c.in_ok-key.key) _ c.in_ok-insert.ensures.updates
+    (sym (c.in_ok-key.ensures.cases ∙ c.as_string.ensures)) c.self.invariant
 
 pub returns-clause-ok : goal.returns-clause-ok
-returns-clause-ok c = numbers_insert c.self.inside.said c.insert.new.self (string_bytes c.in_ok-key.key) _ c.in_ok-insert.ensures.updates
+returns-clause-ok c = numbers_insert c.self.inside.entries c.insert.new.self (string_bytes c.in_ok-key.key) _ c.in_ok-insert.ensures.updates
     ∙ (λ i. map.insert (c.self.view_is i) ((c.in_ok-key.ensures.cases ∙ c.as_string.ensures) i) c.args.number)

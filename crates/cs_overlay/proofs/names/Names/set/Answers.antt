@@ -11,17 +11,25 @@ use Rattle.cs_overlay.proofs.names.Names.set.Goals.{in-Some, in_default}
 pub invariant_of-self : goal.invariant_of-self
 invariant_of-self c = elim c.match-get_mut.branch [
   | in-Some w ↦ (let v = record w.in-Some.said.now { number = c.args.number } in
-      subst (λ z. AreNamed (get_by_text z.said)) (sym w.self-inside-is)
-      (named_insert c.self.inside.said (c.get_mut.follows.lender v) c.args.name.now v ((c.get_mut.follows.holds v).3 (subst IsSome w.in-Some.ensures.value refl))
+      subst (λ z. AreNamed (get_by_text z.entries)) (sym w.self-inside-is)
+      (named_insert c.self.inside.entries (c.get_mut.follows.lender v) c.args.name.now v
+      ((c.get_mut.follows.holds v).3 (subst IsSome w.in-Some.ensures.value refl))
       (c.self.invariant c.args.name.now w.in-Some.said.now (sym w.in-Some.ensures.value)) c.self.invariant))
-  | in_default w ↦ absurd (false≢true (ap is_some (sym (ap option_copied_mut w.in_default.is) ∙ c.get_mut.ensures.value) ∙ same_names c.self.inside.said c.args.name.now ∙ ap (λ m. is_some (map.get m c.args.name.now)) c.self.view_is ∙ c.requires))
+  | in_default w ↦ absurd
+      (false≢true
+      (ap is_some (sym (ap option_copied_mut w.in_default.is) ∙ c.get_mut.ensures.value) ∙ same_names c.self.inside.entries
+      c.args.name.now ∙ ap (λ m. is_some (map.get m c.args.name.now)) c.self.view_is ∙ c.requires))
 ]
 
 pub returns : goal.returns
 returns c = elim c.match-get_mut.branch [
   | in-Some w ↦ (let v = record w.in-Some.said.now { number = c.args.number } in
-      ap (λ z. numbers_of z.said.entries) w.self-inside-is
-      ∙ numbers_insert c.self.inside.said (c.get_mut.follows.lender v) c.args.name.now v ((c.get_mut.follows.holds v).3 (subst IsSome w.in-Some.ensures.value refl))
+      ap (λ z. numbers_of z.entries.entries) w.self-inside-is
+      ∙ numbers_insert c.self.inside.entries (c.get_mut.follows.lender v) c.args.name.now v
+      ((c.get_mut.follows.holds v).3 (subst IsSome w.in-Some.ensures.value refl))
       ∙ ap (λ m. map.insert m c.args.name.now c.args.number) c.self.view_is)
-  | in_default w ↦ absurd (false≢true (ap is_some (sym (ap option_copied_mut w.in_default.is) ∙ c.get_mut.ensures.value) ∙ same_names c.self.inside.said c.args.name.now ∙ ap (λ m. is_some (map.get m c.args.name.now)) c.self.view_is ∙ c.requires))
+  | in_default w ↦ absurd
+      (false≢true
+      (ap is_some (sym (ap option_copied_mut w.in_default.is) ∙ c.get_mut.ensures.value) ∙ same_names c.self.inside.entries
+      c.args.name.now ∙ ap (λ m. is_some (map.get m c.args.name.now)) c.self.view_is ∙ c.requires))
 ]

@@ -5,8 +5,11 @@ use Rattle.cs_overlay.proofs.node.Node.new_file.Goals.{then-is_directory_mode, e
 
 pub returns : goal.returns
 returns c = elim c.if-is_directory_mode.branch [
-  | then-is_directory_mode w ↦ new_directory c.args.parent c.args.number c.args.name c.args.group c.args.new c.args.stamp.now c.in_ok-owner.owner c.in_ok-muid.muid c.in_ok-owner.ensures c.in_ok-muid.ensures
+  | then-is_directory_mode w ↦ new_directory c.args.parent c.args.number c.args.name c.args.group c.args.new c.args.stamp.now
+      c.in_ok-owner.owner c.in_ok-muid.muid c.in_ok-owner.ensures c.in_ok-muid.ensures
       c.if-is_directory_mode.kind w.new.result w.new.ensures w.kind-is (sym c.is_directory_mode.ensures ∙ w.if-is_directory_mode.true)
-  | else-is_directory_mode w ↦ new_plain c.args.parent c.args.number c.args.name c.args.group c.args.new c.args.stamp.now c.in_ok-owner.owner c.in_ok-muid.muid c.in_ok-owner.ensures c.in_ok-muid.ensures
-      c.if-is_directory_mode.kind w.lower-empty.result (w.lower-empty.ensures.bytes [] refl) (w.lower-empty.ensures.hides []) w.kind-is (sym c.is_directory_mode.ensures ∙ w.if-is_directory_mode.false)
+  | else-is_directory_mode w ↦ new_plain c.args.parent c.args.number c.args.name c.args.group c.args.new c.args.stamp.now
+      c.in_ok-owner.owner c.in_ok-muid.muid c.in_ok-owner.ensures c.in_ok-muid.ensures
+      c.if-is_directory_mode.kind w.lower-empty.result (w.lower-empty.ensures.bytes [] refl) (w.lower-empty.ensures.hides []) w.kind-is
+      (sym c.is_directory_mode.ensures ∙ w.if-is_directory_mode.false)
 ]

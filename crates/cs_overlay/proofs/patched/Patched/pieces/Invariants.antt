@@ -7,7 +7,9 @@ use Rattle.cs_overlay.proofs.patched.Patched.pieces.Given as goal
 
 -- the bytes up to here are read
 abbrev pub invariant-loop-at : goal.invariant-loop-at
-invariant-loop-at l = (l.offset ≤ l.at) × (l.at ≤ l.end) × (l.out.items ≡ map (shown_byte l.shown l.offset (get nat_cmp l.self.blocks)) (range_with_len l.offset (l.at - l.offset)))
+invariant-loop-at l =
+    (l.offset ≤ l.at) × (l.at ≤ l.end)
+    × (l.out.items ≡ map (shown_byte l.shown l.offset (get nat_cmp l.self.blocks)) (range_with_len l.offset (l.at - l.offset)))
 
 abbrev pub decreases-loop-at : goal.decreases-loop-at
 decreases-loop-at l = l.end - l.at

@@ -7,4 +7,8 @@ use Rattle.cs_overlay.proofs.Placing.{written_bytes}
 use Rattle.cs_overlay.proofs.patched.Patched.write.Goals as goal
 
 pub returns-clause-bytes : goal.returns-clause-bytes
-returns-clause-bytes c = λ lower hides. ap (λ n. map (byte_at lower c.args.self.now.kept (get nat_cmp c.overwrite.new.blocks)) (range_with_len 0 n)) c.max-self.ensures ∙ written_bytes (byte_at lower c.args.self.now.kept (get nat_cmp c.args.self.now.blocks)) (byte_at lower c.args.self.now.kept (get nat_cmp c.overwrite.new.blocks)) c.args.self.now.size c.args.offset c.args.bytes.now (c.overwrite.ensures lower c.args.self.now.kept) hides c.requires.some
+returns-clause-bytes c =
+    λ lower hides. ap (λ n. map (byte_at lower c.args.self.now.kept (get nat_cmp c.overwrite.new.blocks)) (range_with_len 0 n))
+    c.max-self.ensures ∙ written_bytes (byte_at lower c.args.self.now.kept (get nat_cmp c.args.self.now.blocks))
+    (byte_at lower c.args.self.now.kept (get nat_cmp c.overwrite.new.blocks)) c.args.self.now.size c.args.offset c.args.bytes.now
+    (c.overwrite.ensures lower c.args.self.now.kept) hides c.requires.some

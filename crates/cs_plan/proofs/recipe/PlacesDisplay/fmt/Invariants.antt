@@ -6,4 +6,5 @@ use Rattle.cs_plan.proofs.recipe.PlacesDisplay.fmt.Given as goal
 
 abbrev pub invariant-loop-place : goal.invariant-loop-place
 invariant-loop-place g l =
-    IsPlainFormatter l.initial.f → HasWritten g.W.Write.write_str_gives l.initial.f (flat_map (λ k. codes "," ++ decimal k) (take l.place-index l.others)) l.f
+    IsPlainFormatter l.initial.f
+    → HasWritten g.W.Write.write_str_gives l.initial.f (flat_map (λ k. codes "," ++ decimal k) (take l.place-index l.others)) l.f

@@ -29,13 +29,20 @@ returns-clause-unchanged c =
     let t = c.self.inside.atlas in
     let order = c.self.inside.order in
     let there : slice_get c.self.inside.plan c.args.number ≡ Some c.in-Some.recipe.now = sym c.in-Some.ensures in
-    let listed = all_at (λ r. IsAllowedIn order (set_in order r)) c.self.inside.plan c.args.number c.in-Some.recipe.now there c.self.invariant.planned.allowed in
+    let listed =
+    all_at (λ r. IsAllowedIn order (set_in order r)) c.self.inside.plan c.args.number c.in-Some.recipe.now there
+    c.self.invariant.planned.allowed in
     let allowed = subst (λ n. IsAllowed (needs_in order) n (set_in order c.in-Some.recipe.now)) c.self.invariant.long listed in
-    let few = subst (λ t. records_made t ≤ TREE_RECORDS) c.trace.ensures c.operations-few.ensures.few in
+    let few = subst (λ t. records_made t ≤ TREE_RECORDS) c.trace.ensures c.operations.ensures.few in
     subst IsNew (sym c.in_ok-tree.ensures.state)
-    (state_is_new t (needs_in order) c.deref.result.now few (subst (IsAllowed (needs_in order) (length (micros_in t).ops)) (sym (c.deref.ensures.value ∙ c.in_ok-places.ensures)) allowed))
+    (state_is_new t (needs_in order) c.deref.result.now few
+    (subst (IsAllowed (needs_in order) (length (micros_in t).ops)) (sym (c.deref.ensures.value ∙ c.in_ok-places.ensures)) allowed))
 
 pub returns-clause-missing : goal.returns-clause-missing
 returns-clause-missing c =
-    let there : slice_get c.self.inside.plan c.args.number ≡ Some c.in-Some.recipe.now = sym c.in-Some.ensures in
-    ((λ t. absurd (cc t)), (λ high. absurd (not_past c.self.inside.plan c.args.number c.in-Some.recipe.now there (subst (λ s. length s.plan ≤ c.args.number) (sym c.self.view_is) high))))
+    let there : slice_get c.self.inside.plan c.args.number ≡ Some c.in-Some.recipe.now = sym c.in-Some.ensures in (
+      (λ t. absurd (cc t)),
+      (λ high. absurd
+          (not_past c.self.inside.plan c.args.number c.in-Some.recipe.now there
+          (subst (λ s. length s.plan ≤ c.args.number) (sym c.self.view_is) high))),
+    )

@@ -16,7 +16,8 @@ pair_mut-run-requires g c =
     omega (arith, c.requires, count)
 
 pub invariant_of-self-lent : goal.invariant_of-self-lent
-invariant_of-self-lent g c w = runs_kept c.self.inside.runs.entries _ (length-set_value_at c.self.inside.runs.entries c.args.place _) c.self.invariant
+invariant_of-self-lent g c w =
+    runs_kept c.self.inside.runs.entries _ (length-set_value_at c.self.inside.runs.entries c.args.place _) c.self.invariant
 
 pub returns : goal.returns
 returns g c =
@@ -26,7 +27,12 @@ returns g c =
     let run : Found H = c.pair_mut-run.result.1.now in
     let there = c.pair_mut-run.ensures.value in
     let moved : (w : H) → set_value_at xs c.args.place (record run { held = w }) ≡ with_held c.args.self.now.runs c.args.place w =
-    λ w. changed (λ (f : Found H). record f { held = w }) xs c.args.place _ run there ∙ ap (λ (r : Registry H). with_held r.runs c.args.place w) v in (
+    λ w. changed (λ (f : Found H). record f {
+      held = w;
+    }) xs c.args.place _ run there ∙ ap (λ (r : Registry H). with_held r.runs c.args.place w) v in (
       (refl, λ w i. record { scene = (v i).scene; users = (v i).users; published = (v i).published; runs = moved w i }),
-      record { lends = tt; value = ap (λ (r : Registry H). held_at r.runs c.args.place) (sym v) ∙ ap (option_map (λ (e : Key × Found H). e.1.held)) there },
+      record {
+        lends = tt;
+        value = ap (λ (r : Registry H). held_at r.runs c.args.place) (sym v) ∙ ap (option_map (λ (e : Key × Found H). e.1.held)) there;
+      },
     )

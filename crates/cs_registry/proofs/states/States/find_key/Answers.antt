@@ -22,13 +22,16 @@ pub returns-in-Some-get_index_of-clause-finds : goal.returns-in-Some-get_index_o
 returns-in-Some-get_index_of-clause-finds g c =
     let there = sym (ap option_copied c.in-Some.is) ∙ (rw (c.deref.ensures.value, c.number.ensures) at c.published.ensures) in
     let published = published_is c.self.inside.states.items c.args.key.number (Some c.in-Some.lower.now) there in
-    rw (← c.self.view_is) (finds_again g.H.Held.is_fresh _ c.args.key published c.in-Some-get_index_of.place (sym c.in-Some-get_index_of.ensures.index) c.find_again.result c.find_again.new.runs.entries c.find_again.ensures.ok c.find_again.ensures.err)
+    rw (← c.self.view_is)
+    (finds_again g.H.Held.is_fresh _ c.args.key published c.in-Some-get_index_of.place (sym c.in-Some-get_index_of.ensures.index)
+    c.find_again.result c.find_again.new.runs.entries c.find_again.ensures.ok c.find_again.ensures.err)
 
 pub returns-in-None-clause-finds : goal.returns-in-None-clause-finds
 returns-in-None-clause-finds g c =
     let there = sym (ap option_copied c.in-Some.is) ∙ (rw (c.deref.ensures.value, c.number.ensures) at c.published.ensures) in
     let published = published_is c.self.inside.states.items c.args.key.number (Some c.in-Some.lower.now) there in
-    rw (← c.self.view_is) (finds_full g.H.Held.is_fresh _ c.args.key published (sym c.in-None.ensures.index) (omega (arith, c.len.ensures.len)))
+    rw (← c.self.view_is)
+    (finds_full g.H.Held.is_fresh _ c.args.key published (sym c.in-None.ensures.index) (omega (arith, c.len.ensures.len)))
 
 pub returns-after-make_run-clause-finds : goal.returns-after-make_run-clause-finds
 returns-after-make_run-clause-finds g c =
@@ -41,7 +44,8 @@ returns-after-make_run-clause-finds g c =
           (let made = w.in-Ok.ensures.made in
           finds_new g.H.Held.is_fresh _ c.args.key published none few w.in-Ok.place c.make_run.new.runs.entries made.1.0 made.0 made.1.2
           (arc_value c.in-Some.lower.now, state_is c.self.invariant c.args.key.number c.in-Some.lower.now there, made.1.1))
-      | in-Err w ↦ rw w.result-is (finds_short g.H.Held.is_fresh _ c.args.key published none few c.make_run.new.runs.entries w.in-Err.ensures.err)
+      | in-Err w ↦ rw w.result-is
+          (finds_short g.H.Held.is_fresh _ c.args.key published none few c.make_run.new.runs.entries w.in-Err.ensures.err)
     ])
 
 pub returns-in-Some-get_index_of-clause-found : goal.returns-in-Some-get_index_of-clause-found

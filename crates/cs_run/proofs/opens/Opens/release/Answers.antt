@@ -5,4 +5,7 @@ use Rattle.cs_run.proofs.opens.Opens.release.Goals as goal
 
 pub invariant_of-self : goal.invariant_of-self
 invariant_of-self c =
-    without_one c.self.inside.blocks.items c.take_out.new.blocks.items c.self.inside.count c.in_ok-place.place.block c.in_ok-place.place.at c.self.invariant (subst (λ (blocks : List Block). Stands blocks c.in_ok-place.place.block c.in_ok-place.place.at) c.as_slice.ensures.value c.in_ok-place.ensures.stands) c.take_out.ensures.opens c.take_out.ensures.filled
+    without_one c.self.inside.blocks.items c.take_out.new.blocks.items c.self.inside.count c.in_ok-place.place.block c.in_ok-place.place.at
+    c.self.invariant
+    (subst (λ (blocks : List Block). Stands blocks c.in_ok-place.place.block c.in_ok-place.place.at) c.as_slice.ensures.value
+    c.in_ok-place.ensures.stands) c.take_out.ensures.opens c.take_out.ensures.filled

@@ -6,7 +6,9 @@ use Rattle.cs_session.proofs.session.Session.answer.Goals as goal
 
 pub returns-in-Call-clause-answered : goal.returns-in-Call-clause-answered
 returns-in-Call-clause-answered g c =
-    rw c.in-Call.is (ends_by g.P.Port.gives c.args.now (m.Call c.in-Call.message) c.args.self.now c.args.port.now (CallStep c.in-Call.message) refl _ _ _ c.call_step.ensures.takes refl)
+    rw c.in-Call.is
+    (ends_by g.P.Port.gives c.args.now (m.Call c.in-Call.message) c.args.self.now c.args.port.now (CallStep c.in-Call.message) refl _ _
+    _ c.call_step.ensures.takes refl)
 
 pub returns-in-Version-clause-fits : goal.returns-in-Version-clause-fits
 returns-in-Version-clause-fits g c = λ _. c.version.ensures.plain c.args.self.now.msize

@@ -9,9 +9,11 @@ use Rattle.cs_session.proofs.session.Session.clunk.Goals as goal
 pub returns-then-is_open-clause-answered : goal.returns-then-is_open-clause-answered
 returns-then-is_open-clause-answered g c =
     let there = sym c.is_open.ensures ∙ c.if-is_open.true in
-    ends_by g.P.Port.gives c.args.now (m.Clunk c.args.fid) c.args.self.now c.args.port.now (CloseStep c.args.fid) (clunk_closes c.args.fid (entry_at c.args.self.now c.args.fid) there) _ _ _ c.close_step.ensures.takes refl
+    ends_by g.P.Port.gives c.args.now (m.Clunk c.args.fid) c.args.self.now c.args.port.now (CloseStep c.args.fid)
+    (clunk_closes c.args.fid (entry_at c.args.self.now c.args.fid) there) _ _ _ c.close_step.ensures.takes refl
 
 pub returns-clause-answered : goal.returns-clause-answered
 returns-clause-answered g c =
     let not_open = sym c.is_open.ensures ∙ c.if-is_open.false in
-    ends_by g.P.Port.gives c.args.now (m.Clunk c.args.fid) c.args.self.now c.args.port.now (Table (t.Clunk c.args.fid)) (clunk_frees c.args.fid (entry_at c.args.self.now c.args.fid) not_open) _ _ _ c.table_step.ensures.takes refl
+    ends_by g.P.Port.gives c.args.now (m.Clunk c.args.fid) c.args.self.now c.args.port.now (Table (t.Clunk c.args.fid))
+    (clunk_frees c.args.fid (entry_at c.args.self.now c.args.fid) not_open) _ _ _ c.table_step.ensures.takes refl

@@ -10,8 +10,11 @@ pub returns-clause-answered : goal.returns-clause-answered
 returns-clause-answered g c =
     let left = c.table_step-closed.ensures.value ∙ hung_up c.close_all.new.self c.close_all.ensures.idle c.close_all.ensures.closed in
     let closed = ap (λ x. x.0) left in
-    let last = ends_by g.P.Port.gives c.args.now m.HangUp c.close_all.new.self c.close_all.new.port (Table t.HangUp) (ap (λ o. close_or o t.HangUp) c.close_all.ensures.closed) _ _ _ c.table_step-closed.ensures.takes refl in
+    let last =
+    ends_by g.P.Port.gives c.args.now m.HangUp c.close_all.new.self c.close_all.new.port (Table t.HangUp)
+    (ap (λ o. close_or o t.HangUp) c.close_all.ensures.closed) _ _ _ c.table_step-closed.ensures.takes refl in
     c.close_all.ensures.before m.HangUp _ _ _ refl (rw closed at last)
 
 pub returns-clause-ended : goal.returns-clause-ended
-returns-clause-ended g c = ap (λ x. x.1) (c.table_step-closed.ensures.value ∙ hung_up c.close_all.new.self c.close_all.ensures.idle c.close_all.ensures.closed)
+returns-clause-ended g c =
+    ap (λ x. x.1) (c.table_step-closed.ensures.value ∙ hung_up c.close_all.new.self c.close_all.ensures.idle c.close_all.ensures.closed)

@@ -3,13 +3,14 @@ use Rattle.cs_session.specs.declared.reply.Reply.{Reply}
 use Rattle.cs_session.specs.declared.reply.Reply.TheVariants as r
 use Rattle.cs_session.specs.Marks.{NoDecode, Steps}
 use Rattle.cs_session.specs.Questions.{Question, PortAnswer}
-use Rattle.cs_session.specs.Receiving.{Alone, Asked, Barred, IsLetIn, IsReceived, IsUnread, Malformed, Short}
-use Rattle.cs_session.specs.Sessions.{Sess}
+use Rattle.cs_session.specs.Receiving.{Alone, Asked, Barred, PassesBeforeDecoding, IsReceived, IsUnread, Malformed, Short}
+use Rattle.cs_session.specs.Sessions.{SessionState}
 use Rattle.cs_session.proofs.Fitting.{asks_fit}
 use Rattle.cs_session.proofs.session.Session.receive.Goals as goal
 
 -- bytes that are not read
-module _ {P : Type 0} (gives : P → Question → PortAnswer → P → Type 0) (now : ℕ) (bytes : List ℕ) (s : Sess) (p : P) (let_in : IsLetIn s.msize bytes) where
+module _ {P : Type 0} (gives : P → Question → PortAnswer → P → Type 0) (now : ℕ) (bytes : List ℕ) (s : SessionState) (p : P)
+    (let_in : PassesBeforeDecoding s.msize bytes) where
   unread : (reply : Reply) → IsUnread bytes reply → IsReceived gives now bytes s p reply s p
   unread r.Memory u = record { mark = NoDecode; received = Short let_in u (refl, refl, refl) }
   unread (r.Error rule) u = record { mark = Steps []; received = Malformed let_in u.0 (rw u.1 (refl, refl, refl)) }
@@ -19,16 +20,27 @@ pub returns-in-Some-clause-received : goal.returns-in-Some-clause-received
 returns-in-Some-clause-received g c = record { mark = Steps []; received = Barred c.in-Some.rule (search rules) (refl, refl, refl) }
 
 pub returns-in-Err-clause-received : goal.returns-in-Err-clause-received
-returns-in-Err-clause-received g c = unread g.P.Port.gives c.args.now c.args.bytes.now c.args.self.now c.args.port.now (search rules) c.in-Err.reply c.in-Err.ensures.err
+returns-in-Err-clause-received g c =
+    unread g.P.Port.gives c.args.now c.args.bytes.now c.args.self.now c.args.port.now (search rules) c.in-Err.reply c.in-Err.ensures.err
 
 pub returns-in-Err-message_in-clause-received : goal.returns-in-Err-message_in-clause-received
 returns-in-Err-message_in-clause-received g c =
-    record { mark = Steps []; received = Alone c.in-Ok.message c.in-Err-message_in.reply (search rules) c.in-Ok.ensures.ok (sym c.message_in.ensures ∙ c.in-Err-message_in.is) (refl, refl, refl) }
+    record {
+      mark = Steps [];
+      received =
+          Alone c.in-Ok.message c.in-Err-message_in.reply (search rules) c.in-Ok.ensures.ok
+          (sym c.message_in.ensures ∙ c.in-Err-message_in.is) (refl, refl, refl);
+    }
 
 pub returns-clause-received : goal.returns-clause-received
 returns-clause-received g c =
     let answered = c.answer.ensures.answered in
-    record { mark = Steps answered.marks; received = Asked c.in-Ok.message c.in-Ok-message_in.asks answered.marks (search rules) c.in-Ok.ensures.ok (sym c.message_in.ensures ∙ c.in-Ok-message_in.is) answered.answers }
+    record {
+      mark = Steps answered.marks;
+      received =
+          Asked c.in-Ok.message c.in-Ok-message_in.asks answered.marks (search rules) c.in-Ok.ensures.ok
+          (sym c.message_in.ensures ∙ c.in-Ok-message_in.is) answered.answers;
+    }
 
 pub returns-clause-fits : goal.returns-clause-fits
 returns-clause-fits g c =

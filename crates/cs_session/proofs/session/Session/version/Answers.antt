@@ -10,5 +10,7 @@ pub returns-clause-answered : goal.returns-clause-answered
 returns-clause-answered g c =
     let message = m.Version c.args.msize c.args.version in
     let x = t.Version c.args.msize c.args.version in
-    let last = ends_by g.P.Port.gives c.args.now message c.close_all.new.self c.close_all.new.port (Table x) (ap (λ o. close_or o x) c.close_all.ensures.closed) _ _ _ c.table_step.ensures.takes refl in
+    let last =
+    ends_by g.P.Port.gives c.args.now message c.close_all.new.self c.close_all.new.port (Table x)
+    (ap (λ o. close_or o x) c.close_all.ensures.closed) _ _ _ c.table_step.ensures.takes refl in
     c.close_all.ensures.before message _ _ _ refl last

@@ -21,6 +21,8 @@ returns-clause-state c =
 pub returns-clause-tree : goal.returns-clause-tree
 returns-clause-tree c =
     let parts = arc_value c.self.inside.parts in
-    let allowed = subst (λ (m : Micros). IsAllowed (needs_of m) (length m.ops) c.args.places.now) (sym (c.self.invariant.whole.broken ∙ ap micros_in c.self.view_is)) c.requires in
+    let allowed =
+    subst (λ (m : Micros). IsAllowed (needs_of m) (length m.ops) c.args.places.now)
+    (sym (c.self.invariant.whole.broken ∙ ap micros_in c.self.view_is)) c.requires in
     subst IsTree (sym (c.of.ensures ∙ (λ i. state_in (c.in_ok-parts.ensures i) (c.in_ok-members.ensures.members i))))
     (is_tree_left parts.trace parts.micros (atlas_in parts.tables) c.self.invariant.whole.atlas c.args.places.now allowed)

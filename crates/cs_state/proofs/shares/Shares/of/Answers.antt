@@ -6,7 +6,7 @@ use Rattle.cs_apm.specs.Atlases.{atlas_in}
 use Rattle.cs_apm.specs.Slots.{FitsIn}
 use Rattle.cs_apm.specs.declared.slot.Step.{Step}
 use Rattle.cs_apm.proofs.Building.{fits}
-use Rattle.cs_state.specs.Shares.{ids, mark_at, stays, IsLeft, IsTouched}
+use Rattle.cs_state.specs.Shares.{numbers_that_pass, mark_at, is_in_every_state, IsLeft, IsTouched}
 use Rattle.cs_state.proofs.Gathering.{shares_are}
 use Rattle.cs_state.proofs.shares.Shares.of.Goals as goal
 
@@ -24,7 +24,8 @@ returns c =
     let marks = c.in_ok-marks.marks.items in
     let len : c.len.result ≡ length tables.slots.items = c.len.ensures ∙ tables.slots.ok.0 in
     let few : length tables.slots.items < 1048576 =
-    (let paths = c.requires.atlas.few in let long = c.requires.atlas.long in let records = c.records-few.ensures.few in let ops = c.requires.few in omega (arith, paths, long, records, ops)) in
+    (let paths = c.requires.atlas.few in let long = c.requires.atlas.long in let records = c.records.ensures.few in let ops =
+    c.requires.few in omega (arith, paths, long, records, ops)) in
     let d2 = c.deref-2.ensures.value in
     let d3 = c.deref-3.ensures.value in
     let d4 = c.deref-4.ensures.value in
@@ -33,8 +34,9 @@ returns c =
     shares_are c.args.trace.now c.args.ops.now tables marks few (c.in_ok-marks.ensures.long ∙ len)
     (λ id gone. subst (λ ss. IsLeft ss id) c.deref.ensures.value (c.in_ok-marks.ensures.left id gone))
     (λ id here. subst (λ ss. IsTouched ss id) c.deref.ensures.value (c.in_ok-marks.ensures.touched id here))
-    _ (c.in_ok-kept.ensures ∙ (λ i. ids (stays (d2 i) (d3 i)) (length (d3 i))))
-    (c.in_ok-touched.ensures ∙ (λ i. ids (mark_at (d6 i)) (length (d6 i))))
+    _ (c.in_ok-kept.ensures ∙ (λ i. numbers_that_pass (is_in_every_state (d2 i) (d3 i)) (length (d3 i))))
+    (c.in_ok-touched.ensures ∙ (λ i. numbers_that_pass (mark_at (d6 i)) (length (d6 i))))
     (c.in_ok-kept_below.ensures.long ∙ ap length d5)
-    (λ id low. c.in_ok-kept_below.ensures.each id (subst (λ (ss : List _). id < length ss) (sym d5) low) ∙ (λ i. length (ids (stays (d4 i) (d5 i)) id)))
+    (λ id low. c.in_ok-kept_below.ensures.each id (subst (λ (ss : List _). id < length ss) (sym d5) low) ∙
+    (λ i. length (numbers_that_pass (is_in_every_state (d4 i) (d5 i)) id)))
     c.in_ok-names.ensures

@@ -24,7 +24,8 @@ returns-clause-name c =
     let o = option_map entry_name c.entry_in.result in
     let same = find_is s c.self.invariant c.in_ok-found.found.id d c.in_ok-found.ensures.place in
     entry_is (tree_in s) d last bound o
-    (entry_same (number_shown s c.in_ok-found.found.id) (number_in (tree_in s) d) (λ y. ap is_some (sym (same y))) last bound o c.entry_in.ensures.name)
+    (entry_same (number_shown s c.in_ok-found.found.id) (number_in (tree_in s) d) (λ y. ap is_some (sym (same y))) last bound o
+    c.entry_in.ensures.name)
     ∙ ap (λ (t : Tree). entry_below bound (next_name t d last)) c.self.view_is
 
 pub returns-clause-number : goal.returns-clause-number
@@ -32,4 +33,5 @@ returns-clause-number c =
     let s = c.self.inside.state in
     let d = c.args.directory in
     let same = find_is s c.self.invariant c.in_ok-found.found.id d c.in_ok-found.ensures.place in
-    numbers_same (number_shown s c.in_ok-found.found.id) (number_in c.args.self.now d) (λ y. sym (same y) ∙ ap (λ (t : Tree). number_in t d y) c.self.view_is) c.entry_in.result c.entry_in.ensures.number
+    numbers_same (number_shown s c.in_ok-found.found.id) (number_in c.args.self.now d)
+    (λ y. sym (same y) ∙ ap (λ (t : Tree). number_in t d y) c.self.view_is) c.entry_in.result c.entry_in.ensures.number

@@ -5,7 +5,10 @@ use Rattle.cs_state.proofs.Calling.{name_is, no_name}
 use Rattle.cs_state.proofs.state_tree.StateTreeTreeRead.name_of.Goals as goal
 
 pub returns-in_err-found : goal.returns-in_err-found
-returns-in_err-found c = ap option_copied c.from_residual.ensures ∙ sym (no_name c.self.inside.state c.self.invariant c.args.number c.in_err-found.ensures.none) ∙ ap (λ (t : Tree). name_numbered t c.args.number) c.self.view_is
+returns-in_err-found c =
+    ap option_copied c.from_residual.ensures ∙ sym
+    (no_name c.self.inside.state c.self.invariant c.args.number c.in_err-found.ensures.none) ∙ ap
+    (λ (t : Tree). name_numbered t c.args.number) c.self.view_is
 
 pub returns : goal.returns
 returns c =

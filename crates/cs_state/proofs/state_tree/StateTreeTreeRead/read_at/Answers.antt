@@ -4,18 +4,25 @@ use Rattle.cs_state.proofs.Calling.{bytes_is, known_is, no_bytes}
 use Rattle.cs_state.proofs.state_tree.StateTreeTreeRead.read_at.Goals as goal
 
 pub read-requires-clause-known : goal.read-requires-clause-known
-read-requires-clause-known c = known_is c.self.inside.state c.self.invariant c.in-Some.found.id c.args.number c.in-Some.ensures.place c.in-Some.found.slot c.in-Some.ensures.slot
+read-requires-clause-known c =
+    known_is c.self.inside.state c.self.invariant c.in-Some.found.id c.args.number c.in-Some.ensures.place c.in-Some.found.slot
+    c.in-Some.ensures.slot
 
 pub returns-in_default-clause-value : goal.returns-in_default-clause-value
-returns-in_default-clause-value c = sym (no_bytes c.self.inside.state c.self.invariant c.args.number c.in_default.ensures.none c.args.offset c.args.count) ∙ ap (λ (t : Tree). bytes_at t c.args.number c.args.offset c.args.count) c.self.view_is
+returns-in_default-clause-value c =
+    sym (no_bytes c.self.inside.state c.self.invariant c.args.number c.in_default.ensures.none c.args.offset c.args.count) ∙ ap
+    (λ (t : Tree). bytes_at t c.args.number c.args.offset c.args.count) c.self.view_is
 
 pub returns-in_err-bytes-clause-memory : goal.returns-in_err-bytes-clause-memory
 returns-in_err-bytes-clause-memory c = λ _. subst (λ o. IsSomeAnd o (λ bytes. bytes ≢ []))
-    (bytes_is c.self.inside.state c.self.invariant c.in-Some.found.id c.args.number c.in-Some.ensures.place c.in-Some.found.slot c.in-Some.ensures.slot c.args.offset c.args.count ∙ ap (λ (t : Tree). bytes_at t c.args.number c.args.offset c.args.count) c.self.view_is)
+    (bytes_is c.self.inside.state c.self.invariant c.in-Some.found.id c.args.number c.in-Some.ensures.place c.in-Some.found.slot
+    c.in-Some.ensures.slot c.args.offset c.args.count ∙ ap (λ (t : Tree). bytes_at t c.args.number c.args.offset c.args.count)
+    c.self.view_is)
     (c.in_err-bytes.ensures.memory refl)
 
 pub returns-clause-value : goal.returns-clause-value
 returns-clause-value c =
     c.in_ok-bytes.ensures.value
-    ∙ bytes_is c.self.inside.state c.self.invariant c.in-Some.found.id c.args.number c.in-Some.ensures.place c.in-Some.found.slot c.in-Some.ensures.slot c.args.offset c.args.count
+    ∙ bytes_is c.self.inside.state c.self.invariant c.in-Some.found.id c.args.number c.in-Some.ensures.place c.in-Some.found.slot
+    c.in-Some.ensures.slot c.args.offset c.args.count
     ∙ ap (λ (t : Tree). bytes_at t c.args.number c.args.offset c.args.count) c.self.view_is

@@ -45,5 +45,6 @@ returns-in-Ok c =
     let back = strip_prefix_is Decides-eqb c.in_ok-rest.rest.now c.as_slice.result.now
     (Some c.in_ok-name.name) c.in_ok-name.ensures.cases in
     let entry = entry_by c.args.text.now _ _ _ _ _ c.in_ok-name.name.now c.self.inside.path c.self.inside.count
-    c.as_bytes.ensures.value c.as_bytes-2.ensures.value c.as_slice.ensures front back c.self.invariant c.if-self-eq0.false c.in-Ok.ensures.1 in
+    c.as_bytes.ensures.value c.as_bytes-2.ensures.value c.as_slice.ensures front back c.self.invariant c.if-self-eq0.false c.in-Ok.ensures.1
+    in
     entry.entry ∙ ap Some (sym entry.spelled ∙ sym c.known.ensures)

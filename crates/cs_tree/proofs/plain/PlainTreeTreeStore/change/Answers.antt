@@ -11,25 +11,49 @@ pub change-requires : goal.change-requires
 change-requires c = can_stamp (get nat_eq c.self.inside.nodes) _ c.self.invariant _ c.self.view_is c.args.number c.requires.vers
 
 pub invariant_of-self : goal.invariant_of-self
-invariant_of-self c = held_with_fields (get nat_eq c.self.inside.nodes) _ c.self.invariant _ c.self.view_is c.args.number c.requires.there c.args.fields.now c.args.stamp c.requires.file c.in_ok-bytes.bytes c.in_ok-bytes.ensures c.in_ok-group.group c.in_ok-group.ensures c.in_default.is (get nat_eq c.change.new.nodes) c.change.ensures
+invariant_of-self c =
+    held_with_fields (get nat_eq c.self.inside.nodes) _ c.self.invariant _ c.self.view_is c.args.number c.requires.there c.args.fields.now
+    c.args.stamp c.requires.file c.in_ok-bytes.bytes c.in_ok-bytes.ensures c.in_ok-group.group c.in_ok-group.ensures c.in_default.is
+    (get nat_eq c.change.new.nodes) c.change.ensures
 
 pub returns-in_default-clause-ok : goal.returns-in_default-clause-ok
-returns-in_default-clause-ok c = tree_with_fields (get nat_eq c.self.inside.nodes) _ c.self.invariant _ c.self.view_is c.args.number c.requires.there c.args.fields.now c.args.stamp c.requires.file c.in_ok-bytes.bytes c.in_ok-bytes.ensures c.in_ok-group.group c.in_ok-group.ensures c.in_default.is (get nat_eq c.change.new.nodes) c.change.ensures
+returns-in_default-clause-ok c =
+    tree_with_fields (get nat_eq c.self.inside.nodes) _ c.self.invariant _ c.self.view_is c.args.number c.requires.there c.args.fields.now
+    c.args.stamp c.requires.file c.in_ok-bytes.bytes c.in_ok-bytes.ensures c.in_ok-group.group c.in_ok-group.ensures c.in_default.is
+    (get nat_eq c.change.new.nodes) c.change.ensures
 
 pub rename-requires-clause-named : goal.rename-requires-clause-named
-rename-requires-clause-named c = has_name (get nat_eq c.self.inside.nodes) _ c.self.invariant _ c.self.view_is c.args.number (c.requires.not_root (subst IsSome (sym c.in-Some.is) refl))
+rename-requires-clause-named c =
+    has_name (get nat_eq c.self.inside.nodes) _ c.self.invariant _ c.self.view_is c.args.number
+    (c.requires.not_root (subst IsSome (sym c.in-Some.is) refl))
 
 pub rename-requires-clause-vers : goal.rename-requires-clause-vers
-rename-requires-clause-vers c = parent_can_stamp (get nat_eq c.self.inside.nodes) _ c.self.invariant _ c.self.view_is c.args.number (c.requires.vers_above (subst IsSome (sym c.in-Some.is) refl))
+rename-requires-clause-vers c =
+    parent_can_stamp (get nat_eq c.self.inside.nodes) _ c.self.invariant _ c.self.view_is c.args.number
+    (c.requires.vers_above (subst IsSome (sym c.in-Some.is) refl))
 
 pub invariant_of-self-in_err-rename : goal.invariant_of-self-in_err-rename
-invariant_of-self-in_err-rename c = subst (λ v. IsHeld v (c.self.inside.greatest + 1)) (one_table (get nat_eq c.self.inside.nodes) (get nat_eq c.rename.new.nodes) c.in_err-rename.ensures.err) c.self.invariant
+invariant_of-self-in_err-rename c =
+    subst (λ v. IsHeld v (c.self.inside.greatest + 1))
+    (one_table (get nat_eq c.self.inside.nodes) (get nat_eq c.rename.new.nodes) c.in_err-rename.ensures.err) c.self.invariant
 
 pub change-requires-2 : goal.change-requires-2
-change-requires-2 c = can_stamp_renamed (get nat_eq c.self.inside.nodes) _ c.self.invariant _ c.self.view_is c.args.number c.requires.there c.args.fields.now c.args.stamp c.requires.file c.in_ok-bytes.bytes c.in_ok-bytes.ensures c.in_ok-group.group c.in_ok-group.ensures (c.requires.not_root (subst IsSome (sym c.in-Some.is) refl)) c.in-Some.name c.in-Some.is c.requires.free c.in_ok-moment.moment c.in_ok-moment.ensures (get nat_eq c.rename.new.nodes) c.in_ok-rename.ensures.ok c.requires.vers
+change-requires-2 c =
+    can_stamp_renamed (get nat_eq c.self.inside.nodes) _ c.self.invariant _ c.self.view_is c.args.number c.requires.there c.args.fields.now
+    c.args.stamp c.requires.file c.in_ok-bytes.bytes c.in_ok-bytes.ensures c.in_ok-group.group c.in_ok-group.ensures
+    (c.requires.not_root (subst IsSome (sym c.in-Some.is) refl)) c.in-Some.name c.in-Some.is c.requires.free c.in_ok-moment.moment
+    c.in_ok-moment.ensures (get nat_eq c.rename.new.nodes) c.in_ok-rename.ensures.ok c.requires.vers
 
 pub invariant_of-self-2 : goal.invariant_of-self-2
-invariant_of-self-2 c = held_after_rename (get nat_eq c.self.inside.nodes) _ c.self.invariant _ c.self.view_is c.args.number c.requires.there c.args.fields.now c.args.stamp c.requires.file c.in_ok-bytes.bytes c.in_ok-bytes.ensures c.in_ok-group.group c.in_ok-group.ensures (c.requires.not_root (subst IsSome (sym c.in-Some.is) refl)) c.in-Some.name c.in-Some.is c.requires.free c.in_ok-moment.moment c.in_ok-moment.ensures (get nat_eq c.rename.new.nodes) c.in_ok-rename.ensures.ok (get nat_eq c.change-2.new.nodes) c.change-2.ensures
+invariant_of-self-2 c =
+    held_after_rename (get nat_eq c.self.inside.nodes) _ c.self.invariant _ c.self.view_is c.args.number c.requires.there c.args.fields.now
+    c.args.stamp c.requires.file c.in_ok-bytes.bytes c.in_ok-bytes.ensures c.in_ok-group.group c.in_ok-group.ensures
+    (c.requires.not_root (subst IsSome (sym c.in-Some.is) refl)) c.in-Some.name c.in-Some.is c.requires.free c.in_ok-moment.moment
+    c.in_ok-moment.ensures (get nat_eq c.rename.new.nodes) c.in_ok-rename.ensures.ok (get nat_eq c.change-2.new.nodes) c.change-2.ensures
 
 pub returns-clause-ok : goal.returns-clause-ok
-returns-clause-ok c = tree_after_rename (get nat_eq c.self.inside.nodes) _ c.self.invariant _ c.self.view_is c.args.number c.requires.there c.args.fields.now c.args.stamp c.requires.file c.in_ok-bytes.bytes c.in_ok-bytes.ensures c.in_ok-group.group c.in_ok-group.ensures (c.requires.not_root (subst IsSome (sym c.in-Some.is) refl)) c.in-Some.name c.in-Some.is c.requires.free c.in_ok-moment.moment c.in_ok-moment.ensures (get nat_eq c.rename.new.nodes) c.in_ok-rename.ensures.ok (get nat_eq c.change-2.new.nodes) c.change-2.ensures
+returns-clause-ok c =
+    tree_after_rename (get nat_eq c.self.inside.nodes) _ c.self.invariant _ c.self.view_is c.args.number c.requires.there c.args.fields.now
+    c.args.stamp c.requires.file c.in_ok-bytes.bytes c.in_ok-bytes.ensures c.in_ok-group.group c.in_ok-group.ensures
+    (c.requires.not_root (subst IsSome (sym c.in-Some.is) refl)) c.in-Some.name c.in-Some.is c.requires.free c.in_ok-moment.moment
+    c.in_ok-moment.ensures (get nat_eq c.rename.new.nodes) c.in_ok-rename.ensures.ok (get nat_eq c.change-2.new.nodes) c.change-2.ensures

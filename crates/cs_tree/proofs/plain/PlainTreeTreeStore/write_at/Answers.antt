@@ -10,10 +10,16 @@ pub write-requires-clause-vers : goal.write-requires-clause-vers
 write-requires-clause-vers c = can_stamp (get nat_eq c.self.inside.nodes) _ c.self.invariant _ c.self.view_is c.args.number c.requires.vers
 
 pub invariant_of-self : goal.invariant_of-self
-invariant_of-self c = subst (λ v. IsHeld v (c.self.inside.greatest + 1)) (one_table (get nat_eq c.self.inside.nodes) (get nat_eq c.write.new.nodes) c.in_err-write.ensures.err) c.self.invariant
+invariant_of-self c =
+    subst (λ v. IsHeld v (c.self.inside.greatest + 1))
+    (one_table (get nat_eq c.self.inside.nodes) (get nat_eq c.write.new.nodes) c.in_err-write.ensures.err) c.self.invariant
 
 pub invariant_of-self-2 : goal.invariant_of-self-2
-invariant_of-self-2 c = held_written (get nat_eq c.self.inside.nodes) _ c.self.invariant _ c.self.view_is c.args.number c.requires.file c.args.offset c.args.bytes.now c.args.stamp (get nat_eq c.write.new.nodes) c.in_ok-write.ensures.ok
+invariant_of-self-2 c =
+    held_written (get nat_eq c.self.inside.nodes) _ c.self.invariant _ c.self.view_is c.args.number c.requires.file c.args.offset
+    c.args.bytes.now c.args.stamp (get nat_eq c.write.new.nodes) c.in_ok-write.ensures.ok
 
 pub returns-clause-ok : goal.returns-clause-ok
-returns-clause-ok c = tree_written (get nat_eq c.self.inside.nodes) _ c.self.invariant _ c.self.view_is c.args.number c.requires.file c.args.offset c.args.bytes.now c.args.stamp (get nat_eq c.write.new.nodes) c.in_ok-write.ensures.ok
+returns-clause-ok c =
+    tree_written (get nat_eq c.self.inside.nodes) _ c.self.invariant _ c.self.view_is c.args.number c.requires.file c.args.offset
+    c.args.bytes.now c.args.stamp (get nat_eq c.write.new.nodes) c.in_ok-write.ensures.ok

@@ -11,4 +11,5 @@ with-requires c =
     let i = c.loop-row.row-index in
     ap (λ (rows : List Row). is_known rows c.in_ok-try_clone.field-0.name) c.loop-row.invariant
     ∙ ap (λ (row : Row). is_known (take i items) row.name) c.in_ok-try_clone.ensures
-    ∙ unknown_before items i c.row-item.result (subst AreNamed (sym c.deref-row-items.ensures.value) c.self.invariant.named) c.loop-row-test.true (get_or_read items i c.row-item.result c.loop-row-test.true c.row-item.is)
+    ∙ unknown_before items i c.row-item.result (subst AreNamed (sym c.deref-row-items.ensures.value) c.self.invariant.named)
+    c.loop-row-test.true (get_or_read items i c.row-item.result c.loop-row-test.true c.row-item.is)

@@ -8,4 +8,6 @@ invariant_of-result c =
     let key : c.in_ok-name.name.items ≡ c.args.row.name = cc (c.in_ok-name.ensures.items, c.name.ensures.value) in
     let last : c.len.result ≡ length c.self.inside.rows.items = omega (arith, c.len.ensures) in
     let fresh : is_known c.self.inside.rows.items c.args.row.name ≡ false = rw c.self.view_is c.requires in
-    rw c.in_ok-push.ensures.items (IsIndexed-inserted c.self.inside.rows.items c.args.row c.in_ok-name.name.items c.len.result c.self.inside.places c.insert.new.self c.self.invariant key c.name.ensures.legal fresh last c.in_ok-insert.ensures.updates)
+    rw c.in_ok-push.ensures.items
+    (IsIndexed-inserted c.self.inside.rows.items c.args.row c.in_ok-name.name.items c.len.result c.self.inside.places c.insert.new.self
+    c.self.invariant key c.name.ensures.legal fresh last c.in_ok-insert.ensures.updates)

@@ -7,12 +7,14 @@ use Rattle.cs_users.proofs.users.Users.is_member.Goals as goal
 
 pub returns-in_default-clause-test : goal.returns-in_default-clause-test
 returns-in_default-clause-test c =
-    sym (is_member-no_user c.args.self.now c.args.user.now c.args.group.now (place_seen c.self.inside.rows c.args.self.now c.args.user.now _ _ c.self.view_is c.place_of.ensures c.in_default.is))
+    sym (is_member-no_user c.args.self.now c.args.user.now c.args.group.now
+    (place_seen c.self.inside.rows c.args.self.now c.args.user.now _ _ c.self.view_is c.place_of.ensures c.in_default.is))
 
 pub returns-in_default-clause-member : goal.returns-in_default-clause-member
 returns-in_default-clause-member c =
     Decides-at _ _
-    (sym (is_member-no_user c.args.self.now c.args.user.now c.args.group.now (place_seen c.self.inside.rows c.args.self.now c.args.user.now _ _ c.self.view_is c.place_of.ensures c.in_default.is)))
+    (sym (is_member-no_user c.args.self.now c.args.user.now c.args.group.now
+    (place_seen c.self.inside.rows c.args.self.now c.args.user.now _ _ c.self.view_is c.place_of.ensures c.in_default.is)))
     (is_member-decides c.args.self.now c.args.user.now c.args.group.now)
 
 pub returns-in-Some-place_of-clause-test : goal.returns-in-Some-place_of-clause-test
@@ -33,10 +35,12 @@ returns-in-Some-place_of-clause-member c =
 
 pub returns-in-None-clause-test : goal.returns-in-None-clause-test
 returns-in-None-clause-test c =
-    sym (is_member-no_group c.args.self.now c.args.user.now c.args.group.now (place_seen c.self.inside.rows c.args.self.now c.args.group.now _ _ c.self.view_is c.place_of-2.ensures c.in-None.is))
+    sym (is_member-no_group c.args.self.now c.args.user.now c.args.group.now
+    (place_seen c.self.inside.rows c.args.self.now c.args.group.now _ _ c.self.view_is c.place_of-2.ensures c.in-None.is))
 
 pub returns-in-None-clause-member : goal.returns-in-None-clause-member
 returns-in-None-clause-member c =
     Decides-at _ _
-    (sym (is_member-no_group c.args.self.now c.args.user.now c.args.group.now (place_seen c.self.inside.rows c.args.self.now c.args.group.now _ _ c.self.view_is c.place_of-2.ensures c.in-None.is)))
+    (sym (is_member-no_group c.args.self.now c.args.user.now c.args.group.now
+    (place_seen c.self.inside.rows c.args.self.now c.args.group.now _ _ c.self.view_is c.place_of-2.ensures c.in-None.is)))
     (is_member-decides c.args.self.now c.args.user.now c.args.group.now)

@@ -9,9 +9,11 @@ use Rattle.cs_users.proofs.users.Users.knows.Goals as goal
 
 pub returns-clause-known : goal.returns-clause-known
 returns-clause-known c =
-    Decides-at _ _ (c.knows.ensures ∙ ap (λ (rows : List Row). is_known rows c.args.name.now) c.self.view_is) (is_known-decides c.args.self.now c.args.name.now)
+    Decides-at _ _ (c.knows.ensures ∙ ap (λ (rows : List Row). is_known rows c.args.name.now) c.self.view_is)
+    (is_known-decides c.args.self.now c.args.name.now)
 
 pub returns-clause-legal : goal.returns-clause-legal
 returns-clause-legal c = λ known.
-    IsUserName-known c.args.self.now c.args.name.now (kept_named c.self.inside.rows c.self.inside.groups.items c.self.invariant c.args.self.now c.self.view_is)
+    IsUserName-known c.args.self.now c.args.name.now
+    (kept_named c.self.inside.rows c.self.inside.groups.items c.self.invariant c.args.self.now c.self.view_is)
     (sym (c.knows.ensures ∙ ap (λ (rows : List Row). is_known rows c.args.name.now) c.self.view_is) ∙ known)

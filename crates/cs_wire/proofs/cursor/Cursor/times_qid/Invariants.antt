@@ -7,6 +7,7 @@ use Rattle.cs_wire.proofs.cursor.Cursor.times_qid.Given as goal
 
 abbrev pub invariant-loop : goal.invariant-loop
 invariant-loop l = record {
-  read : with_front (map qid_of (items_of l.qids)) (times_at (field_at qid_shape) (l.count - l.counter) l.self.rest.now) ≡ times_at (field_at qid_shape) l.count l.fn.self.rest.now;
+  read : with_front (map qid_of (items_of l.qids)) (times_at (field_at qid_shape) (l.count - l.counter) l.self.rest.now)
+      ≡ times_at (field_at qid_shape) l.count l.fn.self.rest.now;
   so_many : l.qids.count ≡ l.counter;
 }

@@ -8,6 +8,7 @@ use Rattle.cs_wire.proofs.cursor.Cursor.times_text.Given as goal
 
 abbrev pub invariant-loop : goal.invariant-loop
 invariant-loop l = record {
-  read : with_front (texts_in (items_of l.names)) (times_at (field_at Text) (l.count - l.counter) l.self.rest.now) ≡ times_at (field_at Text) l.count l.fn.self.rest.now;
+  read : with_front (texts_in (items_of l.names)) (times_at (field_at Text) (l.count - l.counter) l.self.rest.now)
+      ≡ times_at (field_at Text) l.count l.fn.self.rest.now;
   so_many : l.names.count ≡ l.counter;
 }

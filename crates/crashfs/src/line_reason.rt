@@ -1,0 +1,83 @@
+//! Why a line of a trace is refused, in words.
+
+use serde_json::{Map, Value};
+use std::alloc::{AllocError, Global};
+
+/// The keys that lines have.
+const KEYS: [&str; 16] = [
+    "trace", "profile", "block", "start", "op", "path", "from", "to", "owner", "group", "mode",
+    "bytes", "offset", "length", "text", "note",
+];
+
+/// The versions of traces.
+const VERSIONS: [u64; 3] = [1, 2, 3];
+
+fn is_mode(text: &str) -> bool {
+    text.len() == 3 && text.bytes().all(|digit| (b'0'..=b'7').contains(&digit))
+}
+
+fn is_version(value: &Value) -> bool {
+    match value.as_u64() {
+        Some(version) => VERSIONS.contains(&version),
+        None => false,
+    }
+}
+
+/// Why the value of a key is refused, if its own form says so; or the key.
+fn reason_of_field(alloc: Global, key: &str, value: &Value) -> Result<Option<String>, AllocError> {
+    let reason = match key {
+        "trace" if !is_version(value) => format!(in alloc;
+            "version {value} is not known (1, 2, 3)"
+        ),
+        "mode" if !value.as_str().is_some_and(is_mode) => {
+            format!(in alloc; "mode {value} is not three octal digits")
+        }
+        "bytes" if value.as_str().is_some_and(|digits| digits.len() % 2 != 0) => {
+            format!(in alloc; "bytes has an odd number of digits")
+        }
+        _ if !KEYS.contains(&key) => format!(in alloc; "unknown key \"{key}\""),
+        _ => return Ok(None),
+    };
+    Ok(Some(reason?))
+}
+
+/// The first reason among the members of a line.
+fn reason_of_members(
+    alloc: Global,
+    members: Map<String, Value>,
+) -> Result<Option<String>, AllocError> {
+    for (key, value) in members {
+        let reason = reason_of_field(alloc, key.as_str(), &value)?;
+        if reason.is_some() {
+            return Ok(reason);
+        }
+    }
+    Ok(None)
+}
+
+/// Why a line has not the form of a line, if that can be said.
+pub fn reason_of_syntax(alloc: Global, line: &str) -> Result<Option<String>, AllocError> {
+    if line.is_empty() {
+        return Ok(Some("the file has no line".to_string(alloc)?));
+    }
+    if line.starts_with('\u{feff}') {
+        return Ok(Some("it starts with a byte order mark".to_string(alloc)?));
+    }
+    match Value::from_str(alloc, line) {
+        Ok(Value::Object(members)) => reason_of_members(alloc, members),
+        _ => Ok(Some("it is no JSON object".to_string(alloc)?)),
+    }
+}
+
+/// The operation, or the kind of a start line, that is not known.
+pub fn reason_of_op(alloc: Global, line: &str) -> Result<Option<String>, AllocError> {
+    let Ok(value) = Value::from_str(alloc, line) else {
+        return Ok(None);
+    };
+    for key in ["op", "start"] {
+        if let Some(name) = value.get(key) {
+            return Ok(Some(format!(in alloc; "unknown {key} {name}")?));
+        }
+    }
+    Ok(None)
+}

@@ -1,0 +1,124 @@
+//! Why a command ended with a fault, in a second line for people. Its first line is for scripts.
+
+use crate::ask::{Ask, Job};
+use crate::line_reason::{reason_of_op, reason_of_syntax};
+use cs_archive::States;
+use cs_names::limits::{MICRO_OPERATIONS, PLAN_STATES};
+use cs_plan::SceneFault;
+use cs_serve::{Inputs, ProgramFault, scene_of};
+use cs_trace::{TraceFault, TraceFaultKind};
+use std::alloc::{AllocError, Global};
+use std::io::Write;
+
+/// The line of that number of a text; lines count from 1. The first line of an empty text is empty.
+fn line_at(text: &str, number: usize) -> &str {
+    text.split('\n').nth(number.saturating_sub(1)).unwrap_or("")
+}
+
+/// Why a trace is refused, if more can be said than its fault.
+fn reason_of_trace(
+    alloc: Global,
+    trace: &[u8],
+    fault: &TraceFault,
+) -> Result<Option<String>, AllocError> {
+    let line = line_at(std::str::from_utf8(trace).unwrap_or(""), fault.line);
+    match fault.kind {
+        TraceFaultKind::Syntax => reason_of_syntax(alloc, line),
+        TraceFaultKind::UnknownOp => reason_of_op(alloc, line),
+        _ => Ok(None),
+    }
+}
+
+/// How many states there are, by these inputs with or without holes.
+fn count_of(alloc: Global, inputs: &Inputs, holes: bool) -> Option<usize> {
+    let inputs = Inputs { holes, ..*inputs };
+    let scene = scene_of(alloc, &inputs).ok()?;
+    Some(scene.plan().len())
+}
+
+/// The greatest number among the states.
+fn greatest_of(states: &States) -> u32 {
+    match states {
+        States::One(number) => *number,
+        States::Each(ranges) => ranges.iter().map(|range| range.last).max().unwrap_or(0),
+    }
+}
+
+/// How many states there are, if one past the last is asked for.
+fn reason_of_number(
+    alloc: Global,
+    inputs: &Inputs,
+    states: &States,
+) -> Result<Option<String>, AllocError> {
+    let Some(count) = count_of(alloc, inputs, inputs.holes) else {
+        return Ok(None);
+    };
+    if (greatest_of(states) as usize) < count {
+        return Ok(None);
+    }
+    let with_holes = match count_of(alloc, inputs, true) {
+        Some(with_holes) if !inputs.holes => with_holes,
+        _ => return Ok(Some(format!(in alloc; "there are {count} states")?)),
+    };
+    let text = format!(in alloc; "there are {count} states; with --holes {with_holes}")?;
+    Ok(Some(text))
+}
+
+/// Why a trace is refused, with the place of its line.
+fn reason_at_line(
+    alloc: Global,
+    inputs: &Inputs,
+    path: &str,
+    fault: &TraceFault,
+) -> Result<Option<String>, AllocError> {
+    let Some(reason) = reason_of_trace(alloc, inputs.trace, fault)? else {
+        return Ok(None);
+    };
+    let line = fault.line;
+    let text = format!(in alloc; "{path}:{line}: {reason}")?;
+    Ok(Some(text))
+}
+
+/// Why there is no plan.
+fn reason_of_scene(alloc: Global, fault: &SceneFault) -> Result<Option<String>, AllocError> {
+    let text = match fault {
+        SceneFault::TooMany => {
+            let most = MICRO_OPERATIONS;
+            format!(in alloc;
+                "a trace has at most {most} micro-operations: record a shorter session"
+            )
+        }
+        SceneFault::PlanTooLarge => {
+            let most = PLAN_STATES;
+            format!(in alloc; "a plan has at most {most} states: leave holes or picks out")
+        }
+        SceneFault::PickNotAllowed(_) => {
+            format!(in alloc; "a pick must have each operation that one of its places needs")
+        }
+        SceneFault::Memory => return Ok(None),
+    };
+    Ok(Some(text?))
+}
+
+/// What more can be said of the fault that ended a command.
+fn reason_of(alloc: Global, inputs: &Inputs, ask: &Ask) -> Result<Option<String>, AllocError> {
+    match scene_of(alloc, inputs) {
+        Err(ProgramFault::Trace(fault)) => {
+            reason_at_line(alloc, inputs, ask.wanted.trace, &fault)
+        }
+        Err(ProgramFault::Scene(fault)) => reason_of_scene(alloc, &fault),
+        Err(_) => Ok(None),
+        Ok(_) => match &ask.job {
+            Job::Tar(states) => reason_of_number(alloc, inputs, states),
+            _ => Ok(None),
+        },
+    }
+}
+
+/// After a fault, prints on `err` what more can be said of it: of a line of the trace, of the plan,
+/// or of the number of a state.
+pub fn explain<E: Write>(alloc: Global, inputs: &Inputs, ask: &Ask, err: &mut E) {
+    if let Ok(Some(reason)) = reason_of(alloc, inputs, ask) {
+        let _unheard = writeln!(err, "crashfs: {reason}");
+    }
+}

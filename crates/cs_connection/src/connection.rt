@@ -1,0 +1,88 @@
+//! One connection, from its beginning to its hang-up.
+ghost use Rattle.std.specs.Prelude.{◌≡◌, Err};
+ghost use Rattle.cs_connection.specs.Served.{HasEnded, ConversationOf, WasRefused};
+ghost use Rattle.cs_session.specs.Serving.{FaultsHaveCauses};
+
+use crate::kept::ConnectionRuns;
+use crate::port::SharedPort;
+use crate::server::Server;
+use cs_session::{Clock, ServeFault, serve_stream};
+use cs_shared_runs::ServerBrand;
+use cs_stream::Stream;
+use std::alloc::Global;
+use std::marker::Model;
+use std::sync::Wait;
+
+/// What came of a connection: how its stream was served, and what it kept. Contracts see both. It
+/// was served from its beginning to its hang-up, or there was no memory for its thread.
+#[derive(Drop)]
+pub struct Connection<S: ServerBrand> {
+    result: Result<(), ServeFault>,
+    kept: ConnectionRuns<S>,
+}
+
+impl<S: ServerBrand> Model for Connection<S> {
+    ghost use Rattle.cs_connection.specs.Served as model;
+
+    ghost Value = { model.Ended };
+
+    ghost view = { λ c. record { result = c.result; kept = c.kept } };
+
+    ghost invariant = { λ c. model.HasEnded S.serves
+        (record { result = c.result; kept = c.kept }) };
+}
+
+impl<S: ServerBrand> Connection<S> {
+    /// That of a stream for whose thread there was no memory: nothing was read.
+    pub fn unserved(alloc: Global) -> Connection<S>
+        ensures { WasRefused result }
+    {
+        Connection {
+            result: Err(ServeFault::Memory),
+            kept: ConnectionRuns::none(alloc),
+        }
+    }
+
+    /// How its stream was served.
+    pub fn result(&self) -> Result<(), ServeFault>
+        ensures value { result ≡ self.now.result }
+        ensures ended { HasEnded S.serves self.now }
+    {
+        self.result
+    }
+
+    /// The runs that it found, and the passes that it was given.
+    pub fn kept(&self) -> &ConnectionRuns<S>
+        ensures { result.now ≡ self.now.kept }
+    {
+        &self.kept
+    }
+
+    /// The same, by value.
+    pub fn into_kept(self) -> ConnectionRuns<S>
+        ensures { result ≡ self.kept }
+    {
+        self.kept
+    }
+}
+
+/// Serves a connection to its end, over the runs of the server: its messages are answered in order,
+/// each at its moment, and it hangs up, whatever comes of it.
+pub fn serve_connection<S: ServerBrand, R: Wait, T: Stream, C: Clock>(
+    rt: &R,
+    alloc: Global,
+    server: &Server<S>,
+    stream: &mut T,
+    clock: &mut C,
+) -> Connection<S>
+    ensures serves { ConversationOf S.serves result (T.remaining stream.old)
+        (T.remaining stream.new) (T.contents stream.old) (T.contents stream.new) }
+    ensures faults { FaultsHaveCauses result.result (T.counts stream.old) (T.counts stream.new) }
+{
+    let mut port = SharedPort::new(rt, alloc, server.registry());
+    let result = serve_stream(alloc, stream, &mut port, clock);
+    Connection {
+        result,
+        kept: port.into_kept(),
+    }
+}

@@ -1,0 +1,112 @@
+//! The passes that connections were given, by the runs that gave them.
+ghost use Rattle.std.specs.Prelude.{◌≡◌, ◌++◌, ◌∷◌, [], OnErr, OnOk};
+ghost use Rattle.cs_connection.specs.Given.{KeepsFront, KeepsNone, KeepsPass, KeepsPasses};
+ghost use Rattle.cs_connection.specs.Given.{passes_of};
+ghost use Rattle.cs_connection.specs.Kept.{AreInside};
+
+use crate::connection::Connection;
+use crate::kept::GivenPass;
+use cs_journal::Pass;
+use cs_registry::RunKey;
+use cs_shared_runs::{ServerBrand, SharedRun};
+use indexmap::IndexMap;
+use std::alloc::{AllocError, Global};
+use std::marker::Model;
+
+/// The passes of the connections that ended, by the keys of their runs: what the runs are audited
+/// with. Contracts see for each key the passes of its run.
+#[derive(Drop)]
+pub struct GivenPasses {
+    runs: IndexMap<RunKey, Vec<Pass>>,
+}
+
+impl Model for GivenPasses {
+    ghost use Rattle.std.specs.Prelude.{map};
+    ghost use Rattle.cs_connection.specs.Given as model;
+
+    ghost Value = { model.Given };
+
+    ghost view = { λ given. map (λ run. (run.0, run.1.items)) given.runs.entries };
+}
+
+/// Adds a pass. Drops it if an allocation fails.
+fn push_pass(passes: &mut Vec<Pass>, pass: Pass) -> Result<(), AllocError>
+    ensures kept { OnOk result (passes.new.items ≡ passes.old.items ++ pass ∷ []) }
+    ensures refused { OnErr result (passes.new.items ≡ passes.old.items) }
+{
+    match passes.push(pass) {
+        Ok(()) => Ok(()),
+        Err(_) => Err(AllocError),
+    }
+}
+
+impl GivenPasses {
+    /// No connection ended.
+    pub fn new(alloc: Global) -> GivenPasses
+        ensures { result ≡ [] }
+    {
+        GivenPasses {
+            runs: IndexMap::new(alloc),
+        }
+    }
+
+    /// Keeps a pass of the run of that key. Drops it if an allocation fails.
+    fn push(&mut self, alloc: Global, key: RunKey, pass: Pass) -> Result<(), AllocError>
+        ensures kept { OnOk result (KeepsPass self.old key pass self.new) }
+        ensures refused { OnErr result (KeepsNone self.old self.new) }
+    {
+        if let Some(passes) = self.runs.get_mut(&key) {
+            return push_pass(passes, pass);
+        }
+        let mut passes = Vec::new(alloc);
+        push_pass(&mut passes, pass)?;
+        match self.runs.insert(key, passes) {
+            Ok(_) => Ok(()),
+            Err(_) => Err(AllocError),
+        }
+    }
+
+    /// Keeps these passes of these runs.
+    fn push_each<S: ServerBrand>(
+        &mut self,
+        alloc: Global,
+        runs: &[SharedRun<S>],
+        passes: Vec<GivenPass>,
+    ) -> Result<(), AllocError>
+        requires { AreInside runs.now passes.items }
+        ensures kept { OnOk result (KeepsPasses self.old
+            (record { runs = runs.now; passes = passes.items }) self.new) }
+        ensures refused { OnErr result (KeepsFront self.old
+            (record { runs = runs.now; passes = passes.items }) self.new) }
+    {
+        for given in passes {
+            let key = runs[given.run as usize].key().again();
+            self.push(alloc, key, given.pass)?;
+        }
+        Ok(())
+    }
+
+    /// Keeps the passes of a connection that ended. If an allocation fails, drops the rest of them:
+    /// an audit of their runs then counts too few receipts.
+    pub fn keep<S: ServerBrand>(
+        &mut self,
+        alloc: Global,
+        connection: Connection<S>,
+    ) -> Result<(), AllocError>
+        ensures kept { OnOk result (KeepsPasses self.old connection.kept self.new) }
+        ensures refused { OnErr result (KeepsFront self.old connection.kept self.new) }
+    {
+        let (runs, passes) = connection.into_kept().into_parts();
+        self.push_each(alloc, &runs, passes)
+    }
+
+    /// Those of the run of that key, in the order in which they were kept.
+    pub fn of(&self, key: &RunKey) -> &[Pass]
+        ensures { result.now ≡ passes_of self.now key.now }
+    {
+        match self.runs.get(key) {
+            Some(passes) => passes.as_slice(),
+            None => &[],
+        }
+    }
+}

@@ -1,0 +1,16 @@
+//! Many connections at once: each over runs that threads share.
+#![tactic(auto)]
+
+mod connection;
+mod given;
+mod kept;
+mod port;
+mod server;
+mod streams;
+
+pub use connection::{Connection, serve_connection};
+pub use given::GivenPasses;
+pub use kept::{ConnectionRuns, GivenPass};
+pub use port::SharedPort;
+pub use server::Server;
+pub use streams::serve_streams;

@@ -1,0 +1,36 @@
+//! What all connections of a server share.
+ghost use Rattle.std.specs.Prelude.{◌≡◌};
+
+use cs_shared_runs::{ServerBrand, SharedRegistry};
+use std::marker::Model;
+
+/// A server: the published states and their runs, which the threads of its connections share by
+/// reference. Contracts see the scene.
+#[derive(Drop)]
+pub struct Server<S: ServerBrand> {
+    registry: SharedRegistry<S>,
+}
+
+impl<S: ServerBrand> Model for Server<S> {
+    ghost use Rattle.cs_plan.specs.Scenes as model;
+
+    ghost Value = { model.Scene };
+
+    ghost view = { λ server. server.registry };
+}
+
+impl<S: ServerBrand> Server<S> {
+    /// A server of this registry.
+    pub fn new(registry: SharedRegistry<S>) -> Server<S>
+        ensures { result ≡ registry }
+    {
+        Server { registry }
+    }
+
+    /// Its registry, in which states may be published while connections are served.
+    pub fn registry(&self) -> &SharedRegistry<S>
+        ensures { result.now ≡ self.now }
+    {
+        &self.registry
+    }
+}

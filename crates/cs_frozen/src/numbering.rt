@@ -1,0 +1,92 @@
+//! The table of fresh numbers.
+ghost use Rattle.std.specs.Prelude.{◌≡◌, ◌≤◌, ◌<◌, cond, List, ℕ, Some, IfOk, OnOk, slice_get};
+ghost use Rattle.std.specs.BTreeMap.{get, values, IsOrdered};
+ghost use Rattle.std.specs.Option.{option_map_or};
+ghost use Rattle.std.specs.Ordering.{is_eq};
+ghost use Rattle.cs_tree_model.specs.Tree.{IsTree, NameBytes, path_cmp, number_at};
+ghost use Rattle.cs_frozen.specs.Numbers.{IsNumbered};
+
+use cs_names::Path;
+use cs_tree_model::{TreeRead, path_of};
+use std::alloc::{AllocError, Global};
+use std::collections::BTreeMap;
+
+/// Enters a path, if there is one.
+fn enter(paths: &mut BTreeMap<Path, u64>, path: Option<Path>, number: u64) -> Result<(), AllocError>
+    ensures { OnOk result
+        ((q : List NameBytes)
+        → get path_cmp paths.new q
+        ≡ option_map_or (λ p. cond (is_eq (path_cmp p q)) (Some number) (get path_cmp paths.old q))
+        path (get path_cmp paths.old q)) }
+{
+    if let Some(path) = path {
+        paths.insert(path, number)?;
+    }
+    Ok(())
+}
+
+/// The numbers of a tree's files, which are all below the end, by their paths.
+fn by_path<T: TreeRead>(
+    alloc: Global,
+    tree: &T,
+    end: u64,
+) -> Result<BTreeMap<Path, u64>, AllocError>
+    requires is_tree { IsTree (T.tree tree.now) }
+    requires end { (T.tree tree.now).next ≤ end }
+    ensures { IfOk result
+        (λ paths. (q : List NameBytes) → get path_cmp paths q ≡ number_at (T.tree tree.now) q) }
+{
+    let mut paths = BTreeMap::new(alloc);
+    for number in 0..end {
+        let path = path_of(alloc, tree, number)?;
+        enter(&mut paths, path, number)?;
+    }
+    Ok(paths)
+}
+
+/// The numbers in the order of their paths; the count is how many they are.
+fn in_order(
+    alloc: Global,
+    paths: &BTreeMap<Path, u64>,
+    count: usize,
+) -> Result<Vec<u64>, AllocError>
+    ensures items { IfOk result (λ numbers. numbers.items ≡ values paths.now) }
+    ensures ordered { OnOk result (IsOrdered path_cmp paths.now) }
+{
+    let mut numbers = Vec::with_capacity(alloc, count)?;
+    for number in paths.values() {
+        numbers.push(*number)?;
+    }
+    Ok(numbers)
+}
+
+/// At each of the numbers, which differ and are below the end, its place among them.
+fn places_of(alloc: Global, numbers: &[u64], end: u64) -> Result<Vec<u64>, AllocError>
+    requires below { (i : ℕ) (n : ℕ) → slice_get numbers.now i ≡ Some n → n < end }
+    requires apart { (i : ℕ) (j : ℕ) (n : ℕ) → slice_get numbers.now i ≡ Some n
+        → slice_get numbers.now j ≡ Some n → i ≡ j }
+    ensures { IfOk result
+        (λ places. (i : ℕ) (n : ℕ) → slice_get numbers.now i ≡ Some n
+        → slice_get places.items n ≡ Some i) }
+{
+    let mut places = vec![in alloc; 0u64; end as usize]?;
+    for place in 0..numbers.len() {
+        places[numbers[place] as usize] = place as u64;
+    }
+    Ok(places)
+}
+
+/// The tree's own number for each fresh one, and the fresh one at each of the tree's own.
+pub fn table<T: TreeRead>(alloc: Global, tree: &T) -> Result<(Vec<u64>, Vec<u64>), AllocError>
+    ensures { IfOk result (λ table. IsNumbered (T.tree tree.now) table.0.items table.1.items) }
+{
+    let count = tree.count();
+    let Some(end) = tree.last_number().checked_add(1) else {
+        // more numbers than any memory holds
+        return Err(AllocError);
+    };
+    let paths = by_path(alloc, tree, end)?;
+    let numbers = in_order(alloc, &paths, count)?;
+    let places = places_of(alloc, &numbers, end)?;
+    Ok((numbers, places))
+}

@@ -1,0 +1,118 @@
+//! What is asked for a rename.
+ghost use Rattle.std.specs.Prelude.{◌≡◌, IfOk, [], ◌∷◌};
+ghost use Rattle.cs_wire.specs.Messages.{stat_of, t_view};
+ghost use Rattle.cs_linux.specs.Requests.{asks_name_alone, dot, is_directory, tclunk, tremove};
+ghost use Rattle.cs_linux.specs.Requests.{tstat, twalk, twstat};
+
+use cs_wire::{Qid, Stat, TBody, TMessage};
+use std::alloc::{AllocError, Global};
+
+/// The fid that a rename takes for itself: the greatest but for NOFID. Linux's client takes the
+/// least that are free.
+pub const OWN_FID: u32 = 0xffff_fffe;
+
+/// The bit of a qid's kind that a directory has (intro(5)).
+pub const QTDIR: u8 = 0x80;
+
+const NO_QID: Qid = Qid {
+    kind: u8::MAX,
+    vers: u32::MAX,
+    path: u64::MAX,
+};
+
+/// Whether a stat asks for a new name and for nothing else: all else says "don't touch" (stat(5)).
+pub fn is_rename(stat: &Stat) -> bool
+    ensures { result ≡ asks_name_alone (stat_of stat.now) }
+{
+    let untouched = stat.kind == u16::MAX && stat.dev == u32::MAX && stat.qid == NO_QID;
+    let kept = stat.mode == u32::MAX && stat.length == u64::MAX;
+    let times = stat.atime == u32::MAX && stat.mtime == u32::MAX;
+    let users = stat.uid.is_empty() && stat.gid.is_empty() && stat.muid.is_empty();
+    untouched && kept && times && users
+}
+
+/// Whether the file is a directory.
+pub(crate) fn is_directory(qid: Qid) -> bool
+    ensures { result ≡ is_directory qid }
+{
+    QTDIR <= qid.kind
+}
+
+pub(crate) fn tstat(tag: u16, fid: u32) -> TMessage<'static>
+    ensures { t_view result ≡ tstat tag fid }
+{
+    TMessage {
+        tag,
+        body: TBody::Stat { fid },
+    }
+}
+
+/// A walk by one name.
+pub(crate) fn twalk(
+    alloc: Global,
+    tag: u16,
+    fid: u32,
+    name: &str,
+) -> Result<TMessage<'static>, AllocError>
+    ensures { IfOk result (λ m. t_view m ≡ twalk tag fid (name.now ∷ [])) }
+{
+    let mut wname = Vec::new(alloc);
+    wname.push(String::from_str(alloc, name)?)?;
+    Ok(TMessage {
+        tag,
+        body: TBody::Walk {
+            fid,
+            newfid: OWN_FID,
+            wname,
+        },
+    })
+}
+
+/// A walk by a name and on by a dot, by which no walk goes on: so no fid is made.
+pub(crate) fn twalk_on(
+    alloc: Global,
+    tag: u16,
+    fid: u32,
+    name: &str,
+) -> Result<TMessage<'static>, AllocError>
+    ensures { IfOk result (λ m. t_view m ≡ twalk tag fid (name.now ∷ dot ∷ [])) }
+{
+    let mut wname = Vec::new(alloc);
+    wname.push(String::from_str(alloc, name)?)?;
+    wname.push(String::from_str(alloc, ".")?)?;
+    Ok(TMessage {
+        tag,
+        body: TBody::Walk {
+            fid,
+            newfid: OWN_FID,
+            wname,
+        },
+    })
+}
+
+pub(crate) fn tremove(tag: u16) -> TMessage<'static>
+    ensures { t_view result ≡ tremove tag }
+{
+    TMessage {
+        tag,
+        body: TBody::Remove { fid: OWN_FID },
+    }
+}
+
+pub(crate) fn tclunk(tag: u16) -> TMessage<'static>
+    ensures { t_view result ≡ tclunk tag }
+{
+    TMessage {
+        tag,
+        body: TBody::Clunk { fid: OWN_FID },
+    }
+}
+
+pub(crate) fn twstat(tag: u16, fid: u32, stat: Stat) -> TMessage<'static>
+    ensures { t_view result ≡ twstat tag fid (stat_of stat) }
+{
+    TMessage {
+        tag,
+        body: TBody::Wstat { fid, stat },
+    }
+}

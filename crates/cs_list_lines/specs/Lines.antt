@@ -1,0 +1,34 @@
+-- Which line of a trace's text each micro-operation came from.
+use Rattle.std.specs.Prelude.{ℕ, ◌+◌, List, [], ◌∷◌, cond, length, replicate, slice_index}
+use Rattle.std.specs.List.{enumerate_from, flat_map}
+use Rattle.cs_trace_lines.specs.Lines.{is_blank}
+use Rattle.cs_trace.specs.States.{lines_in}
+use Rattle.cs_trace.specs.Traces.{Trace}
+use Rattle.cs_trace.specs.declared.operation.Operation.{Operation}
+use Rattle.cs_micro.specs.MicroOperations.{micros_of}
+use Rattle.cs_micro.specs.Micros.{block_of_version}
+
+-- the number of a line with its place, if it says something; lines count from 1
+abbrev pub line_number_if_said : ℕ × List ℕ → List ℕ
+line_number_if_said e = cond (is_blank e.1) [] ((e.0 + 1) ∷ [])
+
+-- the numbers of the lines that say something
+abbrev pub lines_told : List (List ℕ) → List ℕ
+lines_told lines = flat_map line_number_if_said (enumerate_from 0 lines)
+
+-- an operation's line for each of its micro-operations, for a block size in bytes; so many lines
+-- come before those of operations
+abbrev pub line_of : ℕ → List ℕ → ℕ → ℕ × Operation → List ℕ
+line_of block lines first e =
+    replicate (length (micros_of block e.1)) (slice_index lines (first + e.0))
+
+abbrev pub spread : ℕ → List ℕ → ℕ → List Operation → List ℕ
+spread block lines first operations =
+    flat_map (line_of block lines first) (enumerate_from 0 operations)
+
+-- the line of each micro-operation: the header and the lines of the start, which make one record
+-- each, come before those of the operations
+abbrev pub lines_of : List ℕ → Trace → List ℕ
+lines_of text trace =
+    spread (block_of_version trace.version) (lines_told (lines_in text)) (length trace.records)
+    trace.operations

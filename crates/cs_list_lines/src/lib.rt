@@ -1,0 +1,14 @@
+//! What `list` prints in addition to the micro-operations and the states: where each came from,
+//! which states have equal trees, and all of it as JSON.
+#![tactic(auto)]
+
+mod json;
+mod json_listing;
+mod lines;
+mod listing;
+mod paths;
+mod printed;
+
+pub use lines::lines_of;
+pub use listing::{ListOptions, list_with};
+pub use printed::{OpLine, Origin, StateLine};

@@ -1,0 +1,97 @@
+//! The lines that are printed of a micro-operation and of a state.
+ghost use Rattle.std.specs.Prelude.{◌≡◌, ◌++◌, Some, codes, decimal};
+ghost use Rattle.std.specs.Option.{option_copied};
+ghost use Rattle.cs_micro.specs.Texts.{op_text};
+ghost use Rattle.cs_plan.specs.Texts.{recipe_text};
+ghost use Rattle.cs_list_lines.specs.Printed.{origin_text, same_text};
+
+use cs_micro::MicroOp;
+use cs_names::Path;
+use cs_plan::Recipe;
+use std::fmt;
+
+/// Where a micro-operation came from, if that is asked for: the line of the trace, and of a change
+/// of a file the path that the file has there.
+#[derive(Clone, Copy)]
+pub struct Origin<'a> {
+    pub line: Option<usize>,
+    pub path: Option<&'a Path>,
+}
+
+impl fmt::Display for Origin<'_> {
+    ghost output = { λ origin. Some (origin_text origin.line (option_copied origin.path)) };
+
+    fn fmt<W: fmt::Write>(&self, f: &mut fmt::Formatter<W>) -> fmt::Result {
+        match (self.line, self.path) {
+            (None, _) => Ok(()),
+            (Some(line), None) => write!(f, " line {line}"),
+            (Some(line), Some(path)) => write!(f, " line {line} {path}"),
+        }
+    }
+}
+
+/// A micro-operation with its place and its origin.
+#[derive(Clone, Copy)]
+pub struct OpLine<'a> {
+    pub place: usize,
+    pub op: &'a MicroOp,
+    pub origin: Origin<'a>,
+}
+
+impl fmt::Display for OpLine<'_> {
+    ghost output = { λ l. Some
+        (codes "op "
+        ++ (decimal l.place
+        ++ (codes " "
+        ++ (op_text l.op.now
+        ++ (origin_text l.origin.line (option_copied l.origin.path) ++ codes "\n"))))) };
+
+    fn fmt<W: fmt::Write>(&self, f: &mut fmt::Formatter<W>) -> fmt::Result {
+        write!(f, "op {} {}{}\n", self.place, self.op, self.origin)
+    }
+}
+
+/// The first state with an equal tree, if it is asked for.
+#[derive(Clone, Copy)]
+struct Same {
+    first: Option<u32>,
+}
+
+impl fmt::Display for Same {
+    ghost output = { λ same. Some (same_text same.first) };
+
+    fn fmt<W: fmt::Write>(&self, f: &mut fmt::Formatter<W>) -> fmt::Result {
+        match self.first {
+            None => Ok(()),
+            Some(first) => write!(f, " same {first}"),
+        }
+    }
+}
+
+/// A state: its number, its recipe, how many acknowledged lines it has, and the first state with
+/// an equal tree, if that is asked for.
+#[derive(Clone, Copy)]
+pub struct StateLine<'a> {
+    pub number: usize,
+    pub recipe: &'a Recipe,
+    pub says: u32,
+    pub first: Option<u32>,
+}
+
+impl fmt::Display for StateLine<'_> {
+    ghost output = { λ l. Some
+        (codes "state "
+        ++ (decimal l.number
+        ++ (codes " "
+        ++ (recipe_text l.recipe.now
+        ++ (codes " says " ++ (decimal l.says ++ (same_text l.first ++ codes "\n"))))))) };
+
+    fn fmt<W: fmt::Write>(&self, f: &mut fmt::Formatter<W>) -> fmt::Result {
+        let same = Same { first: self.first };
+        write!(
+            f,
+            "state {} {} says {}{same}\n",
+            self.number, self.recipe, self.says
+        )
+    }
+}

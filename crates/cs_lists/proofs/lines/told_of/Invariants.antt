@@ -1,8 +1,0 @@
-use Rattle.std.proofs.Common.{◌≡◌, length, take}
-use Rattle.std.specs.List.{enumerate_from, flat_map}
-use Rattle.cs_trace.specs.States.{lines_in}
-use Rattle.cs_lists.specs.Lines.{told}
-use Rattle.cs_lists.proofs.lines.told_of.Given as goal
-
-abbrev pub invariant-loop-place : goal.invariant-loop-place
-invariant-loop-place l = l.numbers.items ≡ flat_map told (take (length l.yielded) (enumerate_from 0 (lines_in l.text)))

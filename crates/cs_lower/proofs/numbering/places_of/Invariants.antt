@@ -1,5 +1,0 @@
-use Rattle.cs_lower.proofs.Tabling.{PlacedSoFar}
-use Rattle.cs_lower.proofs.numbering.places_of.Given as goal
-
-abbrev pub invariant-loop-place : goal.invariant-loop-place
-invariant-loop-place l = PlacedSoFar l.numbers l.places.items l.end l.place

@@ -1,7 +1,0 @@
-use Rattle.std.proofs.Common.{◌<◌, ℕ, get_or}
-use Rattle.cs_apm.specs.Rules.{op_at}
-use Rattle.cs_same.specs.Parts.{IsAlikeBy}
-use Rattle.cs_same.proofs.leaving.are_alike_by.Given as goal
-
-abbrev pub invariant-loop-place : goal.invariant-loop-place
-invariant-loop-place l = (k : ℕ) → k < l.place-index → IsAlikeBy l.pair l.slots.fixed.now l.slots.first.now l.slots.second.now (op_at l.pair.ops.now (get_or l.places k 0))

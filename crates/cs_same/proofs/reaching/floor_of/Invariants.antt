@@ -1,7 +1,0 @@
-use Rattle.std.proofs.Common.{◌≡◌, fold, take}
-use Rattle.cs_names.specs.declared.limits.TheConstants.{FILE_BYTES}
-use Rattle.cs_same.specs.Reaching.{floor_after}
-use Rattle.cs_same.proofs.reaching.floor_of.Given as goal
-
-abbrev pub invariant-loop-op : goal.invariant-loop-op
-invariant-loop-op l = l.floor ≡ fold (floor_after l.file) FILE_BYTES (take l.op-index l.ops)

@@ -1,0 +1,161 @@
+//! Whether two sets are seen to leave equal trees, with none of the trees made.
+ghost use Rattle.std.specs.Prelude.{◌≡◌, ◌<◌, ℕ, length, slice_index_or, IfOk, IsTrue};
+ghost use Rattle.cs_micro.specs.Micros.{micros_in};
+ghost use Rattle.cs_apm.specs.Contents.{IsSmall};
+ghost use Rattle.cs_apm.specs.Orders.{needs_of};
+ghost use Rattle.cs_apm.specs.Rules.{op_at};
+ghost use Rattle.cs_apm.specs.Sets.{IsAllowed};
+ghost use Rattle.cs_apm.specs.States.{crash_state_of};
+ghost use Rattle.cs_plan.specs.Scenes.{micros_of};
+ghost use Rattle.cs_same_states.specs.Fixed.{AreFixed};
+ghost use Rattle.cs_same_states.specs.Pairs.{AreAllowed, IsPair};
+ghost use Rattle.cs_same_states.specs.Parts.{AreParts, IsAlikeBy};
+ghost use Rattle.cs_same_states.specs.Places.{AreListed};
+
+use crate::differing::differing;
+use crate::pairs::{Pair, is_settled};
+use crate::parts::Parts;
+use crate::reaching::changed_file;
+use crate::standing::{are_all_alike, flag_at, stands_in_both};
+use crate::touched::Touched;
+use cs_apm::slot::Slot;
+use cs_micro::MicroOp;
+use cs_plan::Scene;
+use std::alloc::{AllocError, Global};
+
+/// What two sets leave in the slots that some step changes, and for each file whether it is in
+/// another.
+#[derive(Clone, Copy)]
+struct Slots<'a> {
+    first: &'a [Slot],
+    second: &'a [Slot],
+    fixed: &'a [bool],
+}
+
+/// Whether the micro-operation's file is left alike in the part that it changes, or has no slot.
+fn is_alike_by(
+    alloc: Global,
+    pair: &Pair<'_>,
+    slots: &Slots<'_>,
+    op: &MicroOp,
+) -> Result<bool, AllocError>
+    requires pair { IsPair pair.now }
+    requires long { length slots.now.first.now ≡ length slots.now.second.now }
+    requires small { IsSmall op.now }
+    ensures { IfOk result
+        (λ same. IsTrue same
+        → IsAlikeBy pair.now slots.now.fixed.now slots.now.first.now slots.now.second.now op.now) }
+{
+    let Some(file) = changed_file(op) else {
+        return Ok(true);
+    };
+    if flag_at(slots.fixed, file) || stands_in_both(slots.first, slots.second, file) {
+        is_settled(alloc, pair, file, op)
+    } else {
+        Ok(true)
+    }
+}
+
+/// The same of the micro-operation at a place.
+fn is_alike_at(
+    alloc: Global,
+    pair: &Pair<'_>,
+    slots: &Slots<'_>,
+    place: u32,
+) -> Result<bool, AllocError>
+    requires pair { IsPair pair.now }
+    requires long { length slots.now.first.now ≡ length slots.now.second.now }
+    ensures { IfOk result
+        (λ same. IsTrue same
+        → IsAlikeBy pair.now slots.now.fixed.now slots.now.first.now slots.now.second.now
+        (op_at pair.now.ops.now place)) }
+{
+    let Some(op) = pair.ops.get(place as usize) else {
+        return Ok(true);
+    };
+    is_alike_by(alloc, pair, slots, op)
+}
+
+/// Whether each file in a slot is left alike in what one of the micro-operations at these places
+/// changes.
+fn are_alike_by(
+    alloc: Global,
+    pair: &Pair<'_>,
+    slots: &Slots<'_>,
+    places: &[u32],
+) -> Result<bool, AllocError>
+    requires pair { IsPair pair.now }
+    requires long { length slots.now.first.now ≡ length slots.now.second.now }
+    ensures { IfOk result
+        (λ same. IsTrue same → (k : ℕ) → k < length places.now
+        → IsAlikeBy pair.now slots.now.fixed.now slots.now.first.now slots.now.second.now
+        (op_at pair.now.ops.now (slice_index_or places.now k 0))) }
+{
+    for place in places {
+        if !is_alike_at(alloc, pair, slots, *place)? {
+            return Ok(false);
+        }
+    }
+    Ok(true)
+}
+
+/// Whether both leave equal trees: what is in the slots is alike, and what is in only one of them
+/// leaves the files in the slots as they are in the other.
+fn are_alike(
+    alloc: Global,
+    pair: &Pair<'_>,
+    touched: &Touched,
+    fixed: &[bool],
+) -> Result<bool, AllocError>
+    requires allowed { AreAllowed pair.now }
+    requires touched { AreListed pair.now.tables.now.slots.items pair.now.tables.now.steps.items
+        touched.now }
+    requires fixed { AreFixed pair.now.tables.now touched.now.ids.items fixed.now }
+    ensures { IfOk result
+        (λ same. IsTrue same
+        → crash_state_of pair.now.trace.now (micros_in pair.now.trace.now) pair.now.places.now
+        ≡ crash_state_of pair.now.trace.now (micros_in pair.now.trace.now) pair.now.others.now) }
+{
+    let first = touched.left(alloc, pair.places)?;
+    let second = touched.left(alloc, pair.others)?;
+    if !are_all_alike(alloc, pair, &first, &second)? {
+        return Ok(false);
+    }
+    let slots = Slots {
+        first: &first,
+        second: &second,
+        fixed,
+    };
+    let found = differing(alloc, pair.places, pair.others)?;
+    are_alike_by(alloc, pair, &slots, &found)
+}
+
+/// Whether two sets are seen to leave equal trees. Of files that are the same in both, only the
+/// bytes are read that only one of the two changes; whole files are read if two are in each other's
+/// place.
+pub fn are_seen_equal(
+    alloc: Global,
+    scene: &Scene,
+    parts: &Parts,
+    places: &[u32],
+    others: &[u32],
+) -> Result<bool, AllocError>
+    requires parts { AreParts scene.now.trace parts.now }
+    requires first { IsAllowed (needs_of (micros_of scene.now)) (length (micros_of scene.now).ops)
+        places.now }
+    requires second { IsAllowed (needs_of (micros_of scene.now)) (length (micros_of scene.now).ops)
+        others.now }
+    ensures { IfOk result
+        (λ same. IsTrue same
+        → crash_state_of scene.now.trace (micros_of scene.now) places.now
+        ≡ crash_state_of scene.now.trace (micros_of scene.now) others.now) }
+{
+    let pair = Pair {
+        trace: scene.trace(),
+        ops: scene.micros().ops(),
+        tables: &parts.tables,
+        places,
+        others,
+    };
+    are_alike(alloc, &pair, &parts.touched, &parts.fixed)
+}

@@ -1,0 +1,37 @@
+//! Which micro-operations a state has.
+ghost use Rattle.std.specs.Prelude.{◌≡◌, ◌<◌, length, Some, IfOk};
+ghost use Rattle.cs_apm.specs.Orders.{needs_of};
+ghost use Rattle.cs_apm.specs.Sets.{IsAllowed};
+ghost use Rattle.cs_plan.specs.Scenes.{micros_of, set_at};
+
+use cs_apm::laws::rules_are_sentences;
+use cs_plan::Scene;
+use cs_plan::members::places_of;
+use std::alloc::{AllocError, Global};
+
+/// The places of the micro-operations of the state of that number, in the trace's order.
+pub fn places_at(alloc: Global, scene: &Scene, number: u32) -> Result<Vec<u32>, AllocError>
+    requires { number < length scene.now.plan }
+    ensures set { IfOk result (λ places. set_at scene.now number ≡ Some places.items) }
+    ensures allowed { IfOk result
+        (λ places. IsAllowed (needs_of (micros_of scene.now)) (length (micros_of scene.now).ops)
+        places.items) }
+{
+    let Some(recipe) = scene.plan().recipe(number) else {
+        return Err(AllocError);
+    };
+    rules_are_sentences(scene.micros());
+    let places = places_of(alloc, scene.order(), recipe)?;
+    Ok(places)
+}
+
+/// For each of so many micro-operations whether its place is among these.
+pub fn members_of(alloc: Global, count: usize, places: &[u32]) -> Result<Vec<bool>, AllocError> {
+    let mut members = vec![in alloc; false; count]?;
+    for place in places {
+        if let Some(member) = members.get_mut(*place as usize) {
+            *member = true;
+        }
+    }
+    Ok(members)
+}

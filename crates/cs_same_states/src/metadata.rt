@@ -1,0 +1,53 @@
+//! Whether two records say the same beside their bytes.
+ghost use Rattle.std.specs.Prelude.{◌≡◌, ◌↔◌, IsTrue};
+ghost use Rattle.cs_tree_model.specs.Record.{metadata_of_ref};
+
+use cs_names::UserName;
+use cs_tree_model::{Kind, Metadata};
+
+pub(crate) fn are_same_names(name: &UserName, other: &UserName) -> bool
+    ensures { IsTrue result ↔ (name.now ≡ other.now) }
+{
+    name == other
+}
+
+fn are_same_kinds(kind: Kind, other: Kind) -> bool
+    ensures { IsTrue result ↔ (kind ≡ other) }
+{
+    kind == other
+}
+
+/// Whether the same users have to do with both.
+fn have_same_users(metadata: &Metadata<'_>, other: &Metadata<'_>) -> bool
+    ensures { IsTrue result ↔
+        ((metadata.now.owner.now ≡ other.now.owner.now)
+        × (metadata.now.group.now ≡ other.now.group.now)
+        × (metadata.now.muid.now ≡ other.now.muid.now)) }
+{
+    are_same_names(metadata.owner, other.owner)
+        && are_same_names(metadata.group, other.group)
+        && are_same_names(metadata.muid, other.muid)
+}
+
+/// Whether both have the same numbers.
+fn have_same_numbers(metadata: &Metadata<'_>, other: &Metadata<'_>) -> bool
+    ensures { IsTrue result ↔
+        ((metadata.now.number ≡ other.now.number) × (metadata.now.vers ≡ other.now.vers)
+        × (metadata.now.mode ≡ other.now.mode) × (metadata.now.atime ≡ other.now.atime)
+        × (metadata.now.mtime ≡ other.now.mtime)) }
+{
+    metadata.number == other.number
+        && metadata.vers == other.vers
+        && metadata.mode == other.mode
+        && metadata.atime == other.atime
+        && metadata.mtime == other.mtime
+}
+
+/// Whether two records say the same beside their bytes. It takes no memory.
+pub fn are_same_metadata(metadata: &Metadata<'_>, other: &Metadata<'_>) -> bool
+    ensures { IsTrue result ↔ (metadata_of_ref metadata.now ≡ metadata_of_ref other.now) }
+{
+    have_same_numbers(metadata, other)
+        && have_same_users(metadata, other)
+        && are_same_kinds(metadata.kind, other.kind)
+}

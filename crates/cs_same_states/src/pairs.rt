@@ -1,0 +1,168 @@
+//! Whether two sets leave the same of a file.
+ghost use Rattle.std.specs.Prelude.{◌≡◌, ◌≤◌, ◌+◌, ◌<◌, ◌^◌, ◌↔◌, ℕ, length, IfOk, IsTrue};
+ghost use Rattle.cs_apm.specs.Atlases.{AreStarts, content_before};
+ghost use Rattle.std.specs.List.{All};
+ghost use Rattle.cs_apm.specs.Contents.{IsSmall, content_left};
+ghost use Rattle.cs_apm.specs.States.{visible};
+ghost use Rattle.cs_state.specs.Windows.{byte_of, whole_content};
+ghost use Rattle.cs_same_states.specs.Pairs.{IsPair, IsSettled, first_content, first_owner};
+ghost use Rattle.cs_same_states.specs.Pairs.{second_content, second_owner};
+
+use crate::metadata::are_same_names;
+use crate::reaching::{Span, floor_of, reached, size_left};
+use crate::windows::window_left;
+use cs_apm::content::FileContent;
+use cs_apm::owners::owner_left;
+use cs_apm::tables::Tables;
+use cs_micro::MicroOp;
+use cs_trace::{Rights, Trace};
+use std::alloc::{AllocError, Global};
+
+/// Two sets of a trace's micro-operations.
+#[derive(Clone, Copy)]
+pub struct Pair<'a> {
+    pub trace: &'a Trace,
+    pub ops: &'a [MicroOp],
+    pub tables: &'a Tables,
+    pub places: &'a [u32],
+    pub others: &'a [u32],
+}
+
+/// The bytes of the file at the start; one that is made has none.
+fn start_bytes<'a>(trace: &'a Trace, _ops: &[MicroOp], tables: &Tables, file: usize) -> &'a [u8]
+    requires { AreStarts trace.now tables.now.starts.items }
+    ensures { whole_content result.now ≡ content_before trace.now _ops.now file }
+{
+    let starts = &tables.starts;
+    if file >= starts.len() {
+        return &[];
+    }
+    let record = &trace.records()[starts[file] as usize].1;
+    record.content.bytes().unwrap_or(&[])
+}
+
+/// Whether they are the same owner, group and permissions.
+pub fn are_same_rights(rights: &Rights, others: &Rights) -> bool
+    ensures { IsTrue result → rights.now ≡ others.now }
+{
+    are_same_names(&rights.owner, &others.owner)
+        && are_same_names(&rights.group, &others.group)
+        && rights.permissions == others.permissions
+}
+
+/// Whether the sets leave the same size and the same bytes there of the file.
+fn are_same_windows(
+    alloc: Global,
+    pair: &Pair<'_>,
+    start: &[u8],
+    file: u32,
+    span: Span,
+) -> Result<bool, AllocError>
+    requires pair { IsPair pair.now }
+    requires few { span.offset + span.count < 2 ^ 64 }
+    requires start { whole_content start.now
+        ≡ content_before pair.now.trace.now pair.now.ops.now file }
+    ensures size { IfOk result
+        (λ same. IsTrue same
+        → (first_content pair.now file).size ≡ (second_content pair.now file).size) }
+    ensures bytes { IfOk result
+        (λ same. IsTrue same → (i : ℕ) → span.offset ≤ i → i < span.offset + span.count
+        → byte_of (first_content pair.now file) i ≡ byte_of (second_content pair.now file) i) }
+{
+    let offset = span.offset as usize;
+    let count = span.count as usize;
+    let window = window_left(alloc, start, file, pair.ops, pair.places, offset, count)?;
+    let other = window_left(alloc, start, file, pair.ops, pair.others, offset, count)?;
+    if window.size != other.size {
+        return Ok(false);
+    }
+    Ok(window.bytes == other.bytes)
+}
+
+/// Whether the sets leave the same owner, group and permissions of the one file and the other.
+fn are_same_owners(pair: &Pair<'_>, file: u32, other: u32) -> bool
+    requires pair { IsPair pair.now }
+    requires first { file < length pair.now.tables.now.owners.items }
+    requires second { other < length pair.now.tables.now.owners.items }
+    ensures { IsTrue result → first_owner pair.now file ≡ second_owner pair.now other }
+{
+    let owners = &pair.tables.owners;
+    let owner = owner_left(owners, pair.ops, pair.places, file);
+    let another = owner_left(owners, pair.ops, pair.others, other);
+    are_same_rights(owner, another)
+}
+
+/// Whether the sets leave the same size, owner, group and permissions of the file, and the same
+/// bytes in the part that the micro-operation reaches.
+pub fn is_settled(
+    alloc: Global,
+    pair: &Pair<'_>,
+    file: u32,
+    op: &MicroOp,
+) -> Result<bool, AllocError>
+    requires pair { IsPair pair.now }
+    requires small { IsSmall op.now }
+    ensures { IfOk result (λ same. IsTrue same → IsSettled pair.now file op.now) }
+{
+    if file as usize >= pair.tables.owners.len() {
+        return Ok(false);
+    }
+    if !are_same_owners(pair, file, file) {
+        return Ok(false);
+    }
+    let start = start_bytes(pair.trace, pair.ops, pair.tables, file as usize);
+    let size = size_left(file, start.len() as u64, pair.ops, pair.places);
+    let span = reached(op, floor_of(pair.ops, file), size);
+    are_same_windows(alloc, pair, start, file, span)
+}
+
+/// All bytes that a set leaves of the file.
+fn bytes_left(
+    alloc: Global,
+    pair: &Pair<'_>,
+    places: &[u32],
+    file: u32,
+) -> Result<Vec<u8>, AllocError>
+    requires pair { IsPair pair.now }
+    requires inside { All (λ place. place < length pair.now.ops.now) places.now }
+    ensures { IfOk result
+        (λ bytes. bytes.items
+        ≡ visible
+        (content_left file (content_before pair.now.trace.now pair.now.ops.now file)
+        pair.now.ops.now places.now)) }
+{
+    let start = start_bytes(pair.trace, pair.ops, pair.tables, file as usize);
+    let mut content = FileContent::of(Vec::from_slice(alloc, start)?);
+    content.take(file, pair.ops, places)?;
+    content.into_visible()
+}
+
+/// Whether the one set leaves of the one file what the other leaves of the other: all their bytes
+/// are compared.
+pub fn are_same_files(
+    alloc: Global,
+    pair: &Pair<'_>,
+    file: u32,
+    other: u32,
+) -> Result<bool, AllocError>
+    requires pair { IsPair pair.now }
+    ensures owner { IfOk result
+        (λ same. IsTrue same → first_owner pair.now file ≡ second_owner pair.now other) }
+    ensures bytes { IfOk result
+        (λ same. IsTrue same
+        → visible (first_content pair.now file) ≡ visible (second_content pair.now other)) }
+    ensures known { IfOk result
+        (λ same. IsTrue same → (file < length pair.now.tables.now.owners.items)
+        × (other < length pair.now.tables.now.owners.items)) }
+{
+    let count = pair.tables.owners.len();
+    if file as usize >= count || other as usize >= count {
+        return Ok(false);
+    }
+    if !are_same_owners(pair, file, other) {
+        return Ok(false);
+    }
+    let bytes = bytes_left(alloc, pair, pair.places, file)?;
+    let others = bytes_left(alloc, pair, pair.others, other)?;
+    Ok(bytes == others)
+}

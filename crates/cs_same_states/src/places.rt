@@ -1,0 +1,80 @@
+//! The paths at which the states of a trace may differ.
+use cs_micro::MicroOp;
+use cs_names::Path;
+use cs_trace::Target;
+use std::alloc::{AllocError, Global};
+use std::collections::BTreeMap;
+
+/// The paths that some micro-operation touches, those of the directories whose rights one sets, and
+/// all those of the start's files that one changes.
+#[derive(Debug, Drop)]
+pub struct Places {
+    pub paths: Vec<Path>,
+    /// The place of each among them.
+    pub by_path: BTreeMap<Path, usize>,
+}
+
+impl Places {
+    pub fn new(alloc: Global) -> Places {
+        Places {
+            paths: Vec::new(alloc),
+            by_path: BTreeMap::new(alloc),
+        }
+    }
+
+    fn add(&mut self, alloc: Global, path: &Path) -> Result<(), AllocError> {
+        if self.by_path.contains_key(path) {
+            return Ok(());
+        }
+        let place = self.paths.len();
+        self.paths.push(path.try_clone(alloc)?)?;
+        self.by_path.insert(path.try_clone(alloc)?, place)?;
+        Ok(())
+    }
+
+    /// Adds the paths of a file of the start; a file that is made has none there.
+    fn add_start(
+        &mut self,
+        alloc: Global,
+        starts: &[Vec<Path>],
+        file: u32,
+    ) -> Result<(), AllocError> {
+        if let Some(paths) = starts.get(file as usize) {
+            for path in paths {
+                self.add(alloc, path)?;
+            }
+        }
+        Ok(())
+    }
+
+    /// Adds the paths of a micro-operation: those that it touches, that of the directory, or those
+    /// of the start's file that it changes. The paths of the start's files are given by their
+    /// numbers.
+    pub fn add_touched(
+        &mut self,
+        alloc: Global,
+        starts: &[Vec<Path>],
+        op: &MicroOp,
+    ) -> Result<(), AllocError> {
+        match op {
+            MicroOp::CreateDirEntry { path, .. }
+            | MicroOp::DeleteDirEntry { path, .. }
+            | MicroOp::LinkDirEntry { path, .. } => self.add(alloc, path),
+            MicroOp::MoveDirEntry { from, to } => {
+                self.add(alloc, from)?;
+                self.add(alloc, to)
+            }
+            MicroOp::SetAttr {
+                target: Target::Directory(path),
+                ..
+            } => self.add(alloc, path),
+            MicroOp::ChangeFileSize { file, .. }
+            | MicroOp::WriteBlock { file, .. }
+            | MicroOp::SetAttr {
+                target: Target::File(file),
+                ..
+            } => self.add_start(alloc, starts, *file),
+            MicroOp::Say => Ok(()),
+        }
+    }
+}

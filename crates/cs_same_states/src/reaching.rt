@@ -1,0 +1,125 @@
+//! Which bytes of a file a micro-operation reaches.
+ghost use Rattle.std.specs.Prelude.{◌≡◌, ◌+◌, ◌<◌, ◌≤◌, ◌^◌, true, ℕ, fold, length, map};
+ghost use Rattle.std.specs.List.{All};
+ghost use Rattle.cs_apm.specs.Contents.{IsSmall};
+ghost use Rattle.cs_apm.specs.Rules.{op_at};
+ghost use Rattle.cs_state.specs.Windows as windows;
+ghost use Rattle.cs_same_states.specs.Reaching as reaching;
+ghost use Rattle.cs_same_states.specs.Reaching.{floor_after, floor_in, reaches};
+
+use cs_micro::MicroOp;
+use cs_names::limits::FILE_BYTES;
+use cs_trace::Target;
+
+/// So many bytes from an offset on.
+#[derive(Clone, Copy, Debug)]
+pub struct Span {
+    pub offset: u64,
+    pub count: u64,
+}
+
+/// The file that the micro-operation changes, or whose owner, group and permissions it sets.
+pub fn changed_file(op: &MicroOp) -> Option<u32>
+    ensures { result ≡ reaching.changed_file op.now }
+{
+    match op {
+        MicroOp::ChangeFileSize { file, .. }
+        | MicroOp::WriteBlock { file, .. }
+        | MicroOp::SetAttr {
+            target: Target::File(file),
+            ..
+        } => Some(*file),
+        _ => None,
+    }
+}
+
+/// The lesser of a floor and the size that the micro-operation gives the file.
+fn floor_after(file: u32, floor: u64, op: &MicroOp) -> u64
+    ensures { result ≡ floor_after file floor op.now }
+{
+    match op {
+        MicroOp::ChangeFileSize {
+            file: other,
+            length,
+        } => {
+            if *other == file && *length < floor {
+                *length
+            } else {
+                floor
+            }
+        }
+        _ => floor,
+    }
+}
+
+/// The least size that a micro-operation gives the file: no change of its size reaches what lies
+/// before.
+pub fn floor_of(ops: &[MicroOp], file: u32) -> u64
+    ensures { result ≡ floor_in ops.now file }
+{
+    let mut floor = FILE_BYTES;
+    for op in ops {
+        floor = floor_after(file, floor, op);
+    }
+    floor
+}
+
+/// The size after a micro-operation.
+fn size_after(file: u32, size: u64, op: &MicroOp) -> u64
+    ensures { result ≡ windows.size_after file size op.now }
+{
+    match op {
+        MicroOp::ChangeFileSize {
+            file: other,
+            length,
+        } => { if *other == file { *length } else { size } }
+        _ => size,
+    }
+}
+
+/// The size that a set leaves of the file, which had this size.
+pub fn size_left(file: u32, size: u64, ops: &[MicroOp], places: &[u32]) -> u64
+    requires { All (λ place. place < length ops.now) places.now }
+    ensures { result ≡ fold (windows.size_after file) size (map (op_at ops.now) places.now) }
+{
+    let mut left = size;
+    for place in places {
+        left = size_after(file, left, &ops[*place as usize]);
+    }
+    left
+}
+
+/// The bytes from the one on, before the other.
+fn between(from: u64, end: u64) -> Span
+    ensures few { result.offset + result.count < 2 ^ 64 }
+    ensures all { (i : ℕ) → from ≤ i → i < end → (result.offset ≤ i)
+        × (i < result.offset + result.count) }
+{
+    Span {
+        offset: from,
+        count: end.saturating_sub(from),
+    }
+}
+
+/// The bytes that the micro-operation reaches of its file before the end, where it has this floor
+/// and this size.
+pub fn reached(op: &MicroOp, floor: u64, size: u64) -> Span
+    requires { IsSmall op.now }
+    ensures few { result.offset + result.count < 2 ^ 64 }
+    ensures all { (file i : ℕ) → i < size → reaches floor file i op.now ≡ true → (result.offset ≤ i)
+        × (i < result.offset + result.count) }
+{
+    match op {
+        MicroOp::ChangeFileSize { .. } => between(floor, size),
+        MicroOp::WriteBlock {
+            start,
+            at,
+            bytes,
+            ..
+        } => {
+            let from = *start + *at;
+            between(from, size.min(from + bytes.as_slice().len() as u64))
+        }
+        _ => between(0, 0),
+    }
+}

@@ -1,0 +1,173 @@
+//! For each state of a plan the first one with an equal tree.
+ghost use Rattle.std.specs.Prelude.{◌≡◌, ◌<◌, ◌≤◌, ◌^◌, ◌↔◌, ℕ, length, slice_index, IfOk, IfSome};
+ghost use Rattle.std.specs.Prelude.{IsTrue};
+ghost use Rattle.std.specs.Arc.{arc_value};
+ghost use Rattle.cs_plan.specs.Scenes.{state_at};
+ghost use Rattle.cs_same_states.specs.Firsts.{AreFirsts, IsSame};
+ghost use Rattle.cs_same_states.specs.Parts.{AreParts};
+
+use crate::digests::Digests;
+use crate::leaving::are_seen_equal;
+use crate::members::{members_of, places_at};
+use crate::parts::Parts;
+use crate::trees::are_same_trees;
+use cs_plan::Scene;
+use std::alloc::{AllocError, Global};
+use std::collections::BTreeMap;
+use std::sync::Arc;
+
+/// Whether the states of two numbers of a plan have equal trees. Both are made for this.
+pub fn are_same_states(
+    alloc: Global,
+    scene: &Arc<Scene>,
+    number: u32,
+    other: u32,
+) -> Result<bool, AllocError>
+    requires first { number < length (arc_value scene.now).plan }
+    requires second { other < length (arc_value scene.now).plan }
+    ensures { IfOk result
+        (λ same. IsTrue same ↔
+        (state_at (arc_value scene.now) number ≡ state_at (arc_value scene.now) other)) }
+{
+    let Ok(made) = Scene::make(alloc, scene, number) else {
+        return Err(AllocError);
+    };
+    let Ok(others) = Scene::make(alloc, scene, other) else {
+        return Err(AllocError);
+    };
+    are_same_trees(alloc, made.store(), others.store())
+}
+
+/// Whether the states of two numbers are seen to have equal trees. None is made for this.
+pub fn are_seen_same(
+    alloc: Global,
+    scene: &Arc<Scene>,
+    parts: &Parts,
+    number: u32,
+    other: u32,
+) -> Result<bool, AllocError>
+    requires parts { AreParts (arc_value scene.now).trace parts.now }
+    requires first { number < length (arc_value scene.now).plan }
+    requires second { other < length (arc_value scene.now).plan }
+    ensures { IfOk result
+        (λ same. IsTrue same
+        → state_at (arc_value scene.now) number ≡ state_at (arc_value scene.now) other) }
+{
+    let places = places_at(alloc, scene, number)?;
+    let others = places_at(alloc, scene, other)?;
+    are_seen_equal(alloc, scene, parts, &places, &others)
+}
+
+/// Whether the states of two numbers have equal trees. They are made only if it can't be seen
+/// without.
+fn are_equal(
+    alloc: Global,
+    scene: &Arc<Scene>,
+    parts: &Parts,
+    number: u32,
+    other: u32,
+) -> Result<bool, AllocError>
+    requires parts { AreParts (arc_value scene.now).trace parts.now }
+    requires first { number < length (arc_value scene.now).plan }
+    requires second { other < length (arc_value scene.now).plan }
+    ensures { IfOk result
+        (λ same. IsTrue same ↔
+        (state_at (arc_value scene.now) number ≡ state_at (arc_value scene.now) other)) }
+{
+    if are_seen_same(alloc, scene, parts, number, other)? {
+        return Ok(true);
+    }
+    are_same_states(alloc, scene, number, other)
+}
+
+/// The place among these numbers of the first that is less than this one and whose state has its
+/// tree.
+fn place_among(
+    alloc: Global,
+    scene: &Arc<Scene>,
+    parts: &Parts,
+    numbers: &[u32],
+    number: u32,
+) -> Result<Option<usize>, AllocError>
+    requires parts { AreParts (arc_value scene.now).trace parts.now }
+    requires there { number < length (arc_value scene.now).plan }
+    ensures there { IfOk result
+        (λ place. IfSome place
+        (λ k. (k < length numbers.now) × (slice_index numbers.now k < number))) }
+    ensures equal { IfOk result
+        (λ place. IfSome place
+        (λ k. state_at (arc_value scene.now) (slice_index numbers.now k)
+        ≡ state_at (arc_value scene.now) number)) }
+{
+    for (place, other) in numbers.iter().enumerate() {
+        if *other < number && are_equal(alloc, scene, parts, *other, number)? {
+            return Ok(Some(place));
+        }
+    }
+    Ok(None)
+}
+
+/// The first state with the tree of this one, whose digest is given: that of the last state with
+/// that digest and tree, if there is one. This state is then kept in its place, since those that
+/// come close after one another differ by little.
+fn first_of(
+    alloc: Global,
+    scene: &Arc<Scene>,
+    parts: &Parts,
+    found: &mut BTreeMap<u64, Vec<u32>>,
+    firsts: &[u32],
+    digest: u64,
+) -> Result<u32, AllocError>
+    requires parts { AreParts (arc_value scene.now).trace parts.now }
+    requires there { length firsts.now < length (arc_value scene.now).plan }
+    requires few { length firsts.now < 2 ^ 32 }
+    requires firsts { (k : ℕ) → k < length firsts.now
+        → IsSame (arc_value scene.now) k (slice_index firsts.now k) }
+    ensures { IfOk result (IsSame (arc_value scene.now) (length firsts.now)) }
+{
+    let number = firsts.len() as u32;
+    let Some(numbers) = found.get_mut(&digest) else {
+        found.insert(digest, vec![in alloc; number]?)?;
+        return Ok(number);
+    };
+    let Some(place) = place_among(alloc, scene, parts, numbers, number)? else {
+        numbers.push(number)?;
+        return Ok(number);
+    };
+    let last = numbers[place];
+    numbers[place] = number;
+    Ok(firsts[last as usize])
+}
+
+/// The digest of the state of that number.
+fn digest_at(
+    alloc: Global,
+    scene: &Arc<Scene>,
+    digests: &mut Digests,
+    number: u32,
+) -> Result<u64, AllocError>
+    requires { number < length (arc_value scene.now).plan }
+{
+    let places = places_at(alloc, scene, number)?;
+    let members = members_of(alloc, scene.order().len(), &places)?;
+    digests.digest(alloc, scene, number, &members)
+}
+
+/// For each state of the plan, by its number, the first one with an equal tree: its own number, if
+/// none before it has that. States are compared only if their digests are the same, and a digest
+/// is found from the paths that operations touch and the blocks that they write.
+pub fn first_same(alloc: Global, scene: &Arc<Scene>) -> Result<Vec<u32>, AllocError>
+    ensures { IfOk result (λ firsts. AreFirsts (arc_value scene.now) firsts.items) }
+{
+    let parts = Parts::of(alloc, scene)?;
+    let mut digests = Digests::of(alloc, scene)?;
+    let mut found = BTreeMap::new(alloc);
+    let mut firsts = Vec::new(alloc);
+    for place in 0..scene.plan().len() {
+        let number = place as u32;
+        let digest = digest_at(alloc, scene, &mut digests, number)?;
+        let first = first_of(alloc, scene, &parts, &mut found, &firsts, digest)?;
+        firsts.push(first)?;
+    }
+    Ok(firsts)
+}

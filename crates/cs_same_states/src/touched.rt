@@ -1,0 +1,132 @@
+//! The slots that some step changes, and the steps in these only: the slots of two states are
+//! compared without those that have the same in every state.
+ghost use Rattle.std.specs.Prelude.{◌≡◌, ◌+◌, ◌*◌, ◌<◌, ◌≤◌, ◌^◌, ℕ, fold, length, map, None, IfOk};
+ghost use Rattle.std.specs.Prelude.{IfSome, OnOk};
+ghost use Rattle.std.specs.List.{All};
+ghost use Rattle.cs_apm.specs.Slots.{FitsIn, slot_at, slots_after, step_at};
+ghost use Rattle.cs_same_states.specs.Places.{AreListed, AreRenumbered, HasRank, IsRank};
+ghost use Rattle.cs_same_states.specs.Places.{IsRenumbered};
+ghost use Rattle.cs_same_states.specs.Places.{IsUnlisted, Extends};
+
+use cs_apm::slot::{Slot, Step, fill};
+use std::alloc::{AllocError, Global};
+
+/// The slots that some step changes.
+#[derive(Debug, Drop)]
+pub struct Touched {
+    /// Which they are.
+    pub ids: Vec<u32>,
+    /// What is in them at the start.
+    pub slots: Vec<Slot>,
+    /// The steps, with the slots' places among these.
+    pub steps: Vec<Step>,
+}
+
+/// The place of a slot among these, if it is one of them.
+fn place_of(ids: &[u32], id: u32) -> Option<usize>
+    ensures found { IfSome result (HasRank ids.now id) }
+    ensures none { result ≡ None → IsUnlisted ids.now id }
+{
+    for (place, other) in ids.iter().enumerate() {
+        if *other == id {
+            return Some(place);
+        }
+    }
+    None
+}
+
+/// The place of a slot among these; it is added at their end if it isn't one of them.
+fn rank_of(ids: &mut Vec<u32>, id: u32) -> Result<u32, AllocError>
+    requires { length ids.old.items < 2 ^ 32 }
+    ensures { IfOk result (IsRank ids.old.items ids.new.items id) }
+{
+    if let Some(place) = place_of(ids, id) {
+        return Ok(place as u32);
+    }
+    let place = ids.len() as u32;
+    ids.push(id)?;
+    Ok(place)
+}
+
+/// The step with the places of its slots among these.
+fn renumbered(ids: &mut Vec<u32>, step: Step) -> Result<Step, AllocError>
+    requires { length ids.old.items + 2 < 2 ^ 32 }
+    ensures step { IfOk result (IsRenumbered ids.new.items step) }
+    ensures extends { OnOk result (Extends ids.old.items ids.new.items) }
+    ensures few { OnOk result (length ids.new.items ≤ length ids.old.items + 2) }
+{
+    match step {
+        Step::Set(place, slot) => Ok(Step::Set(rank_of(ids, place)?, slot)),
+        Step::Move(from, to) => {
+            let from = rank_of(ids, from)?;
+            let to = rank_of(ids, to)?;
+            Ok(Step::Move(from, to))
+        }
+        Step::Own(place, rights) => Ok(Step::Own(rank_of(ids, place)?, rights)),
+        Step::Other => Ok(Step::Other),
+    }
+}
+
+/// The steps, each with the places of its slots among these, which are none at first.
+fn renumber_all(alloc: Global, ids: &mut Vec<u32>, steps: &[Step]) -> Result<Vec<Step>, AllocError>
+    requires none { length ids.old.items ≡ 0 }
+    requires few { length steps.now ≤ 2 ^ 20 }
+    ensures { IfOk result (λ made. AreRenumbered ids.new.items steps.now made.items) }
+{
+    let mut made = Vec::new(alloc);
+    for step in steps {
+        made.push(renumbered(ids, *step)?)?;
+    }
+    Ok(made)
+}
+
+/// What is in these slots.
+fn slots_at(alloc: Global, slots: &[Slot], ids: &[u32]) -> Result<Vec<Slot>, AllocError>
+    ensures { IfOk result (λ found. found.items ≡ map (slot_at slots.now) ids.now) }
+{
+    let mut found = Vec::new(alloc);
+    for id in ids {
+        found.push(slots.get(*id as usize).copied().unwrap_or(Slot::Nothing))?;
+    }
+    Ok(found)
+}
+
+/// Leaves nothing in these slots.
+pub fn clear(slots: &mut [Slot], ids: &[u32])
+    ensures long { length slots.new ≡ length slots.old }
+    ensures others { (id : ℕ) → IsUnlisted ids.now id
+        → slot_at slots.new id ≡ slot_at slots.old id }
+{
+    for id in ids {
+        if (*id as usize) < slots.len() {
+            slots[*id as usize] = Slot::Nothing;
+        }
+    }
+}
+
+impl Touched {
+    /// Those of these slots that one of the steps changes.
+    pub fn of(alloc: Global, slots: &[Slot], steps: &[Step]) -> Result<Touched, AllocError>
+        requires { length steps.now ≤ 2 ^ 20 }
+        ensures { IfOk result (λ touched. AreListed slots.now steps.now touched) }
+    {
+        let mut ids = Vec::new(alloc);
+        let steps = renumber_all(alloc, &mut ids, steps)?;
+        let slots = slots_at(alloc, slots, &ids)?;
+        Ok(Touched { ids, slots, steps })
+    }
+
+    /// What the members of a set leave in them.
+    pub fn left(&self, alloc: Global, places: &[u32]) -> Result<Vec<Slot>, AllocError>
+        requires fit { All (FitsIn (length self.now.slots.items)) self.now.steps.items }
+        requires inside { All (λ place. place < length self.now.steps.items) places.now }
+        ensures { IfOk result
+            (λ left. left.items
+            ≡ fold slots_after self.now.slots.items
+            (map (step_at self.now.steps.items) places.now)) }
+    {
+        let mut left = Vec::from_slice(alloc, &self.slots)?;
+        fill(&mut left, &self.steps, places);
+        Ok(left)
+    }
+}

@@ -1,0 +1,123 @@
+//! Whether two trees are equal.
+ghost use Rattle.std.specs.Prelude.{◌≡◌, ◌↔◌, IfOk, IsTrue};
+ghost use Rattle.cs_tree_model.specs.Record.{metadata_of};
+ghost use Rattle.cs_tree_model.specs.Tree.{bytes_at, name_numbered, parent_numbered};
+ghost use Rattle.cs_tree_model.specs.Tree.{record_numbered};
+ghost use Rattle.std.specs.Option.{option_copied};
+ghost use Rattle.cs_same_states.specs.Trees.{AreSameAt};
+
+use crate::metadata::are_same_metadata;
+use cs_names::Name;
+use cs_names::laws::know;
+use cs_tree_model::{Kind, TreeRead};
+use std::alloc::{AllocError, Global};
+
+fn are_same_parents<A: TreeRead, B: TreeRead>(tree: &A, other: &B, number: u64) -> bool
+    ensures { IsTrue result ↔
+        (parent_numbered (A.tree tree.now) number ≡ parent_numbered (B.tree other.now) number) }
+{
+    tree.parent_of(number) == other.parent_of(number)
+}
+
+fn is_same_name(name: Option<&Name>, other: Option<&Name>) -> bool
+    ensures { IsTrue result ↔ (option_copied name.entry ≡ option_copied other.entry) }
+{
+    match (name, other) {
+        (None, None) => true,
+        (Some(name), Some(other)) => name == other,
+        _ => false,
+    }
+}
+
+fn are_same_names<A: TreeRead, B: TreeRead>(tree: &A, other: &B, number: u64) -> bool
+    ensures { IsTrue result ↔
+        (name_numbered (A.tree tree.now) number ≡ name_numbered (B.tree other.now) number) }
+{
+    is_same_name(tree.name_of(number), other.name_of(number))
+}
+
+/// Whether the first so many bytes of two files are the same.
+fn are_same_bytes<A: TreeRead, B: TreeRead>(
+    alloc: Global,
+    tree: &A,
+    other: &B,
+    number: u64,
+    count: usize,
+) -> Result<bool, AllocError>
+    ensures { IfOk result
+        (λ same. IsTrue same ↔
+        (bytes_at (A.tree tree.now) number 0 count ≡ bytes_at (B.tree other.now) number 0 count)) }
+{
+    let bytes = tree.read_at(alloc, number, 0, count)?;
+    let others = other.read_at(alloc, number, 0, count)?;
+    Ok(bytes == others)
+}
+
+/// Whether the number has the same record in both.
+fn are_same_records<A: TreeRead, B: TreeRead>(
+    alloc: Global,
+    tree: &A,
+    other: &B,
+    number: u64,
+) -> Result<bool, AllocError>
+    ensures { IfOk result
+        (λ same. IsTrue same ↔
+        (record_numbered (A.tree tree.now) number ≡ record_numbered (B.tree other.now) number)) }
+{
+    let Some(metadata) = tree.record(number) else {
+        return Ok(other.record(number).is_none());
+    };
+    let Some(others) = other.record(number) else {
+        return Ok(false);
+    };
+    if !are_same_metadata(&metadata, &others) {
+        return Ok(false);
+    }
+    match metadata.kind {
+        Kind::Directory => Ok(true),
+        Kind::File { length } => are_same_bytes(alloc, tree, other, number, length as usize),
+    }
+}
+
+/// Whether the number has the same record, the same name and the same directory in both.
+fn are_same_at<A: TreeRead, B: TreeRead>(
+    alloc: Global,
+    tree: &A,
+    other: &B,
+    number: u64,
+) -> Result<bool, AllocError>
+    ensures { IfOk result
+        (λ same. IsTrue same ↔ AreSameAt (A.tree tree.now) (B.tree other.now) number) }
+{
+    if !are_same_parents(tree, other, number) {
+        return Ok(false);
+    }
+    if !are_same_names(tree, other, number) {
+        return Ok(false);
+    }
+    are_same_records(alloc, tree, other, number)
+}
+
+/// Whether two trees are equal: they have the same paths, and at each the same record with the same
+/// bytes; and the next file takes the same number. It goes by the numbers, and of each file takes
+/// memory for its bytes in both.
+pub fn are_same_trees<A: TreeRead, B: TreeRead>(
+    alloc: Global,
+    tree: &A,
+    other: &B,
+) -> Result<bool, AllocError>
+    ensures { IfOk result (λ same. IsTrue same ↔ (A.tree tree.now ≡ B.tree other.now)) }
+{
+    // both are trees
+    know((tree.count(), other.count()));
+    let last = tree.last_number();
+    if last != other.last_number() {
+        return Ok(false);
+    }
+    for number in 0..last {
+        if !are_same_at(alloc, tree, other, number)? {
+            return Ok(false);
+        }
+    }
+    are_same_at(alloc, tree, other, last)
+}

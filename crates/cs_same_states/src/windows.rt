@@ -1,0 +1,108 @@
+//! So many bytes of a file from an offset on, as a set leaves them. No other byte of it is read.
+ghost use Rattle.std.specs.Prelude.{◌≡◌, ◌+◌, ◌<◌, ◌^◌, length, IfOk};
+ghost use Rattle.std.specs.List.{All};
+ghost use Rattle.cs_apm.specs.Contents.{IsSmall, content_after, content_left};
+ghost use Rattle.cs_apm.specs.States.{Content, content_with_size};
+ghost use Rattle.cs_state.specs.Windows.{whole_content};
+ghost use Rattle.cs_same_states.specs.Windows.{IsWindow};
+
+use cs_apm::content::changes_file;
+use cs_micro::MicroOp;
+use cs_state::file_part::{copy_part, cut, write};
+use std::alloc::{AllocError, Global};
+
+/// Bytes of a file from an offset on, zeros past its end, and its size.
+#[derive(Debug, Drop)]
+pub struct Window {
+    pub size: u64,
+    pub bytes: Vec<u8>,
+}
+
+/// Takes a change of the size of a file of this size.
+fn resize(part: &mut [u8], offset: usize, size: u64, to: u64)
+    ensures long { length part.new ≡ length part.old }
+    ensures window { (f : Content) → IsWindow offset f size part.old
+        → IsWindow offset (content_with_size to f) to part.new }
+{
+    if to < size {
+        cut(part, offset, to as usize);
+    }
+}
+
+/// Takes what a micro-operation does to the file of the number, of which these are the bytes from
+/// the offset on, and the size. Returns its size afterwards.
+fn change(part: &mut [u8], offset: usize, size: u64, file: u32, op: &MicroOp) -> u64
+    requires room { offset + length part.old < 2 ^ 64 }
+    requires small { IsSmall op.now }
+    ensures long { length part.new ≡ length part.old }
+    ensures window { (f : Content) → IsWindow offset f size part.old
+        → IsWindow offset (content_after file f op.now) result part.new }
+{
+    if !changes_file(file, op) {
+        return size;
+    }
+    match op {
+        MicroOp::ChangeFileSize { length, .. } => {
+            resize(part, offset, size, *length);
+            *length
+        }
+        MicroOp::WriteBlock {
+            start,
+            at,
+            bytes,
+            ..
+        } => {
+            let from = (*start + *at) as usize;
+            write(part, offset, from, bytes.as_slice());
+            size
+        }
+        _ => size,
+    }
+}
+
+/// Takes the members of a set, in their order.
+fn change_all(
+    part: &mut [u8],
+    offset: usize,
+    size: u64,
+    file: u32,
+    ops: &[MicroOp],
+    places: &[u32],
+) -> u64
+    requires room { offset + length part.old < 2 ^ 64 }
+    requires small { All IsSmall ops.now }
+    requires inside { All (λ place. place < length ops.now) places.now }
+    ensures long { length part.new ≡ length part.old }
+    ensures window { (f : Content) → IsWindow offset f size part.old
+        → IsWindow offset (content_left file f ops.now places.now) result part.new }
+{
+    let mut left = size;
+    for place in places {
+        left = change(part, offset, left, file, &ops[*place as usize]);
+    }
+    left
+}
+
+/// So many bytes from an offset on that a set leaves of the file of the number, which had these at
+/// first, and its size.
+pub fn window_left(
+    alloc: Global,
+    start: &[u8],
+    file: u32,
+    ops: &[MicroOp],
+    places: &[u32],
+    offset: usize,
+    count: usize,
+) -> Result<Window, AllocError>
+    requires few { offset + count < 2 ^ 64 }
+    requires small { All IsSmall ops.now }
+    requires inside { All (λ place. place < length ops.now) places.now }
+    ensures long { IfOk result (λ window. length window.bytes.items ≡ count) }
+    ensures window { IfOk result
+        (λ window. IsWindow offset (content_left file (whole_content start.now) ops.now places.now)
+        window.size window.bytes.items) }
+{
+    let mut bytes = copy_part(alloc, start, offset, count)?;
+    let size = change_all(&mut bytes, offset, start.len() as u64, file, ops, places);
+    Ok(Window { size, bytes })
+}

@@ -1,6 +1,0 @@
-use Rattle.std.specs.Arc.{arc_value}
-use Rattle.cs_shared.proofs.Admitting.{admits_all}
-use Rattle.cs_shared.proofs.registry.Registry.new.Goals as goal
-
-pub new-requires : goal.new-requires
-new-requires g c = admits_all g.S.Served.serves (arc_value c.args.scene) c.requires.serves (rw c.deref.ensures at c.plan-planned.ensures.planned)

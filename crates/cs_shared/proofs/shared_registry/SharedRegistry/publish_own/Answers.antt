@@ -1,4 +1,0 @@
-use Rattle.cs_shared.proofs.shared_registry.SharedRegistry.publish_own.Goals as goal
-
-pub publish_own-requires : goal.publish_own-requires
-publish_own-requires g c = rw c.requires.own c.requires.only

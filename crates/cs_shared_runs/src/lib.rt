@@ -1,0 +1,17 @@
+//! Runs that threads share, each under a lock of its own, and the registry of them under another.
+//! No call holds two locks.
+#![tactic(auto)]
+
+mod by_key;
+mod locked;
+mod look;
+mod registry;
+mod served;
+mod shared_registry;
+mod shared_run;
+
+pub use look::{AuditBy, Look};
+pub use registry::{LoadedUsers, Registry};
+pub use served::{AnyScene, ServerBrand};
+pub use shared_registry::SharedRegistry;
+pub use shared_run::SharedRun;

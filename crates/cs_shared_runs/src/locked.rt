@@ -1,0 +1,125 @@
+//! What a run's lock keeps.
+ghost use Rattle.std.specs.Prelude.{◌≡◌, ◌≢◌, ◌↔◌, IsNone, IsSomeAnd, IsTrue};
+ghost use Rattle.cs_permit.specs.declared.call.Call.TheVariants as called;
+ghost use Rattle.cs_run.specs.Laws.{FitsCall};
+ghost use Rattle.cs_shared_runs.specs.Locks.{LockedAttaches, LockedCalls};
+ghost use Rattle.cs_shared_runs.specs.Answers.{IsAnswerOf, IsAttachOf, IsTold};
+
+use crate::look::Look;
+use crate::served::ServerBrand;
+use cs_journal::{Pass, Run};
+use cs_names::laws::know;
+use cs_names::{RuleId, Text};
+use cs_permit::{AttachCall, Call, PassFault};
+use cs_plan::Built;
+use cs_run::Answer;
+use std::alloc::Global;
+use std::marker::{Model, PhantomData};
+
+/// A run, with the number of its state: the server has the tree that the run began with under that
+/// number. What is done under the lock is done by these calls, and each of them compares the number
+/// with that of the handle that it came by. Contracts see the number and the run.
+#[derive(Drop)]
+pub(crate) struct Locked<S: ServerBrand> {
+    number: u32,
+    run: Run<Built>,
+    of: PhantomData<S>,
+}
+
+impl<S: ServerBrand> Model for Locked<S> {
+    ghost use Rattle.cs_shared_runs.specs.Locks as model;
+
+    ghost Value = { model.Locked };
+
+    ghost coded = { model.locked_code };
+
+    ghost view = { λ l. record { number = l.number; run = l.run } };
+
+    ghost invariant = { λ l. S.serves l.number l.run.fresh };
+}
+
+impl<S: ServerBrand> Locked<S> {
+    pub(crate) fn new(number: u32, run: Run<Built>) -> Locked<S>
+        requires { S.serves number run.fresh }
+        ensures { result ≡ record { number = number; run = run } }
+    {
+        Locked {
+            number,
+            run,
+            of: PhantomData,
+        }
+    }
+
+    /// Whether this run is of the number.
+    fn is_of(&self, number: u32) -> bool
+        ensures { IsTrue result ↔ (self.now.number ≡ number) }
+    {
+        self.number == number
+    }
+
+    /// Makes a call under a pass at that moment. S5 if this run is of another number, or the pass
+    /// doesn't fit it.
+    pub(crate) fn call(
+        &mut self,
+        alloc: Global,
+        number: u32,
+        pass: &mut Pass,
+        now: u32,
+        call: Call<'_>,
+    ) -> Answer
+        ensures calls { LockedCalls self.old number pass.old now call.entry result
+            self.new pass.new }
+        ensures told { IsAnswerOf S.serves number pass.old now call.entry result pass.new }
+        ensures fits { FitsCall call.entry result }
+    {
+        know(self.run.entries());
+        if !self.is_of(number) {
+            return Answer::Denied(RuleId::S5);
+        }
+        if !self.run.fits(pass) {
+            return Answer::Denied(RuleId::S5);
+        }
+        self.run.step(alloc, pass, now, call)
+    }
+
+    /// Attaches a user under a new pass, at that moment. Foreign if this run is of another number.
+    pub(crate) fn attach(
+        &mut self,
+        alloc: Global,
+        number: u32,
+        now: u32,
+        user: Text,
+    ) -> Result<(Pass, Answer), PassFault>
+        ensures attaches { LockedAttaches self.old number now
+            (called.Attach (record { user = user })) result self.new }
+        ensures told { IsAttachOf S.serves number now
+            (called.Attach (record { user = user })) result }
+    {
+        know(self.run.entries());
+        if !self.is_of(number) {
+            return Err(PassFault::Foreign);
+        }
+        let mut pass = match self.run.new_pass(alloc) {
+            Ok(pass) => pass,
+            Err(fault) => return Err(fault),
+        };
+        know(self.run.entries());
+        let call = Call::Attach(AttachCall { user });
+        let answer = self.run.step(alloc, &mut pass, now, call);
+        Ok((pass, answer))
+    }
+
+    /// Lends the run. None if it is of another number.
+    pub(crate) fn inspect<T, K: Look<T> + Drop>(&self, number: u32, look: K) -> Option<T>
+        ensures looks { self.now.number ≡ number
+            → IsSomeAnd result (K.tells look self.now.run) }
+        ensures foreign { self.now.number ≢ number → IsNone result }
+        ensures told { IsTold S.serves number (K.tells look) result }
+    {
+        know(self.run.entries());
+        if !self.is_of(number) {
+            return None;
+        }
+        Some(look.look(&self.run))
+    }
+}

@@ -1,0 +1,171 @@
+//! What the registry's lock keeps.
+ghost use Rattle.std.specs.Prelude.{◌≡◌, ◌≢◌, ◌≤◌, All, Err, IfOk, OnErr, length};
+ghost use Rattle.std.specs.Arc.{arc_value};
+ghost use Rattle.std.specs.List.Sorted.{IsPermutation, IsSorted};
+ghost use Rattle.std.specs.Map.{keys_of};
+ghost use Rattle.cs_registry.specs.Publishing.{Publishes};
+ghost use Rattle.cs_registry.specs.Registries.{empty, missing_of, with_users};
+ghost use Rattle.cs_shared_runs.specs.Finding.{FindsShared, IsKeyed};
+ghost use Rattle.cs_shared_runs.specs.Naming.{key_cmp};
+ghost use Rattle.cs_shared_runs.specs.Serving.{IsOnly, ServesAll};
+
+use crate::served::ServerBrand;
+use crate::shared_run::SharedRun;
+use cs_names::laws::know;
+use cs_plan::{Published, Scene};
+use cs_registry::{FindFault, PublishFault, RunKey, States};
+use cs_users::Users;
+use std::alloc::{AllocError, Global};
+use std::marker::Model;
+use std::sync::Arc;
+
+/// The published states of the server's scene and their shared runs. Contracts see it as
+/// cs_registry's, and of a run its key.
+#[derive(Drop)]
+pub struct Registry<S: ServerBrand> {
+    states: States<SharedRun<S>>,
+}
+
+impl<S: ServerBrand> Model for Registry<S> {
+    ghost use Rattle.cs_registry.specs.Keys.{Key};
+    ghost use Rattle.cs_registry.specs.Registries as model;
+    ghost use Rattle.cs_shared_runs.specs.Finding.{IsOfServer};
+
+    ghost Value = { model.Registry Key };
+
+    ghost view = { λ r. r.states };
+
+    ghost invariant = { λ r. IsOfServer S.is_scene r.states };
+}
+
+/// The users that a registry loaded: `Registry::reload` alone makes one. Contracts see their rows.
+#[derive(Drop)]
+pub struct LoadedUsers {
+    users: Arc<Users>,
+}
+
+impl Model for LoadedUsers {
+    ghost use Rattle.std.specs.Arc.{arc_value};
+    ghost use Rattle.std.specs.Prelude.{List};
+    ghost use Rattle.cs_users.specs.Rows.{Row};
+
+    ghost Value = { List Row };
+
+    ghost view = { λ loaded. arc_value loaded.users };
+}
+
+impl<S: ServerBrand> Registry<S> {
+    /// A registry of the states of the server's scene, of which none is published.
+    pub fn new(
+        alloc: Global,
+        scene: Arc<Scene>,
+        users: Arc<Users>,
+    ) -> Result<Registry<S>, AllocError>
+        requires here { S.is_scene (arc_value scene) }
+        requires serves { ServesAll S.serves (arc_value scene) }
+        ensures { IfOk result (λ registry. registry ≡ empty (arc_value scene) (arc_value users)) }
+    {
+        // each state of a scene is one that a crash may leave
+        know(scene.plan());
+        Ok(Registry {
+            states: States::new(alloc, scene, users)?,
+        })
+    }
+
+    /// The registry of these states of the server's scene and their runs, as `publish_all` gives
+    /// it.
+    pub fn of(states: States<SharedRun<S>>) -> Registry<S>
+        requires own { S.is_scene states.scene }
+        requires keyed { All IsKeyed states.runs }
+        ensures { result ≡ states }
+    {
+        Registry { states }
+    }
+
+    /// The scene.
+    pub fn scene(&self) -> &Arc<Scene>
+        ensures { arc_value result.now ≡ self.now.scene }
+    {
+        self.states.scene()
+    }
+
+    /// How many states of the plan aren't published.
+    pub fn missing(&self) -> u32
+        ensures count { result ≡ missing_of self.now }
+        ensures few { result ≤ length self.now.scene.plan }
+        ensures own { S.is_scene self.now.scene }
+    {
+        self.states.missing()
+    }
+
+    /// Publishes a state under its number: Stranger if the plan has no such number, or the state was
+    /// made in a scene of other content; then Twice; then Memory.
+    pub fn publish(&mut self, alloc: Global, state: Published) -> Result<(), PublishFault>
+        ensures publishes { Publishes self.old state result self.new }
+        ensures own { S.is_scene self.old.scene }
+    {
+        self.states.publish(alloc, state)
+    }
+
+    /// The same for a state of the one scene that may be the server's: no content is compared, and
+    /// it is no stranger.
+    pub fn publish_own(&mut self, alloc: Global, state: Published) -> Result<(), PublishFault>
+        requires { IsOnly S.is_scene state.scene }
+        ensures publishes { Publishes self.old state result self.new }
+        ensures own { result ≢ Err PublishFault.Stranger }
+    {
+        // its number is one of its scene's plan
+        know(state.number());
+        self.states.publish_own(alloc, state)
+    }
+
+    /// Finds the run of a key.
+    pub fn find_key(&mut self, alloc: Global, key: RunKey) -> Result<SharedRun<S>, FindFault>
+        ensures finds { FindsShared self.old key result self.new }
+        ensures key { IfOk result (λ shared. shared ≡ key) }
+    {
+        let place = self.states.find_key(alloc, key)?;
+        match self.states.at(place).again() {
+            Ok(shared) => Ok(shared),
+            Err(_) => Err(FindFault::Memory),
+        }
+    }
+
+    /// Loads these users: a run that is made from now on has them. The error is out of memory, and
+    /// then the old list stays.
+    pub fn reload(&mut self, users: Arc<Users>) -> Result<LoadedUsers, AllocError>
+        ensures value { IfOk result (λ loaded. loaded ≡ arc_value users) }
+        ensures loads { IfOk result (λ loaded. self.new ≡ with_users self.old (arc_value users)) }
+        ensures stays { OnErr result (self.new ≡ self.old) }
+    {
+        let own = Arc::try_clone(&users)?;
+        self.states.reload_shared(own);
+        Ok(LoadedUsers { users })
+    }
+
+    /// All runs, in the order of their keys.
+    pub fn runs(&self, alloc: Global) -> Result<Vec<SharedRun<S>>, AllocError>
+        ensures all { IfOk result (λ runs. IsPermutation (keys_of self.now.runs) runs.items) }
+        ensures sorted { IfOk result (λ runs. IsSorted key_cmp runs.items) }
+    {
+        let mut runs = all_runs(alloc, &self.states)?;
+        runs.sort()?;
+        Ok(runs)
+    }
+}
+
+/// The runs, in the order in which they were made.
+fn all_runs<S: ServerBrand>(
+    alloc: Global,
+    states: &States<SharedRun<S>>,
+) -> Result<Vec<SharedRun<S>>, AllocError>
+    requires { All IsKeyed states.now.runs }
+    ensures { IfOk result (λ runs. runs.items ≡ keys_of states.now.runs) }
+{
+    let mut runs = Vec::new(alloc);
+    for place in 0..states.run_count() {
+        let run = states.at(place).again()?;
+        runs.push(run)?;
+    }
+    Ok(runs)
+}

@@ -1,0 +1,164 @@
+//! A registry that threads share.
+ghost use Rattle.std.specs.Prelude.{◌≡◌, ◌≢◌, ◌↔◌, ◌≤◌, Err, IfOk, length};
+ghost use Rattle.std.specs.Arc.{arc_value};
+ghost use Rattle.std.specs.List.Sorted.{IsSorted};
+ghost use Rattle.cs_registry.specs.Publishing.{IsStateOf};
+ghost use Rattle.cs_shared_runs.specs.Naming.{key_cmp};
+ghost use Rattle.cs_shared_runs.specs.Serving.{IsOnly, ServesAll};
+
+use crate::registry::{LoadedUsers, Registry};
+use crate::served::ServerBrand;
+use crate::shared_run::SharedRun;
+use cs_names::RunName;
+use cs_names::laws::know;
+use cs_plan::{Published, Scene};
+use cs_registry::{FindFault, PublishFault, RunKey};
+use cs_users::Users;
+use std::alloc::{AllocError, Global};
+use std::marker::Model;
+use std::sync::{Arc, Mutex, Wait};
+
+/// The published states of the server's scene, and their runs, which threads share. Contracts see
+/// the scene. Each call takes the registry's lock once, and no run's.
+#[derive(Drop)]
+pub struct SharedRegistry<S: ServerBrand> {
+    scene: Arc<Scene>,
+    inside: Mutex<Registry<S>>,
+}
+
+impl<S: ServerBrand> Model for SharedRegistry<S> {
+    ghost use Rattle.std.specs.Arc.{arc_value};
+    ghost use Rattle.cs_plan.specs.Scenes as model;
+
+    ghost Value = { model.Scene };
+
+    ghost view = { λ r. arc_value r.scene };
+
+    ghost invariant = { λ r. S.is_scene (arc_value r.scene) };
+}
+
+impl<S: ServerBrand> SharedRegistry<S> {
+    /// A registry of the states of the server's scene, of which none is published, whose runs have
+    /// these users until others are loaded.
+    pub fn new(
+        alloc: Global,
+        scene: Arc<Scene>,
+        users: Arc<Users>,
+    ) -> Result<SharedRegistry<S>, AllocError>
+        requires here { S.is_scene (arc_value scene) }
+        requires serves { ServesAll S.serves (arc_value scene) }
+        ensures { IfOk result (λ registry. registry ≡ arc_value scene) }
+    {
+        let own = Arc::try_clone(&scene)?;
+        let inside = Registry::new(alloc, own, users)?;
+        Ok(SharedRegistry {
+            scene,
+            inside: Mutex::new(inside),
+        })
+    }
+
+    /// The same of the states and the runs of a registry.
+    pub fn of(registry: Registry<S>) -> Result<SharedRegistry<S>, AllocError>
+        ensures { IfOk result (λ shared. shared ≡ registry.scene) }
+    {
+        know(registry.missing());
+        let scene = Arc::try_clone(registry.scene())?;
+        Ok(SharedRegistry {
+            scene,
+            inside: Mutex::new(registry),
+        })
+    }
+
+    /// The scene.
+    pub fn scene(&self) -> &Arc<Scene>
+        ensures scene { arc_value result.now ≡ self.now }
+        ensures own { S.is_scene self.now }
+    {
+        &self.scene
+    }
+
+    /// How many states of the plan aren't published.
+    pub fn missing(&self, rt: &impl Wait) -> u32
+        ensures { IsOnly S.is_scene self.now → result ≤ length self.now.plan }
+    {
+        self.inside.lock(rt).missing()
+    }
+
+    /// Publishes a state under its number: Stranger if the plan has no such number, or the state was
+    /// made in a scene of other content; then Twice; then Memory.
+    pub fn publish(
+        &self,
+        rt: &impl Wait,
+        alloc: Global,
+        state: Published,
+    ) -> Result<(), PublishFault>
+        ensures { IsOnly S.is_scene self.now
+            → (IsStateOf self.now state ↔ (result ≢ Err PublishFault.Stranger)) }
+    {
+        self.inside.lock(rt).publish(alloc, state)
+    }
+
+    /// The same for a state of the scene, which is the only one that may be the server's: no
+    /// content is compared, and it is no stranger.
+    pub fn publish_own(
+        &self,
+        rt: &impl Wait,
+        alloc: Global,
+        state: Published,
+    ) -> Result<(), PublishFault>
+        requires only { IsOnly S.is_scene self.now }
+        requires own { state.scene ≡ self.now }
+        ensures { result ≢ Err PublishFault.Stranger }
+    {
+        self.inside.lock(rt).publish_own(alloc, state)
+    }
+
+    /// Finds the run of that name of the state of that number, and counts the find: the run is made
+    /// at the first. Unpublished (A4), Full (A5) and Memory are as `States::find` has them; Memory
+    /// also if the run has as many handles as can be, and then the find stays counted.
+    pub fn find(
+        &self,
+        rt: &impl Wait,
+        alloc: Global,
+        number: u32,
+        name: &RunName,
+    ) -> Result<SharedRun<S>, FindFault>
+        ensures { IfOk result (λ shared. shared ≡ record { number = number; name = name.now }) }
+    {
+        self.find_key(rt, alloc, RunKey::new(number, name))
+    }
+
+    /// The same for the key of a run.
+    pub fn find_key(
+        &self,
+        rt: &impl Wait,
+        alloc: Global,
+        key: RunKey,
+    ) -> Result<SharedRun<S>, FindFault>
+        ensures { IfOk result (λ shared. shared ≡ key) }
+    {
+        self.inside.lock(rt).find_key(alloc, key)
+    }
+
+    /// Loads another list of users: a run that is made from then on has them. A run that exists
+    /// keeps the list with which it was made. The error is out of memory, and then the old list
+    /// stays.
+    pub fn reload(
+        &self,
+        rt: &impl Wait,
+        alloc: Global,
+        users: Users,
+    ) -> Result<LoadedUsers, AllocError>
+        ensures { IfOk result (λ loaded. loaded ≡ users) }
+    {
+        let users = Arc::new(alloc, users)?;
+        self.inside.lock(rt).reload(users)
+    }
+
+    /// All runs, by the numbers of their states and then by name.
+    pub fn runs(&self, rt: &impl Wait, alloc: Global) -> Result<Vec<SharedRun<S>>, AllocError>
+        ensures { IfOk result (λ runs. IsSorted key_cmp runs.items) }
+    {
+        self.inside.lock(rt).runs(alloc)
+    }
+}

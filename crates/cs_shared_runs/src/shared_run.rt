@@ -1,0 +1,133 @@
+//! A run that threads share.
+ghost use Rattle.std.specs.Prelude.{◌≡◌, IfOk};
+ghost use Rattle.std.specs.Arc.{arc_value};
+ghost use Rattle.cs_journal.specs.Bounds.{CanGrow};
+ghost use Rattle.cs_permit.specs.declared.call.Call.TheVariants as called;
+ghost use Rattle.cs_run.specs.Laws.{FitsCall};
+ghost use Rattle.cs_shared_runs.specs.Answers.{IsAnswerOf, IsAttachOf, IsTold};
+
+use crate::locked::Locked;
+use crate::look::Look;
+use crate::served::ServerBrand;
+use cs_journal::{Pass, Run};
+use cs_names::Text;
+use cs_permit::{Call, PassFault};
+use cs_plan::Built;
+use cs_registry::{Held, RunKey};
+use cs_run::Answer;
+use cs_users::Users;
+use std::alloc::{AllocError, Global};
+use std::marker::Model;
+use std::sync::{Arc, Mutex, Wait};
+
+/// A run that threads share, under a lock, with its key. Contracts see the key. Each call takes the
+/// run's lock once, and no other.
+#[derive(Drop)]
+pub struct SharedRun<S: ServerBrand> {
+    key: RunKey,
+    run: Arc<Mutex<Locked<S>>>,
+}
+
+impl<S: ServerBrand> Model for SharedRun<S> {
+    ghost use Rattle.cs_registry.specs.Keys.{Key};
+
+    ghost Value = { Key };
+
+    ghost view = { λ shared. shared.key };
+}
+
+impl<S: ServerBrand> SharedRun<S> {
+    /// The run of a key, over the tree of its state, with no open and no entry.
+    pub fn fresh(
+        alloc: Global,
+        key: RunKey,
+        lower: Arc<Built>,
+        users: Arc<Users>,
+    ) -> Result<SharedRun<S>, AllocError>
+        requires served { S.serves key.number (arc_value lower) }
+        requires grows { CanGrow (arc_value lower) }
+        ensures { IfOk result (λ shared. shared ≡ key) }
+    {
+        let run = Locked::new(key.number(), Run::fresh(alloc, lower, users)?);
+        let run = Arc::new(alloc, Mutex::new(run))?;
+        Ok(SharedRun { key, run })
+    }
+
+    /// The same run.
+    pub fn again(&self) -> Result<SharedRun<S>, AllocError>
+        ensures { IfOk result (λ shared. shared ≡ self.now) }
+    {
+        Ok(SharedRun {
+            key: self.key.again(),
+            run: Arc::try_clone(&self.run)?,
+        })
+    }
+
+    /// Its key.
+    pub fn key(&self) -> &RunKey
+        ensures { result.now ≡ self.now }
+    {
+        &self.key
+    }
+
+    /// Attaches a user under a new pass, at that moment, in seconds since 1970. Foreign if the run
+    /// under the lock is of another number; then Room if it gave RUN_ATTACHES passes; then Memory.
+    /// After a refusal no pass was given, and the run is as it was.
+    pub fn attach(
+        &self,
+        rt: &impl Wait,
+        alloc: Global,
+        now: u32,
+        user: Text,
+    ) -> Result<(Pass, Answer), PassFault>
+        ensures { IsAttachOf S.serves self.now.number now
+            (called.Attach (record { user = user })) result }
+    {
+        let number = self.key.number();
+        self.run.lock(rt).attach(alloc, number, now, user)
+    }
+
+    /// Makes a call under a pass at that moment, in seconds since 1970. S5 if the run under the
+    /// lock is of another number, or the pass doesn't fit it; else as `Run::step`.
+    pub fn call(
+        &self,
+        rt: &impl Wait,
+        alloc: Global,
+        pass: &mut Pass,
+        now: u32,
+        call: Call<'_>,
+    ) -> Answer
+        ensures told { IsAnswerOf S.serves self.now.number pass.old now call.entry result
+            pass.new }
+        ensures fits { FitsCall call.entry result }
+    {
+        let number = self.key.number();
+        self.run.lock(rt).call(alloc, number, pass, now, call)
+    }
+
+    /// Lends the run to `look`, under the lock: what it tells. None if the run under the lock is of
+    /// another number.
+    pub fn inspect<T, K: Look<T> + Drop>(&self, rt: &impl Wait, look: K) -> Option<T>
+        ensures { IsTold S.serves self.now.number (K.tells look) result }
+    {
+        self.run.lock(rt).inspect(self.key.number(), look)
+    }
+}
+
+impl<S: ServerBrand> Held for SharedRun<S> {
+    ghost use Rattle.std.specs.Prelude.{◌≡◌};
+    ghost use Rattle.cs_journal.specs.Bounds.{CanGrow};
+
+    ghost admits = { λ number tree. CanGrow tree × S.serves number tree };
+
+    ghost is_fresh = { λ key tree users shared. shared ≡ key };
+
+    fn fresh(
+        alloc: Global,
+        key: &RunKey,
+        lower: Arc<Built>,
+        users: Arc<Users>,
+    ) -> Result<SharedRun<S>, AllocError> {
+        SharedRun::fresh(alloc, key.again(), lower, users)
+    }
+}

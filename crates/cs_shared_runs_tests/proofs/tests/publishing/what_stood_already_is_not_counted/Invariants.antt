@@ -1,0 +1,11 @@
+use Rattle.std.proofs.Common.{◌≡◌, Some}
+use Rattle.std.specs.Arc.{arc_value}
+use Rattle.cs_plan.specs.Scenes.{state_at}
+use Rattle.cs_shared_runs_tests.proofs.tests.publishing.what_stood_already_is_not_counted.Given as goal
+
+-- the server is one of the scene and of its states
+abbrev pub ghosts-counts : goal.ghosts-counts
+ghosts-counts g a = record {
+  serves = λ number tree. state_at (arc_value a.scene) number ≡ Some tree;
+  is_scene = λ scene. scene ≡ arc_value a.scene;
+}

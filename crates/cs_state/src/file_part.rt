@@ -1,0 +1,51 @@
+//! A part of a file: so many of its bytes from an offset on, and what changes them.
+ghost use Rattle.std.specs.Prelude.{◌≡◌, ◌+◌, ◌<◌, ◌≤◌, ◌^◌, length, take, IfOk};
+ghost use Rattle.cs_names.specs.declared.limits.TheConstants.{FILE_BYTES};
+ghost use Rattle.cs_apm.specs.States.{Content, overwritten};
+ghost use Rattle.cs_state.specs.Windows.{whole_content, IsPart};
+
+use cs_apm::content::put_at;
+use std::alloc::{AllocError, Global};
+
+/// The bytes from an offset on that a file with these bytes shows, and zeros past its end.
+pub fn copy_part(
+    alloc: Global,
+    bytes: &[u8],
+    offset: usize,
+    count: usize,
+) -> Result<Vec<u8>, AllocError>
+    requires { offset + count < 2 ^ 64 }
+    ensures long { IfOk result (λ part. length part.items ≡ count) }
+    ensures part { IfOk result (λ part. IsPart offset (whole_content bytes.now) part.items) }
+{
+    let from = offset.min(bytes.len());
+    let end = bytes.len().min(offset + count);
+    let mut part = Vec::from_slice(alloc, &bytes[from..end.max(from)])?;
+    part.resize(count, 0)?;
+    Ok(part)
+}
+
+/// Makes what lies past a size zero, in a part of a file that begins at the offset.
+pub fn cut(part: &mut [u8], offset: usize, size: usize)
+    ensures long { length part.new ≡ length part.old }
+    ensures part { (f : Content) → IsPart offset f part.old
+        → IsPart offset (record f { bytes = take size f.bytes }) part.new }
+{
+    let from = size.saturating_sub(offset).min(part.len());
+    part[from..].fill(0);
+}
+
+/// Writes a piece at its place, in a part of a file that begins at the offset.
+pub fn write(part: &mut [u8], offset: usize, at: usize, piece: &[u8])
+    requires room { offset + length part.old < 2 ^ 64 }
+    requires small { at + length piece.now ≤ FILE_BYTES }
+    ensures long { length part.new ≡ length part.old }
+    ensures part { (f : Content) → IsPart offset f part.old
+        → IsPart offset (overwritten at piece.now f) part.new }
+{
+    let from = at.max(offset);
+    let end = (at + piece.len()).min(offset + part.len());
+    if from < end {
+        put_at(part, from - offset, &piece[from - at..end - at]);
+    }
+}

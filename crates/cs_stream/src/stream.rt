@@ -1,0 +1,167 @@
+//! A stream of bytes both ways, with its calls counted.
+ghost use Rattle.std.specs.Prelude.{◌≡◌, ◌≤◌, ℕ, List, Option, length, OnOk, OnErr};
+ghost use Rattle.std.specs.Io.KnownBytes.{Appends};
+ghost use Rattle.cs_stream.specs.declared.stream.Counts.{Counts};
+ghost use Rattle.cs_stream.specs.Streams.{ReadGives, WriteGives, AppendsFront, counted_read};
+ghost use Rattle.cs_stream.specs.Streams.{counted_write, KeepsReads, KeepsFaults, BlamesWrites};
+ghost use Rattle.cs_stream.specs.Streams.{GaveUpInTime};
+
+use cs_names::limits::INTERRUPTIONS;
+
+/// What a read or a write did.
+#[derive(Clone, Copy, Debug, PartialEq, Eq)]
+pub enum Transfer {
+    /// It moved so many bytes. A read of none, where there was room, met the stream's end.
+    Bytes(usize),
+    /// It was interrupted, and moved none.
+    Interrupted,
+    /// It failed, and moved none.
+    Failed,
+}
+
+/// How often a stream did what. A count that is full stays so.
+#[derive(Clone, Copy, Debug, PartialEq, Eq)]
+pub struct Counts {
+    /// Reads.
+    pub reads: u64,
+    /// Reads that failed.
+    pub failed_reads: u64,
+    /// The last reads in a row, as far as they were interrupted.
+    pub interrupted_reads: u64,
+    /// Reads of no byte where there was room.
+    pub ends: u64,
+    /// Writes.
+    pub writes: u64,
+    /// Writes that failed.
+    pub failed_writes: u64,
+    /// The last writes in a row, as far as they were interrupted.
+    pub interrupted_writes: u64,
+    /// Writes of some bytes that took none.
+    pub idle_writes: u64,
+}
+
+impl Counts {
+    /// No call so far.
+    pub const NONE: Counts = Counts {
+        reads: 0,
+        failed_reads: 0,
+        interrupted_reads: 0,
+        ends: 0,
+        writes: 0,
+        failed_writes: 0,
+        interrupted_writes: 0,
+        idle_writes: 0,
+    };
+
+    /// Counts a read into so much room.
+    pub fn count_read(&mut self, done: Transfer, room: usize)
+        ensures { self.new ≡ counted_read done room self.old }
+    {
+        self.reads = self.reads.saturating_add(1);
+        match done {
+            Transfer::Bytes(count) => {
+                self.interrupted_reads = 0;
+                if count == 0 && room > 0 {
+                    self.ends = self.ends.saturating_add(1);
+                }
+            }
+            Transfer::Interrupted => {
+                self.interrupted_reads = self.interrupted_reads.saturating_add(1);
+            }
+            Transfer::Failed => {
+                self.interrupted_reads = 0;
+                self.failed_reads = self.failed_reads.saturating_add(1);
+            }
+        }
+    }
+
+    /// Counts a write of so many bytes.
+    pub fn count_write(&mut self, done: Transfer, bytes: usize)
+        ensures { self.new ≡ counted_write done bytes self.old }
+    {
+        self.writes = self.writes.saturating_add(1);
+        match done {
+            Transfer::Bytes(count) => {
+                self.interrupted_writes = 0;
+                if count == 0 && bytes > 0 {
+                    self.idle_writes = self.idle_writes.saturating_add(1);
+                }
+            }
+            Transfer::Interrupted => {
+                self.interrupted_writes = self.interrupted_writes.saturating_add(1);
+            }
+            Transfer::Failed => {
+                self.interrupted_writes = 0;
+                self.failed_writes = self.failed_writes.saturating_add(1);
+            }
+        }
+    }
+}
+
+/// A stream, which may tell its bytes, and counts its calls.
+pub trait Stream {
+    /// The bytes that reads will give from here on, where they are known.
+    ghost remaining: { Self → Option (List ℕ) };
+
+    /// The bytes that writes have taken, where they are known.
+    ghost contents: { Self → Option (List ℕ) };
+
+    /// How often it did what.
+    ghost counts: { Self → Counts };
+
+    /// Reads some bytes.
+    fn read(&mut self, buf: &mut [u8]) -> Transfer
+        ensures bytes { ReadGives (remaining self.old) (remaining self.new) result buf.new }
+        ensures contents { contents self.new ≡ contents self.old }
+        ensures counted { counts self.new
+            ≡ counted_read result (length buf.old) (counts self.old) };
+
+    /// Writes some of the bytes, from the front.
+    fn write(&mut self, buf: &[u8]) -> Transfer
+        ensures bytes { WriteGives (contents self.old) (contents self.new) result buf.now }
+        ensures remaining { remaining self.new ≡ remaining self.old }
+        ensures counted { counts self.new
+            ≡ counted_write result (length buf.now) (counts self.old) };
+}
+
+/// The bytes were not all written: a write failed, took no byte, or 1,000 in a row were
+/// interrupted.
+#[derive(Clone, Copy, Debug, PartialEq, Eq)]
+pub struct WriteFault;
+
+/// Writes all of the bytes. An interrupted write is tried again, up to 999 in a row: the thousandth
+/// in a row is a fault. After a fault some of them, from the front, were written.
+pub fn write_all<S: Stream>(stream: &mut S, bytes: &[u8]) -> Result<(), WriteFault>
+    ensures ok { OnOk result (Appends (S.contents stream.old) (S.contents stream.new) bytes.now) }
+    ensures err { OnErr result
+        (AppendsFront (S.contents stream.old) (S.contents stream.new) bytes.now) }
+    ensures blamed { OnErr result (BlamesWrites (S.counts stream.old) (S.counts stream.new)) }
+    ensures in_time { GaveUpInTime (S.counts stream.old).interrupted_writes
+        (S.counts stream.new).interrupted_writes }
+    ensures no_row { OnOk result
+        ((S.counts stream.new).interrupted_writes ≤ (S.counts stream.old).interrupted_writes) }
+    ensures faults { KeepsFaults (S.counts stream.old) (S.counts stream.new) }
+    ensures remaining { S.remaining stream.new ≡ S.remaining stream.old }
+    ensures reads { KeepsReads (S.counts stream.old) (S.counts stream.new) }
+{
+    let mut rest = bytes;
+    let mut waits = 0;
+    while !rest.is_empty() {
+        match stream.write(rest) {
+            Transfer::Bytes(0) => return Err(WriteFault),
+            Transfer::Bytes(count) => {
+                let (_, after) = rest.split_at(count);
+                rest = after;
+                waits = 0;
+            }
+            Transfer::Interrupted => {
+                waits += 1;
+                if waits >= INTERRUPTIONS {
+                    return Err(WriteFault);
+                }
+            }
+            Transfer::Failed => return Err(WriteFault),
+        }
+    }
+    Ok(())
+}

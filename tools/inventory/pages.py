@@ -1,0 +1,92 @@
+"""The parts of pages that are made from the sources, and where each stands."""
+
+from __future__ import annotations
+
+import re
+from pathlib import Path
+from typing import Dict, List
+
+from .sources import (TOP, citations, comment_of_file, crate_names, edits_of, examples_in,
+                      files_of, tools_tests, words_of)
+
+EXAMPLES, INDEX = TOP / 'docs' / 'EXAMPLES.md', TOP / 'docs' / 'INDEX.md'
+BEGIN = '<!-- made by tools/inventories: begin -->'
+END = '<!-- made by tools/inventories: end -->'
+MOST_CALLS = 4
+
+
+def cell(text: str) -> str:
+    """A text as a cell of a table."""
+    return text.replace('|', '\\|')
+
+
+def tests_of(crate: str) -> List[str]:
+    """A crate's tests: a table for each file that has some."""
+    lines: List[str] = []
+    for path in files_of(crate, 'src', '.rt'):
+        examples = examples_in(path)
+        if examples:
+            name = path.relative_to(TOP / 'crates' / crate / 'src')
+            about = comment_of_file(path)
+            lines += ['', f'`{name}`: {about}' if about else f'`{name}`:']
+            lines += ['', '| Example | Test |', '|---|---|']
+            lines += [f'| {cell(it.sentence)} | `{it.name}` |' for it in examples]
+    return ['', f'### {crate}', *lines] if lines else []
+
+
+def tests_of_tools() -> List[str]:
+    """The table of the tools' tests, a row for each file."""
+    rows = [f'| {cell(it.sentence)} | `{it.name}` |' for it in tools_tests()]
+    return ['', '### tools/tests', '', '| What it shows | File |', '|---|---|', *rows]
+
+
+def must_fail_edits() -> List[str]:
+    """The table of wrong bodies, a row for each crate that has some."""
+    lines = ['', '## Wrong bodies that the prover refuses', '', '| Crate | Must-fail edits |',
+             '|---|---|']
+    for crate in crate_names():
+        edits = edits_of(crate)
+        if edits:
+            lines.append(f'| {crate} | {", ".join(f"`{name}`" for name in edits)} |')
+    return lines
+
+
+def examples() -> str:
+    """All tests of the crates and of the tools, and all wrong bodies."""
+    crates = [line for crate in crate_names() for line in tests_of(crate)]
+    return '\n'.join(crates + tests_of_tools() + must_fail_edits()).strip()
+
+
+def calls_shown(calls: List[str]) -> str:
+    shown = ', '.join(f'`{call}`' for call in calls[:MOST_CALLS])
+    more = len(calls) - MOST_CALLS
+    return f'{shown} and {more} more' if more > 0 else shown
+
+
+def index() -> str:
+    """The words of all crates: what each says, its file, and the calls whose contracts cite it."""
+    cited, lines = citations(), []
+    for crate in crate_names():
+        words, calls = words_of(crate), cited.get(crate, {})
+        if words:
+            lines += ['', f'## {crate}', '', '| Word | What it says | File | Cited by |',
+                      '|---|---|---|---|']
+            lines += [f'| `{cell(it.name)}` | {cell(it.sentence)} | {it.file} '
+                      f'| {calls_shown(calls.get(it.name, []))} |' for it in words]
+    return '\n'.join(lines).strip()
+
+
+def page_with(page: str, part: str) -> str:
+    """A page with another part between its two marks."""
+    between = re.compile(f'{re.escape(BEGIN)}.*{re.escape(END)}', re.DOTALL)
+    made, count = between.subn(lambda _: f'{BEGIN}\n\n{part}\n\n{END}', page)
+    if count != 1:
+        raise ValueError(f'a page has to have the marks once: {BEGIN} .. {END}')
+    return made
+
+
+def pages() -> Dict[Path, str]:
+    """Each page that has a part of this kind, as the sources want it."""
+    parts = {EXAMPLES: examples(), INDEX: index()}
+    return {path: page_with(path.read_text(encoding='utf-8'), part)
+            for path, part in parts.items()}

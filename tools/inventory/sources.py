@@ -1,0 +1,158 @@
+"""The sources of a crate: its tests with their sentences, its words, and the calls that cite them."""
+
+from __future__ import annotations
+
+import ast
+import re
+from dataclasses import dataclass
+from pathlib import Path
+from typing import Dict, Iterator, List, Tuple
+
+TOP = Path(__file__).resolve().parent.parent.parent
+CRATES = TOP / 'crates'
+TOOLS_TESTS = TOP / 'tools' / 'tests'
+
+WORD = re.compile(r"(?:abbrev pub|unfoldable pub|opaque pub|pub record|pub data) ([^\s:({]+)")
+IMPL = re.compile(r'(?:impl|trait|pub trait)\b(?:<[^>]*>)? (?:[\w:<>, ]+ for )?(\w+)')
+FUNCTION = re.compile(r'(\s*)(pub )?(?:const )?fn (\w+)')
+IDENTIFIER = re.compile(r"[A-Za-z_][\w']*")
+
+
+@dataclass(frozen=True)
+class Example:
+    """A test function and the sentence that its comment begins with."""
+
+    name: str
+    sentence: str
+
+
+@dataclass(frozen=True)
+class Word:
+    """A public word of `specs/`: its file there, and the comment above it."""
+
+    name: str
+    file: str
+    sentence: str
+
+
+def crate_names() -> List[str]:
+    """The crates of crates.txt, lowest first."""
+    lines = (TOP / 'crates.txt').read_text(encoding='utf-8').splitlines()
+    heads = (line.partition('#')[0].partition(':')[0].split() for line in lines)
+    return [head[0] for head in heads if head]
+
+
+def files_of(crate: str, folder: str, suffix: str) -> List[Path]:
+    return sorted((CRATES / crate / folder).rglob(f'*{suffix}'))
+
+
+def comment_above(lines: List[str], at: int, mark: str) -> str:
+    """The comment that ends above a line, as one text; attributes between them are passed over."""
+    found: List[str] = []
+    for line in reversed(lines[:at]):
+        text = line.strip()
+        if text.startswith(mark):
+            found.insert(0, text[len(mark):].strip())
+        elif found or not text.startswith('#['):
+            break
+    return ' '.join(found)
+
+
+def examples_in(path: Path) -> List[Example]:
+    """The tests of a file in the order in which they stand."""
+    lines = path.read_text(encoding='utf-8').splitlines()
+    found: List[Example] = []
+    for at, line in enumerate(lines):
+        if line.strip() == '#[test]':
+            heads = (FUNCTION.match(it) for it in lines[at:])
+            head = next(it for it in heads if it)
+            found.append(Example(head.group(3), comment_above(lines, at, '///')))
+    return found
+
+
+def comment_of_file(path: Path) -> str:
+    """The comment that a source file begins with, as one text."""
+    found: List[str] = []
+    for line in path.read_text(encoding='utf-8').splitlines():
+        if not line.startswith('//!'):
+            break
+        found.append(line[len('//!'):].strip())
+    return ' '.join(found)
+
+
+def tools_tests() -> List[Example]:
+    """The files of the tools' tests, each with the text that it begins with."""
+    found: List[Example] = []
+    for path in sorted(TOOLS_TESTS.glob('test_*.py')):
+        text = ast.get_docstring(ast.parse(path.read_text(encoding='utf-8'))) or ''
+        found.append(Example(path.name, ' '.join(text.split())))
+    return found
+
+
+def edits_of(crate: str) -> List[str]:
+    """The names of a crate's must-fail edits."""
+    return [path.stem for path in files_of(crate, 'must-fail', '.edit')]
+
+
+def words_of(crate: str) -> List[Word]:
+    """The public words of a crate's `specs/`, by file, in the order in which they stand."""
+    folder = CRATES / crate / 'specs'
+    found: List[Word] = []
+    for path in files_of(crate, 'specs', '.antt'):
+        lines = path.read_text(encoding='utf-8').splitlines()
+        name = str(path.relative_to(folder))[:-len('.antt')]
+        for at, line in enumerate(lines):
+            match = WORD.match(line)
+            if match:
+                found.append(Word(match.group(1), name, comment_above(lines, at, '--')))
+    return found
+
+
+def contracts_in(path: Path) -> Iterator[Tuple[str, str]]:
+    """Each public function of a file, with its type if it has one, and the text of its contract."""
+    owner, lines = '', path.read_text(encoding='utf-8').splitlines()
+    for at, line in enumerate(lines):
+        if line and not line[0].isspace():
+            match = IMPL.match(line)
+            owner = match.group(1) if match else ''
+        head = FUNCTION.match(line)
+        if head is None or not (head.group(2) or owner):
+            continue
+        yield f'{owner}::{head.group(3)}' if owner else head.group(3), contract_at(
+            lines, at + 1, head.group(1))
+
+
+def contract_at(lines: List[str], at: int, indent: str) -> str:
+    """The lines from a function's head to its body's brace."""
+    clauses: List[str] = []
+    for line in lines[at:]:
+        if line.startswith((f'{indent}{{', f'{indent}}}')) or not line.strip():
+            break
+        clauses.append(line)
+    return '\n'.join(clauses)
+
+
+def citations() -> Dict[str, Dict[str, List[str]]]:
+    """For each crate's imported word the calls whose contracts cite it: crate, word, calls."""
+    found: Dict[str, Dict[str, List[str]]] = {}
+    for crate in crate_names():
+        for path in files_of(crate, 'src', '.rt'):
+            homes = homes_of_words(crate, path.read_text(encoding='utf-8'))
+            for call, contract in contracts_in(path):
+                for name in dict.fromkeys(IDENTIFIER.findall(contract)):
+                    if name in homes:
+                        calls = found.setdefault(homes[name], {}).setdefault(name, [])
+                        shown = call if homes[name] == crate else f'{crate} {call}'
+                        if shown not in calls:
+                            calls.append(shown)
+    return found
+
+
+def homes_of_words(crate: str, text: str) -> Dict[str, str]:
+    """The crate that each imported word of a source file is of."""
+    homes: Dict[str, str] = {}
+    for match in re.finditer(r'ghost use (?:Rattle\.)?(\w+)[.:]+specs[\w.:]*\.\{([^}]*)\}', text):
+        home = crate if match.group(1) == 'crate' else match.group(1)
+        for name in match.group(2).split(','):
+            homes[name.strip()] = home
+    return homes
