@@ -2,13 +2,12 @@
 
 from __future__ import annotations
 
-from dataclasses import dataclass
-from typing import Dict, List, Optional
+from dataclasses import dataclass, field
+from typing import Dict, List, Optional, Tuple
 
-from .groups import Group
 from .trace_lines import TraceLine
 
-ATOMIC = 'write a new file, sync it, rename it'
+ATOMIC = 'write a new file, sync it, rename it, sync the directory'
 
 
 @dataclass
@@ -19,6 +18,9 @@ class Tried:
     left: int
     total: int
     others: int
+
+    def __add__(self, other: Tried) -> Tried:
+        return Tried(self.left + other.left, self.total + other.total, self.others + other.others)
 
     def text(self, syncs: int) -> str:
         that = 'that sync' if syncs == 1 else f'those {syncs:,} syncs'
@@ -38,30 +40,32 @@ class Advice:
     """text is the sentence, in lines; syncs has for each line of the trace the path to sync after
     it. tried is None if it wasn't."""
 
-    text: List[str]
-    syncs: Dict[int, str]
+    text: List[str] = field(default_factory=list)
+    syncs: Dict[int, str] = field(default_factory=dict)
     tried: Optional[Tried] = None
 
     def lines(self) -> List[str]:
         return self.text + ([self.tried.text(len(self.syncs))] if self.tried else [])
 
 
-def advice_of(group: Group, lines: Dict[int, TraceLine]) -> Advice:
-    if group.is_span:
-        return Advice(span_text(group), {})
-    assert group.kept is not None and group.lost is not None
-    if group.is_torn:
-        torn = f'line {group.lost.number} ({group.lost.text}) was torn: a crash kept a part of it'
-        return Advice([torn, f'no sync comes between: keep a checksum with the data, or {ATOMIC}'],
-                      {})
-    path = group.lost.synced_by
-    text = [f'line {group.lost.number} ({group.lost.text}) was not durable when '
-            f'{when(group.kept)}' + (':' if path else '')]
+def advice_of(kept: Optional[TraceLine], lost: Optional[TraceLine], is_span: bool,
+              places: List[Tuple[int, int]], lines: Dict[int, TraceLine]) -> Advice:
+    """The advice for a pair of lines; places are all pairs of its group."""
+    if is_span:
+        return Advice(span_text(kept, lost))
+    assert kept is not None and lost is not None
+    if kept == lost:
+        torn = f'line {lost.number} ({lost.text}) was torn: a crash kept a part of it'
+        return Advice([torn, 'no sync comes between: a record that recovery may drop needs a '
+                       f'checksum; for all else, {ATOMIC}'])
+    path = lost.synced_by
+    text = [f'line {lost.number} ({lost.text}) was not durable when {when(kept)}'
+            + (':' if path else '')]
     if path is None:
-        return Advice(text, {})
-    syncs = {lost: lines[lost].synced_by or path for lost, _ in group.places if lost in lines}
-    target = 'the directory ' if group.lost.path != path else ''
-    more = len(group.places) - 1
+        return Advice(text)
+    syncs = {line: lines[line].synced_by or path for line, _ in places if line in lines}
+    target = 'the directory ' if lost.path != path else ''
+    more = len(places) - 1
     also = f' (and at {more:,} more place{"s" if more > 1 else ""})' if more else ''
     return Advice([*text, f'fsync {target}{path} between them{also}'], syncs)
 
@@ -72,9 +76,16 @@ def when(kept: TraceLine) -> str:
     return f'line {kept.number} ({kept.text}) was'
 
 
-def span_text(group: Group) -> List[str]:
-    first = f'line {group.kept.number} ({group.kept.text})' if group.kept else 'the beginning'
-    if group.lost is None:
+def span_text(kept: Optional[TraceLine], lost: Optional[TraceLine]) -> List[str]:
+    first = f'line {kept.number} ({kept.text})' if kept else 'the beginning'
+    if lost is None:
         return [f'from {first} on it fails, though nothing is lost']
-    return [f'from {first} until line {group.lost.number} ({group.lost.text}) it fails, though '
-            'nothing is lost', f'no sync helps: make these lines one change ({ATOMIC})']
+    remedy = f'no sync helps: make these lines one change ({ATOMIC})'
+    if kept is not None and kept.is_apart_from(lost):
+        remedy = (f'no sync helps: do line {lost.number} before line {kept.number}, with a sync '
+                  f'between them, or make them one change ({ATOMIC})')
+    if lost.word == 'say':
+        remedy = ('a crash between them leaves a change that is not acknowledged yet: does COMMAND '
+                  'accept it?')
+    return [f'from {first} until line {lost.number} ({lost.text}) it fails, though nothing is lost',
+            remedy]

@@ -28,7 +28,7 @@ class Descriptor:
 
 
 def split(text: str) -> List[str]:
-    """The arguments. No comma or bracket stands inside a text, since texts are numbers."""
+    """The arguments. No comma or bracket is inside a text, since texts are numbers."""
     words, depth, last = [], 0, 0
     for match in BRACKETS.finditer(text):
         sign = match[0]
@@ -86,14 +86,14 @@ def descriptor(word: str) -> Descriptor:
 
 
 def vector(word: str) -> Optional[bytes]:
-    """The bytes of a writev's pieces, or None where one is cut."""
+    """The bytes of a writev's pieces, or None if one is cut."""
     pieces = [b'' if text == 'NULL' else data(text) for text in PIECE.findall(word)]
     whole = [piece for piece in pieces if piece is not None]
     return b''.join(whole) if len(whole) == len(pieces) else None
 
 
 def vectors(word: str) -> Optional[bytes]:
-    """The bytes of sendmmsg's messages, each as far as it was sent, or None where one is cut."""
+    """The bytes of sendmmsg's messages, each as far as it was sent, or None if one is cut."""
     found = b''
     for one in word.split('msg_hdr=')[1:]:
         data, sent = vector(one), re.search(r'msg_len=(\d+)', one)

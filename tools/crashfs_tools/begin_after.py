@@ -30,7 +30,7 @@ class BeginAfter:
 
 
 def begin_here(session: Session) -> None:
-    """The trace begins anew. What wasn't synced up to here counts as durable."""
+    """The trace begins again. What wasn't synced up to here counts as durable."""
     old, tree = session.trace, session.told
     root = tree.entries['/']
     trace = Trace(Header(root.owner, root.group, root.mode), version=old.version,

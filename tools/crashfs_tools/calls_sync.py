@@ -24,7 +24,7 @@ def sync(session: Session, process: Process, call: Call) -> None:
 
 
 def syncfs(session: Session, process: Process, call: Call) -> None:
-    """The file system of some file: all of the directory, where the file is in it."""
+    """The file system of some file: all of the directory, if the file is in it."""
     path = call.descriptor().path
     if path is not None and session.below(path) is not None:
         session.tell(Sync())
@@ -66,7 +66,7 @@ def mprotect(session: Session, process: Process, call: Call) -> None:
 
 
 def note_mapped(session: Session, process: Process, address: int, length: int) -> None:
-    """Files that stores may change: with copies of them they are told, else they can't be."""
+    """Files that stores may change: with copies the trace has the stores, else it can't."""
     if session.has_copies:
         return
     for part, _ in process.memory.parts(address, length):

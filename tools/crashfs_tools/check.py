@@ -2,28 +2,23 @@
 
 from __future__ import annotations
 
-import hashlib
-import json
-import os
 import sys
 import tempfile
-from typing import List, Optional, Tuple
+from typing import List, Optional
 
 from .check_options import NAME, Options, read_options
+from .checking import Checking, Run, report_of
 from .command import Refused, folder_of, found, standard_output, tell, write_whole
-from .guard import Guard, Stopped, TimeUp, stop_by_exception, time_limit
+from .guard import Guard, Stopped, stop_by_exception
 from .junit import junit_lines
+from .nested import Recorder
 from .page import page
 from .plan import PlanError
-from .planning import Planner
 from .program import Crashfs, ProgramFault
 from .report import NOT_ALL_TRIED, Report
-from .results import Results, merged, read_json
+from .results import merged, read_json
 from .show_state import show
-from .trace_lines import operation_lines
-from .tree_diff import find_differences
-from .trying import Trying
-from .trying_advice import try_advice
+from .trace import TraceError
 
 BAD_INPUT = 2
 
@@ -33,64 +28,35 @@ def check(options: Options) -> int:
         if path is not None:
             folder_of(path)
     if options.merge is not None:
-        return finish(options, Report(merged([read_json(path) for path in options.merge])))
-    trace = readable(options.trace or '')
+        results = merged([read_json(path) for path in options.merge])
+        return finish(options, report_of(results, options.json is not None,
+                                         options.html is not None))
+    options.trace = readable(options.trace or '')
     program = Crashfs.find_or_read(options.crashfs, options.unproved)
     options.command = found(options.command)
     with Guard('crashfs-check-') as guard:
-        planner = Planner(options, program, guard)
-        trying = Trying(options, planner.plan(trace), program, guard)
+        checking = Checking(options, program, guard)
         try:
             if options.state is not None:
-                return show(trying, options.state)
-            report, stop = run(trying, planner)
+                number, second = options.state
+                trying = checking.trying_of(number)
+                if second is None:
+                    return show(trying, number)
+                recovery = Recorder(trying, checking.planner).plan(trying.plan.state(number))
+                return show(trying.with_plan(recovery), second)
+            report, stop = Run(checking).run()
         except ProgramFault as fault:
-            raise planner.refused('tar', fault) from fault
+            raise checking.planner.refused('tar', fault) from fault
     status = finish(options, report)
     if stop is not None:
         raise stop
     return status
 
 
-def run(trying: Trying, planner: Planner) -> Tuple[Report, Optional[Stopped]]:
-    """Tries the states, and then the advice. A check that is stopped has a report of what it has
-    tried."""
-    results, stop, report = results_of(trying), None, None
-    try:
-        with time_limit(trying.options.time_limit):
-            trying.run(results)
-            report = Report(results)
-            if not results.stopped and results.shard.parts == 1 and not trying.options.serve:
-                find_differences(trying, report)
-                try_advice(trying, planner, report)
-    except TimeUp:
-        results.stopped = results.stopped if report else 'the time limit'
-    except Stopped as stopped:
-        stop = stopped
-        results.stopped = results.stopped if report else str(stopped)
-    return report or Report(results), stop
-
-
-def results_of(trying: Trying) -> Results:
-    """The results of a check that has tried nothing, but for what an earlier one has."""
-    options, planned = trying.options, trying.planned
-    results = Results(os.path.basename(planned.trace), digest(planned.trace), planned.listed,
-                      options.command, options.shard, needs=planned.plan.needs,
-                      unproved=trying.program.unproved, lines=operation_lines(trying.text))
-    if options.resume is not None and os.path.exists(options.resume):
-        results.take(read_json(options.resume))
-    return results
-
-
-def digest(path: str) -> str:
-    with open(path, 'rb') as file:
-        return hashlib.sha256(file.read()).hexdigest()
-
-
 def readable(trace: str) -> str:
     try:
         with open(trace, 'rb'):
-            return os.path.abspath(trace)
+            return trace
     except OSError as error:
         raise Refused(f'{trace}: {error.strerror}') from error
 
@@ -111,7 +77,7 @@ def finish(options: Options, report: Report) -> int:
 
 def write_files(options: Options, report: Report) -> None:
     if options.json is not None:
-        write_whole(options.json, [json.dumps(report.fields(), indent=1, ensure_ascii=False), '\n'])
+        write_whole(options.json, report.json_pieces())
     if options.junit is not None:
         write_whole(options.junit, junit_lines(report))
     if options.html is not None:
@@ -126,7 +92,7 @@ def main(arguments: Optional[List[str]] = None) -> int:
     except Stopped as stopped:
         tell(NAME, f'stopped by {stopped}')
         return stopped.status
-    except (Refused, PlanError) as refused:
+    except (Refused, PlanError, TraceError) as refused:
         for line in str(refused).split('\n'):
             tell(NAME, line)
         return BAD_INPUT

@@ -5,12 +5,12 @@ from __future__ import annotations
 import argparse
 import os
 from dataclasses import dataclass
-from typing import List, Optional
+from typing import List, Optional, Tuple
 
-from . import VERSION
 from .command import parse
 from .mounts import Address
 from .results import Shard
+from .version import version_of
 
 NAME = 'crashfs-check'
 
@@ -42,9 +42,11 @@ class Options:
     shard: Shard
     prefixes: bool
     quick: bool
+    window: Optional[int]
     lost: bool
     files: bool
-    state: Optional[int]
+    nested: int
+    state: Optional[Tuple[int, Optional[int]]]
     fail_fast: bool
     time_limit: Optional[float]
     json: Optional[str]
@@ -92,6 +94,13 @@ def positive(text: str) -> int:
     return int(text)
 
 
+def state(text: str) -> Tuple[int, Optional[int]]:
+    first, slash, second = text.partition('/')
+    if not (first.isdigit() and (second.isdigit() if slash else True)):
+        raise argparse.ArgumentTypeError(f'{text} is neither N nor N/M')
+    return int(first), int(second) if slash else None
+
+
 def seconds(text: str) -> float:
     try:
         value = float(text)
@@ -105,17 +114,22 @@ def seconds(text: str) -> float:
 def add_states(made: argparse.ArgumentParser) -> None:
     """Which states are tried."""
     made.add_argument('--prefixes', action='store_true',
-                      help='the prefixes only: nothing is lost but from the end')
+                      help='the prefixes only: a crash lost what came last')
     made.add_argument('--quick', action='store_true',
                       help='the prefixes and those with one hole; --lost and --files only if given')
+    made.add_argument('--window', metavar='N', type=positive, help=argparse.SUPPRESS)
     made.add_argument('--lost', action='store_true',
                       help='for each operation the smallest disk that still has it '
-                           '(a default, but with --prefixes, --quick and --serve)')
+                           '(default, except with --prefixes, --quick or --serve)')
     made.add_argument('--files', action='store_true',
                       help='for each file the disk without any of its changes that were not synced '
-                           '(a default as --lost)')
-    made.add_argument('--state', metavar='N', type=int,
-                      help='try the state N only, and leave it laid out as the crash left it')
+                           '(default as for --lost)')
+    made.add_argument('--nested', metavar='N', type=positive, default=0,
+                      help='crash the recovery too: record COMMAND in N states, and try each crash '
+                           'state of that recovery by a second run of COMMAND (needs strace)')
+    made.add_argument('--state', metavar='N', type=state,
+                      help='try the state N only, and leave it laid out as the crash left it; N/M '
+                           'is the state M of the recovery of state N')
     made.add_argument('--fail-fast', action='store_true', help='stop at the first failing state')
     made.add_argument('--time-limit', metavar='S', type=seconds,
                       help='stop after so many seconds, and report what was tried')
@@ -140,7 +154,7 @@ def parser() -> argparse.ArgumentParser:
               '       crashfs-check --merge REPORT.json.. [--json FILE] [--junit FILE] '
               '[--html FILE]',
         formatter_class=argparse.RawDescriptionHelpFormatter)
-    made.add_argument('--version', action='version', version=f'{NAME} {VERSION}')
+    made.add_argument('--version', action='version', version=version_of(NAME))
     made.add_argument('trace', metavar='TRACE', nargs='?', help='the trace')
     made.add_argument('--jobs', metavar='N', type=positive, default=len(os.sched_getaffinity(0)),
                       help='run N commands at once (default: one a processor, %(default)s)')
@@ -174,4 +188,6 @@ def read_options(arguments: List[str]) -> Options:
         made.error('COMMAND is missing: put -- before it')
     if values.uname is not None and values.serve is None:
         made.error('--uname goes with --serve')
+    if values.nested and (values.serve or values.shard.parts > 1 or values.merge):
+        made.error('--nested goes with no --serve, --shard or --merge')
     return Options(command=command, **vars(values))

@@ -49,6 +49,11 @@ def found(command: List[str]) -> List[str]:
     return [os.path.abspath(path)] + command[1:]
 
 
+def relative_arguments(command: List[str]) -> List[str]:
+    """COMMAND's arguments that name a file here; COMMAND runs in another directory."""
+    return [word for word in command[1:] if not os.path.isabs(word) and os.path.exists(word)]
+
+
 def folder_of(path: str) -> str:
     """The directory of a file that will be written; Refused where it can be seen that it won't."""
     folder = os.path.dirname(os.path.realpath(path))

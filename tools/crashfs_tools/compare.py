@@ -13,7 +13,7 @@ from .troubles import Trouble
 
 
 class LastState(ABC):
-    """What tells a trace's last state."""
+    """What gives a trace's last state."""
 
     name: str
 
@@ -23,9 +23,9 @@ class LastState(ABC):
 
 
 class Replayed(LastState):
-    """By an own reading of the trace, from its text where that can't be read from a file."""
+    """By an own reading of the trace, from its text if that can't be read from a file."""
 
-    name = 'an own replay'
+    name = "the recorder's replay"
 
     def __init__(self, text: Optional[str] = None) -> None:
         self.text = text
@@ -53,7 +53,7 @@ class ByProgram(LastState):
 
 
 def differences(directory: Scan, last: Entries, told: Iterable[str]) -> List[str]:
-    """Lines on what differs, but for paths of which something is told already."""
+    """Lines on what differs, but for paths of which something is reported already."""
     known = set(told)
     there = {entry.path: entry for entry in directory.entries}
     lines = []
@@ -107,7 +107,7 @@ def links_that_differ(directory: Scan, last: Tree, told: Iterable[str]) -> List[
 
 
 def notes_on(before: Scan, now: Scan, troubles: List[Trouble]) -> List[str]:
-    """What a scan sees and no trace has words for, where nothing was reported of it."""
+    """What a scan sees and no trace has words for, if nothing was reported of it."""
     told = {trouble.where for trouble in troubles}
     changed = [path for path in sorted(before.attributes.keys() | now.attributes.keys())
                if before.attributes.get(path) != now.attributes.get(path)]
@@ -118,7 +118,7 @@ def notes_on(before: Scan, now: Scan, troubles: List[Trouble]) -> List[str]:
 
 
 def left_out_at_the_end(before: Scan, now: Scan, told: Iterable[str]) -> List[str]:
-    """Lines on devices, links and such that were not there before, and nothing was said of."""
+    """Lines on devices, links and such that are new, if nothing was reported of them."""
     known = set(told)
     return [f'{path}: at the end it is {why}, which no trace has' for path, why in now.left_out
             if (path, why) not in before.left_out and not stands_below(path, known)]

@@ -49,7 +49,7 @@ def permission_bits(status: os.stat_result) -> int:
 
 
 def scan(top: str, ignored: Ignored) -> Scan:
-    """Reads a directory; OSError where it can't be read."""
+    """Reads a directory; OSError if it can't be read."""
     return Scanner(top, ignored).scan()
 
 
@@ -105,7 +105,7 @@ class Scanner:
 
 
 def attributes_of(path: str) -> Dict[str, bytes]:
-    """The extended attributes of a file; none where they can't be read."""
+    """The extended attributes of a file; none if they can't be read."""
     try:
         return {name: os.getxattr(path, name) for name in os.listxattr(path)}
     except OSError:

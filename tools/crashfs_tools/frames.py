@@ -18,6 +18,8 @@ PREFIX = '/proc/crashfs-frame/'
 MARKS = ('access', 'faccessat', 'faccessat2')
 FRAME = re.compile(r'^(.*)\(([^()]*?)(?:\+0x[0-9a-f]+)?\) \[(0x[0-9a-f]+)\]$')
 SYSTEM = re.compile(r'/(?:libc|libpthread|ld-linux[^/]*|libm|libdl|libstdc\+\+|libgcc_s)[.-][^/]*$')
+# What calls `main`.
+STARTS = ('_start', '__libc_start_main', '__libc_start_call_main')
 SHOWN = 3
 
 # A program's file, and an address in it.
@@ -70,7 +72,8 @@ def own_frames(frames: List[str]) -> List[Tuple[str, Address]]:
     found: List[Tuple[str, Address]] = []
     for frame in frames:
         match = FRAME.match(frame)
-        if match and not SYSTEM.search(match[1]) and len(found) < SHOWN:
+        is_own = match and not SYSTEM.search(match[1]) and match[2] not in STARTS
+        if match and is_own and len(found) < SHOWN:
             name = os.path.basename(match[1])
             text = f'{match[2]} ({name})' if match[2] else f'{name}+{match[3]}'
             found.append((text, (match[1], match[3])))
@@ -78,7 +81,7 @@ def own_frames(frames: List[str]) -> List[Tuple[str, Address]]:
 
 
 def source_lines(addresses: List[Address]) -> Dict[Address, str]:
-    """Functions with their source lines, where addr2line is there and finds them."""
+    """Functions with their source lines, if addr2line is there and finds them."""
     tool = shutil.which('addr2line')
     by_file: Dict[str, List[str]] = {}
     for path, address in dict.fromkeys(addresses) if tool else []:

@@ -5,34 +5,33 @@ from __future__ import annotations
 from typing import Iterator
 from xml.sax.saxutils import escape, quoteattr
 
+from .groups import Group
 from .report import Report
-from .runner import BAD, GOOD
+from .runner import BAD
 
 
 def junit_lines(report: Report) -> Iterator[str]:
     """A test case for each entry of the report, and one for all other states."""
-    others = sum(one.result == GOOD for one in report.by_state.values())
-    failures = sum(group.result == BAD for group in report.groups)
-    name = quoteattr(f'crashfs-check {report.results.trace}')
+    groups = report.groups()
+    failures = sum(group.result == BAD for group in groups)
+    name = quoteattr(f'crashfs-check {report.head.trace}')
     yield '<?xml version="1.0" encoding="UTF-8"?>\n'
-    yield (f'<testsuite name={name} tests="{len(report.groups) + 1}" failures="{failures}" '
-           f'errors="{len(report.groups) - failures}">\n')
-    for place in range(len(report.groups)):
-        yield from case_lines(report, place)
-    yield f'<testcase classname={name} name="all other states ({others:,})"/>\n'
+    yield (f'<testsuite name={name} tests="{len(groups) + 1}" failures="{failures}" '
+           f'errors="{len(groups) - failures}">\n')
+    for group in groups:
+        yield from case_lines(report, group)
+    yield f'<testcase classname={name} name="all other states ({report.good:,})"/>\n'
     yield '</testsuite>\n'
 
 
-def case_lines(report: Report, place: int) -> Iterator[str]:
-    group, advice = report.groups[place], report.advice[place]
-    head, *details = report.group_lines(group, advice)
-    output = report.by_state[group.example.number].output
+def case_lines(report: Report, group: Group) -> Iterator[str]:
+    head, *details = report.group_lines(group)
     kind = 'failure' if group.result == BAD else 'error'
-    name = quoteattr(f'crashfs-check {report.results.trace}')
+    name = quoteattr(f'crashfs-check {report.head.trace}')
     yield f'<testcase classname={name} name={attribute(group.cause)}>\n'
     yield f'<{kind} message={attribute(details[0].strip() if details else head.strip())}>'
     yield text('\n'.join([head.strip(), *details])) + f'</{kind}>\n'
-    yield f'<system-out>{text(output)}</system-out>\n'
+    yield f'<system-out>{text(group.outcome.output)}</system-out>\n'
     yield '</testcase>\n'
 
 

@@ -7,9 +7,10 @@ import shutil
 import tarfile
 from abc import ABC, abstractmethod
 from contextlib import contextmanager
-from typing import ContextManager, Dict, Iterator, List, Set, Tuple
+from typing import ContextManager, Dict, Iterator, Set, Tuple
 
 from .guard import remove_tree
+from .plan import Planned
 from .program import Crashfs, ProgramFault, path_of
 
 
@@ -23,16 +24,16 @@ class Layout(ABC):
     @abstractmethod
     def laid_out(self, number: int, directory: str) -> ContextManager[None]:
         """Within this a state's directory has the state's tree; behind it the directory is gone.
-        Several states may be laid out at once, by several threads."""
+        Several processes may lay out states at once."""
 
 
 class Archive(Layout):
     """Lays states out below a folder, each as a directory that has its number."""
 
-    def __init__(self, program: Crashfs, plan_options: List[str], folder: str,
+    def __init__(self, program: Crashfs, planned: Planned, folder: str,
                  environment: Dict[str, str]) -> None:
         self.program = program
-        self.plan_options = plan_options
+        self.planned = planned
         self.folder = folder
         self.environment = environment
 
@@ -43,8 +44,7 @@ class Archive(Layout):
 
     def states(self, wanted: Set[int]) -> Iterator[Tuple[int, str]]:
         """One archive is read, as fast as the states are taken: each has its tree already."""
-        first, last = min(wanted), max(wanted)
-        words = [*self.plan_options, '--states', f'{first}-{last}']
+        words = [*self.planned.words, '--states', self.planned.list_of(wanted)]
         left = set(wanted)
         with self.program.archive(words, self.environment) as members:
             for number, path in self.lay_out(members, wanted):
@@ -58,10 +58,10 @@ class Archive(Layout):
         modes: Dict[str, int] = {}
         for member in members:
             top, _, below = path_of(member)[1:].partition('/')
-            if int(top) != number:
+            if int(top) + self.planned.plan.first != number:
                 if number in wanted:
                     yield number, self.finish(number, modes)
-                number, modes = int(top), {}
+                number, modes = int(top) + self.planned.plan.first, {}
                 if number in wanted:
                     os.mkdir(self.path(number))
             if number in wanted:

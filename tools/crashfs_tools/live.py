@@ -5,7 +5,7 @@ from __future__ import annotations
 from dataclasses import dataclass, field
 from typing import Dict, List, Optional, Set
 
-# What a write floats on that goes where the file ends.
+# What a write floats on that goes to the file's end.
 END = 'end'
 
 from . import limits
@@ -39,7 +39,7 @@ class Node:
     """A file or directory.
 
     told has the paths at which the trace has it. data is None for a directory, and for a file
-    whose bytes are lost: no more of them can be told. size is kept. was_synced counts for a file
+    whose bytes are lost: the trace has no more of them. size is kept. was_synced counts for a file
     that has no name yet.
     """
 
@@ -77,7 +77,7 @@ class Node:
 
     @property
     def path_of_told_bytes(self) -> Optional[str]:
-        """The path in the trace of a file whose bytes are told up to now."""
+        """The path in the trace of a file whose bytes it has up to now."""
         return None if self.data is None else self.told_path
 
     def lose_bytes(self) -> None:
@@ -98,7 +98,7 @@ class Node:
             resize(self.data, length)
 
     def is_unordered(self, change: Change) -> bool:
-        """Takes a change in, and tells whether another ran at once whose order counts."""
+        """Takes a change in, and returns whether another ran at once whose order counts."""
         self.recent = [one for one in self.recent if one.end >= change.begin]
         unordered = any(change.is_unordered(one) for one in self.recent)
         self.recent.append(change)

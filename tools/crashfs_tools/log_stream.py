@@ -15,13 +15,13 @@ from .mapped import MappedFiles
 from .pipe_lines import PipeLines
 from .strace_log import Log, LogReader
 
-# Seconds in which strace says of all threads of a process that they are stopped.
+# Seconds in which strace reports all threads of a process as stopped.
 SAME_STOP = 0.005
 STOPPED = re.compile(r'^(\d+) +--- stopped by SIGSTOP ---')
 
 
 class LogStream:
-    """strace writes to `pipe`; the lines are kept in a file too where one is named."""
+    """strace writes to `pipe`; the lines are kept in a file too if one is named."""
 
     def __init__(self, folder: str, keep: Optional[str], mapped: Optional[MappedFiles]) -> None:
         self.pipe = os.path.join(folder, 'log')
@@ -40,7 +40,7 @@ class LogStream:
         self.thread.start()
 
     def end(self) -> Log:
-        """The log, when strace has ended. OSError where it could not be kept."""
+        """The log, when strace has ended. OSError if it could not be kept."""
         self.release()
         self.thread.join()
         if self.fault is not None:

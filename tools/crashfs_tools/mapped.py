@@ -1,5 +1,5 @@
 """Copies of files that are mapped for writing: strace sees no stores, so the program is stopped
-at each call that syncs, writes or tells, and the files are read."""
+at each call that syncs, writes or prints, and the files are read."""
 
 from __future__ import annotations
 

@@ -39,7 +39,7 @@ class Memory:
         self.mappings.append(mapping)
 
     def unmap(self, address: int, length: int) -> None:
-        """Nothing of ours is in a range any more: also where another mapping takes its place."""
+        """Nothing of ours is in a range any more: also if another mapping takes its place."""
         end = address + rounded(length)
         kept = []
         for mapping in self.mappings:

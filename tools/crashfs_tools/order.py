@@ -1,9 +1,9 @@
-"""The order of calls: where each stands in the trace, since calls of several threads overlap.
+"""The order of calls: where each is in the trace, since calls of several threads overlap.
 
-A change, and a line that the program tells, counts from when it begins; a sync, and anything
-else, from when it has ended. So nothing stands behind a sync that didn't wait for it. A change
-that overlaps a sync of the same file is not surely covered: it stands where it ends, and the
-sync before it.
+A change, and an acknowledged line, counts from when it begins; a sync, and anything else, from
+when it has ended. So nothing is after a sync that didn't wait for it. A change that overlaps a
+sync of the same file is not surely covered: it counts from when it ends, and the sync is before
+it.
 """
 
 from __future__ import annotations
@@ -58,7 +58,7 @@ def moment_of(call: Call) -> Moment:
 
 
 class Changes:
-    """The changes of a log. Most stand in one line: these are found by their line."""
+    """The changes of a log. Most are in one line: these are found by their line."""
 
     def __init__(self, changes: List[Call]) -> None:
         self.long = [call for call in changes if call.begin != call.end]
@@ -89,12 +89,12 @@ def stand_apart(sync: Call, changes: List[Call], moments: Dict[int, Moment]) -> 
 
 
 def synced_path(sync: Call) -> Optional[str]:
-    """The path that a sync covers; None where it may be any."""
+    """The path that a sync covers; None if it may be any."""
     return sync.descriptor().path if sync.name in ('fsync', 'fdatasync') else None
 
 
 def changed_paths(change: Call) -> Optional[Set[str]]:
-    """The paths whose syncs cover a change; None where that can't be told."""
+    """The paths whose syncs cover a change; None if that isn't known."""
     if change.name in DESCRIPTOR_CHANGES:
         path = change.descriptor(TARGET_PLACES.get(change.name, 0)).path
         return set() if path is None else {path}

@@ -1,4 +1,4 @@
-"""What crashfs-record prints at its end: all that the trace doesn't say, and what it has."""
+"""What crashfs-record prints at its end: what the trace leaves out, and what it has."""
 
 from __future__ import annotations
 
@@ -6,8 +6,7 @@ import os
 from dataclasses import dataclass, field
 from typing import Dict, List, Optional, Tuple
 
-from . import limits
-from .command import ended
+from .command import ended, relative_arguments
 from .compare import (
     ByProgram,
     LastState,
@@ -19,6 +18,7 @@ from .compare import (
 )
 from .directory import Scan, scan
 from .program import Crashfs, ProgramFault
+from .planning import is_too_large
 from .reading import ReadingFault, count_states
 from .record_options import Options
 from .session import Session
@@ -27,6 +27,7 @@ from .troubles import Trouble
 from .voices import ERRORS
 
 WHOLE, NOT_WHOLE, NOTED = 0, 3, 4
+IN_WINDOWS = 'states in windows (crashfs-check makes them)'
 
 
 @dataclass
@@ -47,15 +48,18 @@ def outcome(session: Session, options: Options, ending: Optional[str]) -> Outcom
     troubles = session.troubles.values()
     found.lines = [f'not in the trace: {trouble}' for trouble in troubles if not trouble.is_note]
     found.notes = [f'not in the trace: {line}' for line in notes_of(troubles)]
-    count = session.told.micro_operations
-    if count > limits.MICRO_OPERATIONS:
-        found.lines.append(f'crashfs takes no more than {limits.MICRO_OPERATIONS:,} '
-                           'micro-operations: record fewer changes')
     if ending is not None:
-        found.lines.append('COMMAND ' + ending)
+        found.lines += ['COMMAND ' + ending, *relative_hints(options)]
     if not options.no_say:
         found.lines += silence(session)
     return found
+
+
+def relative_hints(options: Options) -> List[str]:
+    """The likely cause if COMMAND failed: an argument that names a file elsewhere."""
+    return [f'{word} is no absolute path, and COMMAND runs in {options.directory}: name it as '
+            f'{os.path.abspath(word)}' for word in relative_arguments(options.command)
+            if not os.path.exists(os.path.join(options.directory, word))]
 
 
 def notes_of(troubles: List[Trouble]) -> List[str]:
@@ -97,8 +101,8 @@ def compared(options: Options, session: Session, before: Scan, found: Outcome) -
         different = (differences(now, entries, told) + left_out_at_the_end(before, now, told)
                      + links_that_differ(now, session.told, told))
         found.notes += notes_on(before, now, session.troubles.values())
-        verdict = 'differs from' if different else 'is that of'
-        but = ', but for what is told' if found.lines and not different else ''
+        verdict = 'differs from' if different else 'equals'
+        but = ', except for what is reported' if told and not different else ''
         found.lines += different
         return f'its last state {verdict} the directory{but} (by {last.name})'
     return 'its last state was compared with nothing'
@@ -139,12 +143,12 @@ def states(options: Options, session: Session) -> str:
         try:
             return counted(program.states(options.out), 'state')
         except ProgramFault as fault:
-            if 'too' in str(fault):
-                return f'no states ({fault})'
+            if is_too_large(fault):
+                return IN_WINDOWS
     try:
         return counted(count_states(text_of(session)), 'state')
     except ReadingFault as fault:
-        return f'no states ({fault})'
+        return IN_WINDOWS if is_too_large(fault) else f'no states ({fault})'
 
 
 def counted(count: int, what: str) -> str:

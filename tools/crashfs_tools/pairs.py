@@ -23,17 +23,20 @@ Alike = Callable[[int], Optional[bool]]
 class Pairs:
     """Finds the pair of each failing state from the outcomes of all states.
 
-    A hole lacks i and what needs i: if a hole fails alike that lacks only some of that, that one
-    counts. Then, of the states that lack the same and fail alike, the one with the least j counts,
-    with no other between; the operation at j - 1 was kept, and i was not. If the prefix of the same
-    length fails alike, the hole is not to blame, and the prefix's pair counts: what was kept when
-    it began to fail, and what repairs it.
+    A state with the tree and the acknowledged lines of a prefix has the pair of that prefix: to
+    lose something isn't needed for its failure. A hole lacks i and what needs i: if a hole fails
+    alike that lacks only some of that, that one counts. Then, of the states that lack the same and
+    fail alike, the one with the least j counts, with no other between; the operation at j - 1 was
+    kept, and i was not. If the prefix of the same length fails alike, the hole is not to blame, and
+    the prefix's pair counts: what was kept when it began to fail, and what repairs it.
     """
 
     def __init__(self, plan: Plan, outcomes: Dict[int, Outcome]) -> None:
         self.plan = plan
         self.outcomes = outcomes
         self.prefixes = {s.numbers[0]: s.number for s in plan.states if s.family == 'prefix'}
+        self.equal_prefixes = {(s.same, s.says): s.numbers[0]
+                               for s in reversed(plan.states) if s.family == 'prefix'}
         self.holes = {(s.numbers[0], s.numbers[1]): s.number
                       for s in plan.states if s.family == 'hole'}
         self.kinds = Kinds(outcomes)
@@ -43,6 +46,9 @@ class Pairs:
         fails = self.alike(self.outcomes[state.number])
         if state.family == 'prefix':
             return self.of_prefix(state.numbers[0], fails)
+        equal = self.equal_prefixes.get((state.same, state.says))
+        if equal is not None and fails(self.prefixes[equal]):
+            return self.of_prefix(equal, fails)
         if state.family == 'hole':
             return self.of_hole(state, fails)
         return self.of_pick(state, fails)
@@ -101,7 +107,7 @@ class Pairs:
         for place in places_of(lacking):
             hole = self.holes.get((place, kept.bit_length()))
             if hole is not None and fails(hole):
-                return self.of_hole(self.plan.listed[hole], fails)
+                return self.of_hole(self.plan.state(hole), fails)
         return Pair(kept.bit_length() - 1 if kept else None, next(places_of(lacking), None))
 
 

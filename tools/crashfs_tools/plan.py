@@ -1,20 +1,13 @@
-"""The plan of a trace as `crashfs list --lines --same` prints it, and what each state has."""
+"""The plan of a trace as `crashfs list --json` prints it, and what each state has."""
 
 from __future__ import annotations
 
-import re
+import json
 from dataclasses import dataclass
-from typing import Dict, Iterable, Iterator, List, Sequence, Tuple
+from typing import Any, Dict, Iterable, Iterator, List, Sequence, Tuple
 
-# A line of an operation, by what it names; a path may have blanks.
-OPERATIONS = [re.compile(f'^op (?P<place>\\d+) {form}$') for form in (
-    r'(?P<kind>change_file_size|write_block) \d+ (?P<rest>[\d ]+) line (?P<line>\d+) (?P<path>/.*)',
-    r'(?P<kind>set_attr) file \d+ (?P<rest>[0-7]{3} \S+ \S+) line (?P<line>\d+) (?P<path>/.*)',
-    r'(?P<kind>set_attr) dir (?P<path>/.*) (?P<rest>[0-7]{3} \S+ \S+) line (?P<line>\d+)',
-    r'(?P<kind>link_dir_entry) (?P<path>/.*) (?P<rest>\d+) line (?P<line>\d+)',
-    r'(?P<kind>\w+_dir_entry) (?P<path>/.*) line (?P<line>\d+)',
-    r'(?P<kind>say) line (?P<line>\d+)')]
-STATE = re.compile(r'^state (\d+) (prefix|hole|pick) (\S+(?: \d+)?) says (\d+)(?: same (\d+))?$')
+# The fields of a micro-operation that its text has after its kind and path, in this order.
+DETAILS = ('to', 'block', 'at', 'count', 'length', 'node', 'mode', 'owner', 'group')
 
 
 class PlanError(Exception):
@@ -23,7 +16,7 @@ class PlanError(Exception):
 
 @dataclass(frozen=True)
 class MicroOperation:
-    """A micro-operation; path is that of its file, or of its entry (of a move both)."""
+    """A micro-operation by its place in the session; path is that of its file, or of its entry."""
 
     place: int
     kind: str
@@ -39,18 +32,14 @@ class MicroOperation:
 
 @dataclass(frozen=True)
 class State:
-    """A crash state. same is the first state with an equal tree."""
+    """A crash state. numbers are places in its plan: a prefix's end; what a hole is missing, and
+    its end; the members of a pick. same is the first state with an equal tree."""
 
     number: int
     family: str
     numbers: Tuple[int, ...]
     says: int
     same: int
-
-    @property
-    def text(self) -> str:
-        shown = ' '.join(map(str, self.numbers))
-        return 'a pick' if self.family == 'pick' else f'{self.family} {shown}'
 
 
 @dataclass(frozen=True)
@@ -61,6 +50,28 @@ class Trial:
     says: int
 
 
+@dataclass(frozen=True)
+class Before:
+    """What of a session comes before a plan: so many states, micro-operations and acknowledged
+    lines. lines has the session's line of each line of the plan's trace, or is empty if they are
+    the same."""
+
+    states: int = 0
+    operations: int = 0
+    says: int = 0
+    lines: Tuple[int, ...] = ()
+
+    def line(self, number: int) -> int:
+        return self.lines[number - 1] if self.lines else number
+
+    def own_lines(self, values: Dict[int, str]) -> Dict[int, str]:
+        """Values by lines of the session, by the last line of the plan's trace for each."""
+        if not self.lines:
+            return values
+        own = {line: number for number, line in enumerate(self.lines, 1)}
+        return {own[line]: value for line, value in values.items() if line in own}
+
+
 class Needs:
     """Which micro-operations each one needs, by any chain, itself among them. Sets of places are
     numbers whose bits are the places."""
@@ -68,17 +79,6 @@ class Needs:
     def __init__(self, masks: Sequence[int]) -> None:
         self.masks = masks
         self.needed_by: Dict[int, int] = {}
-
-    @staticmethod
-    def from_picks(picks: Iterable[Iterable[int]]) -> Needs:
-        """From the family --lost, which has for each micro-operation the least allowed set that
-        has it: no allowed set with that last member is less."""
-        least: Dict[int, int] = {}
-        for places in picks:
-            mask = set_of(places)
-            last = mask.bit_length() - 1
-            least[last] = min(least.get(last, mask), mask, key=count)
-        return Needs([least.get(place, 0) for place in range(max(least, default=-1) + 1)])
 
     def needs(self, later: int, earlier: int) -> bool:
         return later < len(self.masks) and bool(self.masks[later] >> earlier & 1)
@@ -102,23 +102,34 @@ class Needs:
 
 
 class Plan:
-    """The micro-operations, the states of crashes, and what each state keeps."""
+    """The micro-operations, the states of crashes, and what each state keeps. first is the number
+    of the first state."""
 
-    def __init__(self, operations: List[MicroOperation], states: List[State],
-                 needs: Needs) -> None:
+    def __init__(self, operations: List[MicroOperation], listed: List[State], needs: Needs,
+                 first: int = 0) -> None:
         self.operations = operations
-        self.listed = states
+        self.listed = listed
         self.needs = needs
-        self.says = set_of(one.place for one in operations if one.kind == 'say')
-        self.kept = {state.number: self.kept_by(state) for state in states}
-        self.states = [state for state in states if self.may_be(self.kept[state.number])]
+        self.first = first
+        self.says = set_of(at for at, one in enumerate(operations) if one.kind == 'say')
+        self.kept = {state.number: self.kept_by(state) for state in listed}
+        self.states = [state for state in listed if self.may_be(self.kept[state.number])]
 
-    def trials(self) -> Dict[Trial, int]:
-        """Each trial, with the first state that is tried for it, in the order of these."""
-        first: Dict[Trial, int] = {}
-        for state in self.states:
-            first.setdefault(Trial(state.same, state.says), state.number)
-        return first
+    @property
+    def begin(self) -> int:
+        """The session's place of the first micro-operation."""
+        return self.operations[0].place if self.operations else 0
+
+    def has(self, number: int) -> bool:
+        return self.first <= number < self.first + len(self.listed)
+
+    def state(self, number: int) -> State:
+        return self.listed[number - self.first]
+
+    def text(self, state: State) -> str:
+        """Which state it is, by the session's micro-operations."""
+        shown = ' '.join(str(self.begin + number) for number in state.numbers)
+        return 'a pick' if state.family == 'pick' else f'{state.family} {shown}'
 
     def kept_by(self, state: State) -> int:
         if state.family == 'pick':
@@ -140,6 +151,40 @@ class Plan:
         return (1 << kept.bit_length()) - 1 & ~kept
 
 
+@dataclass
+class Planned:
+    """A trace that the program takes: the options that name its plan, and the plan. before says
+    what of the session comes before it, and is_last whether nothing comes after it."""
+
+    trace: str
+    words: List[str]
+    plan: Plan
+    before: Before = Before()
+    is_last: bool = True
+
+    def part(self) -> str:
+        """Which part of the session it is, before what is said of it; nothing if it is all."""
+        begin = self.before.operations
+        if self.is_last and begin == 0:
+            return ''
+        return f'micro-operations {begin:,} to {begin + len(self.plan.operations) - 1:,}: '
+
+    def local(self, number: int) -> int:
+        """The program's number of a state."""
+        return number - self.plan.first
+
+    def list_of(self, numbers: Iterable[int]) -> str:
+        """States as `tar --states` takes them: numbers and ranges, ascending."""
+        ranges: List[List[int]] = []
+        for number in sorted(map(self.local, numbers)):
+            if ranges and ranges[-1][1] == number - 1:
+                ranges[-1][1] = number
+            else:
+                ranges.append([number, number])
+        return ','.join(str(first) if first == last else f'{first}-{last}'
+                        for first, last in ranges)
+
+
 def set_of(places: Iterable[int]) -> int:
     return sum(1 << place for place in places)
 
@@ -156,30 +201,36 @@ def places_of(mask: int) -> Iterator[int]:
         mask ^= lowest
 
 
-def read_plan(listed: str, needs: Needs) -> Plan:
+def read_plan(listed: str, before: Before = Before()) -> Plan:
+    """The plan that the program printed, with numbers, places and lines of the whole session."""
     operations: List[MicroOperation] = []
     states: List[State] = []
+    masks: List[int] = []
     for line in listed.rstrip('\n').split('\n'):
-        if line.startswith('op '):
-            operations.append(read_operation(line))
-        else:
-            states.append(read_state(line))
-    return Plan(operations, states, needs)
+        try:
+            fields = json.loads(line)
+            if 'op' in fields:
+                operations.append(operation_of(fields, before))
+                masks.append(set_of(fields['needs']))
+            else:
+                states.append(state_of(fields, before))
+        except (ValueError, KeyError, TypeError, AttributeError) as error:
+            raise PlanError(f'crashfs list printed: {line}') from error
+    return Plan(operations, states, Needs(masks), before.states)
 
 
-def read_operation(line: str) -> MicroOperation:
-    match = next(filter(None, (form.match(line) for form in OPERATIONS)), None)
-    if match is None:
-        raise PlanError(f'crashfs list printed: {line}')
-    found = match.groupdict()
-    return MicroOperation(int(found['place']), found['kind'], found.get('path', ''),
-                          found.get('rest', ''), int(found['line']))
+def operation_of(fields: Dict[str, Any], before: Before) -> MicroOperation:
+    rest = ' '.join(str(fields[key]) for key in DETAILS if key in fields)
+    return MicroOperation(fields['op'] + before.operations, fields['kind'],
+                          fields.get('path') or '', rest, before.line(fields['line']))
 
 
-def read_state(line: str) -> State:
-    match = STATE.match(line)
-    if not match:
-        raise PlanError(f'crashfs list printed: {line}')
-    number, family, shown, says, same = match.groups()
-    numbers = [] if shown == '-' else [int(word) for word in re.split('[ ,]', shown)]
-    return State(int(number), family, tuple(numbers), int(says), int(same or number))
+def state_of(fields: Dict[str, Any], before: Before) -> State:
+    kind = fields['kind']
+    if kind == 'pick':
+        numbers = tuple(fields['places'])
+    else:
+        names = {'prefix': ('end',), 'hole': ('missing', 'end')}[kind]
+        numbers = tuple(fields[name] for name in names)
+    return State(fields['state'] + before.states, kind, numbers,
+                 fields['says'] + before.says, fields['same'] + before.states)

@@ -4,27 +4,20 @@ from __future__ import annotations
 
 import json
 import os
-from dataclasses import dataclass
-from typing import List
+from typing import Iterator, List
 
 from .check_options import Options
 from .command import Refused
 from .guard import Guard
-from .plan import Needs, Plan, read_plan, set_of
+from .plan import Before, Needs, Plan, Planned, places_of, read_plan, set_of
 from .program import Crashfs, ProgramFault
 
-TOO_LARGE = '--prefixes leaves the holes out, and --quick two families; or record fewer changes'
+# What the program says of a trace that it would take in parts.
+TOO_LARGE = ('plan too large', 'too many micro-operations')
 
 
-@dataclass
-class Planned:
-    """A trace that the program takes: the options that name its plan, what `list` prints of it,
-    and the plan."""
-
-    trace: str
-    words: List[str]
-    listed: str
-    plan: Plan
+class TooLarge(Refused):
+    """A trace that the program takes only in windows."""
 
 
 class Planner:
@@ -35,18 +28,21 @@ class Planner:
         self.program = program
         self.guard = guard
 
-    def plan(self, trace: str) -> Planned:
-        lost = self.picks(trace, '--lost')
-        needs = Needs.from_picks(json.loads(line) for line in lost)
-        words = ['--trace', trace, *self.families(trace, lost, needs)]
-        listed = self.ask(['list', *words, '--lines', '--same'])
-        return Planned(trace, words, listed, read_plan(listed, needs))
+    def plan(self, trace: str, before: Before = Before()) -> Planned:
+        needs = self.prefixes(trace).needs
+        words = ['--trace', trace, *self.families(trace, needs)]
+        return Planned(trace, words, read_plan(self.ask(['list', *words, '--json']), before),
+                       before)
 
-    def families(self, trace: str, lost: List[str], needs: Needs) -> List[str]:
+    def prefixes(self, trace: str) -> Plan:
+        """The plan of the prefixes only: it has no limit but that of the micro-operations."""
+        return read_plan(self.ask(['list', '--trace', trace, '--json']))
+
+    def families(self, trace: str, needs: Needs) -> List[str]:
         """The options of the families; a set of more than one of them is in the plan once."""
         words = [] if self.options.prefixes else ['--holes']
-        lines = lost if self.options.has_lost else []
-        lines = lines + (self.picks(trace, '--files') if self.options.has_files else [])
+        lines = list(lost_family(needs)) if self.options.has_lost else []
+        lines = lines + (self.files_family(trace) if self.options.has_files else [])
         if not self.options.prefixes and self.options.serve is None:
             lines = [line for line in lines if not needs.has_hole(set_of(json.loads(line)))]
         if not lines:
@@ -56,11 +52,11 @@ class Planner:
             file.writelines(f'{line}\n' for line in dict.fromkeys(lines))
         return words + ['--picks', path]
 
-    def picks(self, trace: str, family: str) -> List[str]:
-        return self.ask(['picks', '--trace', trace, family]).splitlines()
+    def files_family(self, trace: str) -> List[str]:
+        return self.ask(['picks', '--trace', trace, '--files']).splitlines()
 
     def ask(self, words: List[str]) -> str:
-        """What the program prints; an option that it lacks is told as such."""
+        """What the program prints; an option that it lacks is reported as such."""
         try:
             return self.program.text(words, self.guard.environment)
         except ProgramFault as fault:
@@ -68,10 +64,21 @@ class Planner:
 
     def refused(self, command: str, fault: ProgramFault) -> Refused:
         if fault.is_unknown_option:
-            need = {'list': '`list --lines --same`', 'tar': '`tar --states`'}.get(
-                command, f'`{command}`')
+            need = {'list': '`list --json`', 'tar': '`tar --states`'}.get(command, f'`{command}`')
             return Refused(f'{self.program.path} has no {need} yet ({fault}): '
                            'build the program that these tools came with')
-        if 'plan too large' in str(fault):
-            return Refused(f'{fault} ({TOO_LARGE})')
+        if is_too_large(fault):
+            return TooLarge(str(fault))
         return Refused(str(fault))
+
+
+def is_too_large(fault: Exception) -> bool:
+    """Whether the program, or the second reading, refused a trace for its length."""
+    said = fault.text if isinstance(fault, ProgramFault) else str(fault)
+    return any(text in said for text in TOO_LARGE)
+
+
+def lost_family(needs: Needs) -> Iterator[str]:
+    """The picks of --lost: for each micro-operation the least set that has it."""
+    for mask in needs.masks:
+        yield json.dumps(list(places_of(mask)), separators=(',', ':'))

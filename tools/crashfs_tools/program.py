@@ -14,9 +14,11 @@ from typing import Dict, Iterator, List, Optional
 from .command import Refused, ended
 from .tree import Entries, Entry
 
-TOP = os.path.dirname(os.path.dirname(os.path.dirname(os.path.realpath(__file__))))
+PACKAGE = os.path.dirname(os.path.realpath(__file__))
+LIBRARY = os.path.dirname(PACKAGE)
+TOP = os.path.dirname(LIBRARY)
 BUILT = os.path.join(TOP, 'crates', 'crashfs', 'out', 'crashfs')
-READING = os.path.join(os.path.dirname(os.path.realpath(__file__)), 'reading', '__main__.py')
+READING = os.path.join(PACKAGE, 'reading', '__main__.py')
 # The status of a command line that the program doesn't know.
 UNKNOWN_OPTION = 2
 PIECE_BYTES = 1 << 16
@@ -28,7 +30,8 @@ class ProgramFault(Exception):
     """`crashfs` refused what it was asked: its status, and its line."""
 
     def __init__(self, status: int, told: bytes) -> None:
-        lines = told.decode('utf-8', 'replace').strip().splitlines()
+        self.text = told.decode('utf-8', 'replace').strip()
+        lines = self.text.splitlines()
         # A command line parser has its usage behind its first line.
         line = lines[0 if status == UNKNOWN_OPTION else -1] if lines else f'crashfs {ended(status)}'
         super().__init__(line)
@@ -54,12 +57,13 @@ class Crashfs:
 
     @staticmethod
     def find(given: Optional[str]) -> Optional[Crashfs]:
-        """The program that --crashfs names, else that of PATH, else the one built here."""
+        """The program that --crashfs names, else that of PATH, else the one that was installed with
+        these tools, else the one built here."""
         if given is not None:
             if shutil.which(given) is None:
                 raise Refused(f'--crashfs {given}: no such program')
             return Crashfs(os.path.abspath(shutil.which(given) or given))
-        path = shutil.which('crashfs') or (BUILT if os.access(BUILT, os.X_OK) else None)
+        path = shutil.which('crashfs') or program_beside(LIBRARY)
         return None if path is None else Crashfs(path)
 
     def text(self, words: List[str], environment: Optional[Dict[str, str]] = None) -> str:
@@ -109,7 +113,10 @@ class Crashfs:
     def states(self, trace: str, holes: bool = True) -> int:
         """How many states a trace has: its prefixes, and with a hole each."""
         lines = self.text(['list', '--trace', trace, *(['--holes'] if holes else [])])
-        return int(f'\n{lines}'.rpartition('\nstate ')[2].split()[0]) + 1
+        last = lines.rstrip('\n').rpartition('\n')[2].split(' ')
+        if last[0] != 'state' or not last[1:2] or not last[1].isdigit():
+            raise ProgramFault(0, b'crashfs: what it printed is no list')
+        return int(last[1]) + 1
 
     def tree(self, trace: str, state: int) -> Entries:
         """The tree of a state, but for the root."""
@@ -117,9 +124,22 @@ class Crashfs:
 
     def tree_of(self, words: List[str], environment: Optional[Dict[str, str]] = None) -> Entries:
         """The tree of the one state that options name, but for the root."""
+        tree = self.whole_tree(words, environment)
+        tree.pop('/', None)
+        return tree
+
+    def whole_tree(self, words: List[str],
+                   environment: Optional[Dict[str, str]] = None) -> Entries:
         with self.archive(words, environment) as members:
-            return {path_of(member): entry_of(members, member)
-                    for member in members if path_of(member) != '/'}
+            return {path_of(member): entry_of(members, member) for member in members}
+
+
+def program_beside(library: str) -> Optional[str]:
+    """The program of bin/ if these tools are a release's, in lib/crashfs, else the one built here."""
+    folder, name = os.path.split(library)
+    is_release = name == 'crashfs' and os.path.basename(folder) == 'lib'
+    path = os.path.join(os.path.dirname(folder), 'bin', 'crashfs') if is_release else BUILT
+    return path if os.access(path, os.X_OK) else None
 
 
 def read_to_end(child: subprocess.Popen[bytes]) -> bytes:

@@ -3,7 +3,6 @@
 from __future__ import annotations
 
 import sys
-import threading
 import time
 from typing import Callable, TextIO
 
@@ -11,34 +10,35 @@ from .check_options import NAME
 from .runner import BAD, Outcome
 
 EVERY_SECONDS = 30.0
+TERMINAL_SECONDS = 0.1
 
 
 class Progress:
 
     def __init__(self, total: int, stream: TextIO = sys.stderr,
-                 clock: Callable[[], float] = time.monotonic) -> None:
+                 clock: Callable[[], float] = time.monotonic, part: str = '') -> None:
         self.total = total
+        self.part = part
         self.tried = self.failed = 0
         self.stream = stream
         self.clock = clock
         self.begun = self.told = clock()
         self.terminal = stream.isatty()
-        self.lock = threading.Lock()
 
     def step(self, outcome: Outcome) -> None:
-        with self.lock:
-            self.tried += 1
-            self.failed += outcome.result == BAD
-            if self.terminal:
-                print(f'\r{self.line()}\033[K', end='', file=self.stream, flush=True)
-            elif self.clock() - self.told >= EVERY_SECONDS:
-                self.told = self.clock()
-                print(f'{NAME}: {self.line()}', file=self.stream, flush=True)
+        self.tried += 1
+        self.failed += outcome.result == BAD
+        if self.terminal and self.clock() - self.told >= TERMINAL_SECONDS:
+            self.told = self.clock()
+            print(f'\r{self.line()}\033[K', end='', file=self.stream, flush=True)
+        elif not self.terminal and self.clock() - self.told >= EVERY_SECONDS:
+            self.told = self.clock()
+            print(f'{NAME}: {self.line()}', file=self.stream, flush=True)
 
     def line(self) -> str:
         """The estimate takes the states that are left for as slow as those that were tried."""
         seconds = (self.clock() - self.begun) / self.tried * (self.total - self.tried)
-        return (f'{self.tried:,} of {self.total:,} tried, {self.failed:,} fail, '
+        return (f'{self.part}{self.tried:,} of {self.total:,} tried, {self.failed:,} fail, '
                 f'about {duration(seconds)} left')
 
     def end(self) -> None:

@@ -47,11 +47,11 @@ def run_command(options: Options, guard: Guard) -> Recorded:
     status = running.run()
     log = stream.end()
     if log.first is None:
-        raise Refused('strace recorded nothing (it may not trace here: see what it said)')
+        raise Refused('strace recorded nothing (it may not trace here: see its message)')
     if not log.is_whole:
         raise Refused("strace's log ends before COMMAND did")
     if not log.has_begun:
-        raise Refused(f'{options.command[0]} could not be started (strace said why)')
+        raise Refused(f'{options.command[0]} could not be started (strace prints why)')
     return Recorded(log, mapped.copies if mapped else None, status, tuple(running.stops),
                     running.output)
 
@@ -122,7 +122,7 @@ def translate(options: Options, session: Session, recorded: Recorded) -> None:
     begin = None if wanted is None else BeginAfter(session, wanted)
     Translator(session, recorded.log, recorded.copies).run()
     if begin is not None and not begin.has_begun:
-        session.trouble(f'no acknowledged line is {wanted}: it begins where COMMAND did',
+        session.trouble(f'no acknowledged line is {wanted}: the trace begins with COMMAND',
                         '--begin-after')
     operations = session.trace.operations
     if options.from_log is not None and all(isinstance(it, Say) for it in operations):

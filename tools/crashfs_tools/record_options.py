@@ -7,10 +7,10 @@ import os
 from dataclasses import dataclass, field
 from typing import List, Optional
 
-from . import VERSION
 from .command import Refused, folder_of, found, parse
 from .ignore import Ignore
 from .trace import BLOCK_SIZES, BLOCKS, PROFILES
+from .version import version_of
 from .voices import SOCKETS
 
 NAME = 'crashfs-record'
@@ -23,7 +23,7 @@ that changes something below DIR an operation, and each line that COMMAND writes
 output a `say`: what it acknowledged to its user. COMMAND changes DIR as it would without this."""
 
 EPILOG = """\
-status: 0 the trace is complete; 4 it is, but for things that change no verdict (each is printed);
+status: 0 the trace is complete; 4 except for things that change no verdict (each is printed);
 3 it is written, and something happened that it can't say, or no loss can be seen (each is printed);
 1 nothing is written; 2 the command line is refused. Ctrl-C and SIGTERM are passed to COMMAND, and
 what was recorded is written; a second one kills COMMAND.
@@ -60,7 +60,7 @@ def parser() -> argparse.ArgumentParser:
         prog=NAME, description=DESCRIPTION, epilog=EPILOG,
         usage='crashfs-record [OPTION].. DIR OUT.trace -- COMMAND [ARG]..',
         formatter_class=argparse.RawDescriptionHelpFormatter)
-    made.add_argument('--version', action='version', version=f'{NAME} {VERSION}')
+    made.add_argument('--version', action='version', version=version_of(NAME))
     made.add_argument('directory', metavar='DIR', help='the directory that COMMAND changes')
     made.add_argument('out', metavar='OUT.trace',
                       help='the trace that is written; - is standard output')

@@ -1,19 +1,25 @@
-"""The report of a check as text."""
+"""The report of a check as text, and as JSON."""
 
 from __future__ import annotations
 
+import json
 import textwrap
+import zlib
 from collections import Counter
-from dataclasses import dataclass
-from typing import Any, Dict, List
+from dataclasses import replace
+from typing import Any, Dict, Iterator, List, Optional
+from typing import Counter as Counts
 
-from .advice import Advice, advice_of
-from .groups import Group, Groups
-from .results import Results
-from .runner import BAD, NO_ANSWER
+from .drawing import Drawing, drawing_of
+from .groups import Findings, Group, together
+from .recovery import Recovery, Second, seconds
+from .results import Head
+from .runner import BAD, GOOD, NO_ANSWER
 from .trace_lines import TraceLine
 
 SHOWN_GROUPS = 20
+# So many windows are drawn: the page must stay small.
+DRAWN = 8
 WIDTH = 100
 CAUSE_WIDTH = 52
 NONE_FAILS, SOME_FAIL, NOT_ALL_TRIED = 0, 1, 3
@@ -21,124 +27,194 @@ UNPROVED = ('unproved: these states are of a second reading in Python, not of cr
             '(tools/build makes it)')
 
 
-@dataclass(frozen=True)
-class Difference:
-    """How the example of a group differs from a good state: a line for each path."""
-
-    good: int
-    lines: List[str]
-
-
 class Report:
-    """What is told of the results: the groups of failing states, each with its advice."""
+    """What is told of a check, window by window: little is kept of each. With keep it has all for
+    the JSON, and with draw all for the page."""
 
-    def __init__(self, results: Results) -> None:
-        self.results = results
-        self.plan = results.plan
-        self.finder = Groups(results)
-        self.by_state = self.finder.outcomes
-        self.groups: List[Group] = self.finder.all()
-        self.advice: Dict[int, Advice] = {
-            place: advice_of(group, results.lines) for place, group in enumerate(self.groups)}
-        self.differences: Dict[int, Difference] = {}
+    def __init__(self, head: Head, keep: bool = False, draw: bool = False) -> None:
+        self.head = head
+        self.keep = keep
+        self.draw = draw
+        self.windows = self.operations = self.states = self.different = self.tried = 0
+        self.words: Counts[str] = Counter()
+        self.results: Counts[str] = Counter()
+        self.parts: List[List[Group]] = []
+        self.kept: List[bytes] = []
+        self.drawings: List[Drawing] = []
+        self.recoveries: List[Recovery] = []
+
+    def add(self, findings: Findings) -> None:
+        results, plan = findings.results, findings.plan
+        self.windows += 1
+        self.operations = plan.begin + len(plan.operations)
+        self.states += len(results.own)
+        self.different += len(results.trials)
+        self.tried += sum(first in results.outcomes for first in results.trials.values())
+        outcomes = findings.own_outcomes()
+        self.results.update(one.result for one in outcomes)
+        self.words.update(one.word for one in outcomes if one.result == BAD)
+        self.parts.append(findings.groups)
+        if self.keep:
+            self.kept.append(zlib.compress(as_json(results.fields()).encode('utf-8',
+                                                                            'surrogateescape')))
+        if self.draw and (findings.groups or not self.drawings):
+            self.drawings.append(drawing_of(findings))
+
+    def groups(self) -> List[Group]:
+        """The groups of all windows; those that agree are one."""
+        found = together(replace(group, states=list(group.states), advice=replace(group.advice))
+                         for part in self.parts for group in part)
+        for group in found:
+            group.advise(self.head.lines)
+        return found
 
     @property
     def status(self) -> int:
-        found = {outcome.result for outcome in self.by_state.values()}
-        if NO_ANSWER in found:
+        if self.results[NO_ANSWER]:
             return NOT_ALL_TRIED
-        if BAD in found:
+        if self.results[BAD] or any(one.groups for one in self.recoveries):
             return SOME_FAIL
-        return NOT_ALL_TRIED if self.results.stopped else NONE_FAILS
+        return NOT_ALL_TRIED if self.head.stopped else NONE_FAILS
+
+    @property
+    def good(self) -> int:
+        return self.results[GOOD]
 
     def lines(self) -> List[str]:
         """None but the first is longer than WIDTH: the JSON has all of it."""
-        lines = []
-        for place, group in enumerate(self.groups[:SHOWN_GROUPS]):
-            lines += self.group_lines(group, self.advice[place])
-        if len(self.groups) > SHOWN_GROUPS:
-            more = sum(len(group.states) for group in self.groups[SHOWN_GROUPS:])
+        lines, groups = [], self.groups()
+        for group in groups[:SHOWN_GROUPS]:
+            lines += self.group_lines(group)
+        if len(groups) > SHOWN_GROUPS:
+            more = sum(len(group.states) for group in groups[SHOWN_GROUPS:])
             lines.append(f'  and {number_of(more, "more state")} of '
-                         f'{number_of(len(self.groups) - SHOWN_GROUPS, "other kind")} '
+                         f'{number_of(len(groups) - SHOWN_GROUPS, "other kind")} '
                          '(all are in the file of --json)')
-        return self.first_lines() + [cut(line) for line in lines]
+        return self.first_lines() + [cut(line) for line in [
+            *lines, *self.cut_off_lines(), *self.recovery_lines()]]
 
     def first_lines(self) -> List[str]:
-        return [UNPROVED, self.summary()] if self.results.unproved else [self.summary()]
+        return [UNPROVED, self.summary()] if self.head.unproved else [self.summary()]
 
     def summary(self) -> str:
-        plan, shard, trials = self.plan, self.results.shard, self.results.trials
-        tried = sum(first in self.results.outcomes for first in trials.values())
-        line = (f'{self.results.trace}: {len(plan.operations):,} micro-operations, '
-                f'{len(plan.states):,} states, {len(trials):,} different')
-        if shard.parts > 1:
-            line += f', {tried:,} tried by shard {shard.part}/{shard.parts}'
-        elif self.results.stopped:
-            line += f', {tried:,} tried'
-        if self.results.stopped:
-            line += f' (stopped by {self.results.stopped})'
+        head = self.head
+        windows = f' in {self.windows:,} windows' if self.windows > 1 else ''
+        line = (f'{head.trace}: {self.operations:,} micro-operations{windows}, '
+                f'{self.states:,} states, {self.different:,} different')
+        if head.shard.parts > 1:
+            line += f', {self.tried:,} tried by shard {head.shard.part}/{head.shard.parts}'
+        elif head.stopped:
+            line += f', {self.tried:,} tried'
+        if head.stopped:
+            line += f' (stopped by {head.stopped})'
         return f'{line}: {self.verdict()}'
 
     def verdict(self) -> str:
-        outcomes = list(self.by_state.values())
-        bad = Counter(one.word for one in outcomes if one.result == BAD)
-        silent = sum(one.result == NO_ANSWER for one in outcomes)
-        words = ', '.join(f'{word} {count:,}' for word, count in bad.most_common(5))
-        failing = sum(bad.values())
-        line = f'{failing:,} fail{"s" if failing == 1 else ""} ({words})' if bad else 'none fails'
+        words = ', '.join(f'{word} {count:,}' for word, count in self.words.most_common(5))
+        failing, silent = self.results[BAD], self.results[NO_ANSWER]
+        line = f'{failing:,} fail{"s" if failing == 1 else ""} ({words})' if failing else \
+            'none fails'
         return f'{line}, {silent:,} gave no answer' if silent else line
 
-    def group_lines(self, group: Group, advice: Advice) -> List[str]:
-        states = self.states_text(group)
+    def cut_off_lines(self) -> List[str]:
+        """Lines that were still pending where their last window ended."""
+        if not self.head.cut_off:
+            return []
+        number, tried = self.head.cut_off[0]
+        more = len({line for line, _ in self.head.cut_off}) - 1
+        also = f', and so with {number_of(more, "more line")}' if more else ''
+        return [f'  the loss of {self.shown_line(number)} was tried for {tried:,} later '
+                f'micro-operations only{also}']
+
+    def recovery_lines(self) -> List[str]:
+        """What a second crash leads to, during the recovery from the first."""
+        if not self.recoveries:
+            return []
+        tried = [one for one in self.recoveries if not one.fault]
+        failing = sum(one.failing for one in tried)
+        fails = f'{failing:,} fail{"s" if failing == 1 else ""}' if failing else 'none fails'
+        lines = [f'  {number_of(len(tried), "recovery")}: '
+                 f'{sum(one.states for one in tried):,} states of a second crash, {fails}'
+                 .replace('recoverys', 'recoveries')]
+        for group, where in seconds(tried):
+            lines += self.group_lines(group, where)
+        lines += [f'  the recovery of state {one.state} was not tried: {one.fault}'
+                  for one in self.recoveries if one.fault]
+        return lines
+
+    def group_lines(self, group: Group, second: Optional[Second] = None) -> List[str]:
+        """The lines of an entry; of one that a second crash leads to, second says where it was."""
+        states = self.states_text(group, f'{second.state}/' if second else '')
         cause = cut(group.cause, max(CAUSE_WIDTH, WIDTH - len(states) - 3))
         lines = [f'  {cause:<{CAUSE_WIDTH}} {states}']
-        for line in self.details(group, advice):
+        details = self.details(group)
+        if second is not None:
+            details = [f'state {second.state}, then a crash {second.place}',
+                       *group.advice.lines()]
+        for line in details:
             lines += textwrap.wrap(line, WIDTH, initial_indent='    ', subsequent_indent='      ',
                                    break_long_words=False, break_on_hyphens=False)
         return lines
 
     @staticmethod
-    def states_text(group: Group) -> str:
-        example = f'--state {group.example.number}'
+    def states_text(group: Group, first: str = '') -> str:
+        example = f'--state {first}{group.example.number}'
         if len(group.states) == 1:
             return f'1 state: {example}'
         return f'{len(group.states):,} states, e.g. {example}'
 
-    def details(self, group: Group, advice: Advice) -> List[str]:
+    def details(self, group: Group) -> List[str]:
         """The sentence, what was tried, and what the example lacks beside the line that it
         names."""
-        lines = [f'line {line.number}: {line.note}'
-                 for line in (group.lost, group.kept) if line and line.note]
-        lines += advice.lines()
-        for sync in self.finder.other_syncs(group):
-            if advice.syncs:
+        notes = {line.number: line.note
+                 for line in (group.lost, group.kept) if line and line.note}
+        lines = [f'line {number}: {note}' for number, note in sorted(notes.items())]
+        lines += group.advice.lines()
+        for sync in group.other_syncs:
+            if group.advice.syncs:
                 lines.append(f'line {sync.number} is {sync.text}, which is not enough')
         named = group.lost.number if group.lost else 0
-        lost = [number for number in self.finder.lost_lines(group) if number != named]
+        lost = [number for number in group.lost_lines if number != named]
         if lost and not group.is_span:
             lines.append(f'state {group.example.number} also lacks '
                          + ', '.join(map(self.shown_line, lost)))
         return lines
 
-    def fields(self) -> Dict[str, Any]:
-        """The results, and the groups with what they say, for the JSON."""
-        return {**self.results.fields(),
-                'groups': [self.group_fields(place) for place in range(len(self.groups))]}
+    def json_pieces(self) -> Iterator[str]:
+        """The results, and the groups with what they say."""
+        yield as_json(self.head.fields())[:-1] + ',\n"windows":[\n'
+        for place, window in enumerate(self.kept):
+            yield (',\n' if place else '') + zlib.decompress(window).decode('utf-8',
+                                                                           'surrogateescape')
+        groups = [self.group_fields(group) for group in self.groups()]
+        yield '],\n"groups":' + json.dumps(groups, indent=1, ensure_ascii=False)
+        recoveries = [self.recovery_fields(one) for one in self.recoveries]
+        yield ',\n"recoveries":' + json.dumps(recoveries, indent=1, ensure_ascii=False) + '}\n'
 
-    def group_fields(self, place: int) -> Dict[str, Any]:
-        group, advice = self.groups[place], self.advice[place]
+    @staticmethod
+    def recovery_fields(recovery: Recovery) -> Dict[str, Any]:
+        groups = [{'cause': group.cause, 'states': [state.number for state in group.states],
+                   'example': group.example.number, 'crash': recovery.places[group.example.number],
+                   'text': group.advice.lines()} for group in recovery.groups]
+        return {'state': recovery.state, 'states': recovery.states, 'fault': recovery.fault,
+                'groups': groups}
+
+    def group_fields(self, group: Group) -> Dict[str, Any]:
         fields = {'cause': group.cause, 'states': [state.number for state in group.states],
                   'example': group.example.number, 'lines': group.places,
-                  'lost': self.finder.lost_lines(group), 'text': self.details(group, advice),
-                  'syncs': advice.syncs}
-        if place in self.differences:
-            difference = self.differences[place]
-            fields.update(good=difference.good, differences=difference.lines)
+                  'lost': group.lost_lines, 'text': self.details(group),
+                  'syncs': group.advice.syncs}
+        if group.difference is not None:
+            fields.update(good=group.difference.good, differences=group.difference.lines)
         return fields
 
     def shown_line(self, number: int) -> str:
-        line = self.results.lines.get(number, TraceLine(number, ''))
+        line = self.head.lines.get(number, TraceLine(number, ''))
         return f'line {number} ({line.text})'
+
+
+def as_json(fields: Dict[str, Any]) -> str:
+    return json.dumps(fields, ensure_ascii=False, separators=(',', ':'))
 
 
 def number_of(count: int, noun: str) -> str:

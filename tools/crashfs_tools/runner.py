@@ -1,19 +1,17 @@
-"""Runs COMMAND in state after state, several at once."""
+"""Runs COMMAND in a state."""
 
 from __future__ import annotations
 
 import os
-import queue
 import select
 import signal
 import subprocess
-import threading
 import time
 from dataclasses import dataclass
-from typing import BinaryIO, Callable, Dict, List, Optional, Set, Tuple
+from functools import cached_property
+from typing import BinaryIO, Dict, List, Optional
 
 from .command import Refused, ended
-from .layout import Layout
 from .program import last_line
 from .trace_lines import without_numbers
 
@@ -21,7 +19,6 @@ GOOD, BAD, NO_ANSWER = 'good', 'bad', 'no answer'
 TAIL_BYTES = 65_536
 CAUSE_LETTERS = 200
 OUTPUT_LETTERS = 2_000
-ENDING_SECONDS = 5
 TURN_SECONDS = 0.5
 
 
@@ -51,38 +48,53 @@ class Says:
     def __init__(self, texts: List[str], folder: str) -> None:
         self.texts = texts
         self.folder = folder
-        self.lock = threading.Lock()
 
     def path(self, count: int) -> str:
+        """The file, which is whole as soon as it is there: several processes may make it."""
         path = os.path.join(self.folder, f'says-{count}')
-        with self.lock:
-            if not os.path.exists(path):
-                with open(path, 'w', encoding='utf-8') as file:
-                    file.writelines(text + '\n' for text in self.texts[:count])
+        if not os.path.exists(path):
+            part = f'{path}-{os.getpid()}'
+            with open(part, 'w', encoding='utf-8') as file:
+                file.writelines(text + '\n' for text in self.texts[:count])
+            os.rename(part, path)
         return path
+
+
+class Over(Exception):
+    """The check is over: the command that ran was ended."""
 
 
 @dataclass
 class Checker:
-    """One command, and what it is run with."""
+    """One command, and what it is run with. life is the end of a pipe that is closed when the check
+    is over."""
 
     command: List[str]
     timeout: float
     environment: Dict[str, str]
     says: Says
+    life: Optional[int] = None
+
+    @cached_property
+    def whole_environment(self) -> Dict[bytes, bytes]:
+        """As bytes, which Popen takes as they are."""
+        return {os.fsencode(name): os.fsencode(value) for name, value in self.environment.items()}
 
     def run(self, state: int, says: int, directory: str) -> Outcome:
         """Runs the command in a state's directory; what it leaves running is ended."""
-        environment = {**self.environment, 'CRASHFS_STATE': str(state), 'CRASHFS_SAYS': str(says)}
+        environment = {**self.whole_environment, b'CRASHFS_STATE': str(state).encode(),
+                       b'CRASHFS_SAYS': str(says).encode()}
         with open(self.says.path(says), 'rb') as told, open(f'{directory}.out', 'w+b') as output:
             child = self.start(directory, environment, told, output)
-            status = wait(child, self.timeout)
-            end_group(child.pid)
-            child.wait()
+            try:
+                status = wait(child, self.timeout, self.life)
+            finally:
+                end_group(child.pid)
+                child.wait()
             printed = tail(output.fileno()).replace(os.fsencode(directory), b'.')
             return self.outcome(status, printed.decode('utf-8', 'replace'))
 
-    def start(self, directory: str, environment: Dict[str, str], told: BinaryIO,
+    def start(self, directory: str, environment: Dict[bytes, bytes], told: BinaryIO,
               output: BinaryIO) -> subprocess.Popen[bytes]:
         try:
             return subprocess.Popen(self.command, cwd=directory, env=environment, stdin=told,
@@ -106,30 +118,37 @@ class Checker:
         return Outcome(BAD, line or how, output)
 
 
-def wait(child: subprocess.Popen[bytes], timeout: float) -> Optional[int]:
-    """The status of a command, or None where it hasn't ended in time."""
+def wait(child: subprocess.Popen[bytes], timeout: float,
+         life: Optional[int] = None) -> Optional[int]:
+    """The status of a command, or None if it hasn't ended in time; Over if the check has."""
     deadline = time.monotonic() + timeout
-    wait_for_end(child.pid, timeout)
+    wait_for_end(child.pid, timeout, life)
     try:
         return child.wait(max(0, deadline - time.monotonic()))
     except subprocess.TimeoutExpired:
         return None
 
 
-def wait_for_end(process: int, timeout: float) -> None:
-    """Wakes as the process ends, where the system can tell that (Linux 5.3): Popen.wait with a
-    timeout sleeps and looks, which takes longer than short commands do."""
+def wait_for_end(process: int, timeout: float, life: Optional[int]) -> None:
+    """Wakes as the process ends, if the system can tell that (Linux 5.3): Popen.wait with a timeout
+    sleeps and looks, which takes longer than short commands do."""
+    poll = select.poll()
+    if life is not None:
+        poll.register(life, select.POLLIN)
     try:
         descriptor = os.pidfd_open(process)
     except (AttributeError, OSError):
         return
-    poll = select.poll()
     poll.register(descriptor, select.POLLIN)
     deadline = time.monotonic() + timeout
     left = timeout
-    while left > 0 and not poll.poll(min(left, TURN_SECONDS) * 1000):
+    ready: List[int] = []
+    while left > 0 and not ready:
+        ready = [one for one, _ in poll.poll(min(left, TURN_SECONDS) * 1000)]
         left = deadline - time.monotonic()
     os.close(descriptor)
+    if life in ready:
+        raise Over
 
 
 def end_group(group: int) -> None:
@@ -142,76 +161,3 @@ def end_group(group: int) -> None:
 def tail(descriptor: int) -> bytes:
     size = os.fstat(descriptor).st_size
     return os.pread(descriptor, TAIL_BYTES, max(0, size - TAIL_BYTES))
-
-
-Told = Callable[[int, Outcome], None]
-
-
-class Pool:
-    """Threads that take states as they are laid out; few wait, so little room is taken."""
-
-    def __init__(self, checker: Checker, layout: Layout, jobs: int, told: Told) -> None:
-        self.checker = checker
-        self.layout = layout
-        self.told = told
-        self.says_of: Dict[int, int] = {}
-        self.waiting: queue.Queue[Optional[Tuple[int, str]]] = queue.Queue(2 * jobs)
-        self.faults: List[BaseException] = []
-        self.ending = False
-        self.busy = [False] * jobs
-        self.threads = [threading.Thread(target=self.work, args=(place,), daemon=True)
-                        for place in range(jobs)]
-
-    def run(self, wanted: Set[int], says_of: Dict[int, int]) -> None:
-        """Runs the command in each wanted state; the first fault ends it all."""
-        self.says_of = says_of
-        for thread in self.threads:
-            thread.start()
-        for state in self.layout.states(wanted):
-            self.put(state)
-            if self.faults or self.ending:
-                break
-        for _ in self.threads:
-            self.put(None)
-        for thread in self.threads:
-            while thread.is_alive():
-                thread.join(TURN_SECONDS)
-        if self.faults:
-            raise self.faults[0]
-
-    def put(self, state: Optional[Tuple[int, str]]) -> None:
-        """Waits for room by turns: Python sees a signal that comes just as it begins to wait, or
-        that another thread takes, only when the wait is over."""
-        while True:
-            try:
-                return self.waiting.put(state, timeout=TURN_SECONDS)
-            except queue.Full:
-                continue
-
-    def end(self, end_processes: Callable[[], None]) -> None:
-        """No more commands are started, and those that run are ended by what is handed over. It
-        waits a moment for threads that have to undo what they laid out. It takes no lock: a stop
-        may have come while one was held."""
-        self.ending = True
-        deadline = time.monotonic() + ENDING_SECONDS
-        while any(self.busy) and time.monotonic() < deadline:
-            end_processes()
-            time.sleep(0.02)
-
-    def work(self, place: int) -> None:
-        for number, directory in iter(self.waiting.get, None):
-            # Set before `ending` is looked at, so that `end` sees a state that is begun.
-            self.busy[place] = True
-            self.try_state(number, directory)
-            self.busy[place] = False
-
-    def try_state(self, number: int, directory: str) -> None:
-        if not self.faults and not self.ending:
-            try:
-                with self.layout.laid_out(number, directory):
-                    outcome = self.checker.run(number, self.says_of[number], directory)
-                os.unlink(f'{directory}.out')
-                if not self.ending:
-                    self.told(number, outcome)
-            except Exception as fault:  # The thread has to go on, or who fills the queue waits.
-                self.faults.append(fault)

@@ -1,4 +1,4 @@
-"""A session that is being made a trace: what is below the directory, and what was told."""
+"""A session that is being made a trace: what is below the directory, and what the trace has."""
 
 from __future__ import annotations
 
@@ -110,10 +110,10 @@ class Session:
         files = {n: OpenFile(None, voice=voice) for n, voice in self.voices.standard.items()}
         return Process(Descriptors(files), Place(self.begin.top, self.begin.umask))
 
-    # What is told
+    # What the trace has
 
     def trouble(self, what: str, where: str, is_note: bool = False) -> None:
-        """Notes what can't be said, once for each thing and place."""
+        """Notes what the trace can't say, once for each thing and place."""
         line = self.trace.line_of_operation(len(self.trace.operations)) - 1
         self.troubles.add(what, where, None if self.call is None else line, is_note)
 
@@ -144,7 +144,7 @@ class Session:
         return self.tell(Fsync(operation.path))
 
     def hear(self, voice: Voice, data: bytes) -> None:
-        """Bytes of a descriptor whose lines count: each whole line is told."""
+        """Bytes of a descriptor whose lines count: each whole line is acknowledged."""
         for line in voice.hear(data):
             if voice.is_said:
                 self.say(voice, line)
@@ -227,7 +227,7 @@ class Session:
     # Files
 
     def appear(self, path: str, node: Node) -> None:
-        """A new file or directory; it is told where its directory is, and the trace can have it."""
+        """A new file or directory; the trace has it if it has its directory, and can."""
         self.tree.add(path, node)
         parent = self.tree.get(parent_of(path))
         if parent is None or parent.told_path is None:
@@ -264,9 +264,9 @@ class Session:
             node.lose_bytes()
 
     def lose(self, node: Node, what: str) -> None:
-        """A change of bytes that can't be told: no more of the file's bytes are."""
+        """A change of bytes that no trace says: it has no more of the file's bytes."""
         if node.names:
-            self.trouble(f'{what}; no more of its bytes are told', node.name)
+            self.trouble(f'{what}; its later bytes are not recorded', node.name)
         node.lose_bytes()
 
     # Syncs
@@ -290,7 +290,7 @@ class Session:
             self.late_syncs.append((call, node, offset, length))
 
     def end_syncs(self, line: Optional[int]) -> None:
-        """Tells the syncs of writes that had ended before a line of the log; all for None."""
+        """Adds the syncs of writes that had ended before a line of the log; all for None."""
         for late in sorted(self.late_syncs, key=lambda late: late[0].end):
             if line is None or late[0].end < line:
                 self.late_syncs.remove(late)

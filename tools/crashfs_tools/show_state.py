@@ -17,15 +17,14 @@ STATUSES = {GOOD: NONE_FAILS, BAD: SOME_FAIL, NO_ANSWER: NOT_ALL_TRIED}
 
 
 def show(trying: Trying, number: int) -> int:
-    states = trying.plan.listed
-    if not 0 <= number < len(states):
-        raise Refused(f'no such state: {number} (there are {len(states):,})')
-    state = states[number]
+    if not trying.plan.has(number):
+        raise Refused(f'no such state: {number} (there are {len(trying.plan.listed):,})')
+    state = trying.plan.state(number)
     outcome = trying.try_one(state)
     left, told = leave(trying, state)
     command = shlex.join(trying.options.command)
     with standard_output():
-        print(f'state {number}, {state.text}, says {state.says}: '
+        print(f'state {number}, {trying.plan.text(state)}, says {state.says}: '
               f'{outcome.result}{": " if outcome.cause else ""}{outcome.cause}')
         print(f'It is laid out in {left}. To try it there:\n'
               f'    cd {shlex.quote(left)}\n'

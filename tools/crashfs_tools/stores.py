@@ -16,23 +16,24 @@ NOT_ALONE = ('stored through its mapping while other threads or processes ran: w
 
 
 def by_call(calls: List[Call], ordered: List[Call], copies: Copies) -> Dict[int, List[Copy]]:
-    """For each call, by its id, the copies whose stores were made before it: the call that the
-    stopped process had made; of several threads, the first of the trace that could have been."""
+    """For each call, by its id, the copies whose stores were made before it: the last call of the
+    stopped process; of several threads, the first of the trace that could have been."""
     ends = [call.end for call in calls]
     places = {id(call): place for place, call in enumerate(ordered)}
+    latest: Dict[int, Call] = {}
     found: Dict[int, List[Copy]] = {}
     before = 0
     for copy in [copy for copy in copies.taken if copy.process]:
-        window = calls[bisect.bisect_right(ends, before):bisect.bisect_right(ends, copy.line)]
-        before = copy.line
-        if not copy.files:
-            continue
-        own = [call for call in window if call.process == copy.process]
-        stopping = sorted((call for call in window if call.name in STOPPING_CALLS),
-                          key=lambda call: places[id(call)])
-        chosen = own[-1:] if copy.is_alone else stopping[:1]
-        for call in chosen or own[-1:] or stopping[:1]:
-            found.setdefault(id(call), []).append(copy)
+        after = bisect.bisect_right(ends, copy.line)
+        window = calls[before:after]
+        before = after
+        latest.update((call.process, call) for call in window)
+        if copy.files and after:
+            stopping = [call for call in window if call.name in STOPPING_CALLS]
+            own = latest.get(copy.process, calls[after - 1])
+            is_own = copy.is_alone or not stopping
+            chosen = own if is_own else min(stopping, key=lambda call: places[id(call)])
+            found.setdefault(id(chosen), []).append(copy)
     return found
 
 
@@ -55,7 +56,7 @@ def stored(session: Session, node: Node, data: bytes, is_sure: bool) -> None:
 
 
 def difference(old: bytes, new: bytes) -> Tuple[int, int]:
-    """The least range that has all places where two pages of one size differ."""
+    """The least range that has all places at which two pages of one size differ."""
     if old == new:
         return 0, 0
     places = [place for place in range(len(new)) if old[place] != new[place]]

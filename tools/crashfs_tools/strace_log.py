@@ -20,7 +20,7 @@ FRAME = ' > '
 
 FORKS = ('clone', 'clone3', 'fork', 'vfork')
 
-# Names for what is no call, and stands among the calls all the same.
+# Names for what is no call, but is in the list of calls.
 EXIT = '+exit'
 SUPERSEDE = '+supersede'
 
@@ -84,6 +84,8 @@ class LogReader:
         self.log = Log()
         self.waiting: Dict[str, _Waiting] = {}
         self.processes: Set[int] = set()
+        # The call whose frames are read; a signal has frames too.
+        self.shown: Optional[Call] = None
 
     def read(self, lines: Iterable[str]) -> Log:
         for number, line in enumerate(lines, 1):
@@ -107,10 +109,10 @@ class LogReader:
         match = LINE.match(line)
         if match:
             self.call(match, begin, number)
-        elif line.startswith(FRAME):
-            self.log.calls[-1].frames.append(line[len(FRAME):])
-        else:
+        elif not line.startswith(FRAME):
             self.event(number, line)
+        elif self.shown is not None:
+            self.shown.frames.append(line[len(FRAME):])
 
     def call(self, match: re.Match[str], begin: int, end: int) -> None:
         process, name, text, result, tail = match.groups()
@@ -122,7 +124,7 @@ class LogReader:
         shown = SHOWN_RESULT.match(tail)
         number = -1 if result == '?' else arguments.integer(result)
         text_shown = arguments.shown_text(shown[1]) if shown else None
-        self.log.calls.append(Call(
+        self.shown = Call(
             process=int(process),
             name=name,
             words=arguments.split(text),
@@ -131,9 +133,11 @@ class LogReader:
             begin=begin,
             end=end,
             is_cut=result == '?',
-        ))
+        )
+        self.log.calls.append(self.shown)
 
     def event(self, number: int, line: str) -> None:
+        self.shown = None
         ended, superseded = ENDED.match(line), SUPERSEDED.match(line)
         if ended:
             self.log.ended.append(int(ended[1]))

@@ -23,17 +23,17 @@ from .translate import HANDLERS, SOCKET_HANDLERS
 from .while_running import Progress
 
 OLDEST = (5, 18)
-# Longer texts than the largest file are cut by strace; a cut text is told as a trouble.
+# Longer texts than the largest file are cut by strace; a cut text is reported.
 TEXT_BYTES = 1 << 25
 # For so many seconds a second signal is the same stop: `timeout` sends its signal twice.
 SAME_STOP = 1.0
 
 
 def find_strace() -> str:
-    """strace's path; Refused where it isn't there, or too old to print AT_FDCWD's path."""
+    """strace's path; Refused if it isn't there, or too old to print AT_FDCWD's path."""
     path = shutil.which('strace')
     if path is None:
-        raise Refused('strace is not there; it is in the package strace of most systems')
+        raise Refused('strace: command not found; it is in the package strace of most systems')
     told = subprocess.run([path, '-V'], stdin=subprocess.DEVNULL, check=False, text=True,
                           stdout=subprocess.PIPE).stdout
     version = re.search(r'version (\d+)\.(\d+)', told)
@@ -74,7 +74,7 @@ class Running:
         self.strace = 0
 
     def run(self) -> int:
-        """Runs to the end, hands standard output on, and returns COMMAND's status.
+        """Runs to the end, passes standard output on, and returns COMMAND's status.
 
         Its standard output is a pipe: a program that writes by stdio has to flush its lines.
         """
@@ -98,8 +98,8 @@ class Running:
                 signal.signal(number, handler)
 
     def hand_on(self, source: int) -> None:
-        """Copies a pipe to standard output; where nobody reads that any more, it is read all the
-        same, so that COMMAND isn't disturbed. A signal ends the wait, whichever thread takes it."""
+        """Copies a pipe to standard output; if nobody reads that any more, the pipe is still read,
+        so that COMMAND isn't disturbed. A signal ends the wait, whichever thread takes it."""
         waiting, wake = os.pipe2(os.O_NONBLOCK | os.O_CLOEXEC)
         signal.set_wakeup_fd(wake, warn_on_full_buffer=False)
         write: Callable[[bytes], object] = sys.stdout.buffer.write

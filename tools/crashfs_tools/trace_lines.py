@@ -5,7 +5,7 @@ from __future__ import annotations
 import json
 import re
 from dataclasses import dataclass
-from typing import Any, Dict, Optional
+from typing import Any, Dict, List, Optional
 
 from .tree import parent_of
 
@@ -54,6 +54,17 @@ class TraceLine:
     def kind(self) -> str:
         """What lines of the same statement of a program have in common."""
         return ' '.join([self.word, without_numbers(self.path), without_numbers(self.target)])
+
+    def is_apart_from(self, other: TraceLine) -> bool:
+        """Whether the lines name no path in common, and none in a directory that the other
+        names: then a program may change their order."""
+        return not any(one.startswith(two) or two.startswith(one)
+                       for one in self.folders for two in other.folders)
+
+    @property
+    def folders(self) -> List[str]:
+        """The paths, each with a slash at its end."""
+        return [path.rstrip('/') + '/' for path in (self.path, self.target) if path]
 
     @property
     def synced_by(self) -> Optional[str]:

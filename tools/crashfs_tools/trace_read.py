@@ -100,3 +100,9 @@ def root_owner(text: str) -> str:
     """The owner of the root in a trace's header, which `crashfs` has judged."""
     header = next(line for line in text.split('\n') if line.strip(' \t\r'))
     return str(json.loads(header)['owner'])
+
+
+def operation_numbers(text: str) -> List[int]:
+    """The numbers of the lines that are operations, in their order."""
+    return [number for number, line in enumerate(text.split('\n'), 1)
+            if line.strip(' \t\r') and 'op' in json.loads(line)]

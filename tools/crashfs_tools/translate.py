@@ -43,6 +43,8 @@ class Translator:
         self.session.has_copies = copies is not None
         self.stores: Dict[int, List[Copy]] = {}
         self.mapped: Dict[int, Node] = {}
+        # What copies show of files before the calls that mapped them are in the trace.
+        self.early: Dict[int, bytes] = {}
         self.parents: Dict[int, List[Call]] = {}
         for call in log.calls:
             if call.name in FORKS and call.result > 0:
@@ -77,14 +79,19 @@ class Translator:
         self.note_links()
 
     def step(self, call: Call) -> None:
+        is_mark = call.name in (EXIT, SUPERSEDE)
+        if not is_mark and not call.is_cut and call.result >= 0:
+            self.call(call)
+            return
+        # The program was stopped and copied from after a call that failed, too.
+        for copy in self.stores.get(id(call), []):
+            self.store(copy, None, False)
         if call.name == EXIT:
             self.session.processes.pop(call.process, None)
         elif call.name == SUPERSEDE:
             self.supersede(call)
         elif call.is_cut:
             self.cut(call)
-        elif call.result >= 0:
-            self.call(call)
 
     def cut(self, call: Call) -> None:
         """A change that its thread's end cut: the log has not whether it was made."""
@@ -104,18 +111,25 @@ class Translator:
         process = self.process(call.process, call.end)
         handler = HANDLERS.get(call.name) or SOCKET_HANDLERS.get(call.name)
         own = self.changed(process, call)
-        # What was stored before the call is told before it; but a copy of the file that the
+        # What was stored before the call is before it; but a copy of the file that the
         # call itself changed has that change in it already.
         for copy in self.stores.get(id(call), []):
             self.store(copy, own, False)
         if handler is not None:
             handler(session, process, call)
         if call.begin in self.copies.numbers:
-            file = process.descriptors.files.get(call.descriptor(4).number)
-            if file is not None and file.node is not None:
-                self.mapped[self.copies.numbers[call.begin]] = file.node
+            self.map(process, call, self.copies.numbers[call.begin])
         for copy in self.stores.get(id(call), []):
             self.store(copy, own, True)
+
+    def map(self, process: Process, call: Call, number: int) -> None:
+        """A call mapped a file: what was stored to it at once is after the call."""
+        file = process.descriptors.files.get(call.descriptor(4).number)
+        if file is None or file.node is None:
+            return
+        self.mapped[number] = file.node
+        if number in self.early:
+            stores.stored(self.session, file.node, self.early.pop(number), False)
 
     def changed(self, process: Process, call: Call) -> Optional[Node]:
         """The file whose bytes a call changes."""
@@ -131,7 +145,9 @@ class Translator:
         """What a copy shows of the call's own file, or of all others."""
         for number, data in copy.files.items():
             node = self.mapped.get(number)
-            if node is not None and (node is own) == is_own:
+            if node is None:
+                self.early[number] = data
+            elif (node is own) == is_own:
                 stores.stored(self.session, node, data, copy.is_sure(number))
 
     def process(self, number: int, moment: int) -> Process:

@@ -4,9 +4,8 @@ from __future__ import annotations
 
 from typing import Iterator, Optional, Tuple
 
-from .groups import Group
+from .groups import Difference, Findings, Group
 from .plan import State, count
-from .report import Difference, Report
 from .runner import GOOD
 from .tree import Entries, Entry
 from .trying import Trying
@@ -15,21 +14,21 @@ from .trying import Trying
 SHOWN_LINES, ENTRIES = 20, 5
 
 
-def find_differences(trying: Trying, report: Report) -> None:
+def find_differences(trying: Trying, findings: Findings) -> None:
     """Lays the trees of the largest groups' examples beside those of good states."""
-    for place, group in enumerate(report.groups[:ENTRIES]):
-        good = nearest_good(report, group)
+    for group in findings.groups[:ENTRIES]:
+        good = nearest_good(findings, group)
         if good is not None:
             lines = list(different_lines(trying.tree(group.example.number),
                                          trying.tree(good.number)))
-            report.differences[place] = Difference(good.number, lines[:SHOWN_LINES])
+            group.difference = Difference(good.number, lines[:SHOWN_LINES])
 
 
-def nearest_good(report: Report, group: Group) -> Optional[State]:
+def nearest_good(findings: Findings, group: Group) -> Optional[State]:
     """The good state that differs in the fewest micro-operations."""
-    kept = report.plan.kept
-    good = [state for state in report.plan.states
-            if state.number in report.by_state and report.by_state[state.number].result == GOOD]
+    kept = findings.plan.kept
+    good = [state for state in findings.plan.states if state.number in findings.by_state
+            and findings.by_state[state.number].result == GOOD]
 
     def distance(state: State) -> Tuple[int, int]:
         return count(kept[state.number] ^ kept[group.example.number]), state.number

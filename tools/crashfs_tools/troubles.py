@@ -34,7 +34,7 @@ class Troubles:
             trouble.lines.append(line)
 
     def forget_lines(self) -> None:
-        """The trace begins anew: what happened before has no line of it."""
+        """The trace begins again: what happened before has no line of it."""
         for trouble in self.found.values():
             trouble.lines.clear()
 

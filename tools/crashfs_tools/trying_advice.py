@@ -5,11 +5,12 @@ from __future__ import annotations
 import os
 from typing import Dict, Set
 
-from .advice import Advice, Tried
-from .groups import Group
-from .plan import Plan, Trial
+from .advice import Tried
+from .command import TEXT
+from .groups import Findings, Group
+from .plan import Before, Plan, Trial
 from .planning import Planner
-from .report import Report
+from .results import Results
 from .runner import GOOD, Outcome
 from .trace_lines import with_syncs
 from .trying import Trying
@@ -18,30 +19,32 @@ from .trying import Trying
 ENTRIES = 5
 
 
-def try_advice(trying: Trying, planner: Planner, report: Report) -> None:
+def try_advice(trying: Trying, planner: Planner, findings: Findings) -> None:
     """Tries the advice of the largest groups."""
-    for place, group in enumerate(report.groups[:ENTRIES]):
-        advice = report.advice[place]
-        if advice.syncs:
-            advice.tried = Copy(trying, planner, report, place).run(group, advice)
+    for place, group in enumerate(findings.groups[:ENTRIES]):
+        if group.advice.syncs:
+            group.advice.tried = Copy(trying, planner, findings, place).run(group)
 
 
 class Copy:
     """A copy of the trace. A set of micro-operations that was tried before isn't tried again."""
 
-    def __init__(self, trying: Trying, planner: Planner, report: Report, place: int) -> None:
+    def __init__(self, trying: Trying, planner: Planner, findings: Findings, place: int) -> None:
         self.trying = trying
         self.planner = planner
         self.path = os.path.join(trying.guard.directory, f'advice-{place}.trace')
         self.known: Dict[int, Outcome] = {
-            report.plan.kept[state]: one for state, one in report.by_state.items()}
-        self.before = report.plan
+            findings.plan.kept[state]: one for state, one in findings.by_state.items()}
+        self.before = findings.plan
 
-    def run(self, group: Group, advice: Advice) -> Tried:
-        with open(self.path, 'w', encoding='utf-8', newline='\n') as file:
-            file.write(with_syncs(self.trying.text, advice.syncs))
-        planned = self.planner.plan(self.path)
-        copy = Trying(self.trying.options, planned, self.trying.program, self.trying.guard)
+    def run(self, group: Group) -> Tried:
+        planned = self.trying.planned
+        with open(planned.trace, **TEXT) as file:
+            text = file.read()
+        with open(self.path, 'w', **TEXT) as file:
+            file.write(with_syncs(text, planned.before.own_lines(group.advice.syncs)))
+        planned = self.planner.plan(self.path, Before(says=planned.before.says))
+        copy = self.trying.with_plan(planned)
         outcomes = self.outcomes(copy)
         masks = [self.before.kept[state.number] for state in group.states]
         return Tried(left=sum(map(planned.plan.needs.allow, masks)), total=len(masks),
@@ -54,7 +57,8 @@ class Copy:
             known = self.known.get(copy.plan.kept[state.number])
             if known is not None:
                 found[Trial(state.same, state.says)] = known
-        new = {number: trial for trial, number in copy.plan.trials().items() if trial not in found}
+        trials = Results(copy.plan).trials
+        new = {number: trial for trial, number in trials.items() if trial not in found}
 
         def told(number: int, outcome: Outcome) -> None:
             found[new[number]] = outcome

@@ -30,7 +30,8 @@ FAKE = str(TOOLS / 'crashfs_tools' / 'reading' / '__main__.py')
 PYTHON_FOLDER = os.path.dirname(sys.executable)
 # How long a test waits for what has to come: so long only where a machine is overloaded.
 PATIENCE = 600
-PROGRESS = re.compile(r'crashfs-check: [\d,]+ of [\d,]+ tried, .* left\n')
+PROGRESS = re.compile(r'crashfs-check: (?:micro-operations [\d,]+ to [\d,]+: )?'
+                      r'[\d,]+ of [\d,]+ tried, .* left\n')
 QUOTED = re.compile(r'"([^"]*)"|<(/[^>]*|\w+:\[\d+\])>')
 
 
@@ -128,9 +129,14 @@ class InFolder(unittest.TestCase):
         out, err = child.communicate(timeout=PATIENCE)
         return subprocess.CompletedProcess(words, child.returncode, out, err)
 
-    def wait_until(self, holds: Callable[[], bool], what: str) -> None:
+    def wait_until(self, holds: Callable[[], bool], what: str,
+                   child: Optional[subprocess.Popen] = None) -> None:
+        """Waits, but not for what a process was to do that has ended."""
         deadline = time.monotonic() + PATIENCE
         while not holds():
+            if child is not None and child.poll() is not None and not holds():
+                self.fail(f'ended with status {child.returncode}, and not: {what}: '
+                          f'{child.communicate()[1]}')
             self.assertLess(time.monotonic(), deadline, f'in {PATIENCE} seconds not: {what}')
             time.sleep(0.02)
 

@@ -1,14 +1,13 @@
 """crashfs-check as its users run it, on the fake program."""
 
-import ctypes
 import json
 import os
-import platform
 import re
 import signal
 import sys
 import time
 import unittest
+from pathlib import Path
 
 from crashfs_tools import program
 
@@ -24,8 +23,6 @@ echo 'lost: a=2 was told'
 exit 1
 """
 
-# The system call that sends a signal to one thread.
-TGKILL = 234
 RIGHTS = '"owner":"u","group":"u","mode":"755"'
 # Two copies of a value, of which neither is synced.
 DOUBLE = '\n'.join([
@@ -150,8 +147,9 @@ class Checks(InStore):
         # What was tried of the advice is known only where COMMAND runs.
         untried = re.sub(' *tried: .*\n', '', whole.stdout)
         self.assertEqual((ran.returncode, ran.stdout), (1, untried), ran.stderr)
-        parts = [json.loads(self.read(f'{part}.json'))['outcomes'] for part in (1, 2)]
-        merged = json.loads(self.read('all.json'))['outcomes']
+        parts = [json.loads(self.read(f'{part}.json'))['windows'][0]['outcomes']
+                 for part in (1, 2)]
+        merged = json.loads(self.read('all.json'))['windows'][0]['outcomes']
         self.assertEqual(merged, {**parts[0], **parts[1]})
         self.assertEqual(len(merged), sum(map(len, parts)))
         for given, told in [((1, 1), 'shard 1/2 is missing'), ((0,), 'shard 2/2 is missing'),
@@ -175,7 +173,7 @@ class Checks(InStore):
         self.assertEqual(ran.returncode, 3, ran.stderr)
         self.assertIn(' gave no answer', ran.stdout)
         # On a machine that is loaded others may be ended too.
-        self.assertEqual(json.loads(self.read('r.json'))['outcomes']['3'],
+        self.assertEqual(json.loads(self.read('r.json'))['windows'][0]['outcomes']['3'],
                          ['no answer', 'it had not ended after 0.3 seconds', 'begun\n'])
         self.assert_nothing_left()
 
@@ -256,16 +254,15 @@ class Stops(InStore):
         self.assertEqual(child.returncode, 128 + signal.SIGTERM)
         self.assert_ended()
 
-    @unittest.skipUnless(platform.machine() == 'x86_64', 'tgkill has another number')
-    def test_a_stop_that_another_thread_takes_is_heard(self):
-        child = self.begin('--jobs', '1', '--timeout', '300')
-        other, = [int(one) for one in os.listdir(f'/proc/{child.pid}/task')
-                  if int(one) != child.pid]
-        time.sleep(1)  # The first thread waits by now, for room in the queue.
-        ctypes.CDLL(None).syscall(TGKILL, child.pid, other, signal.SIGTERM)
-        child.communicate(timeout=PATIENCE)
-        self.assertEqual(child.returncode, 128 + signal.SIGTERM)
+    def test_a_process_that_is_killed_ends_the_check(self):
+        child = self.begin('--jobs', '2')
+        worker, _ = children(child.pid)
+        os.kill(worker, signal.SIGKILL)
+        _, err = child.communicate(timeout=PATIENCE)
+        self.assertEqual((child.returncode, err), (
+            2, 'crashfs-check: a process of this check was ended by SIGKILL\n'))
         self.assert_ended()
+        self.assert_nothing_left()
 
     def test_a_kill_leaves_nothing(self):
         child = self.begin()
@@ -312,7 +309,7 @@ class Refuses(InStore):
     def test_a_program_without_the_options_is_told(self):
         old = self.write('old', f'#!/bin/sh\nexec {FAKE} "$@" --old\n', 0o755)
         err = self.refusal('--crashfs', old, self.good, '--', 'true')
-        self.assertIn('has no `picks` yet', err)
+        self.assertIn('has no `list --json` yet', err)
         no_tar = self.write('no_tar', f'#!/bin/sh\ntest $1 = tar && set -- --old\n'
                                       f'exec {FAKE} "$@"\n', 0o755)
         err = self.refusal('--crashfs', no_tar, self.good, '--', 'true')
@@ -344,6 +341,14 @@ def processes(command):
         except OSError:
             continue
     return found
+
+
+def children(process):
+    """The processes that one has started and that run the same program, but for its guard."""
+    own = Path(f'/proc/{process}/cmdline').read_bytes()
+    found = Path(f'/proc/{process}/task/{process}/children').read_text(encoding='ascii').split()
+    same = [int(one) for one in found if Path(f'/proc/{one}/cmdline').read_bytes() == own]
+    return sorted(same)[1:]
 
 
 if __name__ == '__main__':

@@ -58,6 +58,18 @@ class First(InCounted):
         self.assertIn(f'name it as {self.path("check.py")}', lines[1])
         self.assertIn('is there all that COMMAND runs', self.refusal(['sh', '-c', 'nosuch'])[1])
 
+    def test_files_of_an_earlier_session_are_asked_for(self):
+        rights = '"owner":"u","group":"u","mode":"755"'
+        question = 'crashfs-check: had the directory files of an earlier session when it was '
+        for start, asked in (f'{{"start":"file","path":"/log",{rights},"bytes":"61"}}\n', True), (
+                '', False):
+            trace = self.write('old.trace', f'{{"trace":1,{rights}}}\n{start}'
+                               f'{{"op":"creat","path":"/new",{rights}}}\n')
+            ran = self.check(trace, command=['sh', '-c', 'test -e new'])
+            self.assertEqual((ran.returncode, ran.stdout), (2, ''), ran.stderr)
+            self.assertIn('in the start tree', ran.stderr)
+            self.assertEqual(f'{question}recorded?' in ran.stderr, asked, ran.stderr)
+
     def test_a_command_without_an_answer_there_is_tried_everywhere(self):
         ran = self.check('--prefixes', '--timeout', '0.5', self.good,
                          command=['sh', '-c', 'test $CRASHFS_STATE != 11 || sleep 60'])
@@ -82,7 +94,8 @@ class Stops(InCounted):
         self.write('on', '')
         ran = self.check('--resume', 'r.json', self.bad, command=command)
         self.assertEqual((ran.returncode, ran.stdout), (1, whole.stdout), ran.stderr)
-        after = [state for state in self.ran() if state in read_json(self.path('r.json')).outcomes]
+        tried = read_json(self.path('r.json')).windows[0].outcomes
+        after = [state for state in self.ran() if state in tried]
         self.assertEqual((before[-1], after), (5, []))
         self.assert_ended()
 
@@ -91,7 +104,7 @@ class Stops(InCounted):
                                f'sleep {self.long}')
         ran = self.check('--timeout', '2', '--json', 'r.json', self.good, command=command)
         self.assertEqual(ran.returncode, 3)
-        silent = [state for state, one in read_json(self.path('r.json')).outcomes.items()
+        silent = [state for state, one in read_json(self.path('r.json')).windows[0].outcomes.items()
                   if one.result == NO_ANSWER]
         self.assertIn(3, silent)
         self.ran()

@@ -4,14 +4,15 @@ are judged here, by their trees, without a command."""
 import unittest
 
 from crashfs_tools.advice import Tried
-from crashfs_tools.plan import Needs, read_plan
+from crashfs_tools.groups import Findings
+from crashfs_tools.plan import read_plan
 from crashfs_tools.reading import plan_of, read
-from crashfs_tools.reading.listing import listing
+from crashfs_tools.reading.listing import json_listing
 from crashfs_tools.reading.plan import different, file_sets, lost_sets
 from crashfs_tools.report import WIDTH, Report
-from crashfs_tools.results import Results
+from crashfs_tools.results import Head, Results
 from crashfs_tools.runner import BAD, GOOD, Outcome
-from crashfs_tools.trace_lines import operation_lines, with_syncs, without_numbers
+from crashfs_tools.trace_lines import TraceLine, operation_lines, with_syncs, without_numbers
 
 from .random_traces import RandomTrace
 from .support import FAKE
@@ -40,25 +41,34 @@ def rename(old, new):
 
 
 def plan_text(text, picks=True):
-    """The plan with all families, as `list` prints it, and what each micro-operation needs."""
+    """The plan with all families, as `list` prints it."""
     reading = read(text.encode())
     plain = plan_of(reading)
     sets = [*different(lost_sets(plain)), *different(file_sets(plain))] if picks else []
-    listed = ''.join(listing(plan_of(reading, True, sets), True, True))
-    return listed, Needs.from_picks(different(lost_sets(plain)))
+    return ''.join(json_listing(plan_of(reading, True, sets)))
 
 
-def report_of(text, cause):
-    """The report if a state's cause is what a function makes of its files and its lines."""
-    listed, needs = plan_text(text)
-    results = Results('a.trace', '', listed, [], needs=needs, lines=operation_lines(text))
+def findings_of(text, cause):
+    """What is found if a state's cause is what a function makes of its files and its lines."""
+    head = Head('a.trace', '', [], lines=operation_lines(text))
+    results = Results(read_plan(plan_text(text)))
     trees = plan_of(read(text.encode())).trees
     for state in results.plan.states:
         files = {path: data for path, (_, data) in
                  trees.tree(results.plan.kept[state.number]).items() if data is not None}
         found = cause(files, state.says)
         results.outcomes[state.number] = Outcome(BAD, found) if found else Outcome(GOOD)
-    return Report(results)
+    return Findings(head, results, {})
+
+
+def report_of(text, cause):
+    return reported(findings_of(text, cause))
+
+
+def reported(findings):
+    report = Report(findings.head, keep=True, draw=True)
+    report.add(findings)
+    return report
 
 
 class Plans(unittest.TestCase):
@@ -69,13 +79,13 @@ class Plans(unittest.TestCase):
         for seed in range(100):
             text = RandomTrace(1, seed).text()
             try:
-                listed, needs = plan_text(text, picks=False)
+                listed = plan_text(text, picks=False)
             except Exception:
                 continue  # Its last line has a fault.
-            plan = read_plan(listed, needs)
+            plan = read_plan(listed)
             third = text.replace('"trace":1', '"trace":3,"profile":"blocks","block":4096', 1)
             wanted = plan_of(read(third.encode()), True)
-            self.assertEqual([(f'{one.text}', plan.kept[one.number]) for one in plan.states],
+            self.assertEqual([(plan.text(one), plan.kept[one.number]) for one in plan.states],
                              wanted.states)
             fewer += len(plan.states) < len(plan.listed)
         self.assertGreater(fewer, 50)
@@ -84,15 +94,15 @@ class Plans(unittest.TestCase):
         for seed in range(100):
             text = RandomTrace(3, seed).text()
             try:
-                listed, needs = plan_text(text)
+                listed = plan_text(text)
             except Exception:
                 continue
-            plan = read_plan(listed, needs)
+            plan = read_plan(listed)
             wanted = plan_of(read(text.encode()), True).states
             self.assertEqual([plan.kept[one.number] for one in plan.listed][:len(wanted)],
                              [places for _, places in wanted])
             self.assertEqual(plan.states, plan.listed)
-            self.assertTrue(all(map(needs.allow, plan.kept.values())))
+            self.assertTrue(all(map(plan.needs.allow, plan.kept.values())))
 
 
 class Groups(unittest.TestCase):
@@ -112,7 +122,7 @@ class Groups(unittest.TestCase):
             return f'lost: {old[0]} is old' if says and old else ''
 
         report = report_of(text, cause)
-        self.assertEqual({(group.cause, group.lost.text) for group in report.groups},
+        self.assertEqual({(group.cause, group.lost.text) for group in report.groups()},
                          {('lost: a is old', 'rename /a+ to /a'),
                           ('lost: b is old', 'rename /b+ to /b')})
 
@@ -122,11 +132,11 @@ class Groups(unittest.TestCase):
         text += write('/log', 'two', 3) + line('fsync', '/log') + line('say', text='two')
         report = report_of(text, lambda files, says: '' if len(files.get(
             '/log', b'').replace(b'\0', b'')) >= 3 * says else f'lost: row {says}')
-        self.assertEqual(len(report.groups), 1)
-        self.assertEqual(report.advice[0].text, [
+        self.assertEqual(len(report.groups()), 1)
+        self.assertEqual(report.groups()[0].advice.text, [
             'line 4 (write /log, 3 bytes at 0) was not durable when line 5 acknowledged "one":',
             'fsync /log between them'])
-        self.assertEqual(report.advice[0].syncs, {4: '/log'})
+        self.assertEqual(report.groups()[0].advice.syncs, {4: '/log'})
 
     def test_names_and_causes_that_differ_in_numbers_are_one_entry(self):
         text, count = HEADER, 3
@@ -137,9 +147,9 @@ class Groups(unittest.TestCase):
             gone = [number for number in range(says) if f'/seg{number}' not in files]
             return f'lost: segment {gone[0]}' if gone else ''
 
-        group, = report_of(text, cause).groups
+        group, = report_of(text, cause).groups()
         self.assertEqual((group.lost.path, group.places[0]), ('/seg0', (2, 3)))
-        advice = report_of(text, cause).advice[0]
+        advice = group.advice
         self.assertEqual(advice.syncs, {2: '/', 4: '/', 6: '/'})
         self.assertEqual(advice.text[1], 'fsync the directory / between them '
                                          f'(and at {len(group.places) - 1} more places)')
@@ -147,12 +157,13 @@ class Groups(unittest.TestCase):
     def test_the_example_lacks_the_least_and_what_else_it_lacks_is_told(self):
         text = HEADER + line('creat', '/t') + write('/t', 'x') + rename('/t', '/f')
         text += line('creat', '/g') + line('say', text='one')
-        report = report_of(text, lambda files, says: 'lost: f' if says and not files.get('/f')
-                           else '')
+        findings = findings_of(text, lambda files, says: 'lost: f' if says and not files.get('/f')
+                               else '')
+        report, plan = reported(findings), findings.plan
         whole = '\n'.join(report.lines())
-        for group in report.groups:
-            lacking = [bin(report.plan.lacking(state)).count('1') for state in group.states]
-            self.assertEqual(bin(report.plan.lacking(group.example)).count('1'), min(lacking))
+        for group in report.groups():
+            lacking = [bin(plan.lacking(state)).count('1') for state in group.states]
+            self.assertEqual(bin(plan.lacking(group.example)).count('1'), min(lacking))
         self.assertIn('line 4 (rename /t to /f) was not durable when line 6 acknowledged "one":',
                       whole)
 
@@ -170,15 +181,44 @@ class Groups(unittest.TestCase):
         self.assertEqual([one.strip() for one in report.lines()[2:4]],
                          ['line 2: put (kv.py:8)', 'line 3: ack'])
 
+    def test_notes_are_shown_in_the_order_of_their_lines_and_once(self):
+        text = THIRD + line('creat', '/f', note='a') + line('fsync', '/')
+        text += line('write', '/f', offset=0, bytes='aa' * 5000, note='b')
+        empty = report_of(text, lambda files, says: 'empty' if files.get('/f') == b'' else '')
+        self.assertEqual([one.strip() for one in empty.lines()[2:4]], ['line 2: a', 'line 4: b'])
+        torn = report_of(text, lambda files, says: 'torn' if b'\0' in files.get('/f', b'') else '')
+        self.assertEqual([one.strip()[:9] for one in torn.lines()[2:5]],
+                         ['line 4: b', 'line 4 (w', 'no sync c'])
+
     def test_a_torn_line_and_a_change_in_two_lines_are_told_as_such(self):
         text = HEADER + line('creat', '/f') + line('fsync', '/') + write('/f', 'x' * 5000)
         report = report_of(text, lambda files, says: 'torn: f' if b'\0' in files.get('/f', b'')
                            else '')
-        self.assertIn('was torn: a crash kept a part of it', report.advice[0].text[0])
+        self.assertIn('was torn: a crash kept a part of it', report.groups()[0].advice.text[0])
         text = HEADER + line('creat', '/a') + line('fsync', '/') + line('creat', '/b')
         report = report_of(text, lambda files, says: '' if len(files) in (0, 2) else 'half')
-        self.assertTrue(report.advice[0].text[0].startswith(
-            'from line 2 (creat /a) until line 4 (creat /b) it fails'))
+        text, remedy = report.groups()[0].advice.text
+        self.assertTrue(text.startswith('from line 2 (creat /a) until line 4 (creat /b) it fails'))
+        self.assertIn('do line 4 before line 2, with a sync between them, or', remedy)
+
+    def test_lines_are_apart_if_neither_names_what_the_other_does(self):
+        log = TraceLine(2, 'truncate', '/log')
+        table = TraceLine(3, 'rename', '/table.new', '/table')
+        self.assertTrue(log.is_apart_from(table) and table.is_apart_from(log))
+        for path in ('/table', '/table.new', '/table/x', '/'):
+            other = TraceLine(2, 'creat', path)
+            self.assertFalse(other.is_apart_from(table) or table.is_apart_from(other), path)
+
+    def test_a_change_before_its_line_is_asked_of_the_command(self):
+        """A check that asks for what only a later line acknowledges is wrong itself."""
+        text = HEADER + line('creat', '/old') + line('fsync', '/') + line('unlink', '/old')
+        text += line('fsync', '/') + line('say', text='it is removed')
+        report = report_of(text, lambda files, says: '' if says or '/old' in files
+                           else 'lost: old')
+        span = [group.advice.text for group in report.groups() if group.is_span]
+        self.assertTrue(all(one[1].endswith('does COMMAND accept it?') for one in span if
+                            'say "it is removed"' in one[0]), span)
+        self.assertTrue(any('say "it is removed"' in one[0] for one in span), span)
 
     def test_no_line_but_the_first_is_longer_than_the_width(self):
         name = '/' + 'n' * 200
@@ -186,7 +226,7 @@ class Groups(unittest.TestCase):
         report = report_of(text, lambda files, says: 'lost: ' + 'as ' * 60 if says and not files
                            else '')
         self.assertTrue(all(len(one) <= WIDTH for one in report.lines()[1:]))
-        self.assertIn(name, report.fields()['groups'][0]['text'][0])
+        self.assertIn(name, report.group_fields(report.groups()[0])['text'][0])
 
     def test_a_cause_is_shown_as_it_is(self):
         text = HEADER + line('creat', '/f') + line('say', text='a')

@@ -2,7 +2,6 @@
 
 from __future__ import annotations
 
-import argparse
 import re
 import shutil
 import subprocess
@@ -10,16 +9,20 @@ import unittest
 from pathlib import Path
 from typing import Dict, List, Optional, Set
 
-from crashfs_tools import VERSION, check_options, record_options
+from crashfs_tools import VERSION
 from crashfs_tools.program import Crashfs
 
-from .support import TOOLS, InFolder, needed
+from inventory.command_lines import (TOOLS, Option, commands_of_program,
+                                     options_of_tool)
 
-DOCS = TOOLS.parent / 'docs'
+from .support import TOOLS as FOLDER
+from .support import InFolder, needed
+
+DOCS = FOLDER.parent / 'docs'
 PAGES = DOCS / 'man'
-COMPLETIONS = TOOLS / 'completions'
-PARSERS = {'crashfs-check': check_options.parser(), 'crashfs-record': record_options.parser()}
-PROGRAM = (TOOLS.parent / 'crates' / 'crashfs' / 'src' / 'commands.rt').read_text('utf-8')
+COMPLETIONS = FOLDER / 'completions'
+SOURCES = FOLDER.parent / 'crates' / 'crashfs' / 'src'
+PROGRAM_VERSION = (SOURCES / 'version.rt').read_text('utf-8')
 HELP = {'-h', '--help'}
 
 Options = Dict[str, Optional[str]]
@@ -45,45 +48,16 @@ def described(page: str) -> Options:
     return found
 
 
-def accepted(parser: argparse.ArgumentParser) -> Options:
-    """The options that a parser takes, each with the name of its value."""
-    found: Options = {}
-    for action in parser._actions:
-        for name in action.option_strings:
-            takes = action.nargs != 0
-            found[name] = str(action.metavar or action.dest).upper() if takes else None
-    return found
-
-
-def functions_of_program() -> Dict[str, str]:
-    parts = re.split(r'^(?:pub )?fn (\w+)', PROGRAM, flags=re.M)
-    return dict(zip(parts[1::2], parts[2::2]))
-
-
-def options_in(function: str, functions: Dict[str, str]) -> Options:
-    """The options that a function of the program's command line adds, and those it calls."""
-    body = functions[function]
-    found: Options = {f'--{name}': None for name in re.findall(r'flag\(alloc, "([\w-]+)"', body)}
-    for name, value in re.findall(r'value_argument\(alloc, "([\w-]+)", "([\w-]+)"', body):
-        found[f'--{name}'] = value
-    for name in re.findall(r'count_argument\(alloc, "([\w-]+)"', body):
-        found[f'--{name}'] = 'N'
-    for other in re.findall(r'\b(with_\w+)\(', body):
-        found.update(options_in(other, functions) if other != function else {})
-    return found
-
-
-def commands_of_program() -> Dict[str, Options]:
-    functions = functions_of_program()
-    return {name.replace('_command', ''): options_in(name, functions)
-            for name in functions if name.endswith('_command')}
+def values_of(options: List[Option]) -> Options:
+    """Each name of an option, with the name of its value."""
+    return {name: option.value for option in options for name in option.names}
 
 
 class Manual(unittest.TestCase):
 
     def test_the_tools_have_their_options(self) -> None:
-        for command, parser in PARSERS.items():
-            page, known = described(f'{command}.1'), accepted(parser)
+        for command in TOOLS:
+            page, known = described(f'{command}.1'), values_of(options_of_tool(command))
             self.assertEqual(set(page), set(known), command)
             for name, value in known.items():
                 if value in ('PROFILE', 'BLOCK'):
@@ -95,14 +69,15 @@ class Manual(unittest.TestCase):
         self.assertEqual(len(commands), 5)
         known: Options = {'-h': None, '--help': None, '-V': None, '--version': None}
         for options in commands.values():
-            known.update(options)
+            known.update(values_of(options))
         self.assertEqual(described('crashfs.1'), known)
 
     def test_the_synopsis_has_the_options_of_each_command(self) -> None:
         lines = section('crashfs.1', 'SYNOPSIS').split('.br\n')
         written = {line.split()[2]: set(re.findall(r'--[\w-]+', line)) for line in lines}
         self.assertEqual(written,
-                         {name: set(options) for name, options in commands_of_program().items()})
+                         {name: set(values_of(options))
+                          for name, options in commands_of_program().items()})
 
     def test_the_trace_has_the_lines_of_the_formats(self) -> None:
         formats = (DOCS / 'FORMATS.md').read_text('utf-8').split('### Lines')[1].split('\n### ')[0]
@@ -111,13 +86,13 @@ class Manual(unittest.TestCase):
                          sorted(re.findall(r'^\{.*\}$', formats, re.M)))
 
     def test_pages_name_their_version(self) -> None:
-        program = re.search(r'\.version\("(.*)"\)', PROGRAM)
+        program = re.search(r'VERSION: &str = "([\d.]+) ', PROGRAM_VERSION)
         assert program is not None
+        self.assertEqual(program[1], VERSION)
         for page in sorted(PAGES.iterdir()):
-            version = program[1] if page.name == 'crashfs.1' else VERSION
             name, number = page.name.upper().split('.')
             head = page.read_text('utf-8').splitlines()[0]
-            self.assertTrue(head.startswith(f'.TH {name} {number} "" "crashfs {version}" '), head)
+            self.assertTrue(head.startswith(f'.TH {name} {number} "" "crashfs {VERSION}" '), head)
 
     @needs_groff
     def test_pages_have_no_faults(self) -> None:
@@ -151,20 +126,22 @@ class Completions(unittest.TestCase):
         return ran.stdout.split()
 
     def test_the_tools_have_their_options(self) -> None:
-        for command, parser in PARSERS.items():
-            self.assertEqual(sorted(self.complete(command, '-')), sorted(accepted(parser)))
+        for command in TOOLS:
+            self.assertEqual(sorted(self.complete(command, '-')),
+                             sorted(values_of(options_of_tool(command))))
 
     def test_the_program_has_its_options(self) -> None:
         for command, options in commands_of_program().items():
-            self.assertEqual(set(self.complete('crashfs', command, '-')), HELP | set(options))
+            self.assertEqual(set(self.complete('crashfs', command, '-')),
+                             {*HELP, *values_of(options)})
         first: Set[str] = {*commands_of_program(), 'help', *HELP, '-V', '--version'}
         self.assertEqual(set(self.complete('crashfs', '')), first)
 
     def test_values_that_are_known_are_offered(self) -> None:
-        for action in PARSERS['crashfs-record']._actions:
-            if action.choices is not None:
-                self.assertEqual(self.complete('crashfs-record', action.option_strings[0], ''),
-                                 [str(one) for one in action.choices])
+        for option in options_of_tool('crashfs-record'):
+            if option.choices:
+                self.assertEqual(self.complete('crashfs-record', option.names[0], ''),
+                                 list(option.choices))
         self.assertEqual(self.complete('crashfs', 'serve', '--client', 'l'), ['linux'])
 
     def test_nothing_is_offered_after_the_two_dashes(self) -> None:

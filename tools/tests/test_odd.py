@@ -45,6 +45,8 @@ MAPPED = [
                              'say stored']),
     ('mapfix', 0, CREAT + ['creat /g', 'truncate /f 4096', 'truncate /g 4096', 'write /f 0 inf',
                            'write /g 0 ing', 'fsyncrange /g 0 4096', 'say done']),
+    ('mapfailed', 0, CREAT + ['truncate /f 4096', 'write /f 0 one', 'fsyncrange /f 0 4096',
+                              'say one', 'write /f 8 two', 'fsyncrange /f 0 4096', 'say two']),
     ('mremap1', 0, ['truncate /f 1048576', 'fsync /f', 'write /f 0 row', 'fsyncrange /f 0 4096',
                     'say row is stored']),
     ('mclosed', 0, ['creat /f.tmp', 'truncate /f.tmp 4096', 'rename /f.tmp /f', 'write /f 0 x',
@@ -58,6 +60,11 @@ AT_ONCE = [
     ('fixedpos', ['--mapped'], 'while other threads or processes ran'),
     ('mapthread2', ['--mapped'], 'while other threads or processes ran'),
 ]
+# What is reported of those that no trace has words for, with status 3 or 4.
+REASONS = {
+    'whiteout': '/a: RENAME_WHITEOUT left a device',
+    'xattr': '/f: its extended attributes change',
+}
 
 CALLS_32 = ('-m32', '-O1', '-nostdlib', '-static', '-fno-pic', '-no-pie', '-fno-stack-protector')
 
@@ -91,7 +98,12 @@ class Odd(InFolder):
                 ran = self.record(name, *options)
                 self.assertEqual(ran.returncode, status, ran.stderr)
                 self.assertEqual(self.operations(), operations)
-                self.assertIn('its last state is that of the directory', ran.stderr)
+                self.assertIn(REASONS.get(name, ''), ran.stderr)
+                self.assertIn('its last state equals the directory', ran.stderr)
+
+    def test_each_program_is_recorded(self):
+        recorded = {name for name, *_ in [*PROGRAMS, *MAPPED, *AT_ONCE]} | {'calls32'}
+        self.assertEqual({path.stem for path in ODD.glob('*.c')}, recorded)
 
     def test_each_has_its_operations(self):
         self.check(PROGRAMS)
@@ -113,7 +125,7 @@ class Odd(InFolder):
             with self.subTest(name):
                 ran = self.record(name, *options)
                 if ran.returncode == 0:
-                    self.assertIn('its last state is that of the directory', ran.stderr)
+                    self.assertIn('its last state equals the directory', ran.stderr)
                 else:
                     self.assertIn(reported, ran.stderr)
 

@@ -5,34 +5,38 @@ import re
 import unittest
 from xml.dom import minidom
 
+from crashfs_tools.drawing import drawing_of
+from crashfs_tools.groups import Difference
 from crashfs_tools.junit import junit_lines
 from crashfs_tools.page import page
-from crashfs_tools.report import Difference
 from crashfs_tools.runner import BAD, GOOD, NO_ANSWER, Outcome
 from crashfs_tools.tree import Entry
 from crashfs_tools.tree_diff import different_lines, nearest_good
 
-from .test_groups import HEADER, line, report_of, write
+from .test_groups import HEADER, findings_of, line, report_of, reported, write
 
 ODD = '/<b>&\\u0001'
 SIZE = 2_000_000
 
 
-def odd_report():
+def odd_findings():
     """Of a store with an odd name, of which two of three lines are lost, and one state hangs."""
     text = HEADER + line('creat', ODD) + line('say', text='one </script>')
     text += write(ODD, 'row') + line('say', text='two')
-    report = report_of(text, lambda files, says: '' if len(files) >= min(says, 1)
-                       else 'lost: <file>\x01')
-    place = report.groups[0].example.number
-    report.by_state[place] = Outcome(BAD, 'lost: <file>\x01', 'first\n<last>\x01\n')
-    return report
+    findings = findings_of(text, lambda files, says: '' if len(files) >= min(says, 1)
+                           else 'lost: <file>\x01')
+    findings.groups[0].outcome = Outcome(BAD, 'lost: <file>\x01', 'first\n<last>\x01\n')
+    return findings
+
+
+def odd_report():
+    return reported(odd_findings())
 
 
 class Pages(unittest.TestCase):
 
     def data(self, text):
-        return json.loads(re.search(r'const data = (.*);\n', text)[1])
+        return json.loads(re.search(r'const windows = (.*);\n', text)[1])
 
     def test_what_is_shown_is_text(self):
         text = ''.join(page(odd_report()))
@@ -52,18 +56,19 @@ class Pages(unittest.TestCase):
         self.assertIn('fsync the directory / between them', section)
         self.assertIn('first\n&lt;last&gt;', section)
         self.assertEqual(section.count('class="creat pair"'), 1)
-        self.assertEqual(text.count('<section>'), len(odd_report().groups))
+        self.assertEqual(text.count('<section>'), len(odd_report().groups()))
 
     def test_each_state_is_drawn_with_its_result(self):
-        report = odd_report()
-        hanging = next(iter(report.plan.states)).number
-        report.by_state[hanging] = Outcome(NO_ANSWER)
-        del report.by_state[report.plan.states[1].number]
-        data = self.data(''.join(page(report)))
+        findings = odd_findings()
+        hanging = next(iter(findings.plan.states)).number
+        findings.by_state[hanging] = Outcome(NO_ANSWER)
+        del findings.by_state[findings.plan.states[1].number]
+        data, = self.data(''.join(page(reported(findings))))
+        self.assertEqual(data, drawing_of(findings))
         self.assertEqual(data['prefixes'][:2], 'n-')
         signs = data['prefixes'] + ''.join(data['holes']) + ''.join(one for _, one in data['picks'])
-        self.assertEqual(len(signs.replace(' ', '')), len(report.plan.states))
-        failing = sum(one.result == BAD for one in report.by_state.values())
+        self.assertEqual(len(signs.replace(' ', '')), len(findings.plan.states))
+        failing = sum(one.result == BAD for one in findings.by_state.values())
         self.assertEqual(signs.count('b'), failing)
         for row, numbers in zip(data['holes'], data['numbers']):
             self.assertEqual(len(row.replace(' ', '')), len(numbers))
@@ -71,7 +76,7 @@ class Pages(unittest.TestCase):
     def test_a_page_of_thousands_of_states_is_small(self):
         text = HEADER + ''.join(line('creat', f'/{number}') for number in range(100))
         report = report_of(text, lambda files, says: 'lost: one' if len(files) == 7 else '')
-        self.assertGreater(len(report.plan.states), 5_000)
+        self.assertGreater(report.states, 5_000)
         self.assertLess(len(''.join(page(report))), SIZE)
 
 
@@ -93,22 +98,30 @@ class Differences(unittest.TestCase):
             '/short has 2 bytes, there 3 bytes; at byte 2 its end, there 63'])
 
     def test_the_nearest_good_state_lacks_or_has_the_least_beside(self):
-        report = odd_report()
-        group = report.groups[0]
-        kept = report.plan.kept
-        good = nearest_good(report, group)
-        self.assertEqual(report.by_state[good.number].result, GOOD)
+        findings = odd_findings()
+        group, kept = findings.groups[0], findings.plan.kept
+        good = nearest_good(findings, group)
+        self.assertEqual(findings.by_state[good.number].result, GOOD)
         far = [bin(kept[state] ^ kept[group.example.number]).count('1')
-               for state, one in report.by_state.items() if one.result == GOOD]
+               for state, one in findings.by_state.items() if one.result == GOOD]
         self.assertEqual(bin(kept[good.number] ^ kept[group.example.number]).count('1'), min(far))
 
+    def test_equal_files_are_said_to_be_so(self):
+        findings = odd_findings()
+        findings.groups[0].difference = Difference(3, [])
+        text = ''.join(page(reported(findings)))
+        self.assertIn('has the same files as state 3, which is good: other lines', text)
+        self.assertNotIn('<ul class="differences">', text)
+
     def test_they_are_shown_as_text(self):
-        report = odd_report()
-        report.differences[0] = Difference(3, ['/<b> is only here'])
+        findings = odd_findings()
+        findings.groups[0].difference = Difference(3, ['/<b> is only here'])
+        report = reported(findings)
         text = ''.join(page(report))
-        self.assertIn('beside state 3, which is good', text)
+        self.assertIn('and state 3, which is good', text)
         self.assertIn('<li>/&lt;b&gt; is only here</li>', text)
-        self.assertEqual(report.fields()['groups'][0]['differences'], ['/<b> is only here'])
+        fields = json.loads(''.join(report.json_pieces()))
+        self.assertEqual(fields['groups'][0]['differences'], ['/<b> is only here'])
 
 
 class JUnit(unittest.TestCase):
@@ -117,7 +130,7 @@ class JUnit(unittest.TestCase):
         report = odd_report()
         suite = minidom.parseString(''.join(junit_lines(report))).documentElement
         cases = suite.getElementsByTagName('testcase')
-        self.assertEqual(len(cases), len(report.groups) + 1)
+        self.assertEqual(len(cases), len(report.groups()) + 1)
         self.assertEqual(int(suite.getAttribute('tests')), len(cases))
         self.assertEqual(int(suite.getAttribute('failures')),
                          len(suite.getElementsByTagName('failure')))
@@ -130,12 +143,13 @@ class JUnit(unittest.TestCase):
         self.assertRegex(cases[-1].getAttribute('name'), r'^all other states \(\d+\)$')
 
     def test_a_state_without_an_answer_is_an_error(self):
-        report = odd_report()
-        for group in report.groups:
-            group.result = NO_ANSWER
+        findings = odd_findings()
+        for group in findings.groups:
+            group.outcome = Outcome(NO_ANSWER, group.cause)
+        report = reported(findings)
         suite = minidom.parseString(''.join(junit_lines(report))).documentElement
         self.assertEqual((suite.getAttribute('failures'), suite.getAttribute('errors')),
-                         ('0', str(len(report.groups))))
+                         ('0', str(len(report.groups()))))
 
 
 if __name__ == '__main__':

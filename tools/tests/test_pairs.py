@@ -2,33 +2,35 @@
 
 import unittest
 
+from crashfs_tools.groups import Findings
 from crashfs_tools.pairs import Pair, Pairs
-from crashfs_tools.plan import MicroOperation, Needs, PlanError, State, Trial
+from crashfs_tools.plan import Before, MicroOperation, Needs, Plan, PlanError, State, Trial
 from crashfs_tools.plan import read_plan as read_listed
 from crashfs_tools.report import Report
-from crashfs_tools.results import Results
+from crashfs_tools.results import Head, Results
 from crashfs_tools.runner import BAD, GOOD, NO_ANSWER, Outcome
 from crashfs_tools.trace_lines import TraceLine
 
+# The paths have a blank, and a text that lines of `list` have after a path.
 LISTED = """\
-op 0 create_dir_entry /a line 3 file line 2
-op 1 change_file_size 0 4 line 3 /a b
-op 2 write_block 0 0 12 4 line 3 /a b
-op 3 move_dir_entry /a b /c line 5
-op 4 say line 6
-state 0 prefix 0 says 0
-state 1 prefix 1 says 0 same 1
-state 2 prefix 2 says 0 same 2
-state 3 prefix 3 says 0 same 3
-state 4 prefix 4 says 0 same 4
-state 5 prefix 5 says 1 same 4
-state 6 hole 0 2 says 0 same 0
-state 7 hole 1 3 says 0 same 1
-state 8 hole 1 4 says 0 same 8
-state 9 hole 1 5 says 1 same 8
-state 10 hole 3 5 says 1 same 3
-state 11 pick 0,2 says 0 same 1
-state 12 pick - says 0 same 0
+{"op":0,"kind":"create_dir_entry","path":"/a line 3","node":"file","line":2,"needs":[0]}
+{"op":1,"kind":"change_file_size","path":"/a b","file":0,"length":4,"line":3,"needs":[1]}
+{"op":2,"kind":"write_block","path":"/a b","block":0,"at":12,"count":4,"line":3,"needs":[2]}
+{"op":3,"kind":"move_dir_entry","path":"/a b","to":"/c\\nd","line":5,"needs":[3]}
+{"op":4,"kind":"say","line":6,"needs":[4]}
+{"state":0,"kind":"prefix","end":0,"says":0,"same":0}
+{"state":1,"kind":"prefix","end":1,"says":0,"same":1}
+{"state":2,"kind":"prefix","end":2,"says":0,"same":2}
+{"state":3,"kind":"prefix","end":3,"says":0,"same":3}
+{"state":4,"kind":"prefix","end":4,"says":0,"same":4}
+{"state":5,"kind":"prefix","end":5,"says":1,"same":4}
+{"state":6,"kind":"hole","missing":0,"end":2,"says":0,"same":0}
+{"state":7,"kind":"hole","missing":1,"end":3,"says":0,"same":1}
+{"state":8,"kind":"hole","missing":1,"end":4,"says":0,"same":8}
+{"state":9,"kind":"hole","missing":1,"end":5,"says":1,"same":8}
+{"state":10,"kind":"hole","missing":3,"end":5,"says":1,"same":3}
+{"state":11,"kind":"pick","places":[0,2],"says":0,"same":1}
+{"state":12,"kind":"pick","places":[],"says":0,"same":0}
 """
 LINES = {line.number: line for line in [
     TraceLine(2, 'creat', '/a line 3'), TraceLine(3, 'write', '/a b', '', '16 bytes at 0'),
@@ -37,7 +39,9 @@ LOST = Outcome(BAD, 'lost: a')
 
 
 def read_plan(listed, needs=()):
-    return read_listed(listed, Needs(list(needs)))
+    """The plan; with other needs, if some are given."""
+    plan = read_listed(listed)
+    return Plan(plan.operations, plan.listed, Needs(list(needs))) if needs else plan
 
 
 class Listed(unittest.TestCase):
@@ -45,28 +49,42 @@ class Listed(unittest.TestCase):
     def test_operations_and_states_are_read(self):
         plan = read_plan(LISTED)
         self.assertEqual(plan.operations[0],
-                         MicroOperation(0, 'create_dir_entry', '/a line 3 file', '', 2))
+                         MicroOperation(0, 'create_dir_entry', '/a line 3', 'file', 2))
         self.assertEqual(plan.operations[2].text, 'op 2 write_block /a b 0 12 4')
-        self.assertEqual(plan.operations[3].text, 'op 3 move_dir_entry /a b /c')
+        self.assertEqual(plan.operations[3].text, 'op 3 move_dir_entry /a b /c\nd')
         self.assertEqual(plan.operations[4].text, 'op 4 say')
         self.assertEqual(plan.listed[9], State(9, 'hole', (1, 5), 1, 8))
+        self.assertEqual(plan.text(plan.listed[9]), 'hole 1 5')
         self.assertEqual(plan.listed[12].numbers, ())
 
-    def test_modes_and_owners_are_read(self):
-        plan = read_plan('op 0 set_attr file 0 600 ann staff line 3 /a b\n'
-                         'op 1 set_attr dir /d 7 700 bob staff line 4\n')
+    def test_modes_owners_and_files_without_a_path_are_read(self):
+        plan = read_plan(
+            '{"op":0,"kind":"set_attr","path":null,"file":0,"mode":"600","owner":"ann","group":"s",'
+            '"line":3,"needs":[0]}\n'
+            '{"op":1,"kind":"set_attr","path":"/d 7","mode":"700","owner":"bob","group":"s",'
+            '"line":4,"needs":[0,1]}\n')
         self.assertEqual([operation.text for operation in plan.operations],
-                         ['op 0 set_attr /a b 600 ann staff', 'op 1 set_attr /d 7 700 bob staff'])
+                         ['op 0 set_attr 600 ann s', 'op 1 set_attr /d 7 700 bob s'])
         self.assertEqual([operation.line for operation in plan.operations], [3, 4])
+        self.assertEqual(plan.needs.masks, [0b1, 0b11])
+
+    def test_a_window_has_the_numbers_places_says_and_lines_of_its_session(self):
+        plan = read_listed(LISTED, Before(100, 40, 7, (0, 11, 12, 0, 14, 15)))
+        self.assertEqual(plan.operations[3], MicroOperation(43, 'move_dir_entry', '/a b', '/c\nd',
+                                                            14))
+        self.assertEqual(plan.state(109), State(109, 'hole', (1, 5), 8, 108))
+        self.assertEqual(plan.text(plan.state(109)), 'hole 41 45')
+        self.assertEqual([plan.has(number) for number in (99, 100, 112, 113)],
+                         [False, True, True, False])
 
     def test_equal_trees_are_tried_once_for_each_number_of_says(self):
-        self.assertEqual(read_plan(LISTED).trials(), {
+        self.assertEqual(Results(read_plan(LISTED)).trials, {
             Trial(0, 0): 0, Trial(1, 0): 1, Trial(2, 0): 2, Trial(3, 0): 3, Trial(4, 0): 4,
             Trial(4, 1): 5, Trial(8, 0): 8, Trial(8, 1): 9, Trial(3, 1): 10})
 
     def test_a_line_of_another_form_is_refused(self):
-        for line in ['op 1 write_block 0 0 12 4', 'op 1 chown /a line 2', 'state 1 cut 3 says 0',
-                     '']:
+        for line in ['op 1 write_block 0 0 12 4', '{"op":1,"kind":"say","needs":[1]}', '[]', '3',
+                     '{"state":1,"kind":"cut","end":3,"says":0,"same":1}', '']:
             with self.subTest(line), self.assertRaises(PlanError):
                 read_plan(line)
 
@@ -111,37 +129,38 @@ class Blame(unittest.TestCase):
         self.assertEqual(self.pair(0, [0]), Pair(None, 0))
         self.assertEqual(self.pair(5, [4, 5]), Pair(3, None))
 
+    def test_a_state_that_is_equal_to_a_prefix_has_its_pair(self):
+        self.assertEqual(self.pair(7, [7]), Pair(2, 1))
+        self.assertEqual(self.pair(7, [1, 7]), Pair(0, 1))
+        self.assertEqual(self.pair(11, [1, 2, 7, 11]), Pair(0, 2))
+        # The tree of prefix 3, but a line more was acknowledged.
+        self.assertEqual(self.pair(10, [3, 10]), Pair(4, 3))
+
     def test_a_pick_is_told_with_a_hole_that_fails_too_or_the_first_that_it_lacks(self):
         self.assertEqual(self.pair(11, [11]), Pair(2, 1))
         self.assertEqual(self.pair(11, [11, 7]), Pair(2, 1))
         self.assertEqual(self.pair(12, [12]), Pair(None, None))
 
-    def test_needs_are_the_least_sets_of_each_last_member(self):
-        needs = Needs.from_picks([[0], [0, 1], [0, 1, 2, 3], [0, 3]])
-        self.assertTrue(needs.needs(3, 0))
-        self.assertFalse(needs.needs(3, 1))
-        self.assertFalse(needs.needs(9, 1))
-
 
 class Text(unittest.TestCase):
 
     def report(self, outcomes):
-        return Report(Results('a.trace', '', LISTED, [], outcomes=outcomes, lines=LINES))
+        report = Report(Head('a.trace', '', [], lines=LINES))
+        report.add(Findings(report.head, Results(read_plan(LISTED), outcomes), {}))
+        return report
 
     def test_equal_states_have_the_outcome_of_the_first(self):
         outcomes = {state: Outcome(GOOD) for state in (0, 1, 2, 3, 4, 5, 8, 10)}
         report = self.report({**outcomes, 9: LOST, 1: LOST})
         self.assertEqual(report.lines(), [
             'a.trace: 5 micro-operations, 13 states, 9 different: 4 fail (lost 4)',
-            '  lost: a                                              2 states, e.g. --state 7',
-            '    line 3 (write /a b, 16 bytes at 0) was torn: a crash kept a part of it',
-            '    no sync comes between: keep a checksum with the data, or write a new file, sync '
-            'it, rename it',
-            '  lost: a                                              1 state: --state 1',
+            '  lost: a                                              3 states, e.g. --state 1',
             '    from line 2 (creat /a line 3) until line 3 (write /a b, 16 bytes at 0) it fails, '
             'though nothing',
             '      is lost',
-            '    no sync helps: make these lines one change (write a new file, sync it, rename it)',
+            '    no sync helps: do line 3 before line 2, with a sync between them, or make them '
+            'one change (write',
+            '      a new file, sync it, rename it, sync the directory)',
             '  lost: a                                              1 state: --state 9',
             '    line 3 (write /a b, 16 bytes at 0) was not durable when line 6 acknowledged '
             '"row 1":',

@@ -1,9 +1,10 @@
 """What the tools do with what the program `crashfs` writes."""
 
+import os
 import sys
 import unittest
 
-from crashfs_tools.program import Crashfs
+from crashfs_tools.program import BUILT, Crashfs, program_beside
 
 from .support import InFolder
 
@@ -31,6 +32,28 @@ class Archives(InFolder):
         program = self.write('crashfs', f'#!{sys.executable} -S\n{LATE}', 0o755)
         tree = Crashfs(program).tree('a.trace', 0)
         self.assertEqual(list(tree), ['/a'])
+
+
+class Places(InFolder):
+
+    def test_an_installed_program_is_found_beside_its_library(self):
+        library = self.path('usr', 'lib', 'crashfs')
+        os.makedirs(library)
+        os.makedirs(self.path('usr', 'bin'))
+        self.assertIsNone(program_beside(library))
+        program = self.write('usr/bin/crashfs', '#!/bin/sh\n', 0o644)
+        self.assertIsNone(program_beside(library))
+        os.chmod(program, 0o755)
+        self.assertEqual(program_beside(library), program)
+
+    def test_that_of_another_folder_is_not_taken(self):
+        self.write('crashfs', '#!/bin/sh\n', 0o755)
+        os.makedirs(self.path('bin'))
+        self.write('bin/crashfs', '#!/bin/sh\n', 0o755)
+        built = BUILT if os.access(BUILT, os.X_OK) else None
+        for library in (self.path('clone', 'tools'), self.path('lib', 'tools'),
+                        self.path('src', 'crashfs')):
+            self.assertEqual(program_beside(library), built)
 
 
 if __name__ == '__main__':

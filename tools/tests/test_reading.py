@@ -119,6 +119,24 @@ class Rows(unittest.TestCase):
                          [[0], [0, 3]])
 
 
+class Digests(unittest.TestCase):
+
+    def test_states_have_the_same_digest_just_if_their_trees_are_equal(self):
+        write = '{"op":"write","path":"/a","offset":%d,"text":"aaaa"}\n'
+        hidden = HEADERS[3] + A + write % 0 + write % 4
+        for text in [hidden, *(RandomTrace(3, seed).text() for seed in range(40))]:
+            try:
+                plan = plan_of(read(text.encode()), True)
+            except ReadingFault:
+                continue
+            trees = [(plan.trees.digest(places), sorted(plan.trees.tree(places).items()))
+                     for _, places in plan.states]
+            first = {}
+            for digest, tree in trees:
+                self.assertEqual(first.setdefault(digest, tree), tree)
+            self.assertEqual(len(first), len({repr(tree) for _, tree in trees}))
+
+
 class Faults(unittest.TestCase):
 
     def test_the_first_fault_of_a_line_counts(self):
@@ -279,7 +297,8 @@ class AsAProgram(InFolder):
 
     def test_command_lines_that_the_program_refuses_are_refused(self):
         for words in ([], ['serve'], ['list'], ['list', '--trace', 'a', '--lost'],
-                      ['tar', '--trace', str(EXAMPLES / 'store.trace'), '--states', '3']):
+                      *(['tar', '--trace', str(EXAMPLES / 'store.trace'), '--states', states]
+                        for states in ('', '3-1', '3-', 'x', '1,,2'))):
             ran = self.run_reading(*words)
             self.assertEqual((ran.returncode, ran.stdout), (2, ''), words)
             self.assertTrue(ran.stderr.startswith('error: '), ran.stderr)

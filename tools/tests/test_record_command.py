@@ -1,21 +1,13 @@
 """crashfs-record as its users run it, with strace."""
 
-import ctypes
 import os
-import platform
 import shutil
-import signal
 import sys
 import threading
-import time
 import unittest
-
-from crashfs_tools import strace_run
 
 from .support import FAKE, PATIENCE, TOOLS, InFolder, needs_strace, needs_version_3
 
-# The call that signals one thread.
-TGKILL = 234
 STORE_MAPPED = """
 import mmap, os
 f = os.open('map', os.O_RDWR | os.O_CREAT, 0o600)
@@ -29,8 +21,7 @@ os.write(1, b'told\\n')
 """
 
 
-@needs_strace
-class Records(InFolder):
+class InRecordings(InFolder):
 
     def setUp(self):
         super().setUp()
@@ -51,10 +42,22 @@ class Records(InFolder):
         lines = self.read('out.trace').splitlines()
         return [line for line in lines if line.startswith('{"op"')]
 
+    def pid_of(self, name, child):
+        self.wait_until(lambda: os.path.exists(self.path(name)) and self.read(name).strip() != '',
+                        'COMMAND has started', child)
+        return int(self.read(name))
+
+    def assert_gone(self, pid):
+        self.wait_until(lambda: not os.path.exists(f'/proc/{pid}'), 'COMMAND has ended')
+
+
+@needs_strace
+class Records(InRecordings):
+
     def test_a_session_of_a_shell_is_whole(self):
         ran = self.record('echo 2 > new; echo stored; mv new old; mkdir s; sync; echo 3 >> old')
         self.assertEqual((ran.returncode, ran.stdout), (0, 'stored\n'), ran.stderr)
-        self.assertIn('its last state is that of', ran.stderr)
+        self.assertIn('its last state equals the directory', ran.stderr)
         names = [line.split('"')[3] for line in self.operations()]
         self.assertEqual(names, ['creat', 'write', 'say', 'rename', 'mkdir', 'sync', 'write'])
         self.assert_nothing_left()
@@ -105,7 +108,7 @@ class Records(InFolder):
     def test_the_last_line_counts_what_there_is(self):
         ran = self.record_aloud('echo 2 > new; echo one; rm old; echo two')
         self.assertIn('1 start line, 5 operations, 6 micro-operations, 20 states, '
-                      '2 acknowledged lines (standard output); its last state is that of the '
+                      '2 acknowledged lines (standard output); its last state equals the '
                       'directory', ran.stderr)
 
     def test_what_is_only_noted_has_status_4(self):
@@ -184,7 +187,7 @@ class Records(InFolder):
     def test_a_difference_at_the_end_is_told(self):
         child = self.start('crashfs-record', '--no-say', 'd', 'out.trace', '--', 'sh', '-c',
                            'echo $$ > ../pid; until test -e other; do sleep 0.05; done')
-        self.pid_of('pid')
+        self.pid_of('pid', child)
         self.write('d/other', 'made by the test, which strace does not follow')
         _, err = child.communicate(timeout=PATIENCE)
         self.assertEqual(child.returncode, 3)
@@ -195,7 +198,7 @@ class Records(InFolder):
         self.write('d/two', '1')
         child = self.start('crashfs-record', '--no-say', 'd', 'out.trace', '--', 'sh', '-c',
                            'echo $$ > ../pid; until test -e other; do sleep 0.05; done; rm other')
-        self.pid_of('pid')
+        self.pid_of('pid', child)
         os.unlink(self.path('d', 'two'))
         os.link(self.path('d', 'one'), self.path('d', 'two'))
         os.mkfifo(self.path('d', 'pipe'))
@@ -212,7 +215,8 @@ class Records(InFolder):
         self.write('tmp/crashfs', '#!/bin/sh\necho "trace line 1: Syntax" >&2; exit 1\n', 0o755)
         ran = self.record('echo 2 > new', '--crashfs', self.path('tmp', 'crashfs'))
         self.assertEqual(ran.returncode, 0, ran.stderr)
-        self.assertIn('its last state is that of the directory (by an own replay)', ran.stderr)
+        self.assertIn("its last state equals the directory (by the recorder's replay)",
+                      ran.stderr)
 
     def test_a_log_is_converted_as_it_was_recorded(self):
         before = self.read('d/old')
@@ -256,6 +260,19 @@ class Records(InFolder):
         self.assertEqual(ran.returncode, 3)
         self.assertIn('/map: mapped for writing', ran.stderr)
 
+    def test_an_argument_that_is_not_in_the_directory_is_named(self):
+        self.write('save.py', 'raise SystemExit(1)')
+        self.write('d/here.py', 'raise SystemExit(1)')
+        ran = self.run_tool('crashfs-record', '--no-say', 'd', 'out.trace', '--',
+                            sys.executable, 'save.py')
+        self.assertEqual(ran.returncode, 3)
+        self.assertIn(f'save.py is no absolute path, and COMMAND runs in {self.path("d")}: name '
+                      f'it as {self.path("save.py")}\n', ran.stderr)
+        self.assertIn('its last state equals the directory (by', ran.stderr)
+        ran = self.run_tool('crashfs-record', '--no-say', 'd', 'out.trace', '--',
+                            sys.executable, 'here.py')
+        self.assertNotIn('no absolute path', ran.stderr)
+
     def test_a_command_that_cannot_be_started_is_told(self):
         odd = self.write('odd', 'true\n', 0o755)
         ran = self.run_tool('crashfs-record', 'd', 'out.trace', '--', odd)
@@ -286,76 +303,6 @@ class Records(InFolder):
             self.assertEqual(ran.stderr, f'crashfs-record: {told}\n')
             self.assertEqual(sorted(os.listdir(self.folder)), ['d', *keep[1:], 'tmp'])
             self.assert_nothing_left()
-
-    def test_a_command_that_a_signal_ends_is_recorded(self):
-        for name in ('KILL', 'TERM', 'SEGV'):
-            with self.subTest(name):
-                ran = self.record_aloud(f'echo 2 > new; echo told; kill -{name} $$',
-                                        '--keep-log', 'log')
-                self.assertEqual((ran.returncode, ran.stdout), (3, 'told\n'))
-                self.assertIn(f'COMMAND was ended by SIG{name}\n', ran.stderr)
-                self.assertIn(f'+++ killed by SIG{name}', self.read('log'))
-                self.assertEqual(len(self.operations()), 3)
-
-    def test_a_stop_ends_the_command_and_what_was_recorded_is_written(self):
-        for number in (signal.SIGINT, signal.SIGTERM):
-            with self.subTest(number):
-                child = self.start('crashfs-record', 'd', 'out.trace', '--', 'sh', '-c',
-                                   'echo $$ > ../pid; echo 2 > new; echo told; '
-                                   'echo 1 > ../after; sleep 60')
-                pid = self.pid_of('pid')
-                self.wait_until(lambda: os.path.exists(self.path('after')), 'the line is told')
-                child.send_signal(number)
-                _, err = child.communicate(timeout=PATIENCE)
-                self.assertEqual(child.returncode, 0, err)
-                self.assert_gone(pid)
-                self.assertIn('1 acknowledged line', err)
-                self.assert_nothing_left()
-                os.unlink(self.path('pid'))
-                os.unlink(self.path('after'))
-
-    @unittest.skipUnless(platform.machine() == 'x86_64', 'tgkill has another number')
-    def test_a_stop_that_another_thread_takes_is_passed_on(self):
-        child = self.start('crashfs-record', '--no-say', 'd', 'out.trace', '--', 'sh', '-c',
-                           'echo $$ > ../pid; exec sleep 300')
-        pid = self.pid_of('pid')
-        other, = [int(one) for one in os.listdir(f'/proc/{child.pid}/task')
-                  if int(one) != child.pid]
-        time.sleep(0.5)  # The first thread waits by now for standard output.
-        ctypes.CDLL(None).syscall(TGKILL, child.pid, other, signal.SIGTERM)
-        _, err = child.communicate(timeout=PATIENCE)
-        self.assertEqual(child.returncode, 0, err)
-        self.assert_gone(pid)
-
-    def test_a_second_stop_kills_a_command_that_goes_on(self):
-        script = 'trap "echo 3 > ../trapped" TERM; echo $$ > ../pid; while :; do sleep 0.1; done'
-        child = self.start('crashfs-record', '--no-say', 'd', 'out.trace', '--', 'sh', '-c', script)
-        pid = self.pid_of('pid')
-        child.terminate()
-        self.wait_until(lambda: os.path.exists(self.path('trapped')), 'COMMAND has the signal')
-        time.sleep(strace_run.SAME_STOP)
-        child.terminate()
-        _, err = child.communicate(timeout=PATIENCE)
-        self.assertEqual(child.returncode, 3)
-        self.assertIn('COMMAND was ended by SIGKILL', err)
-        self.assert_gone(pid)
-
-    def test_a_kill_leaves_nothing(self):
-        child = self.start('crashfs-record', 'd', 'out.trace', '--', 'sh', '-c',
-                           'echo $$ > ../pid; sleep 60')
-        pid = self.pid_of('pid')
-        child.kill()
-        child.communicate(timeout=PATIENCE)
-        self.assert_gone(pid)
-        self.wait_until(lambda: os.listdir(self.temporary) == [], 'nothing left')
-
-    def pid_of(self, name):
-        self.wait_until(lambda: os.path.exists(self.path(name)) and self.read(name).strip() != '',
-                        'COMMAND has started')
-        return int(self.read(name))
-
-    def assert_gone(self, pid):
-        self.wait_until(lambda: not os.path.exists(f'/proc/{pid}'), 'COMMAND has ended')
 
 
 class Refuses(InFolder):
@@ -392,7 +339,7 @@ class Refuses(InFolder):
         ran = self.run_tool('crashfs-record', 'd', 'o', '--', '/bin/sh', '-c', 'echo 1 > a',
                             path=self.path('tmp'))
         self.assertEqual(ran.returncode, 1)
-        self.assertIn('strace is not there', ran.stderr)
+        self.assertIn('strace: command not found', ran.stderr)
         self.assertEqual(os.listdir(self.path('d')), [])
 
     def test_a_strace_that_is_old_or_may_not_trace_is_told(self):

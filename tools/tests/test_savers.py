@@ -66,7 +66,7 @@ class Savers(InFolder):
         ran = self.run_tool('crashfs-record', way, 'out.trace', '--',
                             sys.executable, '-S', self.path('saver.py'), way)
         self.assertEqual(ran.returncode, 0, ran.stderr)
-        self.assertIn('its last state is that of the directory', ran.stderr)
+        self.assertIn('its last state equals the directory', ran.stderr)
         ran = self.run_tool('crashfs-check', '--crashfs', FAKE, 'out.trace', '--',
                             sys.executable, '-S', self.path('check.py'))
         self.assertEqual(ran.stderr, '')

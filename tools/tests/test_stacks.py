@@ -47,9 +47,16 @@ class Frames(unittest.TestCase):
     def test_the_system_s_frames_are_left_out(self):
         shown = [' > /usr/lib/x86_64-linux-gnu/libc.so.6(__write+0x10) [0xf8350]'[3:],
                  '/opt/a b/store(put+0x24) [0x119d]', '/opt/a b/store() [0x11bf]',
-                 '/usr/lib/libkv.so.2(kv_put+0x1) [0x1]', '/opt/a b/store(_start+0x21) [0x10b1]']
+                 '/opt/a b/store(_start+0x21) [0x10b1]', '/usr/lib/libkv.so.2(kv_put+0x1) [0x1]']
         self.assertEqual([text for text, _ in frames.own_frames(shown)],
                          ['put (store)', 'store+0x11bf', 'kv_put (libkv.so.2)'])
+        self.assertEqual(len(frames.own_frames(4 * shown)), frames.SHOWN)
+
+    def test_the_frames_of_a_signal_are_no_call_s(self):
+        frame = ' > /opt/store(put+0x24) [0x119d]'
+        call, = read_log(['1 fsync(3) = 0', frame, '1 --- SIGSTOP {si_signo=SIGSTOP} ---', frame,
+                          '1 --- stopped by SIGSTOP ---', frame]).calls
+        self.assertEqual(call.frames, [frame[3:]])
 
     def test_a_mark_of_the_hook_counts_for_its_thread_until_the_next(self):
         calls = read_log(map(as_strace, [

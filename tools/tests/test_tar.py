@@ -124,6 +124,14 @@ class Archives(InFolder):
                 step = 40 if self.program == FAKE and path.parent.name == 'sqlite' else 1
                 self.assert_states(str(path), path.read_text(encoding='utf-8'), step)
 
+    def test_a_list_of_states_is_in_its_order(self):
+        trace = str(EXAMPLES / 'store.trace')
+        found = self.entries(['--trace', trace, '--holes', '--states', '9,3-4,18'])
+        tops = [top_of(name) for name in found]
+        self.assertEqual(list(dict.fromkeys(tops)), [9, 3, 4, 18])
+        text = (EXAMPLES / 'store.trace').read_text(encoding='utf-8')
+        self.assertEqual(below(found, '18/'), below(Wanted(text).entries(18), '/'))
+
     def test_the_longest_path(self):
         self.assert_states(self.write('deep.trace', DEEP), DEEP)
 

@@ -18,7 +18,7 @@ END = '--- the end of a command ---'
 RECORDER = 'crashfs-record '
 # The page shows the tools without the proved program, and what is printed may differ in these.
 UNPROVED = re.compile(r'^unproved: .*\n', re.M)
-LAST_STATE = re.compile(r'\(by (crashfs tar|an own replay)\)')
+LAST_STATE = re.compile(r"\(by (crashfs tar|the recorder's replay)\)")
 
 
 def blocks() -> List[str]:

@@ -1,14 +1,22 @@
-"""Command lines that are wrong: each has its line on standard error and its status."""
+"""Command lines that are wrong: each has its lines on standard error and its status."""
 
 import os
+import socket
+import subprocess
+import sys
 import unittest
-from typing import List, Tuple
+from typing import Dict, List, Tuple
 
 from crashfs_tools import VERSION
+from crashfs_tools.program import Crashfs
 
-from .support import EXAMPLES, InFolder
+from .support import EXAMPLES, FAKE, PATIENCE, InFolder, needed
 
 TRACE = str(EXAMPLES / 'config' / 'config.trace')
+STORE = str(EXAMPLES / 'store.trace')
+FOUND = Crashfs.find(None)
+
+needs_program = needed(FOUND is not None, 'crashfs is not built')
 
 # The command line, its status, and how its last line begins after the command's name.
 RECORD: List[Tuple[str, int, str]] = [
@@ -48,7 +56,11 @@ CHECK: List[Tuple[str, int, str]] = [
     ('--shard 3/2 TRACE -- true', 2, 'error: argument --shard: 3/2 is not I/N '),
     ('--timeout x TRACE -- true', 2, 'error: argument --timeout: x is no number of seconds'),
     ('--time-limit 0 TRACE -- true', 2, 'error: argument --time-limit: 0 is no number of seconds'),
-    ('--state x TRACE -- true', 2, 'error: argument --state: '),
+    ('--state x TRACE -- true', 2, 'error: argument --state: x is neither N nor N/M'),
+    ('--state 3/ TRACE -- true', 2, 'error: argument --state: 3/ is neither N nor N/M'),
+    ('--nested 0 TRACE -- true', 2, 'error: argument --nested: 0 is not a number from 1'),
+    ('--nested 2 --shard 1/2 TRACE -- true', 2, 'error: --nested goes with no --serve, --shard'),
+    ('--crashfs /bin/echo TRACE -- true', 2, 'crashfs list printed: list --trace '),
     ('--serve 5640 TRACE -- true', 2, 'error: argument --serve: 5640 is not HOST:PORT'),
     ('--uname ann TRACE -- true', 2, 'error: --uname goes with --serve'),
     ('--merge', 2, 'error: argument --merge: expected at least one argument'),
@@ -63,6 +75,76 @@ CHECK: List[Tuple[str, int, str]] = [
     ('--unproved --state 9999 TRACE -- true', 2, 'no such state: 9999 (there are 52)'),
     ('--unproved --resume TRACE TRACE -- true', 2, f'{TRACE} is no report of crashfs-check'),
     ('--crashfs ./killed TRACE -- true', 2, 'crashfs tar was ended by SIGKILL'),
+]
+
+HEADER = '{"trace":1,"owner":"u","group":"u","mode":"755"}\n'
+CREAT = '{"op":"creat","path":"/%s","owner":"u","group":"u","mode":"644"}\n'
+# Files that the rows below name.
+FILES: Dict[str, str] = {
+    'bom': '\ufeff' + HEADER,
+    'crlf': HEADER.replace('\n', '\r\n'),
+    'empty': '',
+    'key': HEADER.replace('}', ',"comment":"x"}'),
+    'kind': HEADER + '{"start":"pipe","path":"/a"}\n',
+    'list': '[1]\n',
+    'long-mode': HEADER.replace('755', '0755'),
+    'many': HEADER + ''.join(CREAT % name for name in range(200)),
+    'mode': HEADER.replace('"755"', '755'),
+    'odd': HEADER + CREAT % 'a' + '{"op":"write","path":"/a","offset":0,"bytes":"686"}\n',
+    'pick': '[1,0]\n',
+    'text': 'hello\n',
+    'users': '0:u:u:\n',
+    'version': HEADER.replace('1', '4'),
+    'word': HEADER + '{"op":"wirte","path":"/a"}\n',
+}
+SERVE = 'serve STORE --users users --workers 1 --connections 1 --listen'
+# The command line of `crashfs`, its status, and how each of its lines begins.
+PROGRAM: List[Tuple[str, int, List[str]]] = [
+    (f'{SERVE} localhost', 1, ['cannot listen', 'localhost: invalid socket address']),
+    (f'{SERVE} 5640', 1, ['cannot listen', '5640: invalid socket address']),
+    (f'{SERVE} localhost:99999', 1, ['cannot listen', 'localhost:99999: invalid port value']),
+    (f'{SERVE} unix:/tmp/x', 1, ['cannot listen', 'unix:/tmp/x: invalid port value']),
+    (f'{SERVE} 192.0.2.1:5640', 1,
+     ['cannot listen', '192.0.2.1:5640: Cannot assign requested address']),
+    (f'{SERVE} nosuch.invalid:5640', 1, ['cannot listen', 'nosuch.invalid:5640: ']),
+    (f'{SERVE} 127.0.0.1:PORT', 1, ['cannot listen', '127.0.0.1:PORT: Address already in use']),
+    ('list none', 1, ['none: cannot read', 'none: No such file or directory']),
+    ('list tmp', 1, ['tmp: cannot read', 'tmp: Is a directory']),
+    ('list STORE --picks none', 1, ['none: cannot read', 'none: No such file or directory']),
+    ('list empty', 1, ['trace line 1: Syntax', 'empty:1: the file has no line']),
+    ('list bom', 1, ['trace line 1: Syntax', 'bom:1: it starts with a byte order mark']),
+    ('list version', 1, ['trace line 1: Syntax', 'version:1: version 4 is not known (1, 2, 3)']),
+    ('list long-mode', 1,
+     ['trace line 1: Syntax', 'long-mode:1: mode "0755" is not three octal digits']),
+    ('list mode', 1, ['trace line 1: Syntax', 'mode:1: mode 755 is not three octal digits']),
+    ('list key', 1, ['trace line 1: Syntax', 'key:1: unknown key "comment"']),
+    ('list odd', 1, ['trace line 3: Syntax', 'odd:3: bytes has an odd number of digits']),
+    ('list list', 1, ['trace line 1: Syntax', 'list:1: it is no JSON object']),
+    ('list text', 1, ['trace line 1: Syntax', 'text:1: it is no JSON object']),
+    ('list word', 1, ['trace line 2: UnknownOp', 'word:2: unknown op "wirte"']),
+    ('list kind', 1, ['trace line 2: UnknownOp', 'kind:2: unknown start "pipe"']),
+    ('tar STORE --state 13', 1, ['no such state', 'there are 12 states; with --holes 19']),
+    ('tar STORE --states 0,13-14 --holes', 0, []),
+    ('tar STORE --states 19 --holes', 1, ['no such state', 'there are 19 states']),
+    ('list many --holes', 1, ['plan too large', 'a plan has at most 16384 states: ']),
+    ('list STORE --picks pick', 1, ['pick 0 not allowed', 'a pick must ']),
+    ('list many', 0, []),
+    ('list crlf', 0, []),
+    ('list -', 1, ['trace line 1: Syntax', '-:1: the file has no line']),
+]
+# The same for the second reading, whose reasons are more.
+READING: List[Tuple[str, int, List[str]]] = [
+    ('list --trace empty', 1, ['trace line 1: Syntax', 'empty:1: the trace is empty']),
+    ('list --trace version', 1,
+     ['trace line 1: Syntax', 'version:1: version 4 is not known (1, 2, 3)']),
+    ('list --trace long-mode', 1,
+     ['trace line 1: Syntax', 'long-mode:1: mode "0755" is not three octal digits']),
+    ('list --trace key', 1, ['trace line 1: Syntax', 'key:1: unknown key "comment"']),
+    ('list --trace odd', 1, ['trace line 3: Syntax', 'odd:3: bytes ']),
+    ('list --trace word', 1, ['trace line 2: UnknownOp', 'word:2: unknown op "wirte"']),
+    ('list --trace none', 1, ['none: cannot read']),
+    ('list --trace many --holes', 1, ['plan too large']),
+    ('tar --trace STORE --state 13', 1, ['no such state']),
 ]
 
 
@@ -98,7 +180,64 @@ class WrongUsages(InFolder):
         for command in ('crashfs-record', 'crashfs-check'):
             ran = self.run_tool(command, '--version')
             self.assertEqual((ran.returncode, ran.stdout, ran.stderr),
-                             (0, f'{command} {VERSION}\n', ''))
+                             (0, f'{command} {VERSION} (not a release)\n', ''))
+
+
+class Programs(InFolder):
+    """Of `crashfs`, and of the second reading that takes its place."""
+
+    def setUp(self) -> None:
+        super().setUp()
+        for name, text in FILES.items():
+            self.write(name, text)
+
+    def check_rows(self, start: List[str], rows: List[Tuple[str, int, List[str]]]) -> None:
+        with socket.create_server(('127.0.0.1', 0)) as taken:
+            port = str(taken.getsockname()[1])
+            for line, status, told in rows:
+                with self.subTest(line):
+                    words = line.replace('STORE', STORE).replace('PORT', port).split()
+                    ran = subprocess.run([*start, *words], cwd=self.folder, capture_output=True,
+                                         text=True, stdin=subprocess.DEVNULL, timeout=PATIENCE)
+                    lines = ran.stderr.splitlines()
+                    self.assertEqual((ran.returncode, len(lines)), (status, len(told)), ran.stderr)
+                    for had, begin in zip(lines, told):
+                        begin = f'crashfs: {begin.replace("PORT", port)}'
+                        self.assertTrue(had.startswith(begin), ran.stderr)
+                    self.assertEqual(ran.stdout != '', status == 0)
+
+    @needs_program
+    def test_of_the_program(self) -> None:
+        assert FOUND is not None
+        self.check_rows([FOUND.path], PROGRAM)
+
+    def test_of_the_second_reading(self) -> None:
+        self.check_rows([sys.executable, '-S', FAKE], READING)
+
+    @needs_program
+    def test_a_help_that_cannot_be_printed_is_a_fault(self) -> None:
+        assert FOUND is not None
+        for words in (['--help'], ['--version'], ['list', '--help']):
+            with open('/dev/full', 'w', encoding='utf-8') as full:
+                ran = subprocess.run([FOUND.path, *words], stdout=full, stderr=subprocess.DEVNULL)
+            self.assertEqual(ran.returncode, 1, words)
+
+    @needs_program
+    def test_the_help_has_statuses_and_plain_words(self) -> None:
+        assert FOUND is not None
+        ran = subprocess.run([FOUND.path, '--help'], capture_output=True, text=True, check=True)
+        self.assertIn('Exit status: 0 success; 1 a fault', ran.stdout)
+        ran = subprocess.run([FOUND.path, 'picks', '--help'], capture_output=True, text=True)
+        self.assertIn('For each operation the smallest disk that still has it', ran.stdout)
+
+    @needs_program
+    def test_serve_ends_with_its_input_and_has_defaults(self) -> None:
+        assert FOUND is not None
+        ran = subprocess.run([FOUND.path, 'serve', STORE, '--users', 'users', '--again', '--listen',
+                              '127.0.0.1:0'], cwd=self.folder, capture_output=True, text=True,
+                             stdin=subprocess.DEVNULL, timeout=PATIENCE)
+        self.assertEqual((ran.returncode, ran.stderr), (0, ''))
+        self.assertRegex(ran.stdout, r'^listening 127\.0\.0\.1:\d+\n')
 
 
 if __name__ == '__main__':

@@ -4,7 +4,7 @@ from __future__ import annotations
 
 import tarfile
 from io import BytesIO
-from typing import BinaryIO, Tuple
+from typing import BinaryIO, List, Tuple
 
 from .plan import Plan
 from .states import Entry
@@ -16,10 +16,10 @@ def write_state(plan: Plan, number: int, out: BinaryIO) -> None:
         add_tree(archive, plan, number, './')
 
 
-def write_states(plan: Plan, first: int, last: int, out: BinaryIO) -> None:
+def write_states(plan: Plan, numbers: List[int], out: BinaryIO) -> None:
     """The trees of states, each below a directory of its number."""
     with tarfile.open(fileobj=out, mode='w|', format=tarfile.PAX_FORMAT) as archive:
-        for number in range(first, last + 1):
+        for number in numbers:
             add_tree(archive, plan, number, f'{number}/')
 
 

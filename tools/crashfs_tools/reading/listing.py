@@ -2,9 +2,11 @@
 
 from __future__ import annotations
 
-from typing import Dict, Iterator
+import json
+from typing import Any, Dict, Iterator
 
 from .micro import MicroOperation
+from .order import bits
 from .plan import Plan
 from .states import Digest
 
@@ -22,3 +24,29 @@ def listing(plan: Plan, lines: bool = False, same: bool = False) -> Iterator[str
 
 def origin(operation: MicroOperation) -> str:
     return f' line {operation.line} {operation.path}'.rstrip()
+
+
+def json_listing(plan: Plan) -> Iterator[str]:
+    """The same as JSON objects, with what each micro-operation needs."""
+    for place, operation in enumerate(plan.reading.operations):
+        needs = list(bits(plan.order.needs[place] | 1 << place))
+        yield as_line({'op': place, 'kind': operation.text.split(' ')[0], **operation.fields(),
+                       'line': operation.line, 'needs': needs})
+    first: Dict[Digest, int] = {}
+    for number, (text, places) in enumerate(plan.states):
+        yield as_line({'state': number, **state_fields(text),
+                       'says': plan.trees.count_says(places),
+                       'same': first.setdefault(plan.trees.digest(places), number)})
+
+
+def state_fields(text: str) -> Dict[str, Any]:
+    kind, *numbers = text.split(' ')
+    if kind == 'pick':
+        places = [] if numbers == ['-'] else list(map(int, numbers[0].split(',')))
+        return {'kind': kind, 'places': places}
+    names = ('end',) if kind == 'prefix' else ('missing', 'end')
+    return {'kind': kind, **dict(zip(names, map(int, numbers)))}
+
+
+def as_line(fields: Dict[str, Any]) -> str:
+    return json.dumps(fields, separators=(',', ':'), ensure_ascii=False) + '\n'

@@ -8,11 +8,11 @@ import sys
 from typing import Dict, List, Union
 
 from .faults import ReadingFault
-from .listing import listing
+from .listing import json_listing, listing
 from .plan import Plan, different, file_sets, lost_sets, plan_of, read_picks
 from .trace import read
 
-FLAGS = {'list': ('--holes', '--lines', '--same'), 'picks': ('--lost', '--files'),
+FLAGS = {'list': ('--holes', '--lines', '--same', '--json'), 'picks': ('--lost', '--files'),
          'tar': ('--holes',)}
 VALUED = {'list': ('--trace', '--picks'), 'picks': ('--trace',),
           'tar': ('--trace', '--picks', '--state', '--states')}
@@ -65,7 +65,9 @@ def run(command: str, options: Options) -> None:
     reading = read(file_bytes(str(options['--trace'])))
     picks = read_picks(file_bytes(str(options['--picks']))) if '--picks' in options else []
     plan = plan_of(reading, '--holes' in options, picks)
-    if command == 'list':
+    if command == 'list' and '--json' in options:
+        sys.stdout.writelines(json_listing(plan))
+    elif command == 'list':
         sys.stdout.writelines(listing(plan, '--lines' in options, '--same' in options))
     elif command == 'picks':
         family = lost_sets if '--lost' in options else file_sets
@@ -85,13 +87,29 @@ def file_bytes(path: str) -> bytes:
 
 def write_archive(plan: Plan, options: Options) -> None:
     from .archive import write_state, write_states  # `list` begins faster without tarfile.
-    shown = str(options.get('--states', options.get('--state', '')))
-    first, _, last = shown.partition('-')
-    if not first.isdigit() or ('--states' in options) != last.isdigit():
-        raise Usage(f"invalid value '{shown}' for '--states <A-B>'")
-    if int(last or first) >= len(plan.states):
+    if '--state' in options:
+        number = str(options['--state'])
+        if not number.isdigit():
+            raise Usage(f"invalid value '{number}' for '--state <N>'")
+        if int(number) >= len(plan.states):
+            raise ReadingFault('no such state')
+        write_state(plan, int(number), sys.stdout.buffer)
+        return
+    numbers = states_of(str(options.get('--states', '')))
+    if max(numbers) >= len(plan.states):
         raise ReadingFault('no such state')
-    if last:
-        write_states(plan, int(first), int(last), sys.stdout.buffer)
-    else:
-        write_state(plan, int(first), sys.stdout.buffer)
+    write_states(plan, numbers, sys.stdout.buffer)
+
+
+def states_of(shown: str) -> List[int]:
+    """The states of a list of numbers and ranges, in its order."""
+    numbers: List[int] = []
+    for piece in shown.split(','):
+        first, dash, last = piece.partition('-')
+        if not first.isdigit() or bool(dash) != last.isdigit():
+            raise Usage(f"invalid value '{shown}' for '--states <LIST>'")
+        more = range(int(first), int(last or first) + 1)
+        if not more:
+            raise Usage(f"invalid value '{shown}' for '--states <LIST>'")
+        numbers.extend(more)
+    return numbers

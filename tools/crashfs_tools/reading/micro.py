@@ -2,7 +2,7 @@
 
 from __future__ import annotations
 
-from typing import Optional, Tuple
+from typing import Any, Dict, Optional, Tuple
 
 from .names import parent
 
@@ -24,6 +24,13 @@ class MicroOperation:
     def text(self) -> str:
         raise NotImplementedError
 
+    def fields(self) -> Dict[str, Any]:
+        """What JSON has of it, but for its kind, its line and its needs."""
+        raise NotImplementedError
+
+    def path_of_file(self) -> Dict[str, Any]:
+        return {'path': self.path or None, 'file': self.file}
+
     @property
     def named(self) -> Tuple[str, ...]:
         return self.touched if self.directory is None else (self.directory,)
@@ -40,6 +47,11 @@ class CreateEntry(MicroOperation):
     def text(self) -> str:
         return f'create_dir_entry {self.touched[0]} {"dir" if self.made is None else "file"}'
 
+    def fields(self) -> Dict[str, Any]:
+        if self.made is None:
+            return {'path': self.touched[0], 'node': 'dir'}
+        return {'path': self.touched[0], 'node': 'file', 'file': self.made}
+
 
 class DeleteEntry(MicroOperation):
 
@@ -51,6 +63,9 @@ class DeleteEntry(MicroOperation):
     def text(self) -> str:
         return f'delete_dir_entry {self.touched[0]}'
 
+    def fields(self) -> Dict[str, Any]:
+        return {'path': self.touched[0], 'node': 'dir' if self.is_directory else 'file'}
+
 
 class MoveEntry(MicroOperation):
 
@@ -60,6 +75,9 @@ class MoveEntry(MicroOperation):
     @property
     def text(self) -> str:
         return 'move_dir_entry {} {}'.format(*self.touched)
+
+    def fields(self) -> Dict[str, Any]:
+        return {'path': self.touched[0], 'to': self.touched[1]}
 
 
 class LinkEntry(MicroOperation):
@@ -72,6 +90,9 @@ class LinkEntry(MicroOperation):
     def text(self) -> str:
         return f'link_dir_entry {self.touched[0]} {self.linked}'
 
+    def fields(self) -> Dict[str, Any]:
+        return {'path': self.touched[0], 'file': self.linked}
+
 
 class ChangeSize(MicroOperation):
 
@@ -82,6 +103,9 @@ class ChangeSize(MicroOperation):
     @property
     def text(self) -> str:
         return f'change_file_size {self.file} {self.length}'
+
+    def fields(self) -> Dict[str, Any]:
+        return {**self.path_of_file(), 'length': self.length}
 
 
 class WriteBlock(MicroOperation):
@@ -98,6 +122,9 @@ class WriteBlock(MicroOperation):
     def text(self) -> str:
         return f'write_block {self.file} {self.block} {self.at} {len(self.data)}'
 
+    def fields(self) -> Dict[str, Any]:
+        return {**self.path_of_file(), 'block': self.block, 'at': self.at, 'count': len(self.data)}
+
 
 class SetRights(MicroOperation):
 
@@ -112,9 +139,17 @@ class SetRights(MicroOperation):
         target = f'dir {self.directory}' if self.file is None else f'file {self.file}'
         return f'set_attr {target} {mode} {owner} {group}'
 
+    def fields(self) -> Dict[str, Any]:
+        place = self.path_of_file() if self.directory is None else {'path': self.directory}
+        owner, group, mode = self.rights
+        return {**place, 'mode': mode, 'owner': owner, 'group': group}
+
 
 class Say(MicroOperation):
     text = 'say'
+
+    def fields(self) -> Dict[str, Any]:
+        return {}
 
 
 class Sync:

@@ -1,0 +1,104 @@
+"""The parts of pages that are made from the sources."""
+
+import pathlib
+import tempfile
+import unittest
+
+from inventory.completions import completions
+from inventory.pages import BEGIN, END, calls_shown, cell, page_with, pages
+from inventory.sources import TOP, contracts_in, crate_names, edits_of, examples_in, tools_tests
+
+TESTS = '''\
+//! Lists.
+
+/// A list of two is
+/// longer than one of one.
+#[test]
+#[tactic(auto)]
+fn a_longer_list_is_longer() {
+}
+
+#[test]
+fn nothing_is_said() {
+}
+'''
+
+CALLS = '''\
+ghost use Rattle.cs_low.specs.Words.{IsSorted};
+
+impl<T> List<T> {
+    /// Sorts.
+    pub fn sort(&mut self)
+        ensures { IsSorted self.new }
+    {
+        self.other(IsKnown)
+    }
+}
+
+fn hidden(x: u8)
+    ensures { IsSorted x }
+{
+}
+
+pub fn sorted(x: &List<u8>) -> bool
+    ensures { result \N{IDENTICAL TO} is_sorted x.now }
+{
+    true
+}
+'''
+
+
+class Inventories(unittest.TestCase):
+
+    def written(self, text):
+        folder = tempfile.TemporaryDirectory()
+        self.addCleanup(folder.cleanup)
+        path = pathlib.Path(folder.name) / 'file.rt'
+        path.write_text(text, encoding='utf-8')
+        return path
+
+    def test_a_test_has_the_comment_above_it(self):
+        found = [(it.name, it.sentence) for it in examples_in(self.written(TESTS))]
+        self.assertEqual(found, [
+            ('a_longer_list_is_longer', 'A list of two is longer than one of one.'),
+            ('nothing_is_said', '')])
+
+    def test_contracts_are_those_of_public_calls_without_their_bodies(self):
+        found = dict(contracts_in(self.written(CALLS)))
+        self.assertEqual(list(found), ['List::sort', 'sorted'])
+        self.assertIn('IsSorted self.new', found['List::sort'])
+        self.assertNotIn('IsKnown', found['List::sort'])
+
+    def test_a_bar_and_many_calls_stay_in_their_cell(self):
+        self.assertEqual(cell('a || b'), 'a \\|\\| b')
+        self.assertEqual(calls_shown(list('abcdef')), '`a`, `b`, `c`, `d` and 2 more')
+
+    def test_a_part_is_put_between_its_marks_alone(self):
+        page = page_with(f'head\n{BEGIN}\nold\n{END}\ntail\n', 'new')
+        self.assertEqual(page, f'head\n{BEGIN}\n\nnew\n\n{END}\ntail\n')
+        with self.assertRaises(ValueError):
+            page_with('no marks', 'new')
+
+    def test_what_is_made_is_as_the_sources_are(self):
+        for path, page in {**pages(), **completions()}.items():
+            same = path.read_text(encoding='utf-8') == page
+            self.assertTrue(same, f'{path.relative_to(TOP)}: run tools/inventories')
+
+    def test_each_file_of_these_tests_says_what_it_shows(self):
+        for it in tools_tests():
+            self.assertTrue(it.sentence, it.name)
+        self.assertIn('test_inventories.py', [it.name for it in tools_tests()])
+
+    def test_each_must_fail_edit_is_of_a_crate_of_the_list(self):
+        listed = [name for crate in crate_names() for name in edits_of(crate)]
+        files = [path.stem for path in TOP.glob('crates/*/must-fail/*.edit')]
+        self.assertEqual(sorted(listed), sorted(files))
+
+    def test_each_test_of_the_crates_has_its_sentence(self):
+        for path in TOP.glob('crates/*/src/**/*.rt'):
+            for example in examples_in(path):
+                self.assertTrue(example.sentence, f'{path.relative_to(TOP)}: {example.name}')
+
+
+if __name__ == '__main__':
+    unittest.main()

@@ -1,0 +1,99 @@
+"""A second crash, during the recovery from the first."""
+
+import json
+import os
+import unittest
+from types import SimpleNamespace
+
+from crashfs_tools.nested import Nested
+from crashfs_tools.results import Results
+from crashfs_tools.runner import BAD, GOOD, Outcome
+
+from .support import EXAMPLES, FAKE, needs_strace
+from .test_check_command import InStore
+from .test_pairs import LISTED, read_plan
+
+# Moves the log into the table, and may sync the table before it empties the log.
+RECOVER = """\
+#!/bin/sh
+echo "recovering $CRASHFS_STATE"
+if test -s log; then cat log >> table; {sync} : > log; fi
+test "$CRASHFS_SAYS" = 0 || grep -qs a=2 table || {{ echo 'lost: a=2 is not there'; exit 1; }}
+"""
+
+
+class InRecoveries(InStore):
+
+    def nested(self, *words, sync='', trace='store.trace'):
+        command = self.write('recover.sh', RECOVER.format(sync=sync), 0o755)
+        return self.run_tool('crashfs-check', '--crashfs', FAKE, '--jobs', '2', *words,
+                             str(EXAMPLES / trace), '--', command)
+
+
+@needs_strace
+class Recoveries(InRecoveries):
+
+    def test_a_recovery_that_is_not_safe_itself_is_found(self):
+        ran = self.nested('--nested', '2', '--json', 'r.json')
+        self.assertEqual((ran.returncode, ran.stderr), (1, ''), ran.stdout)
+        lines = ran.stdout.splitlines()
+        self.assertRegex(lines[0], ': none fails$')
+        self.assertRegex(lines[1], '  2 recoveries: [0-9]+ states of a second crash, [0-9]+ fail$')
+        self.assertRegex(lines[2], '  lost: a=2 is not there +[0-9]+ states, e.g. --state [0-9]+/')
+        self.assertRegex(lines[3], '    state [0-9]+, then a crash at line [0-9]+ of its recovery '
+                                   r'\(truncate /log, 0 bytes\)')
+        self.assertIn('    fsync /table between them', lines)
+        self.assert_nothing_left()
+        one = json.loads(self.read('r.json'))['recoveries'][0]
+        self.assertEqual(one['groups'][0]['text'][1], 'fsync /table between them')
+        self.assertEqual(f"--state {one['state']}/{one['groups'][0]['example']}",
+                         lines[2].partition('e.g. ')[2])
+
+    def test_a_recovery_that_syncs_first_is_safe(self):
+        ran = self.nested('--nested', '2', sync='sync table;')
+        self.assertEqual((ran.returncode, ran.stderr), (0, ''), ran.stdout)
+        self.assertRegex(ran.stdout, '2 recoveries: [0-9]+ states of a second crash, none fails\n')
+
+    def test_a_state_of_a_recovery_is_left_as_the_second_crash_left_it(self):
+        ran = self.nested('--nested', '1')
+        name = ran.stdout.partition('e.g. --state ')[2].split()[0]
+        ran = self.nested('--state', name)
+        self.assertEqual((ran.returncode, ran.stderr), (1, ''))
+        self.assertIn('bad: lost: a=2 is not there', ran.stdout)
+        folder, = os.listdir(self.temporary)
+        left = os.path.join(self.temporary, folder, name.partition('/')[2])
+        self.assertEqual(os.path.getsize(os.path.join(left, 'log')), 0)
+        ran = self.nested('--state', name.partition('/')[0] + '/999')
+        self.assertIn('no such state: 999', ran.stderr)
+
+    def test_a_state_that_fails_already_counts_only_with_another_cause(self):
+        text = (EXAMPLES / 'store.trace').read_text(encoding='utf-8')
+        trace = self.write('lost.trace', text.replace('{"op":"fsync","path":"/log"}\n', ''))
+        ran = self.nested('--nested', '3', sync='sync table;', trace=trace)
+        self.assertEqual(ran.returncode, 1)
+        self.assertRegex(ran.stdout, ' fail .lost [0-9]+.\n')
+        self.assertRegex(ran.stdout, '[0-9]+ recoveries: [0-9]+ states of a second crash, none fai')
+
+
+class Chosen(unittest.TestCase):
+
+    def test_each_cause_and_each_last_operation_is_met_before_others(self):
+        plan = read_plan(LISTED)
+        outcomes = {number: Outcome(GOOD) for number in (0, 1, 2, 3, 4, 5, 8, 9, 10)}
+        outcomes[2] = Outcome(BAD, 'lost: row 1')
+        results = Results(plan, outcomes)
+        findings = SimpleNamespace(plan=plan, results=results, by_state=results.of_states({}))
+        for count in (1, 2, 5, 6, 9, 20):
+            nested = Nested(None, count)
+            chosen = [state.number for state in nested.choose(findings)]
+            self.assertEqual(len(chosen), len(set(chosen)))
+            self.assertEqual(len(chosen), min(count, 9))
+            if count >= 6:
+                self.assertEqual(nested.met, set().union(*(
+                    Nested.features(findings, plan.state(number)) for number in outcomes)))
+            if count == 1:
+                self.assertEqual(chosen, [5])
+
+
+if __name__ == '__main__':
+    unittest.main()
