@@ -1,20 +1,21 @@
-# Completion for bash of crashfs-check: source it, or install it where bash-completion looks.
+# Completion for bash of crashfs-check. Made by tools/inventories. Install it where the shell looks for completions.
 _crashfs_check() {
-    local current=${COMP_WORDS[COMP_CWORD]} previous=${COMP_WORDS[COMP_CWORD - 1]} word
+    local current=${COMP_WORDS[COMP_CWORD]} previous=${COMP_WORDS[COMP_CWORD - 1]} words= word
     COMPREPLY=()
     for word in "${COMP_WORDS[@]:1:COMP_CWORD-1}"; do
         # COMMAND, and its arguments.
         [[ $word == -- ]] && return
     done
     case $previous in
-        --jobs | --shard | --state | --time-limit | --timeout | --serve | --uname) ;;
-        --json | --junit | --html | --resume | --merge | --crashfs) ;;
+        --jobs | --shard | --nested | --state | --time-limit | --resume | --json | --junit | \
+        --html | --timeout | --crashfs | --serve | --uname | --merge) return ;;
         *)
-            [[ $current == -* ]] && mapfile -t COMPREPLY < <(compgen -W '
-                -h --help --version --jobs --shard --prefixes --quick --lost --files --state
-                --fail-fast --time-limit --resume --json --junit --html --timeout --crashfs
-                --unproved --serve --uname --merge' -- "$current")
+            [[ $current == -* ]] && words='
+                -h --help --version --jobs --shard --prefixes --quick --lost --files --nested
+                --state --fail-fast --time-limit --resume --json --junit --html --timeout
+                --crashfs --unproved --serve --uname --merge'
             ;;
     esac
+    mapfile -t COMPREPLY < <(compgen -W "$words" -- "$current")
 }
 complete -o default -F _crashfs_check crashfs-check

@@ -1,25 +1,33 @@
-# Completion for bash of crashfs: source it, or install it where bash-completion looks.
+# Completion for bash of crashfs. Made by tools/inventories. Install it where the shell looks for completions.
 _crashfs() {
-    local current=${COMP_WORDS[COMP_CWORD]} previous=${COMP_WORDS[COMP_CWORD - 1]}
-    local states='--trace --holes --picks' words=
+    local current=${COMP_WORDS[COMP_CWORD]} previous=${COMP_WORDS[COMP_CWORD - 1]} words=
     COMPREPLY=()
     case $previous in
         --client) words='plan9 linux' ;;
-        --trace | --picks | --users | --state | --states | --listen | --workers | --connections)
-            return
-            ;;
+        --picks | --trace | --state | --states | --users | --listen | --workers | --connections) return ;;
         *)
             if ((COMP_CWORD == 1)); then
                 words='list tar picks script serve help -h --help -V --version'
-            elif [[ $current == -* || ${COMP_WORDS[1]} == help ]]; then
+            elif [[ ${COMP_WORDS[1]} == help ]]; then
+                words='list tar picks script serve'
+            elif [[ $current == -* ]]; then
                 case ${COMP_WORDS[1]} in
-                    help) words='list tar picks script serve' ;;
-                    list) words="-h --help $states --lines --same" ;;
-                    tar) words="-h --help $states --state --states" ;;
-                    picks) words='-h --help --trace --lost --files' ;;
-                    script) words="-h --help $states --users --verbose" ;;
-                    serve) words="-h --help $states --users --verbose --listen --workers
-                        --connections --again --ready --reload --client" ;;
+                    list)
+                        words='
+                            -h --help --lines --same --json --holes --picks --trace' ;;
+                    tar)
+                        words='
+                            -h --help --state --states --holes --picks --trace' ;;
+                    picks)
+                        words='
+                            -h --help --lost --files --trace' ;;
+                    script)
+                        words='
+                            -h --help --verbose --holes --picks --trace --users' ;;
+                    serve)
+                        words='
+                            -h --help --again --ready --reload --verbose --client --listen
+                            --workers --connections --users --holes --picks --trace' ;;
                 esac
             fi
             ;;

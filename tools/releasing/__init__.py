@@ -1,0 +1,1 @@
+"""Makes what a user downloads: see tools/release."""

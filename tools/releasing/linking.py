@@ -1,0 +1,54 @@
+"""Links the program statically, from the objects that the toolchain compiled what it proved to."""
+
+from __future__ import annotations
+
+import os
+import shutil
+import subprocess
+from pathlib import Path
+
+# What a static program of glibc can't do: load the name services by which host names are found.
+KNOWN_WARNING = "Using 'getaddrinfo' in statically linked applications"
+
+
+class LinkFault(Exception):
+    """The linker's status and what it printed."""
+
+
+def kit_folder() -> Path:
+    """The toolchain's folder: the one that `rt` is in."""
+    command = shutil.which('rt')
+    if command is None:
+        raise LinkFault('rt: not found on PATH')
+    said = subprocess.run([command, 'doc'], stdout=subprocess.PIPE, text=True)
+    page = Path(said.stdout.strip().splitlines()[0]) if said.stdout.strip() else None
+    return page.parent if page and page.is_file() else Path(os.path.realpath(command)).parent.parent
+
+
+def kit_version() -> str:
+    """The line of `rt version`: the kit, and the checksum of its logic."""
+    said = subprocess.run(['rt', 'version'], stdout=subprocess.PIPE, text=True, check=True)
+    return said.stdout.strip().splitlines()[0]
+
+
+def linker_version() -> str:
+    """The linker's name and version; its own library is linked too."""
+    said = subprocess.run(['gcc', '-dumpfullversion'], stdout=subprocess.PIPE, text=True, check=True)
+    return f'gcc {said.stdout.strip()}'
+
+
+def link_statically(made: Path, program: Path) -> None:
+    """Links an object file and the toolchain's two C libraries into a program that needs no other.
+
+    The result is stripped, and has no build id, so that the same object gives the same bytes.
+    """
+    kit = kit_folder()
+    libraries = [str(kit / 'c' / name) for name in ('libos_c.a', 'liblibc_c.a')]
+    words = ['gcc', '-static', '-s', '-Wl,--build-id=none', '-o', str(program), str(made)]
+    ran = subprocess.run([*words, *libraries, '-lm', '-lpthread'], stdout=subprocess.PIPE,
+                         stderr=subprocess.STDOUT, text=True)
+    if ran.returncode:
+        raise LinkFault(f'gcc: status {ran.returncode}\n{ran.stdout}')
+    for line in ran.stdout.splitlines():
+        if KNOWN_WARNING not in line and 'in function' not in line:
+            print(line)
