@@ -64,8 +64,7 @@ const LINK_ONTO_A_FILE: &str =
 "#;
 
 const LARGE_BLOCK: &str =
-    r#"{"trace":3,"profile":"blocks","block":8192,"owner":"cat","group":"staff","mode":"775"}
-"#;
+    r#"{"trace":3,"profile":"blocks","block":8192,"owner":"cat","group":"staff","mode":"775"}"#;
 
 const LINK_OF_VERSION_2: &str =
     r#"{"trace":2,"profile":"blocks","owner":"cat","group":"staff","mode":"775"}

@@ -12,8 +12,7 @@ pub const FIRST: &str = r#"0 version 8192 9P2000 => Rversion tag 1 msize 8192 ve
 0 walk 0 1 f => Rwalk tag 1 wqid [(00 0 4)]
 0 open 1 0 => Ropen tag 1 qid (00 0 4) iounit 0
 0 read 1 0 64 => Rread tag 1 count 5 [104, 101, 108, 108, 111]
-0 stat 1 => Rstat tag 1 type 0 dev 0 qid (00 0 4) mode 664 atime 0 mtime 0 length 5 name "f" uid
-    "ann" gid "staff" muid "ann"
+0 stat 1 => Rstat tag 1 type 0 dev 0 qid (00 0 4) mode 664 atime 0 mtime 0 length 5 name "f" uid "ann" gid "staff" muid "ann"
 0 clunk 1 => Rclunk tag 1
 "#;
 

@@ -11,16 +11,13 @@ fn create_masks_its_permissions_by_the_directory(rt: HostRuntime) {
         r#"
 0 walk 0 1 d => Rwalk tag 1 wqid [(80 0 1)]
 0 create 1 a 777 0 => Rcreate tag 1 qid (00 0 7) iounit 0
-0 stat 1 => Rstat tag 1 type 0 dev 0 qid (00 0 7) mode 755 atime 7 mtime 7 length 0 name "a" uid
-    "ann" gid "staff" muid "ann"
+0 stat 1 => Rstat tag 1 type 0 dev 0 qid (00 0 7) mode 755 atime 7 mtime 7 length 0 name "a" uid "ann" gid "staff" muid "ann"
 0 walk 0 2 p => Rwalk tag 1 wqid [(80 0 6)]
 0 create 2 b 666 0 => Rcreate tag 1 qid (00 0 8) iounit 0
-0 stat 2 => Rstat tag 1 type 0 dev 0 qid (00 0 8) mode 640 atime 7 mtime 7 length 0 name "b" uid
-    "ann" gid "staff" muid "ann"
+0 stat 2 => Rstat tag 1 type 0 dev 0 qid (00 0 8) mode 640 atime 7 mtime 7 length 0 name "b" uid "ann" gid "staff" muid "ann"
 0 walk 0 3 p => Rwalk tag 1 wqid [(80 1 6)]
 0 create 3 c dir:777 0 => Rcreate tag 1 qid (80 0 9) iounit 0
-0 stat 3 => Rstat tag 1 type 0 dev 0 qid (80 0 9) mode 20000000750 atime 7 mtime 7 length 0 name "c"
-    uid "ann" gid "staff" muid "ann"
+0 stat 3 => Rstat tag 1 type 0 dev 0 qid (80 0 9) mode 20000000750 atime 7 mtime 7 length 0 name "c" uid "ann" gid "staff" muid "ann"
 "#,
     );
 }

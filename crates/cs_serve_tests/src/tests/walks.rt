@@ -48,8 +48,7 @@ fn goes_up_from_the_root_and_clones_by_no_names(rt: HostRuntime) {
 0 walk 0 1 .. => Rwalk tag 1 wqid [(80 0 0)]
 0 walk 0 2 d/s/z => Rwalk tag 1 wqid [(80 0 1), (80 0 2), (00 0 3)]
 0 walk 2 3 => Rwalk tag 1 wqid []
-0 stat 3 => Rstat tag 1 type 0 dev 0 qid (00 0 3) mode 644 atime 0 mtime 0 length 0 name "z" uid
-    "ann" gid "ann" muid "ann"
+0 stat 3 => Rstat tag 1 type 0 dev 0 qid (00 0 3) mode 644 atime 0 mtime 0 length 0 name "z" uid "ann" gid "ann" muid "ann"
 0 walk 9 4 => Rerror tag 1 ename "K1 unknown fid"
 0 walk 0 3 => Rerror tag 1 ename "K3 new fid not free"
 0 walk 0 4294967295 => Rerror tag 1 ename "K3 new fid not free"
@@ -72,8 +71,7 @@ fn file_that_was_made_again_is_another(rt: HostRuntime) {
 1 remove 1 => Rremove tag 1
 1 walk 0 1 => Rwalk tag 1 wqid []
 1 create 1 f 666 1 => Rcreate tag 1 qid (00 0 7) iounit 0
-0 stat 0 => Rstat tag 1 type 0 dev 0 qid (80 2 0) mode 20000000775 atime 0 mtime 7 length 0 name "/"
-    uid "cat" gid "staff" muid "bob"
+0 stat 0 => Rstat tag 1 type 0 dev 0 qid (80 2 0) mode 20000000775 atime 0 mtime 7 length 0 name "/" uid "cat" gid "staff" muid "bob"
 0 open 1 0 => Rerror tag 1 ename "O4 file is gone"
 0 walk 0 2 f => Rwalk tag 1 wqid [(00 0 7)]
 "#,
