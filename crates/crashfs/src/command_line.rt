@@ -20,6 +20,7 @@ fn trace_of<'a>(matches: &ArgMatches<'a>) -> &'a str {
     }
 }
 
+/// The trace, and which of its states are asked for.
 fn wanted_of<'a>(matches: &ArgMatches<'a>) -> Wanted<'a> {
     Wanted {
         trace: trace_of(matches),
@@ -28,6 +29,7 @@ fn wanted_of<'a>(matches: &ArgMatches<'a>) -> Wanted<'a> {
     }
 }
 
+/// What `list` adds to its lines.
 fn options_of(matches: &ArgMatches) -> ListOptions {
     ListOptions {
         lines: matches.get_flag("lines"),
@@ -61,12 +63,30 @@ fn ranges_of(alloc: Global, text: &str) -> Result<Option<Vec<StateRange>>, Alloc
 
 /// The states of `tar`, if it has some.
 fn states_of(alloc: Global, matches: &ArgMatches) -> Result<Option<States>, AllocError> {
-    match matches.get_str("states") {
-        Some(text) => Ok(ranges_of(alloc, text)?.map(States::Each)),
-        None => Ok(matches.get_one("state").map(States::One)),
+    let changes = matches.get_flag("changes");
+    if let Some(text) = matches.get_str("states") {
+        let ranges = ranges_of(alloc, text)?;
+        return Ok(if changes {
+            ranges.map(States::Changes)
+        } else {
+            ranges.map(States::Each)
+        });
     }
+    let Some(number) = matches.get_one("state") else {
+        return Ok(None);
+    };
+    if !changes {
+        return Ok(Some(States::One(number)));
+    }
+    let mut ranges = Vec::new(alloc);
+    ranges.push(StateRange {
+        first: number,
+        last: number,
+    })?;
+    Ok(Some(States::Changes(ranges)))
 }
 
+/// The family of `picks`: `--lost`, else `--files`.
 fn family_of(matches: &ArgMatches) -> Family {
     if matches.get_flag("lost") {
         Family::Lost
@@ -96,6 +116,7 @@ fn serving_of<'a>(matches: &ArgMatches<'a>) -> Serving<'a> {
     }
 }
 
+/// What the command of this name does; None if its list of states isn't one.
 fn job_of<'a>(
     alloc: Global,
     name: &str,

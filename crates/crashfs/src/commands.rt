@@ -13,6 +13,7 @@ const CLIENTS: [&str; 2] = ["plan9", "linux"];
 /// The most workers, and the most connections.
 const MOST: i64 = 64;
 
+/// An option with a value, which the help shows under this name.
 fn value_argument<'a>(alloc: Global, name: &'a str, shown: &'a str, help: &'a str) -> Arg<'a> {
     Arg::new(alloc, name)
         .long(name)
@@ -21,10 +22,12 @@ fn value_argument<'a>(alloc: Global, name: &'a str, shown: &'a str, help: &'a st
         .action(ArgAction::Set)
 }
 
+/// An option whose value is a number from 1 to MOST.
 fn count_argument<'a>(alloc: Global, name: &'a str, help: &'a str) -> Arg<'a> {
     value_argument(alloc, name, "N", help).value_parser(value_parser!(u32).range(1..=MOST))
 }
 
+/// An option without a value.
 fn flag<'a>(alloc: Global, name: &'a str, help: &'a str) -> Arg<'a> {
     Arg::new(alloc, name)
         .long(name)
@@ -32,7 +35,7 @@ fn flag<'a>(alloc: Global, name: &'a str, help: &'a str) -> Arg<'a> {
         .action(ArgAction::SetTrue)
 }
 
-/// Of two arguments just one has to be given.
+/// Of two arguments exactly one must be given.
 fn one_of<'a>(
     alloc: Global,
     name: &'a str,
@@ -64,11 +67,12 @@ fn with_states<'a>(alloc: Global, command: Command<'a>) -> Result<Command<'a>, A
     with_trace(alloc, command)?.arg(holes)?.arg(picks)
 }
 
-fn with_users<'a>(alloc: Global, command: Command<'a>) -> Result<Command<'a>, AllocError> {
-    let help = "The users file, as users(6) has it";
-    command.arg(value_argument(alloc, "users", "FILE", help).required(true))
+/// The argument of the users file.
+fn users_argument<'a>(alloc: Global, help: &'a str) -> Arg<'a> {
+    value_argument(alloc, "users", "FILE", help)
 }
 
+/// The command `list`.
 fn list_command<'a>(alloc: Global) -> Result<Command<'a>, AllocError> {
     let lines = "Adds each operation's line of the trace, and the path of a file that changes";
     let same = "Adds to each state the first one that has an equal tree";
@@ -90,15 +94,19 @@ pub fn tar_command<'a>(alloc: Global) -> Result<Command<'a>, AllocError> {
     let help = "The states of a list, as 3,7-9, each below a directory of its number";
     let states = value_argument(alloc, "states", "LIST", help);
     let one_of = one_of(alloc, "which", "state", "states")?;
+    let changes =
+        "Only what differs from the start tree: new and changed files below N/, and a file N.missing of the paths that are gone, each with a NUL after it";
     let tar = Command::new(alloc, "tar")
         .about("Writes the files of crash states as a tar archive")
         .after_help("Example: crashfs tar store.trace --holes --state 25 | tar -x -C dir")
         .arg(state)?
         .arg(states)?
+        .arg(flag(alloc, "changes", changes))?
         .group(one_of)?;
     with_states(alloc, tar)
 }
 
+/// The command `picks`.
 fn picks_command<'a>(alloc: Global) -> Result<Command<'a>, AllocError> {
     let lost = "For each operation the smallest disk that still has it";
     let files = "For each prefix and each file, the disk without its changes that no sync covers";
@@ -112,13 +120,15 @@ fn picks_command<'a>(alloc: Global) -> Result<Command<'a>, AllocError> {
     with_trace(alloc, picks)
 }
 
+/// The command `script`.
 fn script_command<'a>(alloc: Global) -> Result<Command<'a>, AllocError> {
     let verbose = "Prints each message and its reply as text on standard error";
     let script = Command::new(alloc, "script")
         .about("Runs the 9P2000 messages of standard input, one a line, and prints the replies")
         .after_help("Example: crashfs script store.trace --users users < messages")
+        .arg(users_argument(alloc, "The users file, as users(6) has it").required(true))?
         .arg(flag(alloc, "verbose", verbose))?;
-    with_states(alloc, with_users(alloc, script)?)
+    with_states(alloc, script)
 }
 
 /// The address, and how many workers and connections there are.
@@ -133,11 +143,13 @@ fn with_counts<'a>(alloc: Global, command: Command<'a>) -> Result<Command<'a>, A
         .arg(count_argument(alloc, "connections", connections))
 }
 
+/// The command `serve`.
 fn serve_command<'a>(alloc: Global) -> Result<Command<'a>, AllocError> {
     let again = "Accepts another connection when one ends, until standard input ends";
     let ready = "Makes all states before it listens";
     let reload = "Reads the users file again for each connection: later runs have its users";
     let verbose = "Prints connections, messages with their replies, and attaches on standard error";
+    let users = "The users file, as users(6) has it; default: the owners and groups of the trace";
     let client = "Whose clients connect: Linux's own needs other texts of errors";
     let client = value_argument(alloc, "client", "CLIENT", client)
         .value_parser(CLIENTS.as_slice())
@@ -152,7 +164,7 @@ fn serve_command<'a>(alloc: Global) -> Result<Command<'a>, AllocError> {
         .arg(flag(alloc, "reload", reload))?
         .arg(client)?
         .arg(flag(alloc, "verbose", verbose))?;
-    let serve = with_counts(alloc, with_users(alloc, serve)?)?;
+    let serve = with_counts(alloc, serve.arg(users_argument(alloc, users))?)?;
     with_states(alloc, serve)
 }
 

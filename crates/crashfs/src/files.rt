@@ -1,8 +1,10 @@
 //! The files that the command line names.
 ghost use Rattle.std.specs.Prelude.{◌≡◌};
 
-use crate::ask::Ask;
+use crate::ask::{Ask, Job};
+use crate::users::users_of_trace;
 use cs_serve::Inputs;
+use cs_tcp::with_line_feeds;
 use std::fs::{File, OpenFile};
 use std::io::{self, Read, Write};
 use std::rt::Files;
@@ -90,6 +92,25 @@ fn read_if<R: Files + Eprint + AllocGlobal, E: Write>(
     }
 }
 
+/// The users file, with a line feed alone at each line's end. If `serve` has none, one made of the
+/// trace's owners and groups.
+fn read_users<R: Files + Eprint + AllocGlobal, E: Write>(
+    rt: &R,
+    ask: &Ask,
+    trace: &[u8],
+    err: &mut E,
+) -> Result<Vec<u8>, u8> {
+    let made = if ask.users.is_some() || !matches!(ask.job, Job::Serve(_)) {
+        with_line_feeds(rt.alloc(), &read_if(rt, ask.users, err)?)
+    } else {
+        users_of_trace(rt.alloc(), trace)
+    };
+    match made {
+        Ok(users) => Ok(users),
+        Err(_) => Err(out_of_memory(rt)),
+    }
+}
+
 impl InputFiles {
     /// Reads the trace, the picks and the users, in this order. Or the status if one can't be read,
     /// which `err` reports.
@@ -100,7 +121,7 @@ impl InputFiles {
     ) -> Result<InputFiles, u8> {
         let trace = read_trace(rt, ask.wanted.trace, err)?;
         let picks = read_if(rt, ask.wanted.picks, err)?;
-        let users = read_if(rt, ask.users, err)?;
+        let users = read_users(rt, ask, &trace, err)?;
         Ok(InputFiles {
             trace,
             picks,

@@ -12,10 +12,12 @@ const KEYS: [&str; 16] = [
 /// The versions of traces.
 const VERSIONS: [u64; 3] = [1, 2, 3];
 
+/// Whether the text is three octal digits.
 fn is_mode(text: &str) -> bool {
     text.len() == 3 && text.bytes().all(|digit| (b'0'..=b'7').contains(&digit))
 }
 
+/// Whether the value is a version of traces that is known.
 fn is_version(value: &Value) -> bool {
     match value.as_u64() {
         Some(version) => VERSIONS.contains(&version),

@@ -6,9 +6,12 @@ mod command_line;
 mod commands;
 mod files;
 mod line_reason;
+mod output;
+mod pick_reason;
 mod reason;
 #[cfg(test)]
 mod tests;
+mod users;
 mod version;
 
 use ask::{Ask, Job};
@@ -21,6 +24,7 @@ use cs_list_lines::list_with;
 use cs_serve::{Inputs, script_of};
 use cs_tcp::{ReadsFiles, Serving, serve_of};
 use files::{FAULT, InputFiles, out_of_memory};
+use output::Output;
 use reason::explain;
 use std::io::{self, BufWriter, IsTerminal, Write};
 use std::net::{Net, TcpListener, TcpStream};
@@ -69,7 +73,8 @@ where
     serve_of(rt, rt.alloc(), inputs, serving, rt.reader(), out, &err)
 }
 
-/// Does what is asked for, once its files are read. Err if one of them can't be.
+/// Does what is asked for, once its files are read, and says why it failed. If the reader of
+/// standard output has gone away, nothing is printed. Err if a file can't be read.
 fn run_job<R, E: Write + Send>(rt: &R, err: &mut E, on_terminal: bool, ask: &Ask) -> Result<u8, u8>
 where
     R: Files + ReadsFiles + Input + Print + Eprint + AllocGlobal + Clock + Threads + Wait + Sync,
@@ -79,13 +84,15 @@ where
     let given = InputFiles::read(rt, ask, err)?;
     let inputs = given.inputs(ask);
     let alloc = rt.alloc();
-    let Ok(mut out) = BufWriter::new(alloc, io::writer(rt)) else {
+    let Ok(out) = BufWriter::new(alloc, io::writer(rt)) else {
         return Err(out_of_memory(rt));
     };
+    let mut out = Output::new(out);
+    let mut faults = Vec::new(alloc);
     let status = match &ask.job {
-        Job::List(options) => list_with(alloc, &inputs, *options, &mut io::writer(rt), err),
-        Job::Tar(states) => tar_of(alloc, &inputs, states, &mut out, err),
-        Job::Picks(family) => picks_of(alloc, &inputs, *family, &mut out, err),
+        Job::List(options) => list_with(alloc, &inputs, *options, &mut out, &mut faults),
+        Job::Tar(states) => tar_of(alloc, &inputs, states, &mut out, &mut faults),
+        Job::Picks(family) => picks_of(alloc, &inputs, *family, &mut out, &mut faults),
         // these have no buffer: their writes are counted
         Job::Script => script_of(alloc, &inputs, &mut rt.reader(), &mut io::writer(rt), err),
         Job::Serve(serving) => {
@@ -97,8 +104,14 @@ where
             run_serve(rt, &inputs, serving, &mut out, err)
         }
     };
-    if status == FAULT {
-        explain(alloc, &inputs, ask, err);
+    if status == FAULT && !out.is_closed() {
+        let _unheard = err.write_all(&faults);
+        match out.fault() {
+            Some(error) => {
+                let _unheard = writeln!(err, "crashfs: standard output: {error}");
+            }
+            None => explain(alloc, &inputs, ask, err),
+        }
     }
     Ok(status)
 }
@@ -119,6 +132,7 @@ fn unasked<R: Print + Eprint>(rt: &R, error: &Error) -> u8 {
     }
 }
 
+/// Runs the command line, and returns the status; what is wrong goes to `err`.
 fn run<R, E: Write + Send>(rt: &R, err: &mut E, on_terminal: bool, words: &[&str]) -> u8
 where
     R: Files + ReadsFiles + Input + Print + Eprint + AllocGlobal + Clock + Threads + Wait + Sync,
@@ -133,6 +147,7 @@ where
     }
 }
 
+/// The words of the command line.
 fn words_of<R: Env + AllocGlobal>(rt: &R) -> io::Result<Vec<String>> {
     let mut words = Vec::new(rt.alloc());
     for word in std::env::args(rt)? {

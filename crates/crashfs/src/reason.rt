@@ -2,10 +2,11 @@
 
 use crate::ask::{Ask, Job};
 use crate::line_reason::{reason_of_op, reason_of_syntax};
+use crate::pick_reason::{count_holes, reason_of_pick};
 use cs_archive::States;
 use cs_names::limits::{MICRO_OPERATIONS, PLAN_STATES};
 use cs_plan::SceneFault;
-use cs_serve::{Inputs, ProgramFault, scene_of};
+use cs_serve::{Inputs, ProgramFault, read_picks, scene_of};
 use cs_trace::{TraceFault, TraceFaultKind};
 use std::alloc::{AllocError, Global};
 use std::io::Write;
@@ -41,6 +42,7 @@ fn greatest_of(states: &States) -> u32 {
     match states {
         States::One(number) => *number,
         States::Each(ranges) => ranges.iter().map(|range| range.last).max().unwrap_or(0),
+        States::Changes(ranges) => ranges.iter().map(|range| range.last).max().unwrap_or(0),
     }
 }
 
@@ -79,8 +81,51 @@ fn reason_at_line(
     Ok(Some(text))
 }
 
+/// How many states the plan would have, and how many it may have.
+fn reason_of_size(alloc: Global, inputs: &Inputs) -> Result<Option<String>, AllocError> {
+    let most = PLAN_STATES;
+    let prefixes = Inputs {
+        holes: false,
+        picks: &[],
+        ..*inputs
+    };
+    let Ok(scene) = scene_of(alloc, &prefixes) else {
+        return Ok(None);
+    };
+    let (states, holes) = (scene.plan().len(), count_holes(scene.order()));
+    let text = format!(in alloc;
+        "a plan has at most {most} states: this trace has {states} without holes, and {holes} holes; leave holes or picks out, or record a shorter session"
+    )?;
+    Ok(Some(text))
+}
+
+/// Why the pick of that number is not allowed.
+fn reason_of_picks(
+    alloc: Global,
+    inputs: &Inputs,
+    pick: u32,
+) -> Result<Option<String>, AllocError> {
+    let prefixes = Inputs {
+        holes: false,
+        picks: &[],
+        ..*inputs
+    };
+    let (Ok(scene), Ok(picks)) = (scene_of(alloc, &prefixes), read_picks(alloc, inputs.picks))
+    else {
+        return Ok(None);
+    };
+    match picks.get(pick as usize) {
+        Some(places) => reason_of_pick(alloc, scene.order(), pick, places.as_slice()),
+        None => Ok(None),
+    }
+}
+
 /// Why there is no plan.
-fn reason_of_scene(alloc: Global, fault: &SceneFault) -> Result<Option<String>, AllocError> {
+fn reason_of_scene(
+    alloc: Global,
+    inputs: &Inputs,
+    fault: &SceneFault,
+) -> Result<Option<String>, AllocError> {
     let text = match fault {
         SceneFault::TooMany => {
             let most = MICRO_OPERATIONS;
@@ -88,13 +133,8 @@ fn reason_of_scene(alloc: Global, fault: &SceneFault) -> Result<Option<String>, 
                 "a trace has at most {most} micro-operations: record a shorter session"
             )
         }
-        SceneFault::PlanTooLarge => {
-            let most = PLAN_STATES;
-            format!(in alloc; "a plan has at most {most} states: leave holes or picks out")
-        }
-        SceneFault::PickNotAllowed(_) => {
-            format!(in alloc; "a pick must have each operation that one of its places needs")
-        }
+        SceneFault::PlanTooLarge => return reason_of_size(alloc, inputs),
+        SceneFault::PickNotAllowed(pick) => return reason_of_picks(alloc, inputs, *pick),
         SceneFault::Memory => return Ok(None),
     };
     Ok(Some(text?))
@@ -106,7 +146,7 @@ fn reason_of(alloc: Global, inputs: &Inputs, ask: &Ask) -> Result<Option<String>
         Err(ProgramFault::Trace(fault)) => {
             reason_at_line(alloc, inputs, ask.wanted.trace, &fault)
         }
-        Err(ProgramFault::Scene(fault)) => reason_of_scene(alloc, &fault),
+        Err(ProgramFault::Scene(fault)) => reason_of_scene(alloc, inputs, &fault),
         Err(_) => Ok(None),
         Ok(_) => match &ask.job {
             Job::Tar(states) => reason_of_number(alloc, inputs, states),

@@ -120,7 +120,7 @@ const ROWS: [Row; 13] = [
     Row {
         words: &LIST_PICK,
         status: 1,
-        err: b"crashfs: pick 0 not allowed\ncrashfs: a pick must have each operation that one of its places needs\n",
+        err: b"crashfs: pick 0 not allowed\ncrashfs: pick 0: there are 0 operations, and no 0\n",
     },
     Row {
         words: &TAR_OF_NO_LIST,

@@ -9,6 +9,7 @@ use std::alloc::Global;
 use std::io::Write;
 use std::sync::Arc;
 
+/// Writes the archive, and flushes it.
 fn tar<W: Write>(
     alloc: Global,
     inputs: &Inputs,

@@ -30,7 +30,7 @@ impl From<TarFault> for ArchiveFault {
     }
 }
 
-/// Why the command ends with status 1. Its text stands after `crashfs: ` on standard error.
+/// Why the command ends with status 1. Its text comes after `crashfs: ` on standard error.
 #[derive(Debug, Drop, Error)]
 pub(crate) enum CommandFault {
     /// The trace is at fault, or has no plan of states.

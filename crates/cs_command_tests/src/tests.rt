@@ -4,4 +4,5 @@ mod archives;
 mod families;
 mod json;
 mod lists;
+mod picks;
 mod third;

@@ -28,7 +28,7 @@ told_text None = codes "foreign"
 told_text (Some told) =
     codes "entries " ++ (decimal told.0 ++ (codes " audit " ++ verdict_text told.1))
 
--- the line of a run: the number of its state, its name, and what was told of it
+-- the line of a run: the number of its state, its name, and what is printed of it
 abbrev pub run_line : RunReport → List ℕ
 run_line report =
     codes "run " ++ (decimal report.key.number ++ (codes "/" ++ (report.key.name
@@ -38,7 +38,7 @@ run_line report =
 abbrev pub IsAudit : List PassOf → RunOf → ℕ × Result (Unit {0}) AuditFault → Type 0
 IsAudit passes run told = (told.0 ≡ length run.journal) × Audits passes run.journal told.1
 
--- what was told is of a run that the server has under the number of the key, audited by the passes
+-- what is printed is of a run that the server has under the number of the key, audited by the passes
 -- that were kept for that key
 abbrev pub IsReport : HasTree → Given → RunReport → Type 0
 IsReport serves given report =

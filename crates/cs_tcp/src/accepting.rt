@@ -11,14 +11,14 @@ use std::time::Duration;
 /// How many accepts in a row may fail.
 const FAILED_ACCEPTS: u32 = 100;
 
-/// How long it is waited after an accept that came to nothing: nobody asks for a connection, or it
-/// failed, as it may at once, again and again, if there are too many open files.
+/// How long to wait after an accept without a connection: nobody asks for one, or the accept failed,
+/// as it may at once, again and again, if there are too many open files.
 const PAUSE_MILLISECONDS: u64 = 10;
 
 /// What came of waiting for a connection.
 #[derive(Drop)]
 pub(crate) enum Accepted<S> {
-    /// A connection, and where it comes from.
+    /// A connection, and its peer's address.
     Connection(S, SocketAddr),
     /// No more are to come.
     Ended,

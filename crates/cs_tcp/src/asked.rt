@@ -1,4 +1,4 @@
-//! What is asked of the server in place of a client of Linux.
+//! What the server is asked in place of what a client of Linux asked.
 
 use cs_linux::{Directories, Renaming, Step, directory_of, is_rename, renaming_of};
 use cs_wire::{RBody, RKind, RMessage, TBody, TKind, TMessage, decode_reply, decode_request};
@@ -17,7 +17,7 @@ pub(crate) enum ReplyFate {
 }
 
 /// What was asked of the server, as far as its replies matter: walks, since renames need to know
-/// directories, and renames. A rename onto a file that stands goes on from here: the client gets
+/// directories, and renames. A rename onto a file that is there goes on from here: the client gets
 /// one reply to its request.
 #[derive(Drop)]
 pub(crate) struct PendingRequests {

@@ -9,7 +9,7 @@ use std::sync::{Mutex, Wait};
 /// What a thread that serves connections is given.
 #[derive(Drop)]
 pub(crate) enum Admitted {
-    /// The connection of that number, and where it comes from.
+    /// The connection of that number, and its peer's address.
     Connection(u32, TcpStream, SocketAddr),
     /// It is closed: no more come in.
     Closed,
@@ -30,6 +30,7 @@ struct Door {
 }
 
 impl Door {
+    /// Listens no more.
     fn close(&mut self) {
         self.listener = None;
     }
@@ -47,6 +48,7 @@ impl Door {
         number
     }
 
+    /// Waits for the next connection, until no more are to come.
     fn admit<R: Wait + Clock>(&mut self, rt: &R, ended: &AtomicBool) -> Admitted {
         let Some(listener) = &self.listener else {
             return Admitted::Closed;
@@ -74,7 +76,7 @@ impl Door {
 #[derive(Drop)]
 pub(crate) struct Entrance {
     door: Mutex<Door>,
-    /// Whether no more connections are to come in: who waits for one looks at this.
+    /// Whether no more connections are to come in: a thread that waits for one looks at this.
     ended: AtomicBool,
 }
 

@@ -60,18 +60,20 @@ impl<'a, RW, R: Wait, E: Write> LoggedStream<'a, RW, R, E> {
         }
     }
 
-    /// Tells no more, and says so.
+    /// Prints no more messages, and says so.
     fn lose(&mut self) {
         self.lost = true;
         self.log.lost(self.rt, self.conn);
     }
 
+    /// Takes bytes of requests that came.
     fn take_bytes(&mut self, bytes: &[u8]) {
         if !self.lost && self.messages.feed(bytes).is_err() {
             self.lose();
         }
     }
 
+    /// Takes bytes of replies that were sent, and prints each message that is answered by them.
     fn answered(&mut self, bytes: &[u8]) {
         if self.lost {
             return;

@@ -10,6 +10,7 @@ mod connection;
 mod entrance;
 mod for_linux;
 mod heard;
+mod line_ends;
 mod log;
 mod progress;
 mod publishing;
@@ -21,6 +22,7 @@ mod summary;
 mod wall_clock;
 
 pub use client::Client;
+pub use line_ends::with_line_feeds;
 pub use reloading::ReadsFiles;
 pub use serving::{Serving, serve_of};
 

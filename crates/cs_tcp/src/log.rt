@@ -2,7 +2,9 @@
 
 use cs_serve::{ProgramFault, tell};
 use cs_session::ServeFault;
-use cs_wire::{RBody, RMessage, TBody, TMessage, WireFault, decode_reply, decode_request};
+use cs_wire::{
+    FrameFault, RBody, RMessage, TBody, TMessage, WireFault, decode_reply, decode_request,
+};
 use std::alloc::{AllocError, Global};
 use std::fmt;
 use std::io::{self, Write};
@@ -53,6 +55,7 @@ fn attached<'a>(
 }
 
 impl<E: Write> Log<'_, E> {
+    /// Prints a line.
     fn line(&self, rt: &impl Wait, line: &impl fmt::Display) {
         let mut writer = self.writer.lock(rt);
         let _unheard = writeln!(&mut *writer, "{line}");
@@ -85,6 +88,7 @@ impl<E: Write> Log<'_, E> {
         }
     }
 
+    /// Prints that a connection was accepted, if connections are printed.
     pub(crate) fn accepted(&self, rt: &impl Wait, conn: u32, from: SocketAddr) {
         if self.verbose {
             self.line(rt, &format_args!("{conn} accepted from {from}"));
@@ -125,13 +129,21 @@ impl<E: Write> Log<'_, E> {
         }
     }
 
+    /// Prints how a connection ended, if connections are printed; else only that its client speaks
+    /// another protocol.
     pub(crate) fn ended(&self, rt: &impl Wait, conn: u32, ended: Result<(), ServeFault>) {
-        if !self.verbose {
+        if self.verbose {
+            match ended {
+                Ok(()) => self.line(rt, &format_args!("{conn} ended")),
+                Err(fault) => self.line(rt, &format_args!("{conn} ended: {fault}")),
+            }
             return;
         }
-        match ended {
-            Ok(()) => self.line(rt, &format_args!("{conn} ended")),
-            Err(fault) => self.line(rt, &format_args!("{conn} ended: {fault}")),
+        let Err(ServeFault::FrameFault(fault)) = ended else {
+            return;
+        };
+        if !matches!(fault, FrameFault::Cut) {
+            self.fault(rt, &format_args!("connection {conn} is no 9P2000: {fault}"));
         }
     }
 }

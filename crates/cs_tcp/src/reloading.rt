@@ -3,6 +3,7 @@ ghost use Rattle.std.specs.Prelude.{◌≡◌, ◌≢◌, Err, Ok};
 ghost use Rattle.cs_users.specs.Reading.{users_in};
 ghost use Rattle.cs_tcp.specs.Reloads.{Loads};
 
+use crate::line_ends::with_line_feeds;
 use crate::log::Log;
 use cs_shared_runs::{ServerBrand, SharedRegistry};
 use cs_users::{Users, UsersFault};
@@ -75,7 +76,7 @@ pub(crate) struct Reloading {
 }
 
 impl Reloading {
-    /// That of the path, which had these bytes when the server was made.
+    /// That of the path, which had these bytes, with line feeds, when the server was made.
     pub(crate) fn new(alloc: Global, path: &str, bytes: &[u8]) -> Result<Reloading, AllocError> {
         Ok(Reloading {
             path: path.to_string(alloc)?,
@@ -93,7 +94,10 @@ impl Reloading {
     ) -> Result<(), ReloadFault> {
         let mut last = self.last.lock(rt);
         match rt.read_file(alloc, self.path.as_str()) {
-            Ok(bytes) => load(rt, alloc, registry, &mut last, bytes).map_err(ReloadFault::Users),
+            Ok(bytes) => match with_line_feeds(alloc, &bytes) {
+                Ok(text) => load(rt, alloc, registry, &mut last, text).map_err(ReloadFault::Users),
+                Err(_) => Err(ReloadFault::Users(UsersFault::Memory)),
+            },
             Err(error) if error.kind() == ErrorKind::OutOfMemory => {
                 Err(ReloadFault::Users(UsersFault::Memory))
             }

@@ -8,7 +8,7 @@ use cs_shared_runs::ServerBrand;
 use std::alloc::Global;
 use std::sync::{Mutex, Wait};
 
-/// A server, where its connections come in, its users file if that is read again, and the passes of
+/// A server, the entrance of its connections, its users file if that is read again, and the passes of
 /// the connections that ended.
 #[derive(Drop)]
 pub(crate) struct Site<S: ServerBrand> {

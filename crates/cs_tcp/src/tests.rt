@@ -2,6 +2,7 @@
 mod again;
 mod client;
 mod fixture;
+mod line_ends;
 mod linux;
 mod loopback;
 mod refusals;

@@ -20,6 +20,7 @@ pub(crate) struct WallClock<'a, R> {
 }
 
 impl<'a, R> WallClock<'a, R> {
+    /// The clock that this runtime has.
     pub(crate) fn new(rt: &'a R) -> WallClock<'a, R> {
         WallClock { rt }
     }

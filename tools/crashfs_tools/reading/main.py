@@ -13,11 +13,13 @@ from .plan import Plan, different, file_sets, lost_sets, plan_of, read_picks
 from .trace import read
 
 FLAGS = {'list': ('--holes', '--lines', '--same', '--json'), 'picks': ('--lost', '--files'),
-         'tar': ('--holes',)}
+         'tar': ('--holes', '--changes', '--help')}
 VALUED = {'list': ('--trace', '--picks'), 'picks': ('--trace',),
           'tar': ('--trace', '--picks', '--state', '--states')}
 
 Options = Dict[str, Union[str, bool]]
+HELP = ('tar --trace FILE [--holes] [--picks FILE] --state N\n'
+        'tar --trace FILE [--holes] [--picks FILE] --states LIST [--changes]')
 
 
 class Usage(Exception):
@@ -56,12 +58,15 @@ def read_options(words: List[str]) -> Options:
             options[word] = next(rest, '')
         else:
             raise Usage(f"unexpected argument '{word}' found")
-    if '--trace' not in options:
+    if '--trace' not in options and '--help' not in options:
         raise Usage('the following required arguments were not provided: --trace <FILE>')
     return options
 
 
 def run(command: str, options: Options) -> None:
+    if '--help' in options:
+        print(HELP)
+        return
     reading = read(file_bytes(str(options['--trace'])))
     picks = read_picks(file_bytes(str(options['--picks']))) if '--picks' in options else []
     plan = plan_of(reading, '--holes' in options, picks)
@@ -86,8 +91,9 @@ def file_bytes(path: str) -> bytes:
 
 
 def write_archive(plan: Plan, options: Options) -> None:
-    from .archive import write_state, write_states  # `list` begins faster without tarfile.
-    if '--state' in options:
+    # `list` begins faster without tarfile.
+    from .archive import write_changes, write_state, write_states
+    if '--state' in options and '--changes' not in options:
         number = str(options['--state'])
         if not number.isdigit():
             raise Usage(f"invalid value '{number}' for '--state <N>'")
@@ -95,10 +101,11 @@ def write_archive(plan: Plan, options: Options) -> None:
             raise ReadingFault('no such state')
         write_state(plan, int(number), sys.stdout.buffer)
         return
-    numbers = states_of(str(options.get('--states', '')))
+    numbers = states_of(str(options.get('--states') or options.get('--state', '')))
     if max(numbers) >= len(plan.states):
         raise ReadingFault('no such state')
-    write_states(plan, numbers, sys.stdout.buffer)
+    write = write_changes if '--changes' in options else write_states
+    write(plan, numbers, sys.stdout.buffer)
 
 
 def states_of(shown: str) -> List[int]:

@@ -2,10 +2,10 @@
 
 from __future__ import annotations
 
-import hashlib
 from functools import lru_cache
 from typing import Dict, List, Optional, Tuple
 
+from .digests import Digests
 from .micro import (
     ChangeSize,
     CreateEntry,
@@ -45,7 +45,8 @@ class States:
                 self.says |= 1 << place
         self._nodes = lru_cache(64)(self.make_nodes)
         self._file = lru_cache(64)(self.make_file)
-        self._digests: Dict[Tuple[int, int], Tuple[Rights, bytes]] = {}
+        self._digests = lru_cache(None)(
+            Digests(reading, self.change_places, self.make_file).digest)
 
     def count_says(self, places: int) -> int:
         return bin(places & self.says).count('1')
@@ -59,25 +60,21 @@ class States:
     def digest(self, places: int) -> Digest:
         nodes = self._nodes(places & self.entry_places)
         return tuple((path, *self.file_digest(node, places)) if isinstance(node, int)
-                     else (path, node, None) for path, node in sorted(nodes.items()))
+                     else (path, node, None) for path, node in nodes.items())
 
     def file(self, number: int, places: int) -> Entry:
         return self._file(number, places & self.change_places.get(number, 0))
 
     def file_digest(self, number: int, places: int) -> Tuple[Rights, bytes]:
-        key = number, places & self.change_places.get(number, 0)
-        if key not in self._digests:
-            rights, data = self.make_file(*key)
-            self._digests[key] = rights, hashlib.sha256(data or b'').digest()
-        return self._digests[key]
+        return self._digests(number, places & self.change_places.get(number, 0))
 
     def make_nodes(self, places: int) -> Dict[str, Node]:
         nodes = dict(self.reading.start)
         for place in bits(places):
             change_nodes(nodes, self.reading.operations[place])
-        return nodes
+        return dict(sorted(nodes.items()))
 
-    def make_file(self, number: int, places: int) -> Entry:
+    def make_file(self, number: int, places: int) -> Tuple[Rights, bytes]:
         rights = self.reading.made_rights[number]
         operations: List[MicroOperation] = [self.reading.operations[place]
                                             for place in bits(places)]

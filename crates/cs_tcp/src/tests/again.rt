@@ -1,4 +1,4 @@
-//! Connections that are accepted where others have ended.
+//! Connections that are accepted after others have ended.
 
 use super::client::looks_for_g;
 use super::fixture::{TRACE, Told, comes, inputs_of, told_of};

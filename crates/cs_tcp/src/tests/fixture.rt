@@ -1,4 +1,4 @@
-//! The command over a small tree, and what it told.
+//! The command over a small tree, and what it printed.
 
 use crate::{ReadsFiles, Serving, serve_of};
 use cs_plan::Scene;
@@ -20,7 +20,7 @@ pub const TRACE: &[u8] =
 /// How often a thread looks for what another is to do.
 const TURNS: u32 = 10_000_000;
 
-/// Whether it comes to hold.
+/// Whether it holds in the end.
 pub fn comes<F: Fn() -> bool>(holds: F) -> bool
     requires { F.IsAlwaysCallable holds }
 {
@@ -33,7 +33,7 @@ pub fn comes<F: Fn() -> bool>(holds: F) -> bool
     false
 }
 
-/// Standard output, which tells the port once it is printed.
+/// Standard output, which has the port once it is printed.
 #[derive(Drop)]
 pub struct Output<'a> {
     pub text: Vec<u8>,
@@ -84,7 +84,7 @@ pub fn scene_in(alloc: Global) -> Option<Arc<Scene>> {
     Arc::new(alloc, scene).ok()
 }
 
-/// The command on this trace, with `--verbose`; its port is told once it listens.
+/// The command on this trace, with `--verbose`; its port is printed once it listens.
 pub fn served<R>(rt: &R, alloc: Global, trace: &[u8], serving: Serving, port: &AtomicU64) -> Told
 where
     R: Net<Listener = TcpListener, Stream = TcpStream> + Threads + Wait + Clock + ReadsFiles + Sync,

@@ -19,7 +19,7 @@ const MEANT: &[u8] =
 /// An Rerror with a rule's text, and an Rclunk.
 const DENIED: &[u8] = b"\x18\0\0\0\x6b\x07\0\x0f\0K8 no such name\x07\0\0\0\x79\x08\0";
 
-/// The same, as the client is told them.
+/// The same, as the client gets them.
 const TOLD: &[u8] = b"\x22\0\0\0\x6b\x07\0\x19\0No such file or directory\x07\0\0\0\x79\x08\0";
 
 /// What a reader gives to its end, so many bytes at a time.

@@ -55,7 +55,7 @@ fn two_clients_are_served_at_once_and_share_a_run(rt: HostRuntime) {
 const VERSIONS: &str =
     "1 <- Tversion tag 65535 msize 8192 version \"9P2000\"\n1 -> Rversion tag 65535 msize 8192 version \"9P2000\"\n";
 
-/// What is told of two clients, the first of which hangs up.
+/// What is printed of two clients, the first of which hangs up.
 const TOLD: [&str; 5] = [
     "published 2 states\n",
     "0 accepted from 127.0.0.1:",
@@ -65,7 +65,7 @@ const TOLD: [&str; 5] = [
 ];
 
 /// A client that hangs up after three bytes of a message: the command still ends with status 0, and
-/// tells why that connection ended. The next one's messages are told, and its attach once it is
+/// says why that connection ended. The next one's messages are printed, and its attach once it is
 /// granted.
 #[test]
 fn a_client_that_hangs_up_inside_a_message(rt: HostRuntime) {
@@ -89,7 +89,7 @@ fn a_client_that_hangs_up_inside_a_message(rt: HostRuntime) {
     }
 }
 
-/// With a client of Linux, a walk to `/g`, which isn't made yet, is told as `No such file or
+/// With a client of Linux, a walk to `/g`, which isn't made yet, is printed as `No such file or
 /// directory` over the socket, and as K8 by `--verbose`.
 #[test]
 fn a_client_of_linux_is_told_an_error_that_it_knows(rt: HostRuntime) {

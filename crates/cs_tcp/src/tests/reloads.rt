@@ -28,7 +28,7 @@ const ATTACH_DAN_TO_Z: &[u8] = b"\x19\0\0\0h\x01\0\0\0\0\0\xff\xff\xff\xff\x03\0
 /// An attach of dan to `1/x`, as the fid 2.
 const ATTACH_DAN_TO_1: &[u8] = b"\x19\0\0\0h\x01\0\x02\0\0\0\xff\xff\xff\xff\x03\0dan\x03\01/x";
 
-/// What the file becomes, None where it goes away, and what the next client then asks.
+/// What the file becomes, None if it goes away, and what the next client then asks.
 struct Later {
     file: Option<&'static [u8]>,
     asked: &'static [&'static [u8]],
@@ -51,7 +51,7 @@ const LATER: [Later; 5] = [
         asked: &[ATTACH_DAN_TO_Z],
     },
     Later {
-        file: Some(b"1:ann:"),
+        file: Some(b"1:ann:\r"),
         asked: &[ATTACH_DAN_TO_Z],
     },
     Later {
@@ -102,7 +102,7 @@ fn answers<R: Net<Stream = TcpStream> + Files + Abort>(
     types
 }
 
-/// What the command told, and what the clients were answered, while the file changes.
+/// What the command printed, and what the clients were answered, while the file changes.
 fn reloaded<R>(rt: &R, alloc: Global, again: bool) -> (Told, Vec<u8>)
 where
     R: Net<Listener = TcpListener, Stream = TcpStream>
@@ -133,7 +133,7 @@ where
     )
 }
 
-/// What is told so often.
+/// What is printed so often.
 struct Often(&'static str, usize);
 
 const OFTEN: [Often; 3] = [
@@ -142,7 +142,7 @@ const OFTEN: [Often; 3] = [
     Often("crashfs: reloads.users: cannot read\n", 1),
 ];
 
-/// What is printed of the runs, behind the line of the address.
+/// What is printed of the runs, after the line of the address.
 const RUNS: &[u8] = b"\
 run 0/x entries 6 audit ok
 run 0/y entries 6 audit ok
@@ -158,7 +158,7 @@ fn lines_behind_the_first(text: &[u8]) -> &[u8] {
     }
 }
 
-/// Looks at what was answered and told while the file changed.
+/// Looks at what was answered and printed while the file changed.
 fn expect_reloaded<R>(rt: &R, alloc: Global, again: bool)
 where
     R: Net<Listener = TcpListener, Stream = TcpStream>
@@ -183,8 +183,8 @@ where
 /// With `--reload`, without `--again` and with it: bob attaches `0/x`. The file becomes ann and
 /// dan's: on the next connection dan's attach to `0/x` and bob's to `0/y` are A6; dan attaches
 /// `0/y`, and may not open `/f` with 1, but with 0. It becomes `1:ann:`, for two connections: dan
-/// attaches `0/z` on each, and `users line 1: FieldCount` is told once. It goes away: dan attaches
-/// `0/z`, and `cannot read` is told. It becomes ann's alone: dan attaches `0/z`, and `1/x` is A6.
+/// attaches `0/z` on each, and `users line 1: FieldCount` is printed once. It goes away: dan attaches
+/// `0/z`, and `cannot read` is printed. It becomes only ann's: dan attaches `0/z`, and `1/x` is A6.
 /// Bob, on his own connection, then reads `/f` of `0/x`. The status is 0, and the lines at the end
 /// are those of `0/x`, `0/y`, `0/z` and `1/x`, with 6, 6, 4 and 1 entries, each audit ok.
 #[test]

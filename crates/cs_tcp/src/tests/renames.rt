@@ -13,11 +13,11 @@ use std::sync::atomic::AtomicU64;
 use std::thread;
 use std::thread::Threads;
 
-/// Files `/f` and `/g` and a directory `/d`, in a root where ann may write.
+/// Files `/f` and `/g` and a directory `/d`, in a root in which ann may write.
 const OPEN_ROOT: &[u8] =
     b"{\"trace\":1,\"owner\":\"cat\",\"group\":\"staff\",\"mode\":\"775\"}\n{\"start\":\"file\",\"path\":\"/f\",\"owner\":\"ann\",\"group\":\"staff\",\"mode\":\"664\",\"bytes\":\"68656c6c6f\"}\n{\"start\":\"file\",\"path\":\"/g\",\"owner\":\"bob\",\"group\":\"staff\",\"mode\":\"600\",\"bytes\":\"21\"}\n{\"start\":\"dir\",\"path\":\"/d\",\"owner\":\"ann\",\"group\":\"staff\",\"mode\":\"775\"}\n";
 
-/// Files `/f` and `/g` in a root where ann may not.
+/// Files `/f` and `/g` in a root in which ann may not.
 const CLOSED_ROOT: &[u8] =
     b"{\"trace\":1,\"owner\":\"cat\",\"group\":\"cat\",\"mode\":\"755\"}\n{\"start\":\"file\",\"path\":\"/f\",\"owner\":\"ann\",\"group\":\"staff\",\"mode\":\"664\",\"bytes\":\"68656c6c6f\"}\n{\"start\":\"file\",\"path\":\"/g\",\"owner\":\"bob\",\"group\":\"staff\",\"mode\":\"600\",\"bytes\":\"21\"}\n";
 
@@ -44,7 +44,7 @@ const TO_G: &[u8] =
 const TO_D: &[u8] =
     b"\x42\0\0\0\x7e\x02\0\x01\0\0\0\x35\0\x33\0\xff\xff\xff\xff\xff\xff\xff\xff\xff\xff\xff\xff\xff\xff\xff\xff\xff\xff\xff\xff\xff\xff\xff\xff\xff\xff\xff\xff\xff\xff\xff\xff\xff\xff\xff\xff\xff\xff\xff\x01\0d\0\0\0\0\x03\0ann";
 
-/// What the command told of a client, the type of each reply, and the last reply.
+/// What the command printed of a client, the type of each reply, and the last reply.
 #[derive(Drop)]
 struct Answered {
     told: Told,
@@ -79,8 +79,8 @@ where
 
 const TO_A_FILE: [&[u8]; 7] = [CLONE_ROOT, F, TO_G, F_AGAIN, G, OPEN_G, READ_G];
 
-/// A client of Linux gives `/f` the name of `/g`, which stands: `/g` then reads `hello`, and
-/// `--verbose` tells the removal in between.
+/// A client of Linux gives `/f` the name of `/g`, which is there: `/g` then reads `hello`, and
+/// `--verbose` prints the removal in between.
 #[test]
 fn a_file_gets_the_name_of_another_file(rt: HostRuntime) {
     let answered = ask_all(&rt, rt.alloc(), OPEN_ROOT, &TO_A_FILE);

@@ -1,4 +1,4 @@
-//! What is told on standard error.
+//! What is printed on standard error.
 
 use super::fixture::{TRACE, inputs_of, scene_in, told_of};
 use crate::heard::LoggedStream;
@@ -122,7 +122,7 @@ fn is_served<R: Wait + Abort>(rt: &R, alloc: Global, most: usize, log: Log<Vec<u
     is_heard(rt, alloc, &server, most, log)
 }
 
-/// What is told of such a client, if it was served.
+/// What is printed of such a client, if it was served.
 fn told_in_pieces<R: Wait + Abort>(rt: &R, alloc: Global, most: usize) -> Vec<u8> {
     let err = Mutex::new(Vec::new(alloc));
     let log = Log {
@@ -141,7 +141,7 @@ fn expect_told<R: Wait + Abort>(rt: &R, alloc: Global, most: usize) {
 
 /// With `--verbose`, whether a connection's bytes come and go by 1, by 30 or all at once: a
 /// version, an attach of ann to `0/x`, an attach as the same fid (A1) and a message of no type (S2)
-/// are told as text, each with its reply, and behind the second `7 attached ann to 0/x`.
+/// are printed as text, each with its reply, and after the second `7 attached ann to 0/x`.
 #[test]
 fn each_message_is_told_with_its_reply(rt: HostRuntime) {
     expect_told(&rt, rt.alloc(), 1);
@@ -162,7 +162,7 @@ fn tell_before<R: Wait + Sync>(
     }
 }
 
-/// What is told before these states are made, of which the first is published.
+/// What is printed before these states are made, of which the first is published.
 fn progress_before<R: Wait + Sync + Abort>(
     rt: &R,
     alloc: Global,
@@ -183,7 +183,7 @@ fn progress_before<R: Wait + Sync + Abort>(
 const NUMBERS: [u32; 6] = [0, 1, 1_023, 1_024, 1_025, 2_048];
 
 /// One of two states is published: as the states 1,024 and 2,048 would be begun, and before no
-/// other, `published 1 of 2` is told, if progress is asked for.
+/// other, `published 1 of 2` is printed, if progress is asked for.
 #[test]
 fn progress_is_told_at_every_1024th_state(rt: HostRuntime) {
     let told = progress_before(&rt, rt.alloc(), &NUMBERS, true);
@@ -192,7 +192,7 @@ fn progress_is_told_at_every_1024th_state(rt: HostRuntime) {
     assert!(rt; told.is_empty());
 }
 
-/// An address that is none, so that the command ends behind publishing.
+/// An address that is none, so that the command ends after publishing.
 const NOWHERE: Serving = Serving {
     listen: "nowhere",
     workers: 2,
@@ -207,7 +207,7 @@ const NOWHERE: Serving = Serving {
 /// A trace with no operation: one state.
 const UNCHANGED: &[u8] = b"{\"trace\":1,\"owner\":\"cat\",\"group\":\"staff\",\"mode\":\"775\"}\n";
 
-/// A trace, whether messages are told, and progress, and what is told.
+/// A trace, whether messages are printed, and progress, and what is printed.
 struct Asked {
     trace: &'static [u8],
     verbose: bool,
@@ -242,7 +242,7 @@ const ASKED: [Asked; 4] = [
     },
 ];
 
-/// Looks at what is told of publishing.
+/// Looks at what is printed of publishing.
 fn expect_published<R>(rt: &R, alloc: Global, asked: &Asked)
 where
     R: Net<Listener = TcpListener, Stream = TcpStream>
@@ -263,7 +263,7 @@ where
     assert!(rt; told.err.starts_with(asked.told));
 }
 
-/// `published 2 states` is told with `--verbose` or on a terminal, and else nothing; of a trace
+/// `published 2 states` is printed with `--verbose` or on a terminal, and else nothing; of a trace
 /// with no operation `published 1 state`.
 #[test]
 fn publishing_is_told_when_it_is_asked_for(rt: HostRuntime) {

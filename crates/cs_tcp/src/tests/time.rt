@@ -8,7 +8,7 @@ const SINCE: u32 = 1_577_836_800;
 
 const UNTIL: u32 = 4_102_444_800;
 
-/// The clock of the machine is behind 2020, and before 2100.
+/// The clock of the machine is after 2020, and before 2100.
 #[test]
 fn the_clock_tells_seconds_since_1970(rt: HostRuntime) {
     let now = WallClock::new(&rt).now();

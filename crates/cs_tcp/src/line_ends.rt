@@ -1,0 +1,26 @@
+//! The line ends of a users file.
+
+use cs_names::Pieces;
+use std::alloc::{AllocError, Global};
+
+/// The line without the carriage return at its end.
+fn without_return(line: &[u8]) -> &[u8] {
+    match line.strip_suffix(b"\r".as_slice()) {
+        Some(text) => text,
+        None => line,
+    }
+}
+
+/// The bytes with a line feed alone at each line's end. A carriage return inside a line stays.
+pub fn with_line_feeds(alloc: Global, bytes: &[u8]) -> Result<Vec<u8>, AllocError> {
+    let mut text = Vec::new(alloc);
+    let mut lines = Pieces::of(bytes, b'\n');
+    if let Some(first) = lines.next() {
+        text.extend_from_slice(without_return(first))?;
+    }
+    for line in lines {
+        text.push(b'\n')?;
+        text.extend_from_slice(without_return(line))?;
+    }
+    Ok(text)
+}
