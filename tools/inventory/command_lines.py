@@ -73,6 +73,8 @@ def options_in(function: str, functions: Dict[str, str]) -> List[Option]:
         found.append(Option((f'--{name}',), text_in(body, words), value, choices))
     for name, words in re.findall(rf'count_argument\(alloc, "([\w-]+)", {text}', body):
         found.append(Option((f'--{name}',), text_in(body, words), 'N'))
+    for words in re.findall(rf'users_argument\(alloc, {text}', body):
+        found.append(Option(('--users',), text_in(body, words), 'FILE'))
     for other in re.findall(r'\b(with_\w+)\(', body):
         found += options_in(other, functions) if other != function else []
     return found

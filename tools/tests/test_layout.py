@@ -20,7 +20,7 @@ TOO_LONG = {
     'cs_fids/src/fid_table.rt': 1,
     'cs_overlay/src/overlay.rt': 1,
     'cs_archive/src/command.rt': 1,
-    'cs_archive/proofs/states/write_ranges/Answers.antt': 2,
+    'cs_archive/proofs/states/write_run/Answers.antt': 1,
     'cs_serve_tests/src/tests/steps.rt': 3,
     'cs_world/proofs/Alone.antt': 2,
     'cs_world/proofs/NoWant.antt': 1,

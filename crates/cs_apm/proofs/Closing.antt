@@ -1,4 +1,4 @@
--- Each path that ever stands is in a directory that does.
+-- Each path that ever exists is in a directory that does.
 use Rattle.std.proofs.Common.{◌≡◌, ◌≢◌, ℕ, zero, suc, ◌<◌, ◌≤◌, true, false, List, [], ◌∷◌, ◌⊎◌, inl, inr, Option, None, Some, refl, sym}
 use Rattle.std.proofs.Common.{ap, ◌∙◌, subst, arith, ⊎_elim, length, map, get_or}
 use Rattle.std.proofs.lemmas.Bool.{cases_Bool, false≢true}
@@ -35,7 +35,7 @@ use Rattle.cs_apm.specs.Laws.Starts.{start_nodes}
 use Rattle.cs_apm.specs.Laws.Trees.{get_nodes, legal_at, node_of}
 use Rattle.cs_apm.proofs.Starting.{find_zip, named_at, names_length}
 
--- ---- where a path stands, it is one of those with a slot
+-- ---- if something is at a path, it is one of those with a slot
 
 pub slot_there : (rights : List Rights) (ps : List Path) (ss : List Slot) (q : Path) (e : Entry) → slot_entry rights ps ss q ≡ Some e
     → Contains ps q

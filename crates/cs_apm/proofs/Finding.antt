@@ -82,7 +82,7 @@ module _ (ops : List MicroOp) (q : Path) where
 
 -- ---- the first sync
 
--- whether a sync behind i that covers the operation is not behind j
+-- whether a sync after i that covers the operation is at j or before it
 abbrev pub covers_by : ℕ → MicroOp → ℕ → SyncPoint → Bool
 covers_by i op j s = (nat_lt i s.at && nat_le s.at j) && is_covered s.covers op
 

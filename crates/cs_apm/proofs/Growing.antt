@@ -128,7 +128,7 @@ entries_from records ns k d e some le long =
     ∙ ap (λ j. insert (start_entries (drop j records) (drop j ns)) (get_or records (k - 1) d).0
     (start_entry (get_or ns (k - 1) e) (get_or records (k - 1) d).1)) is
 
--- without a slot nothing stands
+-- without a slot there is nothing
 pub none_stand : (rights : List Rights) (paths : List Path) (slots : List Slot) (p : Path) → ((i : ℕ) → slot_at slots i ≡ Nothing)
     → slot_entry rights paths slots p ≡ None
 none_stand rights [] slots p none = refl
@@ -148,7 +148,7 @@ nothing_in (suc n) (suc i) = nothing_in n i
 pub all_nothing : (n : ℕ) (slots : List Slot) → slots ≡ replicate n Nothing → (i : ℕ) → slot_at slots i ≡ Nothing
 all_nothing n slots is i = ap (λ s. slot_at s i) is ∙ nothing_in n i
 
--- no record is behind the last
+-- no record is after the last
 pub none_first : (records : List (Path × Record)) (ns : List Node) (p : Path)
     → get (start_entries (drop (length records) records) (drop (length records) ns)) p ≡ None
 none_first records ns p = ap (λ es. get (start_entries es (drop (length records) ns)) p) (drop-length records) ∙ get-empty path_cmp p

@@ -1,4 +1,4 @@
--- The records of what stands are the listing of the state.
+-- The records of what is in the slots are the listing of the state.
 use Rattle.std.proofs.Common.{◌≡◌, List, sym, ap, ◌∙◌}
 use Rattle.cs_tree_model.specs.Tree.{Path, path_cmp}
 use Rattle.cs_tree_model.specs.Listing.{tree_of_records}

@@ -1,4 +1,4 @@
--- Which record stands at a path of the start, and which of them is each file's.
+-- Which record is at a path of the start, and which of them is each file's.
 use Rattle.std.proofs.Common.{◌≡◌, ℕ, zero, suc, ◌<◌, true, false, cond, List, [], ◌∷◌, Option, None, Some, refl, sym, ap, ◌∙◌, subst}
 use Rattle.std.proofs.Common.{arith, ⊎_elim, length, map, get_or}
 use Rattle.std.proofs.lemmas.Bool.{cases_Bool, false≢true}
@@ -41,7 +41,7 @@ behind p q less = ap is_eq (path_total.antisymm q p ∙ ap ordering_reverse less
 itself : (p : Path) → eq_by_cmp path_cmp p p ≡ true
 itself p = ap is_eq (tied_itself path_total p)
 
--- what is kept beside the i-th path
+-- what is kept with the i-th path
 pub find_zip : {X : Type 0} (ps : List Path) (xs : List X) (i : ℕ) (d : X) → AreAscending ps → i < length ps → length xs ≡ length ps
     → find path_cmp (get_or ps i []) (zip ps xs) ≡ Some (get_or xs i d)
 find_zip [] xs i d up low long = absurd (omega (arith, low))
@@ -72,7 +72,7 @@ find_record (e ∷ es) (suc i) up low =
     (above_at e.0 (map (λ e. e.0) es) [] up.0 i (omega (arith, low, names_length es)))))
     ∙ find_record es i up.1 (omega (arith, low))
 
--- what is found stands at some place
+-- what is found is at some place
 found_node : (q : Path) (records : List (Path × Record)) (ns : List Node) (node : Node)
     → find path_cmp q (zip (map (λ e. e.0) records) ns) ≡ Some node → (i : ℕ) × (i < length ns) × (node_at ns i ≡ node)
 found_node q [] ns node h = absurd (false≢true (ap is_some h))

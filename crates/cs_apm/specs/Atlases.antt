@@ -1,4 +1,4 @@
--- What is found once of a trace, for the states of all its sets.
+-- What is computed once from a trace, for the states of all its sets.
 use Rattle.std.specs.Prelude.{◌≡◌, ◌≢◌, ◌<◌, ◌≤◌, ℕ, ◌+◌, ◌*◌, ◌++◌, Bool, List, [], Some, None}
 use Rattle.std.specs.Prelude.{length, map, slice_get, slice_index_or}
 use Rattle.std.specs.List.{All, Contains, list_any}
@@ -18,9 +18,9 @@ use Rattle.cs_apm.specs.declared.tables.Tables.{Tables}
 use Rattle.cs_apm.specs.declared.slot.Slot.{Slot}
 use Rattle.cs_apm.specs.declared.slot.Step.{Step}
 
--- every path that ever stands, in order; what stands there at the start; what each micro-operation
--- does there; owner, group and permissions of the directories, and of the files as they are made;
--- where the record of each of the start's files stands; which files' bytes an operation changes
+-- every path that ever exists, in order; what is there at the start; what each micro-operation does
+-- there; owner, group and permissions of the directories, and of the files as they are made; the
+-- place of the record of each of the start's files; which files' size or bytes an operation changes
 pub record Atlas : Type 0 where
   pub paths : List Path
   pub slots : List Slot
@@ -81,16 +81,16 @@ pub record IsAtlas (t : Trace) (ops : List MicroOp) (a : Atlas) : Type 0 where
 
 -- the files after the members of a set
 unfoldable pub files_left : Trace → List MicroOp → List ℕ → List Content
-files_left t ops places = (state_of (start_state t) ops places).files
+files_left trace ops places = (state_of (start_state trace) ops places).files
 
 -- owner, group and permissions of the files after them
 unfoldable pub owners_left : Trace → List MicroOp → List ℕ → List Rights
-owners_left t ops places = (state_of (start_state t) ops places).owners
+owners_left trace ops places = (state_of (start_state trace) ops places).owners
 
 -- the file of the number at the start, or as it is made
 abbrev pub content_before : Trace → List MicroOp → ℕ → Content
-content_before t ops n =
-    slice_index_or (map (content_at t.records) t.files ++ empty_files ops) n no_content
+content_before trace ops n =
+    slice_index_or (map (content_at trace.records) trace.files ++ empty_files ops) n no_content
 
 -- the tables as an atlas
 abbrev pub atlas_in : Tables → Atlas

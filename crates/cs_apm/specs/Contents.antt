@@ -15,16 +15,17 @@ changes_file n _ = false
 
 -- what it does to a file, if it is the file's
 abbrev pub content_after_op : Content → MicroOp → Content
-content_after_op f (ChangeFileSize file size) = content_with_size size f
-content_after_op f (WriteBlock file block start at bytes) = overwritten (start + at) bytes f
-content_after_op f _ = f
+content_after_op content (ChangeFileSize file size) = content_with_size size content
+content_after_op content (WriteBlock file block start at bytes) =
+    overwritten (start + at) bytes content
+content_after_op content _ = content
 
 abbrev pub content_after : ℕ → Content → MicroOp → Content
-content_after n f o = if changes_file n o then content_after_op f o else f
+content_after n content op = if changes_file n op then content_after_op content op else content
 
 -- the file of the number after the members of a set
 unfoldable pub content_left : ℕ → Content → List MicroOp → List ℕ → Content
-content_left n f ops places = fold (content_after n) f (map (op_at ops) places)
+content_left n content ops places = fold (content_after n) content (map (op_at ops) places)
 
 -- a block's bytes lie within the largest file
 abbrev pub IsSmall : MicroOp → Type 0

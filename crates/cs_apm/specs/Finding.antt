@@ -1,4 +1,4 @@
--- What is found once for the rows of an order; for private clauses.
+-- What is computed once for the rows of an order; for private clauses.
 use Rattle.std.specs.Prelude.{◌≡◌, ℕ, ◌||◌, ◌==◌, Bool, true, false, List, Option, None, Some}
 use Rattle.std.specs.Prelude.{length, nat_le, nat_lt, slice_get}
 use Rattle.cs_micro.specs.declared.micro_op.MicroOp.{MicroOp}
@@ -11,7 +11,7 @@ abbrev pub is_at : Option ℕ → ℕ → Bool
 is_at None i = false
 is_at (Some k) i = k == i
 
--- a place that was found is not behind j
+-- a place was found, and is at j or before it
 abbrev pub is_by : Option ℕ → ℕ → Bool
 is_by None j = false
 is_by (Some at) j = nat_le at j
@@ -24,7 +24,7 @@ is_before place (Some at) = nat_lt place at
 abbrev pub is_maker : Makers → ℕ → Bool
 is_maker makers i = is_at makers.first i || is_at makers.second i
 
--- for each of the first n micro-operations the first sync behind it that covers it
+-- for each of the first n micro-operations the first sync after it that covers it
 pub record AreSynced (ops : List MicroOp) (syncs : List SyncPoint) (n : ℕ)
     (found : List (Option ℕ)) : Type 0 where
   pub long : length found ≡ n

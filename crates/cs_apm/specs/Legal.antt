@@ -10,7 +10,7 @@ use Rattle.cs_apm.specs.Rules.{creates, op_at, touches}
 
 -- the micro-operation is legal if these nodes exist, for some block size and some count of files
 abbrev pub IsLegalThere : Paths → MicroOp → Type 0
-IsLegalThere m o = (size : ℕ) × (made : ℕ) × IsLegal size m made o
+IsLegalThere m op = (size : ℕ) × (made : ℕ) × IsLegal size m made op
 
 -- the nodes after those of the first k operations that the set has
 abbrev pub nodes_of : (ℕ → Bool) → Paths → List MicroOp → ℕ → Paths

@@ -16,16 +16,16 @@ HasFirst paths records n = (k : ℕ) → k < n → Contains paths (slice_index_o
 
 -- the paths that a micro-operation names are among these
 abbrev pub HasNamed : List Path → MicroOp → Type 0
-HasNamed paths o = (p : Path) → Contains (paths_named o) p → Contains paths p
+HasNamed paths op = (p : Path) → Contains (paths_named op) p → Contains paths p
 
 abbrev pub HasAllNamed : List Path → List MicroOp → ℕ → Type 0
 HasAllNamed paths ops n = (k : ℕ) → k < n → HasNamed paths (op_at ops k)
 
 -- the path is that of a record, or one of the first n micro-operations names it
 abbrev pub IsKnownPath : List (Path × Record) → List MicroOp → ℕ → Path → Type 0
-IsKnownPath records ops n p =
-    ((k : ℕ) × (k < length records) × ((slice_index_or records k no_record).0 ≡ p))
-    ⊎ ((k : ℕ) × (k < n) × Contains (paths_named (op_at ops k)) p)
+IsKnownPath records ops n path =
+    ((k : ℕ) × (k < length records) × ((slice_index_or records k no_record).0 ≡ path))
+    ⊎ ((k : ℕ) × (k < n) × Contains (paths_named (op_at ops k)) path)
 
 abbrev pub node_at : List Node → ℕ → Node
 node_at ns i = slice_index_or ns i nodes.Directory

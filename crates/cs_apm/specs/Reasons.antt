@@ -22,7 +22,7 @@ use Rattle.cs_apm.specs.Rules.{op_at, paths_touched}
 
 -- it touches the path
 abbrev pub Touches : MicroOp → Path → Type 0
-Touches o p = Contains (paths_touched o) p
+Touches op path = Contains (paths_touched op) path
 
 -- it touches an entry of the directory
 pub record TouchesEntryOf (o : MicroOp) (d : Path) : Type 0 where
@@ -32,21 +32,21 @@ pub record TouchesEntryOf (o : MicroOp) (d : Path) : Type 0 where
 
 -- it makes the entry at the path
 abbrev pub Creates : MicroOp → Path → Type 0
-Creates o p = (node : Node) × (rights : Rights) × (o ≡ CreateDirEntry p node rights)
+Creates op path = (node : Node) × (rights : Rights) × (op ≡ CreateDirEntry path node rights)
 
 -- it makes the file of the number
 abbrev pub CreatesFile : MicroOp → ℕ → Type 0
-CreatesFile o file =
-    (path : Path) × (rights : Rights) × (o ≡ CreateDirEntry path (nodes.File file) rights)
+CreatesFile op file =
+    (path : Path) × (rights : Rights) × (op ≡ CreateDirEntry path (nodes.File file) rights)
 
 -- it links the file of the number
 abbrev pub LinksFile : MicroOp → ℕ → Type 0
-LinksFile o file = (path : Path) × (o ≡ LinkDirEntry path file)
+LinksFile op file = (path : Path) × (op ≡ LinkDirEntry path file)
 
 -- it writes into the block of the file
 abbrev pub WritesBlock : MicroOp → ℕ → ℕ → Type 0
-WritesBlock o file block =
-    (start : ℕ) × (at : ℕ) × (bytes : List ℕ) × (o ≡ WriteBlock file block start at bytes)
+WritesBlock op file block =
+    (start : ℕ) × (at : ℕ) × (bytes : List ℕ) × (op ≡ WriteBlock file block start at bytes)
 
 -- it writes into a block of the file, and its bytes all lie in the range of so many from the offset
 -- on
@@ -61,19 +61,19 @@ pub record WritesWithin (o : MicroOp) (file offset count : ℕ) : Type 0 where
 
 -- it changes the size of the file
 abbrev pub ChangesSize : MicroOp → ℕ → Type 0
-ChangesSize o file = (size : ℕ) × (o ≡ ChangeFileSize file size)
+ChangesSize op file = (size : ℕ) × (op ≡ ChangeFileSize file size)
 
 -- it sets owner, group and permissions of the file
 abbrev pub SetsFile : MicroOp → ℕ → Type 0
-SetsFile o file = (rights : Rights) × (o ≡ SetAttr (targets.File file) rights)
+SetsFile op file = (rights : Rights) × (op ≡ SetAttr (targets.File file) rights)
 
 -- it sets those of the directory
 abbrev pub SetsDirectory : MicroOp → Path → Type 0
-SetsDirectory o d = (rights : Rights) × (o ≡ SetAttr (targets.Directory d) rights)
+SetsDirectory op directory = (rights : Rights) × (op ≡ SetAttr (targets.Directory directory) rights)
 
 -- it touches the path, or sets those of the directory there
 abbrev pub Names : MicroOp → Path → Type 0
-Names o p = Touches o p ⊎ SetsDirectory o p
+Names op path = Touches op path ⊎ SetsDirectory op path
 
 -- it makes, deletes, moves or links an entry
 abbrev pub IsEntryOperation : MicroOp → Type 0
@@ -92,11 +92,13 @@ pub record IsLatestCreate (ops : List MicroOp) (i j : ℕ) (p : Path) : Type 0 w
 -- its owner, group and permissions; one of a range of it its sizes, and what writes only bytes of
 -- the range; and one of a directory what touches an entry of it and what sets its own
 abbrev pub IsCovered : Covers → MicroOp → Type 0
-IsCovered covers.All o = Unit {0}
-IsCovered (covers.File file) o =
-    (((block : ℕ) × WritesBlock o file block) ⊎ ChangesSize o file) ⊎ SetsFile o file
-IsCovered (covers.Range file offset count) o = WritesWithin o file offset count ⊎ ChangesSize o file
-IsCovered (covers.Directory d) o = TouchesEntryOf o d ⊎ SetsDirectory o d
+IsCovered covers.All op = Unit {0}
+IsCovered (covers.File file) op =
+    (((block : ℕ) × WritesBlock op file block) ⊎ ChangesSize op file) ⊎ SetsFile op file
+IsCovered (covers.Range file offset count) op =
+    WritesWithin op file offset count ⊎ ChangesSize op file
+IsCovered (covers.Directory directory) op =
+    TouchesEntryOf op directory ⊎ SetsDirectory op directory
 
 -- a sync between i and j covers i
 pub record IsSyncedBetween (ops : List MicroOp) (syncs : List SyncPoint) (i j : ℕ) : Type 0 where

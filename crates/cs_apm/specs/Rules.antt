@@ -33,30 +33,30 @@ paths_touched (LinkDirEntry p file) = p ∷ []
 paths_touched _ = []
 
 abbrev pub touches : MicroOp → Path → Bool
-touches o q = list_any (λ p. path_eq p q) (paths_touched o)
+touches op path = list_any (λ p. path_eq p path) (paths_touched op)
 
 -- the paths that it names: those that it touches, and that of the directory whose owner, group and
 -- permissions it sets
 abbrev pub paths_named : MicroOp → List Path
 paths_named (SetAttr (targets.Directory p) rights) = p ∷ []
-paths_named o = paths_touched o
+paths_named op = paths_touched op
 
 abbrev pub names : MicroOp → Path → Bool
-names o q = list_any (λ p. path_eq p q) (paths_named o)
+names op path = list_any (λ p. path_eq p path) (paths_named op)
 
 -- it touches an entry of the directory
 abbrev pub touches_entry_of : MicroOp → Path → Bool
-touches_entry_of o d = list_any (λ p. path_eq d (parent_path p)) (paths_touched o)
+touches_entry_of op directory = list_any (λ p. path_eq directory (parent_path p)) (paths_touched op)
 
 -- it makes the entry
 abbrev pub creates : MicroOp → Path → Bool
-creates (CreateDirEntry p node rights) q = path_eq p q
-creates _ q = false
+creates (CreateDirEntry p node rights) path = path_eq p path
+creates _ path = false
 
 -- it sets owner, group and permissions of the directory
 abbrev pub sets_directory : MicroOp → Path → Bool
-sets_directory (SetAttr (targets.Directory p) rights) d = path_eq p d
-sets_directory _ d = false
+sets_directory (SetAttr (targets.Directory p) rights) directory = path_eq p directory
+sets_directory _ directory = false
 
 -- it makes, deletes, moves or links an entry
 abbrev pub is_entry_operation : MicroOp → Bool
@@ -148,7 +148,7 @@ abbrev pub creates_linked : MicroOp → MicroOp → Bool
 creates_linked (CreateDirEntry p (nodes.File file) rights) (LinkDirEntry q other) = file == other
 creates_linked _ _ = false
 
--- the rules of all versions that look at the two alone
+-- the rules of all versions that look at these two only
 abbrev pub common_pair_needs : Profile → MicroOp → MicroOp → Bool
 common_pair_needs profile a b =
     same_block_or_size a b || shares_path a b || touches_deleted_directory a b || both_say a b

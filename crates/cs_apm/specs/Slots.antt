@@ -1,4 +1,4 @@
--- The paths of a state as slots: one for each path that ever stands, in the order of paths.
+-- The paths of a state as slots: one for each path that ever exists, in the order of paths.
 use Rattle.std.specs.Prelude.{◌≡◌, ◌<◌, ◌≤◌, ℕ, cond, List, [], ◌∷◌, Option, None, Some, length}
 use Rattle.std.specs.Prelude.{slice_set, slice_index_or}
 use Rattle.std.specs.FinMap.{get, from_sorted}
@@ -27,12 +27,12 @@ slot_at slots i = slice_index_or slots i Nothing
 abbrev pub step_at : List Step → ℕ → Step
 step_at steps i = slice_index_or steps i Other
 
--- what stands in slot i comes to slot j
+-- what is in slot i moves to slot j
 abbrev pub moved_slot : ℕ → ℕ → List Slot → Slot → List Slot
 moved_slot i j slots Nothing = slots
 moved_slot i j slots s = slice_set (slice_set slots i Nothing) j s
 
--- where a directory stands in slot i, it has the k-th rights
+-- if a directory is in slot i, it has the k-th rights
 abbrev pub owned_slot : ℕ → ℕ → List Slot → Slot → List Slot
 owned_slot i k slots (Directory old) = slice_set slots i (Directory k)
 owned_slot i k slots _ = slots
@@ -54,8 +54,8 @@ FitsIn n Other = Unit {0}
 
 -- strictly ascending paths
 abbrev pub AreAbove : Path → List Path → Type 0
-AreAbove p [] = Unit {0}
-AreAbove p (q ∷ qs) = (path_cmp p q ≡ Less) × AreAbove p qs
+AreAbove path [] = Unit {0}
+AreAbove path (q ∷ qs) = (path_cmp path q ≡ Less) × AreAbove path qs
 
 abbrev pub AreAscending : List Path → Type 0
 AreAscending [] = Unit {0}
@@ -74,16 +74,16 @@ entry_of rights (File n) = Some (states.File n)
 
 -- what the slots have at a path
 abbrev pub slot_entry : List Rights → List Path → List Slot → Path → Option Entry
-slot_entry rights [] slots p = None
-slot_entry rights (q ∷ qs) [] p = None
-slot_entry rights (q ∷ qs) (s ∷ ss) p =
-    cond (path_eq q p) (entry_of rights s) (slot_entry rights qs ss p)
+slot_entry rights [] slots path = None
+slot_entry rights (q ∷ qs) [] path = None
+slot_entry rights (q ∷ qs) (s ∷ ss) path =
+    cond (path_eq q path) (entry_of rights s) (slot_entry rights qs ss path)
 
--- the slots have what stands at each path, and nothing stands elsewhere
+-- the slots have what is at each path, and there is nothing elsewhere
 abbrev pub Mirror : List Rights → List Path → List Slot → Entries → Type 0
 Mirror rights paths slots m = (p : Path) → get m p ≡ slot_entry rights paths slots p
 
--- the paths at which something stands, in order
+-- the paths at which there is something, in order
 abbrev pub entries_in_slots : List Rights → List Path → List Slot → List (Path × Entry)
 entries_in_slots rights [] slots = []
 entries_in_slots rights (p ∷ ps) [] = []
@@ -98,7 +98,7 @@ entries_of_slots rights paths slots = from_sorted (entries_in_slots rights paths
 -- ---- steps
 
 abbrev pub IsPlace : List Path → ℕ → Path → Type 0
-IsPlace paths i p = (i < length paths) × (path_at paths i ≡ p)
+IsPlace paths i path = (i < length paths) × (path_at paths i ≡ path)
 
 -- the step does to the slots what the micro-operation does to the paths
 abbrev pub IsStep : List Rights → List Path → MicroOp → Step → Type 0
@@ -145,7 +145,7 @@ AreKnownSteps n rights files steps = (k : ℕ) → IsKnownStep n rights files (s
 
 -- ---- as the table of rights grows
 
--- what stood in the table stands there
+-- what was in the table is in it, at the same places
 pub record Grows (old new : List Rights) : Type 0 where
   pub long : length old ≤ length new
   pub same : (k : ℕ) → k < length old → rights_at new k ≡ rights_at old k

@@ -24,7 +24,7 @@ use Rattle.cs_micro.specs.declared.micro_op.MicroOp.TheVariants.{SetAttr}
 use Rattle.cs_micro.specs.Micros.{Micros}
 use Rattle.cs_apm.specs.Rules.{op_at}
 
--- what stands at a path: a directory with its owner, group and permissions, or a file by its number
+-- what is at a path: a directory with its owner, group and permissions, or a file by its number
 pub data Entry : Type 0 where
   Directory : Rights → Entry
   File : ℕ → Entry
@@ -43,7 +43,7 @@ content_code =
     code_by (ℕ × List ℕ) (coded× coded_ℕ (coded_list coded_ℕ)) (λ c. (c.size, c.bytes))
     (λ p. record { size = p.0; bytes = p.1 }) (λ _. refl)
 
--- what stands at each path, and of the files by their numbers what is in them, and owner, group and
+-- what is at each path, and of the files by their numbers what is in them, and owner, group and
 -- permissions
 pub record State : Type 0 where
   pub paths : Entries
@@ -52,7 +52,7 @@ pub record State : Type 0 where
 
 -- ---- one operation
 
--- what stands at p comes to q
+-- what is at p moves to q
 abbrev pub with_entry_moved : {X : Type 0} → Path → Path → FinMap path_cmp X → FinMap path_cmp X
 with_entry_moved p q m = option_map_or (λ e. insert (remove m p) q e) (get m p) m
 
@@ -61,10 +61,10 @@ abbrev pub entry_made : Node → Rights → Entry
 entry_made nodes.Directory rights = Directory rights
 entry_made (nodes.File file) rights = File file
 
--- what stands at p has these rights, if it is a directory
+-- what is at the path has these rights, if it is a directory
 abbrev pub with_rights_at : Entries → Path → Rights → Option Entry → Entries
-with_rights_at m p rights (Some (Directory old)) = insert m p (Directory rights)
-with_rights_at m p rights _ = m
+with_rights_at m path rights (Some (Directory old)) = insert m path (Directory rights)
+with_rights_at m path rights _ = m
 
 abbrev pub entries_after : Entries → MicroOp → Entries
 entries_after m (CreateDirEntry p node rights) = insert m p (entry_made node rights)
@@ -79,11 +79,11 @@ abbrev pub content_with_size : ℕ → Content → Content
 content_with_size size f =
     record f { size = size; bytes = (if nat_lt size f.size then take size f.bytes else f.bytes) }
 
--- zeros up to an end, where the bytes end before it
+-- zeros up to an end, if the bytes end before it
 abbrev pub padded : ℕ → List ℕ → List ℕ
 padded end old = old ++ replicate (end - length old) 0
 
--- others put over the bytes from an offset on
+-- others over the bytes from an offset on
 abbrev pub bytes_over : ℕ → List ℕ → List ℕ → List ℕ
 bytes_over at new old = take at old ++ (new ++ drop (at + length new) old)
 
@@ -92,7 +92,7 @@ abbrev pub padded_bytes_over : ℕ → List ℕ → List ℕ → List ℕ
 padded_bytes_over at new old = bytes_over at new (padded (at + length new) old)
 
 abbrev pub overwritten : ℕ → List ℕ → Content → Content
-overwritten at new f = record f { bytes = padded_bytes_over at new f.bytes }
+overwritten at new content = record content { bytes = padded_bytes_over at new content.bytes }
 
 -- a file without a byte
 abbrev pub no_content : Content
@@ -112,10 +112,10 @@ owners_after owners (SetAttr (targets.File file) rights) = slice_set owners file
 owners_after owners _ = owners
 
 abbrev pub state_after : State → MicroOp → State
-state_after s o = record {
-  paths = entries_after s.paths o;
-  files = files_after s.files o;
-  owners = owners_after s.owners o;
+state_after state op = record {
+  paths = entries_after state.paths op;
+  files = files_after state.files op;
+  owners = owners_after state.owners op;
 }
 
 -- ---- the state of a set
@@ -155,7 +155,7 @@ rights_of r = record { owner = r.owner; group = r.group; permissions = permissio
 abbrev pub start_entry : Node → Record → Entry
 start_entry node r = entry_made node (rights_of r)
 
--- what stands at each path at the start
+-- what is at each path at the start
 abbrev pub start_entries : List (Path × Record) → List Node → Entries
 start_entries records nodes =
     from_entries (map (λ x. (x.0.0, start_entry x.1 x.0.1)) (zip records nodes))
@@ -171,28 +171,28 @@ content_of r = record { size = length (bytes_of r); bytes = bytes_of r }
 
 -- the content of the file at a path of the start, and its owner, group and permissions
 abbrev pub content_at : List (Path × Record) → Path → Content
-content_at records p = option_map_or content_of (record_in records p) no_content
+content_at records path = option_map_or content_of (record_in records path) no_content
 
 abbrev pub owner_at : List (Path × Record) → Path → Rights
-owner_at records p = option_map_or rights_of (record_in records p) no_rights
+owner_at records path = option_map_or rights_of (record_in records path) no_rights
 
 -- owner, group and permissions of each file by its number as it is made: those of the start, and
 -- those that are made
 abbrev pub owners_of : Trace → List MicroOp → List Rights
-owners_of t ops = map (owner_at t.records) t.files ++ owners_made ops
+owners_of trace ops = map (owner_at trace.records) trace.files ++ owners_made ops
 
 abbrev pub start_state : Trace → State
-start_state t = record {
-  paths = start_entries t.records t.nodes;
-  files = map (content_at t.records) t.files;
-  owners = map (owner_at t.records) t.files;
+start_state trace = record {
+  paths = start_entries trace.records trace.nodes;
+  files = map (content_at trace.records) trace.files;
+  owners = map (owner_at trace.records) trace.files;
 }
 
 -- ---- read as a tree
 
 -- the bytes up to the size
 abbrev pub visible : Content → List ℕ
-visible f = take f.size (f.bytes ++ replicate f.size 0)
+visible content = take content.size (content.bytes ++ replicate content.size 0)
 
 abbrev pub record_with : Rights → ℕ → Option (List ℕ) → Record
 record_with rights bit content = record {
@@ -218,8 +218,8 @@ records_of s = map_values (record_of s.owners s.files) s.paths
 
 -- with fresh numbers, in the order of paths
 abbrev pub tree_of_state : State → Tree
-tree_of_state s = fresh (records_of s)
+tree_of_state state = fresh (records_of state)
 
 -- the tree that a crash leaves of a trace, of which the set reached the disk
 abbrev pub crash_state_of : Trace → Micros → List ℕ → Tree
-crash_state_of t micros places = tree_of_state (state_of (start_state t) micros.ops places)
+crash_state_of trace micros places = tree_of_state (state_of (start_state trace) micros.ops places)

@@ -1,4 +1,4 @@
-//! What is in a file of a crash state: its size, and its bytes with those that are hidden past it.
+//! The content of a file of a crash state: its size, and its bytes. Bytes past the size are hidden.
 ghost use Rattle.std.specs.Prelude.{◌≡◌, ℕ, ◌+◌, ◌<◌, ◌≤◌, List, length, OnOk, IfOk};
 ghost use Rattle.std.specs.List.{All};
 ghost use Rattle.cs_apm.specs.Contents.{IsSmall, content_after_op, changes_file, content_after};
@@ -10,8 +10,8 @@ use cs_names::limits::FILE_BYTES;
 use std::alloc::AllocError;
 use std::marker::Model;
 
-/// What is in a file. Contracts see its size, and its bytes from the first on; those past the size
-/// are hidden.
+/// The content of a file. Contracts see its size, and its bytes from the first on; those past the
+/// size are hidden.
 #[derive(Debug, Drop)]
 pub struct FileContent {
     size: u64,
@@ -29,7 +29,7 @@ impl Model for FileContent {
 }
 
 impl FileContent {
-    /// These bytes, none of them hidden.
+    /// A content of these bytes, none of them hidden.
     pub fn of(bytes: Vec<u8>) -> FileContent
         ensures { result ≡ record { size = length bytes.items; bytes = bytes.items } }
     {
@@ -39,7 +39,7 @@ impl FileContent {
         }
     }
 
-    /// Changes the size. A size that shrinks drops every byte past it, hidden ones too.
+    /// Changes the size. A smaller size drops every byte past it, hidden ones too.
     fn resize(&mut self, size: u64)
         ensures { self.new ≡ content_with_size size self.old }
     {
@@ -49,7 +49,7 @@ impl FileContent {
         self.size = size;
     }
 
-    /// Places bytes at an offset, whatever the size. Bytes that nothing wrote are zero.
+    /// Places bytes at an offset and leaves the size; bytes between that nothing wrote are zero.
     fn overwrite(&mut self, at: usize, piece: &[u8]) -> Result<(), AllocError>
         requires { at + length piece.now ≤ FILE_BYTES }
         ensures { OnOk result (self.new ≡ overwritten at piece.now self.old) }
@@ -59,8 +59,9 @@ impl FileContent {
         Ok(())
     }
 
-    /// What the micro-operation does to the file, if it is the file's.
-    fn change(&mut self, op: &MicroOp) -> Result<(), AllocError>
+    /// Applies a change of size or a write to this content, whichever file it names; any other
+    /// micro-operation changes nothing.
+    fn apply(&mut self, op: &MicroOp) -> Result<(), AllocError>
         requires { IsSmall op.now }
         ensures { OnOk result (self.new ≡ content_after_op self.old op.now) }
     {
@@ -77,8 +78,13 @@ impl FileContent {
         Ok(())
     }
 
-    /// Takes the members of a set that change the file of this number, in their order.
-    pub fn take(&mut self, file: u32, ops: &[MicroOp], places: &[u32]) -> Result<(), AllocError>
+    /// Applies those members of a set that change the file of this number, in their order.
+    pub fn apply_members(
+        &mut self,
+        file: u32,
+        ops: &[MicroOp],
+        places: &[u32],
+    ) -> Result<(), AllocError>
         requires small { All IsSmall ops.now }
         requires inside { All (λ place. place < length ops.now) places.now }
         ensures { OnOk result (self.new ≡ content_left file self.old ops.now places.now) }
@@ -86,13 +92,13 @@ impl FileContent {
         for place in places {
             let op = &ops[*place as usize];
             if changes_file(file, op) {
-                self.change(op)?;
+                self.apply(op)?;
             }
         }
         Ok(())
     }
 
-    /// The bytes up to the size; those that nothing wrote are zero.
+    /// The bytes up to the size. Those that nothing wrote are zero.
     pub fn into_visible(self) -> Result<Vec<u8>, AllocError>
         ensures { IfOk result (λ bytes. bytes.items ≡ visible self) }
     {
@@ -103,7 +109,7 @@ impl FileContent {
     }
 }
 
-/// Fills the bytes up with zeros, where they end before the end.
+/// Appends zeros up to the end, if the bytes are fewer.
 fn pad(bytes: &mut Vec<u8>, end: usize) -> Result<(), AllocError>
     ensures { OnOk result (bytes.new.items ≡ padded end bytes.old.items) }
 {
@@ -113,7 +119,7 @@ fn pad(bytes: &mut Vec<u8>, end: usize) -> Result<(), AllocError>
     Ok(())
 }
 
-/// Puts the piece over the bytes from an offset on.
+/// Overwrites the bytes from an offset on by the piece.
 pub fn put_at(bytes: &mut [u8], at: usize, piece: &[u8])
     requires { at + length piece.now ≤ length bytes.old }
     ensures { bytes.new ≡ bytes_over at piece.now bytes.old }
@@ -121,7 +127,7 @@ pub fn put_at(bytes: &mut [u8], at: usize, piece: &[u8])
     bytes[at..at + piece.len()].copy_from_slice(piece);
 }
 
-/// Whether the micro-operation changes the file of the number.
+/// Whether the micro-operation changes the size or the bytes of the file of this number.
 pub fn changes_file(file: u32, op: &MicroOp) -> bool
     ensures { result ≡ changes_file file op.now }
 {

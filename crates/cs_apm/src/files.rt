@@ -11,7 +11,7 @@ use cs_trace::Trace;
 use cs_tree_model::Record;
 use std::alloc::{AllocError, Global};
 
-/// A copy of the file's bytes.
+/// A copy of the record's bytes; none if it is a directory's.
 fn bytes_of(alloc: Global, file: &Record) -> Result<Vec<u8>, AllocError>
     ensures { IfOk result (λ bytes. bytes.items ≡ bytes_of file.now) }
 {
@@ -21,7 +21,9 @@ fn bytes_of(alloc: Global, file: &Record) -> Result<Vec<u8>, AllocError>
     }
 }
 
-/// The file of the number before any operation: at the start, or without a byte as it is made.
+/// The content of the file before any operation: that at the start, or no byte if an operation
+/// makes the file. `_ops` is for the contract only: it speaks of all files, those that `ops` makes
+/// too.
 fn file_before(
     alloc: Global,
     trace: &Trace,
@@ -40,7 +42,7 @@ fn file_before(
     Ok(FileContent::of(bytes))
 }
 
-/// What a set leaves of the file of the number. A file that no operation changes is copied once.
+/// The content of the file after a set's members. A file that no operation changes is only copied.
 fn file_left(
     alloc: Global,
     trace: &Trace,
@@ -60,12 +62,12 @@ fn file_left(
 {
     let mut content = file_before(alloc, trace, ops, starts, file)?;
     if changed[file as usize] {
-        content.take(file, ops, places)?;
+        content.apply_members(file, ops, places)?;
     }
     Ok(content)
 }
 
-/// The bytes that a set leaves of the file of the number.
+/// The bytes of the file after a set's members.
 pub fn bytes_left(
     alloc: Global,
     trace: &Trace,

@@ -6,8 +6,8 @@ ghost use Rattle.cs_apm.specs.Making.{with_file_marked};
 use cs_micro::MicroOp;
 use std::alloc::{AllocError, Global};
 
-/// Sets the flag of the file that the operation changes, if it changes one.
-fn mark(changed: &mut [bool], op: &MicroOp)
+/// Sets the flag of the file whose size or bytes the operation changes, if there is such a flag.
+fn mark_changed(changed: &mut [bool], op: &MicroOp)
     ensures { changed.new ≡ with_file_marked changed.old op.now }
 {
     if let MicroOp::ChangeFileSize { file, .. } | MicroOp::WriteBlock { file, .. } = op {
@@ -17,13 +17,13 @@ fn mark(changed: &mut [bool], op: &MicroOp)
     }
 }
 
-/// A flag for each of the first so many files: whether an operation changes it.
+/// A flag for each of the first `count` files: whether an operation changes its size or bytes.
 pub fn changed_by(alloc: Global, ops: &[MicroOp], count: usize) -> Result<Vec<bool>, AllocError>
     ensures { IfOk result (λ changed. AreChanged ops.now count changed.items) }
 {
     let mut changed = vec![in alloc; false; count]?;
     for op in ops {
-        mark(&mut changed, op);
+        mark_changed(&mut changed, op);
     }
     Ok(changed)
 }

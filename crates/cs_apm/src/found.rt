@@ -1,5 +1,5 @@
 //! What is found once for each micro-operation: the latest creates of the directories of the paths
-//! that it names, and the first sync behind it that covers it.
+//! that it names, and the first sync after it that covers it.
 ghost use Rattle.std.specs.Prelude.{◌≡◌, ◌<◌, ◌≤◌, ℕ, length, IfOk};
 ghost use Rattle.cs_tree_model.specs.Tree.{parent_path};
 ghost use Rattle.cs_apm.specs.Finding.{AreSynced, is_at, is_before, is_by, is_maker};
@@ -11,15 +11,15 @@ use cs_names::Path;
 use cs_trace::Target;
 use std::alloc::{AllocError, Global};
 
-/// The latest creates of the parent directories of the paths that a micro-operation names, of which
-/// there are two at most.
+/// The latest creates of the parent directories of the paths that a micro-operation names. There
+/// are at most two.
 #[derive(Clone, Copy, Debug)]
 pub struct Makers {
     first: Option<usize>,
     second: Option<usize>,
 }
 
-/// The latest create of the path's directory before j.
+/// The place of the latest create, before j, of the path's parent directory.
 fn latest_create(ops: &[MicroOp], j: usize, path: &Path) -> Option<usize>
     requires { j ≤ length ops.now }
     ensures { (i : ℕ) → i < j
@@ -35,7 +35,7 @@ fn latest_create(ops: &[MicroOp], j: usize, path: &Path) -> Option<usize>
 }
 
 impl Makers {
-    /// Those of the micro-operation j.
+    /// The latest creates for the paths that micro-operation j names.
     pub fn of(ops: &[MicroOp], j: usize) -> Makers
         requires { j < length ops.now }
         ensures { (i : ℕ) → i < j → is_maker result i ≡ rules.makes_parent ops.now i j }
@@ -56,7 +56,7 @@ impl Makers {
         Makers { first, second }
     }
 
-    /// Whether the micro-operation is one of them.
+    /// Whether the micro-operation at this place is one of them.
     pub fn has(&self, place: usize) -> bool
         ensures { result ≡ is_maker self.now place }
     {
@@ -64,7 +64,7 @@ impl Makers {
     }
 }
 
-/// Whether it is the place that was found.
+/// Whether a place was found, and is this one.
 fn is_at(found: Option<usize>, place: usize) -> bool
     ensures { result ≡ is_at found place }
 {
@@ -74,7 +74,8 @@ fn is_at(found: Option<usize>, place: usize) -> bool
     }
 }
 
-/// How many micro-operations come before the first sync point behind i that covers it.
+/// How many micro-operations come before the first sync point that is after i and covers `op`,
+/// which is at place i. None if no sync point does.
 fn first_sync(syncs: &[SyncPoint], i: usize, op: &MicroOp) -> Option<usize>
     ensures { (j : ℕ) → is_by result j ≡ rules.is_synced syncs.now i j op.now }
 {
@@ -87,7 +88,7 @@ fn first_sync(syncs: &[SyncPoint], i: usize, op: &MicroOp) -> Option<usize>
     first
 }
 
-/// Whether the place is before the one that was found, if one was.
+/// Whether the place is before the one that was found, or none was.
 fn is_before(place: usize, found: Option<usize>) -> bool
     ensures { result ≡ is_before place found }
 {
@@ -97,7 +98,7 @@ fn is_before(place: usize, found: Option<usize>) -> bool
     }
 }
 
-/// Whether the place that was found is not behind j.
+/// Whether a place was found, and is at j or before it.
 pub fn is_by(found: Option<usize>, j: usize) -> bool
     ensures { result ≡ is_by found j }
 {
@@ -107,7 +108,8 @@ pub fn is_by(found: Option<usize>, j: usize) -> bool
     }
 }
 
-/// For each micro-operation how many come before the first sync point behind it that covers it.
+/// For each micro-operation, how many come before the first sync point that is after it and covers
+/// it. None if no sync point does.
 pub fn first_syncs(
     alloc: Global,
     ops: &[MicroOp],

@@ -18,8 +18,8 @@ use cs_micro::Micros;
 use cs_names::laws::know;
 use cs_trace::Trace;
 
-/// The tests of the rules are the rules as sentences, and the order of a trace says what they say.
-/// What a micro-operation needs lies before it.
+/// The tests of the rules say the same as the rules as sentences, and as the order of a trace. What
+/// a micro-operation needs is before it.
 pub fn rules_are_sentences(micros: &Micros)
     ensures sentences { (i j : ℕ) → (needs_of micros.now i j ≡ true)
         ↔ Needs micros.now.ops micros.now.syncs micros.now.version i j }
@@ -41,7 +41,7 @@ pub fn earlier_versions_keep_their_rules(micros: &Micros)
         ≡ common_needs micros.now.ops micros.now.syncs (profile_of micros.now.version) i j }
 {}
 
-/// A micro-operation needs another by any chain exactly where there is a chain from the one to the
+/// A micro-operation needs another by any chain exactly if there is a chain from the one to the
 /// other, of which each needs the one before it.
 pub fn chains_are_chains(order: &Order)
     ensures { (i j : ℕ) → (by_chain (needs_in order.now) i j ≡ true)

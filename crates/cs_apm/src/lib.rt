@@ -1,5 +1,5 @@
-//! What a crash may leave of a trace: which micro-operation needs which, and which sets have all
-//! that their members need, and what each of these sets leaves.
+//! What a crash may leave of a trace: which micro-operation needs which, which sets have all that
+//! their members need, and what each of these sets leaves.
 #![tactic(auto)]
 
 pub mod content;

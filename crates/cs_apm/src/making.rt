@@ -1,4 +1,4 @@
-//! The store of a state, made once from what stands in its slots.
+//! The store of a state, made once from what is in its slots.
 ghost use Rattle.std.specs.Prelude.{◌≡◌, ◌<◌, ◌≤◌, length, map, IfOk};
 ghost use Rattle.std.specs.List.{All};
 ghost use Rattle.std.specs.Option.{option_map};
@@ -22,7 +22,8 @@ use cs_tree::PlainTree;
 use cs_tree_model::{Content, DMDIR, Record};
 use std::alloc::{AllocError, Global};
 
-/// A record that was never changed: its owner is the last who changed it.
+/// A record that was never changed: version and times are 0, and the owner is also the user who
+/// changed it last. `bit` is DMDIR for a directory, 0 for a file.
 fn record_with(
     number: u64,
     rights: &Rights,
@@ -46,7 +47,7 @@ fn record_with(
     })
 }
 
-/// The record of what stands in a slot, if something does.
+/// The record of what is in a slot. None if the slot is empty.
 fn record_at(
     alloc: Global,
     number: u64,
@@ -91,7 +92,7 @@ fn record_at(
     }
 }
 
-/// The records of what stands, in the order of paths.
+/// The records of what is in the slots, in the order of paths, with numbers from 0.
 fn records(
     alloc: Global,
     trace: &Trace,
@@ -124,7 +125,7 @@ fn records(
     Ok(records)
 }
 
-/// The store of what stands in the slots.
+/// The store of what is in the slots.
 pub fn store_of(
     alloc: Global,
     trace: &Trace,

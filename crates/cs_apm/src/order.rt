@@ -12,8 +12,8 @@ use cs_names::limits::MICRO_OPERATIONS;
 use std::alloc::{AllocError, Global};
 use std::marker::Model;
 
-/// Which micro-operation of a trace needs which to be on the disk before it. Contracts see a table:
-/// for each place, which of the places before it it needs.
+/// Which micro-operations of a trace each micro-operation needs to be on the disk before it.
+/// Contracts see a table: for each place, which of the places before it it needs.
 #[derive(Debug, Drop)]
 pub struct Order {
     rows: Vec<Row>,
@@ -33,8 +33,8 @@ impl Model for Order {
 }
 
 impl Order {
-    /// The order of a trace's micro-operations, by the ten rules. What it looks for among all of
-    /// them is found here once.
+    /// The order of a trace's micro-operations, by the ten rules. All searches are done here, so
+    /// that `needs` and `needs_by_chain` only look up a bit.
     pub fn of(alloc: Global, micros: &Micros) -> Result<Order, AllocError>
         ensures { IfOk result (λ order. order ≡ order_of micros.now) }
     {
@@ -43,7 +43,7 @@ impl Order {
         Ok(Order { rows, reach })
     }
 
-    /// How many micro-operations there are. What one of them needs lies before it.
+    /// How many micro-operations there are. What one of them needs is before it.
     pub fn len(&self) -> usize
         ensures value { result ≡ length self.now }
         ensures few { result ≤ MICRO_OPERATIONS }
@@ -69,7 +69,7 @@ impl Order {
         self.rows[j].words()
     }
 
-    /// Whether j needs i by any chain: itself, or as what it needs does.
+    /// Whether j needs i by any chain: j needs i, or something that needs i by any chain.
     pub fn needs_by_chain(&self, i: usize, j: usize) -> bool
         requires first { i < length self.now }
         requires second { j < length self.now }
@@ -78,18 +78,18 @@ impl Order {
         self.reach[j].has(i)
     }
 
-    /// Whether j needs none but these.
+    /// Whether everything that j needs is among these members.
     fn needs_only(&self, j: usize, members: &Row) -> bool
         requires { j < length self.now }
         ensures backward { IsBackward (needs_in self.now) }
         ensures value { IsTrue result
             ↔ ((i : ℕ) → needs_in self.now i j ≡ true → has_place members.now i ≡ true) }
     {
-        self.rows[j].within(members)
+        self.rows[j].is_within(members)
     }
 
-    /// Whether a crash may leave just the micro-operations at these places: they ascend strictly,
-    /// each is in range, and with each there is all that it needs.
+    /// Whether a crash may leave exactly the micro-operations at these places: the places ascend
+    /// strictly, each is in range, and all that each needs is among them.
     pub fn is_allowed(&self, places: &[u32]) -> bool
         ensures { IsTrue result ↔ IsAllowed (needs_in self.now) (length self.now) places.now }
     {

@@ -7,7 +7,8 @@ ghost use Rattle.cs_apm.specs.States.{no_rights};
 use cs_micro::MicroOp;
 use cs_trace::{Rights, Target};
 
-/// Owner, group and permissions of the file of the number after the operation.
+/// Owner, group and permissions of the file after the operation: those that it sets, if it sets
+/// this file's, else the old ones.
 pub fn owner_after<'a>(file: u32, owner: &'a Rights, op: &'a MicroOp) -> &'a Rights
     ensures { result.now ≡ owner_after file owner.now op.now }
 {
@@ -20,8 +21,8 @@ pub fn owner_after<'a>(file: u32, owner: &'a Rights, op: &'a MicroOp) -> &'a Rig
     }
 }
 
-/// What a set leaves of owner, group and permissions of the file of the number, which has these of
-/// the owners as it is made.
+/// Owner, group and permissions of the file after a set's members. `owners` has those of each file
+/// as it is made, by its number.
 pub fn owner_left<'a>(
     owners: &'a [Rights],
     ops: &'a [MicroOp],

@@ -1,4 +1,4 @@
-//! Every path that ever stands, in order, each with its place.
+//! Every path that ever exists, in order, each with its place.
 ghost use Rattle.std.specs.Prelude.{◌≡◌, ◌<◌, ◌≤◌, ◌+◌, ◌*◌, ◌⊎◌, ℕ, length, slice_index_or, IfOk};
 ghost use Rattle.std.specs.Prelude.{OnOk};
 ghost use Rattle.std.specs.List.{Contains};
@@ -14,7 +14,7 @@ use cs_trace::Target;
 use cs_tree_model::Record;
 use std::alloc::{AllocError, Global};
 
-/// Puts the path among the others, in order, if it isn't there.
+/// Inserts the path in its order, unless it is there already.
 pub fn add_path(alloc: Global, paths: &mut Vec<Path>, path: &Path) -> Result<(), AllocError>
     requires { AreAscending paths.old.items }
     ensures ascending { AreAscending paths.new.items }
@@ -31,7 +31,7 @@ pub fn add_path(alloc: Global, paths: &mut Vec<Path>, path: &Path) -> Result<(),
     Ok(())
 }
 
-/// Puts the paths of the records among the others.
+/// Inserts the paths of the records.
 fn add_starts(
     alloc: Global,
     paths: &mut Vec<Path>,
@@ -52,7 +52,7 @@ fn add_starts(
     Ok(())
 }
 
-/// Puts the paths that a micro-operation names among the others.
+/// Inserts the paths that a micro-operation names; there are at most two.
 fn add_named(alloc: Global, paths: &mut Vec<Path>, op: &MicroOp) -> Result<(), AllocError>
     requires { AreAscending paths.old.items }
     ensures ascending { OnOk result (AreAscending paths.new.items) }
@@ -79,7 +79,7 @@ fn add_named(alloc: Global, paths: &mut Vec<Path>, op: &MicroOp) -> Result<(), A
     Ok(())
 }
 
-/// Every path that ever stands, in order: those of the records at the start, and those that the
+/// Every path that ever exists, in order: those of the records at the start, and those that the
 /// micro-operations name.
 pub fn paths_of(
     alloc: Global,
@@ -102,7 +102,7 @@ pub fn paths_of(
     Ok(paths)
 }
 
-/// The place of a path that is among them.
+/// The place of the path, which must be among the paths.
 pub fn place_of(paths: &[Path], path: &Path) -> usize
     requires ascending { AreAscending paths.now }
     requires there { Contains paths.now path.now }

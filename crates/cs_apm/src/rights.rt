@@ -1,4 +1,4 @@
-//! Owner, group and permissions of what stands, as a table that grows.
+//! Owner, group and permissions of directories and files, as a table that grows.
 ghost use Rattle.std.specs.Prelude.{◌≡◌, [], ◌∷◌, ◌+◌, ◌<◌, ◌≤◌, ◌++◌, ◌^◌, Some, length, map};
 ghost use Rattle.std.specs.Prelude.{IfOk, OnOk, slice_index_or};
 ghost use Rattle.std.specs.List.{All};
@@ -13,7 +13,7 @@ use cs_trace::{Node, Rights};
 use cs_tree_model::Record;
 use std::alloc::{AllocError, Global};
 
-/// Those of a record at the start.
+/// Owner, group and permissions of a record at the start.
 fn rights_of(start: &Record) -> Result<Rights, AllocError>
     ensures { IfOk result (λ rights. rights ≡ rights_of start.now) }
 {
@@ -24,7 +24,7 @@ fn rights_of(start: &Record) -> Result<Rights, AllocError>
     })
 }
 
-/// Puts them behind the others, and tells their place.
+/// Appends the rights to the table, and returns their place in it.
 fn push_rights(table: &mut Vec<Rights>, rights: Rights) -> Result<u32, AllocError>
     requires { length table.old.items < 2 ^ 32 }
     ensures value { IfOk result (λ place. rights_at table.new.items place ≡ rights) }
@@ -37,7 +37,7 @@ fn push_rights(table: &mut Vec<Rights>, rights: Rights) -> Result<u32, AllocErro
     Ok(place)
 }
 
-/// Puts a copy of them behind the others, and tells its place.
+/// Appends a copy of the rights to the table, and returns its place in it.
 pub fn push_copy(table: &mut Vec<Rights>, rights: &Rights) -> Result<u32, AllocError>
     requires { length table.old.items < 2 ^ 32 }
     ensures value { IfOk result (λ place. rights_at table.new.items place ≡ rights.now) }
@@ -48,7 +48,7 @@ pub fn push_copy(table: &mut Vec<Rights>, rights: &Rights) -> Result<u32, AllocE
     push_rights(table, rights.try_clone()?)
 }
 
-/// The slot of a record at the start.
+/// The slot of a record at the start. A directory's rights are appended to the table.
 pub fn start_slot(table: &mut Vec<Rights>, node: Node, start: &Record) -> Result<Slot, AllocError>
     requires { length table.old.items < 2 ^ 32 }
     ensures entry { IfOk result (λ slot. entry_of table.new.items slot
@@ -63,7 +63,8 @@ pub fn start_slot(table: &mut Vec<Rights>, node: Node, start: &Record) -> Result
     }
 }
 
-/// The slot of an entry that is made.
+/// The slot of an entry that a micro-operation makes. A directory's rights are appended to the
+/// table.
 pub fn made_slot(table: &mut Vec<Rights>, node: Node, rights: &Rights) -> Result<Slot, AllocError>
     requires { length table.old.items < 2 ^ 32 }
     ensures entry { IfOk result (λ slot. entry_of table.new.items slot
@@ -78,7 +79,7 @@ pub fn made_slot(table: &mut Vec<Rights>, node: Node, rights: &Rights) -> Result
     }
 }
 
-/// Those of the records at these places, behind the others.
+/// Appends the rights of the records at these places.
 fn push_starts(
     table: &mut Vec<Rights>,
     records: &[(Path, Record)],
@@ -95,7 +96,7 @@ fn push_starts(
     Ok(())
 }
 
-/// Those of the file that an operation makes, if it makes one, behind the others.
+/// Appends the rights of the file that an operation makes, if it makes one.
 fn push_made(table: &mut Vec<Rights>, op: &MicroOp) -> Result<(), AllocError>
     ensures { OnOk result (table.new.items ≡ table.old.items ++ owners_made (op.now ∷ [])) }
 {
@@ -110,8 +111,8 @@ fn push_made(table: &mut Vec<Rights>, op: &MicroOp) -> Result<(), AllocError>
     Ok(())
 }
 
-/// Those of each file by its number: of the files at the start, whose records are at these places,
-/// and of those that are made.
+/// Owner, group and permissions of each file as it is made, by its number: first of the files at
+/// the start, whose records are at these places, then of those that operations make.
 pub fn owners_of(
     alloc: Global,
     records: &[(Path, Record)],

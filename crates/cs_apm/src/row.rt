@@ -14,7 +14,7 @@ pub struct Row {
 }
 
 impl Row {
-    /// The row without a place.
+    /// The row that has no place.
     pub fn empty() -> Row
         ensures { (k : ℕ) → has_place result k ≡ false }
     {
@@ -36,7 +36,7 @@ impl Row {
         (self.words[place / 64] >> (place % 64)) & 1 == 1
     }
 
-    /// Takes the place in.
+    /// Adds the place.
     pub fn set(&mut self, place: usize)
         requires { place < MICRO_OPERATIONS }
         ensures { (k : ℕ) → has_place self.new k ≡ (k == place || has_place self.old k) }
@@ -44,7 +44,7 @@ impl Row {
         self.words[place / 64] |= 1u64 << (place % 64);
     }
 
-    /// Takes in all that the other row has.
+    /// Adds every place of the other row.
     pub fn join(&mut self, other: &Row)
         ensures { (k : ℕ) → has_place self.new k ≡ (has_place self.old k || has_place other.now k) }
     {
@@ -53,8 +53,8 @@ impl Row {
         }
     }
 
-    /// Whether the other row has all that this one has.
-    pub fn within(&self, other: &Row) -> bool
+    /// Whether the other row has every place of this one.
+    pub fn is_within(&self, other: &Row) -> bool
         ensures { IsTrue result ↔
             ((k : ℕ) → has_place self.now k ≡ true → has_place other.now k ≡ true) }
     {

@@ -14,7 +14,8 @@ use cs_names::limits::MICRO_OPERATIONS;
 use cs_trace::Version;
 use std::alloc::{AllocError, Global};
 
-/// Whether a sync between i and j covers i.
+/// Whether a sync between i and j covers i. `_ops` and `_syncs` are for the contract only: `found`
+/// was computed from them.
 fn is_synced(
     _ops: &[MicroOp],
     _syncs: &[SyncPoint],
@@ -29,7 +30,8 @@ fn is_synced(
     is_by(found[i], j)
 }
 
-/// Whether j needs i, where the latest creates that j needs and the first syncs are found.
+/// Whether j needs i. `found` has the first sync that covers each micro-operation, and `makers` the
+/// latest creates that j needs.
 #[tactic(auto, unfolding(crate::specs::Rules::needs))]
 fn needs(
     ops: &[MicroOp],
@@ -51,7 +53,7 @@ fn needs(
         || is_synced(ops, syncs, found, i, j)
 }
 
-/// What micro-operation j needs, where the first syncs that cover those before it are found.
+/// What micro-operation j needs. `found` has the first sync that covers each micro-operation.
 fn row_of(
     ops: &[MicroOp],
     syncs: &[SyncPoint],
@@ -74,7 +76,7 @@ fn row_of(
     row
 }
 
-/// A row for each micro-operation: what it needs.
+/// For each micro-operation a row of what it needs.
 pub fn rows_of(
     alloc: Global,
     ops: &[MicroOp],
@@ -112,7 +114,7 @@ fn reach_row(rows: &[Row], reach: &[Row], k: usize) -> Row
     row
 }
 
-/// A row for each micro-operation: what it needs by any chain.
+/// For each micro-operation a row of what it needs by any chain.
 pub fn reach_of(alloc: Global, rows: &[Row]) -> Result<Vec<Row>, AllocError>
     requires { length rows.now ≤ MICRO_OPERATIONS }
     ensures long { IfOk result (λ reach. length reach.items ≡ length rows.now) }

@@ -9,14 +9,14 @@ use cs_micro::{EntryKind, MicroOp};
 use cs_names::Path;
 use cs_trace::{Covers, Node, Profile, Target, Version};
 
-/// Whether the directory is the one that has the path.
+/// Whether the directory is the parent of the path.
 pub fn is_parent(directory: &Path, path: &Path) -> bool
     ensures { result ≡ path_eq directory.now (parent_path path.now) }
 {
     directory.names() == path.names().parent()
 }
 
-/// Whether the operation touches the path.
+/// Whether the operation makes, deletes or links an entry at the path, or moves one from or to it.
 fn touches(op: &MicroOp, path: &Path) -> bool
     ensures { result ≡ rules.touches op.now path.now }
 {
@@ -42,8 +42,8 @@ fn sets_directory(op: &MicroOp, directory: &Path) -> bool
     }
 }
 
-/// Whether the operation names the path: touches it, or sets owner, group and permissions of the
-/// directory there.
+/// Whether the operation touches the path, or sets owner, group and permissions of the directory
+/// there.
 fn names(op: &MicroOp, path: &Path) -> bool
     ensures { result ≡ rules.names op.now path.now }
 {
@@ -68,7 +68,7 @@ fn touches_entry_of(op: &MicroOp, directory: &Path) -> bool
     }
 }
 
-/// Both write one block of one file, or both change the size of one file.
+/// Whether both write the same block of the same file, or both change the size of the same file.
 fn same_block_or_size(a: &MicroOp, b: &MicroOp) -> bool
     ensures { result ≡ rules.same_block_or_size a.now b.now }
 {
@@ -89,7 +89,7 @@ fn same_block_or_size(a: &MicroOp, b: &MicroOp) -> bool
     }
 }
 
-/// Both name one path.
+/// Whether both name the same path.
 fn shares_path(a: &MicroOp, b: &MicroOp) -> bool
     ensures { result ≡ rules.shares_path a.now b.now }
 {
@@ -106,7 +106,7 @@ fn shares_path(a: &MicroOp, b: &MicroOp) -> bool
     }
 }
 
-/// The second deletes a directory, and the first touches an entry in it.
+/// Whether the second deletes a directory, and the first touches an entry in it.
 fn touches_deleted_directory(a: &MicroOp, b: &MicroOp) -> bool
     ensures { result ≡ rules.touches_deleted_directory a.now b.now }
 {
@@ -119,7 +119,7 @@ fn touches_deleted_directory(a: &MicroOp, b: &MicroOp) -> bool
     }
 }
 
-/// Both are acknowledged lines.
+/// Whether both are acknowledged lines.
 fn both_say(a: &MicroOp, b: &MicroOp) -> bool
     ensures { result ≡ rules.both_say a.now b.now }
 {
@@ -132,7 +132,7 @@ fn both_say(a: &MicroOp, b: &MicroOp) -> bool
     }
 }
 
-/// Both set owner, group and permissions of one file.
+/// Whether both set owner, group and permissions of the same file.
 fn sets_same_file(a: &MicroOp, b: &MicroOp) -> bool
     ensures { result ≡ rules.sets_same_file a.now b.now }
 {
@@ -164,7 +164,7 @@ fn is_entry_operation(op: &MicroOp) -> bool
     }
 }
 
-/// Both are entry operations, and the file system keeps these in order.
+/// Whether both are entry operations, and the file system keeps these in order.
 fn keeps_order(profile: Profile, a: &MicroOp, b: &MicroOp) -> bool
     ensures { result ≡ rules.keeps_order profile a.now b.now }
 {
@@ -174,7 +174,8 @@ fn keeps_order(profile: Profile, a: &MicroOp, b: &MicroOp) -> bool
     }
 }
 
-/// The first is an acknowledged line, in a version in which it comes before all that follows it.
+/// Whether the operation is an acknowledged line, in a version in which such a line is on the disk
+/// before all that follows it.
 fn says_before(version: Version, a: &MicroOp) -> bool
     ensures { result ≡ rules.says_before version a.now }
 {
@@ -184,7 +185,7 @@ fn says_before(version: Version, a: &MicroOp) -> bool
     }
 }
 
-/// The first makes the file that the second links.
+/// Whether the first makes the file that the second links.
 fn creates_linked(a: &MicroOp, b: &MicroOp) -> bool
     ensures { result ≡ rules.creates_linked a.now b.now }
 {
@@ -220,8 +221,8 @@ pub fn pair_needs(version: Version, a: &MicroOp, b: &MicroOp) -> bool
     common_pair_needs(version.profile(), a, b) || says_before(version, a) || creates_linked(a, b)
 }
 
-/// Whether bytes that begin here in a file, and end there, lie in its range of so many bytes from
-/// an offset on. The range may end above 2^64.
+/// Whether a file's bytes from `begin` to `end` are all in its range of `count` bytes from `offset`
+/// on. The range may end above 2^64.
 fn lies_within(offset: u64, count: u64, begin: u128, end: u128) -> bool
     ensures { result ≡ rules.lies_within offset count begin end }
 {

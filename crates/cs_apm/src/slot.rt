@@ -1,10 +1,10 @@
-//! The paths of a state as slots, one for each path that ever stands.
+//! The paths of a state as slots, one for each path that ever exists.
 ghost use Rattle.std.specs.Prelude.{◌≡◌, ◌<◌, length, map, fold};
 ghost use Rattle.std.specs.List.{All};
 ghost use Rattle.cs_apm.specs.Slots.{FitsIn, slots_after, step_at};
 
-/// What stands at a path: a directory, by the place of its owner, group and permissions, or a file,
-/// by its number.
+/// What is at a path: a directory, by the place of its owner, group and permissions in the table,
+/// or a file, by its number.
 #[derive(Clone, Copy, Debug)]
 pub enum Slot {
     Nothing,
@@ -15,19 +15,19 @@ pub enum Slot {
 /// What a micro-operation does to the slots.
 #[derive(Clone, Copy, Debug)]
 pub enum Step {
-    /// A slot has this from now on.
+    /// The slot has this from now on.
     Set(u32, Slot),
-    /// What stands in the one slot comes to the other.
+    /// What is in the first slot moves to the second, if there is something.
     Move(u32, u32),
-    /// A directory that stands in the slot has its owner, group and permissions at this place from
+    /// A directory in the slot has the owner, group and permissions at this place of the table from
     /// now on.
     Own(u32, u32),
     /// Nothing.
     Other,
 }
 
-/// Takes one step.
-fn take(slots: &mut [Slot], step: Step)
+/// Makes one step.
+fn make_step(slots: &mut [Slot], step: Step)
     requires { FitsIn (length slots.old) step }
     ensures { slots.new ≡ slots_after slots.old step }
 {
@@ -49,13 +49,13 @@ fn take(slots: &mut [Slot], step: Step)
     }
 }
 
-/// Takes the steps of the members of a set in their order.
-pub fn fill(slots: &mut [Slot], steps: &[Step], places: &[u32])
+/// Makes the steps of a set's members in their order.
+pub fn make_steps(slots: &mut [Slot], steps: &[Step], places: &[u32])
     requires fit { All (FitsIn (length slots.old)) steps.now }
     requires inside { All (λ place. place < length steps.now) places.now }
     ensures { slots.new ≡ fold slots_after slots.old (map (step_at steps.now) places.now) }
 {
     for place in places {
-        take(slots, steps[*place as usize]);
+        make_step(slots, steps[*place as usize]);
     }
 }

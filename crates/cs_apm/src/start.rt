@@ -1,4 +1,4 @@
-//! What stands at the start of a trace, and where the records of its files are.
+//! What is at each path at the start of a trace, and where the records of its files are.
 ghost use Rattle.std.specs.Prelude.{◌≡◌, ◌+◌, ◌<◌, ◌≤◌, ◌^◌, length, IfOk, OnOk};
 ghost use Rattle.cs_apm.specs.Making.{FindsFiles, HasFirst, with_file_noted};
 ghost use Rattle.cs_apm.specs.Slots.{AreAscending, HaveRights, Mirror};
@@ -12,8 +12,7 @@ use cs_trace::{Node, Rights};
 use cs_tree_model::Record;
 use std::alloc::{AllocError, Global};
 
-/// What stands at each of the paths at the start. The rights of its directories come into the
-/// table.
+/// The slot of each path at the start. The rights of the directories are appended to the table.
 pub fn start_slots(
     alloc: Global,
     records: &[(Path, Record)],
@@ -41,7 +40,7 @@ pub fn start_slots(
     Ok(slots)
 }
 
-/// The place of a record is that of its file, if it is a file's.
+/// Notes the place as that of the node's record, if the node is a file with a number in range.
 fn note_start(starts: &mut [u32], node: Node, place: u32)
     ensures { starts.new ≡ with_file_noted starts.old node place }
 {
@@ -52,7 +51,7 @@ fn note_start(starts: &mut [u32], node: Node, place: u32)
     }
 }
 
-/// Where the records of the first so many files are.
+/// The places of the records of the first `count` files, by the files' numbers.
 pub fn starts_of(alloc: Global, nodes: &[Node], count: usize) -> Result<Vec<u32>, AllocError>
     requires { length nodes.now ≤ 2 ^ 32 }
     ensures long { IfOk result (λ starts. length starts.items ≡ count) }

@@ -1,4 +1,4 @@
-//! The state of a set, from the tables of its trace.
+//! The state of a set, built from the tables of its trace.
 ghost use Rattle.std.specs.Prelude.{◌≡◌, ◌<◌, length, map, fold, IfOk};
 ghost use Rattle.std.specs.List.{All};
 ghost use Rattle.cs_tree_model.specs.Tree.{IsTree};
@@ -12,7 +12,7 @@ ghost use Rattle.cs_apm.specs.Slots.{FitsIn, slots_after, step_at};
 ghost use Rattle.cs_apm.specs.States.{crash_state_of};
 
 use crate::making::store_of;
-use crate::slot::{Slot, fill};
+use crate::slot::{Slot, make_steps};
 use crate::tables::Tables;
 use cs_micro::Micros;
 use cs_trace::Trace;
@@ -20,7 +20,7 @@ use cs_tree::PlainTree;
 use std::alloc::{AllocError, Global};
 
 /// The slots after the steps of a set.
-pub fn filled(alloc: Global, tables: &Tables, places: &[u32]) -> Result<Vec<Slot>, AllocError>
+pub fn slots_of_set(alloc: Global, tables: &Tables, places: &[u32]) -> Result<Vec<Slot>, AllocError>
     requires fit { All (FitsIn (length tables.now.slots.items)) tables.now.steps.items }
     requires inside { All (λ place. place < length tables.now.steps.items) places.now }
     ensures { IfOk result (λ left. left.items
@@ -28,12 +28,12 @@ pub fn filled(alloc: Global, tables: &Tables, places: &[u32]) -> Result<Vec<Slot
         (map (step_at tables.now.steps.items) places.now)) }
 {
     let mut left = Vec::from_slice(alloc, &tables.slots)?;
-    fill(&mut left, &tables.steps, places);
+    make_steps(&mut left, &tables.steps, places);
     Ok(left)
 }
 
-/// The store of the state of a set, which is allowed: the members' steps are taken in the slots,
-/// and what stands then is made a tree.
+/// The store of the state of an allowed set: the members' steps are made in the slots, and then a
+/// tree of what the slots have.
 pub fn state_of(
     alloc: Global,
     trace: &Trace,
@@ -46,12 +46,12 @@ pub fn state_of(
     ensures state { IfOk result (λ tree. tree ≡ crash_state_of trace.now micros.now places.now) }
     ensures tree { IfOk result IsTree }
 {
-    let slots = filled(alloc, tables, places)?;
+    let slots = slots_of_set(alloc, tables, places)?;
     store_of(alloc, trace, micros.ops(), tables, places, &slots)
 }
 
-/// The state of one set, which is allowed, as a plain store. The states of one trace share what is
-/// unchanged as `cs_state` makes them.
+/// The state of one allowed set as a plain store, which shares nothing. `cs_state` makes states of
+/// one trace that share what is unchanged.
 pub fn build(
     alloc: Global,
     micros: &Micros,

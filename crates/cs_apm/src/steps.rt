@@ -12,8 +12,8 @@ use cs_names::Path;
 use cs_trace::{Rights, Target};
 use std::alloc::{AllocError, Global};
 
-/// What the micro-operation does. The rights of a directory that it makes or sets come into the
-/// table.
+/// The step that the micro-operation makes. The rights of a directory that it makes or sets are
+/// appended to the table.
 fn step_of(paths: &[Path], table: &mut Vec<Rights>, op: &MicroOp) -> Result<Step, AllocError>
     requires few { length table.old.items < 2 ^ 32 }
     requires short { length paths.now ≤ 2 ^ 32 }

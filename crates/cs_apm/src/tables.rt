@@ -1,4 +1,4 @@
-//! What is found once of a trace, for the states of all its sets.
+//! What is computed once from a trace, for the states of all its sets.
 ghost use Rattle.std.specs.Prelude.{◌≡◌, length, IfOk};
 ghost use Rattle.cs_trace.specs.Traces.{start_paths};
 ghost use Rattle.cs_micro.specs.Legal.{AreLegal};
@@ -16,22 +16,22 @@ use cs_names::laws::know;
 use cs_trace::{Rights, Trace};
 use std::alloc::{AllocError, Global};
 
-/// What is found once of a trace.
+/// What is computed once from a trace.
 #[derive(Debug, Drop)]
 pub struct Tables {
-    /// Every path that ever stands, in order.
+    /// Every path that ever exists, in order.
     pub paths: Vec<Path>,
-    /// What stands there at the start.
+    /// What is at each of them at the start.
     pub slots: Vec<Slot>,
-    /// What each micro-operation does there.
+    /// What each micro-operation does to them.
     pub steps: Vec<Step>,
     /// Owner, group and permissions of directories.
     pub rights: Vec<Rights>,
-    /// The same of the files as they are made, by their numbers.
+    /// Owner, group and permissions of the files as they are made, by their numbers.
     pub owners: Vec<Rights>,
     /// The place of the record of each of the start's files.
     pub starts: Vec<u32>,
-    /// Whether an operation changes the file's bytes, by its number.
+    /// Whether an operation changes the file's size or bytes, by its number.
     pub changed: Vec<bool>,
 }
 
@@ -48,7 +48,7 @@ impl Tables {
         let records = trace.records();
         let nodes = trace.nodes();
         let ops = micros.ops();
-        // that its operations are legal says that what stands at the start is nested
+        // since the trace's operations are legal, the paths at the start are nested
         know(trace.operations());
         let paths = paths_of(alloc, records, ops)?;
         let mut rights = Vec::new(alloc);

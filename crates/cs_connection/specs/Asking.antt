@@ -1,5 +1,5 @@
--- What the runs that threads share answer to what a connection asks. They may change between two
--- questions; what the connection keeps doesn't.
+-- What the runs that threads share answer to a connection's questions. The runs may change between
+-- two questions; what the connection keeps doesn't.
 use Rattle.std.specs.Prelude.{◌≡◌, ℕ, ◌⊎◌, length, slice_get, Option, None, Some, Result, Ok, Err}
 use Rattle.cs_names.specs.declared.rule_id.RuleId.TheVariants.{S5}
 use Rattle.cs_journal.specs.Runs.{PassOf, fresh_pass}
@@ -20,8 +20,8 @@ use Rattle.cs_shared_runs.specs.Serving.{HasTree}
 use Rattle.cs_shared_runs.specs.Answers.{IsStepOfServedRun, IsAnswerOf}
 use Rattle.cs_connection.specs.Kept.{FoundRuns, given_by, kept_with_pass, put_pass, with_run}
 
--- the run of that key is found: it comes last. Else nothing changes; a name that names no run is
--- Unpublished
+-- the run of that key is found, and comes last among those kept. Else nothing changes; the fault is
+-- Unpublished if the name names no run
 abbrev pub KeptFinds : FoundRuns → Option Key → Result ℕ FindFault → FoundRuns → Type 0
 KeptFinds old None answer new = (answer ≡ Err Unpublished) × (new ≡ old)
 KeptFinds old (Some key) (Ok place) new = (place ≡ length old.runs) × (new ≡ with_run old key)
@@ -38,8 +38,7 @@ module _ (serves : HasTree) where
         IsStepOfServedRun serves key.number (fresh_pass pass.number) now (Attach call) answer pass
     pub kept : new ≡ kept_with_pass old place pass
 
-  -- by the key of the run at the place, if one is there: else it is foreign. Without a pass nothing
-  -- changes
+  -- by the key of the run at the place; Foreign if there is no run. Without a pass nothing changes
   abbrev pub KeptAttaches : FoundRuns → ℕ → ℕ → AttachCall → Option Key
       → Result (ℕ × Answer) PassFault → FoundRuns → Type 0
   KeptAttaches old now place call None answer new = (answer ≡ Err Foreign) × (new ≡ old)

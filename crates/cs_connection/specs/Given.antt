@@ -40,7 +40,7 @@ abbrev pub KeepsPasses : Given → FoundRuns → Given → Type 0
 KeepsPasses old kept new =
     (key : Key) → passes_of new key ≡ passes_of old key ++ given_by_run kept key
 
--- so do the first of them, and the rest is dropped
+-- likewise for the first of them, and the rest is dropped
 pub record KeepsFront (old : Given) (kept : FoundRuns) (new : Given) : Type 0 where
   pub front : List GivenPass
   pub rest : List GivenPass

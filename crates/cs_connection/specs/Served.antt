@@ -1,4 +1,4 @@
--- What came of a connection over runs that threads share.
+-- How a connection ended, over runs that threads share.
 use Rattle.std.specs.Prelude.{◌≡◌, ℕ, ◌⊎◌, List, Option, Result, Err}
 use Rattle.cs_session.specs.declared.serving.ServeFault.{ServeFault}
 use Rattle.cs_session.specs.declared.serving.ServeFault.TheVariants.{Memory}

@@ -13,8 +13,8 @@ use std::alloc::Global;
 use std::marker::Model;
 use std::sync::Wait;
 
-/// What came of a connection: how its stream was served, and what it kept. Contracts see both. It
-/// was served from its beginning to its hang-up, or there was no memory for its thread.
+/// A connection that has ended: how its stream was served, and what it kept. Contracts see both.
+/// It was served from its beginning to its hang-up, or there was no memory for its thread.
 #[derive(Drop)]
 pub struct Connection<S: ServerBrand> {
     result: Result<(), ServeFault>,
@@ -33,7 +33,7 @@ impl<S: ServerBrand> Model for Connection<S> {
 }
 
 impl<S: ServerBrand> Connection<S> {
-    /// That of a stream for whose thread there was no memory: nothing was read.
+    /// The connection of a stream for whose thread there was no memory: nothing was read.
     pub fn unserved(alloc: Global) -> Connection<S>
         ensures { WasRefused result }
     {
@@ -58,7 +58,7 @@ impl<S: ServerBrand> Connection<S> {
         &self.kept
     }
 
-    /// The same, by value.
+    /// What it kept, by value: the runs that it found, and the passes that it was given.
     pub fn into_kept(self) -> ConnectionRuns<S>
         ensures { result ≡ self.kept }
     {
@@ -67,7 +67,7 @@ impl<S: ServerBrand> Connection<S> {
 }
 
 /// Serves a connection to its end, over the runs of the server: its messages are answered in order,
-/// each at its moment, and it hangs up, whatever comes of it.
+/// each at its moment, and it hangs up, also after a fault.
 pub fn serve_connection<S: ServerBrand, R: Wait, T: Stream, C: Clock>(
     rt: &R,
     alloc: Global,

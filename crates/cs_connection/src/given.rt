@@ -13,8 +13,8 @@ use indexmap::IndexMap;
 use std::alloc::{AllocError, Global};
 use std::marker::Model;
 
-/// The passes of the connections that ended, by the keys of their runs: what the runs are audited
-/// with. Contracts see for each key the passes of its run.
+/// The passes of the connections that ended, by the keys of their runs, for audits of the runs.
+/// Contracts see for each key the passes of its run.
 #[derive(Drop)]
 pub struct GivenPasses {
     runs: IndexMap<RunKey, Vec<Pass>>,
@@ -29,7 +29,7 @@ impl Model for GivenPasses {
     ghost view = { λ given. map (λ run. (run.0, run.1.items)) given.runs.entries };
 }
 
-/// Adds a pass. Drops it if an allocation fails.
+/// Adds a pass at the end. Drops it if an allocation fails.
 fn push_pass(passes: &mut Vec<Pass>, pass: Pass) -> Result<(), AllocError>
     ensures kept { OnOk result (passes.new.items ≡ passes.old.items ++ pass ∷ []) }
     ensures refused { OnErr result (passes.new.items ≡ passes.old.items) }
@@ -41,7 +41,7 @@ fn push_pass(passes: &mut Vec<Pass>, pass: Pass) -> Result<(), AllocError>
 }
 
 impl GivenPasses {
-    /// No connection ended.
+    /// No passes: no connection ended yet.
     pub fn new(alloc: Global) -> GivenPasses
         ensures { result ≡ [] }
     {
@@ -66,7 +66,7 @@ impl GivenPasses {
         }
     }
 
-    /// Keeps these passes of these runs.
+    /// Keeps these passes of these runs, in order. If an allocation fails, drops the rest of them.
     fn push_each<S: ServerBrand>(
         &mut self,
         alloc: Global,
@@ -100,7 +100,8 @@ impl GivenPasses {
         self.push_each(alloc, &runs, passes)
     }
 
-    /// Those of the run of that key, in the order in which they were kept.
+    /// The passes of the run of that key, in the order in which they were kept; none if the key has
+    /// no run here.
     pub fn of(&self, key: &RunKey) -> &[Pass]
         ensures { result.now ≡ passes_of self.now key.now }
     {

@@ -34,7 +34,7 @@ impl<S: ServerBrand> Model for ConnectionRuns<S> {
 }
 
 impl<S: ServerBrand> ConnectionRuns<S> {
-    /// No run was found.
+    /// What a connection keeps that found no run.
     pub fn none(alloc: Global) -> ConnectionRuns<S>
         ensures { result ≡ no_runs }
     {
@@ -44,7 +44,7 @@ impl<S: ServerBrand> ConnectionRuns<S> {
         }
     }
 
-    /// These runs were found, and these passes given.
+    /// What a connection keeps that found these runs and was given these passes.
     pub(crate) fn of(runs: Vec<SharedRun<S>>, passes: Vec<GivenPass>) -> ConnectionRuns<S>
         requires { AreInside runs.items passes.items }
         ensures { result ≡ record { runs = runs.items; passes = passes.items } }
@@ -59,7 +59,7 @@ impl<S: ServerBrand> ConnectionRuns<S> {
         self.passes.as_slice()
     }
 
-    /// The runs, and the passes.
+    /// The runs, and the passes, each of which is of one of the runs.
     pub(crate) fn into_parts(self) -> (Vec<SharedRun<S>>, Vec<GivenPass>)
         ensures runs { result.0.items ≡ self.runs }
         ensures passes { result.1.items ≡ self.passes }

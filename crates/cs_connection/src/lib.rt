@@ -1,4 +1,4 @@
-//! Many connections at once: each over runs that threads share.
+//! Connections that are served at the same time, over runs that their threads share.
 #![tactic(auto)]
 
 mod connection;

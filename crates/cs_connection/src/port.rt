@@ -58,9 +58,10 @@ impl<'r, S: ServerBrand, R: Wait> Port for SharedPort<'r, S, R> {
 
     ghost gives = { λ old question told new. Gives S.serves old question told new };
 
-    /// A find that the registry grants stays counted, also if there is no memory to keep the run.
+    /// Finds the run of that name in the registry, and keeps it. A find that the registry grants
+    /// stays counted, even if there is no memory to keep the run.
     fn find(&mut self, alloc: Global, name: &TreeName) -> Result<u32, FindFault> {
-        let Some(key) = RunKey::named(name) else {
+        let Some(key) = RunKey::of_tree_name(name) else {
             return Err(FindFault::Unpublished);
         };
         let Ok(place) = u32::try_from(self.runs.len()) else {
@@ -73,7 +74,7 @@ impl<'r, S: ServerBrand, R: Wait> Port for SharedPort<'r, S, R> {
         }
     }
 
-    /// Room for the pass is made before the run gives it.
+    /// Attaches to the run at that place, and keeps the pass, for which room is made first.
     fn attach(
         &mut self,
         alloc: Global,
@@ -99,6 +100,8 @@ impl<'r, S: ServerBrand, R: Wait> Port for SharedPort<'r, S, R> {
         }
     }
 
+    /// Makes a call on the run that gave the pass. S5, and nothing changes, if there is no such
+    /// pass or another run gave it.
     fn call(&mut self, alloc: Global, now: u32, run: u32, pass: u32, call: Call<'_>) -> Answer {
         let Some(given) = self.passes.get_mut(pass as usize) else {
             return Answer::Denied(RuleId::S5);

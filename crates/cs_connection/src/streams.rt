@@ -12,7 +12,7 @@ use std::sync::Wait;
 use std::thread;
 use std::thread::{JoinHandle, Scope, Threads};
 
-/// Serves a stream that is its own.
+/// Serves a stream to its end, with its calls counted.
 fn serve_one<S: ServerBrand, R: Wait, RW: Read + Write + Drop, C: Clock + Drop>(
     rt: &R,
     alloc: Global,
@@ -24,7 +24,7 @@ fn serve_one<S: ServerBrand, R: Wait, RW: Read + Write + Drop, C: Clock + Drop>(
     serve_connection(rt, alloc, server, &mut stream, &mut clock)
 }
 
-/// Starts a thread for each stream; None for one whose thread can't be made.
+/// Starts a thread for each stream, in their order; None for a stream whose thread can't be made.
 fn start_each<
     's,
     E,
@@ -50,7 +50,8 @@ fn start_each<
     Ok(threads)
 }
 
-/// Waits for each thread: what came of its connection, in the order of the threads.
+/// Waits for each thread: its connection, in the order of the threads; one that wasn't served for
+/// a thread that couldn't be made.
 fn join_each<S: ServerBrand, R: Threads>(
     rt: &R,
     alloc: Global,
@@ -71,9 +72,9 @@ fn join_each<S: ServerBrand, R: Threads>(
     connections
 }
 
-/// Serves each stream in a thread of its own, all at once: what came of each, in the order of the
-/// streams. Each thread has a copy of the clock. A stream whose thread can't be made is not served.
-/// If there is no memory to keep what comes of them, nothing is read.
+/// Serves all streams at the same time, each in its own thread, and waits for them: their
+/// connections, in the order of the streams. Each thread has a copy of the clock. A stream whose
+/// thread can't be made is not served. If there is no memory for the connections, nothing is read.
 pub fn serve_streams<
     S: ServerBrand + Send + Sync,
     R: Threads + Wait + Sync,

@@ -42,7 +42,7 @@ needed_keeps needs back place i k is needed = or_right (i == place) (by_chain ne
     (λ (e : by_chain needs k place ≡ true). needs_chained needs back i k place is e)
     (or_cases (k == place) (by_chain needs k place) needed))
 
--- what a place needs stays where the place does
+-- what a place needs stays if the place does
 stays_keeps : (needs : ℕ → ℕ → Bool) → IsBackward needs → (lost : List ℕ) (i k : ℕ) → needs i k ≡ true → stays needs lost k ≡ true
     → stays needs lost i ≡ true
 stays_keeps needs back [] i k is kept = refl

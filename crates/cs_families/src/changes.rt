@@ -55,6 +55,7 @@ fn file_end(ops: &[MicroOp]) -> usize
     end
 }
 
+/// Whether one of the operations changes the file.
 fn is_changed(ops: &[MicroOp], file: u32) -> bool
     ensures { result ≡ is_changed ops.now file }
 {

@@ -8,6 +8,7 @@ use cs_serve::{Inputs, scene_of};
 use std::alloc::Global;
 use std::io::Write;
 
+/// Writes the family of the trace's states, and flushes it.
 fn picks<W: Write>(
     alloc: Global,
     trace: &[u8],

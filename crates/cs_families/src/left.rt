@@ -10,7 +10,7 @@ use crate::changes::is_file;
 use cs_apm::Order;
 use cs_names::laws::know;
 use cs_names::limits::MICRO_OPERATIONS;
-use cs_plan::members::keeps;
+use cs_plan::members::is_kept;
 use std::alloc::{AllocError, Global};
 
 /// Whether the file loses the change at the place.
@@ -43,7 +43,7 @@ fn stays(order: &Order, lost: &[u32], place: usize) -> bool
     ensures { result ≡ stays (needs_in order.now) lost.now place }
 {
     for missing in lost {
-        if !keeps(order, *missing as usize, place) {
+        if !is_kept(order, *missing as usize, place) {
             return false;
         }
     }

@@ -1,4 +1,4 @@
--- A table of which one entry was changed in its place.
+-- A table with one entry replaced.
 use Rattle.std.proofs.Common.{◌≡◌, ◌∙◌, ℕ, cond, nat_eq, Some, IsSome, refl, sym, subst, ap}
 use Rattle.std.specs.FinMap.{insert}
 use Rattle.indexmap.specs.IndexMap.{IndexMap, WritesThrough, get_by, spare}

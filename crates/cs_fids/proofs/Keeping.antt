@@ -1,4 +1,4 @@
--- What a call that changes a table leaves of the numbers of its open fids.
+-- What a call that changes a table does to the numbers of its open fids.
 use Rattle.std.proofs.Common.{◌≡◌, ◌∙◌, ℕ, ◌+◌, ◌-◌, ◌<◌, ◌≤◌, ◌&&◌, ◌||◌, ◌==◌, Bool, true, false, cond, not, List, [], length, Option}
 use Rattle.std.proofs.Common.{Some, None, is_some, IsSome, option_copied, Bor, Result, Ok, Err, IfOk, OnErr, OnOk, refl, sym, ap, arith}
 use Rattle.std.proofs.Common.{true≢false, zero-le}
@@ -47,7 +47,7 @@ module _ (old : FidMap) (opens : List ℕ) (capacity : ℕ) (are : AreOpens old 
   pub at_most : length opens ≤ len old
   at_most = no_more opens old are.descending (λ n among. open_is_some (get old n) (sym (are.among n) ∙ among))
 
-  -- and fewer where one isn't open
+  -- and fewer if one isn't open
   pub below : (e : FidEntry) → get old fid ≡ Some e → is_open e ≡ false → length opens < len old
   below e there walked = one_more old opens fid are.among are.descending (ap is_some there) (ap is_open_in there ∙ walked)
 
@@ -67,7 +67,7 @@ module _ (old : FidMap) (opens : List ℕ) (capacity : ℕ) (are : AreOpens old 
       fits = fits;
     }
 
-  -- a fid's entry is changed in its place, to one that is as open
+  -- a fid's entry is replaced by one that is open exactly if it was
   pub in_place : (there e : FidEntry) → get old fid ≡ Some there → is_open e ≡ is_open there → new ≡ map.insert old fid e
       → InPlace old new opens capacity
   in_place there e found same inserts =
@@ -98,7 +98,7 @@ module _ (old : FidMap) (opens : List ℕ) (capacity : ℕ) (are : AreOpens old 
       fits = fewer;
     }
 
--- what a search that found its fid says of the entry
+-- the entry of a fid that a search found
 pub was_walked : (o : Option FidEntry) (w : FidOf Walked) → walked_in o ≡ Ok w → o ≡ Some (entry.Walked w)
 was_walked None w found = absurd (cc)
 was_walked (Some (entry.Walked v)) w found = ap (λ x. Some (entry.Walked x)) (cc)
@@ -113,14 +113,14 @@ pub was_taken : (o : Option FidEntry) (e : FidEntry) → Ok e ≡ ok_or o Unknow
 was_taken None e value = absurd (cc)
 was_taken (Some x) e value = ap Some (cc)
 
--- a call that failed as a search did found its fid, or left all as it was
+-- a call that failed as a search did found its fid, or changed nothing
 pub found_or_left : {A F : Type 0} (result : Result A FidFault) (found : Result F FidFault) (made : F → Type 0) (Left Goal : Type 0)
     → FailsAs result found → IfOk found made → OnErr result Left → ((x : F) → found ≡ Ok x → made x → Goal) → (Left → Goal) → Goal
 found_or_left result (Ok x) made Left Goal fails fids left here there = here x refl fids
 found_or_left (Ok y) (Err f) made Left Goal fails fids left here there = absurd (cc)
 found_or_left (Err e) (Err f) made Left Goal fails fids left here there = there left
 
--- a take of a fid that isn't open took it, or left all as it was
+-- a take of a fid that isn't open took it, or changed nothing
 pub walked_or_left : (o : Option FidEntry) (result : Result (FidOf Walked) FidFault) (Taken Left Goal : Type 0) → result ≡ walked_in o
     → OnOk result Taken → OnErr result Left → (is_open_in o ≡ false → Taken → Goal) → (Left → Goal) → Goal
 walked_or_left None (Ok w) Taken Left Goal value taken left here there = absurd (cc)
@@ -130,7 +130,7 @@ walked_or_left (Some (entry.Walked v)) (Err f) Taken Left Goal value taken left 
 walked_or_left (Some (entry.Opened v)) (Ok w) Taken Left Goal value taken left here there = absurd (cc)
 walked_or_left (Some (entry.Opened v)) (Err f) Taken Left Goal value taken left here there = there left
 
--- an option that is lent is there where it is
+-- a lent option is Some exactly if the option is
 pub lent_alike : (e : FidEntry) (o : Option (Bor (FidOf Opened))) → option_copied o ≡ as_opened e → is_some o ≡ is_open e
 lent_alike (entry.Walked w) None same = refl
 lent_alike (entry.Walked w) (Some x) same = absurd (cc)
@@ -141,7 +141,7 @@ pub none_there : (o : Option FidEntry) → (IsSome o → false ≡ true) → o �
 none_there None there = refl
 none_there (Some e) there = absurd (true≢false (sym (there refl)))
 
--- where there is no fid, none is open
+-- if there is no fid, none is open
 pub none_open : (capacity : ℕ) → AreOpens map.empty [] capacity
 none_open capacity = record {
   among = λ n. ap is_open_in (sym (map.get-empty nat_cmp n));

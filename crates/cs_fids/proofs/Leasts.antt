@@ -20,7 +20,7 @@ use Rattle.cs_fids.specs.declared.entry.FidEntry.{FidEntry}
 use Rattle.cs_fids.specs.declared.entry.FidEntry.TheVariants as entry
 use Rattle.cs_fids.proofs.Numbers.{stands}
 
--- the least number that passes a test, or none where none does
+-- the least number that passes a test, or none if none does
 abbrev IsLeast : (ℕ → Bool) → Option ℕ → Type 0
 IsLeast test None = (n : ℕ) → test n ≡ false
 IsLeast test (Some m) = (test m ≡ true) × ((n : ℕ) → test n ≡ true → m ≤ n)

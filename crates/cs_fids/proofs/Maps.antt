@@ -32,7 +32,7 @@ eq_back : (a b : ℕ) → nat_eq a b ≡ nat_eq b a
 eq_back a b = sym (unsigned_tied a b) ∙ (eq_by_cmp_equiv nat_cmp_total).symm a b ∙ unsigned_tied b a
 
 module _ (fid : ℕ) (old new : List (ℕ × FidEntry)) where
-  -- a list that finds one entry anew is the map with that entry
+  -- a list that finds one new entry is the map with that entry
   pub inserted : (entry : FidEntry) → ((q : ℕ) → lookup (nat_eq q) new ≡ cond (nat_eq fid q) (Some entry) (lookup (nat_eq q) old))
       → map_of new ≡ insert (map_of old) fid entry
   inserted entry is = same_map nat_cmp_total nat_cmp-IsAntisymmetric _ _ (λ q.
@@ -50,14 +50,14 @@ again : (fid q : ℕ) (entry : FidEntry) (list : List (ℕ × FidEntry)) → loo
 again fid q entry list there true same = sym there ∙ ap (λ n. lookup (nat_eq n) list) (eqb-true fid q same)
 again fid q entry list there false same = refl
 
--- a list that finds an entry anew that the old one found too is the same map
+-- a list that finds again an entry that the old one found is the same map
 pub same_again : (fid : ℕ) (old new : List (ℕ × FidEntry)) (entry : FidEntry) → lookup (nat_eq fid) old ≡ Some entry
     → ((q : ℕ) → lookup (nat_eq q) new ≡ cond (nat_eq fid q) (Some entry) (lookup (nat_eq q) old)) → map_of new ≡ map_of old
 same_again fid old new entry there is =
     same_map nat_cmp_total nat_cmp-IsAntisymmetric _ _
     (λ q. get_is q new ∙ is q ∙ again fid q entry old there (nat_eq fid q) refl ∙ sym (get_is q old))
 
--- and the same table, where the room is the same too
+-- and the same table, if the room is the same too
 pub same_table : (old new : List (ℕ × FidEntry)) (room left : ℕ) → map_of new ≡ map_of old → length new ≡ length old → left ≡ room
     → ◌≡◌ {A = Fids} (record { fids = map_of new; room = room_beside new left }) (record { fids = map_of old; room = room_beside old room })
 same_table old new room left maps lengths rooms =

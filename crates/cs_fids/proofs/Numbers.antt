@@ -1,4 +1,5 @@
--- The numbers of the open fids: what is among them, how many there are, and how a table's changes follow.
+-- The numbers of the open fids: what is among them, how many there are, and how a table's changes
+-- follow.
 use Rattle.std.proofs.Common.{◌≡◌, ◌≢◌, ◌∙◌, ℕ, suc, ◌+◌, ◌-◌, ◌<◌, ◌≤◌, ◌&&◌, ◌||◌, ◌==◌, Bool, true, false, cond, not, List, [], ◌∷◌}
 use Rattle.std.proofs.Common.{length, get_or, Option, Some, None, is_some, refl, sym, ap, arith, zero-le, true≢false}
 use Rattle.std.proofs.lemmas.Bool.{eq-eqb, eqb-true}
@@ -21,7 +22,7 @@ use Rattle.cs_fids.specs.Opens.{IsDescending, is_among, is_open_in}
 use Rattle.cs_fids.specs.Tables.{FidMap}
 use Rattle.cs_fids.specs.declared.entry.FidEntry.{FidEntry}
 
--- a number that stands nowhere isn't among them
+-- a number that is at no place isn't among them
 stands_nowhere : (n : ℕ) (xs : List ℕ) → ((k d : ℕ) → k < length xs → get_or xs k d ≢ n) → is_among n xs ≡ false
 stands_nowhere n xs nowhere = by (is_among n xs) refl
   where
@@ -29,7 +30,7 @@ stands_nowhere n xs nowhere = by (is_among n xs) refl
     by false e = refl
     by true e = (let at = Any-from_list_any (λ m. n == m) xs e in absurd (nowhere at.0 at.1 at.2 (at.3 ∙ sym (eqb-true n at.1 at.4))))
 
--- one that stands somewhere is
+-- one that is at some place is
 pub stands : (n : ℕ) (xs : List ℕ) (k d : ℕ) → k < length xs → get_or xs k d ≡ n → is_among n xs ≡ true
 stands n xs k d within is = list_any-from_Any (λ m. n == m) xs (k, n, within, get_or_default xs k n d within ∙ is, eq-eqb n n refl)
 
@@ -50,7 +51,7 @@ parts_at y xs descending i j d le within above =
 
 module _ (xs : List ℕ) (descending : IsDescending xs) (y at : ℕ) (greater : AllWithin (λ x. y < x) xs 0 at)
     (rest : AllWithin (λ x. x ≤ y) xs at (length xs)) where
-  -- a number that is among them stands there
+  -- a number that is among them is at that place
   pub stands_there : is_among y xs ≡ true → (at < length xs) × (get_or xs at y ≡ y)
   stands_there among =
       let found = Any-from_list_any (λ m. y == m) xs among in
@@ -123,7 +124,7 @@ pub open_is_some : (o : Option FidEntry) → is_open_in o ≡ true → is_some o
 open_is_some None is = is
 open_is_some (Some entry) is = refl
 
--- numbers that descend and stand in a map are no more than its entries
+-- numbers that descend and are keys of a map are no more than its entries
 pub no_more : (xs : List ℕ) (m : FidMap) → IsDescending xs → ((n : ℕ) → is_among n xs ≡ true → is_some (get m n) ≡ true) → length xs ≤ len m
 no_more [] m descending all = zero-le
 no_more (x ∷ xs) m descending all =
@@ -150,7 +151,7 @@ module _ (fids : FidMap) (opens : List ℕ) (fid : ℕ) (among : (n : ℕ) → i
       by true same = sym opened
       by false same = same
 
-  -- a fid is put that is as open as what it stood for
+  -- a fid is put that is open exactly if the old one was
   pub as_open : (entry : FidEntry) → is_open entry ≡ is_open_in (get fids fid) → (n : ℕ)
       → is_among n opens ≡ is_open_in (get (map.insert fids fid entry) n)
   as_open entry same n =
@@ -182,7 +183,7 @@ module _ (fids : FidMap) (opens : List ℕ) (fid : ℕ) (among : (n : ℕ) → i
       by true is = ap (λ m. is_among m opens) (eqb-true n fid is) ∙ among fid ∙ walked
       by false is = among n
 
-  -- a table has more fids than open ones, where one isn't open
+  -- a table has more fids than open ones if one isn't open
   pub one_more : IsDescending opens → is_some (get fids fid) ≡ true → is_open_in (get fids fid) ≡ false → length opens < len fids
   one_more descending there walked =
       let some : 0 < len fids = not_empty fid fids there in

@@ -1,4 +1,4 @@
--- What holds of a result or of an option, taken further.
+-- What follows from a result or an option.
 use Rattle.std.proofs.Common.{◌≡◌, Bor, Option, None, Some, option_copied, is_some, false, refl, Result, Ok, Err, IfOk, OnErr}
 
 pub if_ok : {A F : Type 0} (r : Result A F) (P Q : A → Type 0) → ((x : A) → P x → Q x) → IfOk r P → IfOk r Q

@@ -1,4 +1,4 @@
--- What an entry of a table stands for, whatever its state.
+-- What an entry of a table has in each of its states.
 use Rattle.std.specs.Prelude.{ℕ, Bool, true, false, List, Option, None, Some}
 use Rattle.cs_fids.specs.FidOf.{FidOf}
 use Rattle.cs_fids.specs.declared.entry.FidEntry.{FidEntry}

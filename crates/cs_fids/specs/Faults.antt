@@ -1,4 +1,4 @@
--- What is said of a call that a table refused.
+-- The text of each fault.
 use Rattle.std.specs.Prelude.{ℕ, List, codes}
 use Rattle.cs_fids.specs.declared.fault.FidFault.{FidFault}
 use Rattle.cs_fids.specs.declared.fault.FidFault.TheVariants.{TableFull, Unknown, AlreadyOpen}

@@ -33,7 +33,7 @@ opened_fid fid mode open_number = record {
   state = record { mode = mode; open_number = open_number; place = first_place };
 }
 
--- the same fid, with its reads of a directory at that place
+-- the same fid, with its reads of a directory continuing at that place
 abbrev pub with_place : FidOf Opened → Place → FidOf Opened
 with_place fid place = record fid {
   state = record { mode = fid.state.mode; open_number = fid.state.open_number; place = place };

@@ -1,4 +1,4 @@
--- The numbers of the open fids beside a table, of which the last is the least.
+-- The numbers of a table's open fids, of which the last is the least.
 use Rattle.std.specs.Prelude.{◌≡◌, ℕ, ◌-◌, ◌<◌, ◌≤◌, ◌==◌, min, Bool, false, List, Option, None}
 use Rattle.std.specs.Prelude.{Some}
 use Rattle.std.specs.FinMap.{get, len}

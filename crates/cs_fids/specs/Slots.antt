@@ -4,7 +4,7 @@ use Rattle.cs_fids.specs.Fids.{walked_fid}
 use Rattle.cs_fids.specs.declared.entry.FidEntry.{FidEntry}
 use Rattle.cs_fids.specs.declared.entry.FidEntry.TheVariants.{Walked}
 
--- the entry; of a place without one, which no call leaves behind, any
+-- the entry; any entry for a place without one, which no call leaves
 abbrev pub entry_in : Option FidEntry → FidEntry
 entry_in (Some entry) = entry
 entry_in None = Walked (walked_fid 0 0 0 [])

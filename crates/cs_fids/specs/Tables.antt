@@ -1,4 +1,4 @@
--- A table of fids: a finite map from numbers, and how many fids more it takes without memory.
+-- A table of fids: a finite map from numbers, and how many fids more it can take without memory.
 use Rattle.std.specs.Prelude.{◌≡◌, ℕ, ◌-◌, ◌≤◌, min, List, Option, Some, None, Result, Ok, Err}
 use Rattle.std.specs.Prelude.{IsOk, IsErrOf, length, nat_eq, refl}
 use Rattle.std.specs.Coded.{Coded, code_by, coded×, coded_ℕ}
@@ -36,7 +36,7 @@ fids_code =
       room = parts.1;
     }) (λ _. refl)
 
--- what the number stands for
+-- the entry of the number, if the table has one
 abbrev pub fid_at : Fids → ℕ → Option FidEntry
 fid_at table fid = get table.fids fid
 
@@ -73,12 +73,12 @@ least_open fids = first_open (entries fids)
 abbrev pub map_of : List (ℕ × FidEntry) → FidMap
 map_of list = from_entries list
 
--- these can be a table's entries: at most FIDS, NOFID is none of them, and each number occurs once
+-- these can be a table's entries: at most FIDS, none under NOFID, and each number occurs once
 pub record AreFids (list : List (ℕ × FidEntry)) : Type 0 where
   pub few : length list ≤ FIDS
   pub nofid : lookup (nat_eq NOFID) list ≡ None
   pub distinct : IsDistinct nat_eq (keys_of list)
 
--- the room beside these entries, if memory for so many is there
+-- the room for more entries than these, if there is memory for so many more
 abbrev pub room_beside : List (ℕ × FidEntry) → ℕ → ℕ
 room_beside list spare = min spare (FIDS - length list)

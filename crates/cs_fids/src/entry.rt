@@ -1,4 +1,4 @@
-//! What a number stands for: a fid in one of its states.
+//! The entry of a fid number: a fid in one of its states.
 ghost use Rattle.std.specs.Prelude.{◌≡◌, option_copied};
 
 use crate::fid::{Fid, Opened, Walked};
@@ -15,7 +15,7 @@ impl FidEntry {
     ghost use Rattle.cs_fids.specs.Entries.{as_opened, as_walked, number_of, pass_of, run_of};
     ghost use Rattle.cs_fids.specs.Entries.{user_of};
 
-    /// The place of its run at the port.
+    /// The place of the fid's run at the port.
     pub fn run(&self) -> u32
         ensures { result ≡ run_of self.now }
     {
@@ -25,7 +25,7 @@ impl FidEntry {
         }
     }
 
-    /// The place of its pass at the port.
+    /// The place of the fid's pass at the port.
     pub fn pass(&self) -> u32
         ensures { result ≡ pass_of self.now }
     {
@@ -35,7 +35,7 @@ impl FidEntry {
         }
     }
 
-    /// The number of its file.
+    /// The number of the fid's file in its run.
     pub fn number(&self) -> u64
         ensures { result ≡ number_of self.now }
     {
@@ -45,7 +45,7 @@ impl FidEntry {
         }
     }
 
-    /// Its user.
+    /// The user for whom the fid was made, lent.
     pub fn user(&self) -> &UserName
         ensures { result.now ≡ user_of self.now }
     {
@@ -55,7 +55,7 @@ impl FidEntry {
         }
     }
 
-    /// Its user, moved out.
+    /// The user for whom the fid was made, moved out.
     pub fn into_user(self) -> UserName
         ensures { result ≡ user_of self }
     {
@@ -65,7 +65,7 @@ impl FidEntry {
         }
     }
 
-    /// The fid, if it isn't open.
+    /// The fid, lent; None if it is open.
     pub fn as_walked(&self) -> Option<&Fid<Walked>>
         ensures { option_copied result ≡ as_walked self.now }
     {
@@ -75,7 +75,7 @@ impl FidEntry {
         }
     }
 
-    /// The fid, if it is open.
+    /// The fid, lent; None if it isn't open.
     pub fn as_opened(&self) -> Option<&Fid<Opened>>
         ensures { option_copied result ≡ as_opened self.now }
     {

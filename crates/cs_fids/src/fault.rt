@@ -11,15 +11,15 @@ use std::fmt;
 pub enum FidFault {
     /// The table has FIDS fids.
     TableFull,
-    /// The number stands for no fid.
+    /// The table has no fid of that number.
     Unknown,
     /// The fid is open.
     AlreadyOpen,
     /// The fid isn't open.
     NotOpen,
-    /// The number stands for a fid.
+    /// The table has a fid of that number.
     InUse,
-    /// No memory for one fid more.
+    /// Out of memory for one fid more.
     Memory,
 }
 

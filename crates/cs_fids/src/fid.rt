@@ -6,15 +6,15 @@ use cs_names::UserName;
 use std::alloc::AllocError;
 use std::marker::Model;
 
-/// The number that stands for no fid (attach(5)).
+/// The number that no fid has (attach(5)).
 pub const NOFID: u32 = 0xFFFF_FFFF;
 
-/// The state of a fid that was walked to and is not open.
+/// The state of a fid that was attached or walked to, and isn't open.
 #[derive(Clone, Copy, Debug)]
 pub struct Walked;
 
-/// The state of a fid that is open: its mode (open(5)), the number of the open in its run, and
-/// where its reads of a directory go on.
+/// The state of a fid that is open: its mode (open(5)), the number of the open in its run, and the
+/// place at which its reads of a directory continue.
 #[derive(Debug, Drop)]
 pub struct Opened {
     pub mode: u8,
@@ -22,7 +22,8 @@ pub struct Opened {
     pub place: Place,
 }
 
-/// A file of a run, for a user, in a state. Contracts see a record of these.
+/// A file of a run for a user, in a state. `run` and `pass` are places at the port, and `number` is
+/// the file's in the run. Contracts see a record of these.
 #[derive(Debug, Drop)]
 pub struct Fid<S> {
     run: u32,
@@ -48,28 +49,28 @@ impl<S> Model for Fid<S> {
 }
 
 impl<S> Fid<S> {
-    /// The place of its run at the port.
+    /// The place of the fid's run at the port.
     pub fn run(&self) -> u32
         ensures { result ≡ self.now.run }
     {
         self.run
     }
 
-    /// The place of its pass at the port.
+    /// The place of the fid's pass at the port.
     pub fn pass(&self) -> u32
         ensures { result ≡ self.now.pass }
     {
         self.pass
     }
 
-    /// The number of its file.
+    /// The number of the fid's file in its run.
     pub fn number(&self) -> u64
         ensures { result ≡ self.now.number }
     {
         self.number
     }
 
-    /// Its user.
+    /// The user for whom the fid was made, lent.
     pub fn user(&self) -> &UserName
         ensures { result.now ≡ self.now.user }
     {
@@ -78,7 +79,7 @@ impl<S> Fid<S> {
 }
 
 impl<S: Drop> Fid<S> {
-    /// Its user, moved out.
+    /// The user for whom the fid was made, moved out.
     pub fn into_user(self) -> UserName
         ensures { result ≡ self.user }
     {
@@ -89,7 +90,8 @@ impl<S: Drop> Fid<S> {
 impl Fid<Walked> {
     ghost use Rattle.cs_fids.specs.Fids.{moved_to, opened_fid, walked_fid};
 
-    /// A fid for that user, of the file of that number, which no walk has left yet.
+    /// A fid of the user for a file that isn't open. `run` and `pass` are places at the port, and
+    /// `number` is the file's in the run.
     pub fn new(run: u32, pass: u32, number: u64, user: UserName) -> Fid<Walked>
         ensures { result ≡ walked_fid run pass number user }
     {
@@ -102,7 +104,7 @@ impl Fid<Walked> {
         }
     }
 
-    /// The same fid for another file of its run, as a walk makes it (walk(5)).
+    /// The fid, moved to another file of its run as by a walk (walk(5)).
     pub fn moved_to(mut self, number: u64) -> Fid<Walked>
         ensures { result ≡ moved_to self number }
     {
@@ -110,7 +112,7 @@ impl Fid<Walked> {
         self
     }
 
-    /// The same fid, open, with the reads of a directory at their start (open(5)).
+    /// The fid, open, with the reads of a directory at their start (open(5)).
     pub fn open(self, mode: u8, open_number: u32) -> Fid<Opened>
         ensures { result ≡ opened_fid self mode open_number }
     {
@@ -127,7 +129,7 @@ impl Fid<Walked> {
         }
     }
 
-    /// The same fid again.
+    /// A copy of the fid. Only the user's name takes memory.
     pub fn try_clone(&self) -> Result<Fid<Walked>, AllocError>
         ensures { IfOk result (λ fid. fid ≡ self.now) }
     {
@@ -144,28 +146,28 @@ impl Fid<Walked> {
 impl Fid<Opened> {
     ghost use Rattle.cs_fids.specs.Fids.{with_place};
 
-    /// The mode of its open.
+    /// The mode of the fid's open (open(5)).
     pub fn mode(&self) -> u8
         ensures { result ≡ self.now.state.mode }
     {
         self.state.mode
     }
 
-    /// The number of its open.
+    /// The number of the fid's open in its run.
     pub fn open_number(&self) -> u32
         ensures { result ≡ self.now.state.open_number }
     {
         self.state.open_number
     }
 
-    /// Where its reads of a directory go on.
+    /// The place at which the fid's reads of a directory continue.
     pub fn place(&self) -> &Place
         ensures { result.now ≡ self.now.state.place }
     {
         &self.state.place
     }
 
-    /// The same fid, with its reads of a directory going on at that place.
+    /// The fid, with another place at which its reads of a directory continue.
     pub(crate) fn at_place(mut self, place: Place) -> Fid<Opened>
         ensures { result ≡ with_place self place }
     {

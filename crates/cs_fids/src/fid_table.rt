@@ -17,9 +17,9 @@ use cs_names::limits::FIDS;
 use std::alloc::Global;
 use std::marker::Model;
 
-/// The fids of a connection, by their numbers: at most FIDS, and NOFID is none of them. Contracts
-/// see a finite map, without an order, and the room for more. The numbers of the open fids are kept
-/// beside them, so that the least is found at once.
+/// The fids of a connection by their numbers: at most FIDS, and never NOFID. Contracts see a finite
+/// map, without an order, and the room for more. The open fids are also kept as a sorted list, so
+/// that the least is found at once.
 #[derive(Drop)]
 pub struct FidTable {
     table: Table,
@@ -41,7 +41,7 @@ impl Model for FidTable {
 }
 
 impl FidTable {
-    /// A table with no fid.
+    /// A table without fids. It takes no memory.
     pub fn new(alloc: Global) -> FidTable
         ensures { result.fids ≡ empty }
     {
@@ -59,7 +59,7 @@ impl FidTable {
         self.table.len()
     }
 
-    /// What the number stands for, lent; NOFID stands for nothing.
+    /// The entry of the fid, lent. None if the table has no such fid, and for NOFID.
     pub fn look(&self, fid: u32) -> Option<&FidEntry>
         ensures value { option_copied result ≡ fid_at self.now fid }
         ensures nofid { fid ≡ NOFID → IsNone result }
@@ -67,7 +67,7 @@ impl FidTable {
         self.table.look(fid)
     }
 
-    /// The least number that stands for an open fid, if any.
+    /// The least number of an open fid; None if no fid is open.
     pub fn least_open(&self) -> Option<u32>
         ensures least { result ≡ least_open self.now.fids }
         ensures found { IfSome result (λ fid. IsOk (opened_in (fid_at self.now fid))) }
@@ -75,15 +75,15 @@ impl FidTable {
         self.opens.last().copied()
     }
 
-    /// Whether one fid more can be put, with no memory taken.
+    /// Whether `put` may add one fid more: there are fewer than FIDS, and its memory is reserved.
     pub fn has_room(&self) -> bool
         ensures { IsTrue result ↔ (0 < self.now.room) }
     {
         self.table.has_room() && self.table.len() < self.opens.capacity()
     }
 
-    /// Makes room for one fid more. TableFull if there are FIDS fids; Memory only if there
-    /// was no room yet.
+    /// Reserves memory for one fid more. TableFull if there are FIDS fids. Memory only if there was
+    /// no room yet. No fid changes, also after an error.
     pub fn reserve(&mut self) -> Result<(), FidFault>
         ensures room { OnOk result (0 < self.new.room) }
         ensures full { FIDS ≤ len self.old.fids → result ≡ Err FidFault.TableFull }
@@ -98,8 +98,8 @@ impl FidTable {
         Ok(())
     }
 
-    /// Has the number stand for this entry. InUse if it stands for one already: the new entry is
-    /// given back, and the table stays. It takes no memory.
+    /// Adds the fid with this entry. InUse if the table has that fid: the new entry is returned,
+    /// and the table is unchanged. It takes no memory.
     pub fn put(&mut self, fid: u32, entry: FidEntry) -> Result<(), (FidFault, FidEntry)>
         requires room { 0 < self.old.room }
         requires named { fid ≢ NOFID }
@@ -117,8 +117,8 @@ impl FidTable {
         Ok(())
     }
 
-    /// Takes out what the number stands for, in any state. Unknown if it stands for nothing: the
-    /// table stays.
+    /// Removes the fid in any state and returns its entry. Unknown if the table has no such fid: it
+    /// is unchanged.
     pub fn take_any(&mut self, fid: u32) -> Result<FidEntry, FidFault>
         ensures value { result ≡ ok_or (fid_at self.old fid) FidFault.Unknown }
         ensures fids { OnOk result (self.new.fids ≡ remove self.old.fids fid) }
@@ -132,8 +132,8 @@ impl FidTable {
         Ok(entry)
     }
 
-    /// Takes out the fid that was walked to. Unknown if the number stands for nothing,
-    /// AlreadyOpen if the fid is open: the table stays.
+    /// Removes the fid if it isn't open, and returns it. Unknown if the table has no such fid,
+    /// AlreadyOpen if the fid is open: the table is unchanged.
     pub fn take_walked(&mut self, fid: u32) -> Result<Fid<Walked>, FidFault>
         ensures value { result ≡ walked_in (fid_at self.old fid) }
         ensures fids { OnOk result (self.new.fids ≡ remove self.old.fids fid) }
@@ -143,8 +143,7 @@ impl FidTable {
         self.table.take_walked(fid)
     }
 
-    /// The open fid, lent. Unknown if the number stands for nothing, NotOpen if the fid isn't
-    /// open.
+    /// The open fid, lent. Unknown if the table has no such fid, NotOpen if the fid isn't open.
     pub fn get_opened(&self, fid: u32) -> Result<&Fid<Opened>, FidFault>
         ensures { MatchResult result (λ found. opened_in (fid_at self.now fid) ≡ Ok found.now)
             (λ fault. opened_in (fid_at self.now fid) ≡ Err fault) }
@@ -152,8 +151,8 @@ impl FidTable {
         self.table.get_opened(fid)
     }
 
-    /// Opens the fid in its place. Unknown if the number stands for nothing, AlreadyOpen if
-    /// the fid is open: the table stays. It takes no memory.
+    /// Opens the fid. Unknown if the table has no such fid, AlreadyOpen if the fid is open: the
+    /// table is unchanged. It takes no memory.
     pub fn open(&mut self, fid: u32, mode: u8, open_number: u32) -> Result<(), FidFault>
         ensures faults { FailsAs result (walked_in (fid_at self.old fid)) }
         ensures fids { IfOk (walked_in (fid_at self.old fid))
@@ -167,8 +166,8 @@ impl FidTable {
         Ok(())
     }
 
-    /// Has the fid stand for another file of its run, in its place. Unknown if the number stands
-    /// for nothing, AlreadyOpen if the fid is open: the table stays. It takes no memory.
+    /// Makes the fid one of another file of its run. Unknown if the table has no such fid,
+    /// AlreadyOpen if the fid is open: the table is unchanged. It takes no memory.
     pub fn move_to(&mut self, fid: u32, number: u64) -> Result<(), FidFault>
         ensures faults { FailsAs result (walked_in (fid_at self.old fid)) }
         ensures fids { IfOk (walked_in (fid_at self.old fid))
@@ -180,8 +179,9 @@ impl FidTable {
         self.table.move_to(fid, number)
     }
 
-    /// Has the reads of a directory of the open fid go on at that place. Unknown if the number
-    /// stands for nothing, NotOpen if the fid isn't open: the table stays. It takes no memory.
+    /// Sets the place at which the next read of the open fid's directory continues. Unknown if the
+    /// table has no such fid, NotOpen if the fid isn't open: the table is unchanged. It takes no
+    /// memory.
     pub fn set_place(&mut self, fid: u32, place: Place) -> Result<(), FidFault>
         ensures faults { FailsAs result (opened_in (fid_at self.old fid)) }
         ensures fids { IfOk (opened_in (fid_at self.old fid))
@@ -193,7 +193,7 @@ impl FidTable {
         self.table.set_place(fid, place)
     }
 
-    /// Takes every fid out.
+    /// Removes every fid; the reserved memory stays.
     pub fn clear(&mut self)
         ensures fids { self.new.fids ≡ empty }
         ensures room { self.old.room ≤ self.new.room }

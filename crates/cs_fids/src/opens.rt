@@ -4,7 +4,7 @@ ghost use Rattle.std.specs.Prelude.{vec_capacity, vec_len};
 ghost use Rattle.std.specs.List.{AllWithin};
 ghost use Rattle.cs_fids.specs.Opens.{IsDescending, is_among};
 
-/// Puts a number in, at its place. It takes no memory.
+/// Adds a number at its place in the order. It takes no memory.
 pub(crate) fn put_in(opens: &mut Vec<u32>, fid: u32)
     requires descending { IsDescending opens.old.items }
     requires new { is_among fid opens.old.items ≡ false }
@@ -21,7 +21,7 @@ pub(crate) fn put_in(opens: &mut Vec<u32>, fid: u32)
     }
 }
 
-/// Takes a number out.
+/// Removes a number; the rest keep their order.
 pub(crate) fn take_out(opens: &mut Vec<u32>, fid: u32)
     requires descending { IsDescending opens.old.items }
     requires there { is_among fid opens.old.items ≡ true }
@@ -34,7 +34,7 @@ pub(crate) fn take_out(opens: &mut Vec<u32>, fid: u32)
     opens.remove(place);
 }
 
-/// The place of the first number that isn't greater.
+/// The place of the first number that isn't greater than `fid`, or the length if all are greater.
 fn place_of(opens: &[u32], fid: u32) -> usize
     requires { IsDescending opens.now }
     ensures within { result ≤ length opens.now }

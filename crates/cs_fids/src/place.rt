@@ -1,11 +1,11 @@
-//! Where the reads of a directory go on.
+//! The place at which the reads of a directory continue.
 ghost use Rattle.std.specs.Prelude.{◌≡◌, IfOk};
 
 use cs_names::Name;
 use std::alloc::AllocError;
 
-/// Where the reads of a directory go on: the offset at which the last read ended, and the last name
-/// that it gave (read(5)).
+/// The place at which the reads of a directory continue: the offset at which the last read ended,
+/// and the last name that it returned (read(5)).
 #[derive(Debug, Drop)]
 pub struct Place {
     pub end: u64,
@@ -22,7 +22,7 @@ impl Place {
         Place { end: 0, last: None }
     }
 
-    /// The same place again.
+    /// A copy of the place. Only the name takes memory.
     pub fn try_clone(&self) -> Result<Place, AllocError>
         ensures { IfOk result (λ place. place ≡ self.now) }
     {

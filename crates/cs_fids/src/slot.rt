@@ -1,4 +1,4 @@
-//! One place of a table, whose entry can be taken out for the moment in which it becomes another.
+//! One place of a table, whose entry can be moved out while a call changes it.
 ghost use Rattle.std.specs.Prelude.{◌≡◌, OnErr, IfOk, Some};
 
 use crate::entry::FidEntry;
@@ -29,12 +29,14 @@ impl Slot {
     ghost use Rattle.cs_fids.specs.Fids.{moved_to, opened_fid, with_place};
     ghost use Rattle.cs_fids.specs.Tables.{FailsAs, opened_in, walked_in};
 
+    /// The place with this entry.
     pub(crate) fn new(entry: FidEntry) -> Slot
         ensures { result ≡ entry }
     {
         Slot { entry: Some(entry) }
     }
 
+    /// The entry, lent.
     pub(crate) fn entry(&self) -> &FidEntry
         ensures { result.now ≡ self.now }
     {
@@ -44,6 +46,7 @@ impl Slot {
         }
     }
 
+    /// The entry, moved out.
     pub(crate) fn into_entry(self) -> FidEntry
         ensures { result ≡ self }
     {
@@ -53,7 +56,7 @@ impl Slot {
         }
     }
 
-    /// Opens the fid, if it isn't open.
+    /// Opens the fid. AlreadyOpen if it is open: it is unchanged.
     pub(crate) fn open(&mut self, mode: u8, open_number: u32) -> Result<(), FidFault>
         ensures faults { FailsAs result (walked_in (Some self.old)) }
         ensures entry { IfOk (walked_in (Some self.old))
@@ -72,7 +75,7 @@ impl Slot {
         answer
     }
 
-    /// Has the fid, if it isn't open, stand for another file.
+    /// Makes the fid one of another file of its run. AlreadyOpen if it is open: it is unchanged.
     pub(crate) fn move_to(&mut self, number: u64) -> Result<(), FidFault>
         ensures faults { FailsAs result (walked_in (Some self.old)) }
         ensures entry { IfOk (walked_in (Some self.old))
@@ -88,7 +91,8 @@ impl Slot {
         answer
     }
 
-    /// Has the reads of a directory of the fid, if it is open, go on at that place.
+    /// Sets the place at which the next read of the fid's directory continues. NotOpen if the fid
+    /// isn't open: it is unchanged.
     pub(crate) fn set_place(&mut self, place: Place) -> Result<(), FidFault>
         ensures faults { FailsAs result (opened_in (Some self.old)) }
         ensures entry { IfOk (opened_in (Some self.old))

@@ -1,4 +1,4 @@
-//! The fids of a connection by their numbers, whatever their states.
+//! The fids of a connection by their numbers, in any state.
 ghost use Rattle.std.specs.Prelude.{◌≡◌, ◌≢◌, ◌+◌, ◌<◌, ◌≤◌, ◌↔◌, IfErr, IfOk, IfSome, IsErr};
 ghost use Rattle.std.specs.Prelude.{IsNone, IsOk, IsOkUnless, IsSome, IsTrue, MatchResult, None};
 ghost use Rattle.std.specs.Prelude.{OnErr, OnOk, option_copied};
@@ -17,8 +17,8 @@ use indexmap::IndexMap;
 use std::alloc::Global;
 use std::marker::Model;
 
-/// The fids of a connection, by their numbers: at most FIDS, and NOFID is none of them. Contracts
-/// see a finite map, without an order, and the room for more.
+/// The fids of a connection by their numbers: at most FIDS, and never NOFID. Contracts see a finite
+/// map, without an order, and the room for more.
 #[derive(Drop)]
 pub(crate) struct Table {
     fids: IndexMap<u32, Slot>,
@@ -43,7 +43,7 @@ impl Model for Table {
 }
 
 impl Table {
-    /// A table with no fid.
+    /// A table without fids. It takes no memory.
     pub(crate) fn new(alloc: Global) -> Table
         ensures { result.fids ≡ empty }
     {
@@ -60,7 +60,7 @@ impl Table {
         self.fids.len()
     }
 
-    /// What the number stands for, lent; NOFID stands for nothing.
+    /// The entry of the fid, lent. None if the table has no such fid, and for NOFID.
     pub(crate) fn look(&self, fid: u32) -> Option<&FidEntry>
         ensures value { option_copied result ≡ fid_at self.now fid }
         ensures nofid { fid ≡ NOFID → IsNone result }
@@ -71,15 +71,15 @@ impl Table {
         }
     }
 
-    /// Whether one fid more can be put, with no memory taken.
+    /// Whether `put` may add one fid more: there are fewer than FIDS, and its memory is reserved.
     pub(crate) fn has_room(&self) -> bool
         ensures { IsTrue result ↔ (0 < self.now.room) }
     {
         self.fids.len() < FIDS && self.fids.len() < self.fids.capacity()
     }
 
-    /// Makes room for one fid more. TableFull if there are FIDS fids; Memory only if there
-    /// was no room yet.
+    /// Reserves memory for one fid more. TableFull if there are FIDS fids. Memory only if there was
+    /// no room yet. No fid changes, also after an error.
     pub(crate) fn reserve(&mut self) -> Result<(), FidFault>
         ensures room { OnOk result (0 < self.new.room) }
         ensures full { FIDS ≤ len self.old.fids → result ≡ Err FidFault.TableFull }
@@ -95,8 +95,8 @@ impl Table {
         Ok(())
     }
 
-    /// Has the number stand for this entry. InUse if it stands for one already: the new entry is
-    /// given back, and the table stays. It takes no memory.
+    /// Adds the fid with this entry. InUse if the table has that fid: the new entry is returned,
+    /// and the table is unchanged. It takes no memory.
     pub(crate) fn put(&mut self, fid: u32, entry: FidEntry) -> Result<(), (FidFault, FidEntry)>
         requires room { 0 < self.old.room }
         requires named { fid ≢ NOFID }
@@ -115,8 +115,8 @@ impl Table {
         }
     }
 
-    /// Takes out what the number stands for, in any state. Unknown if it stands for nothing: the
-    /// table stays.
+    /// Removes the fid in any state and returns its entry. Unknown if the table has no such fid: it
+    /// is unchanged.
     pub(crate) fn take_any(&mut self, fid: u32) -> Result<FidEntry, FidFault>
         ensures value { result ≡ ok_or (fid_at self.old fid) FidFault.Unknown }
         ensures fids { OnOk result (self.new.fids ≡ remove self.old.fids fid) }
@@ -132,8 +132,8 @@ impl Table {
         }
     }
 
-    /// Takes out the fid that was walked to. Unknown if the number stands for nothing,
-    /// AlreadyOpen if the fid is open: the table stays.
+    /// Removes the fid if it isn't open, and returns it. Unknown if the table has no such fid,
+    /// AlreadyOpen if the fid is open: the table is unchanged.
     pub(crate) fn take_walked(&mut self, fid: u32) -> Result<Fid<Walked>, FidFault>
         ensures value { result ≡ walked_in (fid_at self.old fid) }
         ensures fids { OnOk result (self.new.fids ≡ remove self.old.fids fid) }
@@ -152,8 +152,7 @@ impl Table {
         }
     }
 
-    /// The open fid, lent. Unknown if the number stands for nothing, NotOpen if the fid isn't
-    /// open.
+    /// The open fid, lent. Unknown if the table has no such fid, NotOpen if the fid isn't open.
     pub(crate) fn get_opened(&self, fid: u32) -> Result<&Fid<Opened>, FidFault>
         ensures { MatchResult result (λ found. opened_in (fid_at self.now fid) ≡ Ok found.now)
             (λ fault. opened_in (fid_at self.now fid) ≡ Err fault) }
@@ -165,8 +164,8 @@ impl Table {
         }
     }
 
-    /// Opens the fid in its place. Unknown if the number stands for nothing, AlreadyOpen if
-    /// the fid is open: the table stays. It takes no memory.
+    /// Opens the fid. Unknown if the table has no such fid, AlreadyOpen if the fid is open: the
+    /// table is unchanged. It takes no memory.
     pub(crate) fn open(&mut self, fid: u32, mode: u8, open_number: u32) -> Result<(), FidFault>
         ensures faults { FailsAs result (walked_in (fid_at self.old fid)) }
         ensures fids { IfOk (walked_in (fid_at self.old fid))
@@ -181,8 +180,8 @@ impl Table {
         slot.open(mode, open_number)
     }
 
-    /// Has the fid stand for another file of its run, in its place. Unknown if the number stands
-    /// for nothing, AlreadyOpen if the fid is open: the table stays. It takes no memory.
+    /// Makes the fid one of another file of its run. Unknown if the table has no such fid,
+    /// AlreadyOpen if the fid is open: the table is unchanged. It takes no memory.
     pub(crate) fn move_to(&mut self, fid: u32, number: u64) -> Result<(), FidFault>
         ensures faults { FailsAs result (walked_in (fid_at self.old fid)) }
         ensures fids { IfOk (walked_in (fid_at self.old fid))
@@ -197,8 +196,9 @@ impl Table {
         slot.move_to(number)
     }
 
-    /// Has the reads of a directory of the open fid go on at that place. Unknown if the number
-    /// stands for nothing, NotOpen if the fid isn't open: the table stays. It takes no memory.
+    /// Sets the place at which the next read of the open fid's directory continues. Unknown if the
+    /// table has no such fid, NotOpen if the fid isn't open: the table is unchanged. It takes no
+    /// memory.
     pub(crate) fn set_place(&mut self, fid: u32, place: Place) -> Result<(), FidFault>
         ensures faults { FailsAs result (opened_in (fid_at self.old fid)) }
         ensures fids { IfOk (opened_in (fid_at self.old fid))
@@ -213,7 +213,7 @@ impl Table {
         slot.set_place(place)
     }
 
-    /// Takes every fid out.
+    /// Removes every fid; the reserved memory stays.
     pub(crate) fn clear(&mut self)
         ensures fids { self.new.fids ≡ empty }
         ensures room { self.old.room ≤ self.new.room }

@@ -37,7 +37,7 @@ module _ (t : Tree) (h : IsTree t) where
   sorted : T (is_sorted path_cmp es)
   sorted = entries_sorted t.files
 
-  -- where a fresh record comes from
+  -- each fresh record is a record's
   record Behind (p : Path) (r : Record) : Type 0 where
     place : ℕ
     old : Record

@@ -50,7 +50,7 @@ path_in e = e.0
 abbrev record_in : Entry → Record
 record_in e = e.1
 
--- ---- by a fresh number is read what the tree has by its own
+-- ---- a read by a fresh number is the tree's read by its number
 
 module _ (t : Tree) (h : IsTree t) (n : ℕ) where
   abbrev own : Option ℕ
@@ -115,7 +115,7 @@ module _ (t : Tree) (h : IsTree t) (n : ℕ) where
       by None = refl
       by (Some m) = at (path_numbered t m)
 
--- ---- and what is found has its fresh number at its own
+-- ---- the table has a found file's fresh number at the tree's number
 
 module _ (t : Tree) (numbers places : List ℕ) (h : IsNumbered t numbers places) where
   abbrev place : ℕ → Option ℕ
@@ -182,7 +182,7 @@ module _ (t : Tree) (numbers places : List ℕ) (h : IsNumbered t numbers places
         ap (λ v. v.next) (sym view) ∙ next-fresh t.files ∙ len-entries t.files ∙ sym (length-map (entries t.files) entry_number) ∙ sym
         (ap length h.own)
 
-    -- the root stands in the table
+    -- the root is in the table
     pub not_empty : 0 < length numbers
     not_empty =
         let root = h.tree.root in

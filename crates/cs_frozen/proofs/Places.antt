@@ -35,7 +35,7 @@ nth_found (suc n) (d ∷ es) sorted e is =
     let there = nth_found n es (both_second _ _ sorted) e is in
     found_more d es e.0 (λ same. above d.0 es (both_first _ _ sorted) e.1 (ap (λ w. find path_cmp w es) (sym same) ∙ there)) ∙ there
 
--- what is found stands at its path's place
+-- what is found is at its path's place
 pub found_nth : (p : Path) (r : Record) (es : List Entry) → find path_cmp p es ≡ Some r → slice_get es (place_in p es) ≡ Some (p, r)
 found_nth p r [] is = absurd (false≢true (ap is_some is))
 found_nth p r (d ∷ es) is = ⊎_elim

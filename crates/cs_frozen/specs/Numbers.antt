@@ -1,11 +1,11 @@
--- The table that ties a tree's numbers to fresh ones.
+-- The tables between a tree's numbers and fresh ones.
 use Rattle.std.specs.Prelude.{◌≡◌, ℕ, List, map, Option, Some, slice_get}
 use Rattle.std.specs.FinMap.{FinMap, entries}
 use Rattle.cs_tree_model.specs.declared.record.MetadataBuf.{MetadataBuf}
 use Rattle.cs_tree_model.specs.declared.record.Record.{Record}
 use Rattle.cs_tree_model.specs.Tree.{Path, path_cmp, Tree, IsTree}
 
--- what a record that was never changed says beside its bytes: its owner is the last who changed it
+-- the metadata of a record that was never changed: its owner is the last who changed it
 abbrev pub fresh_metadata : ℕ → MetadataBuf → MetadataBuf
 fresh_metadata n m = record m { number = n; vers = 0; atime = 0; mtime = 0; muid = m.owner }
 
@@ -22,7 +22,7 @@ abbrev pub ArePlaces : FinMap path_cmp Record → (ℕ → Option ℕ) → Type 
 ArePlaces m place =
     (i : ℕ) (e : Path × Record) → slice_get (entries m) i ≡ Some e → place e.1.number ≡ Some i
 
--- the tree's own numbers in the order of their paths, and at each of them its place
+-- the tree's numbers in the order of their paths, and at each of them its place
 pub record IsNumbered (t : Tree) (numbers places : List ℕ) : Type 0 where
   pub tree : IsTree t
   pub own : numbers ≡ numbers_of t.files

@@ -1,4 +1,4 @@
-//! A tree that changes no more, read as one that nothing has changed yet: it keeps the tree as it
+//! A tree that no longer changes, read as if nothing had ever changed it. It keeps the tree as it
 //! is, and a table of numbers.
 #![tactic(auto)]
 

@@ -11,16 +11,16 @@ use cs_tree_model::{ListedEntry, Metadata, TreeRead};
 use std::alloc::{AllocError, Global};
 use std::marker::Model;
 
-/// A tree that changes no more, read as one that nothing has changed yet: each number is the place
+/// A tree that no longer changes, read as if nothing had ever changed it: each number is the place
 /// of the file's path in byte order, versions and times are 0, and the last writer of a file is its
-/// owner. It keeps the tree as it is, and 8 bytes for each file and for each number that
-/// the tree gave.
+/// owner. It keeps the tree as it is, and 8 bytes for each file and for each number that the tree
+/// gave.
 #[derive(Drop)]
 pub struct Lower<T: TreeRead> {
     tree: T,
-    // for each number the tree's own
+    // the tree's number at each number here
     numbers: Vec<u64>,
-    // and for each of the tree's own numbers the number here
+    // the number here at each of the tree's numbers; 0 at those that no file has
     places: Vec<u64>,
 }
 
@@ -39,7 +39,7 @@ impl<T: TreeRead> Model for Lower<T> {
 }
 
 impl<T: TreeRead> Lower<T> {
-    /// The tree with its table of numbers.
+    /// The tree with its two tables of numbers.
     fn of(tree: T, numbers: Vec<u64>, places: Vec<u64>) -> Lower<T>
         requires { IsNumbered (T.tree tree) numbers.items places.items }
         ensures { result ≡ fresh (T.tree tree).files }
@@ -52,9 +52,9 @@ impl<T: TreeRead> Lower<T> {
     }
 }
 
-/// The tree as one that nothing has changed yet. It copies no record and no byte of a file. Only
-/// the table of numbers allocates, and the paths by which it is made and which are dropped again;
-/// after an error the tree is given back.
+/// The tree, read as if nothing had ever changed it. It copies no record and no byte of a file.
+/// Only the tables of numbers allocate, and the paths they are made from, which are dropped again.
+/// If it runs out of memory, the tree is returned.
 pub fn freeze<T: TreeRead>(alloc: Global, tree: T) -> Result<Lower<T>, (T, AllocError)>
     ensures ok { IfOk result (λ lower. lower ≡ fresh (T.tree tree).files) }
     ensures err { IfErr result (λ back. back.0 ≡ tree) }
@@ -68,29 +68,34 @@ pub fn freeze<T: TreeRead>(alloc: Global, tree: T) -> Result<Lower<T>, (T, Alloc
 impl<T: TreeRead> TreeRead for Lower<T> {
     ghost tree = { λ t. t };
 
+    /// The tree's record under its number here, never changed: its owner is its last writer.
     fn record(&self, number: u64) -> Option<Metadata<'_>> {
         let own = nth(&self.numbers, number)?;
         let metadata = self.tree.record(own)?;
-        Some(unchanged(number, metadata))
+        Some(fresh_metadata(number, metadata))
     }
 
+    /// Looks the name up in the tree, and returns the file's number here.
     fn find_number(&self, directory: u64, name: &str) -> Option<u64> {
         let own = nth(&self.numbers, directory)?;
         let found = self.tree.find_number(own, name)?;
         nth(&self.places, found)
     }
 
+    /// The number here of the directory that has the file in the tree.
     fn parent_of(&self, number: u64) -> Option<u64> {
         let own = nth(&self.numbers, number)?;
         let parent = self.tree.parent_of(own)?;
         nth(&self.places, parent)
     }
 
+    /// The name that the tree has for the file.
     fn name_of(&self, number: u64) -> Option<&Name> {
         let own = nth(&self.numbers, number)?;
         self.tree.name_of(own)
     }
 
+    /// The tree's next entry, with the file's number here.
     fn entry_after(
         &self,
         directory: u64,
@@ -106,14 +111,17 @@ impl<T: TreeRead> TreeRead for Lower<T> {
         })
     }
 
+    /// One for each number here; the tree has as many records.
     fn count(&self) -> usize {
         self.numbers.len()
     }
 
+    /// One less than the count, since the numbers here have no gaps.
     fn last_number(&self) -> u64 {
         self.numbers.len() as u64 - 1
     }
 
+    /// Reads the tree's file, whose bytes are the same.
     fn read_at(
         &self,
         alloc: Global,
@@ -129,15 +137,15 @@ impl<T: TreeRead> TreeRead for Lower<T> {
     }
 }
 
-/// The number at a place.
+/// The number at a place; None past the end.
 fn nth(numbers: &[u64], place: u64) -> Option<u64>
     ensures { result ≡ slice_get numbers.now place }
 {
     numbers.get(place as usize).copied()
 }
 
-/// What a file's record says if nothing has changed it.
-fn unchanged(number: u64, metadata: Metadata<'_>) -> Metadata<'_>
+/// A file's metadata as if nothing had changed it since it was made: the owner is the last writer.
+fn fresh_metadata(number: u64, metadata: Metadata<'_>) -> Metadata<'_>
     ensures { metadata_of_ref result ≡ fresh_metadata number (metadata_of_ref metadata.entry) }
 {
     let owner = metadata.owner;

@@ -1,4 +1,4 @@
-//! The table of fresh numbers.
+//! The tables of fresh numbers: the places of a tree's files in the order of their paths.
 ghost use Rattle.std.specs.Prelude.{◌≡◌, ◌≤◌, ◌<◌, cond, List, ℕ, Some, IfOk, OnOk, slice_get};
 ghost use Rattle.std.specs.BTreeMap.{get, values, IsOrdered};
 ghost use Rattle.std.specs.Option.{option_map_or};
@@ -11,7 +11,7 @@ use cs_tree_model::{TreeRead, path_of};
 use std::alloc::{AllocError, Global};
 use std::collections::BTreeMap;
 
-/// Enters a path, if there is one.
+/// Inserts the number under its path; does nothing if there is no path.
 fn enter(paths: &mut BTreeMap<Path, u64>, path: Option<Path>, number: u64) -> Result<(), AllocError>
     ensures { OnOk result
         ((q : List NameBytes)
@@ -25,8 +25,8 @@ fn enter(paths: &mut BTreeMap<Path, u64>, path: Option<Path>, number: u64) -> Re
     Ok(())
 }
 
-/// The numbers of a tree's files, which are all below the end, by their paths.
-fn by_path<T: TreeRead>(
+/// The numbers of a tree's files by their paths. `end` is above every number of a file.
+fn numbers_by_path<T: TreeRead>(
     alloc: Global,
     tree: &T,
     end: u64,
@@ -44,8 +44,8 @@ fn by_path<T: TreeRead>(
     Ok(paths)
 }
 
-/// The numbers in the order of their paths; the count is how many they are.
-fn in_order(
+/// The numbers in the order of their paths. Memory is reserved for `count` of them.
+fn numbers_in_order(
     alloc: Global,
     paths: &BTreeMap<Path, u64>,
     count: usize,
@@ -60,7 +60,8 @@ fn in_order(
     Ok(numbers)
 }
 
-/// At each of the numbers, which differ and are below the end, its place among them.
+/// A table that has, at each of the numbers, that number's place in `numbers`; `end` is above all
+/// of them. Places that belong to none of the numbers are 0.
 fn places_of(alloc: Global, numbers: &[u64], end: u64) -> Result<Vec<u64>, AllocError>
     requires below { (i : ℕ) (n : ℕ) → slice_get numbers.now i ≡ Some n → n < end }
     requires apart { (i : ℕ) (j : ℕ) (n : ℕ) → slice_get numbers.now i ≡ Some n
@@ -76,7 +77,8 @@ fn places_of(alloc: Global, numbers: &[u64], end: u64) -> Result<Vec<u64>, Alloc
     Ok(places)
 }
 
-/// The tree's own number for each fresh one, and the fresh one at each of the tree's own.
+/// The tree's number at each fresh number, and the fresh number at each of the tree's. Also out of
+/// memory if the tree has given every u64.
 pub fn table<T: TreeRead>(alloc: Global, tree: &T) -> Result<(Vec<u64>, Vec<u64>), AllocError>
     ensures { IfOk result (λ table. IsNumbered (T.tree tree.now) table.0.items table.1.items) }
 {
@@ -85,8 +87,8 @@ pub fn table<T: TreeRead>(alloc: Global, tree: &T) -> Result<(Vec<u64>, Vec<u64>
         // more numbers than any memory holds
         return Err(AllocError);
     };
-    let paths = by_path(alloc, tree, end)?;
-    let numbers = in_order(alloc, &paths, count)?;
+    let paths = numbers_by_path(alloc, tree, end)?;
+    let numbers = numbers_in_order(alloc, &paths, count)?;
     let places = places_of(alloc, &numbers, end)?;
     Ok((numbers, places))
 }

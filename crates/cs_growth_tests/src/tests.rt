@@ -1,5 +1,5 @@
-//! Calls whose growths are refused in turn: each row has the name of the call that it makes; and what
-//! clients of a world get if it is out of memory.
+//! Calls whose growths are refused in turn: each row has the name of the call that it makes; and
+//! what clients of a world get if it is out of memory.
 
 mod attaches;
 mod calls;

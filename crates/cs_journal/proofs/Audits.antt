@@ -34,7 +34,7 @@ own_places r p f up k d within =
     let same : k ≡ length p.receipts - 1 → (get_or p.receipts k d).place ≡ last.place = λ e. ap (λ n. (get_or p.receipts n d).place) e in
     grind (arith, place, inside, before, same)
 
--- so the receipt of the next entry comes behind them
+-- so the receipt of the next entry comes after them
 pub ascending_push : (r : RunOf) (p : PassOf) (e : EntryOf) → Fits r p → IsAscending p.receipts
     → IsAscending (p.receipts ++ receipt_of (length r.journal) e ∷ [])
 ascending_push r p e f up =
@@ -51,7 +51,7 @@ find_none : (place : ℕ) (xs : List ReceiptOf) → ((k : ℕ) (d : ReceiptOf) �
 find_none place [] none = refl
 find_none place (x ∷ xs) none = rw (none 0 x (omega arith)) (find_none place xs (λ k d within. none (suc k) d (omega arith)))
 
--- where the first receipt has a later place none is found
+-- if the first receipt has a later place, none is found
 found_none : (place : ℕ) (x : ReceiptOf) (xs : List ReceiptOf) → IsAscending (x ∷ xs) → place < x.place → find (is_at place) (x ∷ xs) ≡ None
 found_none place x xs up later = find_none place (x ∷ xs) (λ k d within.
     let above : 0 < k → x.place < (get_or (x ∷ xs) k d).place = λ some. up 0 k d some within in
@@ -67,7 +67,7 @@ first_is_later place (y ∷ ys) x up from there differs =
     let least : place ≤ y.place = from in
     sym (found_none place y ys up (omega (arith, at, least, differs)))
 
--- ---- the rests of all passes, as an audit goes on
+-- ---- the rests of all passes during an audit
 
 pub rest_later : (passes : List PassOf) (number place : ℕ) (rest : List ReceiptOf) → IsRest passes number place rest
     → IsRest passes number (place + 1) rest

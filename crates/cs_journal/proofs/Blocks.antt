@@ -1,4 +1,4 @@
--- The bytes of writes stay where they lie.
+-- The bytes of writes keep their places.
 use Rattle.std.proofs.Common.{◌≡◌, ◌∙◌, ℕ, suc, ◌+◌, ◌<◌, ◌≤◌, ◌==◌, Bool, true, false, cond, List, [], ◌∷◌, ◌++◌, length, length-append}
 use Rattle.std.proofs.Common.{length-drop, length-set, drop, get_or, map, set, take, refl, sym, ap, subst, arith}
 use Rattle.std.proofs.lemmas.Bool.{eqb-false}
@@ -24,7 +24,7 @@ in_front xs more start len within =
     ap (take len) (drop-append-le start xs more (omega (arith, within))) ∙ take-append-le len (drop start xs) more
     (omega (arith, within, length-drop start xs))
 
--- each old block is there, perhaps with more bytes behind its own
+-- each old block is there, perhaps with more bytes after its own
 grown : (old new : List (List ℕ)) (more : ℕ → List ℕ) → length old ≤ length new
     → ((n : ℕ) → n < length old → get_or new n [] ≡ get_or old n [] ++ more n) → Keeps old new
 grown old new more many front = record {

@@ -28,7 +28,7 @@ along P r r' p p' run_is pass_is there =
     let R : RunOf → Type 0 = λ x. P x p' in
     subst Q (sym pass_is) (subst R (sym run_is) there)
 
--- ---- a close whose open stands and that removes nothing
+-- ---- a close whose open is there and that removes nothing
 
 granted_if : (mark : CallMark) → outcome_by None (is_refused mark && false) ≡ out.Granted
 granted_if ample = refl
@@ -47,7 +47,7 @@ plain_close s pass now c mark plain =
     let kept = both true (is_some (open_numbered c.open_number pass s.opens)) _ plain in
     rw (kept.1, granted_if mark) refl
 
--- such a close is answered whatever memory refuses
+-- such a close is answered even if memory runs out
 pub plainly : (s : RunState) (pass now : ℕ) (call : Call) (mark : CallMark) → closes_plainly s pass call ≡ true
     → (result_by_mark (rules_view_of s) (turn_in s pass now) call mark).answer ≡ Closed
 plainly s pass now (k.Close c) mark plain = plain_close s pass now c mark plain
@@ -61,7 +61,7 @@ plainly s pass now (k.Remove c) mark plain = absurd cc
 plainly s pass now (k.Stat c) mark plain = absurd cc
 plainly s pass now (k.Wstat c) mark plain = absurd cc
 
--- it ends an open that stands
+-- it ends an open that is there
 pub plain_ends : (s : RunState) (pass : ℕ) (call : Call) → closes_plainly s pass call ≡ true
     → is_some (open_that_ends s.opens pass call) ≡ true
 plain_ends s pass call plain = (both (is_close call) (is_some (open_that_ends s.opens pass call)) _ plain).0
@@ -79,7 +79,7 @@ ends_small opens pass (k.Remove c) is = absurd cc
 ends_small opens pass (k.Stat c) is = refl
 ends_small opens pass (k.Wstat c) is = refl
 
--- a call that ends an open that stands is charged nothing
+-- a call that ends an open that is there is charged nothing
 pub free : (opens : List OpenFile) (pass : ℕ) (call : Call) → is_some (open_that_ends opens pass call) ≡ true → charge opens pass call ≡ 0
 free opens pass call is = rw is refl
 

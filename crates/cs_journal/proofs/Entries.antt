@@ -53,7 +53,7 @@ in_rest z x [] back differs there = ⊎_elim (λ (same : z ≡ x). absurd (diffe
 in_rest z x (y ∷ front) back differs there =
     ⊎_elim (λ (same : z ≡ y). inl same) (λ (rest : IsIn z (front ++ x ∷ back)). inr (in_rest z x front back differs rest)) there
 
--- no element stands twice
+-- no element is there twice
 abbrev AreApart : {A : Type 0} → List A → Type 0
 AreApart [] = Unit {0}
 AreApart {A} (y ∷ ys) = ((z : A) → IsIn z ys → z ≢ y) × AreApart ys

@@ -35,7 +35,7 @@ counted_in fresh tree us opens journal counts h p k there =
       last = ap (λ (x : PassCounts). receipt_at journal x.last) its ∙ told_by_place p.number journal;
     }
 
--- the counts and the last receipt tell whether a pass fits
+-- the counts and the last receipt decide whether a pass fits
 pub fits_where_counted : (fresh tree : Tree) (us : List Row) (opens : List OpenFile) (journal : List EntryOf) (counts : List PassCounts)
     → IsHeld fresh tree us opens journal counts → (p : PassOf) (k : PassCounts) → slice_get counts p.number ≡ Some k
     → Tallies k journal p ↔ Fits (record { fresh = fresh; users = us; journal = journal; passes = length counts }) p
@@ -45,7 +45,7 @@ fits_where_counted fresh tree us opens journal counts h p k there =
       λ f. record { entries = c.entries ∙ sym f.entries; opens = c.opens ∙ sym f.opens; last = f.last ∙ sym c.last },
     )
 
--- a receipt is of an entry where place, outcome and the call without its bytes are the entry's
+-- a receipt is of an entry if place, outcome and the call without its bytes are the entry's
 pub is_receipt_of : (place : ℕ) (r s : ReceiptOf) (e d : EntryOf) (x y : Call) (b : Bool) → s ≡ r → d ≡ e → s.place ≡ place
     → s.outcome ≡ d.outcome → x ≡ s.call → y ≡ without_bytes d.call → ((b ≡ true) ↔ (x ≡ y)) → (b ≡ true) ↔ (r ≡ receipt_of place e)
 is_receipt_of place r s e d x y b sr de at ends xs ys same =
@@ -71,7 +71,7 @@ own_fits r p e own f =
           (ap last_of (own_receipts p.number r.journal e own) ∙ last-push (receipts_in p.number r.journal) t);
     }
 
--- another pass, of which as many opens stand as before
+-- another pass, which has as many opens as before
 pub other_fits : (r : RunOf) (q : PassOf) (e : EntryOf) → e.pass ≢ q.number
     → length (opens_under q.number (apply (state_of r) e).opens) ≡ length (opens_under q.number (state_of r).opens) → Fits r q
     → Fits (run_with_entry r e) q

@@ -51,7 +51,7 @@ told es (Some r) stands =
     let place : r.place ≡ s.index = ap (λ (x : ReceiptOf). x.place) its in
     ap (λ n. option_map (receipt_of n) (slice_get es n)) place ∙ ap (option_map (receipt_of s.index)) s.there ∙ ap (λ x. Some x) (sym its)
 
--- so the place of a pass's last receipt tells the receipt
+-- so the place of a pass's last receipt determines the receipt
 pub told_by_place : (pass : ℕ) (es : List EntryOf)
     → receipt_at es (option_map (λ (r : ReceiptOf). r.place) (last_of (receipts_in pass es))) ≡ last_of (receipts_in pass es)
 told_by_place pass es = told es (last_of (receipts_in pass es)) (last_stands pass 0 es)

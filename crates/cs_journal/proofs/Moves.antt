@@ -24,7 +24,7 @@ use Rattle.cs_journal.proofs.Journals.{filter-push}
 use Rattle.cs_journal.specs.Calls.{charge, open_that_ends}
 use Rattle.cs_journal.specs.Runs.{is_under, opens_under}
 
--- the new opens and one entry fit where the old ones stood and so many more; the pass's opens change as all do, and other passes' stay
+-- the new opens and one entry fit into the room of the old ones and so many more; the pass's opens change as all do, other passes' stay
 pub record Moves (old new : List OpenFile) (pass more : ℕ) : Type 0 where
   pub room : length new + 1 ≤ length old + more
   pub own_room : length (opens_under pass new) + 1 ≤ length (opens_under pass old) + more
@@ -112,7 +112,7 @@ nothing = record { number = 0; file = 0; mode = 0; pass = 0 }
 its_pass : (number pass : ℕ) (o : OpenFile) → is_open number pass o ≡ true → o.pass ≡ pass
 its_pass number pass o is = grind (arith, nat_tests)
 
--- a call that ends an open that stands takes no room for its entry
+-- a call that ends an open that is there takes no room for its entry
 released_moves : (number pass : ℕ) (opens : List OpenFile) (place : Option ℕ) → position (is_open number pass) opens ≡ place
     → Moves opens (option_map_or (remove opens) place opens) pass (if is_some (option_and_then (slice_get opens) place) then 0 else 1)
 released_moves number pass opens None is = none_moves opens pass
@@ -159,7 +159,7 @@ granted_call s w call true one =
     rw (made.more, two) (pushed_moves s.opens made.one w.pass made.pass)
 granted_call s w call false none = rw (as_left s w call none) (released_call s.opens w.pass call)
 
--- whatever comes of a call, its entry and the opens that it leaves fit where the old opens stood and what the call is charged
+-- however a call ends, its entry and the opens that it leaves fit into the room of the old opens and what the call is charged
 pub call_moves : (s : RulesView) (w : Turn) (call : Call) (o : Outcome)
     → Moves s.opens (result_by_outcome s w call o).opens w.pass (charge s.opens w.pass call)
 call_moves s w call out.Granted = granted_call s w call (opens_one call) refl

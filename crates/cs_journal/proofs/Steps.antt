@@ -63,7 +63,7 @@ module _ {fresh tree : Tree} {us : List Row} {opens : List OpenFile} {journal : 
   in_state P r p p' run_is pass_is there =
       subst (λ s. P s p.number) state_here (along (λ x q. P (state_of x) q.number) held_run r p p' run_is pass_is there)
 
-  -- a close whose open stands has room
+  -- a close whose open is there has room
   pub plain_room : (pass : ℕ) (call : Call) → JOURNAL_ENTRIES < length journal + length opens + charge opens pass call
       → closes_plainly here pass call ≢ true
   plain_room pass call above plain = let none = free opens pass call (plain_ends here pass call plain) in

@@ -1,5 +1,4 @@
--- When the receipts of some passes are the entries of a journal, and what an entry's call was
--- answered.
+-- When the receipts of some passes are the entries of a journal, and the answer to an entry's call.
 use Rattle.std.specs.Prelude.{◌≡◌, ◌≢◌, ℕ, ◌+◌, ◌<◌, ◌≤◌, ◌==◌, Bool, List, [], ◌∷◌, length, map}
 use Rattle.std.specs.Prelude.{option_map, slice_get, sum_by, take, Option, None, Some, Result, Ok}
 use Rattle.std.specs.Prelude.{Err}
@@ -25,7 +24,7 @@ abbrev pub receipts_of_pass : List PassOf → ℕ → List ReceiptOf
 receipts_of_pass passes number =
     option_map_or (λ p. p.receipts) (find (is_numbered number) passes) []
 
--- of these the receipt with the entry's place, if there is one
+-- the one of these receipts that has the entry's place, if there is one
 abbrev pub receipt_for : List PassOf → ℕ → EntryOf → Option ReceiptOf
 receipt_for passes place e = find (is_at place) (receipts_of_pass passes e.pass)
 
@@ -72,7 +71,7 @@ pub record IsChanged (passes : List PassOf) (journal : List EntryOf) (place : �
   pub differs : receipt ≢ receipt_of place entry
   pub before : HaveReceipts passes journal place
 
--- what is said of the receipt that was found for an entry's place, if one was
+-- what an audit reports of the receipt that it found for an entry's place, if any
 abbrev pub TellsOf : Option ReceiptOf → ℕ → EntryOf → Result (Unit {0}) AuditFault → Type 0
 TellsOf receipt place e (Ok x) = receipt ≡ Some (receipt_of place e)
 TellsOf receipt place e (Err Count) = ⊥
@@ -80,7 +79,7 @@ TellsOf receipt place e (Err (Missing k)) = (k ≡ place) × (receipt ≡ None)
 TellsOf receipt place e (Err (Changed k)) =
     (k ≡ place) × ((r : ReceiptOf) × (receipt ≡ Some r) × (r ≢ receipt_of place e))
 
--- what an audit says of the entries, if there are as many receipts
+-- what an audit reports of the entries, if there are as many receipts
 abbrev pub IsAudit : List PassOf → List EntryOf → Result (Unit {0}) AuditFault → Type 0
 IsAudit passes journal (Ok x) = HaveReceipts passes journal (length journal)
 IsAudit passes journal (Err Count) = ⊥
@@ -91,7 +90,7 @@ IsAudit passes journal (Err (Changed place)) = IsChanged passes journal place
 abbrev pub AreAsMany : List PassOf → List EntryOf → Type 0
 AreAsMany passes journal = receipts_count passes ≡ length journal
 
--- what an audit says: the counts are looked at first
+-- what an audit reports: the counts are compared first
 abbrev pub Audits : List PassOf → List EntryOf → Result (Unit {0}) AuditFault → Type 0
 Audits passes journal (Ok x) = AreAsMany passes journal × IsAudit passes journal (Ok x)
 Audits passes journal (Err Count) = ¬ AreAsMany passes journal
@@ -123,9 +122,9 @@ AreEntries passes journal = IsPermutation (all_receipts passes) (all_entries_fro
 abbrev pub HaveDistinctNumbers : List PassOf → Type 0
 HaveDistinctNumbers passes = AllPairs (λ one later. one.number ≢ later.number) passes
 
--- ---- what an entry's call was answered
+-- ---- the answer to an entry's call
 
--- what the call of the entry at a place of a journal from that state was answered, if there is one
+-- the answer to the call of the entry at a place of a journal from that state, if there is one
 abbrev pub answer_at : RunState → List EntryOf → ℕ → Option Answer
 answer_at state journal place =
     option_map (answer_to (replay state (take place journal))) (slice_get journal place)

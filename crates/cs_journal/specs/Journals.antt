@@ -1,4 +1,4 @@
--- A run's state, and what the entries of a journal make of it.
+-- A run's state, and how the entries of a journal change it.
 use Rattle.std.specs.Prelude.{◌≡◌, ℕ, ◌+◌, ◌≤◌, ◌==◌, Bool, List, [], ◌∷◌, length, filter}
 use Rattle.cs_names.specs.declared.limits.TheConstants.{JOURNAL_ENTRIES}
 use Rattle.cs_permit.specs.Calls.{RulesView, rules_view}
@@ -39,7 +39,7 @@ pub record RunState : Type 0 where
 abbrev pub run_state : Tree → List OpenFile → List Row → ℕ → RunState
 run_state t os us n = record { tree = t; opens = os; users = us; entries = n }
 
--- the state of a run that no call was made on
+-- the state of a run without a call
 abbrev pub fresh_state : Tree → List Row → RunState
 fresh_state t us = record { tree = t; opens = []; users = us; entries = 0 }
 
@@ -47,7 +47,7 @@ fresh_state t us = record { tree = t; opens = []; users = us; entries = 0 }
 abbrev pub rules_view_of : RunState → RulesView
 rules_view_of state = rules_view state.tree state.opens state.users
 
--- the turn of a call that comes next: its place is how many entries are before it
+-- the turn of the next call: its place is how many entries are before it
 abbrev pub turn_in : RunState → ℕ → ℕ → Turn
 turn_in state pass moment = record { moment = moment; place = state.entries; pass = pass }
 

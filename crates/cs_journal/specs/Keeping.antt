@@ -1,4 +1,4 @@
--- What keeping a call gives.
+-- What is kept of a call.
 use Rattle.std.specs.Prelude.{◌≡◌, []}
 use Rattle.cs_permit.specs.declared.call.Call.{Call}
 use Rattle.cs_journal.specs.declared.kept.KeptCall.{KeptCall}
@@ -6,7 +6,7 @@ use Rattle.cs_journal.specs.Journals.{JournalOf}
 use Rattle.cs_journal.specs.Kept.{LiesIn, call_of}
 use Rattle.cs_journal.specs.Summaries.{without_bytes}
 
--- an entry that keeps the call, whose bytes lie in the journal, and a receipt that keeps the call
+-- an entry that keeps the call, whose bytes are in the journal, and a receipt that keeps the call
 -- without them
 pub record KeepsCall (journal : JournalOf) (call : Call) (made : KeptCall × KeptCall)
     : Type 0 where

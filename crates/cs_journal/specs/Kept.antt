@@ -15,7 +15,7 @@ use Rattle.cs_journal.specs.declared.kept.WriteHead.{WriteHead}
 use Rattle.cs_journal.specs.Journals.{EntryOf}
 use Rattle.cs_journal.specs.Written.{IsWithin, bytes_at}
 
--- a close, a remove, a read that goes on at the start, and a write
+-- a close, a remove, a read whose place is the start, and a write
 abbrev pub close_call : ℕ → List ℕ → Call
 close_call open_number user = call.Close (record { open_number = open_number; user = user })
 
@@ -36,12 +36,12 @@ write_call head bytes =
       bytes = bytes;
     })
 
--- a call that is done once more
+-- a call that is done again
 abbrev pub again_call : CallAgain → Call
 again_call (a.Own c) = c
 again_call (a.Shared c) = c.now
 
--- the call, if the bytes that it writes lie in these blocks
+-- the call, if the bytes that it writes are in these blocks
 abbrev pub call_of : List (List ℕ) → KeptCall → Call
 call_of blocks (k.Shared shared) = arc_value shared
 call_of blocks (k.Write piece head) = write_call (arc_value head) (bytes_at blocks piece)
@@ -52,12 +52,12 @@ call_of blocks (k.RemoveOpen open_number number user) =
 call_of blocks (k.Read count number offset) = read_call number offset count
 call_of blocks (k.Stat number) = call.Stat (record { number = number })
 
--- they do lie there
+-- they are in these blocks
 abbrev pub LiesIn : List (List ℕ) → KeptCall → Type 0
 LiesIn blocks (k.Write piece head) = IsWithin blocks piece
 LiesIn blocks other = Unit {0}
 
--- an entry whose call's bytes lie in these blocks
+-- an entry whose call's bytes are in these blocks
 abbrev pub entry_in : List (List ℕ) → Entry → EntryOf
 entry_in blocks e = record {
   pass = e.pass;
@@ -66,7 +66,7 @@ entry_in blocks e = record {
   outcome = e.outcome;
 }
 
--- they do lie there, and a run gives the pass
+-- they are in these blocks, and a run gives the pass
 pub record IsEntryIn (blocks : List (List ℕ)) (e : Entry) : Type 0 where
   pub few : e.pass < RUN_ATTACHES
   pub within : LiesIn blocks e.kept

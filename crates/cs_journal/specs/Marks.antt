@@ -1,4 +1,4 @@
--- Which growth of a step memory refuses, as data.
+-- Which allocation of a step is refused, as data.
 use Rattle.std.specs.Prelude.{Bool, true, false}
 use Rattle.cs_run.specs.Marks.{CallMark}
 use Rattle.cs_run.specs.Marks.{Ample as ample, NoGrant as no_grant}

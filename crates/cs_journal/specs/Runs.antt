@@ -16,8 +16,8 @@ use Rattle.cs_journal.specs.Summaries.{without_bytes}
 use Rattle.cs_journal.specs.Journals.{EntryOf, RunState, entries_of_pass, is_of_pass, replay}
 use Rattle.cs_journal.specs.Journals.{fresh_state}
 
--- A run: the tree and the users that it began with, its journal, and how many passes it gave. Its
--- state is what the journal's replay gives.
+-- A run: the tree and the users with which it began, its journal, and how many passes it gave. Its
+-- state is the journal's replay.
 pub record RunOf : Type 0 where
   pub fresh : Tree
   pub users : List Row
@@ -54,7 +54,7 @@ run_code =
     })
     (λ _. refl)
 
--- a run that no call was made on, and that gave no pass
+-- a run without a call or a pass
 abbrev pub fresh_run : Tree → List Row → RunOf
 fresh_run t us = record { fresh = t; users = us; journal = []; passes = 0 }
 
@@ -65,7 +65,7 @@ first_state run = fresh_state run.fresh run.users
 abbrev pub state_of : RunOf → RunState
 state_of run = replay (first_state run) run.journal
 
--- a run that gave one pass more
+-- a run that gave one more pass
 abbrev pub with_pass : RunOf → RunOf
 with_pass run = record {
   fresh = run.fresh;

@@ -1,4 +1,4 @@
--- The calls that an entry keeps with no memory of its own.
+-- The calls that an entry keeps without allocating.
 use Rattle.std.specs.Prelude.{◌==◌, ◌&&◌, not, Bool, true, false, is_some}
 use Rattle.cs_fids.specs.declared.place.Place.{Place}
 use Rattle.cs_permit.specs.declared.call.Call.{Call}
@@ -8,8 +8,8 @@ use Rattle.cs_permit.specs.declared.call.Call.TheVariants as call
 abbrev pub is_start : Place → Bool
 is_start place = place.end == 0 && not (is_some place.last)
 
--- a call that an entry keeps whole: a close, a remove, a stat, or a read that goes on at the start,
--- as each of a file does
+-- a call that an entry keeps whole: a close, a remove, a stat, or a read whose place is the start,
+-- as every read of a file
 abbrev pub is_small : Call → Bool
 is_small (call.Close c) = true
 is_small (call.Remove c) = true

@@ -1,4 +1,4 @@
--- A step on a run: what a call under a pass leaves, and what it answers.
+-- A step on a run: what a call under a pass leaves, and its answer.
 use Rattle.std.specs.Prelude.{◌≡◌, ◌≢◌, ℕ, true, [], ◌∷◌, ◌++◌, length, not, ◌&&◌, is_some}
 use Rattle.std.specs.Prelude.{if◌then◌else◌}
 use Rattle.cs_names.specs.declared.rule_id.RuleId.TheVariants.{L1}
@@ -23,7 +23,7 @@ pub record StepResult : Type 0 where
 abbrev pub without_entry : RunOf → PassOf → Answer → StepResult
 without_entry run pass answer = record { answer = answer; run = run; pass = pass }
 
--- one entry more, the last
+-- one more entry, the last
 abbrev pub run_with_entry : RunOf → EntryOf → RunOf
 run_with_entry run entry = record {
   fresh = run.fresh;
@@ -40,7 +40,7 @@ pass_with_receipt run pass entry = record {
   reserved = length (opens_under pass.number (apply (state_of run) entry).opens);
 }
 
--- an entry, and what its call is answered
+-- an entry, and the answer to its call
 abbrev pub after_entry : RunOf → PassOf → EntryOf → StepResult
 after_entry run pass entry = record {
   answer = answer_to (state_of run) entry;
@@ -68,8 +68,8 @@ step run pass now call mark =
     then without_entry run pass Short
     else after_entry run pass (entry_of run pass now call mark)
 
--- What is said of a step: it is the one that some mark gives, the journal is legal, and each pass
--- fits that did. A close whose open is there, and that removes nothing, is made.
+-- The contract of a step: it is the one that some mark gives, the journal is legal, and each pass
+-- that fitted fits. A close whose open is there, and that removes nothing, is granted.
 pub record IsStep (old : RunOf) (pass : PassOf) (now : ℕ) (call : Call) (answer : Answer)
     (new : RunOf) (left : PassOf) : Type 0 where
   pub stepped : (mark : StepMark)

@@ -12,7 +12,7 @@ without_bytes (call.Write c) =
     call.Write (record { number = c.number; user = c.user; offset = c.offset; bytes = [] })
 without_bytes other = other
 
--- what a summary says of a call
+-- the call in a summary
 abbrev pub call_in : CallSummary → Call
 call_in (s.Attach user) = call.Attach (record { user = user.now })
 call_in (s.Walk number user names) =

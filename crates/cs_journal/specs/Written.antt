@@ -1,4 +1,4 @@
--- The bytes that calls write, as they lie in blocks: each call's in one piece.
+-- The bytes that calls write, in blocks: each call's in one piece.
 use Rattle.std.specs.Prelude.{◌≡◌, ℕ, ◌+◌, ◌<◌, ◌≤◌, List, [], drop, length, map, slice_index_or}
 use Rattle.std.specs.Prelude.{take, Vec}
 use Rattle.std.specs.declared.alloc.Global.{Global}
@@ -12,12 +12,12 @@ bytes_in blocks = map (λ b. b.items) blocks
 abbrev pub bytes_at : List (List ℕ) → Piece → List ℕ
 bytes_at blocks p = take p.len (drop p.start (slice_index_or blocks p.block []))
 
--- a piece lies within its block
+-- a piece is within its block
 pub record IsWithin (blocks : List (List ℕ)) (p : Piece) : Type 0 where
   pub block : p.block < length blocks
   pub bytes : p.start + p.len ≤ length (slice_index_or blocks p.block [])
 
--- each piece that lay in the old blocks lies in the new ones, with the same bytes
+-- each piece that was in the old blocks is in the new ones, with the same bytes
 pub record Keeps (old new : List (List ℕ)) : Type 0 where
   pub within : (p : Piece) → IsWithin old p → IsWithin new p
   pub same : (p : Piece) → IsWithin old p → bytes_at new p ≡ bytes_at old p

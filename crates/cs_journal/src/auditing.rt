@@ -14,7 +14,7 @@ use crate::run::Run;
 use cs_names::limits::RUN_ATTACHES;
 use cs_tree_model::TreeRead;
 
-/// How many passes a run gives.
+/// How many passes a run gives at most.
 const PASSES: usize = RUN_ATTACHES as usize;
 
 /// Why the receipts of some passes are not the entries of a run.
@@ -22,13 +22,13 @@ const PASSES: usize = RUN_ATTACHES as usize;
 pub enum AuditFault {
     /// There are not as many receipts as entries.
     Count,
-    /// The first entry without its own receipt, at that place, has none.
+    /// The entry at this place is the first without its own receipt: it has none.
     Missing(u32),
-    /// The first entry without its own receipt, at that place, has another.
+    /// The entry at this place is the first without its own receipt: it has another.
     Changed(u32),
 }
 
-/// Whether the passes have so many receipts together.
+/// Whether the passes have `entries` receipts in all.
 fn has_count(passes: &[Pass], entries: usize) -> bool
     ensures { IsTrue result ↔ (receipts_count passes.now ≡ entries) }
 {
@@ -43,7 +43,7 @@ fn has_count(passes: &[Pass], entries: usize) -> bool
     total == entries
 }
 
-/// The receipts of the first pass of the number; none if no pass has it.
+/// The receipts of the first pass of that number; none if no pass has it.
 fn receipts_of(passes: &[Pass], number: u32) -> &[Receipt]
     ensures value { result.now ≡ receipts_of_pass passes.now number }
     ensures ascending { IsAscending result.now }
@@ -56,7 +56,7 @@ fn receipts_of(passes: &[Pass], number: u32) -> &[Receipt]
     &[]
 }
 
-/// The same for each number that a run gives.
+/// The receipts of the first pass of each number that a run gives.
 fn receipts_by_number(passes: &[Pass]) -> [&[Receipt]; PASSES]
     ensures rests { AreRests (λ rest. rest.now) passes.now result 0 }
     ensures many { length result ≡ RUN_ATTACHES }
@@ -68,7 +68,7 @@ fn receipts_by_number(passes: &[Pass]) -> [&[Receipt]; PASSES]
     all
 }
 
-/// The receipts from the first one whose place isn't before this one.
+/// The receipts from the first on whose place is this one or a later one.
 fn from_place(receipts: &[Receipt], place: u32) -> &[Receipt]
     requires { IsAscending receipts.now }
     ensures same { FindSame place result.now receipts.now }
@@ -83,7 +83,7 @@ fn from_place(receipts: &[Receipt], place: u32) -> &[Receipt]
     &[]
 }
 
-/// The first of the receipts, if it has the place.
+/// The first of the receipts, if it has that place.
 fn first_at(receipts: &[Receipt], place: u32) -> Option<&Receipt>
     requires ascending { IsAscending receipts.now }
     requires from { IfSome (slice_get receipts.now 0) (λ r. place ≤ r.place) }
@@ -97,7 +97,8 @@ fn first_at(receipts: &[Receipt], place: u32) -> Option<&Receipt>
     }
 }
 
-/// Whether the receipt that was found for an entry's place, if one was, is the entry's own.
+/// Ok if the receipt that was found for an entry's place is the entry's own; otherwise what is
+/// wrong.
 fn audit_entry(receipt: Option<&Receipt>, place: u32, entry: &EntryRef) -> Result<(), AuditFault>
     ensures { TellsOf (option_map (λ r. r.now) receipt.entry) place entry.now result }
 {
@@ -111,7 +112,8 @@ fn audit_entry(receipt: Option<&Receipt>, place: u32, entry: &EntryRef) -> Resul
     }
 }
 
-/// The first entry without its own receipt, if there is one. Each receipt is passed over once.
+/// Ok if each entry has its own receipt, else the fault of the first that doesn't. It goes over
+/// each receipt once.
 fn audit_entries(journal: &Journal, passes: &[Pass]) -> Result<(), AuditFault>
     requires { length journal.now.items ≤ JOURNAL_ENTRIES }
     ensures { IsAudit passes.now journal.now.items result }
@@ -130,7 +132,7 @@ fn audit_entries(journal: &Journal, passes: &[Pass]) -> Result<(), AuditFault>
     Ok(())
 }
 
-/// The same, if there are as many receipts as entries; else Count.
+/// Checks the number of receipts first (Count), and then each entry.
 fn audit_journal(journal: &Journal, passes: &[Pass]) -> Result<(), AuditFault>
     requires { length journal.now.items ≤ JOURNAL_ENTRIES }
     ensures { Audits passes.now journal.now.items result }
@@ -142,10 +144,10 @@ fn audit_journal(journal: &Journal, passes: &[Pass]) -> Result<(), AuditFault>
 }
 
 impl<L: TreeRead + Drop> Run<L> {
-    /// Whether the receipts of the passes, its own or any others, are the entries of its journal:
-    /// Count if there are not as many; then Missing or Changed at the first entry that has no
-    /// receipt, or another, in the first pass of its number. It takes no memory, and as long as
-    /// there are entries.
+    /// Checks that the receipts of these passes, the run's own or any others, are the entries of
+    /// its journal: Count if there are not as many; then Missing or Changed at the first entry that
+    /// has no receipt, or another, in the first pass of its number. It allocates nothing, and takes
+    /// time linear in the entries.
     pub fn audit(&self, passes: &[Pass]) -> Result<(), AuditFault>
         ensures { Audits passes.now self.now.journal result }
     {

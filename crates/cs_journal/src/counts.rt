@@ -1,4 +1,4 @@
-//! How far the passes of a run have come.
+//! What a run counts of each of its passes.
 
 /// How many entries and opens a pass has, and the place of its last entry.
 #[derive(Clone, Copy, Debug, PartialEq, Eq)]

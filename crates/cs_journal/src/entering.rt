@@ -1,4 +1,4 @@
-//! Entries and receipts of calls, with the memory for both taken before.
+//! Adding a call's entry and receipt, for which memory was allocated before.
 ghost use Rattle.std.specs.Prelude.{◌≡◌, ◌<◌, ◌+◌, [], ◌∷◌, ◌++◌, length, vec_capacity, vec_len};
 ghost use Rattle.cs_names.specs.declared.limits.TheConstants.{RUN_ATTACHES};
 ghost use Rattle.cs_journal.specs.Kept.{LiesIn, call_of};
@@ -10,8 +10,7 @@ use crate::kept::KeptCall;
 use crate::receipt::Receipt;
 use cs_run::{Outcome, Turn};
 
-/// Adds the entry of a call in that turn, and its receipt, with what each keeps of it. It takes no
-/// memory.
+/// Adds the entry of a call in that turn, and its receipt, into the room that both lists have.
 #[inline]
 pub(crate) fn enter(
     journal: &mut Journal,

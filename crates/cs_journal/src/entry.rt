@@ -9,10 +9,10 @@ use cs_run::{Outcome, Turn};
 use std::alloc::{AllocError, Global};
 use std::marker::Model;
 
-/// An entry of a journal, as it lies there.
+/// An entry of a journal as it is stored, without the bytes that its call wrote.
 #[derive(Drop)]
 pub struct Entry {
-    // small, so that an entry is
+    // 8 bits, to keep an entry small
     pub(crate) pass: u8,
     pub(crate) outcome: Outcome,
     pub(crate) moment: u32,
@@ -73,14 +73,14 @@ impl<'a> EntryRef<'a> {
         self.entry.outcome
     }
 
-    /// Its call without the bytes that it wrote.
+    /// Its call without the bytes that it writes.
     pub(crate) fn summary(&self) -> CallSummary<'_>
         ensures { call_in result ≡ without_bytes self.now.call }
     {
         self.entry.kept.summary()
     }
 
-    /// Its call, once more.
+    /// Its call, to be done again.
     pub(crate) fn again(&self, alloc: Global) -> Result<CallAgain<'a>, AllocError>
         ensures { IfOk result (λ again. again_call again ≡ self.now.call) }
     {

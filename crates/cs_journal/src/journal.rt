@@ -43,7 +43,7 @@ impl Model for Journal {
 }
 
 impl Journal {
-    /// No entry.
+    /// A journal without entries.
     pub(crate) fn new(alloc: Global) -> Journal
         ensures { result.items ≡ [] }
     {
@@ -60,7 +60,7 @@ impl Journal {
         self.entries.len()
     }
 
-    /// Room for so many more, and for a whole journal if it has grown long.
+    /// Makes room for `more` entries, or for a whole journal if this one is long.
     #[inline]
     pub(crate) fn widen(&mut self, more: usize) -> Result<(), AllocError>
         ensures items { self.new.items ≡ self.old.items }
@@ -71,7 +71,7 @@ impl Journal {
         widen(&mut self.entries, more)
     }
 
-    /// Keeps the bytes of a write: what its entry and its receipt keep of it. The entries stay.
+    /// Stores the bytes of a write, and returns what its entry and its receipt keep of it.
     pub(crate) fn keep_write(
         &mut self,
         alloc: Global,
@@ -97,7 +97,7 @@ impl Journal {
         Ok((entry, receipt))
     }
 
-    /// Adds an entry. It takes no memory.
+    /// Adds an entry into the room that `widen` made.
     #[inline]
     pub(crate) fn push(&mut self, entry: Entry)
         requires room { length self.old.items < self.old.capacity }
@@ -110,7 +110,7 @@ impl Journal {
         self.entries.push_reserved(entry);
     }
 
-    /// The entry at the place.
+    /// The entry at that place.
     pub(crate) fn entry(&self, place: usize) -> EntryRef<'_>
         requires { place < length self.now.items }
         ensures { slice_get self.now.items place ≡ Some result }

@@ -12,7 +12,7 @@ use cs_permit::Call;
 use std::alloc::{AllocError, Global};
 use std::sync::Arc;
 
-/// Whether it is a write.
+/// Whether the call is a write.
 pub(crate) fn is_write(call: &Call<'_>) -> bool
     ensures { result ≡ is_write call.now }
 {
@@ -30,7 +30,8 @@ pub(crate) fn is_write(call: &Call<'_>) -> bool
     }
 }
 
-/// The call, to be shared by its entry and its receipt. It is no write, and so lends nothing.
+/// The call in an Arc that its entry and its receipt share. It isn't a write, so it borrows no
+/// bytes.
 pub(crate) fn share(alloc: Global, call: Call<'_>) -> Result<Arc<Call<'static>>, AllocError>
     requires { is_write call ≡ false }
     ensures { IfOk result (λ shared. arc_value shared ≡ call.entry) }
@@ -50,10 +51,10 @@ pub(crate) fn share(alloc: Global, call: Call<'_>) -> Result<Arc<Call<'static>>,
     Ok(Arc::new(alloc, whole)?)
 }
 
-/// What the entry and the receipt of a call keep: the call, if they share it. A small call's takes
-/// no memory.
+/// What the entry and the receipt of a call keep: the Arc if the call is shared, the stored bytes
+/// of a write, or a small call itself, for which memory can't run out.
 #[inline]
-pub(crate) fn keep(
+pub(crate) fn keep_call(
     alloc: Global,
     call: &Call<'_>,
     shared: Option<&Arc<Call<'static>>>,

@@ -22,10 +22,10 @@ pub(crate) struct WriteHead {
     pub(crate) user: UserText,
 }
 
-/// A call as an entry or a receipt keeps it. One that takes memory is shared by both; the bytes of
-/// a write lie with those of others. A close and a remove lie in memory that was taken before, so
-/// that they can be reserved; a stat and a read of a file are small.
-// a variant's short fields come first: they lie beside its tag
+/// A call as an entry or a receipt keeps it. A call that needs memory is shared by both; the bytes
+/// of a write are stored with those of others. A close and a remove use memory that was allocated
+/// before, so that their entries can be reserved; a stat and a read of a file are small.
+// a variant's short fields come first, next to its tag
 #[derive(Drop)]
 pub(crate) enum KeptCall {
     Shared(Arc<Call<'static>>),
@@ -37,7 +37,7 @@ pub(crate) enum KeptCall {
         open_number: u32,
         user: Box<UserText>,
     },
-    /// A remove of a file that the fid has not open.
+    /// A remove by a fid that isn't open.
     Remove {
         number: u64,
         user: Box<UserText>,
@@ -48,7 +48,7 @@ pub(crate) enum KeptCall {
         number: u64,
         user: Box<UserText>,
     },
-    /// A read that goes on at the start.
+    /// A read whose place is the start, as every read of a file.
     Read {
         count: u32,
         number: u64,
@@ -57,7 +57,7 @@ pub(crate) enum KeptCall {
     Stat(u64),
 }
 
-/// A call that is done once more: made again, or as an entry and a receipt share it.
+/// A call that is done again: made from what an entry keeps, or the one that it shares.
 #[derive(Drop)]
 pub(crate) enum CallAgain<'a> {
     Own(Call<'a>),
@@ -68,8 +68,8 @@ impl KeptCall {
     ghost use Rattle.cs_journal.specs.Kept.{LiesIn, again_call, call_of};
     ghost use Rattle.cs_journal.specs.Summaries.{call_in, without_bytes};
 
-    /// What an entry or a receipt keeps of a call with no memory of its own: a close's user, and a
-    /// remove's, on the last of the blank texts.
+    /// What an entry or a receipt keeps of a small call. The user of a close or a remove is put on
+    /// the last of the blank texts, which it uses up.
     pub(crate) fn small(call: &Call<'_>, blanks: &mut Vec<Box<UserText>>) -> KeptCall
         requires small { is_small call.now ≡ true }
         requires blank { 1 ≤ vec_len blanks.old }
@@ -82,7 +82,7 @@ impl KeptCall {
                 open_number: call.open_number,
                 user: text_of(blanks, &call.user),
             },
-            Call::Remove(call) => removed(call, text_of(blanks, &call.user)),
+            Call::Remove(call) => kept_remove(call, text_of(blanks, &call.user)),
             Call::Read(call) => KeptCall::Read {
                 count: call.count,
                 number: call.number,
@@ -98,7 +98,7 @@ impl KeptCall {
         }
     }
 
-    /// The call, once more. A write lends its bytes.
+    /// The call, to be done again. A write's bytes are borrowed.
     pub(crate) fn again<'a>(
         &'a self,
         alloc: Global,
@@ -126,7 +126,7 @@ impl KeptCall {
         }
     }
 
-    /// The call without the bytes that it writes.
+    /// The kept call without the bytes that it writes.
     pub(crate) fn summary(&self) -> CallSummary<'_>
         ensures { (blocks : List (List ℕ)) → call_in result
             ≡ without_bytes (call_of blocks self.now) }
@@ -160,7 +160,7 @@ impl KeptCall {
     }
 }
 
-/// A user's name on the last of the blank texts. It takes no memory.
+/// A user's name on the last of the blank texts, which it uses up.
 fn text_of(blanks: &mut Vec<Box<UserText>>, user: &UserName) -> Box<UserText>
     requires { 1 ≤ vec_len blanks.old }
     ensures value { result.value ≡ user.now }
@@ -175,6 +175,7 @@ fn text_of(blanks: &mut Vec<Box<UserText>>, user: &UserName) -> Box<UserText>
     }
 }
 
+/// The close that is kept by this number and user.
 fn close_again(
     alloc: Global,
     open_number: u32,
@@ -186,6 +187,7 @@ fn close_again(
     Ok(CallAgain::Own(Call::Close(CloseCall { open_number, user })))
 }
 
+/// The remove that is kept by this number, user and open, if its fid was open.
 fn remove_again(
     alloc: Global,
     number: u64,
@@ -202,6 +204,7 @@ fn remove_again(
     })))
 }
 
+/// The write that is kept by this head, with these bytes.
 fn write_again<'a>(
     alloc: Global,
     head: &WriteHead,
@@ -217,7 +220,7 @@ fn write_again<'a>(
     })))
 }
 
-/// A read that goes on at the start.
+/// The read that is kept by these numbers; its place is the start.
 fn read_again(number: u64, offset: u64, count: u32) -> Call<'static>
     ensures { result ≡ read_call number offset count }
 {
@@ -230,7 +233,7 @@ fn read_again(number: u64, offset: u64, count: u32) -> Call<'static>
 }
 
 /// What is kept of a remove.
-fn removed(call: &RemoveCall, user: Box<UserText>) -> KeptCall
+fn kept_remove(call: &RemoveCall, user: Box<UserText>) -> KeptCall
     requires { user.value ≡ call.now.user }
     ensures value { (blocks : List (List ℕ)) → call_of blocks result ≡ Remove call.now }
     ensures lies { (blocks : List (List ℕ)) → LiesIn blocks result }
@@ -248,14 +251,14 @@ fn removed(call: &RemoveCall, user: Box<UserText>) -> KeptCall
     }
 }
 
-/// Whether it is the place before the first entry.
+/// Whether a directory's place is before the first entry.
 fn is_start(place: &Place) -> bool
     ensures { result ≡ is_start place.now }
 {
     place.end == 0 && place.last.is_none()
 }
 
-/// Whether an entry keeps the call with no memory of its own.
+/// Whether an entry can keep the call without allocating.
 pub(crate) fn is_small(call: &Call<'_>) -> bool
     ensures { result ≡ is_small call.now }
 {

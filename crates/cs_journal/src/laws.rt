@@ -1,4 +1,4 @@
-//! What an audit means, as laws. A call of a function here does nothing: its contract is the law.
+//! Laws on what an audit means. The functions do nothing: their contracts are the laws.
 ghost use Rattle.std.specs.Prelude.{List};
 ghost use Rattle.cs_journal.specs.Audit.{AreEntries, HaveDistinctNumbers, IsAudited};
 ghost use Rattle.cs_journal.specs.Journals.{EntryOf};

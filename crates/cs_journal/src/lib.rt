@@ -1,5 +1,5 @@
-//! Runs with journals: a working copy of a tree that several users change together, and that keeps
-//! every call as an entry.
+//! Runs with journals: a working copy of a tree that several clients change together, with an entry
+//! for every call.
 #![tactic(auto)]
 
 mod auditing;

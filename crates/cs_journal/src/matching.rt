@@ -10,7 +10,8 @@ use crate::receipt::Receipt;
 use crate::run::Run;
 use cs_tree_model::TreeRead;
 
-/// Whether the last receipt is that of the entry at the place, if there is one.
+/// Whether the last receipt is that of the entry at this place; without such an entry, whether
+/// there is no receipt.
 fn is_last(receipts: &[Receipt], journal: &Journal, last: Option<u32>) -> bool
     ensures { IsTrue result ↔ (last_of receipts.now ≡ receipt_at journal.now.items last) }
 {
@@ -27,7 +28,8 @@ fn is_last(receipts: &[Receipt], journal: &Journal, last: Option<u32>) -> bool
     }
 }
 
-/// Whether what is counted of a pass is what this one has, its last receipt too.
+/// Whether the run's counts of a pass are this pass's, and its last receipt is of the last entry
+/// counted.
 fn tallies(counts: &PassCounts, journal: &Journal, pass: &Pass) -> bool
     ensures { IsTrue result ↔ Tallies counts.now journal.now.items pass.now }
 {
@@ -41,9 +43,8 @@ fn tallies(counts: &PassCounts, journal: &Journal, pass: &Pass) -> bool
 }
 
 impl<L: TreeRead + Drop> Run<L> {
-    /// Whether calls can be made under the pass: the run gave it, with as many entries and opens as
-    /// it has receipts and reserved places, and its last receipt is of its last entry. It takes no
-    /// memory.
+    /// Whether calls can be made under the pass: the run gave it, counts as many entries and opens
+    /// of it as it has receipts and reserved places, and its last receipt is of its last entry.
     pub fn fits(&self, pass: &Pass) -> bool
         ensures { IsTrue result ↔ Fits self.now pass.now }
     {

@@ -6,8 +6,8 @@ use crate::receipt::Receipt;
 use crate::user_text::UserText;
 use std::marker::Model;
 
-/// What one user of a run has: a number, a receipt of each of its entries, and a place for that of
-/// each open's close. Contracts see these three.
+/// What a client of a run holds: a number, a receipt of each of its entries, and reserved places
+/// for the receipts of its opens' closes. Contracts see these three.
 #[derive(Drop)]
 pub struct Pass {
     pub(crate) number: u32,
@@ -49,7 +49,7 @@ impl Pass {
         self.receipts.as_slice()
     }
 
-    /// For how many opens it has a place for the close's receipt.
+    /// For how many opens a place is reserved for the receipt of the close.
     pub fn reserved(&self) -> usize
         ensures { result ≡ self.now.reserved }
     {

@@ -33,6 +33,7 @@ impl Model for Receipt {
     } };
 }
 
+/// Whether both are the same rule.
 fn is_same_rule(rule: RuleId, other: RuleId) -> bool
     ensures { IsTrue result ↔ (rule ≡ other) }
 {
@@ -68,15 +69,14 @@ impl Receipt {
         self.outcome
     }
 
-    /// Whether its call is this one, but for the bytes that they write. It takes no memory.
+    /// Whether its call is this one, except for the bytes that they write.
     pub fn is_for(&self, call: &Call<'_>) -> bool
         ensures { IsTrue result ↔ (self.now.call ≡ without_bytes call.now) }
     {
         are_same(self.kept.summary(), summary_of(call))
     }
 
-    /// Whether it is the receipt of the entry at that place: of its call, and how it ended. It
-    /// takes no memory.
+    /// Whether this is the receipt of the entry at that place: same place, call and outcome.
     pub(crate) fn is_of(&self, place: u32, entry: &EntryRef) -> bool
         ensures { IsTrue result ↔ (self.now ≡ receipt_of place entry.now) }
     {

@@ -1,4 +1,4 @@
-//! What the call of an entry was answered, by doing the calls of a journal once more.
+//! The answer to an entry's call, by doing the calls of a journal again.
 ghost use Rattle.std.specs.Prelude.{◌≡◌, ◌<◌, ◌≤◌, ◌^◌, ℕ, IfOk, length};
 ghost use Rattle.std.specs.Arc.{arc_value};
 ghost use Rattle.cs_names.specs.declared.limits.TheConstants.{JOURNAL_ENTRIES};
@@ -25,7 +25,7 @@ use cs_users::Users;
 use std::alloc::{AllocError, Global};
 use std::sync::Arc;
 
-/// Takes out the open that the call ends, if there is one.
+/// Releases the open that the call ends, if there is one.
 fn release(call: &Call<'_>, opens: &mut Opens, pass: u32)
     ensures { opens.new.items
         ≡ opens_without_if (closed_open_number call.now) pass opens.old.items }
@@ -35,7 +35,8 @@ fn release(call: &Call<'_>, opens: &mut Opens, pass: u32)
     }
 }
 
-/// Grants a call that was granted: no rule denies it, so it is refused only if memory runs out.
+/// Does a call that was granted. No rule denies it again: for an outcome other than Granted there
+/// can only be too little memory.
 fn grant_again<T: TreeStore>(
     alloc: Global,
     call: &Call<'_>,
@@ -57,7 +58,7 @@ fn grant_again<T: TreeStore>(
     }
 }
 
-/// Does a call once more, so that it ends as it did.
+/// Does a call again, with the outcome that it had.
 fn redo<T: TreeStore>(
     alloc: Global,
     call: &Call<'_>,
@@ -87,7 +88,7 @@ fn redo<T: TreeStore>(
     }
 }
 
-/// Does the call of the entry at the place once more: its answer.
+/// Does the call of the entry at that place again, and returns its answer.
 fn redo_entry<T: TreeStore>(
     alloc: Global,
     entry: EntryRef,
@@ -109,7 +110,7 @@ fn redo_entry<T: TreeStore>(
     }
 }
 
-/// What the call of the entry at the place was answered, if there is one.
+/// The answer to the call of the entry at that place, or None past the end.
 fn answer_of<L: TreeRead + Drop>(
     alloc: Global,
     lower: &Arc<L>,
@@ -137,9 +138,9 @@ fn answer_of<L: TreeRead + Drop>(
 }
 
 impl<L: TreeRead + Drop> Run<L> {
-    /// What the call of the entry at that place of its journal was answered; None past the end. The
-    /// calls up to that place are done once more, over the tree that the run began with, of which
-    /// nothing is copied.
+    /// The answer to the call of the entry at that place of the journal, or None past the end. The
+    /// calls up to that place are done again over the tree with which the run began; the tree isn't
+    /// copied.
     pub fn answer_at(&self, alloc: Global, place: usize) -> Result<Option<Answer>, AllocError>
         ensures { IfOk result (λ answer. answer ≡ answer_in self.now place) }
     {

@@ -1,4 +1,4 @@
-//! How many entries a call takes, and the memory for them.
+//! How many entries a call takes, and the memory for them and for what they keep of it.
 ghost use Rattle.std.specs.Prelude.{◌≡◌, ◌+◌, ◌≤◌, ◌||◌, ◌⊎◌, ◌<◌, IfSome, IsNone, IsSome};
 ghost use Rattle.std.specs.Prelude.{OnErr, OnOk, false, length, true, vec_capacity, vec_len};
 ghost use Rattle.std.specs.Arc.{arc_value};
@@ -9,7 +9,7 @@ ghost use Rattle.cs_journal.specs.Small.{is_small, is_write};
 ghost use Rattle.cs_run.specs.Laws.{opens_one};
 
 use crate::journal::Journal;
-use crate::keeping::keep;
+use crate::keeping::keep_call;
 use crate::kept::KeptCall;
 use crate::receipt::Receipt;
 use crate::user_text::UserText;
@@ -20,10 +20,10 @@ use cs_run::opens::Opens;
 use std::alloc::{AllocError, Global};
 use std::sync::Arc;
 
-/// From how many elements on a list is long.
+/// A list of at least so many elements is long.
 const LONG: usize = 1_024;
 
-/// Whether a grant of the call makes an open.
+/// Whether a granted call of this kind adds an open.
 fn opens_one(call: &Call<'_>) -> bool
     ensures { result ≡ opens_one call.now }
 {
@@ -40,8 +40,8 @@ fn opens_one(call: &Call<'_>) -> bool
     }
 }
 
-/// How many entries a call takes that are not reserved: its own, and for an open or a create that
-/// of the close; none if it ends an open that is there.
+/// How many entries a call takes that are not reserved: its own, and of an open or a create also
+/// that of the close; none if it ends an open that is there.
 pub(crate) fn charge_of(call: &Call<'_>, opens: &Opens, pass: u32) -> usize
     ensures value { result ≡ charge opens.now.items pass call.now }
     ensures few { result ≤ 2 }
@@ -54,9 +54,13 @@ pub(crate) fn charge_of(call: &Call<'_>, opens: &Opens, pass: u32) -> usize
     if opens_one(call) { 2 } else { 1 }
 }
 
-/// Takes the memory for so many blank texts.
+/// Allocates blank texts until there are `count`. Those that it made stay if memory runs out.
 #[inline]
-fn fill(alloc: Global, blanks: &mut Vec<Box<UserText>>, count: usize) -> Result<(), AllocError>
+fn fill_blanks(
+    alloc: Global,
+    blanks: &mut Vec<Box<UserText>>,
+    count: usize,
+) -> Result<(), AllocError>
     ensures room { OnOk result (count ≤ vec_len blanks.new) }
     ensures kept { vec_len blanks.old ≤ vec_len blanks.new }
     ensures refused { OnErr result (vec_len blanks.old < count) }
@@ -67,9 +71,9 @@ fn fill(alloc: Global, blanks: &mut Vec<Box<UserText>>, count: usize) -> Result<
     Ok(())
 }
 
-/// Room for so many more, which a list has no room for. One that has grown long gets room for a
-/// whole journal at once, if there is memory, so that it isn't copied again: what isn't used of it
-/// is no page of memory yet.
+/// Makes room for `more` elements in a list that has too little. A long list gets room for a whole
+/// journal at once, if there is memory, so that it isn't copied again: the operating system
+/// provides no page for the unused part.
 #[inline(never)]
 fn grow<T>(list: &mut Vec<T>, more: usize) -> Result<(), AllocError>
     ensures items { (list.new.items ≡ list.old.items) × (vec_len list.new ≡ vec_len list.old) }
@@ -84,7 +88,7 @@ fn grow<T>(list: &mut Vec<T>, more: usize) -> Result<(), AllocError>
     list.reserve(more)
 }
 
-/// Room for so many more.
+/// Makes room for `more` elements, if the list has too little.
 #[inline]
 pub(crate) fn widen<T>(list: &mut Vec<T>, more: usize) -> Result<(), AllocError>
     ensures items { (list.new.items ≡ list.old.items) × (vec_len list.new ≡ vec_len list.old) }
@@ -98,44 +102,46 @@ pub(crate) fn widen<T>(list: &mut Vec<T>, more: usize) -> Result<(), AllocError>
     grow(list, more)
 }
 
-/// Takes the memory for so many entries and so many receipts more, and for what they keep of a
-/// call; None if it is refused. The lists stay.
+/// What the entry and the receipt of a call keep, after making room for `entries_more` entries,
+/// `receipts_more` receipts and the blank texts for their users: one of each is for this call, the
+/// rest for the closes to come. None if memory runs out. The journal's entries and the receipts
+/// stay as they are.
 #[inline]
-pub(crate) fn make_room(
+pub(crate) fn reserve_and_keep(
     alloc: Global,
     call: &Call<'_>,
     shared: Option<&Arc<Call<'static>>>,
     journal: &mut Journal,
     receipts: &mut Vec<Receipt>,
     blanks: &mut Vec<Box<UserText>>,
-    entries: usize,
-    more: usize,
+    entries_more: usize,
+    receipts_more: usize,
 ) -> Option<(KeptCall, KeptCall)>
     requires apart { IsNone shared → (is_small call.now || is_write call.now) ≡ true }
     requires shared { IfSome shared (λ whole. (arc_value whole.now ≡ call.now)
         × (is_small call.now ≡ false)) }
-    requires some { 1 ≤ more }
-    requires few { more ≤ JOURNAL_ENTRIES }
+    requires some { 1 ≤ receipts_more }
+    requires few { receipts_more ≤ JOURNAL_ENTRIES }
     ensures kept { IfSome result (λ made. KeepsCall journal.new call.now made) }
     ensures refused { IsNone result → (is_small call.now ≡ false)
-        ⊎ ((journal.old.capacity + 1 ≤ length journal.old.items + entries)
-        ⊎ ((vec_capacity receipts.old + 1 ≤ vec_len receipts.old + more)
-        ⊎ (vec_len blanks.old < more + more))) }
+        ⊎ ((journal.old.capacity + 1 ≤ length journal.old.items + entries_more)
+        ⊎ ((vec_capacity receipts.old + 1 ≤ vec_len receipts.old + receipts_more)
+        ⊎ (vec_len blanks.old < receipts_more + receipts_more))) }
     ensures journal { journal.new.items ≡ journal.old.items }
     ensures journal_room { (journal.old.capacity ≤ journal.new.capacity)
-        × (IsSome result → length journal.new.items + entries ≤ journal.new.capacity) }
+        × (IsSome result → length journal.new.items + entries_more ≤ journal.new.capacity) }
     ensures receipts { (receipts.new.items ≡ receipts.old.items)
         × (vec_len receipts.new ≡ vec_len receipts.old) }
     ensures receipts_room { (vec_capacity receipts.old ≤ vec_capacity receipts.new)
-        × (IsSome result → vec_len receipts.new + more ≤ vec_capacity receipts.new) }
+        × (IsSome result → vec_len receipts.new + receipts_more ≤ vec_capacity receipts.new) }
     ensures blanks { IsNone result → vec_len blanks.old ≤ vec_len blanks.new }
-    ensures blanks_left { IsSome result → more + more ≤ vec_len blanks.new + 2 }
+    ensures blanks_left { IsSome result → receipts_more + receipts_more ≤ vec_len blanks.new + 2 }
 {
-    if journal.widen(entries).is_err()
-        || widen(receipts, more).is_err()
-        || fill(alloc, blanks, more + more).is_err()
+    if journal.widen(entries_more).is_err()
+        || widen(receipts, receipts_more).is_err()
+        || fill_blanks(alloc, blanks, receipts_more + receipts_more).is_err()
     {
         return None;
     }
-    keep(alloc, call, shared, journal, blanks).ok()
+    keep_call(alloc, call, shared, journal, blanks).ok()
 }

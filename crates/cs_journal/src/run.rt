@@ -1,4 +1,4 @@
-//! A run: a working copy of a tree, which keeps every call as an entry.
+//! A run: a working copy of a tree, with a journal of every call.
 ghost use Rattle.std.specs.Prelude.{◌≡◌, ◌≢◌, ◌↔◌, ◌≤◌, ◌+◌, Err, IfOk, IsTrue, OnErr, OnOk};
 ghost use Rattle.std.specs.Prelude.{length, true};
 ghost use Rattle.std.specs.Arc.{arc_value};
@@ -21,9 +21,9 @@ use std::alloc::{AllocError, Global};
 use std::marker::Model;
 use std::sync::Arc;
 
-/// A working copy of a tree, which its users change together by calls under passes, each in its
-/// turn. The tree that it began with is shared and never changes. Contracts see what it began with,
-/// its journal, and how many passes it gave; its state is what replaying the journal gives.
+/// A working copy of a tree, which its clients change by calls under passes, one call at a time.
+/// The tree with which it began is shared and never changes. Contracts see what it began with, its
+/// journal, and how many passes it gave; its state is the replay of the journal.
 #[derive(Drop)]
 pub struct Run<L: TreeRead + Drop> {
     pub(crate) lower: Arc<L>,
@@ -57,7 +57,7 @@ impl<L: TreeRead + Drop> Model for Run<L> {
 }
 
 impl<L: TreeRead + Drop> Run<L> {
-    /// A run over this tree, with no open and no entry. It copies nothing of the tree.
+    /// A run over this tree, with no open and no entry. It doesn't copy the tree.
     pub fn fresh(alloc: Global, lower: Arc<L>, users: Arc<Users>) -> Result<Run<L>, AllocError>
         requires grows { CanGrow (L.TreeRead.tree (arc_value lower)) }
         ensures { IfOk result (λ run. run ≡ fresh_run (L.TreeRead.tree (arc_value lower))
@@ -82,7 +82,8 @@ impl<L: TreeRead + Drop> Run<L> {
         self.journal.len()
     }
 
-    /// Gives a pass, under which calls can be made: Room if it gave RUN_ATTACHES already.
+    /// A new pass, under which calls can be made. Room if the run gave RUN_ATTACHES already; after
+    /// a refusal the run is as it was.
     pub fn new_pass(&mut self, alloc: Global) -> Result<Pass, PassFault>
         ensures pass { IfOk result (λ pass. pass ≡ fresh_pass self.old.passes) }
         ensures run { OnOk result (self.new ≡ with_pass self.old) }

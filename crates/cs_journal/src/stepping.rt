@@ -1,4 +1,4 @@
-//! Calls on a run, each in its turn.
+//! Calls on a run, one at a time.
 ghost use Rattle.std.specs.Prelude.{◌≡◌, ◌≢◌, ◌≤◌, ◌||◌, IfSome, IsNone, IsSome, false, true};
 ghost use Rattle.std.specs.Arc.{arc_value};
 ghost use Rattle.cs_journal.specs.Calls.{charge, closes_plainly, is_full};
@@ -14,7 +14,7 @@ use crate::entering::enter;
 use crate::keeping::{is_write, share};
 use crate::kept::is_small;
 use crate::pass::Pass;
-use crate::room::{charge_of, make_room};
+use crate::room::{charge_of, reserve_and_keep};
 use crate::run::Run;
 use cs_names::RuleId;
 use cs_names::limits::JOURNAL_ENTRIES;
@@ -25,10 +25,10 @@ use std::alloc::Global;
 use std::sync::Arc;
 
 impl<L: TreeRead + Drop> Run<L> {
-    /// Makes a call under a pass at that moment: L1 if the journal has no room for its entry and,
-    /// of an open or a create, for that of the close; out of memory if a growth for entry and
-    /// receipt is refused. Then nothing changes. Else the journal has one entry more, with the
-    /// outcome by the run's rules and the memory that a grant takes, and the pass has its receipt.
+    /// Does a call under a pass at that moment (in seconds). Denied by L1 if the journal has no
+    /// room for its entry and, of an open or a create, for that of the close; Short if memory for
+    /// entry and receipt runs out; nothing changes then. Otherwise the journal has one more entry,
+    /// whose outcome follows from the run's rules and memory, and the pass has its receipt.
     pub fn step(&mut self, alloc: Global, pass: &mut Pass, now: u32, call: Call<'_>) -> Answer
         requires fits { Fits self.old pass.old }
         ensures stepped { (mark : StepMark)
@@ -45,7 +45,7 @@ impl<L: TreeRead + Drop> Run<L> {
         let Some(charged) = self.charge(pass, &call) else {
             return Answer::Denied(RuleId::L1);
         };
-        // lent here, since moving a call takes as long as much of a step
+        // borrowed here, since moving a call would take much of a step's time
         if is_small(&call) || is_write(&call) {
             let none: Option<&Arc<Call<'static>>> = None;
             return self.make_call(alloc, pass, now, &call, none, charged);
@@ -56,7 +56,8 @@ impl<L: TreeRead + Drop> Run<L> {
         self.make_call(alloc, pass, now, &whole, Some(&whole), charged)
     }
 
-    /// How many entries the call takes that are not reserved, if the journal has room for them.
+    /// How many entries the call takes that are not reserved; None if the journal has no room for
+    /// them.
     fn charge(&self, pass: &Pass, call: &Call<'_>) -> Option<usize>
         ensures full { IsNone result → is_full (state_of self.now) pass.now.number call.now ≡ true }
         ensures room { IsSome result → is_full (state_of self.now) pass.now.number call.now
@@ -76,8 +77,8 @@ impl<L: TreeRead + Drop> Run<L> {
         Some(charge)
     }
 
-    /// Makes a call for which the journal has room, and that its entry and its receipt share, if
-    /// that is given.
+    /// Does a call for which the journal has room for `charged` more entries. `shared` is the call
+    /// in the Arc that its entry and its receipt share; None if they keep it otherwise.
     fn make_call(
         &mut self,
         alloc: Global,
@@ -105,7 +106,7 @@ impl<L: TreeRead + Drop> Run<L> {
         let (entries, more) = (before + charged, pass.reserved + charged);
         let (journal, receipts) = (&mut self.journal, &mut pass.receipts);
         let blanks = &mut pass.blanks;
-        let Some((entry, receipt)) = make_room(
+        let Some((entry, receipt)) = reserve_and_keep(
             alloc, call, shared, journal, receipts, blanks, entries, more,
         ) else {
             return Answer::Short;

@@ -1,4 +1,4 @@
-//! Whether two calls are the same but for the bytes that they write.
+//! Whether two calls are the same except for the bytes that they write.
 ghost use Rattle.std.specs.Prelude.{◌≡◌, ◌↔◌, IsTrue, map, option_map, string_bytes};
 ghost use Rattle.cs_journal.specs.Summaries.{call_in, without_bytes};
 ghost use Rattle.cs_permit.specs.Sent.{sent_of};
@@ -7,7 +7,7 @@ use cs_names::Name;
 use cs_permit::Call;
 use cs_wire::Stat;
 
-/// A call without the bytes that it writes, where it lies in an entry or in a receipt.
+/// A call without the bytes that it writes, borrowed from an entry or a receipt.
 #[derive(Clone, Copy)]
 pub(crate) enum CallSummary<'a> {
     Attach(&'a [u8]),
@@ -84,7 +84,7 @@ fn is_same_stat(stat: &Stat, other: &Stat) -> bool
         && stat.muid == other.muid
 }
 
-/// Whether the reads of two fids go on after the same name.
+/// Whether two reads continue after the same name.
 fn is_same_last(name: Option<&Name>, other: Option<&Name>) -> bool
     ensures { IsTrue result ↔ (option_map (λ n. n.now) name.entry
         ≡ option_map (λ n. n.now) other.entry) }
@@ -96,7 +96,7 @@ fn is_same_last(name: Option<&Name>, other: Option<&Name>) -> bool
     }
 }
 
-/// Whether both are of the same call. It takes no memory.
+/// Whether both are the same call.
 pub(crate) fn are_same(call: CallSummary, other: CallSummary) -> bool
     ensures { IsTrue result ↔ (call_in call.entry ≡ call_in other.entry) }
 {

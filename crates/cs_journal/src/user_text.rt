@@ -1,4 +1,4 @@
-//! A user's name that takes no memory of its own.
+//! A user's name in a fixed array.
 ghost use Rattle.std.specs.Prelude.{◌≡◌, IfOk};
 
 use cs_names::UserName;
@@ -6,7 +6,7 @@ use cs_names::limits::USER_NAME_BYTES;
 use std::alloc::{AllocError, Global};
 use std::marker::Model;
 
-/// The bytes of a user's name, in place.
+/// A user's name in a fixed array, so that a kept call needs no further memory for it.
 #[derive(Drop)]
 pub(crate) struct UserText {
     bytes: [u8; USER_NAME_BYTES],
@@ -25,7 +25,7 @@ impl Model for UserText {
 }
 
 impl UserText {
-    /// No bytes.
+    /// An empty text, to be filled later.
     pub(crate) fn blank() -> UserText {
         UserText {
             bytes: [0; USER_NAME_BYTES],
@@ -33,7 +33,7 @@ impl UserText {
         }
     }
 
-    /// The same bytes. It takes no memory.
+    /// The text of this name.
     pub(crate) fn of(user: &UserName) -> UserText
         ensures { result ≡ user.now }
     {
@@ -46,7 +46,7 @@ impl UserText {
         }
     }
 
-    /// The name. It was one when it was put here, so it is refused only if memory runs out.
+    /// The name as an owned UserName. It was one before, so only memory can run out.
     pub(crate) fn name(&self, alloc: Global) -> Result<UserName, AllocError>
         ensures { IfOk result (λ name. name ≡ self.now) }
     {
@@ -56,6 +56,7 @@ impl UserText {
         }
     }
 
+    /// The bytes of the name.
     pub(crate) fn as_bytes(&self) -> &[u8]
         ensures { result.now ≡ self.now }
     {

@@ -5,15 +5,16 @@ ghost use Rattle.cs_journal.specs.Written.{IsWithin, Keeps, bytes_at, bytes_in};
 use std::alloc::{AllocError, Global};
 use std::marker::Model;
 
-/// How many bytes a block has room for, if no write has more: each of the first few, and each
-/// later one.
+/// The size of each of the first blocks, in bytes; a longer write gets a block of its own size.
 const SMALL_BLOCK: usize = 65_536;
 
+/// The size of each later block.
 const LARGE_BLOCK: usize = 1_048_576;
-/// How many blocks are small, so that a run of few writes takes little memory.
+
+/// How many blocks are small, so that a run with few writes uses little memory.
 const SMALL_BLOCKS: usize = 4;
 
-/// Where the bytes of a write lie: all in one block.
+/// The place of the bytes of a write: all in one block.
 #[derive(Clone, Copy)]
 pub(crate) struct Piece {
     pub(crate) block: u32,
@@ -21,10 +22,10 @@ pub(crate) struct Piece {
     pub(crate) len: u32,
 }
 
-/// The bytes of writes, one after the other. Contracts see the bytes of each block.
+/// The bytes of writes, in blocks. Contracts see the bytes of each block.
 #[derive(Drop)]
 pub(crate) struct Written {
-    // none grows past its capacity, so that its bytes are never copied
+    // a block never grows past its capacity, so its bytes are never copied
     blocks: Vec<Vec<u8>>,
 }
 
@@ -37,7 +38,7 @@ impl Model for Written {
     ghost view = { λ written. bytes_in written.blocks.items };
 }
 
-/// Whether the last block has room for so many bytes more.
+/// Whether the last block has room for `more` bytes; false if there is no block.
 fn has_room(blocks: &[Vec<u8>], more: usize) -> bool
     ensures { IsTrue result → 0 < length blocks.now }
 {
@@ -47,8 +48,8 @@ fn has_room(blocks: &[Vec<u8>], more: usize) -> bool
     }
 }
 
-/// Begins a block, if the last has no room for so many bytes more.
-fn make_room(alloc: Global, blocks: &mut Vec<Vec<u8>>, more: usize) -> Result<(), AllocError>
+/// Adds an empty block if the last has no room for `more` bytes.
+fn begin_block(alloc: Global, blocks: &mut Vec<Vec<u8>>, more: usize) -> Result<(), AllocError>
     ensures kept { Keeps (bytes_in blocks.old.items) (bytes_in blocks.new.items) }
     ensures some { OnOk result (0 < length blocks.new.items) }
 {
@@ -63,8 +64,8 @@ fn make_room(alloc: Global, blocks: &mut Vec<Vec<u8>>, more: usize) -> Result<()
     Ok(())
 }
 
-/// The piece of so many bytes in that block after so many others. None if a number has more than
-/// 32 bits, as that of a write of 4 GiB, which no message can be.
+/// The piece of `len` bytes from `start` on in that block. None if a number has more than 32 bits,
+/// as the length of a write of 4 GiB, which no message can carry.
 fn piece_of(block: usize, start: usize, len: usize) -> Option<Piece>
     ensures block { IfSome result (λ piece. piece.block ≡ block) }
     ensures start { IfSome result (λ piece. piece.start ≡ start) }
@@ -76,7 +77,8 @@ fn piece_of(block: usize, start: usize, len: usize) -> Option<Piece>
     Some(Piece { block, start, len })
 }
 
-/// Puts the bytes after those of the last block. More than a piece can have are out of memory.
+/// Appends the bytes to the last block. If a piece can't have their numbers, that counts as out of
+/// memory.
 fn put_last(blocks: &mut Vec<Vec<u8>>, bytes: &[u8]) -> Result<Piece, AllocError>
     requires some { 0 < length blocks.old.items }
     ensures kept { Keeps (bytes_in blocks.old.items) (bytes_in blocks.new.items) }
@@ -93,7 +95,7 @@ fn put_last(blocks: &mut Vec<Vec<u8>>, bytes: &[u8]) -> Result<Piece, AllocError
 }
 
 impl Written {
-    /// No bytes.
+    /// No bytes yet.
     pub(crate) fn new(alloc: Global) -> Written
         ensures { result ≡ [] }
     {
@@ -102,17 +104,17 @@ impl Written {
         }
     }
 
-    /// Keeps the bytes of a write.
+    /// Stores the bytes of a write, and returns their piece. Pieces given before keep their bytes.
     pub(crate) fn keep(&mut self, alloc: Global, bytes: &[u8]) -> Result<Piece, AllocError>
         ensures kept { Keeps self.old self.new }
         ensures within { IfOk result (λ piece. IsWithin self.new piece) }
         ensures bytes { IfOk result (λ piece. bytes_at self.new piece ≡ bytes.now) }
     {
-        make_room(alloc, &mut self.blocks, bytes.len())?;
+        begin_block(alloc, &mut self.blocks, bytes.len())?;
         put_last(&mut self.blocks, bytes)
     }
 
-    /// The bytes of the piece.
+    /// The bytes of a piece that `keep` returned.
     pub(crate) fn piece(&self, piece: Piece) -> &[u8]
         requires { IsWithin self.now piece }
         ensures { result.now ≡ bytes_at self.now piece }

@@ -14,10 +14,10 @@ use Rattle.cs_wire.specs.declared.message.TBody.{TBody}
 use Rattle.cs_wire.specs.declared.message.TBody.TheVariants as t
 use Rattle.cs_wire.specs.Fields.{Value}
 use Rattle.cs_wire.specs.Messages.{Message, r_layout, r_view, replies, stat_of, t_view}
-use Rattle.cs_linux.specs.Messages.{IsTold, asked_of, as_client_means, error_message}
+use Rattle.cs_linux.specs.Messages.{IsLinuxText, as_user_asked, as_client_means, error_message}
 
 -- what is meant by a Twstat
-pub meant_wstat : (tag fid : ℕ) (stat new : Stat) → stat_of new ≡ asked_of (stat_of stat) → t_view record {
+pub meant_wstat : (tag fid : ℕ) (stat new : Stat) → stat_of new ≡ as_user_asked (stat_of stat) → t_view record {
   tag = tag;
   body = t.Wstat fid new;
 } ≡ as_client_means (t_view record { tag = tag; body = t.Wstat fid stat })
@@ -80,19 +80,20 @@ no_error tag r.Remove is_none other text e = false≢true (ap (λ (m : Message r
 no_error tag (r.Stat stat) is_none other text e = false≢true (ap (λ (m : Message replies). is_error m.kind) e)
 no_error tag r.Wstat is_none other text e = false≢true (ap (λ (m : Message replies). is_error m.kind) e)
 
--- what is told of an Rerror
+-- what the client gets of an Rerror
 pub told_error : (tag : ℕ) (body made : RBody) (ename : _) (short : Bor (List ℕ)) → body ≡ r.Error ename → made ≡ r.Error (Borrowed short)
-    → IsTold (cow_str_bytes ename) short.now → (other : ℕ) (text : List ℕ) → r_view record {
+    → IsLinuxText (cow_str_bytes ename) short.now → (other : ℕ) (text : List ℕ) → r_view record {
       tag = tag;
       body = body;
-    } ≡ error_message other text → (new : List ℕ) × IsTold text new × (r_view record { tag = tag; body = made } ≡ error_message other new)
+    } ≡ error_message other text
+    → (new : List ℕ) × IsLinuxText text new × (r_view record { tag = tag; body = made } ≡ error_message other new)
 told_error tag body made ename short is made_is told other text e =
     let whole : error_message tag (cow_str_bytes ename) ≡ error_message other text = ap (λ (b : RBody). r_view record {
       tag = tag;
       body = b;
     }) (sym is) ∙ e in (
       short.now,
-      subst (λ t. IsTold t short.now) (same_text_of tag other (cow_str_bytes ename) text whole) told,
+      subst (λ t. IsLinuxText t short.now) (same_text_of tag other (cow_str_bytes ename) text whole) told,
       ap
           (λ (b : RBody). r_view record {
             tag = tag;

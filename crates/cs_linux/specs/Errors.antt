@@ -1,4 +1,4 @@
--- The error of Linux that stands for each rule, and the text by which its client knows an error.
+-- The error of Linux for each rule, and the text by which its client knows an error.
 use Rattle.std.specs.Prelude.{ℕ, List, codes}
 use Rattle.cs_names.specs.declared.rule_id.RuleId.{RuleId}
 use Rattle.cs_names.specs.declared.rule_id.RuleId.TheVariants.{S1, S2, S3, S4, S5, L1, A1, A2, A3}
@@ -15,7 +15,7 @@ use Rattle.cs_linux.specs.declared.errno.Errno.TheVariants.{NoMemory, NoAccess, 
 use Rattle.cs_linux.specs.declared.errno.Errno.TheVariants.{NotADirectory, IsADirectory, Invalid}
 use Rattle.cs_linux.specs.declared.errno.Errno.TheVariants.{Busy, TooLarge, NoSpace, NotEmpty}
 
--- the error that stands for a rule; no more is known where the fid or the file is
+-- the error for a rule
 abbrev pub errno_of : RuleId → Errno
 errno_of K8 = NoEntry
 errno_of A4 = NoEntry

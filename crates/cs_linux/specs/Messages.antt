@@ -1,4 +1,4 @@
--- What Linux's client is told of a reply, and what it means by a request.
+-- The replies that Linux's client gets, and what it means by a request.
 use Rattle.std.specs.Prelude.{◌≡◌, ◌≢◌, ℕ, List, [], codes}
 use Rattle.cs_names.specs.declared.rule_id.RuleId.{RuleId}
 use Rattle.cs_names.specs.Rules as rules
@@ -10,13 +10,13 @@ use Rattle.cs_wire.specs.Messages.{Message, replies, requests, stat_shape, t_lay
 use Rattle.cs_linux.specs.declared.errno.Errno.TheVariants.{InputOutput, NoMemory}
 use Rattle.cs_linux.specs.Errors.{errno_of, text_of}
 
--- the text of a reply that says that memory is wanting
+-- the text of a reply that reports that memory ran out
 abbrev pub memory_text : List ℕ
 memory_text = codes "out of memory"
 
--- What the client is told in place of a text: that of the error that stands for the rule, or for
--- want of memory.
-pub record IsTold (text told : List ℕ) : Type 0 where
+-- The text that the client gets in place of another: that of the error for the rule with this
+-- text, of ENOMEM if memory ran out, else of EIO.
+pub record IsLinuxText (text told : List ℕ) : Type 0 where
   pub of_rule : (rule : RuleId) → text ≡ rules.text_of rule → told ≡ text_of (errno_of rule)
   pub of_memory : text ≡ memory_text → told ≡ text_of NoMemory
   pub of_others : text ≢ memory_text → ((rule : RuleId) → text ≢ rules.text_of rule)
@@ -30,14 +30,15 @@ error_message tag text = record { kind = rk.Error; tag = tag; fields = text }
 abbrev pub dont_touch : ℕ
 dont_touch = 4294967295
 
--- A stat but for what the client fills in unasked: when the file was made, and who changed it last.
-abbrev pub asked_of : Value stat_shape → Value stat_shape
-asked_of (kind, (dev, (qid, (mode, (atime, (mtime, (length, (name, (uid, (gid, muid)))))))))) =
+-- A stat as the user asked for it, without what the client fills in unasked: when the file was
+-- made, and who changed it last.
+abbrev pub as_user_asked : Value stat_shape → Value stat_shape
+as_user_asked (kind, (dev, (qid, (mode, (atime, (mtime, (length, (name, (uid, (gid, muid)))))))))) =
     (kind, (dev, (qid, (mode, (dont_touch, (mtime, (length, (name, (uid, (gid, []))))))))))
 
 -- what the fields of a request are meant to say
 abbrev pub meant_by : (kind : TKind) → Value (t_layout kind) → Value (t_layout kind)
-meant_by tk.Wstat (fid, stat) = (fid, asked_of stat)
+meant_by tk.Wstat (fid, stat) = (fid, as_user_asked stat)
 meant_by kind fields = fields
 
 -- What a client of Linux means by a request.

@@ -1,5 +1,5 @@
--- How a rename onto a name that stands goes on: each reply, and what is asked then, or what the
--- client is answered.
+-- The steps of a rename onto a name that is taken: for each reply the next request, or the client's
+-- reply.
 use Rattle.std.specs.Prelude.{◌≡◌, ◌⊎◌, ℕ, ◌-◌, ◌==◌, ◌&&◌, Bool, false, if◌then◌else◌, Option}
 use Rattle.std.specs.Prelude.{Some, None, List, [], ◌∷◌, length, nat_eq, slice_get, MatchBool, Vec}
 use Rattle.std.specs.Cmp.Lexicographic.{pointwise}
@@ -25,19 +25,19 @@ use Rattle.cs_linux.specs.declared.rename.Step.TheVariants.{Ask, Answer}
 use Rattle.cs_linux.specs.Requests.{asks_name_alone, dot, is_directory, tclunk, tremove, tstat}
 use Rattle.cs_linux.specs.Requests.{twalk, twstat}
 
--- the server is asked this, and the rename goes on so
+-- the server gets this request, and the rename goes on in this state
 abbrev pub Asks : Step → Renaming → Message requests → Type 0
 Asks step renaming asked = (m : TMessage) × (step ≡ Ask renaming m) × (t_view m ≡ asked)
 
--- the client gets the reply that it hasn't got: nothing was changed
+-- the client gets the refusal of its own request: nothing was changed
 abbrev pub Refuses : Step → Rename → Type 0
 Refuses step rename = step ≡ Answer rename.refusal
 
--- the same, or this is asked, where memory isn't wanting for it
+-- the server gets this request, or the rename stays refused because memory ran out
 abbrev pub MayAsk : Step → Rename → Renaming → Message requests → Type 0
 MayAsk step rename renaming asked = Asks step renaming asked ⊎ Refuses step rename
 
--- the reply says that a name stands already
+-- the reply says that a name is taken
 abbrev pub is_taken : RBody → Bool
 is_taken (r.Error ename) = pointwise nat_eq (cow_str_bytes ename) (text_of Q7)
 is_taken other = false
@@ -62,7 +62,7 @@ abbrev pub Ends : Step → Rename → RMessage → RBody → Type 0
 Ends step rename reply (r.Error ename) = step ≡ Answer reply
 Ends step rename reply other = Refuses step rename
 
--- the last of so many fids, with how many stand before it
+-- the last of the first so many fids
 abbrev pub last_of : List ℕ → ℕ → Option ℕ
 last_of fids left = if left == 0 then None else slice_get fids (left - 1)
 
@@ -73,7 +73,7 @@ TriesFid step rename file left (Some directory) =
     (twalk rename.tag directory (string_bytes file.name ∷ dot ∷ []))
 TriesFid step rename file left None = Refuses step rename
 
--- of so many fids the last is tried, and where there is none the rename stays refused
+-- of the first so many fids the last is tried; if there is none the rename stays refused
 abbrev pub Tries : Step → Rename → File → ℕ → Type 0
 Tries step rename file left = TriesFid step rename file left (last_of rename.directories.items left)
 
@@ -93,8 +93,8 @@ AfterSource step rename reply (r.Stat stat) =
     }) (length rename.directories.items))
 AfterSource step rename reply other = Ends step rename reply other
 
--- a directory was asked for the file: if it has it, it is asked for what stands there, and else
--- another is tried
+-- a directory was asked for the file: if it has it, the new name is looked for there, else another
+-- directory is tried
 abbrev pub AfterDirectory : Step → Rename → File → ℕ → ℕ → RBody → Type 0
 AfterDirectory step rename file directory left (r.Walk wqid) =
     MatchBool (came_to file.number wqid.items)
@@ -103,16 +103,17 @@ AfterDirectory step rename file directory left (r.Walk wqid) =
     (Tries step rename file left)
 AfterDirectory step rename file directory left other = Tries step rename file left
 
--- what stands there was come to: a directory is let go, and a file is removed
-abbrev pub AtTarget : Step → Rename → List Qid → Type 0
-AtTarget step rename (qid ∷ []) =
+-- the walk found these files at the new name: a directory's fid is released, and a file is removed
+abbrev pub FreesTarget : Step → Rename → List Qid → Type 0
+FreesTarget step rename (qid ∷ []) =
     MatchBool (is_directory qid)
     (Asks step (at.Release rename) (tclunk rename.tag))
     (Asks step (at.Removal rename) (tremove rename.tag))
-AtTarget step rename others = Refuses step rename
+FreesTarget step rename others = Refuses step rename
 
+-- the new name was looked for
 abbrev pub AfterTarget : Step → Rename → RMessage → RBody → Type 0
-AfterTarget step rename reply (r.Walk wqid) = AtTarget step rename wqid.items
+AfterTarget step rename reply (r.Walk wqid) = FreesTarget step rename wqid.items
 AfterTarget step rename reply other = Ends step rename reply other
 
 -- it was removed: the rename is asked for again
@@ -121,7 +122,7 @@ AfterRemoval step rename reply r.Remove =
     Asks step at.Again (twstat rename.tag rename.fid (stat_of rename.stat))
 AfterRemoval step rename reply other = Ends step rename reply other
 
--- What comes after a reply.
+-- The step after a reply.
 abbrev pub Follows : Renaming → RMessage → Step → Type 0
 Follows (at.Source rename) reply step = AfterSource step rename reply reply.body
 Follows (at.Directory rename file directory left) reply step =

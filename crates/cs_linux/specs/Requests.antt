@@ -1,4 +1,4 @@
--- What is asked for a rename.
+-- The requests of a rename onto a name that is taken.
 use Rattle.std.specs.Prelude.{◌==◌, ◌&&◌, ℕ, Bool, List, [], ◌∷◌, length, nat_le}
 use Rattle.cs_wire.specs.declared.kind.TKind.TheVariants as tk
 use Rattle.cs_wire.specs.declared.message.Qid.{Qid}

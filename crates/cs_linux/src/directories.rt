@@ -1,4 +1,4 @@
-//! The fids of a connection that may stand on directories.
+//! The fids of a connection that may be on directories.
 ghost use Rattle.std.specs.Prelude.{◌≡◌, ◌<◌, ◌≤◌, ◌+◌, ◌-◌, ◌^◌, [], ◌∷◌, ◌++◌, drop, min};
 ghost use Rattle.arrayvec.specs.ArrayVec.{array_vec_len};
 ghost use Rattle.cs_linux.specs.Directories.{came_to_directory};
@@ -7,11 +7,11 @@ use crate::requests::is_directory;
 use arrayvec::ArrayVec;
 use cs_wire::{RBody, TBody};
 
-/// How many fids are kept.
+/// The number of fids that are kept.
 pub const KEPT_FIDS: usize = 16;
 
-/// The fid that may stand on a directory by a walk that was answered: a walk made it, and came to
-/// one, or had no name, so that the fid stands where another does.
+/// The fid that a walk made and that may be on a directory: the walk found all of its names, and
+/// the last is a directory, or it had no name, so that the fid is a copy of another.
 pub fn directory_of(request: &TBody<'_>, reply: &RBody) -> Option<u32>
     ensures { result ≡ came_to_directory request.now reply.now }
 {
@@ -30,9 +30,8 @@ pub fn directory_of(request: &TBody<'_>, reply: &RBody) -> Option<u32>
     }
 }
 
-/// The last fids of a connection that came to stand on a directory, the latest last, and how often
-/// it attached. Where it attached more than once, its fids may be of two users, or stand in two
-/// runs.
+/// The latest fids of a connection that may be on directories, the latest last, and the number of
+/// its attaches. After two attaches its fids may be of two users, or in two runs.
 #[derive(Drop)]
 pub struct Directories {
     pub fids: ArrayVec<u32, KEPT_FIDS>,
@@ -40,7 +39,7 @@ pub struct Directories {
 }
 
 impl Directories {
-    /// Those of a session that begins: none.
+    /// No fid and no attach, as when a session begins.
     pub fn new() -> Directories
         ensures fids { result.fids.items ≡ [] }
         ensures attaches { result.attaches ≡ 0 }
@@ -51,7 +50,7 @@ impl Directories {
         }
     }
 
-    /// Counts an attach that was granted.
+    /// Counts an attach that was granted. A full count stays.
     pub fn attach(&mut self)
         ensures fids { self.new.fids ≡ self.old.fids }
         ensures counted { self.new.attaches ≡ min (self.old.attaches + 1) (2 ^ 32 - 1) }
@@ -59,7 +58,7 @@ impl Directories {
         self.attaches = self.attaches.saturating_add(1);
     }
 
-    /// Keeps a fid. Where there is no more room the first one goes.
+    /// Keeps a fid as the latest. If there is no room the oldest is dropped.
     pub fn keep(&mut self, fid: u32)
         ensures room { array_vec_len self.old.fids < KEPT_FIDS
             → self.new.fids.items ≡ self.old.fids.items ++ fid ∷ [] }
@@ -73,7 +72,7 @@ impl Directories {
         self.fids.push(fid);
     }
 
-    /// Those that a rename may try: of one attach alone.
+    /// The fids that a rename may try: all of them, or none after a second attach.
     pub fn of_one_attach(&self) -> &[u32]
         ensures one { self.now.attaches ≤ 1 → result.now ≡ self.now.fids.items }
         ensures more { 1 < self.now.attaches → result.now ≡ [] }

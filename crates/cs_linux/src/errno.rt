@@ -1,4 +1,4 @@
-//! The errors of Linux that its client is told.
+//! The errors of Linux that its client reports.
 ghost use Rattle.std.specs.Prelude.{◌≡◌, ◌≤◌, length};
 ghost use Rattle.cs_linux.specs.Errors.{errno_of, text_of};
 
@@ -36,7 +36,7 @@ pub enum Errno {
 }
 
 impl Errno {
-    /// The error that stands for a request that this rule refused.
+    /// The error for a request that this rule refused.
     pub fn of(rule: RuleId) -> Errno
         ensures { result ≡ errno_of rule }
     {

@@ -1,6 +1,6 @@
 //! What Linux's own client of 9P2000 needs of a server: errors by the texts that it knows, a wstat
-//! that asks for what its user asked for, and renames onto a name that is taken, as the client means
-//! them: the file of that name is removed, and the other gets its name.
+//! that asks only for what its user asked for, and renames onto a name that is taken, as the client
+//! means them: the file of that name is removed, and the other gets its name.
 #![tactic(auto)]
 
 mod directories;

@@ -1,24 +1,23 @@
-//! A rename that was refused, and where it has come to.
+//! A rename that was refused, and its state.
 
 use cs_wire::{RMessage, Stat, TMessage};
 
-/// A rename that was refused since its new name stands already.
+/// A rename that was refused because its new name is taken.
 #[derive(Drop)]
 pub struct Rename {
     /// The client's number for its request.
     pub tag: u16,
-    /// The file that is to get another name.
+    /// The fid of the file that gets another name.
     pub fid: u32,
     /// What the client asked for: a new name, and nothing else.
     pub stat: Stat,
-    /// The reply, which the client hasn't got.
+    /// The reply, which the client hasn't received.
     pub refusal: RMessage,
-    /// Fids of the client's, of which one may stand on the file's directory: the likeliest is the
-    /// last.
+    /// Fids of the client, one of which may be on the file's directory; the last is the likeliest.
     pub directories: Vec<u32>,
 }
 
-/// A file that is no directory, as a stat shows it.
+/// A file that isn't a directory, as a stat shows it.
 #[derive(Drop)]
 pub struct File {
     pub name: String,
@@ -26,33 +25,33 @@ pub struct File {
     pub number: u64,
 }
 
-/// What a rename waits for: the reply to what was asked last.
+/// The state of a rename: the request whose reply it waits for.
 #[derive(Drop)]
 pub enum Renaming {
-    /// The file was asked for its name and its number.
+    /// The Tstat of the source, for its name and number.
     Source(Rename),
-    /// A directory was asked for the file; so many fids before it weren't tried yet.
+    /// The walk to the source in a directory; `left` fids before it weren't tried yet.
     Directory {
         rename: Rename,
         file: File,
         directory: u32,
         left: usize,
     },
-    /// The file's directory was asked for what stands there.
+    /// The walk to the new name in the source's directory.
     Target(Rename),
-    /// That is to be removed.
+    /// The removal of the file at the new name.
     Removal(Rename),
-    /// The rename was asked for again.
+    /// The client's own Twstat again.
     Again,
-    /// What stands there is a directory, and is let go.
+    /// The clunk of the directory at the new name, which stays.
     Release(Rename),
 }
 
-/// What comes next of a rename.
+/// The next step of a rename.
 #[derive(Drop)]
 pub enum Step {
-    /// The server is asked this, and the rename goes on so with its reply.
+    /// The server gets this request, and the rename goes on with its reply.
     Ask(Renaming, TMessage<'static>),
-    /// The client is answered this.
+    /// The client gets this reply, and the rename is over.
     Answer(RMessage),
 }

@@ -1,8 +1,8 @@
-//! How a rename onto a name that stands goes on, from one reply to the next.
+//! The steps of a rename onto a name that is taken, from one reply to the next.
 ghost use Rattle.std.specs.Prelude.{◌≡◌, ◌<◌, IsSome};
 ghost use Rattle.cs_linux.specs.Renames.{AfterDirectory, AfterRemoval, AfterSource, AfterTarget};
-ghost use Rattle.cs_linux.specs.Renames.{AtTarget, Begins, Ends, Follows, Refuses, Tries, came_to};
-ghost use Rattle.cs_linux.specs.Renames.{is_taken, last_of};
+ghost use Rattle.cs_linux.specs.Renames.{Begins, Ends, Follows, FreesTarget, Refuses, Tries};
+ghost use Rattle.cs_linux.specs.Renames.{came_to, is_taken, last_of};
 
 use crate::rename::{File, Rename, Renaming, Step};
 use crate::requests::{is_directory, is_rename, tclunk, tremove, tstat, twalk, twalk_on, twstat};
@@ -10,24 +10,25 @@ use cs_names::RuleId;
 use cs_wire::{Qid, RBody, RMessage, TBody, TMessage};
 use std::alloc::Global;
 
-/// The rename stays refused: nothing was changed.
-fn refused(rename: Rename) -> Step
+/// Ends the rename: the client gets the refusal of its own request, and nothing was changed.
+fn refuse(rename: Rename) -> Step
     ensures { Refuses result rename }
 {
     Step::Answer(rename.refusal)
 }
 
-/// An error ends the rename.
-fn ended(rename: Rename, reply: RMessage) -> Step
+/// Ends the rename after a reply that doesn't help: the client gets an error as it is, and for any
+/// other reply its refusal.
+fn end_after(rename: Rename, reply: RMessage) -> Step
     ensures { Ends result rename reply reply.body }
 {
     match &reply.body {
         RBody::Error { .. } => Step::Answer(reply),
-        _ => refused(rename),
+        _ => refuse(rename),
     }
 }
 
-/// The last of so many fids.
+/// The last of the first `left` fids.
 fn last_of(fids: &[u32], left: usize) -> Option<u32>
     ensures value { result ≡ last_of fids.now left }
     ensures some { IsSome result → 0 < left }
@@ -38,12 +39,13 @@ fn last_of(fids: &[u32], left: usize) -> Option<u32>
     fids.get(left - 1).copied()
 }
 
-/// The last of so many fids is tried: whether it has the file.
-fn tried(alloc: Global, rename: Rename, file: File, left: usize) -> Step
+/// Asks the last of the first `left` directories whether it has the file. If none is left, or
+/// memory runs out, the rename stays refused.
+fn ask_last(alloc: Global, rename: Rename, file: File, left: usize) -> Step
     ensures { Tries result rename file left }
 {
     let Some(directory) = last_of(&rename.directories, left) else {
-        return refused(rename);
+        return refuse(rename);
     };
     let left = left - 1;
     match twalk_on(alloc, rename.tag, directory, &file.name) {
@@ -56,29 +58,31 @@ fn tried(alloc: Global, rename: Rename, file: File, left: usize) -> Step
             };
             Step::Ask(renaming, asked)
         }
-        Err(_) => refused(rename),
+        Err(_) => refuse(rename),
     }
 }
 
+/// The step after the Tstat of the source: a file is looked for in the client's directories; a
+/// directory stays refused.
 fn after_source(alloc: Global, rename: Rename, reply: RMessage) -> Step
     ensures { AfterSource result rename reply reply.body }
 {
     let RMessage { tag, body } = reply;
     match body {
-        RBody::Stat { stat } if is_directory(stat.qid) => refused(rename),
+        RBody::Stat { stat } if is_directory(stat.qid) => refuse(rename),
         RBody::Stat { stat } => {
             let left = rename.directories.len();
             let file = File {
                 name: stat.name,
                 number: stat.qid.path,
             };
-            tried(alloc, rename, file, left)
+            ask_last(alloc, rename, file, left)
         }
-        body => ended(rename, RMessage { tag, body }),
+        body => end_after(rename, RMessage { tag, body }),
     }
 }
 
-/// Whether a walk came to the file of that number, and no further.
+/// Whether a walk found only the file of that number.
 fn came_to(number: u64, wqid: &[Qid]) -> bool
     ensures { result ≡ came_to number wqid.now }
 {
@@ -88,6 +92,8 @@ fn came_to(number: u64, wqid: &[Qid]) -> bool
     }
 }
 
+/// The step after the walk in `directory`: if the file is in it, a walk to the new name there, else
+/// the next of the `left` directories is asked.
 fn after_directory(
     alloc: Global,
     rename: Rename,
@@ -103,34 +109,38 @@ fn after_directory(
         _ => false,
     };
     if !found {
-        return tried(alloc, rename, file, left);
+        return ask_last(alloc, rename, file, left);
     }
     match twalk(alloc, rename.tag, directory, &rename.stat.name) {
         Ok(asked) => Step::Ask(Renaming::Target(rename), asked),
-        Err(_) => refused(rename),
+        Err(_) => refuse(rename),
     }
 }
 
-fn at_target(rename: Rename, wqid: &[Qid]) -> Step
-    ensures { AtTarget result rename wqid.now }
+/// The step after a walk that found these files at the new name: the fid of a directory is released
+/// and the rename stays refused, and a file is removed. Nothing there is a refusal too.
+fn free_target(rename: Rename, wqid: &[Qid]) -> Step
+    ensures { FreesTarget result rename wqid.now }
 {
     let tag = rename.tag;
     match wqid {
         [qid] if is_directory(*qid) => Step::Ask(Renaming::Release(rename), tclunk(tag)),
         [_] => Step::Ask(Renaming::Removal(rename), tremove(tag)),
-        _ => refused(rename),
+        _ => refuse(rename),
     }
 }
 
+/// The step after the walk to the new name.
 fn after_target(rename: Rename, reply: RMessage) -> Step
     ensures { AfterTarget result rename reply reply.body }
 {
     match &reply.body {
-        RBody::Walk { wqid } => at_target(rename, wqid),
-        _ => ended(rename, reply),
+        RBody::Walk { wqid } => free_target(rename, wqid),
+        _ => end_after(rename, reply),
     }
 }
 
+/// The step after the removal of the file at the new name: the client's own request again.
 fn after_removal(rename: Rename, reply: RMessage) -> Step
     ensures { AfterRemoval result rename reply reply.body }
 {
@@ -139,11 +149,11 @@ fn after_removal(rename: Rename, reply: RMessage) -> Step
             let Rename { tag, fid, stat, .. } = rename;
             Step::Ask(Renaming::Again, twstat(tag, fid, stat))
         }
-        _ => ended(rename, reply),
+        _ => end_after(rename, reply),
     }
 }
 
-/// Whether a request was refused since a name stands already.
+/// Whether a request was refused because a file has the new name.
 fn is_taken(body: &RBody) -> bool
     ensures { result ≡ is_taken body.now }
 {
@@ -153,9 +163,9 @@ fn is_taken(body: &RBody) -> bool
     }
 }
 
-/// Begins with a request that was answered. Where it asks for a new name alone, and is refused
-/// since that name stands, a rename begins, and the client isn't answered yet. Else it is answered
-/// so.
+/// The first step after a request and its reply. If the request asks only for a new name and was
+/// refused because that name is taken, a rename begins, and the client isn't answered yet. Else the
+/// client gets the reply.
 pub fn renaming_of(request: TMessage<'_>, reply: RMessage, directories: Vec<u32>) -> Step
     ensures { Begins result request.entry.tag request.entry.body reply directories }
 {
@@ -177,7 +187,7 @@ pub fn renaming_of(request: TMessage<'_>, reply: RMessage, directories: Vec<u32>
 }
 
 impl Renaming {
-    /// What comes after a reply.
+    /// The step after the reply to the request that was asked last.
     pub fn next(self, alloc: Global, reply: RMessage) -> Step
         ensures { Follows self reply result }
     {
@@ -192,7 +202,7 @@ impl Renaming {
             Renaming::Target(rename) => after_target(rename, reply),
             Renaming::Removal(rename) => after_removal(rename, reply),
             Renaming::Again => Step::Answer(reply),
-            Renaming::Release(rename) => refused(rename),
+            Renaming::Release(rename) => refuse(rename),
         }
     }
 }

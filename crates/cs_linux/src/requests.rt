@@ -1,4 +1,4 @@
-//! What is asked for a rename.
+//! The requests of a rename onto a name that is taken.
 ghost use Rattle.std.specs.Prelude.{◌≡◌, IfOk, [], ◌∷◌};
 ghost use Rattle.cs_wire.specs.Messages.{stat_of, t_view};
 ghost use Rattle.cs_linux.specs.Requests.{asks_name_alone, dot, is_directory, tclunk, tremove};
@@ -7,8 +7,8 @@ ghost use Rattle.cs_linux.specs.Requests.{tstat, twalk, twstat};
 use cs_wire::{Qid, Stat, TBody, TMessage};
 use std::alloc::{AllocError, Global};
 
-/// The fid that a rename takes for itself: the greatest but for NOFID. Linux's client takes the
-/// least that are free.
+/// The fid that a rename uses: the greatest except NOFID. Linux's client uses the least that are
+/// free.
 pub const OWN_FID: u32 = 0xffff_fffe;
 
 /// The bit of a qid's kind that a directory has (intro(5)).
@@ -20,7 +20,7 @@ const NO_QID: Qid = Qid {
     path: u64::MAX,
 };
 
-/// Whether a stat asks for a new name and for nothing else: all else says "don't touch" (stat(5)).
+/// Whether a stat asks only for a new name: every other field says "don't touch" (stat(5)).
 pub fn is_rename(stat: &Stat) -> bool
     ensures { result ≡ asks_name_alone (stat_of stat.now) }
 {
@@ -38,6 +38,7 @@ pub(crate) fn is_directory(qid: Qid) -> bool
     QTDIR <= qid.kind
 }
 
+/// A Tstat of this fid.
 pub(crate) fn tstat(tag: u16, fid: u32) -> TMessage<'static>
     ensures { t_view result ≡ tstat tag fid }
 {
@@ -47,7 +48,7 @@ pub(crate) fn tstat(tag: u16, fid: u32) -> TMessage<'static>
     }
 }
 
-/// A walk by one name.
+/// A Twalk of `OWN_FID` by one name from this fid.
 pub(crate) fn twalk(
     alloc: Global,
     tag: u16,
@@ -68,7 +69,8 @@ pub(crate) fn twalk(
     })
 }
 
-/// A walk by a name and on by a dot, by which no walk goes on: so no fid is made.
+/// A Twalk by a name and then by a dot, by which no walk goes on: so the reply shows whether the
+/// name is there, and no fid is made.
 pub(crate) fn twalk_on(
     alloc: Global,
     tag: u16,
@@ -90,6 +92,7 @@ pub(crate) fn twalk_on(
     })
 }
 
+/// A Tremove of `OWN_FID`.
 pub(crate) fn tremove(tag: u16) -> TMessage<'static>
     ensures { t_view result ≡ tremove tag }
 {
@@ -99,6 +102,7 @@ pub(crate) fn tremove(tag: u16) -> TMessage<'static>
     }
 }
 
+/// A Tclunk of `OWN_FID`.
 pub(crate) fn tclunk(tag: u16) -> TMessage<'static>
     ensures { t_view result ≡ tclunk tag }
 {
@@ -108,6 +112,7 @@ pub(crate) fn tclunk(tag: u16) -> TMessage<'static>
     }
 }
 
+/// A Twstat of this fid.
 pub(crate) fn twstat(tag: u16, fid: u32, stat: Stat) -> TMessage<'static>
     ensures { t_view result ≡ twstat tag fid (stat_of stat) }
 {

@@ -29,8 +29,8 @@ fn rules_of(letter: u8) -> &'static [RuleId]
     }
 }
 
-/// The place of a rule among those of its letter, by the two bytes behind the letter: a digit and a
-/// space, or two digits. Of other bytes it is any place.
+/// The place of a rule among those of its letter, from the two bytes after the letter: a digit and
+/// a space, or two digits. For other bytes it is any place.
 #[tactic(auto, unfolding(crate::specs::Numbers::place_of))]
 fn place_of(first: u8, second: u8) -> usize
     ensures { result ≡ place_of first second }
@@ -44,7 +44,7 @@ fn place_of(first: u8, second: u8) -> usize
     }
 }
 
-/// The one rule whose text it may be.
+/// The only rule whose text this may be.
 fn rule_numbered(text: &[u8]) -> Option<RuleId>
     ensures { result ≡ rule_numbered text.now }
 {
@@ -54,7 +54,7 @@ fn rule_numbered(text: &[u8]) -> Option<RuleId>
     rules_of(*letter).get(place_of(*first, *second)).copied()
 }
 
-/// The rule whose text it is, if it is one.
+/// The rule with this text, if there is one.
 pub fn rule_of(text: &str) -> Option<RuleId>
     ensures found { IfSome result (λ rule. text_of rule ≡ text.now) }
     ensures each { (rule : RuleId) → text.now ≡ text_of rule → result ≡ Some rule }

@@ -1,19 +1,20 @@
-//! What Linux's client is told.
+//! The replies that Linux's client gets.
 ghost use Rattle.std.specs.Prelude.{◌≡◌, ◌≢◌, ℕ, List};
 ghost use Rattle.cs_wire.specs.Messages.{r_view};
-ghost use Rattle.cs_linux.specs.Messages.{IsTold, error_message};
+ghost use Rattle.cs_linux.specs.Messages.{IsLinuxText, error_message};
 
 use crate::errno::Errno;
 use crate::rules::rule_of;
 use cs_wire::{RBody, RMessage};
 use std::borrow::CowStr;
 
-/// The text of a reply that says that memory is wanting.
+/// The text of a reply that reports that memory ran out.
 const OUT_OF_MEMORY: &str = "out of memory";
 
-/// The text that the client is told in place of this one.
-fn told_text(text: &str) -> &'static str
-    ensures { IsTold text.now result.now }
+/// The text that Linux's client gets in place of this one: that of the error for the rule with this
+/// text, of ENOMEM if memory ran out, else of EIO.
+fn linux_text(text: &str) -> &'static str
+    ensures { IsLinuxText text.now result.now }
 {
     let errno = match rule_of(text) {
         Some(rule) => Errno::of(rule),
@@ -23,18 +24,18 @@ fn told_text(text: &str) -> &'static str
     errno.text()
 }
 
-/// The reply as Linux's client is told it: an Rerror has a text that the client knows, and every
-/// other reply is what it was (error(5)). It takes no memory.
+/// The reply that Linux's client gets: an Rerror with a text that the client knows (error(5)), and
+/// every other reply unchanged. It allocates nothing.
 pub fn reply_to_linux(reply: RMessage) -> RMessage
     ensures error { (tag : ℕ) (text : List ℕ) → r_view reply ≡ error_message tag text
-        → (new : List ℕ) × IsTold text new × (r_view result ≡ error_message tag new) }
+        → (new : List ℕ) × IsLinuxText text new × (r_view result ≡ error_message tag new) }
     ensures other { ((tag : ℕ) (text : List ℕ) → r_view reply ≢ error_message tag text)
         → result ≡ reply }
 {
     let RMessage { tag, body } = reply;
     let body = match body {
         RBody::Error { ename } => RBody::Error {
-            ename: CowStr::Borrowed(told_text(ename.as_str())),
+            ename: CowStr::Borrowed(linux_text(ename.as_str())),
         },
         other => other,
     };

@@ -60,6 +60,7 @@ impl fmt::Display for NodeFields {
     }
 }
 
+/// The fields of a new entry: its path, and what it is an entry of.
 fn fields_of_create(alloc: Global, path: &Path, node: Node) -> Result<String, AllocError>
     ensures { IfOk result (λ text. string_bytes text ≡ create_fields path.now node) }
 {
@@ -78,6 +79,7 @@ fn kind_word(kind: EntryKind) -> &'static str
     }
 }
 
+/// The fields of a deleted entry: its path, and what it was an entry of.
 fn fields_of_delete(alloc: Global, path: &Path, kind: EntryKind) -> Result<String, AllocError>
     ensures { IfOk result (λ text. string_bytes text ≡ delete_fields path.now kind) }
 {
@@ -86,6 +88,7 @@ fn fields_of_delete(alloc: Global, path: &Path, kind: EntryKind) -> Result<Strin
     format!(in alloc; "\"kind\":\"delete_dir_entry\",\"path\":{path},\"node\":\"{node}\"")
 }
 
+/// The fields of a renamed entry: its path, and the new one.
 fn fields_of_move(alloc: Global, from: &Path, to: &Path) -> Result<String, AllocError>
     ensures { IfOk result (λ text. string_bytes text ≡ move_fields from.now to.now) }
 {
@@ -94,6 +97,7 @@ fn fields_of_move(alloc: Global, from: &Path, to: &Path) -> Result<String, Alloc
     format!(in alloc; "\"kind\":\"move_dir_entry\",\"path\":{from},\"to\":{to}")
 }
 
+/// The fields of a new entry of a file that has one already.
 fn fields_of_link(alloc: Global, path: &Path, file: u32) -> Result<String, AllocError>
     ensures { IfOk result (λ text. string_bytes text ≡ link_fields path.now file) }
 {
@@ -110,6 +114,7 @@ fn fields_of_file(alloc: Global, path: Option<&Path>, file: u32) -> Result<Strin
     format!(in alloc; "\"path\":{path},\"file\":{file}")
 }
 
+/// The fields of a new size, in bytes.
 fn fields_of_size(
     alloc: Global,
     path: Option<&Path>,
@@ -123,6 +128,7 @@ fn fields_of_size(
     format!(in alloc; "\"kind\":\"change_file_size\",{file},\"length\":{length}")
 }
 
+/// The fields of bytes that are written into one block.
 fn fields_of_block(
     alloc: Global,
     path: Option<&Path>,
@@ -174,6 +180,7 @@ impl fmt::Display for Mode {
     }
 }
 
+/// The mode in octal digits, the owner and the group.
 fn fields_of_rights(alloc: Global, rights: &Rights) -> Result<String, AllocError>
     ensures { IfOk result (λ text. string_bytes text ≡ rights_fields rights.now) }
 {
@@ -185,6 +192,7 @@ fn fields_of_rights(alloc: Global, rights: &Rights) -> Result<String, AllocError
     format!(in alloc; "\"mode\":\"{mode}\",\"owner\":{owner},\"group\":{group}")
 }
 
+/// The fields of new rights, and of what has them.
 fn fields_of_set_attr(
     alloc: Global,
     path: Option<&Path>,

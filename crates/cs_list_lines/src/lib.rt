@@ -1,4 +1,4 @@
-//! What `list` prints in addition to the micro-operations and the states: where each came from,
+//! What `list` prints in addition to the micro-operations and the states: the line of each,
 //! which states have equal trees, and all of it as JSON.
 #![tactic(auto)]
 

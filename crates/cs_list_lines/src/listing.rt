@@ -120,6 +120,7 @@ fn push_json(
     json_listing::push_states(alloc, scene, all_of(firsts), text)
 }
 
+/// Prints the list in its form, and flushes it.
 fn list<W: Write>(
     alloc: Global,
     inputs: &Inputs,

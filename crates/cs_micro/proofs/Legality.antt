@@ -157,7 +157,7 @@ written_leaves b m made file size offset bytes stands known limit = by (length b
         (size_leaves (block_bytes b) m made file (offset + length bytes) (nat_lt size (offset + length bytes)) stands known (limit some))
         (blocks_leave b m made file offset bytes stands known some (limit some))
 
--- a file that comes to its own path
+-- a file that moves to its own path
 moved_itself : (m : Paths) (p : Path) (node : Node) → get m p ≡ Some node → trace.moved p p m ≡ m
 moved_itself m p node is =
     ap (λ o. option_map_or (λ x. insert (remove m p) p x) o m) is

@@ -77,7 +77,7 @@ module _ (files : List Path) (links : List (Path × ℕ)) (k : ℕ) (p : Path) (
       (length-paths_of_files files (take (k + 1) links) ∙ sym (length-set old file more ∙ length-paths_of_files files (take k links)))
       (λ n high. at n (subst (λ w. n < w) (length-paths_of_files files (take (k + 1) links)) high))
 
--- a link more, where the paths of a file stand in a list of their own
+-- a link more, if each file's paths are a list
 pub link_pushed : {V : Type 0} (f : V → List Path) (starts : List V) (files : List Path) (links : List (Path × ℕ)) (k : ℕ) (link : Path × ℕ)
     (p : Path) (old new : V) → k < length links → link ≡ get_or links k link
     → link.1 < length files → map f starts ≡ paths_of_files files (take k links) → old ≡ get_or starts link.1 old → p ≡ link.0

@@ -8,7 +8,7 @@ use Rattle.cs_micro.specs.declared.micro_op.MicroOp.TheVariants.{WriteBlock}
 abbrev pub block_of : ℕ → ℕ → ℕ
 block_of size place = place / size
 
--- where a block begins in the file
+-- the offset of a block in the file
 abbrev pub start_of : ℕ → ℕ → ℕ
 start_of size block = size * block
 

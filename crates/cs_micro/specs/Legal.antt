@@ -14,7 +14,7 @@ use Rattle.cs_micro.specs.declared.micro_op.MicroOp.TheVariants.{MoveDirEntry, L
 use Rattle.cs_micro.specs.declared.micro_op.MicroOp.TheVariants.{ChangeFileSize, WriteBlock}
 use Rattle.cs_micro.specs.declared.micro_op.MicroOp.TheVariants.{SetAttr, Say}
 
--- what stands at each path after it
+-- what is at each path after it
 abbrev pub paths_after : Paths → MicroOp → Paths
 paths_after m (CreateDirEntry p node rights) = insert m p node
 paths_after m (DeleteDirEntry p kind) = remove m p

@@ -45,7 +45,7 @@ abbrev pub set_attr_micros : Target → Rights → Rights → List MicroOp
 set_attr_micros target before after =
     if same_rights before after then [] else micro.SetAttr target after ∷ []
 
--- the micro-operations of one operation
+-- the micro-operations that one operation breaks into
 abbrev pub micros_of : ℕ → Operation → List MicroOp
 micros_of block (Creat p file rights) = micro.CreateDirEntry p (nodes.File file) rights ∷ []
 micros_of block (Mkdir p rights) = micro.CreateDirEntry p nodes.Directory rights ∷ []

@@ -5,7 +5,7 @@ ghost use Rattle.cs_micro.specs.Texts.{rights_text, target_text};
 use cs_trace::{Rights, Target};
 use std::fmt;
 
-/// A file by its number, or a directory by its path.
+/// Prints a file by its number, or a directory by its path.
 #[derive(Clone, Copy)]
 pub struct TargetText<'a>(pub &'a Target);
 
@@ -20,7 +20,7 @@ impl fmt::Display for TargetText<'_> {
     }
 }
 
-/// Three octal digits, the owner and the group.
+/// Prints the permissions as three octal digits, then the owner and the group.
 #[derive(Clone, Copy)]
 pub struct RightsText<'a>(pub &'a Rights);
 

@@ -11,7 +11,7 @@ use cs_names::limits::FILE_BYTES;
 use cs_trace::BlockSize;
 use std::alloc::{AllocError, Global};
 
-/// The block that has the byte at this place of a file.
+/// The number of the block, from 0, that has the byte at this place of a file.
 pub fn block_of(size: BlockSize, place: u64) -> u64
     ensures value { result ≡ block_of (block_bytes size) place }
     ensures few { result ≤ place }
@@ -19,7 +19,7 @@ pub fn block_of(size: BlockSize, place: u64) -> u64
     place / size.bytes()
 }
 
-/// The bytes of a write that fall into one block.
+/// The write of those bytes that fall into this block. At least one of them does.
 fn write_block(
     alloc: Global,
     size: BlockSize,
@@ -46,7 +46,8 @@ fn write_block(
     })
 }
 
-/// A write of at least one byte, block by block.
+/// Appends a write of at least one byte, as one micro-operation for each block that it touches.
+/// After an error, some of them may have been appended.
 pub fn push_blocks(
     alloc: Global,
     ops: &mut Vec<MicroOp>,

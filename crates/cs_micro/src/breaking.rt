@@ -17,7 +17,8 @@ use cs_names::limits::{FILE_BYTES, MICRO_OPERATIONS};
 use cs_trace::{BlockSize, Node, Operation, Rights, Target};
 use std::alloc::{AllocError, Global};
 
-/// How many micro-operations a write is. It takes no memory.
+/// How many micro-operations a write breaks into, from a file of `size` bytes: none if it has no
+/// bytes. It allocates nothing.
 fn count_of_write(block: BlockSize, size: u64, offset: u64, bytes: &[u8]) -> usize
     requires { 0 < length bytes.now → offset + length bytes.now ≤ FILE_BYTES }
     ensures { (file : ℕ)
@@ -32,14 +33,14 @@ fn count_of_write(block: BlockSize, size: u64, offset: u64, bytes: &[u8]) -> usi
     blocks as usize + changes
 }
 
-/// Whether the owner, the group and the permissions are the same.
-fn are_same(rights: &Rights, others: &Rights) -> bool
+/// Whether owner, group and permissions are the same.
+fn are_same_rights(rights: &Rights, others: &Rights) -> bool
     ensures { result ≡ same_rights rights.now others.now }
 {
     rights == others
 }
 
-/// How many micro-operations an operation is. It takes no memory.
+/// How many micro-operations an operation breaks into. It allocates nothing.
 pub fn micro_count(block: BlockSize, operation: &Operation) -> usize
     requires { IsWithinLimit operation.now }
     ensures { result ≡ length (micros_of (block_bytes block) operation.now) }
@@ -59,12 +60,13 @@ pub fn micro_count(block: BlockSize, operation: &Operation) -> usize
             ..
         } => count_of_write(block, *size, *offset, bytes.as_slice()),
         Operation::Truncate { size, length, .. } => usize::from(size != length),
-        Operation::SetAttr { before, after, .. } => usize::from(!are_same(before, after)),
+        Operation::SetAttr { before, after, .. } => usize::from(!are_same_rights(before, after)),
         Operation::Sync(_) => 0,
     }
 }
 
-/// Whether there are no more micro-operations than a trace may have. It takes no memory.
+/// Whether the operations break into no more than MICRO_OPERATIONS micro-operations. It allocates
+/// nothing.
 pub fn has_room(block: BlockSize, operations: &[Operation]) -> bool
     requires { All IsWithinLimit operations.now }
     ensures { IsTrue result
@@ -81,7 +83,7 @@ pub fn has_room(block: BlockSize, operations: &[Operation]) -> bool
     true
 }
 
-/// A new entry.
+/// Appends the creation of an entry.
 fn push_create(
     alloc: Global,
     ops: &mut Vec<MicroOp>,
@@ -100,7 +102,7 @@ fn push_create(
     Ok(())
 }
 
-/// An entry that goes.
+/// Appends the removal of an entry.
 fn push_delete(
     alloc: Global,
     ops: &mut Vec<MicroOp>,
@@ -117,7 +119,7 @@ fn push_delete(
     Ok(())
 }
 
-/// A move, unless it is to the same path.
+/// Appends a move, unless both paths are the same.
 fn push_move(
     alloc: Global,
     ops: &mut Vec<MicroOp>,
@@ -137,7 +139,7 @@ fn push_move(
     Ok(())
 }
 
-/// One more entry of a file.
+/// Appends the creation of one more entry of a file.
 fn push_link(
     alloc: Global,
     ops: &mut Vec<MicroOp>,
@@ -154,7 +156,8 @@ fn push_link(
     Ok(())
 }
 
-/// A change of size if a write grows the file, and then its blocks.
+/// Appends a change of size if the write grows the file of `size` bytes, and then its blocks;
+/// nothing if it has no bytes.
 fn push_write(
     alloc: Global,
     ops: &mut Vec<MicroOp>,
@@ -180,7 +183,7 @@ fn push_write(
     push_blocks(alloc, ops, block, file, offset, bytes)
 }
 
-/// A change of size, unless it is to the same size.
+/// Appends a change from `size` bytes to another size, unless they are the same.
 fn push_size(ops: &mut Vec<MicroOp>, file: u32, size: u64, to: u64) -> Result<(), AllocError>
     ensures value { OnOk result (ops.new.items ≡ ops.old.items ++ truncate_micros file size to) }
     ensures memory { IsErr result → 0 < length (truncate_micros file size to) }
@@ -191,7 +194,7 @@ fn push_size(ops: &mut Vec<MicroOp>, file: u32, size: u64, to: u64) -> Result<()
     Ok(())
 }
 
-/// A change of rights, unless it is to the same.
+/// Appends a change of rights, unless both are the same.
 fn push_rights(
     alloc: Global,
     ops: &mut Vec<MicroOp>,
@@ -203,7 +206,7 @@ fn push_rights(
         ++ set_attr_micros target.now before.now after.now) }
     ensures memory { IsErr result → 0 < length (set_attr_micros target.now before.now after.now) }
 {
-    if are_same(before, after) {
+    if are_same_rights(before, after) {
         return Ok(());
     }
     ops.push(MicroOp::SetAttr {
@@ -213,7 +216,7 @@ fn push_rights(
     Ok(())
 }
 
-/// A text for the application's users.
+/// Appends a text that the application acknowledges to its users.
 fn push_say(ops: &mut Vec<MicroOp>) -> Result<(), AllocError>
     ensures { OnOk result (ops.new.items ≡ ops.old.items ++ MicroOp.Say ∷ []) }
 {
@@ -221,7 +224,8 @@ fn push_say(ops: &mut Vec<MicroOp>) -> Result<(), AllocError>
     Ok(())
 }
 
-/// The micro-operations of one operation, after the others.
+/// Appends the micro-operations of one operation. After an error, some of them may have been
+/// appended.
 fn push_micros(
     alloc: Global,
     ops: &mut Vec<MicroOp>,
@@ -261,7 +265,8 @@ fn push_micros(
     }
 }
 
-/// The sync point of one operation, if it is one, after so many micro-operations.
+/// Appends the sync point of the operation, if it is a sync; `count` micro-operations come before
+/// it.
 fn push_sync(
     alloc: Global,
     syncs: &mut Vec<SyncPoint>,
@@ -281,8 +286,9 @@ fn push_sync(
     Ok(())
 }
 
-/// The micro-operations of these operations, and their sync points.
-pub fn broken_up(
+/// The micro-operations of these operations, and their sync points. It runs out of memory only if
+/// there is at least one of either.
+pub fn micros_and_syncs(
     alloc: Global,
     block: BlockSize,
     operations: &[Operation],

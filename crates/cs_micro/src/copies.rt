@@ -1,10 +1,10 @@
-//! Copies of what a trace keeps.
+//! Copies of parts of a trace's operations.
 ghost use Rattle.std.specs.Prelude.{◌≡◌, IfOk};
 
 use cs_trace::{Covers, Target};
 use std::alloc::{AllocError, Global};
 
-/// The same target again.
+/// A copy of the target. A file's allocates nothing.
 pub fn copy_target(alloc: Global, target: &Target) -> Result<Target, AllocError>
     ensures { IfOk result (λ copy. copy ≡ target.now) }
 {
@@ -14,7 +14,7 @@ pub fn copy_target(alloc: Global, target: &Target) -> Result<Target, AllocError>
     }
 }
 
-/// The same again of what a sync covers.
+/// A copy of what a sync covers.
 pub fn copy_covers(alloc: Global, covers: &Covers) -> Result<Covers, AllocError>
     ensures { IfOk result (λ copy. copy ≡ covers.now) }
 {

@@ -11,7 +11,7 @@ use std::fmt;
 pub enum MicroFault {
     /// It has more than MICRO_OPERATIONS micro-operations.
     TooMany,
-    /// No memory to keep them.
+    /// Out of memory.
     Memory,
 }
 

@@ -7,7 +7,7 @@ use cs_names::{Bytes, Path};
 use cs_trace::{Node, Rights, Target};
 use std::fmt;
 
-/// What an entry that is deleted was the entry of.
+/// What a deleted entry named: a file or a directory.
 #[derive(Clone, Copy, Debug, PartialEq, Eq)]
 pub enum EntryKind {
     File,
@@ -23,12 +23,12 @@ pub enum MicroOp {
         node: Node,
         rights: Rights,
     },
-    /// An entry that goes.
+    /// An entry is removed.
     DeleteDirEntry {
         path: Path,
         kind: EntryKind,
     },
-    /// A file's entry that comes to another path, over a file's entry that stands there.
+    /// A file's entry moves to another path. A file's entry at that path is replaced.
     MoveDirEntry {
         from: Path,
         to: Path,
@@ -38,21 +38,21 @@ pub enum MicroOp {
         path: Path,
         file: u32,
     },
-    /// The file has so many bytes from now on.
+    /// The file has `length` bytes from now on: it grows by zeros, or is cut.
     ChangeFileSize {
         file: u32,
         length: u64,
     },
-    /// Bytes that are written into one block of a file.
+    /// Bytes are written into one block of a file.
     WriteBlock {
         file: u32,
         /// The block's number, from 0.
         block: u64,
-        /// Where the block begins in the file.
+        /// The offset of the block in the file.
         start: u64,
-        /// Where the bytes begin in the block.
+        /// The offset of the bytes in the block.
         at: u64,
-        /// At least one byte; all of them lie in the block.
+        /// At least one byte; all of them are in the block.
         bytes: Bytes,
     },
     /// A file or a directory has these rights from now on.
@@ -60,7 +60,7 @@ pub enum MicroOp {
         target: Target,
         rights: Rights,
     },
-    /// A text that the application tells its users.
+    /// A text that the application acknowledges to its users.
     Say,
 }
 
@@ -74,8 +74,9 @@ fn node_word(node: Node) -> &'static str
     }
 }
 
-/// What the list of a trace's micro-operations says of it, but for its place: its kind, and then
-/// the path or paths, or the file's number with the length, or with the block, the place in it and
+/// Prints the micro-operation as the list of a trace's micro-operations does, without its place:
+/// its kind, and then its fields. Those are the path or paths, with a new entry's kind or a linked
+/// file's number; the file's number and length; the file's number, the block, the offset in it and
 /// the number of bytes; or whose rights are set, and the rights.
 impl fmt::Display for MicroOp {
     ghost output = { λ op. Some (op_text op) };

@@ -5,7 +5,7 @@ ghost use Rattle.cs_micro.specs.Legal.{AreLegal};
 ghost use Rattle.cs_micro.specs.MicroOperations.{micro_operations_of};
 ghost use Rattle.cs_micro.specs.Micros.{HoldsAny, block_of_version, micros_in};
 
-use crate::breaking::{broken_up, has_room};
+use crate::breaking::{has_room, micros_and_syncs};
 use crate::fault::MicroFault;
 use crate::micro_op::MicroOp;
 use crate::starts::paths_of_files;
@@ -75,8 +75,9 @@ impl Micros {
     }
 }
 
-/// The trace's operations as micro-operations, with its sync points. The result is TooMany if there
-/// are more than MICRO_OPERATIONS of them, and is Memory only if there is something to keep.
+/// Breaks the trace's operations into micro-operations, and collects its sync points. The result is
+/// TooMany if there are more than MICRO_OPERATIONS micro-operations. It is Memory only if there is
+/// at least one micro-operation, sync point or file at the start.
 pub fn break_up(alloc: Global, trace: &Trace) -> Result<Micros, MicroFault>
     ensures value { IfOk result (λ micros. micros ≡ micros_in trace.now) }
     ensures many { IsErrOf result MicroFault.TooMany
@@ -93,7 +94,7 @@ pub fn break_up(alloc: Global, trace: &Trace) -> Result<Micros, MicroFault>
     if !has_room(block, operations) {
         return Err(MicroFault::TooMany);
     }
-    let (ops, syncs) = broken_up(alloc, block, operations)?;
+    let (ops, syncs) = micros_and_syncs(alloc, block, operations)?;
     let starts = paths_of_files(alloc, trace.files(), trace.links())?;
     Ok(Micros {
         ops,

@@ -29,10 +29,13 @@ pub trait Named {
             (λ text. (text.now ≡ bytes.now) × (read_in bytes.now ≡ Ok bytes.now))
             (λ fault. read_in bytes.now ≡ Err fault) };
 
+    /// What reads as a name is legal.
     ghost legal: { (bytes : List ℕ) → read_in bytes ≡ Ok bytes → IsLegal bytes };
 
+    /// What is legal reads as a name.
     ghost accepts: { (bytes : List ℕ) → IsLegal bytes → read_in bytes ≡ Ok bytes };
 
+    /// Reading a name takes no memory.
     ghost no_memory: { (bytes : List ℕ) → read_in bytes ≢ Err Memory };
 }
 
@@ -110,18 +113,21 @@ impl Named for Run {
     }
 }
 
+/// Whether a byte is `/` or NUL.
 fn has_slash_or_nul(bytes: &[u8]) -> bool
     ensures { result ≡ list_any (λ c. c == 47 || c == 0) bytes.now }
 {
     bytes.iter().any(|c| *c == b'/' || *c == 0)
 }
 
+/// Whether the bytes have a `/` or a NUL, or are `.` or `..`.
 fn has_forbidden(bytes: &[u8]) -> bool
     ensures { result ≡ is_forbidden bytes.now }
 {
     has_slash_or_nul(bytes) || bytes == b".".as_slice() || bytes == b"..".as_slice()
 }
 
+/// Whether each byte may be in a run's name.
 fn has_run_letters(bytes: &[u8]) -> bool
     ensures { result ≡ list_all is_run_letter bytes.now }
 {

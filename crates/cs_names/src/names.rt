@@ -15,7 +15,7 @@ use std::marker::Model;
 /// Contracts see the list of their bytes.
 #[derive(Debug, Drop)]
 pub struct Names<'a> {
-    // a NUL stands between two names
+    // with a NUL between two names
     text: &'a str,
 }
 
@@ -67,14 +67,14 @@ impl<'a> Names<'a> {
         self.text
     }
 
-    /// Whether there is none, as in the root's path.
+    /// Whether there is no name, as in the root's path.
     pub fn is_empty(&self) -> bool
         ensures { result ≡ (length self.now == 0) }
     {
         self.text.is_empty()
     }
 
-    /// How many there are.
+    /// The number of names.
     pub fn len(&self) -> usize
         ensures { result ≡ length self.now }
     {
@@ -98,7 +98,7 @@ impl<'a> Names<'a> {
         }
     }
 
-    /// The names of the directory's path; of the root's none.
+    /// The names of the parent's path; the root's parent is the root.
     pub fn parent(&self) -> Names<'a>
         ensures { result ≡ parent_path self.now }
     {

@@ -51,14 +51,14 @@ impl Model for Bytes {
 }
 
 impl Text {
-    /// This text. It takes no memory.
+    /// Wraps the text. It takes no memory.
     pub fn new(text: String) -> Text
         ensures { result ≡ string_bytes text }
     {
         Text { text }
     }
 
-    /// A text with these bytes.
+    /// Copies the text.
     pub fn keep(alloc: Global, text: &str) -> Result<Text, AllocError>
         ensures { IfOk result (λ kept. kept ≡ text.now) }
     {
@@ -67,21 +67,21 @@ impl Text {
         })
     }
 
-    /// The text.
+    /// Lends the text.
     pub fn as_str(&self) -> &str
         ensures { result.now ≡ self.now }
     {
         self.text.as_str()
     }
 
-    /// The text, to keep.
+    /// Unwraps the text.
     pub fn into_string(self) -> String
         ensures { string_bytes result ≡ self }
     {
         self.text
     }
 
-    /// The same text again.
+    /// Copies the text.
     pub fn try_clone(&self) -> Result<Text, AllocError>
         ensures { IfOk result (λ copy. copy ≡ self.now) }
     {
@@ -92,14 +92,14 @@ impl Text {
 }
 
 impl Texts {
-    /// These texts. It takes no memory.
+    /// Wraps the texts. It takes no memory.
     pub fn new(texts: Vec<String>) -> Texts
         ensures { result ≡ map string_bytes texts.items }
     {
         Texts { texts }
     }
 
-    /// The texts, in their order.
+    /// Lends the texts, in their order.
     pub fn as_slice(&self) -> &[String]
         ensures texts { map string_bytes result.now ≡ self.now }
         ensures count { length result.now ≡ length self.now }
@@ -107,21 +107,21 @@ impl Texts {
         self.texts.as_slice()
     }
 
-    /// How many they are.
+    /// The number of texts.
     pub fn len(&self) -> usize
         ensures { result ≡ length self.now }
     {
         self.texts.len()
     }
 
-    /// The texts, to keep.
+    /// Unwraps the texts.
     pub fn into_vec(self) -> Vec<String>
         ensures { map string_bytes result.items ≡ self }
     {
         self.texts
     }
 
-    /// The same texts again.
+    /// Copies the texts.
     pub fn try_clone(&self, alloc: Global) -> Result<Texts, AllocError>
         ensures { IfOk result (λ copy. copy ≡ self.now) }
     {
@@ -155,7 +155,7 @@ impl Bytes {
         self.bytes.as_slice()
     }
 
-    /// How many they are.
+    /// The number of bytes.
     pub fn len(&self) -> usize
         ensures { result ≡ length self.now }
     {
@@ -169,7 +169,7 @@ impl Bytes {
         self.bytes
     }
 
-    /// The same bytes again.
+    /// Copies the bytes.
     pub fn try_clone(&self) -> Result<Bytes, AllocError>
         ensures { IfOk result (λ copy. copy ≡ self.now) }
     {
@@ -179,6 +179,7 @@ impl Bytes {
     }
 }
 
+/// Copies each text; none is kept if memory runs out.
 fn copy_texts(alloc: Global, texts: &[String]) -> Result<Vec<String>, AllocError>
     ensures { IfOk result (λ copy. map string_bytes copy.items ≡ map string_bytes texts.now) }
 {
@@ -189,6 +190,7 @@ fn copy_texts(alloc: Global, texts: &[String]) -> Result<Vec<String>, AllocError
     Ok(copy)
 }
 
+/// Copies the bytes.
 fn copy_bytes(bytes: &Vec<u8>) -> Result<Vec<u8>, AllocError>
     ensures { IfOk result (λ copy. copy.items ≡ bytes.now.items) }
 {

@@ -1,4 +1,4 @@
--- A map from names to what is said of them, as a finite map from names to numbers.
+-- A map from names to answers, as a finite map from names to numbers.
 use Rattle.std.proofs.Common.{◌≡◌, ◌≢◌, ⊎_elim, Bool, true, false, Option, cond, None, Some, refl, sym, ap, ◌∙◌, length}
 use Rattle.std.specs.BTreeMap.{BTreeMap, UpdatesBy, get_by_text}
 use Rattle.std.specs.FinMap as map
@@ -36,7 +36,7 @@ module _ {Y : Type 0} where
       by true o = refl
       by false o = refl
 
-  -- what is said of a name has the name, after one more
+  -- the answer for a name has the name, after one more
   pub named_insert : (m n : BTreeMap (String Y) Said) (bs : NameBytes) (v : Said)
       → UpdatesBy string_cmp (λ k. name_cmp bs (string_bytes k)) m n (Some v) → v.name ≡ bs → AreNamed (get_by_text m)
       → AreNamed (get_by_text n)

@@ -1,4 +1,4 @@
--- A copy of a lower file says what the lower tree says.
+-- A copy of a lower file shows what the lower tree has.
 use Rattle.std.proofs.Common.{◌≡◌, ◌≢◌, ◌==◌, ℕ, true, false, cond, List, [], ◌∷◌, Option, None, Some, IsSome, refl, sym, ap, ◌∙◌, subst}
 use Rattle.std.proofs.Common.{⊎_elim, unwrap_or}
 use Rattle.std.proofs.lemmas.Bool.{false≢true, cases_eq, eq-eqb, ne_eqb}
@@ -68,7 +68,7 @@ module _ (t : Tree) (n : ℕ) (m : MetadataBuf) (record_is : Some m ≡ option_m
             own = own;
           }
 
--- ---- what nobody sees
+-- ---- what no read shows
 
 pub same_alike : (t : Tree) (c e : Upper) → ((q : ℕ) → e q ≡ c q) → SameLayers t c e
 same_alike t c e alike = record {

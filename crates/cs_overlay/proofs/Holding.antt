@@ -18,7 +18,7 @@ use Rattle.cs_overlay.specs.Layers.{layered_lookup, layer_at, layers, shape_over
 use Rattle.cs_overlay.proofs.Layering.{found_same, layers_put, nodes_put, one_upper, step_here, with_at_here}
 use Rattle.cs_overlay.proofs.Views.{parent_is, record_is}
 
--- ---- growths that nobody sees
+-- ---- growths that no read shows
 
 module _ (t : Tree) (c e : Upper) (s : SameLayers t c e) where
   layers_same : layers t c ≡ layers t e
@@ -45,7 +45,7 @@ pub record MakesOver (lower : Tree) (nodes : Upper) (next count : ℕ) (whole : 
   pub held : IsOver lower nodes next count
   pub view : tree_of (layers lower nodes) next ≡ whole
 
--- after a growth that nobody sees they make the same; the growth was lent the lower tree
+-- after a growth that no read shows they make the same; the growth was lent the lower tree
 module _ {A : Type 0} (tree_in : A → Tree) {lent lower : A} (is : lent ≡ lower) {c e : Upper} (s : SameLayers (tree_in lent) c e)
     {next count : ℕ} {whole : Tree} (held : IsOver (tree_in lower) c next count)
     (view : tree_of (layers (tree_in lower) c) next ≡ whole) where

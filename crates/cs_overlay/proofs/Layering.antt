@@ -18,7 +18,7 @@ use Rattle.cs_overlay.specs.Layers.{layer_at, layers, own_in, said_over, shape_o
 pub one_upper : (c e : Upper) → SameNodes c e → c ≡ e
 one_upper c e alike = λ i q. sym (alike q) i
 
--- ---- names that a directory says something of
+-- ---- names for which a directory has an answer
 
 pub content_said : (low : Option (List ℕ)) (b : Body) (x : NameBytes) (o : Option ℕ)
     → content_over low (body_with b x o) ≡ content_over low b
@@ -113,7 +113,7 @@ module _ (t : Tree) (c : Upper) (k : ℕ) where
           (cases_eq v k) ∙ sym (set_kid_other (layered_lookup t c) k x w v y other))
           (place_cases k x v y)
 
-  -- a directory that says o of x
+  -- a directory with the answer o for x
   pub found_said : (d e : Node) → c k ≡ Some (Some d) → content_over (content_numbered t k) d.body ≡ None → (x : NameBytes) (o : Option ℕ)
       → e.body ≡ body_with d.body x o → layered_lookup t (with_at c k (Some (Some e))) ≡ set_kid (layered_lookup t c) k x o
   found_said d e here directory x o is = found_set e x o

@@ -1,4 +1,4 @@
--- A file in its directory, before a call that changes what the directory says.
+-- A file in its directory, before a call that changes the directory's answers.
 use Rattle.std.proofs.Common.{◌≡◌, ◌≢◌, ◌==◌, ℕ, true, false, Option, None, Some, refl, sym, ap, ◌∙◌, subst, ⊎_elim}
 use Rattle.std.proofs.lemmas.Bool.{cases_eq, eq-eqb, ne_eqb}
 use Rattle.cs_tree_model.specs.declared.change.Stamp.{Stamp}
@@ -59,7 +59,7 @@ put_twice c k v w = λ i q. each q i
         (λ (ne : k ≢ q). let t : k == q ≡ false = ne_eqb k q ne in rw t refl)
         (cases_eq k q)
 
--- a directory that says o of x, and is stamped
+-- a directory with the answer o for x, stamped
 module _ (t : Tree) (u : ℕ) (x : NameBytes) (o : Option ℕ) (s : Stamp) where
   pub shape_touched : (d : Node)
       → shape_over (content_numbered t u) (with_stamp (with_answer d x o) s)

@@ -15,7 +15,7 @@ use Rattle.cs_tree_model.specs.Nexts.{entry_name, comes_before, IsNext, IsEntryB
 use Rattle.cs_tree_model.specs.declared.entries.ListedEntry.{ListedEntry}
 use Rattle.cs_tree_model.specs.Tree.{NameBytes, name_cmp}
 
--- what the names of its own say of a name, or else the lower directory
+-- the directory's own answer for a name, or else the lower directory's
 abbrev pub shown : (NameBytes → Option (Option ℕ)) → (NameBytes → Option ℕ) → NameBytes → Option ℕ
 shown own low y = option_map_or (λ o. o) (own y) (low y)
 
@@ -30,7 +30,7 @@ module _ (own : NameBytes → Option (Option ℕ)) (low : NameBytes → Option �
   is_own : (y : NameBytes) (o : Option ℕ) → own y ≡ Some o → shown own low y ≡ o
   is_own y o e = ap (λ w. option_map_or (λ v. v) w (low y)) e
 
-  -- with no more names of its own, the next one is the lower's
+  -- if it has no more names of its own, the next one is the lower directory's
   module _ (none : IsEntryBelow (λ y. IsSome (own y)) last bound None) where
     not_own : (y : NameBytes) → Between last bound y → own y ≡ None
     not_own y b = ⊎_elim
@@ -92,7 +92,7 @@ module _ (own : NameBytes → Option (Option ℕ)) (low : NameBytes → Option �
     low_number y n a e = is_low y (before_own y a.after (is_less _ a.there.1)) ∙ e
 
     module _ (none : IsEntryBelow (λ z. IsSome (low z)) last (Some x) None) where
-      -- what is shown comes not before x
+      -- what is shown doesn't come before x
       not_before : (y : NameBytes) → IsSome (shown own low y) → comes_after last y ≡ true → name_cmp y x ≡ Less → ⊥
       not_before y h t lt = false≢true (sym (none y (ap is_some (sym (is_low y (before_own y t lt))) ∙ h, ap is_lt lt)) ∙ t)
 
@@ -141,7 +141,7 @@ Said = NameBytes × Option ℕ
 abbrev pub is_after : Option NameBytes → Said → Bool
 is_after last e = comes_after last e.0
 
--- how many names of its own are left
+-- how many of its own names are left
 abbrev pub left_after : Option NameBytes → List Said → ℕ
 left_after last es = length (filter (is_after last) es)
 

@@ -1,4 +1,4 @@
--- Blocks that nobody sees.
+-- Copies of blocks that no read shows.
 use Rattle.std.proofs.Common.{◌≡◌, ◌≢◌, ℕ, ◌+◌, ◌-◌, ◌*◌, ◌/◌, ◌%◌, ◌<◌, ◌≤◌, ◌==◌, nat_lt, true, false, cond, List, ◌++◌, length}
 use Rattle.std.proofs.Common.{replicate, slice_index, Option, None, Some, IsSome, IfSome, refl, sym, ap, ◌∙◌, ⊎_elim, arith, length-append}
 use Rattle.std.proofs.lemmas.List.{append-nil}

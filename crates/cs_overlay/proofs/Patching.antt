@@ -48,7 +48,7 @@ module _ (lower : List ℕ) (kept : ℕ) (blocks : ℕ → Option (List ℕ)) (n
       cut None low = below_cut lower kept n i lt
       cut (Some b) low = get_or-take (n % 4096) b (i % 4096) 0 low
 
-  -- behind it they are zero
+  -- after it they are zero
   pub byte_behind : (i : ℕ) → n ≤ i → byte_at lower (min kept n) (cut_blocks n blocks) i ≡ 0
   byte_behind i le = ⊎_elim
       (λ (a : i / 4096 ≡ n / 4096).

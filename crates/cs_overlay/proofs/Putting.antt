@@ -34,7 +34,7 @@ module _ (k : ℕ) (w s : List ℕ) (fits : k + length w ≤ length s) where
       get_or-append_right (take k s ++ w) (drop (k + length w) s) (k + length w) i 0 both le
       ∙ get-drop (k + length w) (i - (k + length w)) s ∙ ap (slice_index s) z
 
--- where a byte lies to a write
+-- the place of a byte relative to a write
 module _ (offset : ℕ) (w : List ℕ) (f : ℕ → ℕ) (i : ℕ) where
   pub byte_front : i < offset → written_byte offset w f i ≡ f i
   byte_front lt = let e : nat_lt i offset ≡ true = lt-ltb _ _ lt in rw e refl

@@ -27,7 +27,7 @@ module _ (f : ℕ → ℕ) (offset count size n : ℕ) (is : n ≡ min count (si
   pub some_bytes : n ≢ 0 → take count (drop offset (map f (range_with_len 0 size))) ≢ []
   some_bytes some e = some (sym (length-map-range_with_len f offset n) ∙ ap length (read_range f offset count size n is ∙ e))
 
--- where no block stands, what shows of the lower file is all
+-- if there are no blocks, what shows of the lower file is all
 pub shown_alone : (lower : List ℕ) (kept : ℕ) (blocks : ℕ → Option (List ℕ)) (offset n : ℕ) (shown : List ℕ) → ((q : ℕ) → blocks q ≡ None)
     → IsShown lower kept offset n shown → length shown ≡ n
     → shown ≡ map (byte_at lower kept blocks) (range_with_len offset n)

@@ -1,4 +1,4 @@
--- Growths that nobody sees.
+-- Growths that no read shows.
 use Rattle.std.proofs.Common.{◌≡◌, ◌≢◌, ◌==◌, ℕ, true, false, Option, None, Some, IsSome, IfSome, refl, sym, ap, ◌∙◌, subst, ⊎_elim}
 use Rattle.std.proofs.lemmas.Bool.{false≢true, cases_eq, eq-eqb, ne_eqb}
 use Rattle.std.specs.Option.{IsSomeAnd, is_some, option_map}
@@ -17,7 +17,7 @@ use Rattle.cs_overlay.proofs.Copies.{same_alike}
 use Rattle.cs_overlay.proofs.Layering.{content_said, hides_said, nodes_put, one_upper, said_here, said_there, step_here, with_at_here}
 use Rattle.cs_overlay.proofs.Layering.{with_at_other}
 
--- an entry that says the same in place of another
+-- an entry that shows the same in place of another
 module _ (t : Tree) (c : Upper) (k : ℕ) (d v : Node) (here : c k ≡ Some (Some d))
     (shape : shape_over (content_numbered t k) v ≡ shape_over (content_numbered t k) d)
     (own : (y : NameBytes) → said_over t k y (own_in v.body y) ≡ said_over t k y (own_in d.body y))
@@ -48,7 +48,7 @@ module _ (t : Tree) (c : Upper) (k : ℕ) (d v : Node) (here : c k ≡ Some (Som
 pub same_step : (t : Tree) (n : ℕ) (c e : Upper) → StepsAt t n (λ r. r) c e → SameLayers t c e
 same_step t n c e s = same_put t c n s.was s.is s.here s.step.shape (λ y. ap (said_over t n y) (s.step.own y)) s.step.node e s.goes
 
--- ---- a directory says what it says already
+-- ---- a directory gets an answer that a look-up finds already
 
 module _ (t : Tree) (c : Upper) (u : ℕ) (x : NameBytes) (o : Option ℕ) where
   said_again : (d : Node) → c u ≡ Some (Some d) → layered_lookup t c u x ≡ o → (y : NameBytes)
@@ -90,7 +90,7 @@ module _ (t : Tree) (c : Upper) (u : ℕ) (x : NameBytes) (o : Option ℕ) where
           })
           e (λ q. goes q ∙ ap (λ w. with_at c u (option_map (option_map (λ v. with_answer v x o)) w) q) is)
 
--- where a node was, one is after an answer
+-- a number that had a node has one after an answer
 pub keeps_said : (c : Upper) (u : ℕ) (x : NameBytes) (o : Option ℕ) (e : Upper) → SameNodes (step_at c u (λ d. with_answer d x o)) e
     → KeepsNodes c e
 keeps_said c u x o e goes n h = ⊎_elim
@@ -106,7 +106,7 @@ keeps_said c u x o e goes n h = ⊎_elim
     off : (c : Upper) (u : ℕ) (w : Option (Option Node)) → n ≢ u → with_at c u w n ≡ c n
     off c u w ne = let b : u == n ≡ false = ne_eqb u n (λ f. ne (sym f)) in rw b refl
 
--- what was said stays said
+-- an answer stays an answer
 pub still_said : (b : Body) (x : NameBytes) (o : Option ℕ) (y : NameBytes) → IsSome (own_in b y) → IsSome (own_in (body_with b x o) y)
 still_said (File p) x o y h = h
 still_said (Directory names) x o y h = ⊎_elim
@@ -128,7 +128,7 @@ pub steps_of : (t : Tree) (c e : Upper) (n : ℕ) (f : Record → Record) (d v :
     → IsStep (content_numbered t n) n f d v → SameNodes (with_at c n (Some (Some v))) e → StepsAt t n f c e
 steps_of t c e n f d v here step goes = record { was = d; here = here; is = v; step = step; goes = goes }
 
--- a directory says something of two names, of which it was asked to say something
+-- a directory has answers for two names after both were set
 module _ (t : Tree) (c : Upper) (u : ℕ) (x y : NameBytes) (a b : Option ℕ) (m e : Upper) (d : Node) (here : c u ≡ Some (Some d))
     (directory : content_over (content_numbered t u) d.body ≡ None)
     (one : SameNodes (step_at c u (λ d. with_answer d x a)) m) (two : SameNodes (step_at m u (λ d. with_answer d y b)) e) where

@@ -88,7 +88,7 @@ module _ (t : Tree) (c : Upper) (next count : ℕ) (h : IsOver t c next count) (
   pub found_is : (u : ℕ) (x : NameBytes) → layered_lookup t c u x ≡ number_in whole u x
   found_is u x = sym (laws.number_in_kids (layers t c) (layered_lookup t c) next h.indexed whole view u x)
 
-  -- where the overlay has nothing, the lower tree's answer
+  -- if the overlay has no entry, the lower tree's answer
   record_lower : (n : ℕ) → None ≡ c n → record_numbered t n ≡ record_numbered whole n
   record_lower n none =
       laws.record_in (node_in t) (number_in t) t.next (indexed_of t h.tree) t (tree_round t h.tree) n ∙ ap
@@ -108,7 +108,7 @@ module _ (t : Tree) (c : Upper) (next count : ℕ) (h : IsOver t c next count) (
   record_gone : (n : ℕ) → Some None ≡ c n → None ≡ record_numbered whole n
   record_gone n gone = ap (λ o. option_map (λ (d : table.Node). d.file) (layer_at t n o)) gone ∙ record_is n
 
-  -- what is the overlay's own
+  -- if the overlay has an entry, that one's
   record_own : (n : ℕ) (d : Node) → Some (Some d) ≡ c n → Some (shape_over (content_numbered t n) d).file ≡ record_numbered whole n
   record_own n d own = ap (λ o. option_map (λ (d : table.Node). d.file) (layer_at t n o)) own ∙ record_is n
 

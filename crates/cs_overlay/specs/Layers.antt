@@ -19,7 +19,7 @@ use Rattle.cs_overlay.specs.declared.node.Body.TheVariants.{Directory, File}
 use Rattle.cs_overlay.specs.declared.node.Node.{Node}
 use Rattle.cs_overlay.specs.Files.{file_bytes, NothingHidden}
 
--- what is at each number: nothing of the overlay's own, a file that was taken out, or a node
+-- the overlay's entry at each number: none, a removed file's, or a node
 abbrev pub Upper : Type 0
 Upper = ℕ → Option (Option Node)
 
@@ -48,12 +48,12 @@ pub record IsNode (low : Option (List ℕ)) (number : ℕ) (node : Node) : Type 
   pub named : number ≢ 0 → IsSome node.name
   pub hides : HidesPast low node.body
 
--- what a directory says of a name by itself: nothing, that no file has it, or which one
+-- the directory's own answer for a name: none, that no file has it, or which file has it
 abbrev pub own_in : Body → NameBytes → Option (Option ℕ)
 own_in (Directory names) name = get names name
 own_in (File p) name = None
 
--- the number of the file of that name in the directory of the tree, over which a directory says so
+-- the number of the file of that name: the directory's own answer, or else the tree's
 abbrev pub said_over : Tree → ℕ → NameBytes → Option (Option ℕ) → Option ℕ
 said_over tree directory name said = option_map_or (λ o. o) said (number_in tree directory name)
 
@@ -110,24 +110,24 @@ pub record IsOver (t : Tree) (upper : Upper) (next count : ℕ) : Type 0 where
   pub nodes : AreNodes t upper
   pub counted : count ≡ count_below (layers t upper) next
 
--- ---- growths that nobody sees
+-- ---- growths that no read shows
 
--- the overlay after it says the same, with nodes of its own perhaps where it had none
+-- the overlay after it shows the same, with nodes perhaps where it had none
 pub record SameLayers (tree : Tree) (upper after : Upper) : Type 0 where
   pub layer : (n : ℕ) → layers tree after n ≡ layers tree upper n
   pub finds : (u : ℕ) (x : NameBytes)
       → layered_lookup tree after u x ≡ layered_lookup tree upper u x
   pub nodes : AreNodes tree upper → AreNodes tree after
 
--- there is a node of the overlay's own for the number
+-- the overlay has a node for the number
 abbrev pub HasNode : Upper → ℕ → Type 0
 HasNode upper number = (d : Node) × (upper number ≡ Some (Some d))
 
--- if there was a node of the overlay's own, there is one after it
+-- if the overlay had a node for a number, it has one after it
 abbrev pub KeepsNodes : Upper → Upper → Type 0
 KeepsNodes upper after = (n : ℕ) → HasNode upper n → HasNode after n
 
--- a node of the overlay's own for a file of the lower tree, which says the same
+-- a node that shows what the lower tree has at the number
 pub record IsCopy (tree : Tree) (number : ℕ) (d : Node) : Type 0 where
   pub shape : node_in tree number ≡ Some (shape_over (content_numbered tree number) d)
   pub node : IsNode (content_numbered tree number) number d
@@ -141,7 +141,7 @@ pub record IsNewFile (parent : ℕ) (name : NameBytes) (file : Record) (d : Node
 
 -- ---- one node after a step
 
--- a directory that says o of the name
+-- a directory with the answer o for the name
 abbrev pub body_with : Body → NameBytes → Option ℕ → Body
 body_with (Directory names) name o = Directory (insert names name o)
 body_with (File p) name o = File p
@@ -163,7 +163,7 @@ with_attributes node mode group mtime = record node {
   metadata = metadata_with_attributes node.metadata mode group mtime;
 }
 
--- e is the file d with f of its record, and says the same of names
+-- e is the file d with f of its record, and has the same answers for names
 pub record IsStep (low : Option (List ℕ)) (number : ℕ) (f : Record → Record)
     (d e : Node) : Type 0 where
   pub shape : shape_over low e ≡ table.with_file (shape_over low d) (f (shape_over low d).file)
@@ -204,7 +204,7 @@ IsFileIf length tree upper number =
     (d : Node) → upper number ≡ Some (Some d) → IsSome length
     → IsSome (content_over (content_numbered tree number) d.body)
 
--- the directory says something of both names by itself
+-- the directory has its own answers for both names
 abbrev pub SaysBoth : Upper → ℕ → NameBytes → NameBytes → Type 0
 SaysBoth upper directory x y =
     (d : Node) × (upper directory ≡ Some (Some d)) × IsSome (own_in d.body x)

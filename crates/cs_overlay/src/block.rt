@@ -1,4 +1,4 @@
-//! A block of a file's own.
+//! The blocks of a file that an overlay changed.
 ghost use Rattle.std.specs.Prelude.{◌≡◌, ◌+◌, ◌++◌, ◌≤◌, ◌<◌, ◌^◌, ℕ, length, map, replicate, take};
 ghost use Rattle.std.specs.Prelude.{drop, slice_index, OnOk};
 ghost use Rattle.std.specs.List.{range_with_len};
@@ -29,19 +29,21 @@ impl Block {
         Block { bytes }
     }
 
+    /// The block's bytes, lent.
     pub fn bytes(&self) -> &[u8]
         ensures { result.now ≡ self.now }
     {
         &self.bytes
     }
 
-    pub fn cut(&mut self, n: usize)
-        ensures { self.new ≡ take n self.old }
+    /// Keeps the first `length` bytes and drops the rest; a shorter block stays as it is.
+    pub fn truncate(&mut self, length: usize)
+        ensures { self.new ≡ take length self.old }
     {
-        self.bytes.truncate(n);
+        self.bytes.truncate(length);
     }
 
-    /// Puts a piece over its bytes, which reach as far.
+    /// Replaces the bytes from `start` on by the piece, which doesn't reach past the end.
     pub fn put(&mut self, start: usize, piece: &[u8])
         requires { start + length piece.now ≤ length self.old }
         ensures { self.new ≡ put_in start piece.now self.old }
@@ -49,7 +51,7 @@ impl Block {
         put_over(&mut self.bytes, start, piece);
     }
 
-    /// Puts zeros after its bytes, up to a length at least.
+    /// Appends zeros until the block has at least `n` bytes. After an error some may be there.
     pub fn lengthen(&mut self, n: usize) -> Result<(), AllocError>
         ensures longer { (z : ℕ) × (self.new ≡ self.old ++ replicate z 0) }
         ensures there { OnOk result (n ≤ length self.new) }
@@ -60,7 +62,7 @@ impl Block {
     }
 }
 
-/// At most `count` bytes from a place on.
+/// At most `count` bytes from `start` on: fewer at the end, none past it.
 fn part(bytes: &[u8], start: usize, count: usize) -> &[u8]
     ensures { result.now ≡ take count (drop start bytes.now) }
 {
@@ -70,7 +72,7 @@ fn part(bytes: &[u8], start: usize, count: usize) -> &[u8]
     &rest[..end]
 }
 
-/// Appends `count` bytes from a place on; past the end of the source they are zeros.
+/// Appends `count` bytes of the source from `start` on, with zeros past its end.
 pub fn append_part(
     out: &mut Vec<u8>,
     source: &[u8],
@@ -88,7 +90,7 @@ pub fn append_part(
     Ok(())
 }
 
-/// Puts a piece over others, which reach as far.
+/// Replaces the bytes from `start` on by the piece, which doesn't reach past the end.
 fn put_over(bytes: &mut [u8], start: usize, piece: &[u8])
     requires { start + length piece.now ≤ length bytes.old }
     ensures bytes { bytes.new ≡ put_in start piece.now bytes.old }

@@ -1,4 +1,4 @@
-//! What an overlay's entry at a number says of the file, over the lower tree.
+//! Reads of one number: of the overlay's entry there, or of the lower tree if it has none.
 ghost use Rattle.std.specs.Prelude.{◌≡◌, ◌≢◌, [], IfOk, IsErr, IsSomeAnd, take, drop};
 ghost use Rattle.std.specs.Option.{option_copied, option_map};
 ghost use Rattle.cs_tree_model.specs.Record.{metadata_of_ref};
@@ -10,7 +10,7 @@ use cs_names::Name;
 use cs_tree_model::{Metadata, TreeRead};
 use std::alloc::{AllocError, Global};
 
-/// What the record says beside its bytes.
+/// The record's fields without its bytes; None if no file has the number.
 pub fn record<'a, L: TreeRead>(
     lower: &'a L,
     entry: Option<&'a Option<Node>>,
@@ -26,7 +26,8 @@ pub fn record<'a, L: TreeRead>(
     }
 }
 
-/// The number of the file of that name in the directory.
+/// The number of the file of that name in the directory, if there is one. It asks the lower tree if
+/// the directory has no answer of its own.
 pub fn find<L: TreeRead>(
     lower: &L,
     entry: Option<&Option<Node>>,
@@ -36,7 +37,7 @@ pub fn find<L: TreeRead>(
     ensures { result ≡ found_at (L.tree lower.now) directory name.now (option_copied entry.entry) }
 {
     match entry {
-        Some(Some(node)) => match node.body.own(name) {
+        Some(Some(node)) => match node.body.answer(name) {
             Some(number) => number,
             None => lower.find_number(directory, name),
         },
@@ -45,7 +46,7 @@ pub fn find<L: TreeRead>(
     }
 }
 
-/// The number of the directory that has the file.
+/// The number of the directory that has the file; None if no file has the number.
 pub fn parent<L: TreeRead>(lower: &L, entry: Option<&Option<Node>>, number: u64) -> Option<u64>
     ensures { result ≡ parent_at (L.tree lower.now) number (option_copied entry.entry) }
 {
@@ -56,7 +57,7 @@ pub fn parent<L: TreeRead>(lower: &L, entry: Option<&Option<Node>>, number: u64)
     }
 }
 
-/// The name that its directory has for the file.
+/// The file's name in its directory; None for the root, and if no file has the number.
 pub fn name<'a, L: TreeRead>(
     lower: &'a L,
     entry: Option<&'a Option<Node>>,
@@ -72,7 +73,8 @@ pub fn name<'a, L: TreeRead>(
     }
 }
 
-/// The bytes of the file from `offset` on, at most `count`.
+/// At most `count` bytes of the file from `offset` on; None if the number isn't a file's. Only the
+/// bytes take memory.
 pub fn read<L: TreeRead>(
     alloc: Global,
     lower: &L,

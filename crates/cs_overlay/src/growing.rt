@@ -1,4 +1,4 @@
-//! Blocks of a file's own, before they are written. Nobody sees them.
+//! Copies of lower blocks, made before they are written. No read shows the difference.
 ghost use Rattle.std.specs.Prelude.{◌≡◌, ◌≤◌, ◌<◌, ◌^◌, ℕ, List, Some, length, IfOk, IfSome};
 ghost use Rattle.std.specs.Prelude.{IsSome, OnOk};
 ghost use Rattle.std.specs.Ordering.{nat_cmp};
@@ -10,7 +10,7 @@ use cs_tree_model::TreeRead;
 use std::alloc::{AllocError, Global};
 use std::collections::BTreeMap;
 
-/// The block as the file shows it if it has none of its own.
+/// The block that the file shows now, if it has no copy of it: what still shows of the lower file.
 fn shown_block<L: TreeRead>(
     alloc: Global,
     lower: &L,
@@ -29,7 +29,7 @@ fn shown_block<L: TreeRead>(
     Ok(Block::of(bytes))
 }
 
-/// Puts zeros after a block's bytes, up to a length at least.
+/// Appends zeros to a block, if the file has it, until it has at least `end` bytes.
 fn lengthen(blocks: &mut BTreeMap<u64, Block>, index: u64, end: usize) -> Result<(), AllocError>
     ensures longer { AreLonger (get nat_cmp blocks.old) (get nat_cmp blocks.new) }
     ensures there { OnOk result (IfSome (get nat_cmp blocks.new index) (λ s. end ≤ length s)) }
@@ -40,8 +40,8 @@ fn lengthen(blocks: &mut BTreeMap<u64, Block>, index: u64, end: usize) -> Result
     Ok(())
 }
 
-/// Gives the file a block of its own.
-fn own<L: TreeRead>(
+/// Copies a block of the lower file up, unless the file has the block.
+fn bring_block_up<L: TreeRead>(
     alloc: Global,
     lower: &L,
     number: u64,
@@ -65,7 +65,7 @@ fn own<L: TreeRead>(
     Ok(())
 }
 
-/// Gives the file a block of its own which has a length at least.
+/// Copies a block of the lower file up, and lengthens it to at least `end` bytes.
 fn reach<L: TreeRead>(
     alloc: Global,
     lower: &L,
@@ -84,12 +84,13 @@ fn reach<L: TreeRead>(
     ensures there { OnOk result
         ((s : List ℕ) × (get nat_cmp blocks.new index ≡ Some s) × (end ≤ length s)) }
 {
-    own(alloc, lower, number, kept, blocks, index)?;
+    bring_block_up(alloc, lower, number, kept, blocks, index)?;
     lengthen(blocks, index, end)?;
     Ok(())
 }
 
-/// Gives the file blocks of its own which reach from one place to another.
+/// Copies up all blocks from `offset` to `end`, so that a write there takes no memory. After an
+/// error some may be copied; no read shows the difference.
 pub fn bring_up<L: TreeRead>(
     alloc: Global,
     lower: &L,

@@ -1,4 +1,5 @@
-//! A law of overlays for each call of a store, as calls whose contracts say it.
+//! For each changing call of a store the law that it leaves the lower tree unchanged, as the
+//! contract of a function that makes the call.
 ghost use Rattle.std.specs.Prelude.{◌≡◌, ◌≢◌, ◌+◌, ◌<◌, ◌^◌, ℕ, List, None, IfOk, IfSome, IsSome};
 ghost use Rattle.std.specs.Prelude.{length};
 ghost use Rattle.std.specs.Arc.{arc_value};
@@ -14,8 +15,8 @@ use cs_tree_model::{Change, New, Stamp, TreeRead, TreeStore};
 use std::alloc::{AllocError, Global};
 use std::sync::Arc;
 
-/// A write into an overlay leaves the tree that it lies over: another overlay over it, which is
-/// made afterwards, begins with the tree that the first began with.
+/// A write into an overlay doesn't change the lower tree: a second overlay, made over it
+/// afterwards, starts with the same tree as the first.
 pub fn lower_stays<L: TreeRead + Drop>(
     alloc: Global,
     lower: &Arc<L>,
@@ -38,7 +39,7 @@ pub fn lower_stays<L: TreeRead + Drop>(
     Ok((first, second))
 }
 
-/// The same after a file was made in the first overlay.
+/// An `add` in an overlay doesn't change the lower tree, as `lower_stays` says of a write.
 pub fn lower_stays_after_add<L: TreeRead + Drop>(
     alloc: Global,
     lower: &Arc<L>,
@@ -61,7 +62,7 @@ pub fn lower_stays_after_add<L: TreeRead + Drop>(
     Ok((first, second))
 }
 
-/// The same after a file was removed from the first overlay.
+/// A `remove` from an overlay doesn't change the lower tree, as `lower_stays` says of a write.
 pub fn lower_stays_after_remove<L: TreeRead + Drop>(
     alloc: Global,
     lower: &Arc<L>,
@@ -82,7 +83,7 @@ pub fn lower_stays_after_remove<L: TreeRead + Drop>(
     Ok((first, second))
 }
 
-/// The same after a file of the first overlay was given other fields.
+/// A `change` in an overlay doesn't change the lower tree, as `lower_stays` says of a write.
 pub fn lower_stays_after_change<L: TreeRead + Drop>(
     alloc: Global,
     lower: &Arc<L>,

@@ -1,5 +1,5 @@
-//! A tree that changes over a lower one, which is shared and never changes: it keeps what differs
-//! and nothing else.
+//! A tree that changes, over a lower one that is shared and never changes. It keeps only what
+//! differs.
 #![tactic(auto)]
 
 mod block;

@@ -10,8 +10,8 @@ use crate::node::{Body, Node};
 use cs_names::Name;
 use cs_tree_model::{ListedEntry, TreeRead};
 
-/// The next entry of a directory that says something of these names by itself. Each step passes one
-/// of them, and asks the lower directory no further than to the next of them.
+/// The next entry of a directory that has its own answers for these names. Each step passes one of
+/// them, and asks the lower directory only for entries before it.
 fn merged<'a, L: TreeRead>(
     lower: &'a L,
     names: &'a Names,
@@ -42,7 +42,7 @@ fn merged<'a, L: TreeRead>(
     }
 }
 
-/// The next entry of a directory with a node of its own.
+/// The next entry of a directory that has a node.
 fn node_after<'a, L: TreeRead>(
     lower: &'a L,
     body: &'a Body,
@@ -63,7 +63,7 @@ fn node_after<'a, L: TreeRead>(
     }
 }
 
-/// The next entry of a directory, by the entry at its number.
+/// The next entry of a directory, given the overlay's entry at its number.
 pub fn entry_after<'a, L: TreeRead>(
     lower: &'a L,
     entry: Option<&'a Option<Node>>,

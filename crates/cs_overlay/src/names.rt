@@ -1,4 +1,4 @@
-//! The names that a directory says something of by itself.
+//! The names for which a directory has an answer of its own.
 ghost use Rattle.std.specs.Prelude.{◌≡◌, None, Some, IfNone, IfSome, IsSome, OnOk, OnErr};
 ghost use Rattle.std.specs.Option.{option_copied};
 ghost use Rattle.std.specs.FinMap as map;
@@ -10,16 +10,16 @@ use std::alloc::{AllocError, Global};
 use std::collections::BTreeMap;
 use std::marker::Model;
 
-/// What is said of a name: the number of the file that has it, or None if no file has it.
+/// The answer for a name: the number of the file that has it, or None if no file has it.
 #[derive(Drop)]
 pub struct Said {
-    /// The name, as a step of a listing gives it.
+    /// The name, which a step of a listing lends.
     pub name: Name,
     pub number: Option<u64>,
 }
 
-/// For a name the number of the file that has it, or None if no file has it; of every other name
-/// the lower directory is asked.
+/// A directory's answers by name: the number of the file that has it, or None if no file has it.
+/// For every other name the lower directory is asked.
 #[derive(Drop)]
 pub struct Names {
     entries: BTreeMap<String, Said>,
@@ -43,6 +43,7 @@ impl Model for Names {
 }
 
 impl Names {
+    /// No answers. It takes no memory.
     pub fn new(alloc: Global) -> Names
         ensures { result ≡ map.empty }
     {
@@ -51,6 +52,7 @@ impl Names {
         }
     }
 
+    /// The answer for the name; None if there is none, and the lower directory must be asked.
     pub fn get(&self, name: &str) -> Option<Option<u64>>
         ensures { result ≡ map.get self.now name.now }
     {
@@ -60,7 +62,8 @@ impl Names {
         }
     }
 
-    /// The first name after one, or of all, if it comes before the bound, with what is said of it.
+    /// The first name after `last`, or the first of all if that is None, with its answer; None if
+    /// it doesn't come before the bound.
     pub fn after(&self, last: Option<&Name>, bound: Option<&Name>) -> Option<(&Name, Option<u64>)>
         ensures some { IfSome result
             (λ e. IsEntryBelow (λ y. IsSome (map.get self.now y)) (option_copied last.entry)
@@ -75,7 +78,7 @@ impl Names {
         Some((&said.name, said.number))
     }
 
-    /// Says something of a name.
+    /// Sets the answer for a name. After an error the answers are unchanged.
     pub fn insert(&mut self, name: Name, number: Option<u64>) -> Result<(), AllocError>
         ensures ok { OnOk result (self.new ≡ map.insert self.old name number) }
         ensures err { OnErr result (self.new ≡ self.old) }
@@ -85,7 +88,7 @@ impl Names {
         Ok(())
     }
 
-    /// Says something else of a name of which something is said. It takes no memory.
+    /// Replaces the answer for a name that has one. It takes no memory.
     pub fn set(&mut self, name: &str, number: Option<u64>)
         requires { IsSome (map.get self.old name.now) }
         ensures { self.new ≡ map.insert self.old name.now number }

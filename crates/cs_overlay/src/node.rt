@@ -16,7 +16,7 @@ use cs_names::{Name, UserName};
 use cs_tree_model::{Change, Kind, MetadataBuf, New, Stamp, TreeRead, is_directory_mode};
 use std::alloc::{AllocError, Global};
 
-/// What a node has beside its metadata.
+/// The answers of a directory, or the bytes of a file.
 #[derive(Drop)]
 pub enum Body {
     Directory(Names),
@@ -24,7 +24,7 @@ pub enum Body {
 }
 
 impl Body {
-    /// The body of a copy of a lower file: it takes no memory.
+    /// The body of a copy of a lower file or directory: it takes no memory.
     fn of_copy(alloc: Global, kind: Kind) -> Body
         ensures content { (low : Option (List ℕ)) → kind ≡ kind_of low
             → content_over low result ≡ low }
@@ -37,8 +37,8 @@ impl Body {
         }
     }
 
-    /// What a directory says of a name by itself.
-    pub fn own(&self, name: &str) -> Option<Option<u64>>
+    /// The directory's own answer for a name; None if it has none, and in a file.
+    pub fn answer(&self, name: &str) -> Option<Option<u64>>
         ensures { result ≡ own_in self.now name.now }
     {
         match self {
@@ -59,8 +59,8 @@ pub struct Node {
 }
 
 impl Node {
-    /// A node that says what the lower tree says of the number. It copies no byte of a file, and no
-    /// entry of a directory.
+    /// A node that shows what the lower tree has at the number; None if that has nothing there. It
+    /// copies no byte of a file, and no entry of a directory.
     pub fn copy_of<L: TreeRead>(
         alloc: Global,
         lower: &L,
@@ -87,7 +87,7 @@ impl Node {
         }))
     }
 
-    /// The node of a new file.
+    /// The node of a new file or directory, which the stamp's user made at the stamp's moment.
     pub fn new_file(
         alloc: Global,
         number: u64,
@@ -127,7 +127,7 @@ impl Node {
         })
     }
 
-    /// Says in the directory which file has a name, or that none has it.
+    /// Sets the directory's answer for a name: the file that has it, or that no file has it.
     pub fn insert_answer(&mut self, name: Name, answer: Option<u64>) -> Result<(), AllocError>
         ensures ok { OnOk result (self.new ≡ with_answer self.old name answer) }
         ensures err { OnErr result (self.new ≡ self.old) }
@@ -138,7 +138,7 @@ impl Node {
         Ok(())
     }
 
-    /// Says something else of a name of which the directory says something. It takes no memory.
+    /// Replaces the directory's answer for a name that has one. It takes no memory.
     pub fn set_answer(&mut self, name: &str, answer: Option<u64>)
         requires { IsSome (own_in self.old.body name.now) }
         ensures { self.new ≡ with_answer self.old name.now answer }
@@ -148,8 +148,8 @@ impl Node {
         }
     }
 
-    /// Puts bytes into a file over the lower one of the number, and stamps it. It copies no block
-    /// but those that the bytes touch.
+    /// Writes bytes into the file over the lower file of the number, and stamps it. It copies only
+    /// the blocks that the bytes touch. After an error no read shows a difference.
     pub fn write<L: TreeRead>(
         &mut self,
         alloc: Global,
@@ -178,7 +178,7 @@ impl Node {
         Ok(())
     }
 
-    /// Gives a file so many bytes, at the stamp's moment by its user.
+    /// Sets the file's length, and its mtime and muid to the stamp's. The version stays.
     fn set_length(&mut self, n: u64, stamp: Stamp) -> Result<(), AllocError>
         ensures ok { OnOk result
             ((low : Option (List ℕ)) (m : ℕ) → IsNode low m self.old
@@ -199,7 +199,7 @@ impl Node {
         Ok(())
     }
 
-    /// Gives a file the fields of a change but its name: `group` is the change's group.
+    /// Sets the fields that a change names, except the name: `group` is the change's group.
     pub fn change(
         &mut self,
         fields: &Change,

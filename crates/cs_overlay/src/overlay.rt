@@ -20,16 +20,16 @@ use std::collections::HashMap;
 use std::marker::Model;
 use std::sync::Arc;
 
-/// A tree that differs from a lower one, which is shared and never changes. It takes memory for
-/// what differs alone: the first change of a file copies what its record says, and no entry of a
-/// directory; a write copies the blocks that it touches. A look-up asks the lower tree at most
+/// A tree that differs from a lower one, which is shared and never changes. It takes memory only
+/// for what differs: the first change of a file copies its record's fields, and no entry of a
+/// directory. A write copies the blocks that it touches. A look-up asks the lower tree at most
 /// once.
 #[derive(Drop)]
 pub struct Overlay<L: TreeRead> {
     lower: Arc<L>,
-    // None: the lower tree's file was taken out
+    // None: the lower tree's file was removed
     nodes: HashMap<u64, Option<Node>>,
-    // the greatest number that was ever given
+    // the greatest number that was ever given to a file
     greatest: u64,
     count: usize,
 }
@@ -54,7 +54,7 @@ impl<L: TreeRead> Model for Overlay<L> {
 }
 
 impl<L: TreeRead> Overlay<L> {
-    /// The lower tree, with no changes. It takes no memory.
+    /// An overlay without changes. It takes no memory.
     pub fn over(alloc: Global, lower: Arc<L>) -> Overlay<L>
         ensures { result ≡ L.tree (arc_value lower) }
     {
@@ -68,9 +68,9 @@ impl<L: TreeRead> Overlay<L> {
         }
     }
 
-    /// The tree as one that nothing has changed yet: the same paths and contents, with fresh
-    /// numbers, versions, times and users. It copies no record and no byte of a file, and keeps a
-    /// table of numbers; after an error the overlay is given back.
+    /// The tree, read as if nothing had ever changed it: the same paths and contents, with fresh
+    /// numbers, versions, times and users. It copies no record and no byte of a file, and allocates
+    /// only tables of numbers. If it runs out of memory, the overlay is returned.
     pub fn freeze(self, alloc: Global) -> Result<Lower<Overlay<L>>, (Overlay<L>, AllocError)>
         ensures ok { IfOk result (λ lower. lower ≡ fresh self.files) }
         ensures err { IfErr result (λ back. back.0 ≡ self) }
@@ -78,8 +78,8 @@ impl<L: TreeRead> Overlay<L> {
         cs_frozen::freeze(alloc, self)
     }
 
-    /// Gives a file the fields of a change that has no name: `group` is the change's group.
-    fn set(
+    /// Sets a file's fields by a change that has no name: `group` is the change's group.
+    fn set_fields(
         &mut self,
         alloc: Global,
         number: u64,
@@ -100,8 +100,8 @@ impl<L: TreeRead> Overlay<L> {
         Ok(())
     }
 
-    /// Gives a file another name and the other fields of the change: `group` and `name` are the
-    /// change's group and name.
+    /// Renames a file and sets the other fields of the change: `group` and `name` are the change's
+    /// group and name.
     fn rename(
         &mut self,
         alloc: Global,
@@ -145,18 +145,22 @@ impl<L: TreeRead> Overlay<L> {
 impl<L: TreeRead> TreeRead for Overlay<L> {
     ghost tree = { λ t. t };
 
+    /// The node's metadata, or the lower tree's record.
     fn record(&self, number: u64) -> Option<Metadata<'_>> {
         entry::record(&*self.lower, self.nodes.get(&number), number)
     }
 
+    /// The directory's own answer for the name, or the lower tree's.
     fn find_number(&self, directory: u64, name: &str) -> Option<u64> {
         entry::find(&*self.lower, self.nodes.get(&directory), directory, name)
     }
 
+    /// The directory's number, as the node has it or the lower tree.
     fn parent_of(&self, number: u64) -> Option<u64> {
         entry::parent(&*self.lower, self.nodes.get(&number), number)
     }
 
+    /// The name, as the node has it or the lower tree.
     fn name_of(&self, number: u64) -> Option<&Name> {
         let nodes = &self.nodes;
         if number == 0 {
@@ -165,6 +169,7 @@ impl<L: TreeRead> TreeRead for Overlay<L> {
         entry::name(&*self.lower, nodes.get(&number), number)
     }
 
+    /// Merges the directory's own answers with the lower directory's entries.
     fn entry_after(
         &self,
         directory: u64,
@@ -175,14 +180,17 @@ impl<L: TreeRead> TreeRead for Overlay<L> {
         listing::entry_after(&*self.lower, entry, directory, last, bound)
     }
 
+    /// The number of files, which is kept.
     fn count(&self) -> usize {
         self.count
     }
 
+    /// The greatest number, which is kept.
     fn last_number(&self) -> u64 {
         self.greatest
     }
 
+    /// Joins the file's own blocks with what still shows of the lower file.
     fn read_at(
         &self,
         alloc: Global,
@@ -197,6 +205,8 @@ impl<L: TreeRead> TreeRead for Overlay<L> {
 }
 
 impl<L: TreeRead> TreeStore for Overlay<L> {
+    /// Adds a node and the directory's answer for the name. The directory's node is copied up
+    /// first.
     fn add(
         &mut self,
         alloc: Global,
@@ -225,6 +235,7 @@ impl<L: TreeRead> TreeStore for Overlay<L> {
         Ok(number)
     }
 
+    /// Marks the number as removed, and its name as one that no file has.
     fn remove(&mut self, alloc: Global, number: u64, stamp: Stamp) -> Result<(), AllocError> {
         let Some(directory) = self.parent_of(number) else {
             unreachable!();
@@ -241,6 +252,7 @@ impl<L: TreeRead> TreeStore for Overlay<L> {
         Ok(())
     }
 
+    /// Copies the node and the blocks up, and then writes into them.
     fn write_at(
         &mut self,
         alloc: Global,
@@ -262,6 +274,7 @@ impl<L: TreeRead> TreeStore for Overlay<L> {
         Ok(())
     }
 
+    /// Copies the nodes up, and then changes them.
     fn change(
         &mut self,
         alloc: Global,
@@ -269,17 +282,17 @@ impl<L: TreeRead> TreeStore for Overlay<L> {
         fields: &Change,
         stamp: Stamp,
     ) -> Result<(), AllocError> {
-        let group = copied_user(&fields.group)?;
+        let group = try_clone_user(&fields.group)?;
         match try_clone_name(fields.name.as_ref())? {
-            None => self.set(alloc, number, fields, group, stamp)?,
+            None => self.set_fields(alloc, number, fields, group, stamp)?,
             Some(name) => self.rename(alloc, number, fields, group, name, stamp)?,
         }
         Ok(())
     }
 }
 
-/// The user's name again, if there is one.
-fn copied_user(name: &Option<UserName>) -> Result<Option<UserName>, AllocError>
+/// A copy of the user's name, if there is one.
+fn try_clone_user(name: &Option<UserName>) -> Result<Option<UserName>, AllocError>
     ensures { IfOk result (λ again. again ≡ name.now) }
 {
     match name {

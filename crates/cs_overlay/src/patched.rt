@@ -1,4 +1,4 @@
-//! The bytes of a file over a lower one, and how many they are.
+//! The bytes of a file over a lower one, and its length.
 ghost use Rattle.std.specs.Prelude.{◌≡◌, ◌≤◌, ◌++◌, ℕ, List, [], length, min, take, replicate};
 ghost use Rattle.std.specs.Prelude.{None, OnOk, OnErr};
 ghost use Rattle.std.specs.Ordering.{nat_cmp};
@@ -10,20 +10,20 @@ use crate::block::Block;
 use std::alloc::{AllocError, Global};
 use std::collections::BTreeMap;
 
-/// A file over a lower one: blocks of 4,096 bytes of its own, and between them what shows of the
-/// lower file. It takes memory for its own blocks alone.
+/// A file over a lower one: its own blocks of 4,096 bytes, and between them what still shows of the
+/// lower file. Only its own blocks take memory.
 #[derive(Drop)]
 pub struct Patched {
     /// How many bytes the file has.
     pub size: u64,
-    /// How many of the lower file's bytes still show, where there is no block.
+    /// How many of the lower file's first bytes still show, if no block covers them.
     pub kept: u64,
     /// By number: block k has the bytes from 4,096 k on.
     pub blocks: BTreeMap<u64, Block>,
 }
 
 impl Patched {
-    /// The lower file, which has so many bytes.
+    /// The lower file, which has `size` bytes, without changes.
     pub fn lower(alloc: Global, size: u64) -> Patched
         ensures bytes { (lower : List ℕ) → length lower ≡ size → file_bytes lower result ≡ lower }
         ensures hides { (lower : List ℕ) → NothingHidden lower result }
@@ -36,7 +36,7 @@ impl Patched {
         }
     }
 
-    /// Gives the file n bytes: those that are new read as zero, and those cut off never show again.
+    /// Sets the length to n: new bytes read as zero, and bytes that were cut off never show again.
     pub fn resize(&mut self, n: u64) -> Result<(), AllocError>
         ensures size { OnOk result (self.new.size ≡ n) }
         ensures hides { (lower : List ℕ) → NothingHidden lower self.old
@@ -56,7 +56,7 @@ impl Patched {
         Ok(())
     }
 
-    /// Cuts the file to n bytes.
+    /// Sets a length that isn't greater. After an error no read shows a difference.
     fn shrink(&mut self, n: u64) -> Result<(), AllocError>
         requires shorter { n ≤ self.old.size }
         ensures size { OnOk result (self.new.size ≡ n) }
@@ -68,13 +68,13 @@ impl Patched {
             ((lower : List ℕ) (i : ℕ) → file_byte lower self.new i ≡ file_byte lower self.old i) }
         ensures err_size { OnErr result (self.new.size ≡ self.old.size) }
     {
-        cut(&mut self.blocks, n)?;
+        truncate_blocks(&mut self.blocks, n)?;
         self.kept = self.kept.min(n);
         self.size = n;
         Ok(())
     }
 
-    /// Grows the file to n bytes: what is new reads as zero.
+    /// Sets a length that isn't less: the new bytes read as zero.
     fn grow(&mut self, n: u64)
         requires longer { self.old.size ≤ n }
         ensures size { self.new.size ≡ n }
@@ -87,8 +87,8 @@ impl Patched {
     }
 }
 
-/// Cuts the blocks to n bytes.
-fn cut(blocks: &mut BTreeMap<u64, Block>, n: u64) -> Result<(), AllocError>
+/// Drops the blocks' bytes from the file's byte n on, and keeps the first n.
+fn truncate_blocks(blocks: &mut BTreeMap<u64, Block>, n: u64) -> Result<(), AllocError>
     ensures ok { OnOk result
         ((k : ℕ) → get nat_cmp blocks.new k ≡ cut_blocks n (get nat_cmp blocks.old) k) }
     ensures err { OnErr result (IsUnchanged blocks.old blocks.new) }
@@ -96,7 +96,7 @@ fn cut(blocks: &mut BTreeMap<u64, Block>, n: u64) -> Result<(), AllocError>
     let last = n / 4096;
     blocks.split_off(&(last + 1))?;
     if let Some(block) = blocks.get_mut(&last) {
-        block.cut((n % 4096) as usize);
+        block.truncate((n % 4096) as usize);
     }
     Ok(())
 }

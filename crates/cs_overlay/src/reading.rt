@@ -1,4 +1,4 @@
-//! Reading a range of a file, by pieces of blocks.
+//! Reads of a range of a file, block by block.
 ghost use Rattle.std.specs.Prelude.{◌≡◌, ◌≢◌, ◌≤◌, ◌<◌, ◌+◌, ◌-◌, ◌%◌, ◌^◌, ◌++◌, [], length, map};
 ghost use Rattle.std.specs.Prelude.{min, take, drop, IfOk, IsErr, OnOk};
 ghost use Rattle.std.specs.List.{range_with_len};
@@ -14,9 +14,9 @@ use cs_tree_model::TreeRead;
 use std::alloc::{AllocError, Global};
 
 impl Patched {
-    /// The bytes from an offset on, at most `count`, of a file over the lower one of the number. It
-    /// reads no more of the lower file than shows there, and copies nothing twice where the file has
-    /// no block of its own. Only the bytes that are given allocate.
+    /// At most `count` bytes from `offset` on, of a file over the lower one of the number. It reads
+    /// only what shows of the lower file, and copies nothing twice if the file has no blocks. Only
+    /// the bytes that are returned take memory.
     pub fn read_at<L: TreeRead>(
         &self,
         alloc: Global,
@@ -45,7 +45,7 @@ impl Patched {
         Ok(bytes)
     }
 
-    /// So many bytes from an offset on, given those of the lower file that show there.
+    /// The n bytes from `offset` on, given what shows of the lower file there.
     fn pieces(
         &self,
         alloc: Global,
@@ -76,8 +76,8 @@ impl Patched {
     }
 }
 
-/// Appends a piece that lies in one block: from the block, or if there is none from what shows
-/// of the lower file.
+/// Appends `count` bytes from `at` on, all in one block: from the block, or if the file doesn't
+/// have it from what shows of the lower file.
 fn append_piece(
     out: &mut Vec<u8>,
     block: Option<&Block>,
@@ -100,7 +100,7 @@ fn append_piece(
     }
 }
 
-/// What shows of the lower file, from an offset on.
+/// At most `count` bytes of what shows of the lower file, from `offset` on.
 fn lower_part<L: TreeRead>(
     alloc: Global,
     lower: &L,

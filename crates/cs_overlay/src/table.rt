@@ -1,4 +1,4 @@
-//! The nodes of an overlay by their numbers. None at a number: the lower tree's file was taken out.
+//! The nodes of an overlay by their numbers. None at a number: the lower tree's file was removed.
 ghost use Rattle.std.specs.Prelude.{◌≡◌, ◌≢◌, ◌+◌, ◌<◌, ◌^◌, ℕ, List, nat_eq, Option, None, Some};
 ghost use Rattle.std.specs.Prelude.{OnOk, OnErr, IfSome, IsSome, IsSomeAnd, length};
 ghost use Rattle.std.specs.Option.{option_map};
@@ -17,7 +17,8 @@ use cs_tree_model::{Change, Stamp, TreeRead};
 use std::alloc::{AllocError, Global};
 use std::collections::HashMap;
 
-/// Gives a file a node of the overlay's own. Nobody sees it.
+/// Copies a file's node up from the lower tree, unless the overlay has a node for it. No read shows
+/// the difference.
 pub fn copy_up<L: TreeRead>(
     alloc: Global,
     lower: &L,
@@ -38,8 +39,8 @@ pub fn copy_up<L: TreeRead>(
     Ok(())
 }
 
-/// Gives a directory a node of the overlay's own, and the table room for one number more. Nobody
-/// sees it.
+/// Copies a directory's node up, and reserves memory for one number more. No read shows the
+/// difference.
 pub fn make_room<L: TreeRead>(
     alloc: Global,
     lower: &L,
@@ -56,6 +57,7 @@ pub fn make_room<L: TreeRead>(
     Ok(())
 }
 
+/// Sets the answer for a name in the entry of a directory.
 fn insert_answer_in(
     entry: &mut Option<Node>,
     name: Name,
@@ -70,7 +72,8 @@ fn insert_answer_in(
     Ok(())
 }
 
-/// Says in a directory which file has a name, or that none has it.
+/// Sets a directory's answer for a name: the file that has it, or that no file has it. After an
+/// error the table is unchanged.
 pub fn insert_answer(
     nodes: &mut HashMap<u64, Option<Node>>,
     directory: u64,
@@ -89,6 +92,7 @@ pub fn insert_answer(
     }
 }
 
+/// Stamps the node of an entry; does nothing to a removed file's entry.
 fn stamp_in(entry: &mut Option<Node>, stamp: Stamp)
     requires { IfSome entry.old (λ d. d.metadata.vers + 1 < 2 ^ 32) }
     ensures { entry.new ≡ option_map (λ d. with_stamp d stamp) entry.old }
@@ -98,7 +102,7 @@ fn stamp_in(entry: &mut Option<Node>, stamp: Stamp)
     }
 }
 
-/// Counts a change of a directory's entries.
+/// Stamps a directory after a change of its entries.
 pub fn stamp_node(nodes: &mut HashMap<u64, Option<Node>>, number: u64, stamp: Stamp)
     requires { CanStampNode (get nat_eq nodes.old) number }
     ensures step { SameNodes (step_at (get nat_eq nodes.old) number (λ d. with_stamp d stamp))
@@ -110,7 +114,8 @@ pub fn stamp_node(nodes: &mut HashMap<u64, Option<Node>>, number: u64, stamp: St
     }
 }
 
-/// Puts a node into the table, which has room for it, or takes the lower tree's file out.
+/// Sets the entry at a number in a table that has room for it: a node, or None if the lower tree's
+/// file was removed.
 pub fn put(nodes: &mut HashMap<u64, Option<Node>>, number: u64, node: Option<Node>)
     requires { 0 < spare nodes.old }
     ensures { SameNodes (with_at (get nat_eq nodes.old) number (Some node)) (get nat_eq nodes.new) }
@@ -121,6 +126,7 @@ pub fn put(nodes: &mut HashMap<u64, Option<Node>>, number: u64, node: Option<Nod
     }
 }
 
+/// Writes bytes into the node of an entry, and stamps it.
 fn write_in<L: TreeRead>(
     alloc: Global,
     lower: &L,
@@ -151,7 +157,8 @@ fn write_in<L: TreeRead>(
     }
 }
 
-/// Puts bytes into a file that has a node, and stamps it.
+/// Writes bytes into a file that has a node, and stamps it. After an error no read shows a
+/// difference.
 pub fn write<L: TreeRead>(
     alloc: Global,
     lower: &L,
@@ -178,6 +185,7 @@ pub fn write<L: TreeRead>(
     }
 }
 
+/// Sets the fields that a change names, except the name, in the node of an entry.
 fn change_in(
     entry: &mut Option<Node>,
     fields: &Change,
@@ -204,7 +212,8 @@ fn change_in(
     }
 }
 
-/// Gives a file that has a node the fields of a change but its name: `group` is the change's group.
+/// Sets the fields that a change names, except the name, of a file that has a node. `group` is the
+/// change's group.
 pub fn change(
     nodes: &mut HashMap<u64, Option<Node>>,
     number: u64,
@@ -231,8 +240,8 @@ pub fn change(
     }
 }
 
-/// Has a directory say what it says already of a file's name, and of a name that no file has.
-/// Nobody sees it.
+/// Gives a directory its own answers for a file's old name and for its new one, which no file has
+/// yet. Both are what a look-up finds already, so no read shows the difference.
 pub fn insert_both_answers<L: TreeRead>(
     alloc: Global,
     lower: &L,
@@ -257,6 +266,8 @@ pub fn insert_both_answers<L: TreeRead>(
     Ok(())
 }
 
+/// Exchanges the answers for the old and the new name in a directory's entry, and stamps it. It
+/// takes no memory.
 fn move_in(entry: &mut Option<Node>, old: &str, new: &str, number: u64, stamp: Stamp)
     requires vers { IfSome entry.old (λ d. d.metadata.vers + 1 < 2 ^ 32) }
     requires old { IfSome entry.old (λ d. IsSome (own_in d.body old.now)) }
@@ -273,6 +284,7 @@ fn move_in(entry: &mut Option<Node>, old: &str, new: &str, number: u64, stamp: S
     }
 }
 
+/// Sets the name in the node of an entry.
 fn name_in(entry: &mut Option<Node>, name: Name)
     ensures { entry.new ≡ option_map (λ d. with_name d name) entry.old }
 {
@@ -281,7 +293,7 @@ fn name_in(entry: &mut Option<Node>, name: Name)
     }
 }
 
-/// Gives a file another name in its directory, which says something of both names, and stamps the
+/// Renames a file in its directory, which has its own answers for both names, and stamps the
 /// directory. It takes no memory.
 pub fn move_name(
     nodes: &mut HashMap<u64, Option<Node>>,

@@ -1,4 +1,4 @@
-//! Writing a range of a file, by pieces of blocks.
+//! Writes of a range of a file, block by block.
 ghost use Rattle.std.specs.Prelude.{◌≡◌, ◌≤◌, ◌<◌, ◌+◌, ◌^◌, ◌%◌, ◌/◌, ℕ, List, length, max};
 ghost use Rattle.std.specs.Prelude.{IfSome, IsSome, OnOk, OnErr};
 ghost use Rattle.std.specs.Option.{option_map};
@@ -16,8 +16,8 @@ use std::alloc::{AllocError, Global};
 use std::collections::BTreeMap;
 
 impl Patched {
-    /// Puts bytes into a file over the lower one of the number; between its end and the offset
-    /// come zeros. It copies no block but those that the bytes touch.
+    /// Writes bytes into a file over the lower one of the number. If the offset is past the end,
+    /// the bytes between are zeros. It copies only the blocks that the bytes touch.
     pub fn write_at<L: TreeRead>(
         &mut self,
         alloc: Global,
@@ -54,8 +54,8 @@ impl Patched {
         Ok(())
     }
 
-    /// Puts bytes into a file whose blocks reach as far; between its end and the offset come
-    /// zeros. It takes no memory.
+    /// Writes bytes into a file that has all blocks that they touch. If the offset is past the end,
+    /// the bytes between are zeros. It takes no memory.
     fn write(&mut self, offset: u64, bytes: &[u8])
         requires reaches { Reaches (get nat_cmp self.old.blocks) offset
             (offset + length bytes.now) }
@@ -73,7 +73,7 @@ impl Patched {
     }
 }
 
-/// Puts bytes over those of the blocks, which reach as far. It takes no memory.
+/// Replaces bytes of the blocks, which reach as far as the new bytes. It takes no memory.
 fn overwrite(blocks: &mut BTreeMap<u64, Block>, offset: u64, bytes: &[u8])
     requires reaches { Reaches (get nat_cmp blocks.old) offset (offset + length bytes.now) }
     requires room { offset + length bytes.now < 2 ^ 63 }
@@ -91,7 +91,7 @@ fn overwrite(blocks: &mut BTreeMap<u64, Block>, offset: u64, bytes: &[u8])
     }
 }
 
-/// Puts a piece into the one block that it lies in.
+/// Writes a piece that touches only one block into that block.
 fn put(blocks: &mut BTreeMap<u64, Block>, at: u64, piece: &[u8])
     requires there { IsSome (get nat_cmp blocks.old (at / 4096)) }
     requires reaches { IfSome (get nat_cmp blocks.old (at / 4096))

@@ -7,7 +7,7 @@ use Rattle.cs_tree_model.specs.Tree.{NameBytes, Tree}
 use Rattle.cs_users.specs.Members.{same_name}
 use Rattle.cs_wire.specs.declared.message.Qid.{Qid}
 use Rattle.cs_permit.specs.declared.call.WstatCall.{WstatCall}
-use Rattle.cs_permit.specs.Shown.{qid_of, shown_name, told_length}
+use Rattle.cs_permit.specs.Shown.{qid_of, shown_name, shown_length}
 
 -- all ones, of a field of two bytes, of four and of eight
 abbrev pub ones_2 : ℕ
@@ -19,7 +19,8 @@ ones_4 = 0xFFFFFFFF
 abbrev pub ones_8 : ℕ
 ones_8 = 0xFFFFFFFFFFFFFFFF
 
--- the new value of a number, from what stands for "don't touch", the present one, and the one sent
+-- the new value of a number, from the one that says "don't touch", the present one, and the one
+-- sent
 abbrev pub new_number : ℕ → ℕ → ℕ → Option ℕ
 new_number ones present sent = if sent == ones || sent == present then None else Some sent
 
@@ -37,7 +38,7 @@ new_name t c = new_text (shown_name t c.number) c.stat.name
 
 -- the new length; a directory's present one is 0
 abbrev pub new_length : WstatCall → MetadataBuf → Option ℕ
-new_length c file = new_number ones_8 (told_length file.kind) c.stat.length
+new_length c file = new_number ones_8 (shown_length file.kind) c.stat.length
 
 -- the new mode
 abbrev pub new_mode : WstatCall → MetadataBuf → Option ℕ
@@ -47,7 +48,7 @@ new_mode c file = new_number ones_4 file.mode c.stat.mode
 abbrev pub new_mtime : WstatCall → MetadataBuf → Option ℕ
 new_mtime c file = new_number ones_4 file.mtime c.stat.mtime
 
--- the new group, which stands in the field gid
+-- the new group, which is in the field gid
 abbrev pub new_group : WstatCall → MetadataBuf → Option (List ℕ)
 new_group c file = new_text file.group c.stat.gid
 
@@ -89,7 +90,7 @@ pub record KeepsEach (t : Tree) (c : WstatCall) (file : MetadataBuf) : Type 0 wh
   pub mode : IsKept ones_4 file.mode c.stat.mode
   pub atime : IsKept ones_4 file.atime c.stat.atime
   pub mtime : IsKept ones_4 file.mtime c.stat.mtime
-  pub len : IsKept ones_8 (told_length file.kind) c.stat.length
+  pub len : IsKept ones_8 (shown_length file.kind) c.stat.length
   pub name : IsKeptText (shown_name t c.number) c.stat.name
   pub uid : IsKeptText file.owner c.stat.uid
   pub gid : IsKeptText file.group c.stat.gid

@@ -22,7 +22,7 @@ name_before c = if c.offset == 0 then None else c.place.last
 abbrev pub first_name : Tree → ReadCall → Option NameBytes
 first_name t c = next_name t c.number (name_before c)
 
--- the entry of that name has more bytes than are asked for
+-- the entry of that name has more bytes than the read asks for
 abbrev pub is_too_large : Tree → ReadCall → NameBytes → Bool
 is_too_large t c x = nat_lt c.count (length (entry_bytes t c.number x))
 

@@ -13,7 +13,7 @@ abbrev pub first_failing : List Check → Option RuleId
 first_failing [] = None
 first_failing (c ∷ cs) = if c.1 then Some c.0 else first_failing cs
 
--- a rule that fails, where none before it in the list does
+-- a rule that fails, and none before it in the list does
 pub record IsFirstToFail (checks : List Check) (rule : RuleId) : Type 0 where
   pub passed : List Check
   pub later : List Check

@@ -14,11 +14,11 @@ use Rattle.cs_permit.specs.Rules.{file_at}
 abbrev pub qid_of : MetadataBuf → Qid
 qid_of file = record { kind = file.mode / 0x1000000; vers = file.vers; path = file.number }
 
--- the qid of a file, or zeros where there is none
+-- the qid of a file, or zeros for no file
 abbrev pub qid_or_zeros : Option MetadataBuf → Qid
 qid_or_zeros file = option_map_or qid_of file (record { kind = 0; vers = 0; path = 0 })
 
--- the qid of the file of a number, or zeros where no file has it
+-- the qid of the file of a number, or zeros if no file has it
 abbrev pub qid_at : Tree → ℕ → Qid
 qid_at t n = qid_or_zeros (file_at t n)
 
@@ -26,35 +26,35 @@ qid_at t n = qid_or_zeros (file_at t n)
 abbrev pub shown_name : Tree → ℕ → NameBytes
 shown_name t n = unwrap_or (name_numbered t n) (47 ∷ [])
 
--- the length that a stat tells, 0 of a directory
-abbrev pub told_length : Kind → ℕ
-told_length Directory = 0
-told_length (File length) = length
+-- the length in a stat, 0 for a directory
+abbrev pub shown_length : Kind → ℕ
+shown_length Directory = 0
+shown_length (File length) = length
 
 -- a stat of these fields, whose type and dev are 0
 abbrev pub stat_with : Qid → ℕ → ℕ → ℕ → ℕ → List ℕ → List ℕ → List ℕ → List ℕ → Value stat_shape
 stat_with qid mode atime mtime len name uid gid muid =
     (0, (0, (qid_value qid, (mode, (atime, (mtime, (len, (name, (uid, (gid, muid))))))))))
 
--- what a stat tells of a file of that name
+-- the stat of a file of that name
 abbrev pub stat_of_file : NameBytes → MetadataBuf → Value stat_shape
 stat_of_file name file =
-    stat_with (qid_of file) file.mode file.atime file.mtime (told_length file.kind)
+    stat_with (qid_of file) file.mode file.atime file.mtime (shown_length file.kind)
     name file.owner file.group file.muid
 
--- what a stat tells of the file of a number under a name, if the file is there
+-- the stat of the file of a number under a name, if the file is there
 abbrev pub stat_as : Tree → ℕ → NameBytes → Option (Value stat_shape)
 stat_as t n name = option_map (stat_of_file name) (file_at t n)
 
--- what a stat tells of the file of a number, if it is there
+-- the stat of the file of a number, if it is there
 abbrev pub stat_at : Tree → ℕ → Option (Value stat_shape)
 stat_at t n = stat_as t n (shown_name t n)
 
--- what a stat tells of the file of a name in a directory, if it is there
+-- the stat of the file of a name in a directory, if it is there
 abbrev pub stat_in : Tree → ℕ → NameBytes → Option (Value stat_shape)
 stat_in t d x = option_and_then (λ n. stat_as t n x) (number_in t d x)
 
--- the bytes of an entry in a read of its directory: those of what a stat tells
+-- the bytes of an entry in a read of its directory: those of its stat
 abbrev pub entry_of : Option (Value stat_shape) → List ℕ
 entry_of stat = option_map_or stat_entry stat []
 

@@ -19,7 +19,7 @@ use Rattle.cs_permit.specs.Modes.{are_bad_permissions, covers_read, covers_write
 use Rattle.cs_permit.specs.Refusals.{Check, first_failing}
 use Rattle.cs_permit.specs.TreeNames.{tree_name_in}
 
--- the number stands for no fid
+-- no fid has the number
 abbrev pub is_unknown : FidMap → ℕ → Bool
 is_unknown fids fid = is_none (get fids fid)
 
@@ -112,7 +112,7 @@ write_table_rules fids fid =
     ∷ (E2, not (may_be_written fids fid))
     ∷ []
 
--- the rules of each request; of most the fid alone
+-- the rules of each request; for most only that the fid is known
 abbrev pub table_rules : FidMap → Request → List Check
 table_rules fids (Attach fid afid aname) = attach_table_rules fids fid afid aname.now
 table_rules fids (Walk fid newfid) = walk_table_rules fids fid newfid

@@ -7,7 +7,7 @@ use Rattle.std.specs.List.{list_all}
 use Rattle.cs_names.specs.Legal.{is_run_name}
 use Rattle.cs_names.specs.Pieces.{pieces}
 
--- the digit 0 alone
+-- the digit 0 only
 abbrev pub is_zero : List ℕ → Bool
 is_zero digits = pointwise nat_eq digits (48 ∷ [])
 

@@ -16,7 +16,8 @@ use Rattle.cs_permit.specs.Rules.{is_directory, is_gone, lacks_right, on_file}
 abbrev pub is_up : List ℕ → Bool
 is_up x = same_name x (46 ∷ 46 ∷ [])
 
--- where a name leads from a directory: `..` to its parent, another legal name to its entry
+-- the file to which a name leads from a directory: `..` to its parent, another legal name to its
+-- entry
 abbrev pub number_by_name : Tree → ℕ → List ℕ → Option ℕ
 number_by_name t n x =
     if is_up x then parent_numbered t n else (if is_ok (name_in x) then number_in t n x else None)
@@ -32,13 +33,13 @@ element_rules t us u n x =
     ∷ (K8, is_none (number_by_name t n x))
     ∷ []
 
--- the rule that stops an element, or where it leads
+-- the rule that stops an element, or the file to which it leads
 abbrev pub element_result : Option RuleId → Option ℕ → Result ℕ RuleId
 element_result (Some rule) m = Err rule
 element_result None None = Err K8
 element_result None (Some m) = Ok m
 
--- where an element leads, or the first rule that stops it
+-- the file to which an element leads, or the first rule that stops it
 abbrev pub element : Tree → List Row → List ℕ → ℕ → List ℕ → Result ℕ RuleId
 element t us u n x =
     element_result (first_failing (element_rules t us u n x)) (number_by_name t n x)
@@ -48,7 +49,7 @@ abbrev pub first_element : Tree → List Row → List ℕ → ℕ → List (List
 first_element t us u n [] = []
 first_element t us u n (x ∷ xs) = element_rules t us u n x
 
--- a walk: it is refused by these rules alone
+-- a walk: only these rules refuse it
 abbrev pub walk_rules : Tree → List Row → WalkCall → List Check
 walk_rules t us c =
     -- file is gone

@@ -8,13 +8,13 @@ use Rattle.cs_tree_model.specs.Tree.{Tree}
 use Rattle.cs_permit.specs.declared.call.WriteCall.{WriteCall}
 use Rattle.cs_permit.specs.Refusals.{Check}
 use Rattle.cs_permit.specs.Rules.{file_at, is_append_only, is_gone, on_file}
-use Rattle.cs_permit.specs.Shown.{told_length}
+use Rattle.cs_permit.specs.Shown.{shown_length}
 
 -- how many bytes the file of a number has, a directory 0
 abbrev pub length_at : Tree → ℕ → ℕ
-length_at t n = option_map_or (λ file. told_length file.kind) (file_at t n) 0
+length_at t n = option_map_or (λ file. shown_length file.kind) (file_at t n) 0
 
--- where a write begins: at the end of an append-only file, and else at the offset
+-- the place at which a write begins: the end of an append-only file, else the offset
 abbrev pub write_start : Tree → WriteCall → ℕ
 write_start t c = if on_file t c.number is_append_only then length_at t c.number else c.offset
 

@@ -1,5 +1,5 @@
-//! The calls on a run: what a session asks of it, once its own rules have let the message pass. A
-//! call names a file by its number.
+//! The calls that a session makes on a run after the message passed the connection's rules. A call
+//! names a file by its number.
 ghost use Rattle.std.specs.Prelude.{◌≡◌, IfOk};
 
 use crate::sent_bytes::SentBytes;
@@ -11,7 +11,7 @@ use std::alloc::{AllocError, Global};
 /// Attaches a user to the root of the run (attach(5)).
 #[derive(Debug, Drop)]
 pub struct AttachCall {
-    /// The uname as it came: whether it is known is a rule of the run.
+    /// The uname as it came: the run's rules decide whether it is known.
     pub user: Text,
 }
 
@@ -20,7 +20,7 @@ pub struct AttachCall {
 pub struct WalkCall {
     pub number: u64,
     pub user: UserName,
-    /// The names as they came: whether they are legal is a rule of the run.
+    /// The names as they came: the run's rules decide whether they are legal.
     pub names: Texts,
 }
 
@@ -48,9 +48,9 @@ pub struct CreateCall {
 pub struct ReadCall {
     pub number: u64,
     pub offset: u64,
-    /// How many bytes are asked for and fit a reply.
+    /// The number of bytes that the client wants and that fit a reply.
     pub count: u32,
-    /// Where the fid's reads of a directory go on.
+    /// The place at which the fid's reads of a directory go on.
     pub place: Place,
 }
 
@@ -79,18 +79,18 @@ pub struct RemoveCall {
     pub open_number: Option<u32>,
 }
 
-/// Asks what a stat tells of a file (stat(5)).
+/// Asks for the stat of a file (stat(5)).
 #[derive(Debug, Drop)]
 pub struct StatCall {
     pub number: u64,
 }
 
-/// Changes what a stat tells of a file (stat(5)).
+/// Changes fields of a file's stat (stat(5)).
 #[derive(Debug, Drop)]
 pub struct WstatCall {
     pub number: u64,
     pub user: UserName,
-    /// The stat as it came: a field that is not to be touched is all ones, and a text is empty.
+    /// The stat as it came: all ones in a number, or an empty text, say "don't touch".
     pub stat: SentStat,
 }
 
@@ -118,85 +118,142 @@ pub struct OpenFile {
     pub pass: u32,
 }
 
-fn copy_walk(alloc: Global, call: &WalkCall) -> Result<WalkCall, AllocError>
-    ensures { IfOk result (λ copy. copy ≡ call.now) }
-{
-    Ok(WalkCall {
-        number: call.number,
-        user: call.user.try_clone()?,
-        names: call.names.try_clone(alloc)?,
-    })
+impl AttachCall {
+    /// A copy of the call.
+    fn try_clone(&self) -> Result<AttachCall, AllocError>
+        ensures { IfOk result (λ copy. copy ≡ self.now) }
+    {
+        Ok(AttachCall {
+            user: self.user.try_clone()?,
+        })
+    }
 }
 
-fn copy_create(call: &CreateCall) -> Result<CreateCall, AllocError>
-    ensures { IfOk result (λ copy. copy ≡ call.now) }
-{
-    Ok(CreateCall {
-        number: call.number,
-        user: call.user.try_clone()?,
-        name: call.name.try_clone()?,
-        perm: call.perm,
-        mode: call.mode,
-    })
+impl WalkCall {
+    /// A copy of the call.
+    fn try_clone(&self, alloc: Global) -> Result<WalkCall, AllocError>
+        ensures { IfOk result (λ copy. copy ≡ self.now) }
+    {
+        Ok(WalkCall {
+            number: self.number,
+            user: self.user.try_clone()?,
+            names: self.names.try_clone(alloc)?,
+        })
+    }
 }
 
-fn copy_read(call: &ReadCall) -> Result<ReadCall, AllocError>
-    ensures { IfOk result (λ copy. copy ≡ call.now) }
-{
-    Ok(ReadCall {
-        number: call.number,
-        offset: call.offset,
-        count: call.count,
-        place: call.place.try_clone()?,
-    })
+impl OpenCall {
+    /// A copy of the call.
+    fn try_clone(&self) -> Result<OpenCall, AllocError>
+        ensures { IfOk result (λ copy. copy ≡ self.now) }
+    {
+        Ok(OpenCall {
+            number: self.number,
+            user: self.user.try_clone()?,
+            mode: self.mode,
+        })
+    }
 }
 
-fn copy_write(alloc: Global, call: &WriteCall<'_>) -> Result<WriteCall<'static>, AllocError>
-    ensures { IfOk result (λ copy. copy ≡ call.now) }
-{
-    Ok(WriteCall {
-        number: call.number,
-        user: call.user.try_clone()?,
-        offset: call.offset,
-        bytes: call.bytes.try_clone(alloc)?,
-    })
+impl CreateCall {
+    /// A copy of the call.
+    fn try_clone(&self) -> Result<CreateCall, AllocError>
+        ensures { IfOk result (λ copy. copy ≡ self.now) }
+    {
+        Ok(CreateCall {
+            number: self.number,
+            user: self.user.try_clone()?,
+            name: self.name.try_clone()?,
+            perm: self.perm,
+            mode: self.mode,
+        })
+    }
+}
+
+impl ReadCall {
+    /// A copy of the call.
+    fn try_clone(&self) -> Result<ReadCall, AllocError>
+        ensures { IfOk result (λ copy. copy ≡ self.now) }
+    {
+        Ok(ReadCall {
+            number: self.number,
+            offset: self.offset,
+            count: self.count,
+            place: self.place.try_clone()?,
+        })
+    }
+}
+
+impl WriteCall<'_> {
+    /// A copy of the call, which borrows nothing.
+    fn try_clone(&self, alloc: Global) -> Result<WriteCall<'static>, AllocError>
+        ensures { IfOk result (λ copy. copy ≡ self.now) }
+    {
+        Ok(WriteCall {
+            number: self.number,
+            user: self.user.try_clone()?,
+            offset: self.offset,
+            bytes: self.bytes.try_clone(alloc)?,
+        })
+    }
+}
+
+impl CloseCall {
+    /// A copy of the call.
+    fn try_clone(&self) -> Result<CloseCall, AllocError>
+        ensures { IfOk result (λ copy. copy ≡ self.now) }
+    {
+        Ok(CloseCall {
+            open_number: self.open_number,
+            user: self.user.try_clone()?,
+        })
+    }
+}
+
+impl RemoveCall {
+    /// A copy of the call.
+    fn try_clone(&self) -> Result<RemoveCall, AllocError>
+        ensures { IfOk result (λ copy. copy ≡ self.now) }
+    {
+        Ok(RemoveCall {
+            number: self.number,
+            user: self.user.try_clone()?,
+            open_number: self.open_number,
+        })
+    }
+}
+
+impl WstatCall {
+    /// A copy of the call.
+    fn try_clone(&self) -> Result<WstatCall, AllocError>
+        ensures { IfOk result (λ copy. copy ≡ self.now) }
+    {
+        Ok(WstatCall {
+            number: self.number,
+            user: self.user.try_clone()?,
+            stat: self.stat.try_clone()?,
+        })
+    }
 }
 
 impl<'a> Call<'a> {
-    /// The same call again, which lends nothing.
+    /// A copy of the call, which borrows nothing.
     pub fn try_clone(&self, alloc: Global) -> Result<Call<'static>, AllocError>
         ensures { IfOk result (λ copy. copy ≡ self.now) }
     {
         Ok(match self {
-            Call::Attach(call) => Call::Attach(AttachCall {
-                user: call.user.try_clone()?,
-            }),
-            Call::Walk(call) => Call::Walk(copy_walk(alloc, call)?),
-            Call::Open(call) => Call::Open(OpenCall {
-                number: call.number,
-                user: call.user.try_clone()?,
-                mode: call.mode,
-            }),
-            Call::Create(call) => Call::Create(copy_create(call)?),
-            Call::Read(call) => Call::Read(copy_read(call)?),
-            Call::Write(call) => Call::Write(copy_write(alloc, call)?),
-            Call::Close(call) => Call::Close(CloseCall {
-                open_number: call.open_number,
-                user: call.user.try_clone()?,
-            }),
-            Call::Remove(call) => Call::Remove(RemoveCall {
-                number: call.number,
-                user: call.user.try_clone()?,
-                open_number: call.open_number,
-            }),
+            Call::Attach(call) => Call::Attach(call.try_clone()?),
+            Call::Walk(call) => Call::Walk(call.try_clone(alloc)?),
+            Call::Open(call) => Call::Open(call.try_clone()?),
+            Call::Create(call) => Call::Create(call.try_clone()?),
+            Call::Read(call) => Call::Read(call.try_clone()?),
+            Call::Write(call) => Call::Write(call.try_clone(alloc)?),
+            Call::Close(call) => Call::Close(call.try_clone()?),
+            Call::Remove(call) => Call::Remove(call.try_clone()?),
             Call::Stat(call) => Call::Stat(StatCall {
                 number: call.number,
             }),
-            Call::Wstat(call) => Call::Wstat(WstatCall {
-                number: call.number,
-                user: call.user.try_clone()?,
-                stat: call.stat.try_clone()?,
-            }),
+            Call::Wstat(call) => Call::Wstat(call.try_clone()?),
         })
     }
 }

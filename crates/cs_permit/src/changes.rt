@@ -1,5 +1,5 @@
-//! What a wstat changes (stat(5)): the new value of each field of its stat that is to be touched
-//! and hasn't the present value.
+//! What a wstat changes (stat(5)): the new value of each field that doesn't say "don't touch" and
+//! isn't the present value.
 ghost use Rattle.std.specs.Prelude.{◌≡◌, option_copied};
 ghost use Rattle.cs_tree_model.specs.Record.{metadata_of_ref};
 ghost use Rattle.cs_permit.specs.Changes.{changes_attributes, changes_fixed, new_group, new_length};
@@ -7,10 +7,12 @@ ghost use Rattle.cs_permit.specs.Changes.{new_mode, new_mtime, new_name, new_num
 ghost use Rattle.cs_permit.specs.Changes.{ones_2, ones_4, ones_8, same_qid};
 
 use crate::call::WstatCall;
-use crate::shown::{qid_of, shown_name, told_length};
+use crate::shown::{qid_of, shown_length, shown_name};
 use cs_tree_model::{Metadata, TreeRead};
 use cs_wire::Qid;
 
+/// The new value of a field of two bytes; None for "don't touch" (all ones) and for the present
+/// value.
 fn new_u16(present: u16, sent: u16) -> Option<u16>
     ensures { result ≡ new_number ones_2 present sent }
 {
@@ -21,6 +23,7 @@ fn new_u16(present: u16, sent: u16) -> Option<u16>
     }
 }
 
+/// The new value of a field of four bytes, as `new_u16`.
 fn new_u32(present: u32, sent: u32) -> Option<u32>
     ensures { result ≡ new_number ones_4 present sent }
 {
@@ -31,6 +34,7 @@ fn new_u32(present: u32, sent: u32) -> Option<u32>
     }
 }
 
+/// The new value of a field of eight bytes, as `new_u16`.
 fn new_u64(present: u64, sent: u64) -> Option<u64>
     ensures { result ≡ new_number ones_8 present sent }
 {
@@ -41,6 +45,7 @@ fn new_u64(present: u64, sent: u64) -> Option<u64>
     }
 }
 
+/// The new value of a text; None for "don't touch" (no byte) and for the present value.
 fn new_text<'a>(present: &str, sent: &'a str) -> Option<&'a str>
     ensures { option_copied result ≡ new_text present.now sent.now }
 {
@@ -65,7 +70,7 @@ pub fn new_name<'a, T: TreeRead>(tree: &T, call: &'a WstatCall) -> Option<&'a st
 pub fn new_length(call: &WstatCall, file: &Metadata) -> Option<u64>
     ensures { result ≡ new_length call.now (metadata_of_ref file.now) }
 {
-    new_u64(told_length(file.kind), call.stat.as_stat().length)
+    new_u64(shown_length(file.kind), call.stat.as_stat().length)
 }
 
 /// The new mode, if the wstat has one.
@@ -89,13 +94,14 @@ pub fn new_group<'a>(call: &'a WstatCall, file: &Metadata) -> Option<&'a str>
     new_text(file.group.as_str(), call.stat.as_stat().gid.as_str())
 }
 
-/// The qid of a wstat that is not to be touched.
+/// The qid of a wstat that says "don't touch".
 const ONES_QID: Qid = Qid {
     kind: u8::MAX,
     vers: u32::MAX,
     path: u64::MAX,
 };
 
+/// Whether both have the same three fields.
 fn is_same_qid(a: Qid, b: Qid) -> bool
     ensures { result ≡ same_qid a b }
 {

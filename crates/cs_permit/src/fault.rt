@@ -1,4 +1,4 @@
-//! Why no run is found, and why a run gives no pass.
+//! Why no run is found for an attach, and why a run gives no pass.
 
 /// Why no run is found.
 #[derive(Clone, Copy, Debug, PartialEq, Eq, Drop)]
@@ -7,16 +7,17 @@ pub enum FindFault {
     Unpublished,
     /// There is no room for the attach: A5.
     Full,
-    /// No memory for a new run.
+    /// There is no memory for a new run.
     Memory,
 }
 
 /// Why a run gives no pass.
 #[derive(Clone, Copy, Debug, PartialEq, Eq, Drop)]
 pub enum PassFault {
-    /// The run isn't the one that was asked for: S5.
+    /// The run isn't the one of the attach: S5.
     Foreign,
     /// It gave RUN_ATTACHES passes: A5.
     Room,
+    /// There is no memory for a pass.
     Memory,
 }

@@ -1,4 +1,4 @@
-//! The first rule of a call on a run that fails, without taking memory.
+//! The first rule of a call on a run that fails, without allocating.
 ghost use Rattle.std.specs.Prelude.{◌≡◌, if◌then◌else◌};
 ghost use Rattle.cs_tree_model.specs.Record.{metadata_of_ref};
 ghost use Rattle.cs_permit.specs.Attaches.{attach_rules};
@@ -8,7 +8,7 @@ ghost use Rattle.cs_permit.specs.Opens.{is_open, open_rules};
 ghost use Rattle.cs_permit.specs.Refusals.{first_failing};
 ghost use Rattle.cs_permit.specs.Removes.{has_entries, remove_rules};
 ghost use Rattle.cs_permit.specs.Rules.{is_append_only};
-ghost use Rattle.cs_permit.specs.Shown.{told_length};
+ghost use Rattle.cs_permit.specs.Shown.{shown_length};
 ghost use Rattle.cs_permit.specs.Stats.{stat_rules};
 ghost use Rattle.cs_permit.specs.Walks.{walk_rules};
 ghost use Rattle.cs_permit.specs.Writes.{ends_too_late, write_rules};
@@ -19,7 +19,7 @@ use crate::call::{
 use crate::mode::{asks_execute, asks_read, asks_write, removes_on_close};
 use crate::read::first_of_read;
 use crate::rules::{is_append_only, is_directory, is_exclusive, is_gone, may_access, parent_lacks};
-use crate::shown::told_length;
+use crate::shown::shown_length;
 use crate::walk::first_of_element;
 use crate::wstat::first_of_wstat;
 use cs_names::RuleId;
@@ -27,6 +27,7 @@ use cs_names::limits::{FILE_BYTES, TREE_RECORDS};
 use cs_tree_model::{Metadata, TreeRead};
 use cs_users::{Right, Users};
 
+/// The run's only rule of an attach, A6, if it fails: the user must be known.
 fn first_of_attach(call: &AttachCall, users: &Users) -> Option<RuleId>
     ensures { result ≡ first_failing (attach_rules users.now call.now) }
 {
@@ -36,7 +37,8 @@ fn first_of_attach(call: &AttachCall, users: &Users) -> Option<RuleId>
     None
 }
 
-/// The first rule of a walk that fails, by its first name alone (walk(5)).
+/// The first rule of a walk that fails: K5, or a rule that its first name fails. Later names only
+/// shorten the reply (walk(5)).
 pub fn first_of_walk<T: TreeRead>(call: &WalkCall, tree: &T, users: &Users) -> Option<RuleId>
     ensures { result ≡ first_failing (walk_rules (T.tree tree.now) users.now call.now) }
 {
@@ -47,12 +49,14 @@ pub fn first_of_walk<T: TreeRead>(call: &WalkCall, tree: &T, users: &Users) -> O
     first_of_element(tree, users, &call.user, call.number, name.as_str())
 }
 
+/// Whether one of the opens is of this file.
 fn is_open(opens: &[OpenFile], file: u64) -> bool
     ensures { result ≡ is_open opens.now file }
 {
     opens.iter().any(|open_file| open_file.file == file)
 }
 
+/// The first of O4 to O10 that fails.
 fn first_of_open<T: TreeRead>(
     call: &OpenCall,
     tree: &T,
@@ -87,6 +91,7 @@ fn first_of_open<T: TreeRead>(
     None
 }
 
+/// The first of C6 to C10 that fails.
 fn first_of_create<T: TreeRead>(call: &CreateCall, tree: &T, users: &Users) -> Option<RuleId>
     ensures { result ≡ first_failing (create_rules (T.tree tree.now) users.now call.now) }
 {
@@ -108,26 +113,26 @@ fn first_of_create<T: TreeRead>(call: &CreateCall, tree: &T, users: &Users) -> O
     None
 }
 
-/// Whether so many bytes from there on end above the limit.
+/// Whether `count` bytes from `start` on end above the limit of a file's length.
 fn ends_too_late(start: u64, count: u64) -> bool
     ensures { result ≡ ends_too_late start count }
 {
     count > FILE_BYTES || start > FILE_BYTES - count
 }
 
-/// Where a write begins: behind the last byte of a file that is only appended to, else where the call
-/// says.
+/// The place at which a write begins: the end of an append-only file, else the offset of the call.
 pub fn write_start(call: &WriteCall<'_>, file: &Metadata) -> u64
-    ensures { result ≡ (if is_append_only (metadata_of_ref file.now) then told_length file.now.kind
+    ensures { result ≡ (if is_append_only (metadata_of_ref file.now) then shown_length file.now.kind
         else call.now.offset) }
 {
     if is_append_only(file) {
-        told_length(file.kind)
+        shown_length(file.kind)
     } else {
         call.offset
     }
 }
 
+/// The first of E3 and E4 that fails. A write of no byte can't fail E4.
 fn first_of_write<T: TreeRead>(call: &WriteCall<'_>, tree: &T) -> Option<RuleId>
     ensures { result ≡ first_failing (write_rules (T.tree tree.now) call.now) }
 {
@@ -141,12 +146,14 @@ fn first_of_write<T: TreeRead>(call: &WriteCall<'_>, tree: &T) -> Option<RuleId>
     None
 }
 
+/// Whether the directory of this number has an entry.
 fn has_entries<T: TreeRead>(tree: &T, number: u64) -> bool
     ensures { result ≡ has_entries (T.tree tree.now) number }
 {
     tree.entry_after(number, None, None).is_some()
 }
 
+/// The first of M2 to M5 that fails.
 fn first_of_remove<T: TreeRead>(call: &RemoveCall, tree: &T, users: &Users) -> Option<RuleId>
     ensures { result ≡ first_failing (remove_rules (T.tree tree.now) users.now call.now) }
 {
@@ -165,6 +172,7 @@ fn first_of_remove<T: TreeRead>(call: &RemoveCall, tree: &T, users: &Users) -> O
     None
 }
 
+/// The run's only rule of a stat, H2, if it fails: the file must exist.
 fn first_of_stat<T: TreeRead>(call: &StatCall, tree: &T) -> Option<RuleId>
     ensures { result ≡ first_failing (stat_rules (T.tree tree.now) call.now) }
 {
@@ -174,7 +182,7 @@ fn first_of_stat<T: TreeRead>(call: &StatCall, tree: &T) -> Option<RuleId>
     None
 }
 
-/// The first rule of the run that the call fails, if any. It takes no memory.
+/// The first rule of the run that the call fails, if any. It allocates nothing.
 #[tactic(auto, unfolding(crate::specs::Calls::failing_rule))]
 pub fn failing_rule<T: TreeRead>(
     call: &Call<'_>,

@@ -1,5 +1,5 @@
-//! What the definitions of rules say, as laws. A call of a function here does nothing: its contract
-//! is the law.
+//! Laws of the definitions of rules. A call of a function here does nothing: its contract is the
+//! law.
 ghost use Rattle.std.specs.Prelude.{◌≡◌, ◌++◌, List, None, Some, IfSome, IsSome, IsSomeAnd, true};
 ghost use Rattle.std.specs.Prelude.{false};
 ghost use Rattle.cs_names.specs.declared.rule_id.RuleId.{RuleId};
@@ -15,15 +15,15 @@ use crate::call::WstatCall;
 use cs_tree_model::TreeRead;
 use cs_users::Users;
 
-/// A denial names a rule that fails where none before it does, and where none is named, none fails.
+/// The rule that is named fails and none before it in the list does; if none is named, none fails.
 pub fn first_rule_that_fails()
     ensures denied { (checks : List Check) (rule : RuleId) → first_failing checks ≡ Some rule
         → IsFirstToFail checks rule }
     ensures granted { (checks : List Check) → first_failing checks ≡ None → AllPass checks }
 {}
 
-/// The first that fails of two lists in a row is that of the first list, or else that of the
-/// second; and where none fails, none does in either.
+/// The first failing rule of two lists in a row is that of the first list, or else that of the
+/// second; and if none fails, none does in either.
 pub fn first_rule_of_two_lists()
     ensures first { (xs ys : List Check) → first_failing (xs ++ ys)
         ≡ first_failing_or (first_failing xs) (first_failing ys) }
@@ -38,7 +38,7 @@ pub fn first_entry_tells<T: TreeRead>(tree: &T, number: u64)
         → (x : NameBytes) × IsSome (number_in (T.tree tree.now) number x) }
 {}
 
-/// A wstat of which each field is not to be touched, or has the present value, needs no right and
+/// A wstat in which each field says "don't touch" or has the present value needs no right and
 /// changes nothing: so a whole stat that is sent back is granted.
 pub fn what_is_kept_needs_no_right<T: TreeRead>(tree: &T, users: &Users, call: &WstatCall)
     requires { IsSomeAnd (file_at (T.tree tree.now) call.now.number)

@@ -31,8 +31,8 @@ pub use request::Request;
 pub use sent_bytes::SentBytes;
 pub use sent_stat::SentStat;
 pub use shown::{
-    entry_size, entry_stat, qid_at, qid_known, qid_of, shown_name, stat_of_file, stat_ref,
-    told_length,
+    entry_size, entry_stat, qid_at, qid_known, qid_of, shown_length, shown_name, stat_of_file,
+    stat_ref,
 };
 pub use table::first_table_rule;
 pub use tree_name::TreeName;

@@ -17,21 +17,21 @@ pub const OPEN_BITS: u8 = 0x53;
 /// All bits that a client may give a file.
 pub const GIVEN_BITS: u32 = DMDIR | DMAPPEND | DMEXCL | DMTMP | 0o777;
 
-/// Whether an open in that mode is to read.
+/// Whether an open in that mode asks to read.
 pub fn asks_read(mode: u8) -> bool
     ensures { result ≡ asks_read mode }
 {
     mode % 4 == 0 || mode % 4 == 2
 }
 
-/// Whether an open in that mode is to write, or to empty the file.
+/// Whether an open in that mode asks to write, or to empty the file.
 pub fn asks_write(mode: u8) -> bool
     ensures { result ≡ asks_write mode }
 {
     covers_write(mode) || truncates(mode)
 }
 
-/// Whether an open in that mode is to execute.
+/// Whether an open in that mode asks to execute.
 pub fn asks_execute(mode: u8) -> bool
     ensures { result ≡ asks_execute mode }
 {
@@ -52,14 +52,14 @@ pub fn removes_on_close(mode: u8) -> bool
     mode & ORCLOSE != 0
 }
 
-/// Whether an open in that mode covers a read. What may be executed may be read.
+/// Whether an open in that mode allows reads. One to execute does too.
 pub fn covers_read(mode: u8) -> bool
     ensures { result ≡ covers_read mode }
 {
     asks_read(mode) || asks_execute(mode)
 }
 
-/// Whether an open in that mode covers a write.
+/// Whether an open in that mode allows writes.
 pub fn covers_write(mode: u8) -> bool
     ensures { result ≡ covers_write mode }
 {
@@ -73,7 +73,7 @@ pub fn is_bad_open_mode(mode: u8) -> bool
     mode & OPEN_BITS != mode
 }
 
-/// Whether the mode is that of a file that only grows, or that one fid at a time may have open.
+/// Whether the mode has the bit of an append-only or of an exclusive file.
 pub fn is_append_or_exclusive(mode: u32) -> bool
     ensures { result ≡ is_append_or_exclusive mode }
 {

@@ -1,5 +1,5 @@
-//! The rules of a read: of a directory it begins at its first entry or where the last read ended,
-//! and gives whole entries (read(5)).
+//! The rules of a read. A read of a directory begins at its first entry or at the end of the last
+//! read, and gives whole entries (read(5)).
 ghost use Rattle.std.specs.Prelude.{◌≡◌, option_copied};
 ghost use Rattle.cs_permit.specs.Reads.{is_good_offset, name_before, needs_more, read_rules};
 ghost use Rattle.cs_permit.specs.Refusals.{first_failing};
@@ -10,14 +10,14 @@ use crate::shown::entry_size;
 use cs_names::{Name, RuleId};
 use cs_tree_model::TreeRead;
 
-/// Whether a read of a directory begins where one may.
+/// Whether a read of a directory may begin at its offset: 0, or the end of the fid's last read.
 fn is_good_offset(call: &ReadCall) -> bool
     ensures { result ≡ is_good_offset call.now }
 {
     call.offset == 0 || call.offset == call.place.end
 }
 
-/// The name after which a read of a directory begins.
+/// The name after which a read of a directory begins; None if it begins at the first entry.
 pub fn name_before(call: &ReadCall) -> Option<&Name>
     ensures { option_copied result ≡ name_before call.now }
 {
@@ -28,7 +28,7 @@ pub fn name_before(call: &ReadCall) -> Option<&Name>
     }
 }
 
-/// Whether an entry remains, and the next one has more bytes than are asked for.
+/// Whether there is a next entry, and it has more bytes than the read asks for.
 fn needs_more<T: TreeRead>(tree: &T, call: &ReadCall) -> bool
     ensures { result ≡ needs_more (T.tree tree.now) call.now }
 {
@@ -38,6 +38,7 @@ fn needs_more<T: TreeRead>(tree: &T, call: &ReadCall) -> bool
     }
 }
 
+/// The first of G3 to G5 that fails. Only a read of a directory can fail G4 or G5.
 pub fn first_of_read<T: TreeRead>(call: &ReadCall, tree: &T) -> Option<RuleId>
     ensures { result ≡ first_failing (read_rules (T.tree tree.now) call.now) }
 {

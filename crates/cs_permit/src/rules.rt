@@ -1,4 +1,4 @@
-//! The tests that the rules of many calls are made of.
+//! The tests that rules of several calls share.
 ghost use Rattle.std.specs.Prelude.{◌≡◌};
 ghost use Rattle.cs_tree_model.specs.Record.{metadata_of_ref};
 ghost use Rattle.cs_permit.specs.Rules.{is_append_only, is_directory, is_exclusive, is_gone};
@@ -8,7 +8,7 @@ use cs_names::UserName;
 use cs_tree_model::{DMAPPEND, DMEXCL, Kind, Metadata, TreeRead};
 use cs_users::{Right, Users, has_bit};
 
-/// Whether it is a directory's.
+/// Whether the file is a directory.
 pub fn is_directory(file: &Metadata) -> bool
     ensures { result ≡ is_directory (metadata_of_ref file.now) }
 {
@@ -53,7 +53,8 @@ pub fn may_access(users: &Users, user: &UserName, right: Right, file: &Metadata)
     )
 }
 
-/// Whether the user has not the right on the directory of the file. The root's is the root.
+/// Whether the user lacks the right on the directory of the file; the root is its own directory.
+/// False if no file has the number.
 pub fn parent_lacks<T: TreeRead>(
     tree: &T,
     users: &Users,

@@ -1,11 +1,11 @@
-//! The bytes that a Twrite sends, which contracts see as a list, lent or in memory of their own.
+//! The bytes that a Twrite sends, borrowed or copied. Contracts see them as a list.
 ghost use Rattle.std.specs.Prelude.{◌≡◌, IfOk, length};
 
 use std::alloc::{AllocError, Global};
 use std::borrow::CowSlice;
 use std::marker::Model;
 
-/// Bytes as they came, lent or in memory of their own. Contracts see them as a list.
+/// Bytes as they came, borrowed or copied. Contracts see them as a list.
 #[derive(Debug, Drop)]
 pub struct SentBytes<'a> {
     bytes: CowSlice<'a, u8>,
@@ -21,7 +21,7 @@ impl<'a> Model for SentBytes<'a> {
 }
 
 impl<'a> SentBytes<'a> {
-    /// These bytes, lent.
+    /// These bytes, borrowed.
     pub fn lent(bytes: &'a [u8]) -> SentBytes<'a>
         ensures { result ≡ bytes.now }
     {
@@ -30,7 +30,7 @@ impl<'a> SentBytes<'a> {
         }
     }
 
-    /// The same bytes, in memory of their own.
+    /// A copy of these bytes.
     pub fn keep(alloc: Global, bytes: &[u8]) -> Result<SentBytes<'static>, AllocError>
         ensures { IfOk result (λ kept. kept ≡ bytes.now) }
     {
@@ -46,14 +46,14 @@ impl<'a> SentBytes<'a> {
         self.bytes.as_slice()
     }
 
-    /// How many they are.
+    /// The number of bytes.
     pub fn len(&self) -> usize
         ensures { result ≡ length self.now }
     {
         self.bytes.len()
     }
 
-    /// The same bytes again, in memory of their own.
+    /// A copy of the bytes, also if they are borrowed.
     pub fn try_clone(&self, alloc: Global) -> Result<SentBytes<'static>, AllocError>
         ensures { IfOk result (λ copy. copy ≡ self.now) }
     {

@@ -1,4 +1,4 @@
-//! The stat that a Twstat sends, which contracts see as what it says, and no memory.
+//! The stat that a Twstat sends. Contracts see the values of its fields.
 ghost use Rattle.std.specs.Prelude.{◌≡◌, IfOk};
 ghost use Rattle.cs_permit.specs.Sent.{sent_of};
 
@@ -6,7 +6,7 @@ use cs_wire::Stat;
 use std::alloc::AllocError;
 use std::marker::Model;
 
-/// The stat that a Twstat sends. Contracts see its fields, of each text the bytes.
+/// The stat that a Twstat sends. Contracts see its fields, with each text as bytes.
 #[derive(Debug, Drop)]
 pub struct SentStat {
     stat: Stat,
@@ -35,7 +35,7 @@ impl SentStat {
         &self.stat
     }
 
-    /// The same stat again.
+    /// A copy of the stat.
     pub fn try_clone(&self) -> Result<SentStat, AllocError>
         ensures { IfOk result (λ copy. copy ≡ self.now) }
     {
@@ -45,7 +45,7 @@ impl SentStat {
     }
 }
 
-/// A stat that says the same.
+/// A copy of the stat.
 fn copy_stat(stat: &Stat) -> Result<Stat, AllocError>
     ensures { IfOk result (λ copy. sent_of copy ≡ sent_of stat.now) }
 {

@@ -1,5 +1,5 @@
-//! What a client is shown of a file: its qid, its name, what a stat tells of it, and the size of
-//! its entry in a read of its directory (stat(5), read(5)).
+//! What a client sees of a file: its qid, its name, its stat, and the size of its entry in a read
+//! of its directory (stat(5), read(5)).
 ghost use Rattle.std.specs.Prelude.{◌≡◌, ◌/◌, IfSome, length};
 ghost use Rattle.std.specs.Option.{option_map};
 ghost use Rattle.cs_tree_model.specs.Nexts.{entry_name};
@@ -7,7 +7,7 @@ ghost use Rattle.cs_tree_model.specs.Record.{metadata_of_ref};
 ghost use Rattle.cs_wire.specs.Fields.{IsIn};
 ghost use Rattle.cs_wire.specs.Messages.{qid_of as qid_value, stat_in as fields_of};
 ghost use Rattle.cs_permit.specs.Shown.{entry_of, qid_at, qid_of, qid_or_zeros, shown_name};
-ghost use Rattle.cs_permit.specs.Shown.{stat_as, stat_at, stat_of_file, stat_with, told_length};
+ghost use Rattle.cs_permit.specs.Shown.{stat_as, stat_at, stat_of_file, stat_with, shown_length};
 ghost use Rattle.cs_permit.specs.Sizes.{IsQid, IsShown, IsStat, numbers_shape};
 
 use cs_names::limits::{NAME_BYTES, USER_NAME_BYTES};
@@ -15,7 +15,7 @@ use cs_names::{Name, UserName};
 use cs_tree_model::{Kind, ListedEntry, Metadata, TreeRead};
 use cs_wire::{Qid, StatRef};
 
-/// A bound on the bytes of a stat in a reply (stat(5)): no file's is longer.
+/// The most bytes of a stat in a reply (stat(5)): no file's stat is longer.
 pub const STAT_BYTES: usize = 600;
 
 /// The qid of a file (intro(5)).
@@ -26,6 +26,7 @@ pub fn qid_of(file: &Metadata) -> Qid
     qid_from(file.mode, file.vers, file.number)
 }
 
+/// The qid of a file of this mode, version and number.
 fn qid_from(mode: u32, vers: u32, number: u64) -> Qid
     ensures kind { result.kind ≡ mode / 0x1000000 }
     ensures rest { (result.vers ≡ vers) × (result.path ≡ number) }
@@ -38,7 +39,7 @@ fn qid_from(mode: u32, vers: u32, number: u64) -> Qid
     }
 }
 
-/// The qid of a file of which the tree tells this, or zeros where there is none.
+/// The qid of a file with this metadata, or zeros for no file.
 pub fn qid_known(file: Option<Metadata>) -> Qid
     ensures value { result ≡ qid_or_zeros (option_map metadata_of_ref file.entry) }
     ensures fits { IsQid result }
@@ -53,7 +54,7 @@ pub fn qid_known(file: Option<Metadata>) -> Qid
     }
 }
 
-/// The qid of the file of a number, or zeros where no file has it.
+/// The qid of the file of a number, or zeros if no file has it.
 pub fn qid_at<T: TreeRead>(tree: &T, number: u64) -> Qid
     ensures value { result ≡ qid_at (T.tree tree.now) number }
     ensures fits { IsQid result }
@@ -69,7 +70,7 @@ pub fn name_text(name: &Name) -> &str
     name.as_str()
 }
 
-/// The name that a file has in its directory, and `/` for the root.
+/// The name that a file has in its directory; `/` for the root and for a number that no file has.
 pub fn shown_name<T: TreeRead>(tree: &T, number: u64) -> &str
     ensures value { result.now ≡ shown_name (T.tree tree.now) number }
     ensures shown { IsShown NAME_BYTES result.now }
@@ -80,9 +81,9 @@ pub fn shown_name<T: TreeRead>(tree: &T, number: u64) -> &str
     }
 }
 
-/// The length that a stat tells: of a directory 0.
-pub fn told_length(kind: Kind) -> u64
-    ensures { result ≡ told_length kind }
+/// The length in a stat: 0 for a directory.
+pub fn shown_length(kind: Kind) -> u64
+    ensures { result ≡ shown_length kind }
 {
     match kind {
         Kind::Directory => 0,
@@ -90,7 +91,8 @@ pub fn told_length(kind: Kind) -> u64
     }
 }
 
-fn shown(user: &UserName) -> &str
+/// A user's name, as a text that a message can have.
+fn user_text(user: &UserName) -> &str
     ensures value { result.now ≡ user.now }
     ensures shown { IsShown USER_NAME_BYTES result.now }
 {
@@ -106,6 +108,7 @@ struct Texts<'a> {
     muid: &'a str,
 }
 
+/// The stat of these fields, with 0 as type and dev, which are the server's own.
 fn stat_with<'a>(
     qid: Qid,
     mode: u32,
@@ -134,7 +137,7 @@ fn stat_with<'a>(
     }
 }
 
-/// What a stat tells of a file of that name, lent. It takes no memory.
+/// The stat of a file of that name, with borrowed texts. It allocates nothing.
 pub fn stat_of_file<'a>(name: &'a str, file: &Metadata<'a>) -> StatRef<'a>
     requires { IsShown NAME_BYTES name.now }
     ensures value { fields_of result ≡ stat_of_file name.now (metadata_of_ref file.now) }
@@ -142,11 +145,11 @@ pub fn stat_of_file<'a>(name: &'a str, file: &Metadata<'a>) -> StatRef<'a>
 {
     let texts = Texts {
         name,
-        uid: shown(file.owner),
-        gid: shown(file.group),
-        muid: shown(file.muid),
+        uid: user_text(file.owner),
+        gid: user_text(file.group),
+        muid: user_text(file.muid),
     };
-    let length = told_length(file.kind);
+    let length = shown_length(file.kind);
     stat_with(
         qid_of(file),
         file.mode,
@@ -157,7 +160,8 @@ pub fn stat_of_file<'a>(name: &'a str, file: &Metadata<'a>) -> StatRef<'a>
     )
 }
 
-/// What a stat tells of the file of a number, lent; None where no file has it. It takes no memory.
+/// The stat of the file of a number, with borrowed texts; None if no file has it. It allocates
+/// nothing.
 pub fn stat_ref<T: TreeRead>(tree: &T, number: u64) -> Option<StatRef<'_>>
     ensures value { option_map fields_of result ≡ stat_at (T.tree tree.now) number }
     ensures fits { IfSome result (λ stat. IsStat STAT_BYTES (fields_of stat)) }
@@ -167,7 +171,8 @@ pub fn stat_ref<T: TreeRead>(tree: &T, number: u64) -> Option<StatRef<'_>>
     Some(stat_of_file(name, &file))
 }
 
-/// What a stat tells of an entry of a directory, lent. It takes no memory.
+/// The stat of an entry of a directory, with borrowed texts; None if no file has its number. It
+/// allocates nothing.
 pub fn entry_stat<'a, T: TreeRead>(tree: &'a T, entry: ListedEntry<'a>) -> Option<StatRef<'a>>
     ensures value { option_map fields_of result ≡ stat_as (T.tree tree.now) entry.entry.number
         (entry_name entry.entry) }
@@ -177,7 +182,7 @@ pub fn entry_stat<'a, T: TreeRead>(tree: &'a T, entry: ListedEntry<'a>) -> Optio
     Some(stat_of_file(name_text(entry.name), &file))
 }
 
-/// How many bytes an entry of a directory takes in a read of it.
+/// The bytes of a directory's entry in a read of the directory; 0 if no file has its number.
 pub fn entry_size<T: TreeRead>(tree: &T, entry: ListedEntry) -> usize
     ensures { result ≡ length (entry_of (stat_as (T.tree tree.now) entry.entry.number
         (entry_name entry.entry))) }

@@ -1,4 +1,4 @@
-//! The first rule of a request on a connection's fids that fails, without taking memory.
+//! The first rule of a request on a connection's fids that fails, without allocating.
 ghost use Rattle.std.specs.Prelude.{◌≡◌, ◌∷◌, []};
 ghost use Rattle.cs_permit.specs.Refusals.{first_failing};
 ghost use Rattle.cs_permit.specs.Table.{attach_table_rules, create_table_rules, first_table_rule};
@@ -13,6 +13,7 @@ use cs_fids::{FidEntry, FidTable, NOFID};
 use cs_names::limits::FIDS;
 use cs_names::{Name, RuleId};
 
+/// Whether the connection has no such fid.
 fn is_unknown(fids: &FidTable, fid: u32) -> bool
     ensures { result ≡ is_unknown fids.now.fids fid }
 {
@@ -30,18 +31,21 @@ fn open_mode(fids: &FidTable, fid: u32) -> Option<u8>
     }
 }
 
+/// Whether the fid is open.
 fn is_open(fids: &FidTable, fid: u32) -> bool
     ensures { result ≡ is_open fids.now.fids fid }
 {
     open_mode(fids, fid).is_some()
 }
 
+/// Whether the connection has as many fids as it may have.
 fn is_full(fids: &FidTable) -> bool
     ensures { result ≡ is_full fids.now.fids }
 {
     fids.len() >= FIDS
 }
 
+/// The first of A1 to A3 that fails.
 fn first_table_rule_of_attach(fids: &FidTable, fid: u32, afid: u32, aname: &str) -> Option<RuleId>
     ensures { result ≡ first_failing (attach_table_rules fids.now.fids fid afid aname.now) }
 {
@@ -57,6 +61,7 @@ fn first_table_rule_of_attach(fids: &FidTable, fid: u32, afid: u32, aname: &str)
     None
 }
 
+/// The first of K1 to K4 that fails.
 fn first_table_rule_of_walk(fids: &FidTable, fid: u32, newfid: u32) -> Option<RuleId>
     ensures { result ≡ first_failing (walk_table_rules fids.now.fids fid newfid) }
 {
@@ -75,6 +80,7 @@ fn first_table_rule_of_walk(fids: &FidTable, fid: u32, newfid: u32) -> Option<Ru
     None
 }
 
+/// The first of O1 to O3 that fails.
 fn first_table_rule_of_open(fids: &FidTable, fid: u32, mode: u8) -> Option<RuleId>
     ensures { result ≡ first_failing (open_table_rules fids.now.fids fid mode) }
 {
@@ -90,6 +96,7 @@ fn first_table_rule_of_open(fids: &FidTable, fid: u32, mode: u8) -> Option<RuleI
     None
 }
 
+/// The first of C1 to C5 that fails.
 fn first_table_rule_of_create(
     fids: &FidTable,
     fid: u32,
@@ -127,6 +134,7 @@ fn may_be_read(fids: &FidTable, fid: u32) -> bool
     }
 }
 
+/// The first of G1 and G2 that fails.
 fn first_table_rule_of_read(fids: &FidTable, fid: u32) -> Option<RuleId>
     ensures { result ≡ first_failing (read_table_rules fids.now.fids fid) }
 {
@@ -149,6 +157,7 @@ fn may_be_written(fids: &FidTable, fid: u32) -> bool
     }
 }
 
+/// The first of E1 and E2 that fails.
 fn first_table_rule_of_write(fids: &FidTable, fid: u32) -> Option<RuleId>
     ensures { result ≡ first_failing (write_table_rules fids.now.fids fid) }
 {
@@ -161,7 +170,7 @@ fn first_table_rule_of_write(fids: &FidTable, fid: u32) -> Option<RuleId>
     None
 }
 
-/// The rule, where the number stands for no fid.
+/// The rule, if the connection has no such fid.
 fn known_or(fids: &FidTable, fid: u32, rule: RuleId) -> Option<RuleId>
     ensures { result ≡ first_failing ((rule, is_unknown fids.now.fids fid) ∷ []) }
 {
@@ -171,7 +180,7 @@ fn known_or(fids: &FidTable, fid: u32, rule: RuleId) -> Option<RuleId>
     None
 }
 
-/// The first rule of the connection that the request fails, if any. It takes no memory.
+/// The first rule of the connection that the request fails, if any. It allocates nothing.
 #[tactic(auto, unfolding(crate::specs::Table::first_table_rule))]
 pub fn first_table_rule(request: &Request, fids: &FidTable) -> Option<RuleId>
     ensures { result ≡ first_table_rule fids.now.fids request.now }

@@ -1,4 +1,4 @@
-//! The name of a tree, as an attach gives it: a state's number, a slash, and a run's name.
+//! The name of a tree in an attach: a state's number, a slash, and a run's name.
 ghost use Rattle.std.specs.Prelude.{◌≡◌, MatchOption, None, Some};
 ghost use Rattle.cs_permit.specs.TreeNames.{is_state_number, is_zero, tree_name_in};
 
@@ -13,12 +13,14 @@ pub struct TreeName<'a> {
     pub run: &'a [u8],
 }
 
+/// Whether it is the digit 0 only.
 fn is_zero(bytes: &[u8]) -> bool
     ensures { result ≡ is_zero bytes.now }
 {
     bytes == b"0".as_slice()
 }
 
+/// Whether it is a number of 1 to 5 digits, without a zero before others.
 fn is_state_number(bytes: &[u8]) -> bool
     ensures { result ≡ is_state_number bytes.now }
 {
@@ -31,8 +33,8 @@ fn is_state_number(bytes: &[u8]) -> bool
 }
 
 impl<'a> TreeName<'a> {
-    /// The parts of an aname: a number of 1 to 5 digits with no zero before others, a slash, and
-    /// the name of a run; None where it has not this form. It takes no memory.
+    /// The parts of an aname: a number of 1 to 5 digits without a zero before others, a slash, and
+    /// the name of a run; None if it has another form. It allocates nothing.
     pub fn read(aname: &'a [u8]) -> Option<TreeName<'a>>
         ensures { MatchOption result (tree_name_in aname.now ≡ None)
             (λ name. tree_name_in aname.now ≡ Some (name.state.now, name.run.now)) }

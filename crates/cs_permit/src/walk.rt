@@ -11,13 +11,15 @@ use cs_names::{Name, RuleId, UserName};
 use cs_tree_model::{Metadata, TreeRead};
 use cs_users::{Right, Users};
 
+/// Whether the name leads to the parent: `..`.
 fn is_up(name: &str) -> bool
     ensures { result ≡ is_up name.now }
 {
     name == ".."
 }
 
-/// Where a name leads from a directory: `..` to its parent, another legal name to its entry.
+/// The file to which a name leads from a directory: `..` to its parent, another legal name to its
+/// entry.
 // a walk spends a good part of its time on these few calls
 #[inline(always)]
 fn next_number<T: TreeRead>(tree: &T, number: u64, name: &str) -> Option<u64>
@@ -30,8 +32,8 @@ fn next_number<T: TreeRead>(tree: &T, number: u64, name: &str) -> Option<u64>
     tree.find_number(number, name)
 }
 
-/// One element of a walk from the file of that number, of which the tree tells this: where it
-/// leads, or the rule that stops it. It takes no memory, and looks up a name and no record.
+/// One element of a walk from the file of that number and metadata: the file to which it leads, or
+/// the rule that stops it. It allocates nothing, and looks up a name but no record.
 // a record is large: out of line, it would be passed in memory
 #[inline(always)]
 pub fn element_of<T: TreeRead>(
@@ -56,8 +58,8 @@ pub fn element_of<T: TreeRead>(
     next_number(tree, number, name).ok_or(RuleId::K8)
 }
 
-/// One element of a walk from the file of that number: where it leads, or the rule that stops it.
-/// It takes no memory.
+/// One element of a walk from the file of that number: the file to which it leads, or the rule that
+/// stops it. It allocates nothing.
 pub fn element<T: TreeRead>(
     tree: &T,
     users: &Users,

@@ -25,6 +25,7 @@ fn number_beside<T: TreeRead>(tree: &T, number: u64, name: &str) -> Option<u64>
     tree.find_number(parent, name)
 }
 
+/// The first of Q4 to Q7 that fails, if the name changes.
 #[tactic(auto, unfolding(crate::specs::Wstats::name_rules))]
 fn first_of_name<T: TreeRead>(call: &WstatCall, tree: &T, users: &Users) -> Option<RuleId>
     ensures { result ≡ first_failing (name_rules (T.tree tree.now) users.now call.now) }
@@ -45,6 +46,7 @@ fn first_of_name<T: TreeRead>(call: &WstatCall, tree: &T, users: &Users) -> Opti
     None
 }
 
+/// The first of Q8 to Q10 that fails, if the length changes.
 #[tactic(auto, unfolding(crate::specs::Wstats::length_rules))]
 pub fn first_of_length(call: &WstatCall, users: &Users, file: &Metadata) -> Option<RuleId>
     ensures { result ≡ first_failing (length_rules users.now call.now (metadata_of_ref file.now)) }
@@ -71,6 +73,7 @@ fn is_bad_mode(file: &Metadata, mode: u32) -> bool
         || (is_directory(file) && is_append_or_exclusive(mode))
 }
 
+/// Whether the user owns the file or leads its group.
 fn is_owner_or_leader(users: &Users, user: &UserName, file: &Metadata) -> bool
     ensures { result ≡ is_owner_or_leader users.now user.now (metadata_of_ref file.now) }
 {
@@ -78,6 +81,7 @@ fn is_owner_or_leader(users: &Users, user: &UserName, file: &Metadata) -> bool
         || users.is_leader(user.as_bytes(), file.group.as_bytes())
 }
 
+/// The first of Q11 and Q12 that fails: Q11 if the mode changes, Q12 if the mode or the mtime does.
 #[tactic(auto, unfolding(crate::specs::Wstats::mode_rules))]
 pub fn first_of_mode(call: &WstatCall, users: &Users, file: &Metadata) -> Option<RuleId>
     ensures { result ≡ first_failing (mode_rules users.now call.now (metadata_of_ref file.now)) }
@@ -102,6 +106,7 @@ fn may_give(users: &Users, user: &UserName, file: &Metadata, group: &str) -> boo
         || (users.is_leader(user, file.group.as_bytes()) && users.is_leader(user, group.as_bytes()))
 }
 
+/// The first of Q13 and Q14 that fails, if the group changes.
 #[tactic(auto, unfolding(crate::specs::Wstats::group_rules))]
 pub fn first_of_group(call: &WstatCall, users: &Users, file: &Metadata) -> Option<RuleId>
     ensures { result ≡ first_failing (group_rules users.now call.now (metadata_of_ref file.now)) }
@@ -116,6 +121,7 @@ pub fn first_of_group(call: &WstatCall, users: &Users, file: &Metadata) -> Optio
     None
 }
 
+/// The first of Q4 to Q14 that fails.
 #[tactic(auto, using(crate::proofs::Firsts::first_failing_append))]
 fn first_of_fields<T: TreeRead>(
     call: &WstatCall,

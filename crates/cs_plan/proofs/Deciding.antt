@@ -1,4 +1,4 @@
--- Two values that are told apart by `==` differ, and no others do.
+-- Two values differ if and only if `==` is false.
 use Rattle.std.proofs.Common.{◌≡◌, ◌==◌, ℕ, true, false, ◌&&◌, List, rules, refl, ap, subst}
 use Rattle.std.specs.Bool.{Decides}
 use Rattle.std.proofs.lemmas.Slice.Eq.{bytes_eq-Decides, slice_eq-Decides}

@@ -40,7 +40,7 @@ holes_more needs k = ap (flat_map (holes_at needs)) (range_more k) ∙ sym (flat
 pub prefixes_more : (k : ℕ) → map Prefix (range_with_len 0 (k + 1)) ≡ map Prefix (range_with_len 0 k) ++ Prefix k ∷ []
 prefixes_more k = ap (map Prefix) (range_more k) ∙ map_push Prefix (range_with_len 0 k) k
 
--- a push after what stood
+-- a push after what was there
 pub push_after : {X : Type 0} (now before old more last : List X) → now ≡ before ++ last → before ≡ old ++ more
     → now ≡ old ++ (more ++ last)
 push_after now before old more last e f = e ∙ ap (λ v. v ++ last) f ∙ append_assoc old more last

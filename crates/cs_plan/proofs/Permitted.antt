@@ -78,7 +78,7 @@ picked p a (suc n) = ⊎_elim
     (without_first p a n _ t (picked p (a + 1) n)))
     (cases_Bool (p a))
 
--- a filter of the first places is allowed where it keeps what its places need
+-- a filter of the first places is allowed if it keeps what its places need
 pub kept_allowed : (needs : ℕ → ℕ → Bool) (n j : ℕ) (p : ℕ → Bool) → IsBackward needs → j ≤ n
     → ((i k : ℕ) → needs i k ≡ true → p k ≡ true → p i ≡ true) → IsAllowed needs n (filter p (range_with_len 0 j))
 kept_allowed needs n j p back few keeps =

@@ -22,6 +22,6 @@ all_at P xs k x there all =
 some_none : {X : Type 0} (x : X) → None ≡ Some x → ⊥
 some_none x e = cc e
 
--- who was found stands within the list
+-- what was found is within the list
 pub not_past : {X : Type 0} (xs : List X) (k : ℕ) (x : X) → slice_get xs k ≡ Some x → length xs ≤ k → ⊥
 not_past xs k x there high = some_none x (sym (slice_get_past xs k high) ∙ there)

@@ -68,7 +68,7 @@ remove_most m p = fewer (contains_key m p) (len (remove m p)) (len m) (len-remov
 some_none : {X : Type 0} (x : X) → None ≡ Some x → ⊥
 some_none x e = cc e
 
--- where something stands there is one less without it
+-- if something is there, there is one less without it
 removed : {X : Type 0} (m : FinMap path_cmp X) (p : Path) (x : X) → get m p ≡ Some x → len (remove m p) + 1 ≤ len m
 removed m p x there =
     let less : len (remove m p) ≡ len m - 1 = len-remove path_total m p ∙ ap (λ o. cond (is_some o) (len m - 1) (len m)) there in
@@ -86,7 +86,7 @@ moved_most m p q (Some x) e =
     let more = insert_most (remove m p) q x in
     subst (λ n. len n ≤ len m) (sym same) (omega (arith, less, more))
 
--- where a directory stands there are as many with other rights
+-- if a directory is there, there are as many with other rights
 owned_most : (m : Entries) (p : Path) (rights : Rights) (o : Option Entry) → get m p ≡ o → len (with_rights_at m p rights o) ≤ len m
 owned_most m p rights (Some (states.Directory old)) there =
     let same : len (insert m p (states.Directory rights)) ≡ len m =
@@ -108,7 +108,7 @@ one_more m _ = omega arith
 next : (n : ℕ) → n + 1 ≡ suc n
 next n = omega arith
 
--- one place more, where the set has it or not
+-- one place more, whether the set has it or not
 place_more : (has : ℕ → Bool) (start : State) (ops : List MicroOp) (n most : ℕ) (b : Bool) → has n ≡ b
     → len (run state_after has start ops n).paths ≤ most
     → len (run state_after has start ops (suc n)).paths ≤ most + cond (makes (op_at ops n)) 1 0

@@ -22,11 +22,11 @@ op_lines ops = flat_map (op_line ops) (places_below (length ops))
 abbrev pub recipe_at : Scene → ℕ → Recipe
 recipe_at s number = slice_index_or s.plan number (Prefix 0)
 
--- how many texts are told in its state
+-- how many acknowledged lines its state has
 abbrev pub says_by : Scene → Recipe → ℕ
 says_by s recipe = says_of (micros_of s).ops (set_in (order_in s) recipe)
 
--- `state`, its number, its recipe, and how many texts are told in it
+-- `state`, its number, its recipe, and how many acknowledged lines it has
 abbrev pub state_line : Scene → ℕ → List ℕ
 state_line s number =
     codes "state "

@@ -1,4 +1,4 @@
--- What a scene keeps beside its trace.
+-- What a scene has in addition to its trace.
 use Rattle.std.specs.Prelude.{◌≡◌, Bool, List, length}
 use Rattle.cs_trace.specs.Traces.{Trace}
 use Rattle.cs_micro.specs.Micros.{micros_in}

@@ -51,7 +51,7 @@ holes_of needs n = flat_map (holes_at needs) (places_below n)
 abbrev pub families : (ℕ → ℕ → Bool) → ℕ → Bool → List Recipe
 families needs n holes = prefixes n ++ (if holes then holes_of needs n else [])
 
--- those, and then the picks
+-- the families, and then the picks
 abbrev pub recipes_of : (ℕ → ℕ → Bool) → ℕ → Bool → List (List ℕ) → List Recipe
 recipes_of needs n holes picks = families needs n holes ++ map Pick picks
 

@@ -17,7 +17,7 @@ pub record IsFirstRefused (order : List (List Bool)) (picks : List (List ℕ)) (
   pub before : All (IsAllowedIn order) (take w picks)
   pub refused : ¬ IsAllowedIn order (slice_index_or picks w [])
 
--- the fault that the plan has: its size comes first, then the picks, and want of memory last
+-- the fault that the plan has: its size comes first, then the picks, and out of memory last
 abbrev pub IsRefused : List (List Bool) → Bool → List (List ℕ) → PlanFault → Type 0
 IsRefused order holes picks PlanTooLarge = PLAN_STATES < length (plan_of order holes picks)
 IsRefused order holes picks (PickNotAllowed w) =

@@ -41,7 +41,7 @@ abbrev pub is_say : MicroOp → Bool
 is_say Say = true
 is_say _ = false
 
--- how many texts the application has told, if just these micro-operations were made
+-- how many acknowledged lines there are, if just these micro-operations reached the disk
 abbrev pub says_of : List MicroOp → List ℕ → ℕ
 says_of ops places = count_by (λ place. is_say (op_at ops place)) places
 

@@ -4,39 +4,42 @@ ghost use Rattle.cs_apm.specs.Chains.{IsBackward};
 ghost use Rattle.cs_apm.specs.Orders.{needs_in};
 ghost use Rattle.cs_plan.specs.Plans.{families, holes_at, holes_of, prefixes};
 
-use crate::members::keeps;
+use crate::members::is_kept;
 use crate::recipe::Recipe;
 use cs_apm::Order;
 use cs_names::limits::MICRO_OPERATIONS;
 use std::alloc::{AllocError, Global};
 
-/// How many holes have this last place.
-fn count_at(order: &Order, last: usize) -> usize
+/// How many holes have this last place: one for each earlier place that it doesn't need by any
+/// chain.
+fn count_holes_at(order: &Order, last: usize) -> usize
     requires { last < length order.now }
     ensures value { result ≡ length (holes_at (needs_in order.now) last) }
     ensures small { result ≤ last }
 {
     let mut count = 0usize;
     for missing in 0..last {
-        if keeps(order, missing, last) {
+        if is_kept(order, missing, last) {
             count += 1;
         }
     }
     count
 }
 
+/// How many holes all last places have together. It allocates nothing.
 fn count_holes(order: &Order) -> usize
     ensures value { result ≡ length (holes_of (needs_in order.now) (length order.now)) }
     ensures small { result ≤ 1048576 }
 {
     let mut count = 0usize;
     for last in 0..order.len() {
-        count += count_at(order, last);
+        count += count_holes_at(order, last);
     }
     count
 }
 
-/// How many states the families have. It takes no memory.
+/// How many states the families have: the prefixes, and the holes if they are asked for. It
+/// allocates nothing.
 pub fn count_states(order: &Order, holes: bool) -> usize
     ensures backward { IsBackward (needs_in order.now) }
     ensures value { result ≡ length (families (needs_in order.now) (length order.now) holes) }
@@ -50,6 +53,7 @@ pub fn count_states(order: &Order, holes: bool) -> usize
     }
 }
 
+/// Appends `count` + 1 prefixes, from the empty one to the whole trace.
 fn push_prefixes(recipes: &mut Vec<Recipe>, count: usize) -> Result<(), AllocError>
     requires { count ≤ MICRO_OPERATIONS }
     ensures { OnOk result (recipes.new.items ≡ recipes.old.items ++ prefixes count) }
@@ -60,6 +64,7 @@ fn push_prefixes(recipes: &mut Vec<Recipe>, count: usize) -> Result<(), AllocErr
     Ok(())
 }
 
+/// Appends the holes that have this last place, by their missing place.
 fn push_holes_at(recipes: &mut Vec<Recipe>, order: &Order, last: usize) -> Result<(), AllocError>
     requires inside { last < length order.now }
     requires few { length order.now ≤ MICRO_OPERATIONS }
@@ -67,13 +72,14 @@ fn push_holes_at(recipes: &mut Vec<Recipe>, order: &Order, last: usize) -> Resul
         (recipes.new.items ≡ recipes.old.items ++ holes_at (needs_in order.now) last) }
 {
     for missing in 0..last {
-        if keeps(order, missing, last) {
+        if is_kept(order, missing, last) {
             recipes.push(Recipe::Hole(missing as u32, last as u32 + 1))?;
         }
     }
     Ok(())
 }
 
+/// Appends the holes of every last place, in order.
 fn push_holes(recipes: &mut Vec<Recipe>, order: &Order) -> Result<(), AllocError>
     ensures { OnOk result
         (recipes.new.items ≡ recipes.old.items
@@ -85,7 +91,7 @@ fn push_holes(recipes: &mut Vec<Recipe>, order: &Order) -> Result<(), AllocError
     Ok(())
 }
 
-/// The recipes of the families, in order.
+/// The recipes of the families, in order: the prefixes, then the holes if they are asked for.
 pub fn families_of(alloc: Global, order: &Order, holes: bool) -> Result<Vec<Recipe>, AllocError>
     ensures { IfOk result
         (λ recipes. recipes.items ≡ families (needs_in order.now) (length order.now) holes) }

@@ -16,9 +16,9 @@ use std::fmt;
 pub enum PlanFault {
     /// It would have more than PLAN_STATES states.
     PlanTooLarge,
-    /// A crash can't leave this pick, by its place from 0; it can leave those before it.
+    /// A crash can't leave this pick, by its place from 0. It can leave the earlier picks.
     PickNotAllowed(u32),
-    /// No memory to keep it.
+    /// Out of memory.
     Memory,
 }
 
@@ -51,9 +51,9 @@ pub enum SceneFault {
     TooMany,
     /// Its plan would have more than PLAN_STATES states.
     PlanTooLarge,
-    /// A crash can't leave this pick, by its place from 0; it can leave those before it.
+    /// A crash can't leave this pick, by its place from 0. It can leave the earlier picks.
     PickNotAllowed(u32),
-    /// No memory to keep it.
+    /// Out of memory.
     Memory,
 }
 
@@ -108,7 +108,7 @@ impl std::error::Error for SceneFault {}
 pub enum MakeFault {
     /// The plan has no state of that number.
     NoSuchState,
-    /// No memory to keep it.
+    /// Out of memory.
     Memory,
 }
 

@@ -44,8 +44,7 @@ impl fmt::Display for StateLines<'_> {
 }
 
 /// The list of a scene, as it is printed: a line for each micro-operation, with its place; and then
-/// one for each state, with its number, its recipe, and how many texts the application has told in
-/// it.
+/// one for each state, with its number, its recipe, and how many acknowledged lines it has.
 ///
 /// ```text
 /// op 3 write_block 0 1 0 904

@@ -12,8 +12,9 @@ use cs_micro::MicroOp;
 use cs_names::limits::MICRO_OPERATIONS;
 use std::alloc::{AllocError, Global};
 
-/// Whether the operation at one place stays if that at another is missing.
-pub fn keeps(order: &Order, missing: usize, place: usize) -> bool
+/// Whether the micro-operation at `place` can stay if the one at `missing` is missing: it is
+/// another one, and doesn't need that by any chain.
+pub fn is_kept(order: &Order, missing: usize, place: usize) -> bool
     requires first { missing < length order.now }
     requires second { place < length order.now }
     ensures { result ≡ is_kept (needs_in order.now) missing place }
@@ -21,7 +22,7 @@ pub fn keeps(order: &Order, missing: usize, place: usize) -> bool
     !(missing == place || order.needs_by_chain(missing, place))
 }
 
-/// The places before the end.
+/// The places before the end, ascending.
 fn places_before(alloc: Global, end: u32) -> Result<Vec<u32>, AllocError>
     ensures { IfOk result (λ places. places.items ≡ places_below end) }
 {
@@ -37,7 +38,7 @@ fn hole_of(alloc: Global, order: &Order, missing: u32, end: u32) -> Result<Vec<u
 {
     let mut places = Vec::new(alloc);
     for place in 0..end {
-        if keeps(order, missing as usize, place as usize) {
+        if is_kept(order, missing as usize, place as usize) {
             places.push(place)?;
         }
     }
@@ -56,7 +57,7 @@ pub fn places_of(alloc: Global, order: &Order, recipe: &Recipe) -> Result<Vec<u3
     }
 }
 
-/// Whether a text is told there.
+/// Whether the micro-operation at the place is an acknowledged line.
 fn is_say_at(ops: &[MicroOp], place: u32) -> bool
     requires { place < length ops.now }
     ensures { result ≡ is_say (op_at ops.now place) }
@@ -64,7 +65,7 @@ fn is_say_at(ops: &[MicroOp], place: u32) -> bool
     matches!(&ops[place as usize], MicroOp::Say)
 }
 
-/// How many texts are told before the end.
+/// How many acknowledged lines are before the end.
 fn says_before(ops: &[MicroOp], end: u32) -> u32
     requires { end ≤ length ops.now }
     ensures { result ≡ says_of ops.now (places_below end) }
@@ -78,7 +79,8 @@ fn says_before(ops: &[MicroOp], end: u32) -> u32
     count
 }
 
-/// Whether a text is told there, and isn't missing.
+/// Whether an acknowledged line is at the place, and stays if the micro-operation at `missing` is
+/// missing.
 fn is_kept_say(ops: &[MicroOp], order: &Order, missing: u32, place: u32) -> bool
     requires long { length ops.now ≡ length order.now }
     requires first { missing < length order.now }
@@ -86,10 +88,10 @@ fn is_kept_say(ops: &[MicroOp], order: &Order, missing: u32, place: u32) -> bool
     ensures { result
         ≡ (is_say (op_at ops.now place) && is_kept (needs_in order.now) missing place) }
 {
-    is_say_at(ops, place) && keeps(order, missing as usize, place as usize)
+    is_say_at(ops, place) && is_kept(order, missing as usize, place as usize)
 }
 
-/// How many texts are told in a hole.
+/// How many acknowledged lines a hole has.
 fn says_around(ops: &[MicroOp], order: &Order, missing: u32, end: u32) -> u32
     requires long { length ops.now ≡ length order.now }
     requires first { missing < length order.now }
@@ -105,7 +107,7 @@ fn says_around(ops: &[MicroOp], order: &Order, missing: u32, end: u32) -> u32
     count
 }
 
-/// How many texts are told at these places.
+/// How many acknowledged lines are at these places.
 fn says_among(ops: &[MicroOp], places: &[u32]) -> u32
     requires inside { All (λ place. place < length ops.now) places.now }
     requires few { length places.now ≤ MICRO_OPERATIONS }
@@ -120,7 +122,7 @@ fn says_among(ops: &[MicroOp], places: &[u32]) -> u32
     count
 }
 
-/// How many texts are told in the state.
+/// How many acknowledged lines the state has. It allocates nothing.
 pub fn says_in(ops: &[MicroOp], order: &Order, recipe: &Recipe) -> u32
     requires long { length ops.now ≡ length order.now }
     requires few { length ops.now ≤ MICRO_OPERATIONS }

@@ -36,8 +36,8 @@ impl Model for Plan {
 
 impl Plan {
     /// The plan of an order: its prefixes; then its holes, if they are asked for; then the picks. A
-    /// hole is listed where its last place stays. That the plan is too large, and which pick isn't
-    /// allowed, is found before any memory is taken.
+    /// hole is listed only if its last place stays. PlanTooLarge and PickNotAllowed are found
+    /// before anything is allocated.
     pub fn make(
         alloc: Global,
         order: &Order,
@@ -65,7 +65,7 @@ impl Plan {
         }
     }
 
-    /// How many states there are.
+    /// How many states the plan has.
     pub fn len(&self) -> usize
         ensures value { result ≡ length self.now }
         ensures few { result ≤ PLAN_STATES }
@@ -80,7 +80,7 @@ impl Plan {
         self.recipes.as_slice()
     }
 
-    /// The recipe of the state of that number.
+    /// The recipe of the state of this number; None if the plan has fewer.
     pub fn recipe(&self, number: u32) -> Option<&Recipe>
         ensures { option_copied result ≡ slice_get self.now number }
     {
@@ -88,7 +88,8 @@ impl Plan {
     }
 }
 
-/// The place of the first pick that isn't allowed. It takes no memory.
+/// The place of the first pick that a crash can't leave; None if it can leave each of them. It
+/// allocates nothing.
 fn first_refused(order: &Order, picks: &[Places]) -> Option<usize>
     ensures { MatchOption result (All (IsAllowedIn order.now) picks.now)
         (IsFirstRefused order.now picks.now) }
@@ -101,6 +102,7 @@ fn first_refused(order: &Order, picks: &[Places]) -> Option<usize>
     None
 }
 
+/// Appends a recipe for each pick.
 fn push_picks(recipes: &mut Vec<Recipe>, picks: Vec<Places>) -> Result<(), AllocError>
     ensures { OnOk result (recipes.new.items ≡ recipes.old.items ++ map forms.Pick picks.items) }
 {
@@ -110,6 +112,7 @@ fn push_picks(recipes: &mut Vec<Recipe>, picks: Vec<Places>) -> Result<(), Alloc
     Ok(())
 }
 
+/// The recipes of a plan, by the numbers of the states: the families, then the picks.
 fn recipes_of(
     alloc: Global,
     order: &Order,

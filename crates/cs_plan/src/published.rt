@@ -10,8 +10,8 @@ use std::alloc::Global;
 use std::marker::Model;
 use std::sync::Arc;
 
-/// A state that was made: its tree is that of its number in the scene that it holds. `Scene::make`
-/// alone makes one.
+/// A state that was made: its tree is that of its number in the scene that it has. Only
+/// `Scene::make` makes one.
 #[derive(Drop)]
 pub struct Published {
     number: u32,
@@ -36,6 +36,7 @@ impl Model for Published {
 }
 
 impl Published {
+    /// The state's number in its scene.
     pub fn number(&self) -> u32
         ensures value { result ≡ self.now.number }
         ensures published { IsPublished self.now }
@@ -43,13 +44,14 @@ impl Published {
         self.number
     }
 
+    /// The scene that the state is of.
     pub fn scene(&self) -> &Arc<Scene>
         ensures { arc_value result.now ≡ self.now.scene }
     {
         &self.scene
     }
 
-    /// The state's tree, to be read.
+    /// The state's tree, lent.
     pub fn store(&self) -> &Built
         ensures tree { result.now ≡ self.now.tree }
         ensures published { IsPublished self.now }
@@ -57,7 +59,7 @@ impl Published {
         &self.store
     }
 
-    /// The state's tree, to be kept.
+    /// The state's tree, moved out. The scene is dropped.
     pub fn into_store(self) -> Built
         ensures tree { result ≡ self.tree }
         ensures published { IsPublished self }
@@ -67,8 +69,8 @@ impl Published {
 }
 
 impl Scene {
-    /// The state of that number, made anew. NoSuchState is answered where the plan has none, and
-    /// Memory never in its place.
+    /// Makes the state of this number. The result is NoSuchState if and only if the plan has no
+    /// such number, so it is never Memory instead.
     pub fn make(alloc: Global, scene: &Arc<Scene>, number: u32) -> Result<Published, MakeFault>
         ensures number { IfOk result (λ made. made.number ≡ number) }
         ensures scene { IfOk result (λ made. made.scene ≡ arc_value scene.now) }

@@ -23,13 +23,14 @@ impl Model for Places {
 }
 
 impl Places {
-    /// These places.
+    /// The places of this list.
     pub fn of(places: Vec<u32>) -> Places
         ensures { result ≡ places.items }
     {
         Places { places }
     }
 
+    /// The places in their order.
     pub fn as_slice(&self) -> &[u32]
         ensures { result.now ≡ self.now }
     {
@@ -47,7 +48,7 @@ impl PartialEq for Places {
     }
 }
 
-/// The places with commas between, or `-` for none.
+/// Prints the places with commas between, or `-` for none.
 impl fmt::Display for Places {
     ghost output = { λ places. Some (places_text places) };
 
@@ -66,7 +67,7 @@ impl fmt::Display for Places {
 /// Which micro-operations a state has.
 #[derive(Debug, Drop, PartialEq)]
 pub enum Recipe {
-    /// The first so many.
+    /// The first so many of the trace.
     Prefix(u32),
     /// Those before the second place, without the first place and all that need it by any chain.
     Hole(u32, u32),
@@ -74,7 +75,7 @@ pub enum Recipe {
     Pick(Places),
 }
 
-/// What the list of a plan says of the state, but for its number: its kind, and its places.
+/// Prints the state as the list of a plan does, without its number: its kind, and its places.
 impl fmt::Display for Recipe {
     ghost output = { λ recipe. Some (recipe_text recipe) };
 

@@ -6,42 +6,49 @@ use cs_names::Path;
 use cs_trace::{Node, Operation, Trace, Version};
 use cs_tree_model::Record;
 
+/// Whether the recipes are equal, in the same order.
 pub fn are_same_recipes(recipes: &[Recipe], others: &[Recipe]) -> bool
     ensures { IsTrue result ↔ (recipes.now ≡ others.now) }
 {
     recipes == others
 }
 
+/// Whether the operations are equal, in the same order.
 fn are_same_operations(operations: &[Operation], others: &[Operation]) -> bool
     ensures { IsTrue result ↔ (operations.now ≡ others.now) }
 {
     operations == others
 }
 
+/// Whether the paths and records at the start are equal.
 fn are_same_records(records: &[(Path, Record)], others: &[(Path, Record)]) -> bool
     ensures { IsTrue result ↔ (records.now ≡ others.now) }
 {
     records == others
 }
 
+/// Whether the kinds of the entries at the start, with the files' numbers, are equal.
 fn are_same_nodes(nodes: &[Node], others: &[Node]) -> bool
     ensures { IsTrue result ↔ (nodes.now ≡ others.now) }
 {
     nodes == others
 }
 
+/// Whether the paths of the files at the start are equal.
 fn are_same_paths(paths: &[Path], others: &[Path]) -> bool
     ensures { IsTrue result ↔ (paths.now ≡ others.now) }
 {
     paths == others
 }
 
+/// Whether the linking paths at the start, with their files, are equal.
 fn are_same_links(links: &[(Path, u32)], others: &[(Path, u32)]) -> bool
     ensures { IsTrue result ↔ (links.now ≡ others.now) }
 {
     links == others
 }
 
+/// Whether version, profile and block size are equal.
 fn are_same_versions(version: Version, other: Version) -> bool
     ensures { IsTrue result ↔ (version ≡ other) }
 {
@@ -49,7 +56,7 @@ fn are_same_versions(version: Version, other: Version) -> bool
 }
 
 /// Whether two traces have the same version, with profile and block size, the same start and the
-/// same operations. It takes no memory.
+/// same operations. It allocates nothing.
 pub fn is_same_trace(trace: &Trace, other: &Trace) -> bool
     ensures { IsTrue result ↔ (trace.now ≡ other.now) }
 {

@@ -23,7 +23,7 @@ use std::alloc::Global;
 use std::marker::Model;
 
 /// A trace with its micro-operations, their order, and the plan of its states. What the states
-/// share is found once, when it is made.
+/// share is computed once, when the scene is made.
 #[derive(Drop)]
 pub struct Scene {
     atlas: Atlas,
@@ -44,7 +44,8 @@ impl Model for Scene {
 }
 
 impl Scene {
-    /// The scene of a trace, whose plan has holes if they are asked for, and these picks.
+    /// The scene of a trace. Its plan has the prefixes, the holes if they are asked for, and these
+    /// picks.
     pub fn of(
         alloc: Global,
         trace: Trace,
@@ -67,18 +68,21 @@ impl Scene {
         Ok(Scene { atlas, order, plan })
     }
 
+    /// The trace.
     pub fn trace(&self) -> &Trace
         ensures { result.now ≡ self.now.trace }
     {
         self.atlas.trace()
     }
 
+    /// The trace's micro-operations and sync points.
     pub fn micros(&self) -> &Micros
         ensures { result.now ≡ micros_of self.now }
     {
         self.atlas.micros()
     }
 
+    /// Which micro-operation needs which.
     pub fn order(&self) -> &Order
         ensures value { result.now ≡ order_in self.now }
         ensures long { length result.now ≡ length (micros_of self.now).ops }
@@ -86,7 +90,7 @@ impl Scene {
         &self.order
     }
 
-    /// The plan. A crash may leave each of its states.
+    /// The plan of states. A crash may leave each of them.
     pub fn plan(&self) -> &Plan
         ensures value { result.now ≡ self.now.plan }
         ensures planned { IsPlan (order_in self.now) self.now.plan }
@@ -94,8 +98,8 @@ impl Scene {
         &self.plan
     }
 
-    /// How many texts the application has told in the state of that number, if there is one. It
-    /// takes no memory.
+    /// How many acknowledged lines the state of this number has; None if the plan has no such
+    /// number. It allocates nothing.
     pub fn says(&self, number: u32) -> Option<u32>
         ensures { result ≡ says_at self.now number }
     {
@@ -103,7 +107,7 @@ impl Scene {
         Some(says_in(self.atlas.micros().ops(), &self.order, recipe))
     }
 
-    /// Whether two scenes have the same trace and the same plan. It takes no memory, but looks at
+    /// Whether two scenes have the same trace and the same plan. It allocates nothing, but compares
     /// all of both.
     pub fn has_content_of(&self, other: &Scene) -> bool
         ensures { IsTrue result ↔ (self.now ≡ other.now) }
@@ -112,7 +116,7 @@ impl Scene {
             && are_same_recipes(self.plan.recipes(), other.plan.recipes())
     }
 
-    /// The store of the state of that number.
+    /// The store of the state of this number. NoSuchState if the plan has no such number.
     pub(crate) fn build(&self, alloc: Global, number: u32) -> Result<Built, MakeFault>
         ensures state { IfOk result (λ tree. state_at self.now number ≡ Some tree) }
         ensures tree { IfOk result IsTree }

@@ -1,4 +1,4 @@
--- What workers publish.
+-- How many workers there may be, and what they publish.
 use Rattle.std.specs.Prelude.{ℕ, ⊤, ◌&&◌, Bool, true, nat_le, List, [], length, replicate}
 use Rattle.cs_names.specs.declared.limits.TheConstants.{WORKERS}
 use Rattle.cs_plan.specs.Scenes.{Scene}
@@ -22,8 +22,8 @@ all_published scene users =
       runs = [];
     }
 
--- states of the scene may be published in a server's registry of it: by its type, if that knows no
--- other scene
+-- states of the scene may be published in a server's registry of it: without comparing contents
+-- only if the server's type allows no other scene
 abbrev pub MayPublish : (Scene → Type 0) → Known → Scene → Type 0
 MayPublish is_scene ByType scene = IsOnly is_scene scene
 MayPublish is_scene ByContent scene = ⊤

@@ -1,4 +1,4 @@
-//! The workers: each takes numbers from one channel, makes their states, and sends these.
+//! The workers: each takes numbers from one channel, makes their states, and sends them.
 ghost use Rattle.std.specs.Prelude.{◌≡◌};
 ghost use Rattle.cs_publish.specs.Crews.{is_crew};
 
@@ -12,17 +12,17 @@ use std::alloc::Global;
 use std::sync::Wait;
 use std::thread::Scope;
 
-/// How many states may wait to be published.
+/// How many made states may wait to be published.
 const STATES_IN_FLIGHT: u32 = 64;
 
-/// Whether there may be so many workers.
+/// Whether this number of workers is allowed: from 1 to WORKERS.
 pub(crate) fn is_crew(workers: u32) -> bool
     ensures { result ≡ is_crew workers }
 {
     workers >= 1 && workers <= WORKERS
 }
 
-/// The numbers below this one, in ascending order, to be taken by workers.
+/// A channel with the numbers below `count`, in ascending order, for the workers to take.
 pub(crate) fn numbers_below<R: Wait>(
     rt: &R,
     alloc: Global,
@@ -39,8 +39,8 @@ pub(crate) fn numbers_below<R: Wait>(
     Ok(numbers)
 }
 
-/// Makes the states of the numbers that it takes, one after the other, until none is left or nobody
-/// takes the states any more. A number that the plan hasn't is lost.
+/// A worker's loop: takes a number, makes its state and sends it, until no number is left or the
+/// receiver of the states is dropped. It skips a number that the plan doesn't have.
 fn work<N: Staged, R: Wait, G: Gate>(
     rt: &R,
     alloc: Global,
@@ -53,19 +53,19 @@ fn work<N: Staged, R: Wait, G: Gate>(
         let Ok(number) = numbers.recv(rt) else {
             return;
         };
-        let told = match stage.make(alloc, ask(gate, number)) {
+        let made = match stage.make(alloc, ask(gate, number)) {
             Ok(state) => FromWorker::State(state),
             Err(MakeFault::Memory) => FromWorker::NoMemory,
             Err(MakeFault::NoSuchState) => continue,
         };
-        if states.send(rt, told).is_err() {
+        if states.send(rt, made).is_err() {
             return;
         }
     }
 }
 
-/// Starts so many workers, and gives the end where their states come out. They end with the
-/// numbers, or when that end is dropped.
+/// Starts `workers` workers, and returns the receiver of their states. They end when no number is
+/// left, or when the receiver is dropped.
 pub(crate) fn hire<'s, E, N: Staged, R: Wait + Sync, G: Gate>(
     scope: &'s Scope<'s, E>,
     rt: &'s R,
@@ -90,7 +90,8 @@ pub(crate) fn hire<'s, E, N: Staged, R: Wait + Sync, G: Gate>(
     Ok(made)
 }
 
-/// The next state that a worker made.
+/// Waits for the next state that a worker made. Lost if a worker ran out of memory, or if all have
+/// ended.
 pub(crate) fn next_made<N: Staged, R: Wait>(
     rt: &R,
     made: &Receiver<FromWorker<N>>,

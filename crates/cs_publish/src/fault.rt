@@ -1,25 +1,25 @@
-//! Why states aren't all published.
+//! Why not all states could be published.
 ghost use Rattle.std.specs.Prelude.{◌≢◌};
 
-/// Why states aren't all published.
+/// Why not all states could be published.
 #[derive(Clone, Copy, Debug, PartialEq, Eq)]
 pub enum PublishAllFault {
-    /// There are no workers, or more than WORKERS.
+    /// The number of workers is 0 or above WORKERS.
     Workers,
-    /// No memory, or no thread could be made.
+    /// Out of memory, or no thread could be started.
     Memory,
-    /// A number or a state was lost on its way.
+    /// A number or a state was lost between threads.
     Channel,
 }
 
-/// Why what workers make doesn't come.
+/// Why a state doesn't come from the workers.
 #[derive(Clone, Copy, Debug, PartialEq, Eq)]
 pub(crate) enum Lost {
     Memory,
     Channel,
 }
 
-/// The fault that a caller gets for it.
+/// The fault that a caller gets for a lost state.
 pub(crate) fn fault_of(lost: Lost) -> PublishAllFault
     ensures { result ≢ PublishAllFault.Workers }
 {

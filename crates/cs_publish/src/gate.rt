@@ -1,35 +1,36 @@
-//! What is asked before a state is made.
+//! A gate that workers ask before they make a state.
 ghost use Rattle.std.specs.Prelude.{◌≡◌, ℕ};
 
 use std::marker::Model;
 
-/// Is asked before each state is made, by the worker that makes it.
+/// A gate that each worker asks before it makes a state.
 pub trait Gate: Sync {
-    /// It was asked about the number.
+    /// The gate was asked about the number.
     ghost asked: { Self → ℕ → Type 0 } = { λ gate number. Unit {0} };
 
-    /// Is called with the state's number. It may hold the worker up.
+    /// Called with the number of a state before that is made. It may block the worker.
     fn before(&self, number: u32)
         ensures { asked self.now number };
 }
 
-/// Holds nobody up.
+/// A gate that never blocks.
 #[derive(Clone, Copy)]
 pub struct NoGate;
 
 impl Gate for NoGate {
+    /// Returns at once.
     fn before(&self, _number: u32) {}
 }
 
-/// A number that the gate was asked about: `ask` alone makes one, and a state is made of nothing
-/// else. Contracts see the number.
+/// A number about which the gate was asked. Only `ask` makes one, and a state is made only from
+/// one. Contracts see the number.
 #[derive(Drop)]
-pub(crate) struct LetThrough<'g, G: Gate> {
+pub(crate) struct AskedNumber<'g, G: Gate> {
     gate: &'g G,
     number: u32,
 }
 
-impl<'g, G: Gate> Model for LetThrough<'g, G> {
+impl<'g, G: Gate> Model for AskedNumber<'g, G> {
     ghost use Rattle.std.specs.Prelude.{ℕ};
 
     ghost Value = { ℕ };
@@ -39,16 +40,17 @@ impl<'g, G: Gate> Model for LetThrough<'g, G> {
     ghost invariant = { λ passed. G.asked passed.gate.now passed.number };
 }
 
-/// Asks the gate about the number.
-pub(crate) fn ask<G: Gate>(gate: &G, number: u32) -> LetThrough<'_, G>
+/// Asks the gate about the number, and returns the permission to make that state.
+pub(crate) fn ask<G: Gate>(gate: &G, number: u32) -> AskedNumber<'_, G>
     ensures { result ≡ number }
 {
     gate.before(number);
-    LetThrough { gate, number }
+    AskedNumber { gate, number }
 }
 
-impl<G: Gate> LetThrough<'_, G> {
-    pub(crate) fn number(self) -> u32
+impl<G: Gate> AskedNumber<'_, G> {
+    /// Uses the permission up: the number of the state to make.
+    pub(crate) fn into_number(self) -> u32
         ensures { result ≡ self.entry }
     {
         self.number

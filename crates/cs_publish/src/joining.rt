@@ -1,4 +1,4 @@
-//! The states of a scene, published in a registry that threads share, while others use it.
+//! Publishing a scene's states in a shared registry, while other threads use it.
 ghost use Rattle.std.specs.Prelude.{◌≡◌, ◌↔◌, ◌≤◌, false, length, IfOk, IsErrOf};
 ghost use Rattle.std.specs.Arc.{arc_value};
 ghost use Rattle.cs_publish.specs.Crews.{MayPublish, is_crew};
@@ -18,17 +18,17 @@ use std::sync::{Arc, Wait};
 use std::thread;
 use std::thread::Threads;
 
-/// How it is known that a state is one of the registry's scene.
+/// Why a state is one of the registry's scene.
 #[derive(Clone, Copy, PartialEq, Eq)]
 pub(crate) enum Known {
-    /// The server's type knows no other scene.
+    /// The server's type allows no other scene.
     ByType,
-    /// The contents of the scenes are compared.
+    /// The registry compares the contents of the two scenes.
     ByContent,
 }
 
-/// Publishes so many states that the workers make, each under a lock of its own: how many weren't
-/// published before.
+/// Publishes `count` states that the workers make, each under its own lock of the registry. Returns
+/// how many of them weren't published before.
 fn collect_into<S: ServerBrand, N: Staged, R: Wait>(
     rt: &R,
     alloc: Global,
@@ -52,7 +52,7 @@ fn collect_into<S: ServerBrand, N: Staged, R: Wait>(
     Ok(published)
 }
 
-/// Publishes a state of the registry's scene: 1, or 0 if it was published before.
+/// Publishes a state of the registry's scene. Returns 1, or 0 if it was published before.
 fn publish_one<S: ServerBrand, R: Wait>(
     rt: &R,
     alloc: Global,
@@ -72,11 +72,13 @@ fn publish_one<S: ServerBrand, R: Wait>(
         Ok(()) => Ok(1),
         Err(PublishFault::Twice) => Ok(0),
         Err(PublishFault::Memory) => Err(Lost::Memory),
+        // not unreachable by contract: none says which scene is under the lock, so a comparison of
+        // contents might fail
         Err(PublishFault::Stranger) => Err(Lost::Channel),
     }
 }
 
-/// Publishes the states of so many numbers, made by so many workers.
+/// Starts the workers and publishes `count` states that they make of these numbers.
 fn gather_into<'s, S: ServerBrand, N: Staged, R: Threads + Wait + Sync, G: Gate>(
     rt: &'s R,
     alloc: Global,
@@ -106,7 +108,8 @@ fn gather_into<'s, S: ServerBrand, N: Staged, R: Threads + Wait + Sync, G: Gate>
     )
 }
 
-/// The same for a scene that the type names, which is the registry's.
+/// Publishes all states of the scene that N names, which is the registry's. Returns how many
+/// weren't published before.
 fn publish_scene_into<S: ServerBrand, N: Staged, R: Threads + Wait + Sync, G: Gate>(
     rt: &R,
     alloc: Global,
@@ -129,7 +132,8 @@ fn publish_scene_into<S: ServerBrand, N: Staged, R: Threads + Wait + Sync, G: Ga
     )
 }
 
-/// The same for the registry's scene, by as many workers as there may be.
+/// Publishes all states of the registry's scene, if the number of workers is allowed. Returns how
+/// many weren't published before.
 fn publish_by<S: ServerBrand, R: Threads + Wait + Sync, G: Gate>(
     rt: &R,
     alloc: Global,
@@ -153,11 +157,11 @@ fn publish_by<S: ServerBrand, R: Threads + Wait + Sync, G: Gate>(
     )
 }
 
-/// Publishes the states of the registry's scene, made by so many workers, while other threads may
-/// use the registry: how many it published. Each is published as soon as it is made, and one that
-/// is published already is passed over. The faults are those of `publish_all`; what was published
-/// before one stays. The content of a state's scene is compared with the registry's, which is slow
-/// for a large trace.
+/// Publishes all states of the registry's scene, made by `workers` threads, while other threads may
+/// use the registry. Returns how many it published; one that is published already is skipped. Each
+/// is published as soon as it is made. The faults are those of `publish_all`; what was published
+/// before a fault stays. The registry compares the content of each state's scene with its own,
+/// which is slow for a large trace.
 pub fn publish_into<S: ServerBrand, R: Threads + Wait + Sync, G: Gate>(
     rt: &R,
     alloc: Global,
@@ -171,7 +175,8 @@ pub fn publish_into<S: ServerBrand, R: Threads + Wait + Sync, G: Gate>(
     publish_by(rt, alloc, registry, Known::ByContent, workers, gate)
 }
 
-/// The same for a registry whose type knows no other scene: no content is compared.
+/// Publishes as `publish_into` does, in a registry whose type allows no other scene: contents
+/// aren't compared.
 pub fn publish_own_into<S: ServerBrand, R: Threads + Wait + Sync, G: Gate>(
     rt: &R,
     alloc: Global,

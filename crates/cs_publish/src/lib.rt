@@ -1,4 +1,4 @@
-//! Workers that make the states of a scene, and publish them.
+//! Making and publishing the states of a scene by several threads.
 #![tactic(auto)]
 
 mod crew;

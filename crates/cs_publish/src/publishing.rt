@@ -1,4 +1,4 @@
-//! All states of a scene, made by several workers.
+//! Publishing all states of a scene in a new registry.
 ghost use Rattle.std.specs.Prelude.{◌≡◌, ◌↔◌, false, IfOk, IsErrOf};
 ghost use Rattle.std.specs.Arc.{arc_value};
 ghost use Rattle.cs_publish.specs.Crews.{all_published, is_crew};
@@ -19,7 +19,7 @@ use std::sync::{Arc, Wait};
 use std::thread;
 use std::thread::Threads;
 
-/// Publishes what the workers make, until nothing is missing.
+/// Publishes the states that the workers make until none is missing.
 fn collect<H: Held, N: Staged, R: Wait>(
     rt: &R,
     alloc: Global,
@@ -35,6 +35,7 @@ fn collect<H: Held, N: Staged, R: Wait>(
         match states.publish_own(alloc, state.into_state()) {
             Ok(()) => continue,
             Err(PublishFault::Memory) => return Err(Lost::Memory),
+            // either would mean that a number went wrong between threads
             Err(PublishFault::Twice | PublishFault::Stranger) => {
                 return Err(Lost::Channel);
             }
@@ -43,7 +44,7 @@ fn collect<H: Held, N: Staged, R: Wait>(
     Ok(states)
 }
 
-/// Publishes the states of these numbers, made by so many workers.
+/// Starts the workers and publishes all states, which they make of these numbers.
 fn gather<'s, H: Held, N: Staged, R: Threads + Wait + Sync, G: Gate>(
     rt: &'s R,
     alloc: Global,
@@ -71,7 +72,7 @@ fn gather<'s, H: Held, N: Staged, R: Threads + Wait + Sync, G: Gate>(
     )
 }
 
-/// The same for a scene that the type names.
+/// A registry of the scene that N names, with all its states published.
 fn publish_scene<H: Held, N: Staged, R: Threads + Wait + Sync, G: Gate>(
     rt: &R,
     alloc: Global,
@@ -97,10 +98,10 @@ fn publish_scene<H: Held, N: Staged, R: Threads + Wait + Sync, G: Gate>(
     gather(rt, alloc, states, &stage, &numbers, workers, gate)
 }
 
-/// A registry of the scene's states, every one of which is published, whose runs have these users.
-/// The states are made by so many workers: each takes the next number, calls the gate with it, and
-/// makes its state. The fault is Workers if there are none or more than WORKERS; then Memory, also
-/// if no thread can be made; then Channel, if a number or a state is lost on its way.
+/// A registry of the scene with all its states published, whose runs have these users. The states
+/// are made by `workers` threads: each takes the next number, asks the gate about it, and makes its
+/// state. Workers if their number is 0 or above WORKERS; otherwise it may be Memory (also if no
+/// thread can be started), or Channel if a number or a state is lost between threads.
 pub fn publish_all<H: Held, R: Threads + Wait + Sync, G: Gate>(
     rt: &R,
     alloc: Global,

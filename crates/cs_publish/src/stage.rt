@@ -1,17 +1,18 @@
-//! A scene that a type names, and the states that are made in it.
+//! A scene that a type names, and the states made in it.
 ghost use Rattle.std.specs.Prelude.{◌≡◌, IfOk};
 ghost use Rattle.std.specs.Arc.{arc_value};
 ghost use Rattle.cs_plan.specs.Scenes as model;
 
-use crate::gate::{Gate, LetThrough};
+use crate::gate::{AskedNumber, Gate};
 use cs_plan::{MakeFault, Published, Scene};
 use std::alloc::Global;
 use std::marker::{Brand, Model, PhantomData};
 use std::sync::Arc;
 
-/// Names a scene, so that what a thread is sent can say by its type in which scene it was made.
+/// Names a scene by a type, so that the type of a state from another thread says in which scene it
+/// was made.
 pub(crate) trait Staged: Send + Sync {
-    /// Whether it is the scene.
+    /// Whether a scene is the one that the type names.
     ghost is_scene: { model.Scene → Type 0 };
 }
 
@@ -37,7 +38,7 @@ impl<N: Staged> Model for Stage<N> {
     ghost invariant = { λ stage. N.is_scene (arc_value stage.scene) };
 }
 
-/// A state that was made in the scene that the type names. It may come from any thread.
+/// A state made in the scene that the type names, perhaps by another thread.
 #[derive(Drop)]
 pub(crate) struct Made<N: Staged> {
     state: Published,
@@ -58,7 +59,7 @@ impl<N: Staged> Model for Made<N> {
     ghost invariant = { λ made. N.is_scene made.state.scene };
 }
 
-/// What a worker sends for a number: the state, or that there was no memory for it.
+/// What a worker sends for a number: its state, or that memory ran out.
 #[derive(Drop)]
 pub(crate) enum FromWorker<N: Staged> {
     State(Made<N>),
@@ -66,6 +67,7 @@ pub(crate) enum FromWorker<N: Staged> {
 }
 
 impl<N: Staged> Stage<N> {
+    /// This scene, under the name of the type.
     pub(crate) fn new(scene: Arc<Scene>) -> Stage<N>
         requires { N.is_scene (arc_value scene) }
         ensures { result ≡ arc_value scene }
@@ -76,16 +78,16 @@ impl<N: Staged> Stage<N> {
         }
     }
 
-    /// Makes the state of that number.
+    /// Makes the state of a number about which the gate was asked.
     pub(crate) fn make<G: Gate>(
         &self,
         alloc: Global,
-        number: LetThrough<'_, G>,
+        asked: AskedNumber<'_, G>,
     ) -> Result<Made<N>, MakeFault>
-        ensures number { IfOk result (λ made. made.number ≡ number.entry) }
+        ensures number { IfOk result (λ made. made.number ≡ asked.entry) }
         ensures scene { IfOk result (λ made. made.scene ≡ self.now) }
     {
-        let state = Scene::make(alloc, &self.scene, number.number())?;
+        let state = Scene::make(alloc, &self.scene, asked.into_number())?;
         Ok(Made {
             state,
             of: PhantomData,

@@ -24,7 +24,7 @@ changed new runs place key run there =
     set_is runs place key run (new run) there ∙ sym
     (ap (λ found. option_map_or (λ entry. slice_set runs place (entry.0, new entry.1)) found runs) there)
 
--- and as it was, where the value is the same
+-- and is as it was, if the value is the same
 pub unchanged : {K X : Type 0} (es : List (K × X)) (place : ℕ) (k : K) (x : X) → slice_get es place ≡ Some (k, x)
     → set_value_at es place x ≡ es
 unchanged [] place k x there = refl
@@ -39,7 +39,7 @@ pub room_at : {H : Type 0} (runs : Runs H) (place : ℕ) (key : Key) (run : Foun
 room_at {H} runs place key run there =
     ap (λ (found : Option (Key × Found H)). option_map_or (nat_le RUN_ATTACHES) (option_map (λ e. e.1.finds) found) false) there
 
--- a key that has no place is none of the map's, and comes last
+-- a key that has no place isn't in the map, and comes last
 pub added : {H : Type 0} (runs : Runs H) (key : Key) (run : Found H) → place_of key runs ≡ None
     → insert_entry same_key runs key run ≡ runs ++ (key, run) ∷ []
 added runs key run absent = insert_entry-absent same_key key run runs (Missing-position (same_key key) runs absent).absent

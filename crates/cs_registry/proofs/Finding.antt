@@ -1,4 +1,4 @@
--- What a find answers, case by case.
+-- What a find returns, case by case.
 use Rattle.std.proofs.Common.{◌≡◌, ◌∙◌, ◌<◌, ◌≤◌, ℕ, zero, suc, true, false, List, [], ◌∷◌, length, Option, None, Some, is_some, refl, sym}
 use Rattle.std.proofs.Common.{ap, arith}
 use Rattle.std.specs.Prelude.{Result, Ok, Err, IfErr, IfOk, map, slice_get, slice_index_or, unwrap_or}
@@ -83,7 +83,7 @@ module _ {H : Type 0} (is_fresh : Key → Tree → List Row → H → Type 0) (r
 
 -- ---- what is stored
 
--- a state is published where there is one
+-- a state is published if there is one at its place
 pub published_is : {A : Type 0} (states : List (Option A)) (n : ℕ) (o : Option A) → o ≡ unwrap_or (slice_get states n) None
     → slice_index_or (map is_some states) n false ≡ is_some o
 published_is states n o is = get_or-map is_some states n None ∙ ap is_some (sym (is ∙ unwrap_or-slice_get states n None))

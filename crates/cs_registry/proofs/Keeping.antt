@@ -56,7 +56,7 @@ module _ {H A : Type 0} (scene : Scene) (states : List (Option A)) (runs : Runs 
     runs = none i;
   }
 
--- ---- one state more
+-- ---- one more state
 
 -- one less is missing
 pub one_less : (published : List Bool) (n : ℕ) → n < length published → slice_index_or published n false ≡ false

@@ -1,4 +1,4 @@
--- What finding the run of a key gives.
+-- What a find of the run of a key returns and leaves.
 use Rattle.std.specs.Prelude.{◌≡◌, ◌≢◌, ℕ, not, List, length, if◌then◌else◌, slice_get}
 use Rattle.std.specs.Prelude.{IfSome, IsSomeAnd, Option, None, Some, Result, Ok, Err}
 use Rattle.std.specs.Option.{option_map_or}

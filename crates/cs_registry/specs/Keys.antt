@@ -11,7 +11,7 @@ pub record Key : Type 0 where
 abbrev pub same_key : Key → Key → Bool
 same_key k l = nat_eq k.number l.number && same_bytes k.name l.name
 
--- keys that are the same are alike
+-- keys that are the same are interchangeable
 pub same_key-laws : IsEquivalence same_key
 same_key-laws =
     and_equiv (on_equiv (λ (key : Key). key.number) nat_eq_equiv)

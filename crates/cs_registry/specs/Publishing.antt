@@ -14,7 +14,7 @@ module _ {H : Type 0} where
   with_published registry number =
       record registry { published = slice_set registry.published number true }
 
-  -- what is answered, and what is left: Stranger comes first, then Twice, and out of memory last
+  -- the result, and the registry after it: Stranger comes first, then Twice, and out of memory last
   abbrev pub Publishes : Registry H → Published → Result Unit PublishFault → Registry H → Type 0
   Publishes old state (Ok _) new =
       IsStateOf old.scene state × (is_published old state.number ≡ false)

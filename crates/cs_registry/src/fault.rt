@@ -1,12 +1,12 @@
-//! Why a state isn't published.
+//! Why a state couldn't be published.
 
-/// Why a state isn't published.
+/// Why a state couldn't be published.
 #[derive(Clone, Copy, Debug, PartialEq, Eq)]
 pub enum PublishFault {
-    /// It is none of the plan, or was made in a scene of other content.
+    /// The plan has no such number, or the state was made in a scene of other content.
     Stranger,
-    /// A state of that number is published.
+    /// A state of that number is published already.
     Twice,
-    /// No memory to keep it.
+    /// Out of memory.
     Memory,
 }

@@ -1,6 +1,6 @@
-//! What is kept of a run that was found.
+//! A run that was found, and how often.
 
-/// How often a run was found, and what is kept of it.
+/// What a registry keeps of a run, and how often the run was found.
 #[derive(Drop)]
 pub struct Found<H> {
     pub finds: u32,

@@ -13,13 +13,14 @@ use std::sync::Arc;
 
 /// What a registry keeps of each run, made when the run is found for the first time.
 pub trait Held: Drop {
-    /// Which trees may be published under a number.
+    /// The trees that may be published under a number.
     ghost admits: { ℕ → Tree → Type 0 };
 
-    /// The value is new: of that key, over that tree, with those users.
+    /// The value is that of a new run of the key, over the tree, with the users.
     ghost is_fresh: { Key → Tree → List Row → Self → Type 0 };
 
-    /// What is kept of the new run of a key, over the tree of its state, which all its runs share.
+    /// What is kept of a new run of that key, over the tree of its state, which all runs of the
+    /// state share.
     fn fresh(
         alloc: Global,
         key: &RunKey,

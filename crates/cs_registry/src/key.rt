@@ -15,11 +15,11 @@ use cs_permit::TreeName;
 use std::hash::{Hash, Hasher};
 use std::marker::Model;
 
-/// The most digits of a state's number.
+/// A state's number has at most so many digits.
 const NUMBER_DIGITS: usize = 5;
 
-/// What names a run: the number of its state, and its own name. It takes no memory, so a run can be
-/// looked for without any.
+/// What names a run: the number of its state, and its own name. It needs no memory on the heap, so
+/// a lookup can't run out of it.
 #[derive(Drop)]
 pub struct RunKey {
     number: u32,
@@ -46,7 +46,7 @@ impl RunKey {
         }
     }
 
-    /// The key of the run whose name the bytes spell; None if they spell none.
+    /// The key of the run of that name; None if the bytes aren't a run's name.
     pub fn read(number: u32, name: &[u8]) -> Option<RunKey>
         ensures { MatchOption result (is_run_name name.now ≡ false)
             (λ key. (is_run_name name.now ≡ true)
@@ -64,9 +64,9 @@ impl RunKey {
         }
     }
 
-    /// The key of the run that a tree's name names; None if its parts are no number of at most
-    /// five digits, or no run's name. It takes no memory.
-    pub fn named(name: &TreeName) -> Option<RunKey>
+    /// The key of the run that a tree's name means; None if its parts aren't a number of at most
+    /// five digits and a run's name.
+    pub fn of_tree_name(name: &TreeName) -> Option<RunKey>
         ensures { result ≡ key_in name.now.state.now name.now.run.now }
     {
         if !are_few_digits(name.state) {
@@ -75,7 +75,7 @@ impl RunKey {
         RunKey::read(number_in(name.state), name.run)
     }
 
-    /// The same key. It takes no memory.
+    /// A copy of the key.
     pub fn again(&self) -> RunKey
         ensures { result ≡ self.now }
     {
@@ -125,7 +125,7 @@ impl Hash for RunKey {
     }
 }
 
-/// A name of a run, in place.
+/// A run's name in a fixed array.
 fn short_name(name: &str) -> ArrayString<RUN_NAME_BYTES>
     requires { length name.now ≤ RUN_NAME_BYTES }
     ensures { result.bytes ≡ name.now }
@@ -136,13 +136,14 @@ fn short_name(name: &str) -> ArrayString<RUN_NAME_BYTES>
     }
 }
 
+/// Whether these are decimal digits, and no more than a state's number may have.
 fn are_few_digits(bytes: &[u8]) -> bool
     ensures { result ≡ are_few_digits bytes.now }
 {
     bytes.len() <= NUMBER_DIGITS && has_digits_alone(bytes)
 }
 
-/// The number that a few decimal digits spell.
+/// The number that these decimal digits mean, 0 without a digit.
 fn number_in(digits: &[u8]) -> u32
     requires { are_few_digits digits.now ≡ true }
     ensures { result ≡ number_in digits.now }

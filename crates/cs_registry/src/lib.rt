@@ -1,4 +1,4 @@
-//! The published states of a scene, and the runs that were made of them.
+//! The published states of a scene, and the runs over them.
 #![tactic(auto)]
 
 mod fault;

@@ -1,4 +1,4 @@
--- Where an open stands among opens whose numbers ascend, and what numbers a call leaves.
+-- The place of an open among opens whose numbers ascend, and the numbers that a call leaves.
 use Rattle.std.proofs.Common.{◌≡◌, ◌≢◌, ℕ, suc, ◌+◌, ◌<◌, ◌≤◌, ◌&&◌, ◌==◌, Bool, true, false, List, [], ◌∷◌, length, get_or, Option, Some}
 use Rattle.std.proofs.Common.{None, Ok, Err, refl, sym, ap, arith, drop}
 use Rattle.std.proofs.lemmas.Bool.Decides.{nat_tests}
@@ -22,7 +22,7 @@ use Rattle.cs_run.specs.declared.answer.Outcome.{Outcome}
 use Rattle.cs_run.specs.declared.answer.Outcome.TheVariants as out
 use Rattle.cs_run.specs.declared.turn.Turn.{Turn}
 
--- an element that passes, after such as don't, is the first
+-- an element that passes, after elements that don't, is the first
 position_at : {X : Type 0} (p : X → Bool) (xs : List X) (i : ℕ) → i < length xs → ((d : X) → p (get_or xs i d) ≡ true)
     → ((k : ℕ) (d : X) → k < i → p (get_or xs k d) ≡ false) → position p xs ≡ Some i
 position_at p [] i within here before = absurd (omega arith)
@@ -51,12 +51,12 @@ module _ (opens : List OpenFile) (ascending : IsAscending opens) (number : ℕ) 
       grind (arith, ascending i j d, λ (same : i ≡ j). ap (λ k. (get_or opens k d).number) same) in
       grind (arith, nat_tests)
 
-  -- where the search finds a place, the number stands there
+  -- if the search finds a place, the number is there
   pub found : (at : ℕ) → IsBinarySearchResult (λ o. nat_cmp o.number number) opens (Ok at) → (d : OpenFile)
       → (get_or opens at d).number ≡ number
   found at equal d = ranked _ number _ (sym (equal d))
 
-  -- where it finds none, the number stands nowhere
+  -- if it finds none, the number is nowhere
   pub nowhere : (at : ℕ) → IsBinarySearchResult (λ o. nat_cmp o.number number) opens (Err at) → All (λ o. o.number ≢ number) opens
   nowhere at parted k d inside same =
       let below : k < at → (get_or opens k d).number < number = λ lt. ranked _ number _ (sym ((parted rises).0 k d (omega arith) lt)) in

@@ -1,4 +1,4 @@
--- Where opens that lie in blocks stand among all.
+-- The places among all opens of those that are kept in blocks.
 use Rattle.std.proofs.Common.{◌≡◌, ◌≢◌, ◌∙◌, ℕ, zero, suc, ◌+◌, ◌-◌, ◌<◌, ◌≤◌, ◌==◌, Bool, true, false, List, [], ◌∷◌, ◌++◌, length, get_or}
 use Rattle.std.proofs.Common.{take, drop, set, Some, None, refl, sym, ap, arith, append_assoc, length-append}
 use Rattle.std.proofs.Math.Seq.{take-suc}
@@ -16,7 +16,7 @@ use Rattle.std.specs.Option.{option_map_or}
 use Rattle.std.specs.Prelude.{nat_lt, slice_get}
 use Rattle.cs_permit.specs.Opens.{is_open as is_on}
 use Rattle.cs_permit.specs.declared.call.OpenFile.{OpenFile}
-use Rattle.cs_run.specs.Blocks.{AreFilled, Block, InBlocks, Stands, count_before, ends_below, all_opens, last_room}
+use Rattle.cs_run.specs.Blocks.{AreFilled, Block, InBlocks, HasOpen, count_before, ends_below, all_opens, last_room}
 use Rattle.cs_run.proofs.Ascending.{of_another, own_open, unnumbered}
 use Rattle.cs_run.specs.Opens.{AreBelow, IsAscending, is_open}
 
@@ -45,7 +45,7 @@ some_last n [] e = absurd cc
 some_last n (x ∷ xs) e = omega arith
 
 module _ (n : ℕ) (b : Block) where
-  -- its last open stands at the place before its end
+  -- its last open is at the place before its end
   last_test : (d : OpenFile) → 0 < length b.items → ends_below n b ≡ nat_lt (get_or b.items (length b.items - 1) d).number n
   last_test d some = rw (slice_get-get_or b.items (length b.items - 1) d (omega arith)) refl
 
@@ -78,7 +78,7 @@ upto_last opens ascending q last n d le within less =
     grind (arith, ascending q last d, λ (same : q ≡ last). ap (λ k. (get_or opens k d).number) same)
 
 module _ (blocks : List Block) where
-  -- where the open at a place of a block stands among all
+  -- the place among all of the open at a place of a block
   pub at_joined : (i j : ℕ) (b : Block) (d : OpenFile) → i < length blocks → j < length (get_or blocks i b).items
       → get_or (all_opens blocks) (count_before blocks i + j) d ≡ get_or (get_or blocks i b).items j d
   at_joined i j b d within inside = get_or-flat_map (λ x. x.items) blocks i j b d within inside
@@ -160,7 +160,7 @@ module _ (blocks : List Block) where
           ascending (count_before blocks i + (length own.items - 1)) q d (omega arith) within in
           omega arith
 
-      -- where no open before the block, in it, or after it has the number, none has
+      -- if no open before the block, in it, or after it has the number, none has
       missing : (i : ℕ) (b : Block) → i < length blocks → ((k : ℕ) → k < i → ends_below n (get_or blocks k b) ≡ true)
           → ends_below n (get_or blocks i b) ≡ false → All (λ o. o.number ≢ n) (get_or blocks i b).items
           → All (λ o. o.number ≢ n) (all_opens blocks)
@@ -176,7 +176,7 @@ module _ (blocks : List Block) where
           lacks (q - count_before blocks i) d (omega arith)
           (sym (ap (λ o. o.number) at) ∙ ap (λ k. (get_or (all_opens blocks) k d).number) place ∙ same)
 
-      -- where all blocks end below it, none has
+      -- if all blocks end below it, none has
       past_all : (b : Block) → ((k : ℕ) → k < length blocks → ends_below n (get_or blocks k b) ≡ true)
           → All (λ o. o.number ≢ n) (all_opens blocks)
       past_all b lower q d inside same =
@@ -193,7 +193,7 @@ module _ (blocks : List Block) where
         pub ascending_own : IsAscending opens
         ascending_own = rw items_of (ascending_block i b within)
 
-        -- the block that alone may have the number has it not
+        -- the only block that can have the number doesn't
         pub not_there : ((k : ℕ) (d : Block) → k < i → ends_below n (get_or blocks k d) ≡ true)
             → ((d : Block) → i < length blocks → ends_below n (get_or blocks i d) ≡ false) → All (λ o. o.number ≢ n) opens
             → position (is_open n pass) (all_opens blocks) ≡ None
@@ -218,7 +218,7 @@ module _ (blocks : List Block) where
               of_another (all_opens blocks) ascending n pass (count_before blocks i + at) (in_joined i at b within inside_own)
               (λ d. ap (λ o. o.number) (there d) ∙ has d) (λ d same. other d (sym (ap (λ o. o.pass) (there d)) ∙ same))
 
--- where all blocks end below a number, no open has it
+-- if all blocks end below a number, no open has it
 pub none_past : (blocks : List Block) → IsAscending (all_opens blocks) → AreFilled blocks → (n pass i : ℕ) → i ≡ length blocks
     → ((k : ℕ) (b : Block) → k < i → ends_below n (get_or blocks k b) ≡ true) → position (is_open n pass) (all_opens blocks) ≡ None
 none_past [] ascending filled n pass i all lower = refl
@@ -255,7 +255,7 @@ nothing : (opens : List OpenFile) → length opens ≡ 0 → opens ≡ []
 nothing [] is = refl
 nothing (x ∷ opens) is = absurd (omega arith)
 
--- an empty block let go
+-- an empty block is dropped
 pub joined_drop : (blocks : List Block) (i : ℕ) (b : Block) → i < length blocks → length (get_or blocks i b).items ≡ 0
     → all_opens (remove blocks i) ≡ all_opens blocks
 joined_drop [] i b within is = absurd (omega arith)
@@ -287,18 +287,18 @@ few (x ∷ opens) n ascending below =
         omega arith
 
 -- the open at a place of a block
-pub lies : (blocks : List Block) (i at : ℕ) (b : Block) → Stands blocks i at → b ≡ get_or blocks i b → (o : OpenFile)
+pub lies : (blocks : List Block) (i at : ℕ) (b : Block) → HasOpen blocks i at → b ≡ get_or blocks i b → (o : OpenFile)
     → o ≡ get_or b.items at o → Some o ≡ slice_get (all_opens blocks) (count_before blocks i + at)
-lies blocks i at b stands is o own =
+lies blocks i at b has_open is o own =
     sym (slice_get_read (all_opens blocks) (length (all_opens blocks)) (count_before blocks i + at) o refl
-    (in_joined blocks i at b stands.block (stands.inside b))
-    (own ∙ ap (λ x. get_or x.items at o) is ∙ sym (at_joined blocks i at b o stands.block (stands.inside b))))
+    (in_joined blocks i at b has_open.block (has_open.inside b))
+    (own ∙ ap (λ x. get_or x.items at o) is ∙ sym (at_joined blocks i at b o has_open.block (has_open.inside b))))
 
-pub lies_at : (blocks : List Block) (i at : ℕ) (b : Block) → Stands blocks i at → b ≡ get_or blocks i b → (xs : List OpenFile)
+pub lies_at : (blocks : List Block) (i at : ℕ) (b : Block) → HasOpen blocks i at → b ≡ get_or blocks i b → (xs : List OpenFile)
     → xs ≡ b.items → (d : OpenFile) → Some (get_or xs at d) ≡ slice_get (all_opens blocks) (count_before blocks i + at)
-lies_at blocks i at b stands is xs own d =
-    let inside : at < length b.items = omega (arith, stands.inside b, ap (λ x. length x.items) is) in
-    ap (λ l. Some (get_or l at d)) own ∙ lies blocks i at b stands is (get_or b.items at d)
+lies_at blocks i at b has_open is xs own d =
+    let inside : at < length b.items = omega (arith, has_open.inside b, ap (λ x. length x.items) is) in
+    ap (λ l. Some (get_or l at d)) own ∙ lies blocks i at b has_open is (get_or b.items at d)
     (get_or_default b.items at d (get_or b.items at d) inside)
 
 -- the last block has room only if there is one
@@ -327,12 +327,12 @@ with_one blocks new count o kept below is filled = record {
 }
 
 -- one open less
-pub without_one : (blocks new : List Block) (count i at : ℕ) → InBlocks blocks count → Stands blocks i at
+pub without_one : (blocks new : List Block) (count i at : ℕ) → InBlocks blocks count → HasOpen blocks i at
     → all_opens new ≡ remove (all_opens blocks) (count_before blocks i + at) → AreFilled new → InBlocks new (count - 1)
-without_one [] new count i at kept stands is filled = let none : i < 0 = stands.block in absurd (omega arith)
-without_one (x ∷ blocks) new count i at kept stands is filled =
+without_one [] new count i at kept has_open is filled = let none : i < 0 = has_open.block in absurd (omega arith)
+without_one (x ∷ blocks) new count i at kept has_open is filled =
     let within : count_before (x ∷ blocks) i + at < length (all_opens (x ∷ blocks)) =
-    in_joined (x ∷ blocks) i at x stands.block (stands.inside x) in
+    in_joined (x ∷ blocks) i at x has_open.block (has_open.inside x) in
     record {
       ascending =
           rw is (all_pairs_remove (λ one later. one.number < later.number) (all_opens (x ∷ blocks)) (count_before (x ∷ blocks) i + at)

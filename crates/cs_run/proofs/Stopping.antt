@@ -30,14 +30,14 @@ stopped_first-way t us u n (x ∷ xs) =
     first_by t n (λ m. walk_from t us u m xs) (first_failing (element_rules t us u n x)) (number_by_name t n x)
     (last_fails _ _ (is_none (number_by_name t n x)))
 
--- of a file that is there, a walk is refused where it is stopped at its first name
+-- a walk from a file that is there is refused if it is stopped at its first name
 pub stopped_by_rules : (t : Tree) (us : List Row) (c : WalkCall) (w : WalkResult) → is_gone t c.number ≡ false → w ≡ walk_asked t us c
     → stopped_first w ≡ first_failing (walk_rules t us c)
 stopped_by_rules t us c w there e =
     ap stopped_first e ∙ stopped_first-way t us c.user c.number c.names ∙ sym (rw there refl)
 
--- what is told of a file tells that it is there
+-- a file of which a record is known is there
 pub not_gone : (o : Option Metadata) (file : Option MetadataBuf) → option_map metadata_of_ref o ≡ file → is_none o ≡ false
     → is_none file ≡ false
-not_gone None file told there = absurd (true≢false there)
-not_gone (Some m) file told there = ap is_none (sym told)
+not_gone None file known there = absurd (true≢false there)
+not_gone (Some m) file known there = ap is_none (sym known)

@@ -59,7 +59,7 @@ module _ (t : Tree) (is : IsTree t) where
   pub file_is_not_root : (n : ℕ) → is_some (content_numbered t n) ≡ true → n ≢ 0
   file_is_not_root n bytes root = no_bytes n [] is.root.0 is.root.1 (is.root.3 ∙ sym root) is.root.2 bytes
 
--- a mapped option is there where the option is
+-- a mapped option is there if the option is
 pub some_mapped : {A B : Type 0} (f : A → B) (o : Option A) → is_some (option_map f o) ≡ is_some o
 some_mapped f None = refl
 some_mapped f (Some a) = refl

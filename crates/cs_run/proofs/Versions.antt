@@ -39,7 +39,7 @@ use Rattle.cs_run.specs.declared.turn.Turn.{Turn}
 abbrev Below : ℕ → FinMap path_cmp Record → Type 0
 Below k m = (p : Path) (r : Record) → get m p ≡ Some r → r.vers < k
 
--- below k but at q, where it may be k
+-- below k, except at q, which may have k
 abbrev BelowBut : ℕ → Path → FinMap path_cmp Record → Type 0
 BelowBut k q m = (p : Path) (r : Record) → get m p ≡ Some r → (r.vers < k + 1) × (p ≢ q → r.vers < k)
 
@@ -150,7 +150,7 @@ module _ (k : ℕ) (t : Tree) (h : AllVersBelow k t) where
           (parent_path p ++ y ∷ []) (parent_path p) (record_with_stamp s) (λ r. refl)
           (snoc_longer (parent_path p) y) (moved_below_but k (change_at p (changed_record c s) t).files p (parent_path p ++ y ∷ []) below)
 
--- where versions are below k, each can grow by one that is below 2 ^ 32
+-- if versions are below k < 2 ^ 32, each can grow by one
 pub versions_can_grow : (k : ℕ) (t : Tree) → AllVersBelow k t → k < 2 ^ 32 → (n : ℕ) → CanStamp t n
 versions_can_grow k t h less n = by (find (has_number n) (entries t.files)) refl
   where

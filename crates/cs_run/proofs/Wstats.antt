@@ -1,4 +1,4 @@
--- What the rules of a wstat say of the change that it asks for, where none fails.
+-- What the rules of a wstat say of the change that it asks for, if none fails.
 use Rattle.std.proofs.Common.{◌≡◌, ◌≢◌, ◌<◌, ◌≤◌, ◌^◌, ◌==◌, ◌||◌, ℕ, Bool, true, false, not, List, [], Option, None, Some, IsSome, IfSome}
 use Rattle.std.proofs.Common.{refl, sym, ap, ◌∙◌, subst, arith, bit_and}
 use Rattle.std.proofs.lemmas.Bool.{false≢true, ltb-false, or_parts}

@@ -1,4 +1,4 @@
--- Opens that lie in blocks, one after the other.
+-- Opens kept in blocks, one after the other.
 use Rattle.std.specs.Prelude.{ℕ, ◌≡◌, ◌≢◌, ◌<◌, ◌+◌, ◌-◌, Bool, false, List, length, nat_lt}
 use Rattle.std.specs.Prelude.{slice_get, slice_index_or, take, Vec, vec_capacity, vec_len}
 use Rattle.std.specs.List.{flat_map}
@@ -14,11 +14,11 @@ Block = Vec OpenFile Global
 abbrev pub all_opens : List Block → List OpenFile
 all_opens blocks = flat_map (λ b. b.items) blocks
 
--- how many opens lie before a block
+-- how many opens are in the blocks before that one
 abbrev pub count_before : List Block → ℕ → ℕ
 count_before blocks place = length (all_opens (take place blocks))
 
--- how many more opens the last block has room for
+-- for how many more opens the last block has room
 abbrev pub last_room : List Block → ℕ
 last_room blocks =
     option_map_or (λ b. vec_capacity b - vec_len b) (slice_get blocks (length blocks - 1)) 0
@@ -28,7 +28,7 @@ abbrev pub AreFilled : List Block → Type 0
 AreFilled blocks =
     (k : ℕ) (b : Block) → k + 1 < length blocks → 0 < length (slice_index_or blocks k b).items
 
--- nor is any other but that one
+-- no block but the last and that one is empty
 abbrev pub FilledBut : ℕ → List Block → Type 0
 FilledBut place blocks =
     (k : ℕ) (b : Block) → k + 1 < length blocks → k ≢ place
@@ -41,7 +41,7 @@ ends_below number block =
     false
 
 -- an open is at that place of that block
-pub record Stands (blocks : List Block) (i at : ℕ) : Type 0 where
+pub record HasOpen (blocks : List Block) (i at : ℕ) : Type 0 where
   pub block : i < length blocks
   pub inside : (b : Block) → at < length (slice_index_or blocks i b).items
 

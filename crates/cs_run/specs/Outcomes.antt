@@ -17,7 +17,7 @@ use Rattle.cs_run.specs.Marks.{CallMark, is_refused}
 use Rattle.cs_run.specs.Opens.{open_numbered, opens_without_if}
 use Rattle.cs_run.specs.Pages.{data_read}
 
--- the open that a call ends, whatever comes of it: a close's, and that of a remove of an open fid
+-- the open that a call ends, even if it is denied: a close's, and that of a remove of an open fid
 abbrev pub closed_open_number : Call → Option ℕ
 closed_open_number (Close call) = Some call.open_number
 closed_open_number (Remove call) = call.open_number

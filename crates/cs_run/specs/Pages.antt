@@ -53,7 +53,7 @@ pub record IsFullest (tree : Tree) (d room : ℕ) (names : List NameBytes) (p : 
   pub fits : length p.bytes ≤ room
   pub next : IfSome (slice_get rest 0) (λ x. room < length p.bytes + length (entry_bytes tree d x))
 
--- What a read gives: bytes, and of a directory where its next read goes on, if that moved.
+-- What a read gives: bytes, and the place of a directory's next read, if that moved.
 pub record DataRead : Type 0 where
   pub bytes : List ℕ
   pub place : Option Place
@@ -62,7 +62,7 @@ pub record DataRead : Type 0 where
 abbrev pub end_after : ℕ → ℕ → ℕ
 end_after start count = min (start + count) 0xFFFFFFFFFFFFFFFF
 
--- where a directory's next read goes on; a read that gives no entry leaves the place as it was
+-- the place of a directory's next read; a read without an entry leaves the place as it was
 abbrev pub place_after : ReadCall → Page → Option Place
 place_after call p =
     if length p.bytes == 0 then None

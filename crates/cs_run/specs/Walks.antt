@@ -35,7 +35,7 @@ walk_asked tree users call = walk_from tree users call.user call.number call.nam
 
 -- ---- what it means that a walk is the longest
 
--- each name leads on from where the one before it led; these are the qids of the files, and the
+-- each name leads on from the file of the one before; these are the qids of the files, and the
 -- last of these has that number
 abbrev pub LeadOn : Tree → List Row → List ℕ → ℕ → List (List ℕ) → List Qid → ℕ → Type 0
 LeadOn tree users user number [] qids last = (qids ≡ []) × (last ≡ number)

@@ -1,4 +1,4 @@
-//! A call of a run: by the rules, and if there is memory.
+//! A call of a run: its rules, its effect, and running out of memory.
 ghost use Rattle.std.specs.Prelude.{◌≡◌, ◌<◌, ◌^◌, ℕ, IfOk, List, OnErr, true};
 ghost use Rattle.cs_permit.specs.Calls.{failing_rule, rules_of, rules_view};
 ghost use Rattle.cs_permit.specs.Opens.{open_rules};
@@ -29,7 +29,8 @@ use cs_tree_model::{TreeRead, TreeStore};
 use cs_users::Users;
 use std::alloc::{AllocError, Global};
 
-/// Does a call that no rule denies.
+/// Does a call that no rule denies. If memory runs out, the tree is as it was, and so are the opens
+/// but for the one that the call ends.
 fn grant<T: TreeStore>(
     alloc: Global,
     call: &Call<'_>,
@@ -66,7 +67,8 @@ fn grant<T: TreeStore>(
     }
 }
 
-/// The open that a call ends, whatever comes of it.
+/// The number of the open that a call ends, even if it is denied: a close's, and that of a remove
+/// of an open fid.
 pub fn closed_open_number(call: &Call<'_>) -> Option<u32>
     ensures { result ≡ closed_open_number call.now }
 {
@@ -84,7 +86,7 @@ pub fn closed_open_number(call: &Call<'_>) -> Option<u32>
     }
 }
 
-/// Whether the file is there, and exclusive.
+/// Whether there is a file of that number, and it is exclusive.
 fn is_exclusive_file<T: TreeRead>(tree: &T, number: u64) -> bool
     ensures { result ≡ on_file (T.tree tree.now) number is_exclusive }
 {
@@ -94,32 +96,38 @@ fn is_exclusive_file<T: TreeRead>(tree: &T, number: u64) -> bool
     }
 }
 
-/// The opens that can decide this open: none, unless the file is exclusive (O10).
-fn asked_by_open<'a, T: TreeRead>(call: &OpenCall, tree: &T, opens: &'a Opens) -> &'a [OpenFile]
+/// Opens by which the rules decide this open as they would by all: none, unless the file is
+/// exclusive (O10).
+fn opens_deciding_open<'a, T: TreeRead>(
+    call: &OpenCall,
+    tree: &T,
+    opens: &'a Opens,
+) -> &'a [OpenFile]
     ensures { (users : List Row) → open_rules (T.tree tree.now) result.now users call.now
         ≡ open_rules (T.tree tree.now) opens.now.items users call.now }
 {
     if is_exclusive_file(tree, call.number) {
-        opens.beside(call.number)
+        opens.block_on_file(call.number)
     } else {
         &[]
     }
 }
 
-/// The opens that can decide this call.
-fn asked_of<'a, T: TreeRead>(call: &Call<'_>, tree: &T, opens: &'a Opens) -> &'a [OpenFile]
+/// Opens by which the rules decide this call as they would by all. Only an open's rules look at
+/// them.
+fn opens_deciding<'a, T: TreeRead>(call: &Call<'_>, tree: &T, opens: &'a Opens) -> &'a [OpenFile]
     ensures { (users : List Row)
         → failing_rule (rules_view (T.tree tree.now) result.now users) call.now
         ≡ failing_rule (rules_view (T.tree tree.now) opens.now.items users) call.now }
 {
     match call {
-        Call::Open(call) => asked_by_open(call, tree, opens),
+        Call::Open(call) => opens_deciding_open(call, tree, opens),
         _ => &[],
     }
 }
 
-/// Asks a call's rules, and then does it, if there is memory for what it takes.
-// in line, a walk would pay at the entry of `act` for what all other calls keep on the stack
+/// Checks a call's rules, and does the call if none denies it and memory suffices.
+// inline, a walk would pay at the entry of `act` for the stack of all other calls
 #[inline(never)]
 #[tactic(auto, unfolding(crate::specs::Outcomes::outcome))]
 fn act_by_rules<T: TreeStore>(
@@ -136,7 +144,7 @@ fn act_by_rules<T: TreeStore>(
     ensures { IsOutcomeOf (rules_view (T.tree tree.old) opens.old.items users.now) turn call.now
         result.0 (call_result (T.tree tree.new) opens.new.items result.1) }
 {
-    if let Some(rule) = failing_rule(call, tree, asked_of(call, tree, opens), users) {
+    if let Some(rule) = failing_rule(call, tree, opens_deciding(call, tree, opens), users) {
         opens.release_if(closed_open_number(call), turn.pass);
         return (Outcome::Denied(rule), Answer::Denied(rule));
     }
@@ -147,10 +155,9 @@ fn act_by_rules<T: TreeStore>(
     }
 }
 
-/// Does a call by the rules of the run, if there is memory for what it takes. A call that is
-/// denied, or short of memory, leaves the tree, and no open but that of a close or of a remove,
-/// which is released. A read answers no more bytes than it asks for, and a walk no more qids than
-/// it has names.
+/// Does a call if no rule denies it and memory suffices. Otherwise the tree is as it was, and so
+/// are the opens, but that of a close or of a remove is released all the same. A read returns at
+/// most as many bytes as it asks for, and a walk at most as many qids as it has names.
 #[tactic(auto, unfolding(crate::specs::Outcomes::outcome))]
 pub fn act<T: TreeStore>(
     alloc: Global,

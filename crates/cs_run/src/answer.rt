@@ -1,4 +1,4 @@
-//! How a call ends, and what its client is answered.
+//! How a call ends, and the answer to its client.
 ghost use Rattle.std.specs.Prelude.{◌≡◌};
 
 use cs_fids::Place;
@@ -6,8 +6,8 @@ use cs_names::RuleId;
 use cs_wire::{Qid, Stat};
 use std::marker::Model;
 
-/// How far a walk came. Contracts see the qids of the names that passed, the rule that stopped the
-/// next, if any, and the number of the last file.
+/// How far a walk got. Contracts see the qids of the names that passed, the rule that stopped the
+/// next name, if any, and the number of the last file.
 #[derive(Debug, Drop)]
 pub struct Walk {
     qids: Vec<Qid>,
@@ -32,6 +32,7 @@ impl Walk {
     ghost use Rattle.cs_permit.specs.Sizes.{IsQid};
     ghost use Rattle.std.specs.List.{AllByRecursion};
 
+    /// A walk over these qids that ended at file `last`, stopped by a rule or at its last name.
     pub(crate) fn new(qids: Vec<Qid>, stopped: Option<RuleId>, last: u64) -> Walk
         requires { AllByRecursion IsQid qids.items }
         ensures { result ≡ record { qids = qids.items; stopped = stopped; last = last } }
@@ -50,7 +51,7 @@ impl Walk {
         self.qids.as_slice()
     }
 
-    /// The qids of the names that passed, each of which a reply can have.
+    /// The qids of the names that passed, each small enough for a reply.
     pub fn into_qids(self) -> Vec<Qid>
         ensures value { result.items ≡ self.qids }
         ensures fit { AllByRecursion IsQid result.items }
@@ -76,7 +77,7 @@ impl Walk {
         }
     }
 
-    /// The number of the file that the walk came to.
+    /// The number of the file at which the walk ended.
     pub fn last(&self) -> u64
         ensures { result ≡ self.now.last }
     {
@@ -84,7 +85,8 @@ impl Walk {
     }
 }
 
-/// What a read gives: bytes, and of a directory where the fid's next read goes on, if that moved.
+/// What a read returns: bytes, and the place from which the fid's next read of a directory
+/// continues (None if that hasn't moved).
 #[derive(Debug, Drop)]
 pub struct Data {
     bytes: Vec<u8>,
@@ -100,20 +102,21 @@ impl Model for Data {
 }
 
 impl Data {
+    /// A read of these bytes; `place` is None of a file, and if no entry was read.
     pub(crate) fn new(bytes: Vec<u8>, place: Option<Place>) -> Data
         ensures { result ≡ record { bytes = bytes.items; place = place } }
     {
         Data { bytes, place }
     }
 
-    /// The bytes.
+    /// The bytes that the read returns.
     pub fn bytes(&self) -> &[u8]
         ensures { result.now ≡ self.now.bytes }
     {
         self.bytes.as_slice()
     }
 
-    /// The bytes, and the new place.
+    /// The bytes, and the place of the fid's next read if it moved.
     pub fn into_parts(self) -> (Vec<u8>, Option<Place>)
         ensures bytes { result.0.items ≡ self.bytes }
         ensures place { result.1 ≡ self.place }
@@ -122,7 +125,7 @@ impl Data {
     }
 }
 
-/// What a stat says of a file. Contracts see its fields (stat(5)).
+/// A file's stat. Contracts see its fields (stat(5)).
 #[derive(Debug, Drop)]
 pub struct FileStat {
     stat: Stat,
@@ -144,6 +147,7 @@ impl FileStat {
     ghost use Rattle.cs_permit.specs.Sizes.{IsStat};
     ghost use Rattle.cs_wire.specs.Messages.{stat_of};
 
+    /// This stat, which fits into a reply.
     pub(crate) fn new(stat: Stat) -> FileStat
         requires { IsStat 600 (stat_of stat) }
         ensures { result ≡ stat_of stat }
@@ -151,7 +155,7 @@ impl FileStat {
         FileStat { stat }
     }
 
-    /// The stat, which a reply can have.
+    /// The stat, which fits into a reply.
     pub fn into_stat(self) -> Stat
         ensures value { stat_of result ≡ self }
         ensures fits { IsStat 600 (stat_of result) }
@@ -163,29 +167,29 @@ impl FileStat {
 /// How a call ends.
 #[derive(Clone, Copy, Debug, PartialEq, Eq)]
 pub enum Outcome {
-    /// It has its effect.
+    /// The call has its effect.
     Granted,
-    /// The first rule that fails.
+    /// This rule is the first that fails.
     Denied(RuleId),
-    /// No rule fails, and memory runs out.
+    /// No rule fails, but memory ran out.
     Short,
 }
 
-/// What a call answers.
+/// The answer to a call.
 #[derive(Debug, Drop)]
 pub enum Answer {
     /// The qid of the root.
     Attached(Qid),
     Walked(Walk),
-    /// The qid and the number of the file that is open now, also of one that was made, and the
-    /// number of the open.
+    /// The answer to an open or a create: the qid and the number of the file, and the number of the
+    /// open.
     Opened {
         qid: Qid,
         open_number: u32,
         number: u64,
     },
     Data(Data),
-    /// How many bytes.
+    /// How many bytes were written.
     Written(u32),
     Closed,
     Removed,

@@ -1,28 +1,28 @@
-//! Opens that lie in blocks, so that taking one out moves few others.
+//! Opens kept in blocks, so that removing one moves few others.
 ghost use Rattle.std.specs.Prelude.{◌≡◌, ◌≢◌, ◌<◌, ◌≤◌, ◌+◌, ◌∷◌, ◌++◌, [], ℕ, length, IfSome};
 ghost use Rattle.std.specs.Prelude.{IsNone, OnOk, Some, false, true, option_map, slice_get};
 ghost use Rattle.std.specs.Prelude.{slice_index_or};
 ghost use Rattle.std.specs.List.{All, position, remove};
 ghost use Rattle.cs_permit.specs.Opens.{is_open as is_on};
 ghost use Rattle.cs_permit.specs.declared.call.OpenFile.{OpenFile as Opened};
-ghost use Rattle.cs_run.specs.Blocks.{AreFilled, Block, FilledBut, Stands, count_before};
+ghost use Rattle.cs_run.specs.Blocks.{AreFilled, Block, FilledBut, HasOpen, count_before};
 ghost use Rattle.cs_run.specs.Blocks.{ends_below, all_opens, last_room};
 ghost use Rattle.cs_run.specs.Opens.{IsAscending, is_open};
 
 use cs_permit::OpenFile;
 use std::alloc::AllocError;
 
-/// How many opens lie in a block at most.
+/// How many opens a block holds at most.
 const BLOCK: usize = 128;
 
-/// Where an open lies.
+/// The place of an open: its block, and its index there.
 #[derive(Clone, Copy)]
-pub(crate) struct Place {
+pub(crate) struct OpenPlace {
     pub(crate) block: usize,
     pub(crate) at: usize,
 }
 
-/// Whether the block's last open has a number below this one.
+/// Whether the number of the block's last open is below this one; false of an empty block.
 fn ends_below(block: &Vec<OpenFile>, number: u32) -> bool
     ensures { result ≡ ends_below number block.now }
 {
@@ -32,7 +32,7 @@ fn ends_below(block: &Vec<OpenFile>, number: u32) -> bool
     }
 }
 
-/// The place of the open of that number among these.
+/// The index of the open of that number among these.
 fn index_of(opens: &[OpenFile], number: u32) -> Option<usize>
     requires { IsAscending opens.now }
     ensures bound { IfSome result (λ at. at < length opens.now) }
@@ -46,7 +46,7 @@ fn index_of(opens: &[OpenFile], number: u32) -> Option<usize>
     }
 }
 
-/// How many blocks end below the number: unless all do, the next is the only one that may have it.
+/// How many blocks end below the number. Only the block after them can hold it.
 fn blocks_below(blocks: &[Vec<OpenFile>], number: u32) -> usize
     requires ascending { IsAscending (all_opens blocks.now) }
     requires filled { AreFilled blocks.now }
@@ -59,13 +59,13 @@ fn blocks_below(blocks: &[Vec<OpenFile>], number: u32) -> usize
     blocks.partition_point(|block| ends_below(block, number))
 }
 
-/// Where the open of that number and pass lies.
-pub(crate) fn place_of(blocks: &[Vec<OpenFile>], number: u32, pass: u32) -> Option<Place>
+/// The place of the open of that number and pass, if there is one.
+pub(crate) fn place_of(blocks: &[Vec<OpenFile>], number: u32, pass: u32) -> Option<OpenPlace>
     requires ascending { IsAscending (all_opens blocks.now) }
     requires filled { AreFilled blocks.now }
     ensures value { position (is_open number pass) (all_opens blocks.now)
         ≡ option_map (λ place. count_before blocks.now place.block + place.at) result }
-    ensures stands { IfSome result (λ place. Stands blocks.now place.block place.at) }
+    ensures has_open { IfSome result (λ place. HasOpen blocks.now place.block place.at) }
 {
     let block = blocks_below(blocks, number);
     if block == blocks.len() {
@@ -76,13 +76,13 @@ pub(crate) fn place_of(blocks: &[Vec<OpenFile>], number: u32, pass: u32) -> Opti
         return None;
     };
     if opens[at].pass == pass {
-        Some(Place { block, at })
+        Some(OpenPlace { block, at })
     } else {
         None
     }
 }
 
-/// Begins a block, if the last is full.
+/// Adds an empty block if the last is full or there is none.
 fn begin_block(blocks: &mut Vec<Vec<OpenFile>>) -> Result<(), AllocError>
     requires { AreFilled blocks.old.items }
     ensures opens { all_opens blocks.new.items ≡ all_opens blocks.old.items }
@@ -102,7 +102,7 @@ fn begin_block(blocks: &mut Vec<Vec<OpenFile>>) -> Result<(), AllocError>
     Ok(())
 }
 
-/// Makes room for one open more in the last block.
+/// Makes room for one more open in the last block.
 pub(crate) fn widen_last(blocks: &mut Vec<Vec<OpenFile>>) -> Result<(), AllocError>
     requires { AreFilled blocks.old.items }
     ensures opens { all_opens blocks.new.items ≡ all_opens blocks.old.items }
@@ -114,7 +114,7 @@ pub(crate) fn widen_last(blocks: &mut Vec<Vec<OpenFile>>) -> Result<(), AllocErr
     blocks[last].reserve(1)
 }
 
-/// Adds an open to the last block. It takes no memory.
+/// Adds an open to the last block, which has room.
 pub(crate) fn push_last(blocks: &mut Vec<Vec<OpenFile>>, opened: OpenFile)
     requires room { 0 < last_room blocks.old.items }
     requires filled { AreFilled blocks.old.items }
@@ -126,8 +126,8 @@ pub(crate) fn push_last(blocks: &mut Vec<Vec<OpenFile>>, opened: OpenFile)
 }
 
 /// The open at that place.
-pub(crate) fn open_at(blocks: &[Vec<OpenFile>], place: Place) -> OpenFile
-    requires { Stands blocks.now place.block place.at }
+pub(crate) fn open_at(blocks: &[Vec<OpenFile>], place: OpenPlace) -> OpenFile
+    requires { HasOpen blocks.now place.block place.at }
     ensures { Some result ≡ slice_get (all_opens blocks.now)
         (count_before blocks.now place.block + place.at) }
 {
@@ -135,8 +135,8 @@ pub(crate) fn open_at(blocks: &[Vec<OpenFile>], place: Place) -> OpenFile
     opens[place.at]
 }
 
-/// Opens of one block, one of which is on that file if any of all is.
-pub(crate) fn beside(blocks: &[Vec<OpenFile>], file: u64) -> &[OpenFile]
+/// The opens of the first block that has one on that file; no open if none is on it.
+pub(crate) fn block_on_file(blocks: &[Vec<OpenFile>], file: u64) -> &[OpenFile]
     ensures { is_on result.now file ≡ is_on (all_opens blocks.now) file }
 {
     for block in blocks {
@@ -154,9 +154,9 @@ fn is_on(opens: &[OpenFile], file: u64) -> bool
     opens.iter().any(|open| open.file == file)
 }
 
-/// Takes out the open at that place. It takes no memory.
-pub(crate) fn take_out(blocks: &mut Vec<Vec<OpenFile>>, place: Place) -> OpenFile
-    requires stands { Stands blocks.old.items place.block place.at }
+/// Removes the open at that place and returns it, without allocating.
+pub(crate) fn take_out(blocks: &mut Vec<Vec<OpenFile>>, place: OpenPlace) -> OpenFile
+    requires has_open { HasOpen blocks.old.items place.block place.at }
     requires filled { AreFilled blocks.old.items }
     ensures value { Some result ≡ slice_get (all_opens blocks.old.items)
         (count_before blocks.old.items place.block + place.at) }
@@ -169,7 +169,7 @@ pub(crate) fn take_out(blocks: &mut Vec<Vec<OpenFile>>, place: Place) -> OpenFil
     open
 }
 
-/// Drops a block that became empty, but not the last.
+/// Drops this block if it is empty and not the last.
 fn drop_empty(blocks: &mut Vec<Vec<OpenFile>>, block: usize)
     requires bound { block < length blocks.old.items }
     requires filled { FilledBut block blocks.old.items }

@@ -1,4 +1,4 @@
-//! A run without a journal: a tree, its opens and the users, on which calls are made in turn.
+//! A run without a journal: a tree, its opens and the users. It handles one call at a time.
 ghost use Rattle.std.specs.Prelude.{◌+◌};
 ghost use Rattle.cs_run.specs.Laws.{AllVersBelow};
 ghost use Rattle.cs_run.specs.Opens.{AreBelow};
@@ -7,8 +7,8 @@ use crate::opens::Opens;
 use cs_tree_model::TreeStore;
 use cs_users::Users;
 
-/// A run that keeps no journal. It counts its calls: each raises a version by one at most, so that
-/// none can overflow before the count does. Contracts see its `run_of`.
+/// A run that keeps no journal. It counts its calls: a call raises a version by one at most, so no
+/// version overflows before the count does. Contracts see its `run_of`.
 #[derive(Drop)]
 pub struct CountedRun<T: TreeStore + Drop> {
     pub(crate) tree: T,

@@ -17,7 +17,7 @@ use cs_tree_model::{TreeRead, TreeStore};
 use cs_users::Users;
 use std::alloc::Global;
 
-/// The version of the file of a number, 0 of none.
+/// The version of the file of that number, or 0 if there is none.
 fn version_of<T: TreeRead>(tree: &T, number: u64) -> u32
     ensures bound { IfSome (record_numbered (T.tree tree.now) number) (λ r. r.vers ≤ result) }
     ensures least { (k : ℕ) → 0 < k → AllVersBelow k (T.tree tree.now) → result < k }
@@ -29,7 +29,7 @@ fn version_of<T: TreeRead>(tree: &T, number: u64) -> u32
     }
 }
 
-/// The greatest version of the tree's files.
+/// The greatest version among the tree's files.
 pub fn greatest_version<T: TreeRead>(tree: &T) -> u32
     ensures { IsGreatestVersion (T.tree tree.now) result }
 {
@@ -42,7 +42,8 @@ pub fn greatest_version<T: TreeRead>(tree: &T) -> u32
 }
 
 impl<T: TreeStore + Drop> CountedRun<T> {
-    /// A run over this tree with no open, whose count begins at the greatest version.
+    /// A run over this tree with no open. Its count begins at the greatest version, so that no call
+    /// makes a version overflow.
     pub fn new(alloc: Global, tree: T, users: Users) -> CountedRun<T>
         ensures tree { (run_of result).tree ≡ T.TreeRead.tree tree }
         ensures opens { (run_of result).opens ≡ [] }
@@ -58,22 +59,22 @@ impl<T: TreeStore + Drop> CountedRun<T> {
         }
     }
 
-    /// Its tree, lent.
+    /// The run's tree.
     pub fn tree(&self) -> &T
         ensures { T.TreeRead.tree result.now ≡ (run_of self.now).tree }
     {
         &self.tree
     }
 
-    /// Whether one call more could raise a version, or the next number, above the greatest there
-    /// is.
+    /// Whether one more call could make a version or the next file number overflow.
     pub fn is_full(&self) -> bool
         ensures { result ≡ is_full (run_of self.now) }
     {
         self.count == u32::MAX || self.tree.last_number() == u64::MAX
     }
 
-    /// Makes a call at that moment under a pass, in the turn of its count.
+    /// Does a call at that moment (in seconds) under a pass. Its place is the run's count, which
+    /// goes up by one even if the call is denied or short of memory.
     pub fn step(
         &mut self,
         alloc: Global,

@@ -15,6 +15,7 @@ use cs_permit::{CreateCall, OpenFile, qid_at};
 use cs_tree_model::{New, TreeRead, TreeStore, is_directory_mode};
 use std::alloc::{AllocError, Global};
 
+/// The mode of the file of that number, or 0 if there is none.
 fn mode_at<T: TreeRead>(tree: &T, number: u64) -> u32
     ensures { result ≡ mode_at (T.tree tree.now) number }
 {
@@ -24,7 +25,7 @@ fn mode_at<T: TreeRead>(tree: &T, number: u64) -> u32
     }
 }
 
-/// The mode of a new file: its directory's mode is a mask of the permissions that are asked for.
+/// The mode of a new file: the wanted permissions, masked by those of its directory (open(5)).
 fn created_mode(perm: u32, directory: u32) -> u32
     ensures { result ≡ created_mode perm directory }
 {
@@ -35,6 +36,7 @@ fn created_mode(perm: u32, directory: u32) -> u32
     }
 }
 
+/// The new file that a create asks for, with the mode that its directory leaves it.
 fn new_file<T: TreeRead>(tree: &T, call: &CreateCall) -> New
     ensures { result ≡ new_file (T.tree tree.now) call.now }
 {
@@ -43,6 +45,8 @@ fn new_file<T: TreeRead>(tree: &T, call: &CreateCall) -> New
     }
 }
 
+/// Adds the new file to its directory and returns its number. If memory runs out, the tree is as it
+/// was.
 fn add_created<T: TreeStore>(
     alloc: Global,
     call: &CreateCall,
@@ -63,7 +67,7 @@ fn add_created<T: TreeStore>(
     tree.add(alloc, call.number, name, new, stamp)
 }
 
-/// Makes a file in a directory, and opens it.
+/// Makes a file in a directory, and opens it. If memory runs out, tree and opens are as they were.
 #[tactic(auto, unfolding(crate::specs::Effects::create_effect))]
 pub fn act_create<T: TreeStore>(
     alloc: Global,

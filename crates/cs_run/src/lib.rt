@@ -1,4 +1,4 @@
-//! What each call does to a run's tree and its opens, and what it answers.
+//! What each call does to a run's tree and its opens, and its answer.
 #![tactic(auto)]
 
 mod acting;

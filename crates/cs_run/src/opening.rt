@@ -18,7 +18,7 @@ use cs_permit::{OpenCall, OpenFile, qid_at};
 use cs_tree_model::{Change, TreeRead, TreeStore};
 use std::alloc::{AllocError, Global};
 
-/// Whether the open empties its file: if its mode says so, and the file isn't append-only.
+/// Whether the open empties its file: its mode says so, and the file isn't append-only.
 fn truncates_file<T: TreeRead>(tree: &T, call: &OpenCall) -> bool
     ensures { result ≡ truncates_file (T.tree tree.now) call.now }
 {
@@ -31,7 +31,7 @@ fn truncates_file<T: TreeRead>(tree: &T, call: &OpenCall) -> bool
     }
 }
 
-/// The change that leaves a file no bytes.
+/// The change that empties a file and nothing else.
 fn change_to_no_bytes() -> Change
     ensures { result ≡ change_to_no_bytes }
 {
@@ -44,7 +44,7 @@ fn change_to_no_bytes() -> Change
     }
 }
 
-/// Empties the file, if the open does.
+/// Empties the file if the open's mode asks for it. If memory runs out, the tree is as it was.
 fn empty_opened<T: TreeStore>(
     alloc: Global,
     call: &OpenCall,
@@ -64,7 +64,8 @@ fn empty_opened<T: TreeStore>(
     tree.change(alloc, call.number, &change_to_no_bytes(), stamp)
 }
 
-/// Opens a file: empties it if the mode says so, and adds the open.
+/// Opens a file: empties it if the mode says so, and adds the open. If memory runs out, tree and
+/// opens are as they were.
 #[tactic(auto, unfolding(crate::specs::Effects::open_effect))]
 pub fn act_open<T: TreeStore>(
     alloc: Global,

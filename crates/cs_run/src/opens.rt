@@ -3,16 +3,16 @@ ghost use Rattle.std.specs.Prelude.{◌≡◌, ◌<◌, [], ◌∷◌, ◌++◌,
 ghost use Rattle.cs_permit.specs.Opens.{is_open};
 ghost use Rattle.cs_run.specs.Opens.{AreBelow, open_numbered, opens_without, opens_without_if};
 
-use crate::blocks::{beside, open_at, place_of, push_last, take_out, widen_last};
+use crate::blocks::{block_on_file, open_at, place_of, push_last, take_out, widen_last};
 use cs_permit::OpenFile;
 use std::alloc::{AllocError, Global};
 use std::marker::Model;
 
-/// The opens of a run, in the order of their numbers, which are all different. Contracts see their
-/// list, and the room for more.
+/// The opens of a run, in ascending order of their numbers, which are all different. Contracts see
+/// their list, and the room for more.
 #[derive(Drop)]
 pub struct Opens {
-    /// None but the last is empty.
+    /// Only the last may be empty.
     blocks: Vec<Vec<OpenFile>>,
     count: usize,
 }
@@ -32,7 +32,7 @@ impl Model for Opens {
 }
 
 impl Opens {
-    /// No open.
+    /// An empty list of opens.
     pub fn new(alloc: Global) -> Opens
         ensures { result.items ≡ [] }
     {
@@ -42,18 +42,18 @@ impl Opens {
         }
     }
 
-    /// How many there are.
+    /// How many opens there are.
     pub fn len(&self) -> usize
         ensures { result ≡ length self.now.items }
     {
         self.count
     }
 
-    /// Some of them, one of which is on that file if any of all is.
-    pub(crate) fn beside(&self, file: u64) -> &[OpenFile]
+    /// Some of the opens: one of them is on that file exactly if one of all is.
+    pub(crate) fn block_on_file(&self, file: u64) -> &[OpenFile]
         ensures { is_open result.now file ≡ is_open self.now.items file }
     {
-        beside(self.blocks.as_slice(), file)
+        block_on_file(self.blocks.as_slice(), file)
     }
 
     /// The open of that number and pass, if there is one.
@@ -64,7 +64,7 @@ impl Opens {
         Some(open_at(self.blocks.as_slice(), place))
     }
 
-    /// Makes room for one open more.
+    /// Makes room for one more open.
     pub fn reserve(&mut self) -> Result<(), AllocError>
         ensures opens { self.new.items ≡ self.old.items }
         ensures room { OnOk result (0 < self.new.room) }
@@ -72,7 +72,7 @@ impl Opens {
         widen_last(&mut self.blocks)
     }
 
-    /// Adds an open, whose number is above all others. It takes no memory.
+    /// Adds an open, whose number is above all others, into the room that `reserve` made.
     pub fn add(&mut self, opened: OpenFile)
         requires room { 0 < self.old.room }
         requires above { AreBelow opened.number self.old.items }
@@ -82,7 +82,7 @@ impl Opens {
         self.count += 1;
     }
 
-    /// Takes out the open of that number and pass, if there is one. It takes no memory.
+    /// Removes the open of that number and pass and returns it, or None if there is none.
     pub fn release(&mut self, number: u32, pass: u32) -> Option<OpenFile>
         ensures value { result ≡ open_numbered number pass self.old.items }
         ensures opens { self.new.items ≡ opens_without number pass self.old.items }
@@ -92,7 +92,7 @@ impl Opens {
         Some(take_out(&mut self.blocks, place))
     }
 
-    /// Takes out the open of that number and pass, if a number is given and there is one.
+    /// Removes the open of that number and pass, if there is a number and such an open.
     pub(crate) fn release_if(&mut self, number: Option<u32>, pass: u32)
         ensures { self.new.items ≡ opens_without_if number pass self.old.items }
     {

@@ -15,16 +15,16 @@ use cs_tree_model::{ListedEntry, TreeRead, laws};
 use cs_wire::StatRef;
 use std::alloc::{AllocError, Global};
 
-/// The bytes of entries of a directory that follow one another, and the last name among them, or
-/// the name before them.
+/// The bytes of consecutive entries of a directory, and the name of the last; without entries, the
+/// name after which they were to begin.
 #[derive(Drop)]
 pub struct Page<'a> {
     pub bytes: Vec<u8>,
     pub last: Option<&'a Name>,
 }
 
-/// What a stat says of an entry of the directory, lent.
-// the tree finds the entry's file by its number: only the contract names the directory
+/// The stat of an entry of the directory.
+// the entry's file is found by its number: only the contract needs the directory
 fn stat_of_entry<'a, T: TreeRead>(
     tree: &'a T,
     _directory: u64,
@@ -41,8 +41,8 @@ fn stat_of_entry<'a, T: TreeRead>(
     entry_stat(tree, entry).unwrap()
 }
 
-/// As many entries of a directory as fit into so many bytes, from the first after that name on.
-/// Only entries take memory.
+/// As many whole entries of a directory as fit into `room` bytes, from the first after the name
+/// `start` on. It can run out of memory only if an entry fits.
 pub(crate) fn read_page<'a, T: TreeRead>(
     alloc: Global,
     tree: &'a T,

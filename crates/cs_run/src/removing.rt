@@ -14,6 +14,7 @@ use cs_permit::{RemoveCall, laws};
 use cs_tree_model::TreeStore;
 use std::alloc::{AllocError, Global};
 
+/// Removes the file from the tree. If memory runs out, the tree is as it was.
 fn remove_file<T: TreeStore>(
     alloc: Global,
     call: &RemoveCall,
@@ -33,8 +34,8 @@ fn remove_file<T: TreeStore>(
     tree.remove(alloc, call.number, stamp)
 }
 
-/// Removes a file. The fid's open, if it is open, is released even if memory runs out, which leaves
-/// the file.
+/// Removes a file. The fid's open, if it has one, is released even if memory runs out; the file is
+/// then still there.
 #[tactic(auto, unfolding(crate::specs::Effects::remove_effect))]
 pub fn act_remove<T: TreeStore>(
     alloc: Global,

@@ -1,4 +1,4 @@
-//! The turn of a call in its run.
+//! The turn of a call in its run: its time, its place and its pass.
 ghost use Rattle.std.specs.Prelude.{◌≡◌, IfOk};
 ghost use Rattle.cs_run.specs.Effects.{stamp};
 
@@ -6,18 +6,18 @@ use cs_names::UserName;
 use cs_tree_model::Stamp;
 use std::alloc::AllocError;
 
-/// The turn of a call in its run.
+/// When and as which a run does a call.
 #[derive(Clone, Copy, Debug, PartialEq, Eq)]
 pub struct Turn {
     /// The moment, in seconds.
     pub moment: u32,
     /// The place of the call among all calls of the run: the number of an open that it makes.
     pub place: u32,
-    /// The pass that the call is under.
+    /// The pass under which the call comes.
     pub pass: u32,
 }
 
-/// The stamp of a change that the user makes in this turn.
+/// The stamp of a change that the user makes in this turn: the moment, and a copy of the name.
 pub(crate) fn stamp_of(turn: Turn, user: &UserName) -> Result<Stamp, AllocError>
     ensures { IfOk result (λ made. made ≡ stamp turn user.now) }
 {

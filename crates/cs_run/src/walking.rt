@@ -22,8 +22,8 @@ use cs_users::Users;
 use cs_wire::Qid;
 use std::alloc::{AllocError, Global};
 
-/// The walk of these names from a file whose record this is.
-// a record is large: out of line, it would be passed in memory
+/// The walk of these names from the file `start`, of which `start_file` is the record.
+// a record is large: not inline, it would be passed in memory
 #[inline(always)]
 fn walk_names<'a, T: TreeRead>(
     alloc: Global,
@@ -31,17 +31,17 @@ fn walk_names<'a, T: TreeRead>(
     users: &Users,
     user: &UserName,
     start: u64,
-    told: Option<Metadata<'a>>,
+    start_file: Option<Metadata<'a>>,
     names: &[String],
 ) -> Result<Walk, AllocError>
-    requires { option_map metadata_of_ref told ≡ file_at (T.tree tree.now) start }
+    requires { option_map metadata_of_ref start_file ≡ file_at (T.tree tree.now) start }
     ensures value { IfOk result (λ walk. walk ≡ walk_from (T.tree tree.now) users.now user.now start
         (map string_bytes names.now)) }
     ensures memory { OnErr result (0 < length names.now) }
 {
     let mut qids: Vec<Qid> = Vec::with_capacity(alloc, names.len())?;
     let mut last = start;
-    let mut file = told;
+    let mut file = start_file;
     for name in names {
         match element_of(tree, users, user, last, file, name.as_str()) {
             Ok(next) => {
@@ -55,17 +55,17 @@ fn walk_names<'a, T: TreeRead>(
     Ok(Walk::new(qids, None, last))
 }
 
-/// The walk that a call asks for, from its file, whose record this is.
-// for the same reason
+/// The walk that a call asks for, from its file, of which `start_file` is the record.
+// a record is large, as above
 #[inline(always)]
 fn walk_from<'a, T: TreeRead>(
     alloc: Global,
     call: &WalkCall,
     tree: &'a T,
     users: &Users,
-    told: Option<Metadata<'a>>,
+    start_file: Option<Metadata<'a>>,
 ) -> Result<Walk, AllocError>
-    requires { option_map metadata_of_ref told ≡ file_at (T.tree tree.now) call.now.number }
+    requires { option_map metadata_of_ref start_file ≡ file_at (T.tree tree.now) call.now.number }
     ensures value { IfOk result (λ walk. walk ≡ walk_asked (T.tree tree.now) users.now call.now) }
     ensures memory { OnErr result (0 < length call.now.names) }
 {
@@ -75,14 +75,14 @@ fn walk_from<'a, T: TreeRead>(
         users,
         &call.user,
         call.number,
-        told,
+        start_file,
         call.names.as_slice(),
     )
 }
 
-/// Walks as far as the rules let it. Only the qids take memory, once for all names; a name takes
-/// one look-up of a name, and one of a record.
-// `act` takes `act_walk` in its place, so it isn't to make `grant` larger
+/// Walks as far as the rules allow. Only the qids are allocated, once for all names; each name
+/// costs one look-up of a name and one of a record.
+// `act` calls `act_walk` instead, so this must not make `grant` larger
 #[inline(never)]
 pub fn walk<T: TreeRead>(
     alloc: Global,
@@ -96,8 +96,8 @@ pub fn walk<T: TreeRead>(
     walk_from(alloc, call, tree, users, tree.record(call.number))
 }
 
-/// The walk that a call asks for. Else the first rule that denies it, or None if none does and
-/// memory runs out.
+/// The walk that a call asks for. Otherwise the first rule that denies it, or None if no rule does
+/// and memory ran out.
 fn walk_allowed<T: TreeRead>(
     alloc: Global,
     call: &WalkCall,
@@ -124,9 +124,9 @@ fn walk_allowed<T: TreeRead>(
     }
 }
 
-/// Makes a walk by its rules. They are asked as the walk goes, so that no name is looked up twice,
-/// and the file that it goes from once.
-// an answer is large: in line, it would be copied once more
+/// Does a walk if its rules allow it. They are checked as the walk goes: each name is looked up
+/// once, and so is the file from which it starts.
+// an answer is large: inline, it would be copied once more
 #[inline(never)]
 #[tactic(auto, unfolding(crate::specs::Outcomes::outcome))]
 pub fn act_walk<T: TreeRead>(

@@ -12,7 +12,7 @@ use cs_permit::{WriteCall, write_start};
 use cs_tree_model::{Kind, TreeRead, TreeStore};
 use std::alloc::{AllocError, Global};
 
-/// Where the write begins; None if it puts no byte.
+/// The offset at which the write begins; None if it has no byte or the file is a directory or gone.
 fn start_of_write<T: TreeRead>(tree: &T, call: &WriteCall<'_>) -> Option<u64>
     ensures writes { is_some result ≡ writes (T.tree tree.now) call.now }
     ensures start { IfSome result (λ start. start ≡ write_start (T.tree tree.now) call.now) }
@@ -27,7 +27,7 @@ fn start_of_write<T: TreeRead>(tree: &T, call: &WriteCall<'_>) -> Option<u64>
     }
 }
 
-/// Puts the bytes into the file, if there are any.
+/// Writes the bytes, if there are any. If memory runs out, the tree is as it was.
 fn write_bytes<T: TreeStore>(
     alloc: Global,
     call: &WriteCall<'_>,
@@ -47,7 +47,7 @@ fn write_bytes<T: TreeStore>(
     tree.write_at(alloc, call.number, start, call.bytes.as_slice(), stamp)
 }
 
-/// Writes, and answers how many bytes.
+/// Writes all bytes of the call, or none if memory runs out. The answer is their count.
 #[tactic(auto, unfolding(crate::specs::Effects::write_effect))]
 pub fn act_write<T: TreeStore>(
     alloc: Global,

@@ -18,7 +18,7 @@ use cs_permit::{WstatCall, new_group, new_length, new_mode, new_mtime, new_name}
 use cs_tree_model::{Change, Metadata, TreeRead, TreeStore};
 use std::alloc::{AllocError, Global};
 
-/// The new name, if the wstat has one. It is legal, so it is refused only if memory runs out.
+/// The new name, if the wstat has one. It is legal, so only memory can run out.
 fn name_asked<T: TreeRead>(
     alloc: Global,
     tree: &T,
@@ -36,7 +36,7 @@ fn name_asked<T: TreeRead>(
     }
 }
 
-/// The new group, if the wstat has one. It is known, so it is refused only if memory runs out.
+/// The new group, if the wstat has one. It is known, so only memory can run out.
 fn group_asked(
     alloc: Global,
     call: &WstatCall,
@@ -54,7 +54,7 @@ fn group_asked(
     }
 }
 
-/// The fields that a wstat changes, each with its new value.
+/// The fields of this file that a wstat changes, each with its new value.
 fn change_of<T: TreeRead>(
     alloc: Global,
     tree: &T,
@@ -77,7 +77,7 @@ fn change_of<T: TreeRead>(
     })
 }
 
-/// The change that a wstat asks for, if its file is there.
+/// The change that a wstat asks for, or None if its file is gone.
 fn change_asked<T: TreeRead>(
     alloc: Global,
     tree: &T,
@@ -93,6 +93,7 @@ fn change_asked<T: TreeRead>(
     }
 }
 
+/// Whether the change has a field.
 fn changes_some(change: &Change) -> bool
     ensures { result ≡ changes_some change.now }
 {
@@ -103,7 +104,8 @@ fn changes_some(change: &Change) -> bool
         || change.mtime.is_some()
 }
 
-/// Makes the change that the wstat asks for, if it names a field.
+/// Makes the change that the wstat asks for, if it has a field. If memory runs out, the tree is as
+/// it was.
 fn change_by<T: TreeStore>(
     alloc: Global,
     call: &WstatCall,
@@ -127,7 +129,7 @@ fn change_by<T: TreeStore>(
     tree.change(alloc, call.number, change, stamp)
 }
 
-/// Gives a file the fields that are new: all of them, or none if memory runs out.
+/// Changes all fields of a file that the wstat names, or none if memory runs out.
 #[tactic(auto, unfolding(crate::specs::Effects::wstat_effect))]
 pub fn act_wstat<T: TreeStore>(
     alloc: Global,

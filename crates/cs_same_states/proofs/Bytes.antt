@@ -60,7 +60,7 @@ floor_low n ops k size is = fold_low n FILE_BYTES ops k size is
 -- ---- one byte
 
 module _ (floor n i : ℕ) where
-  -- the files have the same byte, and the same size where that isn't before the floor
+  -- the files have the same byte, and the same size if that isn't before the floor
   abbrev Agree : Content → Content → Type 0
   Agree f g = (floor ≤ i → f.size ≡ g.size) × (byte_of f i ≡ byte_of g i)
 

@@ -38,7 +38,7 @@ use Rattle.cs_same_states.specs.declared.touched.Touched.{Touched}
 use Rattle.cs_same_states.proofs.Listing.{few_long, listed_left, listed_or_not, unlisted_left}
 use Rattle.cs_same_states.proofs.Settling.{files_same, owner_settled, visible_settled}
 
--- ---- what stands at a path
+-- ---- what is at a path
 
 module _ (rights : List Rights) (first second : Entry → Record) where
   entries_same : (paths : List Path) (slots others : List Slot) → length slots ≡ length others

@@ -1,4 +1,5 @@
--- Where an operation that fails a test changes nothing, those alone that pass it say what a set leaves.
+-- If an operation that fails a test changes nothing, only those that pass it decide what a set
+-- leaves.
 use Rattle.std.proofs.Common.{◌≡◌, ℕ, zero, suc, ◌<◌, Bool, true, false, cond, List, [], ◌∷◌, ◌++◌, ◌⊎◌, inl, inr, length, get_or, map}
 use Rattle.std.proofs.Common.{refl, sym, ap, ◌∙◌, arith, Result, Ok, Err, IfOk}
 use Rattle.std.specs.Prelude.{fold}

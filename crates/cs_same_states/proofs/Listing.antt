@@ -1,4 +1,4 @@
--- The listed slots after the steps of a set, beside all slots.
+-- The listed slots after the steps of a set, compared with all slots.
 use Rattle.std.proofs.Common.{◌≡◌, ◌≢◌, ℕ, zero, suc, ◌+◌, ◌<◌, ◌≤◌, ◌⊎◌, inl, inr, List, [], ◌∷◌, ◌++◌, length, map, get_or, refl, sym, ap}
 use Rattle.std.proofs.Common.{◌∙◌, subst, arith, ⊎_elim}
 use Rattle.std.proofs.lemmas.Bool.{cases_eq, cases_lt}
@@ -46,7 +46,7 @@ fits_at n steps fit k = ⊎_elim
     (cases_lt k (length steps))
 
 module _ (ids : List ℕ) (distinct : AreDistinct ids) (slots : List Slot) where
-  -- what stands in each listed slot stands at its place, and what isn't listed stays
+  -- what is in each listed slot is at its place, and what isn't listed stays
   record IsBeside (full few : List Slot) : Type 0 where
     pub long : length full ≡ length slots
     pub short : length few ≡ length ids

@@ -1,4 +1,4 @@
--- A file that each of the operations in one set alone leaves alike is left alike by both.
+-- A file that each of the operations in only one set leaves alike is left alike by both.
 use Rattle.std.proofs.Common.{◌≡◌, ◌≢◌, ℕ, ◌+◌, ◌<◌, ◌≤◌, ◌==◌, ◌&&◌, ◌⊎◌, Bool, true, false, cond, List, [], Option, Some, length, get_or}
 use Rattle.std.proofs.Common.{refl, sym, ap, ◌∙◌, subst, arith, ⊎_elim}
 use Rattle.std.proofs.lemmas.Bool.{and_parts, eqb-true}

@@ -52,8 +52,8 @@ first_owner p n = owner_by p p.places.now n
 abbrev pub second_owner : Pair → ℕ → Rights
 second_owner p n = owner_by p p.others.now n
 
--- both leave the same size, owner, group and permissions of the file, and the same bytes where the
--- micro-operation reaches it
+-- both leave the same size, owner, group and permissions of the file, and the same bytes in what
+-- the micro-operation can change
 pub record IsSettled (p : Pair) (n : ℕ) (o : MicroOp) : Type 0 where
   pub size : (first_content p n).size ≡ (second_content p n).size
   pub owner : first_owner p n ≡ second_owner p n

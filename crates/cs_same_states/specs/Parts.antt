@@ -1,4 +1,4 @@
--- What is found once of a trace, to tell equal states.
+-- What is computed once from a trace, to find equal states.
 use Rattle.std.specs.Prelude.{◌≡◌, ◌⊎◌, ℕ, Bool, true, List, Some}
 use Rattle.cs_trace.specs.Traces.{Trace}
 use Rattle.cs_micro.specs.Micros.{micros_in}

@@ -1,4 +1,6 @@
-//! Which micro-operations change each file of a trace, and in which blocks.
+//! Which micro-operations change each file of a trace, and in which blocks. It is for digests only:
+//! a wrong digest costs time, never an answer, so nothing here has a contract. A number out of
+//! range is skipped.
 use crate::mixing::{digest_of_record, digest_of_rights};
 use cs_micro::MicroOp;
 use cs_trace::{BlockSize, Node, Target, Trace};
@@ -10,7 +12,7 @@ use std::alloc::{AllocError, Global};
 pub enum Change {
     /// The file has this length.
     Size(u64),
-    /// It is written into the block at this place among those that are read.
+    /// The file is written in the block at this place among those that are read.
     Write(usize),
     /// Owner, group and permissions, which have this digest, are set.
     Rights(u64),
@@ -19,15 +21,16 @@ pub enum Change {
 /// A file, with what the micro-operations do to it.
 #[derive(Debug, Drop)]
 pub struct File {
-    /// The digest of its owner, group and permissions at first.
+    /// The digest of its owner, group and permissions before any operation.
     pub rights: u64,
-    /// How many bytes it has at first.
+    /// How many bytes it has before any operation.
     pub length: u64,
-    /// The place of each micro-operation that changes it, and what it does.
+    /// The place of each micro-operation that changes it, and what that does.
     pub changes: Vec<(u32, Change)>,
 }
 
-/// The block of this size into which the micro-operation writes, or in which it ends a file.
+/// The number of the block into which the micro-operation writes, or in which it ends a file; None
+/// if it does neither.
 fn block_of(size: BlockSize, op: &MicroOp) -> Option<u64> {
     match op {
         MicroOp::WriteBlock { block, .. } => Some(*block),
@@ -36,7 +39,8 @@ fn block_of(size: BlockSize, op: &MicroOp) -> Option<u64> {
     }
 }
 
-/// The blocks that some micro-operation writes into or ends a file in, in ascending order.
+/// The numbers of the blocks that some micro-operation writes into or ends a file in, ascending and
+/// each once.
 pub fn blocks_of(alloc: Global, size: BlockSize, ops: &[MicroOp]) -> Result<Vec<u64>, AllocError> {
     let mut blocks = Vec::new(alloc);
     for op in ops {
@@ -49,7 +53,7 @@ pub fn blocks_of(alloc: Global, size: BlockSize, ops: &[MicroOp]) -> Result<Vec<
     Ok(blocks)
 }
 
-/// Adds a file without a byte, whose rights have this digest.
+/// Appends a file without a byte, whose rights have this digest.
 fn push_file(alloc: Global, files: &mut Vec<File>, rights: u64) -> Result<(), AllocError> {
     files.push(File {
         rights,
@@ -59,7 +63,8 @@ fn push_file(alloc: Global, files: &mut Vec<File>, rights: u64) -> Result<(), Al
     Ok(())
 }
 
-/// Adds what the micro-operation does.
+/// Appends the file that the micro-operation makes, or adds what it does to that of its file.
+/// Anything else changes nothing, as does a write into a block that is not read.
 fn push_change(
     alloc: Global,
     files: &mut Vec<File>,
@@ -79,10 +84,10 @@ fn push_change(
             rights,
         } => (*file, Change::Rights(digest_of_rights(rights))),
         MicroOp::WriteBlock { file, block, .. } => {
-            let Some(at) = blocks.iter().position(|other| *other == *block) else {
+            let Some(index) = blocks.iter().position(|other| *other == *block) else {
                 return Ok(());
             };
-            (*file, Change::Write(at))
+            (*file, Change::Write(index))
         }
         _ => return Ok(()),
     };
@@ -92,6 +97,7 @@ fn push_change(
     Ok(())
 }
 
+/// The length of a file's content, 0 for a directory.
 fn length_of(content: &Content) -> u64 {
     match content.kind() {
         Kind::Directory => 0,
@@ -99,7 +105,7 @@ fn length_of(content: &Content) -> u64 {
     }
 }
 
-/// The files at the start, which nothing has changed yet.
+/// The files at the start, by their numbers, without changes.
 fn start_files(alloc: Global, trace: &Trace) -> Result<Vec<File>, AllocError> {
     let mut files = Vec::new(alloc);
     for _ in trace.files() {
@@ -116,8 +122,8 @@ fn start_files(alloc: Global, trace: &Trace) -> Result<Vec<File>, AllocError> {
     Ok(files)
 }
 
-/// The files by their numbers, each with what changes it; writes are kept as the blocks that are
-/// read.
+/// All files, by their numbers, each with what changes it. `blocks` are those that are read,
+/// ascending.
 pub fn files_of(
     alloc: Global,
     trace: &Trace,

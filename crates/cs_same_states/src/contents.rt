@@ -1,7 +1,9 @@
-//! Digests of the files of a state: what is in them, and their rights. They read no more of a file
-//! than the blocks that some micro-operation writes into, or ends a file in.
+//! Digests of the files of a state: of their bytes and their rights. Only those blocks of a file
+//! are read that some micro-operation writes into, or ends a file in. A wrong digest costs time,
+//! never an answer, so nothing here has a contract: a file or a place out of range, or a file that
+//! isn't there, has the digest 0.
 use crate::changes::{Change, File, blocks_of, files_of};
-use crate::mixing::{digest_of, mixed};
+use crate::mixing::{digest_of, mix};
 use cs_names::Path;
 use cs_plan::Scene;
 use cs_trace::BlockSize;
@@ -10,11 +12,11 @@ use std::alloc::{AllocError, Global};
 use std::collections::BTreeMap;
 use std::sync::Arc;
 
-/// What decides the bytes that a block of a file has in a state: the last micro-operations that
-/// write into it and that end the file before its end, and where the file ends in it. Those before them
-/// are in the state too, as they need them.
+/// What decides the bytes of a block of a file in a state: the last micro-operation that writes
+/// into it, the last that ends the file before the block's end, and where the file ends in it. All
+/// earlier ones are in the state too, since these need them.
 #[derive(Clone, Copy, Debug, PartialEq, Eq, PartialOrd, Ord)]
-struct Version {
+struct BlockVersion {
     file: u32,
     block: u64,
     write: Option<u32>,
@@ -29,46 +31,46 @@ struct Cut {
     length: u64,
 }
 
-/// A file as it is in a state.
+/// A file as a state's members leave it.
 #[derive(Debug, Drop)]
-struct Left {
+struct FileLeft {
     /// The digest of owner, group and permissions.
     rights: u64,
     length: u64,
-    /// Those that change its size, but for each before one that leaves no more; so their lengths
-    /// ascend.
+    /// The changes of its size, without those followed by one to the same or a smaller size; so the
+    /// lengths ascend.
     cuts: Vec<Cut>,
-    /// The last micro-operation that writes into each of the blocks that are read.
+    /// For each of the blocks that are read, the last micro-operation that writes into it.
     writes: Vec<Option<u32>>,
 }
 
-/// A state, and the path of one of its files.
+/// A file of a state, with one of its paths.
 #[derive(Clone, Copy)]
-pub struct Standing<'a> {
+pub struct FileOfState<'a> {
     pub scene: &'a Arc<Scene>,
     pub number: u32,
     pub path: &'a Path,
     pub file: u32,
 }
 
-/// The files of a trace, with the digests that were found so far.
+/// The files of a trace, with the digests of blocks that were read so far.
 #[derive(Drop)]
 pub struct Contents {
     files: Vec<File>,
     block_size: BlockSize,
     /// The blocks that are read, in ascending order.
     blocks: Vec<u64>,
-    digests: BTreeMap<Version, u64>,
+    digests: BTreeMap<BlockVersion, u64>,
 }
 
-/// The file as the members leave it.
-fn left_of(
+/// The file as the members leave it; `blocks` is how many blocks are read.
+fn file_left(
     alloc: Global,
     file: &File,
     members: &[bool],
     blocks: usize,
-) -> Result<Left, AllocError> {
-    let mut left = Left {
+) -> Result<FileLeft, AllocError> {
+    let mut left = FileLeft {
         rights: file.rights,
         length: file.length,
         cuts: Vec::new(alloc),
@@ -76,19 +78,20 @@ fn left_of(
     };
     for (place, change) in &file.changes {
         if members.get(*place as usize).copied().unwrap_or(false) {
-            left.take(*place, *change)?;
+            left.apply(*place, *change)?;
         }
     }
     Ok(left)
 }
 
+/// Whether the change leaves the file shorter than `end`.
 fn is_below(cut: &Cut, end: u64) -> bool {
     cut.length < end
 }
 
-impl Left {
-    /// Takes what a micro-operation does.
-    fn take(&mut self, place: u32, change: Change) -> Result<(), AllocError> {
+impl FileLeft {
+    /// Applies what the micro-operation at this place does.
+    fn apply(&mut self, place: u32, change: Change) -> Result<(), AllocError> {
         match change {
             Change::Rights(rights) => self.rights = rights,
             Change::Size(length) => {
@@ -97,8 +100,8 @@ impl Left {
                 self.cuts.truncate(kept);
                 self.cuts.push(Cut { place, length })?;
             }
-            Change::Write(at) => {
-                if let Some(write) = self.writes.get_mut(at) {
+            Change::Write(index) => {
+                if let Some(write) = self.writes.get_mut(index) {
                     *write = Some(place);
                 }
             }
@@ -106,7 +109,7 @@ impl Left {
         Ok(())
     }
 
-    /// The last micro-operation that leaves the file less than this length.
+    /// The place of the last micro-operation that leaves the file shorter than `end`, if one does.
     fn cut_below(&self, end: u64) -> Option<u32> {
         let count = self.cuts.partition_point(|cut| is_below(cut, end));
         let last = count.checked_sub(1)?;
@@ -115,18 +118,19 @@ impl Left {
     }
 }
 
-/// The digest of a block of a file of the state, which is made for this.
+/// The digest of a block of a file, read from the state, which is made for this. 0 if the state has
+/// no file at the path.
 fn read_block(
     alloc: Global,
     size: BlockSize,
-    standing: Standing<'_>,
+    state_file: FileOfState<'_>,
     block: u64,
 ) -> Result<u64, AllocError> {
-    let Ok(made) = Scene::make(alloc, standing.scene, standing.number) else {
+    let Ok(made) = Scene::make(alloc, state_file.scene, state_file.number) else {
         return Err(AllocError);
     };
     let store = made.store();
-    let Some(number) = number_of_path(store, standing.path.names()) else {
+    let Some(number) = number_of_path(store, state_file.path.names()) else {
         return Ok(0);
     };
     let offset = block.wrapping_mul(size.bytes());
@@ -137,7 +141,7 @@ fn read_block(
 }
 
 impl Contents {
-    /// The files of a scene's trace.
+    /// The files of a scene's trace, with no block read yet.
     pub fn of(alloc: Global, scene: &Scene) -> Result<Contents, AllocError> {
         let ops = scene.micros().ops();
         let block_size = scene.trace().version().block_size();
@@ -150,46 +154,47 @@ impl Contents {
         })
     }
 
-    /// The digest of a block, found before or read now.
+    /// The digest of a block: one that was kept, or it is read now and kept.
     fn block_digest(
         &mut self,
         alloc: Global,
-        standing: Standing<'_>,
-        version: Version,
+        state_file: FileOfState<'_>,
+        version: BlockVersion,
     ) -> Result<u64, AllocError> {
         if let Some(digest) = self.digests.get(&version) {
             return Ok(*digest);
         }
-        let digest = read_block(alloc, self.block_size, standing, version.block)?;
+        let digest = read_block(alloc, self.block_size, state_file, version.block)?;
         self.digests.insert(version, digest)?;
         Ok(digest)
     }
 
-    /// The digest of what is in a file of the state that has these members, and of its rights.
+    /// The digest of the bytes and rights of a file of the state that has these members. 0 if there
+    /// is no file of that number.
     pub fn digest(
         &mut self,
         alloc: Global,
-        standing: Standing<'_>,
+        state_file: FileOfState<'_>,
         members: &[bool],
     ) -> Result<u64, AllocError> {
-        let Some(file) = self.files.get(standing.file as usize) else {
+        let Some(file) = self.files.get(state_file.file as usize) else {
             return Ok(0);
         };
-        let left = left_of(alloc, file, members, self.blocks.len())?;
+        let left = file_left(alloc, file, members, self.blocks.len())?;
         let size = self.block_size.bytes();
-        let mut digest = mixed(left.rights, left.length);
-        for (at, write) in left.writes.iter().enumerate() {
-            let block = self.blocks.get(at).copied().unwrap_or(0);
+        let mut digest = mix(left.rights, left.length);
+        for (index, write) in left.writes.iter().enumerate() {
+            let block = self.blocks.get(index).copied().unwrap_or(0);
             if block <= left.length / size {
                 let end = block.saturating_add(1).saturating_mul(size);
-                let version = Version {
-                    file: standing.file,
+                let version = BlockVersion {
+                    file: state_file.file,
                     block,
                     write: *write,
                     cut: left.cut_below(end),
                     end: left.length.min(end),
                 };
-                digest = mixed(digest, self.block_digest(alloc, standing, version)?);
+                digest = mix(digest, self.block_digest(alloc, state_file, version)?);
             }
         }
         Ok(digest)

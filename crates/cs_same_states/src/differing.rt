@@ -4,7 +4,7 @@ ghost use Rattle.cs_same_states.specs.Differences.{AreDiffering};
 
 use std::alloc::{AllocError, Global};
 
-/// The places that are in only one of two sets, both of which ascend.
+/// The places that are in only one of two sets. Both sets must ascend, as does the result.
 pub fn differing(alloc: Global, places: &[u32], others: &[u32]) -> Result<Vec<u32>, AllocError>
     ensures { IfOk result (λ found. AreDiffering places.now others.now found.items) }
 {

@@ -1,12 +1,14 @@
-//! The digest of a state: states with equal trees have the same.
-use crate::contents::{Contents, Standing};
+//! The digest of a state: states with equal trees have the same. A wrong digest costs time, never
+//! an answer, so nothing here has a contract: trees are compared before two states are called
+//! equal.
+use crate::contents::{Contents, FileOfState};
 use crate::entries::{Entries, Entry};
-use crate::mixing::mixed;
+use crate::mixing::mix;
 use cs_plan::Scene;
 use std::alloc::{AllocError, Global};
 use std::sync::Arc;
 
-/// What the digests of a trace's states are found from.
+/// What the digests of a trace's states are computed from.
 #[derive(Drop)]
 pub struct Digests {
     entries: Entries,
@@ -14,7 +16,7 @@ pub struct Digests {
 }
 
 impl Digests {
-    /// Those of a scene's states.
+    /// The digests of a scene's states; none is computed yet.
     pub fn of(alloc: Global, scene: &Scene) -> Result<Digests, AllocError> {
         Ok(Digests {
             entries: Entries::of(alloc, scene)?,
@@ -22,7 +24,7 @@ impl Digests {
         })
     }
 
-    /// The digest of the state of that number, which has these members. It takes time for the paths
+    /// The digest of the state of this number, which has these members. It takes time for the paths
     /// that operations touch, and for the blocks that they write.
     pub fn digest(
         &mut self,
@@ -31,23 +33,23 @@ impl Digests {
         number: u32,
         members: &[bool],
     ) -> Result<u64, AllocError> {
-        let left = self.entries.left(alloc, members)?;
+        let left = self.entries.entries_left(alloc, members)?;
         let mut digest = 0;
         for (path, entry) in self.entries.paths().iter().zip(&left) {
             let part = match *entry {
                 Entry::Nothing => 0,
-                Entry::Directory { rights } => mixed(1, rights),
+                Entry::Directory { rights } => mix(1, rights),
                 Entry::File { file } => {
-                    let standing = Standing {
+                    let state_file = FileOfState {
                         scene,
                         number,
                         path,
                         file,
                     };
-                    mixed(2, self.contents.digest(alloc, standing, members)?)
+                    mix(2, self.contents.digest(alloc, state_file, members)?)
                 }
             };
-            digest = mixed(digest, part);
+            digest = mix(digest, part);
         }
         Ok(digest)
     }

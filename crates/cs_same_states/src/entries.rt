@@ -1,4 +1,6 @@
-//! What is at the paths at which the states of a trace differ.
+//! What is at the paths at which the states of a trace differ. It is for digests only: a wrong
+//! digest costs time, never an answer, so nothing here has a contract. What is out of range is
+//! skipped.
 use crate::mixing::{digest_of_record, digest_of_rights};
 use crate::places::Places;
 use cs_micro::MicroOp;
@@ -7,7 +9,7 @@ use cs_plan::Scene;
 use cs_trace::{Node, Target, Trace};
 use std::alloc::{AllocError, Global};
 
-/// What is at a path. A digest is kept of a directory's owner, group and permissions.
+/// What is at a path; of a directory, a digest of its owner, group and permissions.
 #[derive(Clone, Copy, Debug)]
 pub enum Entry {
     Nothing,
@@ -33,7 +35,7 @@ pub struct Entries {
 }
 
 impl Entry {
-    /// What a node is, with the digest of its rights if it is a directory.
+    /// The entry of a node; `rights` is the digest of its rights, used only for a directory.
     fn of(node: Node, rights: u64) -> Entry {
         match node {
             Node::Directory => Entry::Directory { rights },
@@ -43,7 +45,8 @@ impl Entry {
 }
 
 impl Entries {
-    /// Those of a scene.
+    /// The paths of a scene's trace, what is there at the start, and what its micro-operations
+    /// leave there.
     pub fn of(alloc: Global, scene: &Scene) -> Result<Entries, AllocError> {
         let ops = scene.micros().ops();
         let mut places = Places::new(alloc);
@@ -59,51 +62,51 @@ impl Entries {
         })
     }
 
-    /// The paths, in an order of their own.
+    /// The paths, in the order in which operations first touch them.
     pub fn paths(&self) -> &[Path] {
         &self.paths
     }
 
-    /// What is at each of them in the state that has these members.
-    pub fn left(&self, alloc: Global, members: &[bool]) -> Result<Vec<Entry>, AllocError> {
+    /// What is at each of the paths in the state that has these members.
+    pub fn entries_left(&self, alloc: Global, members: &[bool]) -> Result<Vec<Entry>, AllocError> {
         let mut left = Vec::from_slice(alloc, &self.start)?;
         for effect in &self.effects {
             if members.get(effect.op) == Some(&true) {
-                put(&mut left, effect.path, effect.entry);
+                set_entry(&mut left, effect.path, effect.entry);
             }
         }
         Ok(left)
     }
 }
 
-/// Puts what is at the path.
-fn put(entries: &mut [Entry], path: usize, entry: Entry) {
-    if let Some(stands) = entries.get_mut(path) {
-        *stands = entry;
+/// Replaces what is at a path.
+fn set_entry(entries: &mut [Entry], path: usize, entry: Entry) {
+    if let Some(old) = entries.get_mut(path) {
+        *old = entry;
     }
 }
 
-/// What is at these paths at the start.
+/// What is at each of these paths at the start.
 fn start_of(alloc: Global, trace: &Trace, places: &Places) -> Result<Vec<Entry>, AllocError> {
     let mut start = vec![in alloc; Entry::Nothing; places.paths.len()]?;
     for ((path, record), node) in trace.records().iter().zip(trace.nodes()) {
         if let Some(place) = places.by_path.get(path) {
             let rights = digest_of_record(record);
-            put(&mut start, *place, Entry::of(*node, rights));
+            set_entry(&mut start, *place, Entry::of(*node, rights));
         }
     }
     Ok(start)
 }
 
-/// What is at a path after the micro-operations so far.
-fn standing(places: &Places, now: &[Entry], path: &Path) -> Entry {
+/// What is at a path after the micro-operations so far: nothing, if it isn't one of these paths.
+fn entry_at(places: &Places, now: &[Entry], path: &Path) -> Entry {
     match places.by_path.get(path) {
         Some(place) => now.get(*place).copied().unwrap_or(Entry::Nothing),
         None => Entry::Nothing,
     }
 }
 
-/// Adds what is at a path after a micro-operation.
+/// Notes what micro-operation `op` leaves at a path, in `now` and in `effects`.
 fn push_effect(
     places: &Places,
     now: &mut [Entry],
@@ -113,7 +116,7 @@ fn push_effect(
     entry: Entry,
 ) -> Result<(), AllocError> {
     if let Some(place) = places.by_path.get(path) {
-        put(now, *place, entry);
+        set_entry(now, *place, entry);
         effects.push(Effect {
             op,
             path: *place,
@@ -123,7 +126,7 @@ fn push_effect(
     Ok(())
 }
 
-/// Adds what is at the paths that a micro-operation touches.
+/// Notes what a micro-operation leaves at the paths that it touches.
 fn push_effects(
     places: &Places,
     now: &mut [Entry],
@@ -144,7 +147,7 @@ fn push_effects(
             push_effect(places, now, effects, place, path, Entry::Nothing)
         }
         MicroOp::MoveDirEntry { from, to } => {
-            let moved = standing(places, now, from);
+            let moved = entry_at(places, now, from);
             push_effect(places, now, effects, place, from, Entry::Nothing)?;
             push_effect(places, now, effects, place, to, moved)
         }
@@ -160,6 +163,7 @@ fn push_effects(
     }
 }
 
+/// What each micro-operation leaves at the paths that it touches, in order.
 fn effects_of(
     alloc: Global,
     places: &Places,

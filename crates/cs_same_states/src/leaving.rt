@@ -1,4 +1,4 @@
-//! Whether two sets are seen to leave equal trees, with none of the trees made.
+//! Whether two sets are seen to leave equal trees, without making the trees.
 ghost use Rattle.std.specs.Prelude.{◌≡◌, ◌<◌, ℕ, length, slice_index_or, IfOk, IsTrue};
 ghost use Rattle.cs_micro.specs.Micros.{micros_in};
 ghost use Rattle.cs_apm.specs.Contents.{IsSmall};
@@ -16,7 +16,7 @@ use crate::differing::differing;
 use crate::pairs::{Pair, is_settled};
 use crate::parts::Parts;
 use crate::reaching::changed_file;
-use crate::standing::{are_all_alike, flag_at, stands_in_both};
+use crate::standing::{are_all_alike, flag_at, is_in_both};
 use crate::touched::Touched;
 use cs_apm::slot::Slot;
 use cs_micro::MicroOp;
@@ -24,7 +24,7 @@ use cs_plan::Scene;
 use std::alloc::{AllocError, Global};
 
 /// What two sets leave in the slots that some step changes, and for each file whether it is in
-/// another.
+/// another slot.
 #[derive(Clone, Copy)]
 struct Slots<'a> {
     first: &'a [Slot],
@@ -32,7 +32,8 @@ struct Slots<'a> {
     fixed: &'a [bool],
 }
 
-/// Whether the micro-operation's file is left alike in the part that it changes, or has no slot.
+/// Whether both sets leave the micro-operation's file the same in the part that it changes. True if
+/// it changes no file, or one that isn't in the same slot in both.
 fn is_alike_by(
     alloc: Global,
     pair: &Pair<'_>,
@@ -49,14 +50,14 @@ fn is_alike_by(
     let Some(file) = changed_file(op) else {
         return Ok(true);
     };
-    if flag_at(slots.fixed, file) || stands_in_both(slots.first, slots.second, file) {
+    if flag_at(slots.fixed, file) || is_in_both(slots.first, slots.second, file) {
         is_settled(alloc, pair, file, op)
     } else {
         Ok(true)
     }
 }
 
-/// The same of the micro-operation at a place.
+/// The same as `is_alike_by`, of the micro-operation at a place; true if there is none.
 fn is_alike_at(
     alloc: Global,
     pair: &Pair<'_>,
@@ -76,8 +77,7 @@ fn is_alike_at(
     is_alike_by(alloc, pair, slots, op)
 }
 
-/// Whether each file in a slot is left alike in what one of the micro-operations at these places
-/// changes.
+/// Whether `is_alike_by` is true of the micro-operations at all these places.
 fn are_alike_by(
     alloc: Global,
     pair: &Pair<'_>,
@@ -99,8 +99,8 @@ fn are_alike_by(
     Ok(true)
 }
 
-/// Whether both leave equal trees: what is in the slots is alike, and what is in only one of them
-/// leaves the files in the slots as they are in the other.
+/// Whether both are seen to leave equal trees: what they leave in the slots is alike, and the
+/// micro-operations that only one of them has leave the files in the slots as the other does.
 fn are_alike(
     alloc: Global,
     pair: &Pair<'_>,
@@ -116,8 +116,8 @@ fn are_alike(
         → crash_state_of pair.now.trace.now (micros_in pair.now.trace.now) pair.now.places.now
         ≡ crash_state_of pair.now.trace.now (micros_in pair.now.trace.now) pair.now.others.now) }
 {
-    let first = touched.left(alloc, pair.places)?;
-    let second = touched.left(alloc, pair.others)?;
+    let first = touched.slots_left(alloc, pair.places)?;
+    let second = touched.slots_left(alloc, pair.others)?;
     if !are_all_alike(alloc, pair, &first, &second)? {
         return Ok(false);
     }
@@ -130,9 +130,9 @@ fn are_alike(
     are_alike_by(alloc, pair, &slots, &found)
 }
 
-/// Whether two sets are seen to leave equal trees. Of files that are the same in both, only the
-/// bytes are read that only one of the two changes; whole files are read if two are in each other's
-/// place.
+/// Whether two sets are seen to leave equal trees; false says nothing. Of a file that is in the
+/// same place in both, only the bytes are read that only one of them changes. Whole files are read
+/// if they are two in the same place.
 pub fn are_seen_equal(
     alloc: Global,
     scene: &Scene,

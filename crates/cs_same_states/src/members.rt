@@ -9,7 +9,7 @@ use cs_plan::Scene;
 use cs_plan::members::places_of;
 use std::alloc::{AllocError, Global};
 
-/// The places of the micro-operations of the state of that number, in the trace's order.
+/// The places of the micro-operations of the state of this number, in the trace's order.
 pub fn places_at(alloc: Global, scene: &Scene, number: u32) -> Result<Vec<u32>, AllocError>
     requires { number < length scene.now.plan }
     ensures set { IfOk result (λ places. set_at scene.now number ≡ Some places.items) }
@@ -25,7 +25,8 @@ pub fn places_at(alloc: Global, scene: &Scene, number: u32) -> Result<Vec<u32>, 
     Ok(places)
 }
 
-/// For each of so many micro-operations whether its place is among these.
+/// For each of `count` micro-operations, whether its place is among these. It is for digests only;
+/// a place out of range is skipped.
 pub fn members_of(alloc: Global, count: usize, places: &[u32]) -> Result<Vec<bool>, AllocError> {
     let mut members = vec![in alloc; false; count]?;
     for place in places {

@@ -1,23 +1,25 @@
-//! Whether two records say the same beside their bytes.
+//! Whether two records have equal metadata.
 ghost use Rattle.std.specs.Prelude.{◌≡◌, ◌↔◌, IsTrue};
 ghost use Rattle.cs_tree_model.specs.Record.{metadata_of_ref};
 
 use cs_names::UserName;
 use cs_tree_model::{Kind, Metadata};
 
+/// Whether two names of users are the same.
 pub(crate) fn are_same_names(name: &UserName, other: &UserName) -> bool
     ensures { IsTrue result ↔ (name.now ≡ other.now) }
 {
     name == other
 }
 
+/// Whether both are directories, or both files of the same length.
 fn are_same_kinds(kind: Kind, other: Kind) -> bool
     ensures { IsTrue result ↔ (kind ≡ other) }
 {
     kind == other
 }
 
-/// Whether the same users have to do with both.
+/// Whether owner, group and the user who changed it last are the same.
 fn have_same_users(metadata: &Metadata<'_>, other: &Metadata<'_>) -> bool
     ensures { IsTrue result ↔
         ((metadata.now.owner.now ≡ other.now.owner.now)
@@ -29,7 +31,7 @@ fn have_same_users(metadata: &Metadata<'_>, other: &Metadata<'_>) -> bool
         && are_same_names(metadata.muid, other.muid)
 }
 
-/// Whether both have the same numbers.
+/// Whether number, version, mode and times are the same.
 fn have_same_numbers(metadata: &Metadata<'_>, other: &Metadata<'_>) -> bool
     ensures { IsTrue result ↔
         ((metadata.now.number ≡ other.now.number) × (metadata.now.vers ≡ other.now.vers)
@@ -43,7 +45,7 @@ fn have_same_numbers(metadata: &Metadata<'_>, other: &Metadata<'_>) -> bool
         && metadata.mtime == other.mtime
 }
 
-/// Whether two records say the same beside their bytes. It takes no memory.
+/// Whether two records have equal metadata. It allocates nothing.
 pub fn are_same_metadata(metadata: &Metadata<'_>, other: &Metadata<'_>) -> bool
     ensures { IsTrue result ↔ (metadata_of_ref metadata.now ≡ metadata_of_ref other.now) }
 {

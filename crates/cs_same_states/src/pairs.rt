@@ -1,4 +1,4 @@
-//! Whether two sets leave the same of a file.
+//! Whether two sets leave a file the same.
 ghost use Rattle.std.specs.Prelude.{◌≡◌, ◌≤◌, ◌+◌, ◌<◌, ◌^◌, ◌↔◌, ℕ, length, IfOk, IsTrue};
 ghost use Rattle.cs_apm.specs.Atlases.{AreStarts, content_before};
 ghost use Rattle.std.specs.List.{All};
@@ -28,7 +28,9 @@ pub struct Pair<'a> {
     pub others: &'a [u32],
 }
 
-/// The bytes of the file at the start; one that is made has none.
+/// The bytes of the file at the start; none if an operation makes it. `_ops` is for the contract
+/// only: it speaks of all files, those that `ops` makes too. `cs_state` has a private function with
+/// this body, whose contract says less.
 fn start_bytes<'a>(trace: &'a Trace, _ops: &[MicroOp], tables: &Tables, file: usize) -> &'a [u8]
     requires { AreStarts trace.now tables.now.starts.items }
     ensures { whole_content result.now ≡ content_before trace.now _ops.now file }
@@ -41,7 +43,7 @@ fn start_bytes<'a>(trace: &'a Trace, _ops: &[MicroOp], tables: &Tables, file: us
     record.content.bytes().unwrap_or(&[])
 }
 
-/// Whether they are the same owner, group and permissions.
+/// Whether owner, group and permissions are the same.
 pub fn are_same_rights(rights: &Rights, others: &Rights) -> bool
     ensures { IsTrue result → rights.now ≡ others.now }
 {
@@ -50,7 +52,7 @@ pub fn are_same_rights(rights: &Rights, others: &Rights) -> bool
         && rights.permissions == others.permissions
 }
 
-/// Whether the sets leave the same size and the same bytes there of the file.
+/// Whether both sets leave the same size of the file, and the same bytes in the span.
 fn are_same_windows(
     alloc: Global,
     pair: &Pair<'_>,
@@ -79,7 +81,8 @@ fn are_same_windows(
     Ok(window.bytes == other.bytes)
 }
 
-/// Whether the sets leave the same owner, group and permissions of the one file and the other.
+/// Whether the first set leaves the same owner, group and permissions of `file` as the second of
+/// `other`.
 fn are_same_owners(pair: &Pair<'_>, file: u32, other: u32) -> bool
     requires pair { IsPair pair.now }
     requires first { file < length pair.now.tables.now.owners.items }
@@ -92,8 +95,8 @@ fn are_same_owners(pair: &Pair<'_>, file: u32, other: u32) -> bool
     are_same_rights(owner, another)
 }
 
-/// Whether the sets leave the same size, owner, group and permissions of the file, and the same
-/// bytes in the part that the micro-operation reaches.
+/// Whether both sets leave the same size, owner, group and permissions of the file, and the same
+/// bytes in the part that the micro-operation changes. False if there is no such file.
 pub fn is_settled(
     alloc: Global,
     pair: &Pair<'_>,
@@ -116,7 +119,7 @@ pub fn is_settled(
     are_same_windows(alloc, pair, start, file, span)
 }
 
-/// All bytes that a set leaves of the file.
+/// All bytes of the file after a set's members.
 fn bytes_left(
     alloc: Global,
     pair: &Pair<'_>,
@@ -133,12 +136,12 @@ fn bytes_left(
 {
     let start = start_bytes(pair.trace, pair.ops, pair.tables, file as usize);
     let mut content = FileContent::of(Vec::from_slice(alloc, start)?);
-    content.take(file, pair.ops, places)?;
+    content.apply_members(file, pair.ops, places)?;
     content.into_visible()
 }
 
-/// Whether the one set leaves of the one file what the other leaves of the other: all their bytes
-/// are compared.
+/// Whether the first set leaves the same bytes, owner, group and permissions of `file` as the
+/// second of `other`. All bytes are compared. False if there is no such file.
 pub fn are_same_files(
     alloc: Global,
     pair: &Pair<'_>,

@@ -1,4 +1,5 @@
-//! The paths at which the states of a trace may differ.
+//! The paths at which the states of a trace may differ. It is for digests only: a wrong digest
+//! costs time, never an answer, so nothing here has a contract. A file out of range is skipped.
 use cs_micro::MicroOp;
 use cs_names::Path;
 use cs_trace::Target;
@@ -6,15 +7,16 @@ use std::alloc::{AllocError, Global};
 use std::collections::BTreeMap;
 
 /// The paths that some micro-operation touches, those of the directories whose rights one sets, and
-/// all those of the start's files that one changes.
+/// all paths of the start's files that one changes.
 #[derive(Debug, Drop)]
 pub struct Places {
     pub paths: Vec<Path>,
-    /// The place of each among them.
+    /// The place of each path in `paths`.
     pub by_path: BTreeMap<Path, usize>,
 }
 
 impl Places {
+    /// No path.
     pub fn new(alloc: Global) -> Places {
         Places {
             paths: Vec::new(alloc),
@@ -22,6 +24,7 @@ impl Places {
         }
     }
 
+    /// Adds the path, unless it is there.
     fn add(&mut self, alloc: Global, path: &Path) -> Result<(), AllocError> {
         if self.by_path.contains_key(path) {
             return Ok(());
@@ -32,7 +35,7 @@ impl Places {
         Ok(())
     }
 
-    /// Adds the paths of a file of the start; a file that is made has none there.
+    /// Adds the paths that a file has at the start; none if an operation makes it.
     fn add_start(
         &mut self,
         alloc: Global,
@@ -47,9 +50,9 @@ impl Places {
         Ok(())
     }
 
-    /// Adds the paths of a micro-operation: those that it touches, that of the directory, or those
-    /// of the start's file that it changes. The paths of the start's files are given by their
-    /// numbers.
+    /// Adds the paths of a micro-operation: those that it touches, that of the directory whose
+    /// rights it sets, or those of the start's file that it changes. `starts` has the paths of the
+    /// start's files, by their numbers.
     pub fn add_touched(
         &mut self,
         alloc: Global,

@@ -1,4 +1,4 @@
-//! Which bytes of a file a micro-operation reaches.
+//! Which bytes of a file a micro-operation can change.
 ghost use Rattle.std.specs.Prelude.{◌≡◌, ◌+◌, ◌<◌, ◌≤◌, ◌^◌, true, ℕ, fold, length, map};
 ghost use Rattle.std.specs.List.{All};
 ghost use Rattle.cs_apm.specs.Contents.{IsSmall};
@@ -11,14 +11,15 @@ use cs_micro::MicroOp;
 use cs_names::limits::FILE_BYTES;
 use cs_trace::Target;
 
-/// So many bytes from an offset on.
+/// `count` bytes from an offset on.
 #[derive(Clone, Copy, Debug)]
 pub struct Span {
     pub offset: u64,
     pub count: u64,
 }
 
-/// The file that the micro-operation changes, or whose owner, group and permissions it sets.
+/// The file whose size, bytes, owner, group or permissions the micro-operation changes; None if it
+/// changes no file.
 pub fn changed_file(op: &MicroOp) -> Option<u32>
     ensures { result ≡ reaching.changed_file op.now }
 {
@@ -33,7 +34,7 @@ pub fn changed_file(op: &MicroOp) -> Option<u32>
     }
 }
 
-/// The lesser of a floor and the size that the micro-operation gives the file.
+/// The lesser of a floor and the size that the micro-operation gives the file, if it gives it one.
 fn floor_after(file: u32, floor: u64, op: &MicroOp) -> u64
     ensures { result ≡ floor_after file floor op.now }
 {
@@ -52,8 +53,8 @@ fn floor_after(file: u32, floor: u64, op: &MicroOp) -> u64
     }
 }
 
-/// The least size that a micro-operation gives the file: no change of its size reaches what lies
-/// before.
+/// The least size that a micro-operation gives the file, or FILE_BYTES if none does. No change of
+/// its size changes a byte before it.
 pub fn floor_of(ops: &[MicroOp], file: u32) -> u64
     ensures { result ≡ floor_in ops.now file }
 {
@@ -64,7 +65,7 @@ pub fn floor_of(ops: &[MicroOp], file: u32) -> u64
     floor
 }
 
-/// The size after a micro-operation.
+/// The size of the file after a micro-operation.
 fn size_after(file: u32, size: u64, op: &MicroOp) -> u64
     ensures { result ≡ windows.size_after file size op.now }
 {
@@ -77,7 +78,7 @@ fn size_after(file: u32, size: u64, op: &MicroOp) -> u64
     }
 }
 
-/// The size that a set leaves of the file, which had this size.
+/// The size of the file after a set's members, from the size that it had.
 pub fn size_left(file: u32, size: u64, ops: &[MicroOp], places: &[u32]) -> u64
     requires { All (λ place. place < length ops.now) places.now }
     ensures { result ≡ fold (windows.size_after file) size (map (op_at ops.now) places.now) }
@@ -89,7 +90,7 @@ pub fn size_left(file: u32, size: u64, ops: &[MicroOp], places: &[u32]) -> u64
     left
 }
 
-/// The bytes from the one on, before the other.
+/// The bytes from `from` on and before `end`; none if `end` is not after it.
 fn between(from: u64, end: u64) -> Span
     ensures few { result.offset + result.count < 2 ^ 64 }
     ensures all { (i : ℕ) → from ≤ i → i < end → (result.offset ≤ i)
@@ -101,8 +102,8 @@ fn between(from: u64, end: u64) -> Span
     }
 }
 
-/// The bytes that the micro-operation reaches of its file before the end, where it has this floor
-/// and this size.
+/// The bytes that the micro-operation can change of its file before its end, if the file has this
+/// floor and this size.
 pub fn reached(op: &MicroOp, floor: u64, size: u64) -> Span
     requires { IsSmall op.now }
     ensures few { result.offset + result.count < 2 ^ 64 }

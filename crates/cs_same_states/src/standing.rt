@@ -10,7 +10,7 @@ use cs_apm::slot::Slot;
 use cs_trace::Rights;
 use std::alloc::{AllocError, Global};
 
-/// Sets the flag of the file in a slot.
+/// Sets the flag of the file in a slot, if there is one and it has a flag.
 fn flag(flags: &mut [bool], slot: Slot)
     ensures { flags.new ≡ flagged flags.old slot }
 {
@@ -30,8 +30,8 @@ fn flag_all(flags: &mut [bool], slots: &[Slot])
     }
 }
 
-/// For each of the first so many files whether it is in a slot.
-pub fn standing(alloc: Global, slots: &[Slot], count: usize) -> Result<Vec<bool>, AllocError>
+/// For each of the first `count` files, whether it is in a slot.
+pub fn files_in_slots(alloc: Global, slots: &[Slot], count: usize) -> Result<Vec<bool>, AllocError>
     ensures { IfOk result (λ flags. AreFlagged slots.now count flags.items) }
 {
     let mut flags = vec![in alloc; false; count]?;
@@ -39,13 +39,14 @@ pub fn standing(alloc: Global, slots: &[Slot], count: usize) -> Result<Vec<bool>
     Ok(flags)
 }
 
-/// The file's flag.
+/// The file's flag; false if it has none.
 pub fn flag_at(flags: &[bool], file: u32) -> bool
     ensures { result ≡ stand.flag_at flags.now file }
 {
     flags.get(file as usize).copied().unwrap_or(false)
 }
 
+/// Whether this file is in the slot.
 fn is_file(slot: Slot, file: u32) -> bool
     ensures { IsTrue result ↔ (slot ≡ Slot.File file) }
 {
@@ -55,8 +56,8 @@ fn is_file(slot: Slot, file: u32) -> bool
     }
 }
 
-/// Whether the file is in the same slot in both.
-pub fn stands_in_both(slots: &[Slot], others: &[Slot], file: u32) -> bool
+/// Whether some slot has the file in both lists.
+pub fn is_in_both(slots: &[Slot], others: &[Slot], file: u32) -> bool
     requires { length slots.now ≡ length others.now }
     ensures { StandsInBoth slots.now others.now file → IsTrue result }
 {
@@ -68,7 +69,8 @@ pub fn stands_in_both(slots: &[Slot], others: &[Slot], file: u32) -> bool
     false
 }
 
-/// Whether the rights at two places of the table are the same.
+/// Whether the rights at two places of the table are the same; false if one of two different places
+/// is out of range.
 fn are_rights_alike(table: &[Rights], place: u32, other: u32) -> bool
     ensures { IsTrue result → rights_at table.now place ≡ rights_at table.now other }
 {
@@ -81,7 +83,8 @@ fn are_rights_alike(table: &[Rights], place: u32, other: u32) -> bool
     }
 }
 
-/// Whether the sets leave the same in two slots, or the same file.
+/// Whether what the first set leaves in `slot` is seen to be the same as what the second leaves in
+/// `other`, or both slots have the same file.
 fn are_alike(alloc: Global, pair: &Pair<'_>, slot: Slot, other: Slot) -> Result<bool, AllocError>
     requires { IsPair pair.now }
     ensures { IfOk result (λ same. IsTrue same → AreAlike pair.now slot other) }
@@ -101,7 +104,7 @@ fn are_alike(alloc: Global, pair: &Pair<'_>, slot: Slot, other: Slot) -> Result<
     }
 }
 
-/// Whether the sets leave the same in each of these slots, or the same file.
+/// Whether `are_alike` is true of all slots, each with the one at the same place.
 pub fn are_all_alike(
     alloc: Global,
     pair: &Pair<'_>,

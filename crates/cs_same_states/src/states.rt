@@ -16,7 +16,8 @@ use std::alloc::{AllocError, Global};
 use std::collections::BTreeMap;
 use std::sync::Arc;
 
-/// Whether the states of two numbers of a plan have equal trees. Both are made for this.
+/// Whether the states of two numbers of a plan have equal trees. Both are made for this, and
+/// compared whole.
 pub fn are_same_states(
     alloc: Global,
     scene: &Arc<Scene>,
@@ -38,7 +39,8 @@ pub fn are_same_states(
     are_same_trees(alloc, made.store(), others.store())
 }
 
-/// Whether the states of two numbers are seen to have equal trees. None is made for this.
+/// Whether the states of two numbers are seen to have equal trees; false says nothing. Neither is
+/// made for this.
 pub fn are_seen_same(
     alloc: Global,
     scene: &Arc<Scene>,
@@ -58,8 +60,8 @@ pub fn are_seen_same(
     are_seen_equal(alloc, scene, parts, &places, &others)
 }
 
-/// Whether the states of two numbers have equal trees. They are made only if it can't be seen
-/// without.
+/// Whether the states of two numbers have equal trees. They are made only if `are_seen_same` is
+/// false.
 fn are_equal(
     alloc: Global,
     scene: &Arc<Scene>,
@@ -80,8 +82,8 @@ fn are_equal(
     are_same_states(alloc, scene, number, other)
 }
 
-/// The place among these numbers of the first that is less than this one and whose state has its
-/// tree.
+/// The place in `numbers` of the first number that is less than this one and whose state has an
+/// equal tree; None if there is none.
 fn place_among(
     alloc: Global,
     scene: &Arc<Scene>,
@@ -107,9 +109,10 @@ fn place_among(
     Ok(None)
 }
 
-/// The first state with the tree of this one, whose digest is given: that of the last state with
-/// that digest and tree, if there is one. This state is then kept in its place, since those that
-/// come close after one another differ by little.
+/// The number of the first state with a tree equal to that of the next state, whose number is the
+/// length of `firsts` and whose digest is given; its own number, if there is none. `found` has, by
+/// digest, the latest state of each tree, since states with close numbers differ by little and are
+/// compared fast. The next state replaces it.
 fn first_of(
     alloc: Global,
     scene: &Arc<Scene>,
@@ -139,7 +142,7 @@ fn first_of(
     Ok(firsts[last as usize])
 }
 
-/// The digest of the state of that number.
+/// The digest of the state of this number.
 fn digest_at(
     alloc: Global,
     scene: &Arc<Scene>,
@@ -153,9 +156,9 @@ fn digest_at(
     digests.digest(alloc, scene, number, &members)
 }
 
-/// For each state of the plan, by its number, the first one with an equal tree: its own number, if
-/// none before it has that. States are compared only if their digests are the same, and a digest
-/// is found from the paths that operations touch and the blocks that they write.
+/// For each state of the plan, by its number, the number of the first one with an equal tree: its
+/// own, if no earlier one has it. States are compared only if their digests are the same. A digest
+/// is computed from the paths that operations touch and the blocks that they write.
 pub fn first_same(alloc: Global, scene: &Arc<Scene>) -> Result<Vec<u32>, AllocError>
     ensures { IfOk result (λ firsts. AreFirsts (arc_value scene.now) firsts.items) }
 {

@@ -8,21 +8,21 @@ ghost use Rattle.cs_same_states.specs.Places.{AreListed, AreRenumbered, HasRank,
 ghost use Rattle.cs_same_states.specs.Places.{IsRenumbered};
 ghost use Rattle.cs_same_states.specs.Places.{IsUnlisted, Extends};
 
-use cs_apm::slot::{Slot, Step, fill};
+use cs_apm::slot::{Slot, Step, make_steps};
 use std::alloc::{AllocError, Global};
 
 /// The slots that some step changes.
 #[derive(Debug, Drop)]
 pub struct Touched {
-    /// Which they are.
+    /// The ids of these slots.
     pub ids: Vec<u32>,
     /// What is in them at the start.
     pub slots: Vec<Slot>,
-    /// The steps, with the slots' places among these.
+    /// All steps of the trace, with the slots' places in `ids`.
     pub steps: Vec<Step>,
 }
 
-/// The place of a slot among these, if it is one of them.
+/// The place of a slot in `ids`, if it is there.
 fn place_of(ids: &[u32], id: u32) -> Option<usize>
     ensures found { IfSome result (HasRank ids.now id) }
     ensures none { result ≡ None → IsUnlisted ids.now id }
@@ -35,7 +35,7 @@ fn place_of(ids: &[u32], id: u32) -> Option<usize>
     None
 }
 
-/// The place of a slot among these; it is added at their end if it isn't one of them.
+/// The place of a slot in `ids`; it is appended if it isn't there.
 fn rank_of(ids: &mut Vec<u32>, id: u32) -> Result<u32, AllocError>
     requires { length ids.old.items < 2 ^ 32 }
     ensures { IfOk result (IsRank ids.old.items ids.new.items id) }
@@ -48,8 +48,8 @@ fn rank_of(ids: &mut Vec<u32>, id: u32) -> Result<u32, AllocError>
     Ok(place)
 }
 
-/// The step with the places of its slots among these.
-fn renumbered(ids: &mut Vec<u32>, step: Step) -> Result<Step, AllocError>
+/// The step with its slots' places in `ids`; slots that aren't there are appended.
+fn renumber(ids: &mut Vec<u32>, step: Step) -> Result<Step, AllocError>
     requires { length ids.old.items + 2 < 2 ^ 32 }
     ensures step { IfOk result (IsRenumbered ids.new.items step) }
     ensures extends { OnOk result (Extends ids.old.items ids.new.items) }
@@ -67,7 +67,8 @@ fn renumbered(ids: &mut Vec<u32>, step: Step) -> Result<Step, AllocError>
     }
 }
 
-/// The steps, each with the places of its slots among these, which are none at first.
+/// The steps with their slots' places in `ids`, which is empty at first and gets each slot that a
+/// step changes.
 fn renumber_all(alloc: Global, ids: &mut Vec<u32>, steps: &[Step]) -> Result<Vec<Step>, AllocError>
     requires none { length ids.old.items ≡ 0 }
     requires few { length steps.now ≤ 2 ^ 20 }
@@ -75,12 +76,12 @@ fn renumber_all(alloc: Global, ids: &mut Vec<u32>, steps: &[Step]) -> Result<Vec
 {
     let mut made = Vec::new(alloc);
     for step in steps {
-        made.push(renumbered(ids, *step)?)?;
+        made.push(renumber(ids, *step)?)?;
     }
     Ok(made)
 }
 
-/// What is in these slots.
+/// What is in the slots of these ids; nothing, if one is out of range.
 fn slots_at(alloc: Global, slots: &[Slot], ids: &[u32]) -> Result<Vec<Slot>, AllocError>
     ensures { IfOk result (λ found. found.items ≡ map (slot_at slots.now) ids.now) }
 {
@@ -91,7 +92,7 @@ fn slots_at(alloc: Global, slots: &[Slot], ids: &[u32]) -> Result<Vec<Slot>, All
     Ok(found)
 }
 
-/// Leaves nothing in these slots.
+/// Empties the slots of these ids; one out of range is skipped.
 pub fn clear(slots: &mut [Slot], ids: &[u32])
     ensures long { length slots.new ≡ length slots.old }
     ensures others { (id : ℕ) → IsUnlisted ids.now id
@@ -105,7 +106,7 @@ pub fn clear(slots: &mut [Slot], ids: &[u32])
 }
 
 impl Touched {
-    /// Those of these slots that one of the steps changes.
+    /// The slots that one of the steps changes, with the steps renumbered.
     pub fn of(alloc: Global, slots: &[Slot], steps: &[Step]) -> Result<Touched, AllocError>
         requires { length steps.now ≤ 2 ^ 20 }
         ensures { IfOk result (λ touched. AreListed slots.now steps.now touched) }
@@ -116,8 +117,8 @@ impl Touched {
         Ok(Touched { ids, slots, steps })
     }
 
-    /// What the members of a set leave in them.
-    pub fn left(&self, alloc: Global, places: &[u32]) -> Result<Vec<Slot>, AllocError>
+    /// What the members of a set leave in these slots.
+    pub fn slots_left(&self, alloc: Global, places: &[u32]) -> Result<Vec<Slot>, AllocError>
         requires fit { All (FitsIn (length self.now.slots.items)) self.now.steps.items }
         requires inside { All (λ place. place < length self.now.steps.items) places.now }
         ensures { IfOk result
@@ -126,7 +127,7 @@ impl Touched {
             (map (step_at self.now.steps.items) places.now)) }
     {
         let mut left = Vec::from_slice(alloc, &self.slots)?;
-        fill(&mut left, &self.steps, places);
+        make_steps(&mut left, &self.steps, places);
         Ok(left)
     }
 }

@@ -12,6 +12,7 @@ use cs_names::laws::know;
 use cs_tree_model::{Kind, TreeRead};
 use std::alloc::{AllocError, Global};
 
+/// Whether what has the number is in the same directory in both; equal also if neither has it.
 fn are_same_parents<A: TreeRead, B: TreeRead>(tree: &A, other: &B, number: u64) -> bool
     ensures { IsTrue result ↔
         (parent_numbered (A.tree tree.now) number ≡ parent_numbered (B.tree other.now) number) }
@@ -19,6 +20,7 @@ fn are_same_parents<A: TreeRead, B: TreeRead>(tree: &A, other: &B, number: u64) 
     tree.parent_of(number) == other.parent_of(number)
 }
 
+/// Whether both are None, or the same name.
 fn is_same_name(name: Option<&Name>, other: Option<&Name>) -> bool
     ensures { IsTrue result ↔ (option_copied name.entry ≡ option_copied other.entry) }
 {
@@ -29,6 +31,7 @@ fn is_same_name(name: Option<&Name>, other: Option<&Name>) -> bool
     }
 }
 
+/// Whether what has the number has the same name in both; equal also if neither has it.
 fn are_same_names<A: TreeRead, B: TreeRead>(tree: &A, other: &B, number: u64) -> bool
     ensures { IsTrue result ↔
         (name_numbered (A.tree tree.now) number ≡ name_numbered (B.tree other.now) number) }
@@ -36,7 +39,7 @@ fn are_same_names<A: TreeRead, B: TreeRead>(tree: &A, other: &B, number: u64) ->
     is_same_name(tree.name_of(number), other.name_of(number))
 }
 
-/// Whether the first so many bytes of two files are the same.
+/// Whether the first `count` bytes of what has the number are the same in both.
 fn are_same_bytes<A: TreeRead, B: TreeRead>(
     alloc: Global,
     tree: &A,
@@ -53,7 +56,7 @@ fn are_same_bytes<A: TreeRead, B: TreeRead>(
     Ok(bytes == others)
 }
 
-/// Whether the number has the same record in both.
+/// Whether the number has the same record in both, bytes included, or in neither.
 fn are_same_records<A: TreeRead, B: TreeRead>(
     alloc: Global,
     tree: &A,
@@ -79,7 +82,7 @@ fn are_same_records<A: TreeRead, B: TreeRead>(
     }
 }
 
-/// Whether the number has the same record, the same name and the same directory in both.
+/// Whether the number has the same directory, name and record in both.
 fn are_same_at<A: TreeRead, B: TreeRead>(
     alloc: Global,
     tree: &A,
@@ -99,8 +102,8 @@ fn are_same_at<A: TreeRead, B: TreeRead>(
 }
 
 /// Whether two trees are equal: they have the same paths, and at each the same record with the same
-/// bytes; and the next file takes the same number. It goes by the numbers, and of each file takes
-/// memory for its bytes in both.
+/// bytes; and the next file gets the same number. Numbers are compared in turn; the bytes of a file
+/// are copied from both.
 pub fn are_same_trees<A: TreeRead, B: TreeRead>(
     alloc: Global,
     tree: &A,

@@ -1,4 +1,4 @@
-//! So many bytes of a file from an offset on, as a set leaves them. No other byte of it is read.
+//! Some bytes of a file from an offset on, as a set leaves them. No other byte of it is read.
 ghost use Rattle.std.specs.Prelude.{◌≡◌, ◌+◌, ◌<◌, ◌^◌, length, IfOk};
 ghost use Rattle.std.specs.List.{All};
 ghost use Rattle.cs_apm.specs.Contents.{IsSmall, content_after, content_left};
@@ -8,7 +8,7 @@ ghost use Rattle.cs_same_states.specs.Windows.{IsWindow};
 
 use cs_apm::content::changes_file;
 use cs_micro::MicroOp;
-use cs_state::file_part::{copy_part, cut, write};
+use cs_state::file_part::{copy_part, write_piece, zero_past};
 use std::alloc::{AllocError, Global};
 
 /// Bytes of a file from an offset on, zeros past its end, and its size.
@@ -18,20 +18,21 @@ pub struct Window {
     pub bytes: Vec<u8>,
 }
 
-/// Takes a change of the size of a file of this size.
+/// Zeroes what a change from `size` to `to` cuts off, in a part of a file that begins at the
+/// offset.
 fn resize(part: &mut [u8], offset: usize, size: u64, to: u64)
     ensures long { length part.new ≡ length part.old }
     ensures window { (f : Content) → IsWindow offset f size part.old
         → IsWindow offset (content_with_size to f) to part.new }
 {
     if to < size {
-        cut(part, offset, to as usize);
+        zero_past(part, offset, to as usize);
     }
 }
 
-/// Takes what a micro-operation does to the file of the number, of which these are the bytes from
-/// the offset on, and the size. Returns its size afterwards.
-fn change(part: &mut [u8], offset: usize, size: u64, file: u32, op: &MicroOp) -> u64
+/// Applies the micro-operation to a part of the file that begins at the offset, if it changes that
+/// file. Returns the file's size after it.
+fn apply_op(part: &mut [u8], offset: usize, size: u64, file: u32, op: &MicroOp) -> u64
     requires room { offset + length part.old < 2 ^ 64 }
     requires small { IsSmall op.now }
     ensures long { length part.new ≡ length part.old }
@@ -53,15 +54,15 @@ fn change(part: &mut [u8], offset: usize, size: u64, file: u32, op: &MicroOp) ->
             ..
         } => {
             let from = (*start + *at) as usize;
-            write(part, offset, from, bytes.as_slice());
+            write_piece(part, offset, from, bytes.as_slice());
             size
         }
         _ => size,
     }
 }
 
-/// Takes the members of a set, in their order.
-fn change_all(
+/// Applies the members of a set, in their order. Returns the file's size after them.
+fn apply_members(
     part: &mut [u8],
     offset: usize,
     size: u64,
@@ -78,13 +79,13 @@ fn change_all(
 {
     let mut left = size;
     for place in places {
-        left = change(part, offset, left, file, &ops[*place as usize]);
+        left = apply_op(part, offset, left, file, &ops[*place as usize]);
     }
     left
 }
 
-/// So many bytes from an offset on that a set leaves of the file of the number, which had these at
-/// first, and its size.
+/// `count` bytes from an offset on of the file after a set's members, with zeros past its end, and
+/// its size. `start` has its bytes at the start.
 pub fn window_left(
     alloc: Global,
     start: &[u8],
@@ -103,6 +104,6 @@ pub fn window_left(
         window.size window.bytes.items) }
 {
     let mut bytes = copy_part(alloc, start, offset, count)?;
-    let size = change_all(&mut bytes, offset, start.len() as u64, file, ops, places);
+    let size = apply_members(&mut bytes, offset, start.len() as u64, file, ops, places);
     Ok(Window { size, bytes })
 }

@@ -3,6 +3,7 @@ pub mod Filled
 pub mod Lines
 pub mod Loading
 pub mod Numbers
+pub mod ReadingPicks
 pub mod RunLines
 pub mod Scened
 pub mod Serving

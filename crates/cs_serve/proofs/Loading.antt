@@ -23,7 +23,7 @@ pub taken : (w w' : World) (file : List ℕ) (users : List Row) (reply : Reply) 
     → reply ≡ Reloaded → Loaded w file reloaded_text w'
 taken w w' file users reply read step is = Taken users read (subst (λ (r : Reply). IsStep w (Reload users) r w') is step) refl
 
--- where users aren't taken, they aren't kept
+-- users that aren't taken aren't kept
 pub not_kept : (w w' : World) (file : List ℕ) (users : List Row) (reply : Reply) → users_in file ≡ Ok users
     → IsStep w (Reload users) reply w' → (reply ≡ Reloaded → ⊥) → Loaded w file (refused_text Memory) w'
 not_kept w w' file users reply read step not =

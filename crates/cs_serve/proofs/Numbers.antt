@@ -1,4 +1,4 @@
--- Numbers of digits alone.
+-- Numbers of nothing but digits.
 use Rattle.std.proofs.Common.{◌≡◌, ℕ, ◌^◌, ◌<◌, Bool, true, false, ◌&&◌, List, [], ◌∷◌, Some, None, get_or, length, zero, suc, refl, sym}
 use Rattle.std.proofs.Common.{ap, ◌∙◌, arith}
 use Rattle.std.specs.Prelude.{Result, Ok, Err, IsAscii, if◌then◌else◌, nat_lt}

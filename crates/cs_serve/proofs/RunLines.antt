@@ -63,7 +63,7 @@ ran_part w all lines rest old mid new v line text w' r p part parts = record {
   };
 }
 
--- the first lines, and the one behind them
+-- the first lines, and the one after them
 next_is : (all : List ScriptLine) (i : ℕ) (line : ScriptLine) → i < length all → line ≡ get_or all i line
     → take (i + 1) all ≡ take i all ++ line ∷ []
 next_is all i line within is = take_more all i line within ∙ ap (λ (l : ScriptLine). take i all ++ l ∷ []) (sym is)

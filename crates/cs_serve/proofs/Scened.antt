@@ -3,7 +3,7 @@ use Rattle.std.proofs.Common.{◌≡◌, ℕ, List, sym, ap, ◌∙◌}
 use Rattle.std.specs.Prelude.{Ok}
 use Rattle.cs_apm.specs.Orders.{order_of}
 use Rattle.cs_micro.specs.Micros.{micros_in}
-use Rattle.cs_picks.specs.Picks.{picks_in}
+use Rattle.cs_serve.specs.Picks.{picks_in}
 use Rattle.cs_plan.specs.Plans.{plan_of}
 use Rattle.cs_plan.specs.Scenes.{Scene}
 use Rattle.cs_trace.specs.Traces.{Trace, trace_in}

@@ -1,4 +1,4 @@
--- What is said of a text, where the text was made or memory was wanting for it.
+-- What is said of a text, which was made, or no memory was left for it.
 use Rattle.std.proofs.Common.{◌≡◌, ℕ, List, sym, subst}
 use Rattle.std.specs.Prelude.{Result, Ok, Err, IfOk, OnErr}
 

@@ -5,7 +5,7 @@ use Rattle.std.specs.Prelude.{Result, Ok, Err}
 use Rattle.std.specs.Io.KnownBytes.{Appends, Consumes, IsAtEnd, Keeps}
 use Rattle.cs_apm.specs.Orders.{order_of}
 use Rattle.cs_micro.specs.Micros.{micros_in}
-use Rattle.cs_picks.specs.Picks.{picks_in}
+use Rattle.cs_serve.specs.Picks.{picks_in}
 use Rattle.cs_plan.specs.Lists.{list_text}
 use Rattle.cs_plan.specs.Plans.{plan_of}
 use Rattle.cs_plan.specs.Scenes.{Scene}
@@ -20,7 +20,7 @@ use Rattle.cs_registry.specs.Publishing.{with_published}
 use Rattle.cs_serve.specs.Scripts.{script_in}
 use Rattle.cs_stream.specs.Streams.{AppendsFront}
 
--- the scene is that of the trace, with holes where they are asked for, and the picks
+-- the scene is that of the trace, with holes if they are asked for, and the picks
 pub record IsScene (inputs : Inputs) (scene : Scene) : Type 0 where
   pub picks : List (List ℕ)
   pub traced : trace_in inputs.trace.now ≡ Ok scene.trace

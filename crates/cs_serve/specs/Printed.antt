@@ -69,10 +69,10 @@ pub data Loaded (w : World) (file text : List ℕ) (w' : World) : Type 0 where
   -- the runs that are made from then on have its users
   Taken : (users : List Row) → users_in file ≡ Ok users → IsStep w (Loads users) Reloaded w'
       → text ≡ reloaded_text → Loaded w file text w'
-  -- memory for its users is wanting where they would be kept
+  -- no memory is left to keep its users
   NotKept : (users : List Row) → users_in file ≡ Ok users → IsStep w (Loads users) NotReloaded w'
       → text ≡ refused_text Memory → Loaded w file text w'
-  -- it has a fault, or memory for reading it is wanting
+  -- it has a fault, or no memory is left to read it
   NotRead : (fault : UsersFault) → ReadsAs Memory (Err fault) (users_in file) → w' ≡ w
       → text ≡ refused_text fault → Loaded w file text w'
 

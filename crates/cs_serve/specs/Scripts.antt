@@ -28,7 +28,7 @@ is_decimal text = nat_lt 0 (length text) && list_all is_ascii_digit text
 abbrev pub number_of_32_bits : ℕ → Option ℕ
 number_of_32_bits number = if nat_lt number (2 ^ 32) then Some number else None
 
--- a number of 32 bits, of digits alone
+-- a number of 32 bits, of nothing but digits
 abbrev pub number_in : List ℕ → Option ℕ
 number_in text = if is_decimal text then number_of_32_bits (digits_value 10 text) else None
 

@@ -18,7 +18,7 @@ Blames old new Input = BlamesReads old new
 Blames old new Output = BlamesWrites old new
 Blames old new fault = ⊤
 
--- the same where nothing was read
+-- the same if nothing was read
 abbrev pub BlamesOutput : Counts → Counts → ProgramFault → Type 0
 BlamesOutput old new Input = ⊥
 BlamesOutput old new fault = Blames old new fault

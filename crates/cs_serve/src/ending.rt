@@ -4,8 +4,8 @@ ghost use Rattle.std.specs.Prelude.{◌≤◌};
 use crate::fault::ProgramFault;
 use std::io::Write;
 
-/// The status of a command that came to this: 0, or 1 where a fault ended it, which is told by one
-/// line on `err`. What was printed is flushed before.
+/// The status of a command with this outcome: 0, or 1 if a fault ended it, which one line on `err`
+/// reports. What was printed is flushed before.
 pub(crate) fn ended<W: Write, E: Write>(
     done: Result<(), ProgramFault>,
     out: &mut W,

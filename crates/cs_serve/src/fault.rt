@@ -1,13 +1,13 @@
 //! Why the program ends with a fault.
 ghost use Rattle.cs_serve.specs.Written.{IsOfNoStream};
 
-use cs_picks::PicksFault;
+use crate::picks_fault::PicksFault;
 use cs_plan::SceneFault;
 use cs_trace::TraceFault;
 use cs_users::UsersFault;
 use thiserror::Error;
 
-/// Why a command ends with status 1. Its text stands after `crashfs: ` on standard error.
+/// Why a command ends with status 1. Its text comes after `crashfs: ` on standard error.
 #[derive(Debug, Drop, Error)]
 pub enum ProgramFault {
     /// The trace is no UTF-8.

@@ -6,7 +6,7 @@ ghost use Rattle.cs_serve.specs.Commands.{IsScene};
 ghost use Rattle.cs_serve.specs.Written.{IsOfNoStream};
 
 use crate::fault::ProgramFault;
-use cs_picks::read_picks;
+use crate::picks::read_picks;
 use cs_plan::Scene;
 use cs_trace::{Trace, TraceFaultKind, read_trace};
 use cs_users::{Users, UsersFault};
@@ -21,10 +21,12 @@ pub struct Inputs<'a> {
     pub picks: &'a [u8],
     /// Whether the states of prefixes with a hole are asked for.
     pub holes: bool,
-    /// Whether each message is told on standard error too.
+    /// Whether each message is also printed on standard error.
     pub verbose: bool,
 }
 
+/// The trace of these bytes, or why they are none: no UTF-8, or the fault of the first line at
+/// fault.
 fn trace_of(alloc: Global, trace: &[u8]) -> Result<Trace, ProgramFault>
     ensures read { IfOk result (λ read. trace_in trace.now ≡ Ok read) }
     ensures fault { IfErr result IsOfNoStream }

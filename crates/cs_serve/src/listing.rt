@@ -32,8 +32,8 @@ pub fn list_to<S: Stream>(
     print(stream, text.as_bytes())
 }
 
-/// The command `list`: what `list_to` does, to a writer. Its status: 0, or 1 where a fault ended
-/// it, which is told by one line on `err`; what was printed before stands.
+/// The command `list`: what `list_to` does, to a writer. Its status: 0, or 1 if a fault ended
+/// it, which one line on `err` reports; what was printed before stays.
 pub fn list_of<W: Write, E: Write>(alloc: Global, inputs: &Inputs, out: &mut W, err: &mut E) -> u8
     ensures { result ≤ 1 }
 {

@@ -75,7 +75,7 @@ pub fn script_over<S: Stream, E: Write>(
 }
 
 /// The command `script`: what `script_over` does, over a reader and a writer. Its status: 0, or 1
-/// where a fault ended it, which is told by one line on `err`; what was printed before stands.
+/// if a fault ended it, which one line on `err` reports; what was printed before stays.
 /// Where the inputs ask for it, `err` also gets each message and its reply as text, the
 /// connection's number and `<-` or `->` before them.
 pub fn script_of<R: Read, W: Write, E: Write>(

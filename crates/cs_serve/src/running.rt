@@ -34,7 +34,7 @@ fn tell_if<E: Write>(
     }
 }
 
-/// Answers a message: the line that the reply comes to.
+/// Answers a message, and returns the line of the reply.
 fn send<E: Write>(
     alloc: Global,
     world: &mut World,
@@ -56,7 +56,7 @@ fn send<E: Write>(
     reply_text(alloc, conn, &reply)
 }
 
-/// Ends a connection: the line that this comes to.
+/// Ends a connection, and returns the line that says so.
 fn hang_up(alloc: Global, world: &mut World, conn: u32, now: u32) -> Result<String, AllocError>
     requires connection { conn < CONNECTIONS }
     ensures ok { IfOk result (λ text.
@@ -67,7 +67,7 @@ fn hang_up(alloc: Global, world: &mut World, conn: u32, now: u32) -> Result<Stri
     closed_text(alloc, conn)
 }
 
-/// Does what a connection does: the line that it comes to.
+/// Does what a connection does, and returns the line of the outcome.
 fn act<E: Write>(
     alloc: Global,
     world: &mut World,
@@ -95,7 +95,7 @@ fn act<E: Write>(
     }
 }
 
-/// Has the runs that are made from here on have these users: the line that it comes to.
+/// Gives these users to the runs that are made from here on, and returns the line of the outcome.
 fn load(alloc: Global, world: &mut World, file: &[u8], users: Users) -> Result<String, AllocError>
     requires { users_in file.now ≡ Ok users }
     ensures ok { IfOk result (λ text. Loaded world.old file.now (string_bytes text) world.new) }
@@ -119,8 +119,8 @@ fn reload(alloc: Global, world: &mut World, file: &[u8]) -> Result<String, Alloc
     }
 }
 
-/// Does what a line asks: the line that it comes to. With `verbose` a message and its reply are
-/// told on `err` as text.
+/// Does what a line asks, and returns the line of the outcome. With `verbose` a message and its
+/// reply are printed on `err` as text.
 fn take_line<E: Write>(
     alloc: Global,
     world: &mut World,
@@ -137,7 +137,7 @@ fn take_line<E: Write>(
     }
 }
 
-/// Does what a line asks, and prints what it comes to.
+/// Does what a line asks, and prints the line of the outcome.
 fn run_line<S: Stream, E: Write>(
     alloc: Global,
     world: &mut World,
@@ -159,7 +159,7 @@ fn run_line<S: Stream, E: Write>(
     }
 }
 
-/// Runs lines, one after the other; with `verbose` messages and their replies are told on `err`.
+/// Runs lines, one after the other; with `verbose` it prints messages and their replies on `err`.
 pub(crate) fn run_lines<S: Stream, E: Write>(
     alloc: Global,
     world: &mut World,

@@ -119,6 +119,7 @@ pub enum ScriptLine {
 /// The fewest bytes of a message.
 const LEAST_MESSAGE: usize = 7;
 
+/// Whether each byte is a digit, as it is of no bytes.
 fn has_digits_alone(text: &[u8]) -> bool
     ensures { result ≡ list_all is_ascii_digit text.now }
 {
@@ -132,7 +133,7 @@ fn is_decimal(text: &[u8]) -> bool
     !text.is_empty() && has_digits_alone(text)
 }
 
-/// A number of 32 bits, of digits alone.
+/// A number of 32 bits, of nothing but digits.
 fn number(text: &[u8]) -> Option<u32>
     ensures { result ≡ number_in text.now }
 {
@@ -156,7 +157,7 @@ fn conn(text: &[u8]) -> Option<ScriptConn>
     Some(ScriptConn { number })
 }
 
-/// The bytes that the hexadecimal digits spell, at least so many; None where they don't.
+/// The bytes that the hexadecimal digits spell, at least so many; None if they spell none.
 fn bytes_of(alloc: Global, least: usize, digits: &[u8]) -> Result<Option<Vec<u8>>, AllocError>
     ensures { IfOk result (λ bytes. option_map vec_items bytes ≡ bytes_in least digits.now) }
 {
@@ -172,7 +173,7 @@ fn bytes_of(alloc: Global, least: usize, digits: &[u8]) -> Result<Option<Vec<u8>
     }
 }
 
-/// The message that the hexadecimal digits spell, or None where they spell none.
+/// The message that the hexadecimal digits spell, or None if they spell none.
 fn message(alloc: Global, digits: &[u8]) -> Result<Option<ScriptMessage>, AllocError>
     ensures { IfOk result (λ message. message ≡ sent_in digits.now) }
 {
@@ -185,7 +186,7 @@ fn message(alloc: Global, digits: &[u8]) -> Result<Option<ScriptMessage>, AllocE
     }
 }
 
-/// The users file that the hexadecimal digits spell, or None where they spell none.
+/// The users file that the hexadecimal digits spell, or None if they spell none.
 fn users(alloc: Global, digits: &[u8]) -> Result<Option<ScriptUsers>, AllocError>
     ensures { IfOk result (λ users. users ≡ bytes_in 1 digits.now) }
 {
@@ -195,7 +196,7 @@ fn users(alloc: Global, digits: &[u8]) -> Result<Option<ScriptUsers>, AllocError
     }
 }
 
-/// What a word asks: `hangup`, or a message in hexadecimal; None where it asks nothing.
+/// What a word asks: `hangup`, or a message in hexadecimal; None if it asks nothing.
 fn read_action(alloc: Global, word: &[u8]) -> Result<Option<Action>, AllocError>
     ensures { IfOk result (λ action. action ≡ action_in word.now) }
 {
@@ -209,7 +210,7 @@ fn read_action(alloc: Global, word: &[u8]) -> Result<Option<Action>, AllocError>
 }
 
 /// What a connection does by these words: its number, a moment, and `hangup` or a message
-/// in hexadecimal; None where they ask for none.
+/// in hexadecimal; None if they ask for none.
 fn read_act(
     alloc: Global,
     first: &[u8],
@@ -247,7 +248,7 @@ fn read_reload(alloc: Global, first: &[u8], second: &[u8]) -> Result<Option<Scri
 }
 
 /// The line that the text spells, with one space between its words: what a connection does, or
-/// `reload` and a users file; None where it spells none.
+/// `reload` and a users file; None if it spells none.
 fn read_line(alloc: Global, text: &[u8]) -> Result<Option<ScriptLine>, AllocError>
     ensures { IfOk result (λ line. line ≡ line_in text.now) }
 {
@@ -307,8 +308,8 @@ fn keep_line(
 }
 
 /// The lines of a script, or the first line that is none: one past the limit is none, and so is an
-/// empty one. The line feed at the end of the script makes no line. Memory is answered where a
-/// growth was refused before such a line.
+/// empty one. The line feed at the end of the script makes no line. The fault is Memory if an
+/// allocation fails before such a line.
 pub fn read_script(alloc: Global, bytes: &[u8]) -> Result<Vec<ScriptLine>, ProgramFault>
     ensures read { IfOk result (λ lines. script_in bytes.now ≡ Ok lines.items) }
     ensures fault { IfErr result (λ fault. fault ≢ Memory → script_in bytes.now ≡ Err fault) }

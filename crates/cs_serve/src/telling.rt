@@ -4,8 +4,7 @@ use cs_wire::{TMessage, WireFault};
 use std::fmt;
 use std::io::Write;
 
-/// Tells what came or was answered, or why that is no message. That it can't be written ends
-/// nothing.
+/// Prints what came or was answered, or why that is no message. A failed write ends nothing.
 fn line<M: fmt::Display, E: Write>(
     conn: u32,
     arrow: &str,
@@ -18,8 +17,8 @@ fn line<M: fmt::Display, E: Write>(
     };
 }
 
-/// Tells a connection's message and its reply as two lines of text, the connection's number and
-/// `<-` or `->` before them. That these can't be written ends nothing.
+/// Prints a connection's message and its reply as two lines of text, the connection's number and
+/// `<-` or `->` before them. A failed write ends nothing.
 pub fn tell<R: fmt::Display, E: Write>(
     conn: u32,
     message: &Result<TMessage<'_>, WireFault>,

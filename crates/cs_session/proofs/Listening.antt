@@ -40,7 +40,7 @@ size-taken held count =
           (take-append-drop count held.room),
     )
 
--- behind less than a message there is room for more of it
+-- after less than a message there is room for more of it
 pub room_some : (was is : Held) → pending_bytes is ≡ pending_bytes was → size_of is ≡ size_of was
     → length (pending_bytes is) + length is.room ≡ size_of is → MESSAGE_BYTES ≤ size_of was → IsUnfinished (pending_bytes was)
     → 0 < length is.room

@@ -1,4 +1,4 @@
--- A number of a table, taken anew.
+-- An entry of a table that takes the place of another.
 use Rattle.std.proofs.Common.{◌≡◌, ◌≢◌, ◌∙◌, ℕ, ◌-◌, ◌<◌, arith, Bool, true, false, cond, Option, None, Some, refl, sym, ap}
 use Rattle.std.specs.Prelude.{IfOk, Ok, is_some, option_and_then}
 use Rattle.std.specs.Option.{ok_or}

@@ -1,4 +1,4 @@
--- A call that a connection asks for is made for one of its fids.
+-- A call that a connection makes is for one of its fids.
 use Rattle.std.proofs.Common.{◌≡◌, ℕ, Bool, true, false, List, [], ◌∷◌, Option, None, Some, Err, refl, ap, subst}
 use Rattle.std.specs.Prelude.{IfSome, Result, Ok, is_some, option_and_then, option_map}
 use Rattle.std.specs.FinMap.{get}

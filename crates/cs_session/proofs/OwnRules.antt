@@ -100,7 +100,7 @@ attach_first None now rule is = let same : S5 ≡ rule = cc in
     subst (λ (x : RuleId). IsFirstToFail ((S5, true) ∷ []) x) same (first_to_fail ((S5, true) ∷ []) S5 refl)
 attach_first (Some awaited) now rule is = absurd cc
 
--- ---- steps that change the table alone
+-- ---- steps that change only the table
 
 abbrev replied : Reply × SessionState → Reply
 replied answered = answered.0

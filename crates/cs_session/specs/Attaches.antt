@@ -60,7 +60,8 @@ pass_refusal p.Room = r.Error A5
 pass_refusal p.Foreign = r.Error S5
 pass_refusal p.Memory = r.Memory
 
--- the fid stands for the root, for that user; what is no user's name is none that is known
+-- the fid is that of the root, for that user; A6 if the text is no user's name, since nobody known
+-- has it
 abbrev pub with_root_fid : FidMap → ℕ → ℕ → Option (List ℕ) → ℕ → Qid → Reply × FidMap
 with_root_fid fids fid run None pass qid = (r.Error A6, fids)
 with_root_fid fids fid run (Some user) pass qid =
@@ -71,7 +72,7 @@ abbrev pub attach_settled : FidMap → ℕ → ℕ → Option (List ℕ) → ℕ
 attach_settled fids fid run user pass (a.Attached qid) = with_root_fid fids fid run user pass qid
 attach_settled fids fid run user pass answer = (refusal answer, fids)
 
--- the run awaits its attach no more
+-- the run no longer awaits its attach
 abbrev pub attach_after : SessionState → Option Awaited → PortAnswer → Reply × SessionState
 attach_after session None given = (r.Memory, session)
 attach_after session (Some awaited) (AttachAnswer (Ok pass)) =

@@ -1,4 +1,5 @@
--- The calls of a session on its fids: their rules, what each asks, and what comes of the answer.
+-- The calls of a session on its fids: their rules, what each asks, and the reply and the fids after
+-- the answer.
 use Rattle.std.specs.Prelude.{ℕ, Bool, false, ◌&&◌, List, [], ◌∷◌, Option, Result}
 use Rattle.std.specs.FinMap.{remove}
 use Rattle.cs_names.specs.declared.rule_id.RuleId.TheVariants.{H1, M1, Q1}
@@ -20,7 +21,7 @@ use Rattle.cs_session.specs.Removes.{remove_question, remove_reply}
 use Rattle.cs_session.specs.Stats.{stat_question, stat_reply, wstat_question, wstat_reply}
 use Rattle.cs_session.specs.Walks.{walk_after, walk_question}
 
--- the rules of its fids
+-- the rules of the fids
 abbrev pub call_rules : FidMap → CallMessage → List Check
 call_rules fids (Walk message) = walk_table_rules fids message.fid message.newfid
 call_rules fids (Open message) = open_table_rules fids message.fid message.mode
@@ -32,8 +33,8 @@ call_rules fids (Remove fid) = (M1, is_unknown fids fid) ∷ []
 call_rules fids (Stat fid) = (H1, is_unknown fids fid) ∷ []
 call_rules fids (Wstat message) = (Q1, is_unknown fids message.fid) ∷ []
 
--- whether it wants the memory that is refused: a remove and a stat take none, and a read only for a
--- name
+-- whether refused memory matters to the call: a remove and a stat take none, and a read only to
+-- copy a name
 abbrev pub wants_memory : FidMap → CallMessage → Bool → Bool
 wants_memory fids (Read message) refused = refused && copies_name fids message.fid
 wants_memory fids (Remove fid) refused = false
@@ -50,7 +51,7 @@ call_question now msize fids (Remove fid) = remove_question now fids fid
 call_question now msize fids (Stat fid) = stat_question now fids fid
 call_question now msize fids (Wstat message) = wstat_question now fids message
 
--- by whether memory for what the connection takes of its own is refused
+-- the Bool says whether the memory that the connection itself takes is refused
 abbrev pub call_decision : ℕ → Bool → Option ℕ → FidMap → CallMessage → Bool → Result Question Reply
 call_decision now awaits msize fids message refused =
     request_decision awaits msize (call_rules fids message) (wants_memory fids message refused)

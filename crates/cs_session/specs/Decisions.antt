@@ -1,5 +1,5 @@
--- One shape for every step: the rules in their order, then the memory that the connection takes of
--- its own, then the question.
+-- One shape for every step: the rules in their order, then the memory that the connection itself
+-- takes, then the question.
 use Rattle.std.specs.Prelude.{◌≡◌, ℕ, Bool, true, false, List, ◌∷◌, Option, None, Some, is_none}
 use Rattle.std.specs.Prelude.{option_and_then, Result, Ok, Err}
 use Rattle.std.specs.FinMap.{get}
@@ -18,12 +18,12 @@ use Rattle.cs_session.specs.declared.reply.Reply.TheVariants as r
 use Rattle.cs_session.specs.declared.question.RunQuestion.{RunQuestion}
 use Rattle.cs_session.specs.Questions.{Question, CallOn}
 
--- what a connection asks before it looks at its fids: that no run awaits its attach, and that a
--- session stands
+-- what a connection checks before it looks at its fids: that no run awaits its attach, and that a
+-- session has begun
 abbrev pub after_session : Bool → Option ℕ → List Check → List Check
 after_session awaits msize rules = (S5, awaits) ∷ (S1, is_none msize) ∷ rules
 
--- the error of the first rule that fails; then want of memory; then the question, and S5 if there
+-- the error of the first rule that fails; then out of memory; then the question, and S5 if there
 -- is none to ask
 abbrev pub decide : Option RuleId → Bool → Option Question → Result Question Reply
 decide (Some rule) refused q = Err (r.Error rule)
@@ -37,13 +37,13 @@ abbrev pub request_decision : Bool → Option ℕ → List Check → Bool → Op
 request_decision awaits msize rules refused q =
     decide (first_failing (after_session awaits msize rules)) refused q
 
--- what a decision in memory comes to: with a question, no memory was refused
+-- what a function that decides may return: a question only if no memory was refused
 abbrev pub Decides : {A : Type 0} → (A → Question) → (Bool → Result Question Reply) → Result A Reply
     → Type 0
 Decides ask by (Ok x) = by false ≡ Ok (ask x)
 Decides ask by (Err reply) = (refused : Bool) × (by refused ≡ Err reply)
 
--- what is asked of a run
+-- what a run is asked
 abbrev pub question_of : RunQuestion → Question
 question_of x = CallOn x.now x.run x.pass x.call
 
@@ -54,7 +54,7 @@ walked_at fids fid = option_and_then as_walked (get fids fid)
 abbrev pub opened_at : FidMap → ℕ → Option (FidOf Opened)
 opened_at fids fid = option_and_then as_opened (get fids fid)
 
--- the reply to a denial or to want of memory; no run gives an answer of another kind in its place
+-- the reply to a denial, else out of memory; no run gives another kind of answer instead
 abbrev pub refusal : Answer → Reply
 refusal (a.Denied rule) = r.Error rule
 refusal answer = r.Memory

@@ -1,14 +1,14 @@
--- What memory refuses a connection, as data. What its port is refused, the port's own definition
--- says.
+-- Which memory a connection is refused, as data. The port's own definition says what the port is
+-- refused.
 use Rattle.std.specs.Prelude.{Bool, true, false, List}
 
--- in a step: nothing, or what the connection takes of its own: room in its table of fids, or a copy
--- of a name that stands there
+-- in a step: nothing, or what the connection itself takes: room in its table of fids, or a copy of
+-- a name in the table
 pub data OwnMark : Type 0 where
   Ample : OwnMark
   NoOwn : OwnMark
 
--- in a message: what decoding it takes, or a mark a step
+-- in a message: what decoding it takes, or a mark for each step
 pub data MessageMark : Type 0 where
   NoDecode : MessageMark
   Steps : List OwnMark → MessageMark

@@ -54,7 +54,7 @@ closes_first (m.Version msize version) = true
 closes_first m.HangUp = true
 closes_first message = false
 
--- the one where the test holds, else the other
+-- the one if the test holds, else the other
 abbrev pub IfElse : Bool → Type 0 → Type 0 → Type 0
 IfElse true A B = A
 IfElse false A B = B
@@ -71,7 +71,7 @@ module _ {P : Type 0} (gives : P → Question → PortAnswer → P → Type 0) (
       (Answers marks mid there reply session' port')
       ((marks ≡ []) × (reply ≡ step_reply) × (session' ≡ mid) × (port' ≡ there))
 
-  -- with some marks, one a step
+  -- with some marks, one for each step
   pub record IsAnswered (session : SessionState) (port : P) (reply : Reply)
       (session' : SessionState)
       (port' : P) : Type 0 where

@@ -6,8 +6,8 @@ use Rattle.cs_permit.specs.declared.call.Call.{Call}
 use Rattle.cs_permit.specs.declared.call.Call.TheVariants as c
 use Rattle.cs_session.specs.Sessions.{SessionState, entry_at}
 
--- the user that a call names: a read and a stat name none, since they ask for no right of a user,
--- and an attach names one that isn't known yet
+-- the user that a call names: a read and a stat name none, since they need no right of a user, and
+-- an attach names one that isn't known yet
 abbrev pub user_named : Call → Option (List ℕ)
 user_named (c.Walk call) = Some call.user
 user_named (c.Open call) = Some call.user

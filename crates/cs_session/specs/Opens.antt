@@ -23,7 +23,7 @@ open_question now fids message =
     (c.Open (record { number = f.number; user = f.user; mode = message.mode })))
     (walked_at fids message.fid)
 
--- the fid stands for the file that was opened, or made, and is open
+-- the fid is that of the file that was opened, or made, and is open
 abbrev pub open_left : FidMap → ℕ → Option (FidOf Walked) → ℕ → ℕ → ℕ → FidMap
 open_left fids fid None mode open_number number = fids
 open_left fids fid (Some f) mode open_number number =

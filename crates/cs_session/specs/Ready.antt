@@ -11,7 +11,7 @@ pub record IsAgreed (size : ℕ) : Type 0 where
   pub least : LEAST_MESSAGE_SIZE ≤ size
   pub most : size ≤ MESSAGE_BYTES
 
--- the table takes the fid of the run that awaits its attach, with no memory
+-- the table has room for the fid of the run that awaits its attach, so that it takes no memory
 abbrev pub HasPlace : Option Awaited → Fids → Type 0
 HasPlace None table = Unit {0}
 HasPlace (Some awaited) table =

@@ -39,8 +39,8 @@ needs_no_session (Some tk.Version) = true
 needs_no_session (Some tk.Flush) = true
 needs_no_session other = false
 
--- what is asked of a message before it is decoded: a session, or a type that needs none; and no
--- more bytes than the session's message size
+-- what a message must have before it is decoded: a session, or a type that needs none; and no more
+-- bytes than the session's message size
 abbrev pub rules_before_decoding : Option ℕ → List ℕ → List Check
 rules_before_decoding msize bytes =
     (S1, is_none msize && not (needs_no_session (t_kind_of (slice_index bytes 4))))
@@ -76,22 +76,22 @@ message_in (t.Wstat fid stat) = Ok (m.Call (call.Wstat (record { fid = fid; stat
 abbrev pub IsSpelled : List ℕ → TMessage → Type 0
 IsSpelled bytes message = IsMessage (t_view message) × (bytes ≡ spelling (t_view message))
 
--- no rule stands before decoding
+-- no rule fails before decoding
 abbrev pub PassesBeforeDecoding : Option ℕ → List ℕ → Type 0
 PassesBeforeDecoding msize bytes = first_failing (rules_before_decoding msize bytes) ≡ None
 
--- nothing is asked, and the connection stays
+-- nothing is asked, and the connection is unchanged
 abbrev pub NothingChanges : {P : Type 0} → SessionState → P → Reply → Reply → SessionState → P
     → Type 0
 NothingChanges session port own reply session' port' =
     (reply ≡ own) × (session' ≡ session) × (port' ≡ port)
 
 module _ {P : Type 0} (gives : P → Question → PortAnswer → P → Type 0) (now : ℕ) where
-  -- what bytes come to, where memory refuses that growth
+  -- how bytes are answered, if memory refuses that growth
   pub data Receives (bytes : List ℕ) (session : SessionState) (port : P) (reply : Reply)
       (session' : SessionState)
       (port' : P) : MessageMark → Type 0 where
-    -- a rule bars them before they are decoded
+    -- a rule fails before they are decoded
     Barred : (rule : RuleId) → first_failing (rules_before_decoding session.msize bytes) ≡ Some rule
         → NothingChanges session port (r.Error rule) reply session' port'
         → Receives bytes session port reply session' port' (Steps [])
@@ -99,7 +99,7 @@ module _ {P : Type 0} (gives : P → Question → PortAnswer → P → Type 0) (
     Malformed : PassesBeforeDecoding session.msize bytes → IsErr (message_of requests bytes)
         → NothingChanges session port (r.Error S2) reply session' port'
         → Receives bytes session port reply session' port' (Steps [])
-    -- they are a message with something to copy, and memory is wanting for it
+    -- they are a message with something to copy, and there is no memory for the copy
     Short : PassesBeforeDecoding session.msize bytes → TakesMemory requests bytes
         → NothingChanges session port r.Memory reply session' port'
         → Receives bytes session port reply session' port' NoDecode
@@ -115,14 +115,14 @@ module _ {P : Type 0} (gives : P → Question → PortAnswer → P → Type 0) (
         → Answers gives now asks marks session port reply session' port'
         → Receives bytes session port reply session' port' (Steps marks)
 
--- what bytes come to, with some mark
+-- how bytes are answered, with some mark
 pub record IsReceived {P : Type 0} (gives : P → Question → PortAnswer → P → Type 0) (now : ℕ)
     (bytes : List ℕ) (session : SessionState) (port : P) (reply : Reply) (session' : SessionState)
     (port' : P) : Type 0 where
   pub mark : MessageMark
   pub received : Receives gives now bytes session port reply session' port' mark
 
--- why bytes are not read: they are no message, or memory is wanting for one with something to copy
+-- why bytes are not read: they are no message, or there is no memory for what must be copied
 abbrev pub IsUnread : List ℕ → Reply → Type 0
 IsUnread bytes r.Memory = TakesMemory requests bytes
 IsUnread bytes (r.Error rule) = IsErr (message_of requests bytes) × (rule ≡ S2)

@@ -36,20 +36,20 @@ messages_of exchanges = map (λ exchange. exchange.message) exchanges
 abbrev pub replies_of : List Exchange → List ℕ
 replies_of exchanges = flat_map (λ exchange. spelling exchange.reply) exchanges
 
--- what stands next is that fault
+-- what comes next is no message, for this reason
 abbrev pub IsFaulty : FrameFault → List ℕ → Type 0
 IsFaulty frame.Undersize left = IsUndersized left
 IsFaulty frame.Oversize left = IsOversized left
 IsFaulty frame.Cut left = ⊥
 
--- why no more messages were answered: the replies fill their room, and some were; none is left; or
--- a fault stands next
+-- why no more messages were answered: the replies fill their room, and some were answered; none is
+-- left; or what comes next is no message
 abbrev pub StopsFor : Progress → List ℕ → List ℕ → Type 0
 StopsFor More came left = length left < length came
 StopsFor Done came left = IsUnfinished left
 StopsFor (Stopped fault) came left = IsFaulty fault left
 
--- where the answers to what came stop, and which bytes of the replies were not sent
+-- at which of the bytes that came the answers stop, and which bytes of the replies were not sent
 abbrev pub StopsAt : Result (Unit {0}) ServeFault → List ℕ → List ℕ → Type 0
 StopsAt (Ok x) left unsent = IsUnfinished left × (unsent ≡ [])
 StopsAt (Err (BadFrame fault)) left unsent = IsFaulty fault left × (unsent ≡ [])
@@ -66,7 +66,7 @@ EndsAt (Ok x) came left unsent rest = (left ≡ []) × (unsent ≡ []) × IsAtEn
 -- the stream ended inside a message
 EndsAt (Err (BadFrame frame.Cut)) came left unsent rest =
     IsUnfinished left × (left ≢ []) × (unsent ≡ []) × IsAtEnd rest
--- the messages before the fault were answered, and it stands next
+-- the messages before the fault were answered, and the fault comes next
 EndsAt (Err (BadFrame fault)) came left unsent rest = IsFaulty fault left × (unsent ≡ [])
 -- the messages that came whole were answered
 EndsAt (Err ReadFault) came left unsent rest = IsUnfinished left × (unsent ≡ [])

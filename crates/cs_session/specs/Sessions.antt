@@ -16,7 +16,8 @@ pub record Awaited : Type 0 where
   pub run : ℕ
   pub call : AttachCall
 
--- the message size, if a session stands; the run that awaits its attach, if one does; and the fids
+-- the message size, if a session has begun; the run that awaits its attach, if one does; and the
+-- fids
 pub record SessionState : Type 0 where
   pub msize : Option ℕ
   pub awaited : Option Awaited
@@ -34,7 +35,7 @@ sess_code = code_by (Option ℕ × (Option Awaited × FidMap))
     (λ session. (session.msize, (session.awaited, session.fids)))
     (λ parts. record { msize = parts.0; awaited = parts.1.0; fids = parts.1.1 }) (λ _. refl)
 
--- what the number stands for
+-- the fid of that number, if there is one
 abbrev pub entry_at : SessionState → ℕ → Option FidEntry
 entry_at session fid = get session.fids fid
 
@@ -48,6 +49,6 @@ with_awaited awaited session = record session { awaited = awaited }
 abbrev pub with_fids_left : SessionState → Reply × FidMap → Reply × SessionState
 with_fids_left session answered = (answered.0, with_fids answered.1 session)
 
--- no fid is left; a session of that message size stands, or none does
+-- no fid is left; a session of that message size has begun, or none has
 abbrev pub empty_session : Option ℕ → SessionState
 empty_session msize = record { msize = msize; awaited = None; fids = empty }

@@ -43,7 +43,7 @@ MessageFits message = Unit {0}
 
 -- ---- on the wire
 
--- the message size of the session, if one stands, and at least the least one
+-- the message size of the session, if one has begun, and never less than the least one
 abbrev pub room_of : Option ℕ → ℕ
 room_of msize = max LEAST_MESSAGE_SIZE (unwrap_or msize 0)
 

@@ -12,7 +12,7 @@ use Rattle.cs_session.specs.declared.reply.Reply.TheVariants as r
 use Rattle.cs_session.specs.Decisions.{refusal}
 use Rattle.cs_session.specs.Questions.{Question, CallOn}
 
--- ---- stat: it asks for no user, and copies nothing
+-- ---- stat: it names no user, and copies nothing
 
 abbrev pub stat_question : ℕ → FidMap → ℕ → Option Question
 stat_question now fids fid =

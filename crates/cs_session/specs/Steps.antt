@@ -27,7 +27,7 @@ pub data FirstMove : Type 0 where
   Done : Reply → SessionState → FirstMove
   Asks : Question → FirstMove
 
--- a refusal leaves the connection
+-- if it is refused, the connection is unchanged
 abbrev pub first_move_of : SessionState → Result Question Reply → FirstMove
 first_move_of session (Err reply) = Done reply session
 first_move_of session (Ok q) = Asks q
@@ -35,7 +35,7 @@ first_move_of session (Ok q) = Asks q
 abbrev pub done_with : Reply × SessionState → FirstMove
 done_with answered = Done answered.0 answered.1
 
--- by whether memory for what the connection takes of its own is refused
+-- the Bool says whether the memory that the connection itself takes is refused
 abbrev pub first_move_by : ℕ → SessionState → Step → Bool → FirstMove
 first_move_by now session (FindStep message) refused =
     first_move_of session
@@ -49,11 +49,12 @@ first_move_by now session (CloseStep fid) refused =
     first_move_of session (close_decision now (is_some session.awaited) session.fids fid)
 first_move_by now session (Table change) refused = done_with (table_stepped session change)
 
--- where memory refuses what the mark says
+-- if memory refuses what the mark says
 abbrev pub first_move : ℕ → SessionState → Step → OwnMark → FirstMove
 first_move now session step mark = first_move_by now session step (refuses_own mark)
 
--- what comes of what the port gives; a close frees the fid whatever the answer is
+-- the reply, and the session then, after what the port gives; a close frees the fid whatever the
+-- answer is
 abbrev pub reply_and_session : SessionState → Step → PortAnswer → Reply × SessionState
 reply_and_session session (FindStep message) given = find_after session message given
 reply_and_session session AttachStep given = attach_after session session.awaited given
@@ -74,7 +75,7 @@ module _ {P : Type 0} (gives : P → Question → PortAnswer → P → Type 0) w
       (given : PortAnswer) × gives port question given port'
       × ((reply, session') ≡ reply_and_session session step given)
 
-  -- where memory refuses what the mark says the step has this reply, and leads there
+  -- if memory refuses what the mark says, the step has this reply, and leads there
   abbrev pub TakesWithMark : ℕ → SessionState → P → Step → OwnMark → Reply → SessionState → P
       → Type 0
   TakesWithMark now session port step mark reply session' port' =

@@ -1,4 +1,4 @@
--- The steps that change a connection's own table alone.
+-- The steps that change only a connection's own table.
 use Rattle.std.specs.Prelude.{ℕ, Option, None, Some, is_none, is_some, if◌then◌else◌}
 use Rattle.std.specs.FinMap.{remove}
 use Rattle.cs_names.specs.declared.rule_id.RuleId.TheVariants.{N1, S1, S5}

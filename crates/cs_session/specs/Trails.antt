@@ -1,4 +1,4 @@
--- A message's steps as a list, each with its mark, and taken from where the one before led.
+-- A message's steps as a list, each with its mark, and each from where the one before led.
 use Rattle.std.specs.Prelude.{◌≡◌, ℕ, List, [], ◌∷◌, ◌++◌, map}
 use Rattle.cs_session.specs.declared.reply.Reply.{Reply}
 use Rattle.cs_session.specs.Marks.{OwnMark}

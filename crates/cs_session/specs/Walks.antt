@@ -22,7 +22,7 @@ walk_question now fids message =
     (c.Walk (record { number = f.number; user = f.user; names = message.names })))
     (walked_at fids message.fid)
 
--- the new fid stands for the last file; a walk that a rule stopped makes and moves no fid
+-- the new fid is that of the last file; a walk that a rule stopped makes and moves no fid
 abbrev pub walk_left : FidMap → ℕ → Option (FidOf Walked) → WalkResult → FidMap
 walk_left fids newfid None way = fids
 walk_left fids newfid (Some f) way =

@@ -32,7 +32,8 @@ impl Session {
         }
     }
 
-    /// Finds the run of an attach, and attaches to it.
+    /// Finds the run of an attach, and attaches to it. The reply is that of the first of the two
+    /// steps that is refused, or of the attach.
     fn attach<P: Port>(
         &mut self,
         alloc: Global,
@@ -85,8 +86,8 @@ impl Session {
         self.table_step(port, now, TableStep::Version { msize, version })
     }
 
-    /// Ends the connection: closes every open fid, the least first, and frees all. What the closes
-    /// answer counts for nothing.
+    /// Ends the connection: closes every open fid, the least first, and frees all. Whatever the
+    /// replies to the closes are, it ends.
     pub fn hang_up<P: Port>(&mut self, alloc: Global, port: &mut P, now: u32)
         requires { self.old.awaited ≡ None }
         ensures answered { IsAnswered P.gives now m.HangUp self.old port.old r.Closed self.new
@@ -97,7 +98,7 @@ impl Session {
         let _closed = self.table_step(port, now, TableStep::HangUp);
     }
 
-    /// Answers a message by its steps: the first rule that fails, or want of memory, or what the
+    /// Answers a message by its steps: the first rule that fails, or out of memory, or what the
     /// port answered.
     pub fn answer<P: Port>(
         &mut self,

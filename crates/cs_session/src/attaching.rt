@@ -17,7 +17,7 @@ use cs_permit::{FindFault, PassFault, Request, TreeName};
 use cs_run::Answer;
 use std::alloc::Global;
 
-/// The name of a user that a text is, if it is one; Memory alone is a fault here.
+/// The user's name that a text is; None if it is no user's name. The only fault is Memory.
 fn user_in(alloc: Global, uname: &str) -> Result<Option<UserName>, NameFault>
     ensures { IfOk result (λ user. user ≡ user_in uname.now) }
 {
@@ -28,7 +28,8 @@ fn user_in(alloc: Global, uname: &str) -> Result<Option<UserName>, NameFault>
     }
 }
 
-/// What the find of an attach asks, with room for the fid, and the name of its user.
+/// The run that the find of an attach asks for, and the name of its user, if it is one; or the
+/// reply that refuses it. It makes room in the table for the fid.
 pub(crate) fn decide_find<'a>(
     alloc: Global,
     awaits: bool,
@@ -91,7 +92,8 @@ pub(crate) fn pass_refusal(fault: PassFault) -> Reply
     }
 }
 
-/// The reply to an attach, and its fid, for which there is room.
+/// The reply to an attach whose run gave a pass. If it is granted, the fid is that of the root,
+/// which takes no memory; A6 if the text that named the user is no user's name.
 pub(crate) fn settle_attach(
     fids: &mut FidTable,
     fid: u32,

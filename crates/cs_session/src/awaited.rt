@@ -4,7 +4,7 @@ use cs_names::{Text, UserName};
 use std::marker::Model;
 
 /// A run that was found, and awaits its attach. Contracts see the fid and the call of the attach,
-/// and the run's place; the user's name stands here twice, so that the attach takes no memory.
+/// and the run's place. The user's name is here twice, so that the attach takes no memory.
 #[derive(Debug, Drop)]
 pub(crate) struct AwaitedRun {
     pub(crate) fid: u32,

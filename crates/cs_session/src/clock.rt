@@ -1,4 +1,4 @@
-//! What tells a connection the time.
+//! What gives a connection the time.
 
 /// A clock, in seconds since 1970. A moment may come before an earlier one.
 pub trait Clock {

@@ -13,7 +13,8 @@ use cs_names::RuleId;
 use cs_permit::{Call, CloseCall};
 use cs_run::Answer;
 
-/// What the close of an open fid asks, which is free then. It takes no memory.
+/// What the close of an open fid asks its run, and the fid is free then. S5, and the fids stay as
+/// they were, if the fid isn't open or a run awaits its attach. It takes no memory.
 pub(crate) fn decide_close(
     awaits: bool,
     fids: &mut FidTable,

@@ -17,8 +17,8 @@ ghost use Rattle.cs_session.specs.Trails.{IsTrail};
 
 use crate::port::Port;
 
-/// Each call that a connection asks for is made for one of its fids: on the fid's run, under its
-/// pass, on its file, for its user.
+/// Each call that a connection makes is for one of its fids: on the fid's run, under its pass, on
+/// its file, for its user.
 pub fn calls_are_of_their_fids()
     ensures { (now : ℕ) (session : SessionState) (step : Step) (refused : Bool)
         (moment place pass : ℕ)

@@ -1,4 +1,4 @@
-//! What a client's messages ask of its session, as plain values.
+//! A client's messages to its session, as plain values.
 ghost use Rattle.std.specs.Prelude.{◌≡◌, IfOk};
 
 use cs_names::{Text, Texts};
@@ -61,7 +61,7 @@ pub struct WstatMessage {
     pub stat: SentStat,
 }
 
-/// A message that asks one call of a fid's run.
+/// A message that makes one call on a fid's run.
 #[derive(Debug, Drop)]
 pub enum CallMessage<'a> {
     Walk(WalkMessage),
@@ -98,7 +98,7 @@ pub enum Message<'a> {
 }
 
 impl AttachMessage {
-    /// The same message again.
+    /// A copy of the message.
     pub fn try_clone(&self) -> Result<AttachMessage, AllocError>
         ensures { IfOk result (λ copy. copy ≡ self.now) }
     {
@@ -112,7 +112,7 @@ impl AttachMessage {
 }
 
 impl<'a> CallMessage<'a> {
-    /// The same message again, which lends nothing.
+    /// A copy of the message that borrows nothing: the bytes of a write are copied too.
     pub fn try_clone(&self, alloc: Global) -> Result<CallMessage<'static>, AllocError>
         ensures { IfOk result (λ copy. copy ≡ self.now) }
     {
@@ -146,7 +146,7 @@ impl<'a> CallMessage<'a> {
 }
 
 impl TableStep {
-    /// The same change again.
+    /// A copy of the change.
     pub fn try_clone(&self) -> Result<TableStep, AllocError>
         ensures { IfOk result (λ copy. copy ≡ self.now) }
     {

@@ -15,7 +15,7 @@ use cs_permit::mode::is_bad_open_mode;
 use cs_permit::{Call, CreateCall, OpenCall, Request};
 use cs_run::Answer;
 
-/// What an open asks.
+/// What an open asks the fid's run, or the reply that refuses it.
 pub(crate) fn decide_open(
     awaits: bool,
     msize: Option<u32>,
@@ -53,7 +53,7 @@ pub(crate) fn decide_open(
     Ok(RunQuestion::new(now, fid.run(), fid.pass(), call))
 }
 
-/// What a create asks.
+/// What a create asks the run of its directory's fid, or the reply that refuses it.
 pub(crate) fn decide_create(
     awaits: bool,
     msize: Option<u32>,
@@ -94,7 +94,7 @@ pub(crate) fn decide_create(
     Ok(RunQuestion::new(now, fid.run(), fid.pass(), call))
 }
 
-/// Has the fid, if it isn't open yet, stand for that file and be open.
+/// Makes the fid that of the file, and open, unless it is open already.
 fn open_fid(fids: &mut FidTable, fid: u32, mode: u8, open_number: u32, number: u64)
     ensures { fids.new.fids
         ≡ open_left fids.old.fids fid (walked_at fids.old.fids fid) mode open_number number }
@@ -107,7 +107,7 @@ fn open_fid(fids: &mut FidTable, fid: u32, mode: u8, open_number: u32, number: u
     }
 }
 
-/// The reply to an open, and its fid.
+/// The reply to an open. If it is granted, the fid is open then.
 pub(crate) fn settle_open(fids: &mut FidTable, fid: u32, mode: u8, answer: Answer) -> Reply
     ensures value { (result, fids.new.fids) ≡ open_after fids.old.fids fid mode answer }
     ensures plain { IsPlain result }
@@ -125,7 +125,7 @@ pub(crate) fn settle_open(fids: &mut FidTable, fid: u32, mode: u8, answer: Answe
     }
 }
 
-/// The reply to a create, and its fid.
+/// The reply to a create. If it is granted, the fid is that of the new file, and open.
 pub(crate) fn settle_create(fids: &mut FidTable, fid: u32, mode: u8, answer: Answer) -> Reply
     ensures value { (result, fids.new.fids) ≡ create_after fids.old.fids fid mode answer }
     ensures plain { IsPlain result }

@@ -9,18 +9,18 @@ use cs_run::Answer;
 use std::alloc::Global;
 
 /// What keeps each run that a connection found and each pass that it was given; a fid keeps their
-/// places. A port may keep a call that it was asked.
+/// places. A port may keep the calls that are made.
 pub trait Port {
     /// From this state this question has this answer, and leads to that state.
     ghost gives: { Self → Question → PortAnswer → Self → Type 0 };
 
-    /// Finds the run of that name; its place.
+    /// Finds the run of that name: its place.
     fn find(&mut self, alloc: Global, name: &TreeName) -> Result<u32, FindFault>
         ensures { gives self.old (q.FindRun name.now.state.now name.now.run.now)
             (q.FindAnswer result) self.new };
 
     /// Attaches a user to the run at that place, at that moment, under a new pass: the pass's
-    /// place, and the run's answer; Foreign where no run is at that place (attach(5)).
+    /// place, and the run's answer. Foreign if there is no run at that place (attach(5)).
     fn attach(
         &mut self,
         alloc: Global,
@@ -31,7 +31,8 @@ pub trait Port {
         ensures given { gives self.old (q.AttachTo now run (record { user = user }))
             (q.AttachAnswer result) self.new };
 
-    /// Makes a call on the run at that place, at that moment, under the pass at that place.
+    /// Makes a call on the run at the one place, at that moment, under the pass at the other. The
+    /// answer fits the call.
     fn call(&mut self, alloc: Global, now: u32, run: u32, pass: u32, call: Call<'_>) -> Answer
         ensures given { gives self.old (q.CallOn now run pass call.entry) (q.CallAnswer result)
             self.new }

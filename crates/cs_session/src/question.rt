@@ -1,4 +1,4 @@
-//! What a step asks of a run, once its rules have let it pass.
+//! What a step asks a run, once none of the connection's rules refuses it.
 ghost use Rattle.std.specs.Prelude.{◌≡◌};
 ghost use Rattle.cs_permit.specs.Refusals.{first_failing};
 ghost use Rattle.cs_permit.specs.Table.{table_rules};
@@ -25,6 +25,7 @@ pub(crate) struct RunQuestion<'a> {
 }
 
 impl<'a> RunQuestion<'a> {
+    /// The call at the moment `now`, on the run and under the pass at these places of the port.
     pub(crate) fn new(now: u32, run: u32, pass: u32, call: Call<'a>) -> RunQuestion<'a>
         ensures { result ≡ record { now = now; run = run; pass = pass; call = call.entry } }
     {
@@ -36,7 +37,7 @@ impl<'a> RunQuestion<'a> {
         }
     }
 
-    /// Puts it to the port.
+    /// Makes the call; the run's answer.
     pub(crate) fn put<P: Port>(self, alloc: Global, port: &mut P) -> Answer
         ensures given { P.gives port.old (question_of self.entry) (CallAnswer result) port.new }
         ensures fits { FitsCall self.entry.call result }
@@ -45,8 +46,8 @@ impl<'a> RunQuestion<'a> {
     }
 }
 
-/// The first rule of the connection that the request fails: S5 where a run awaits its attach, S1
-/// where no session stands, and then those of its fids. It takes no memory.
+/// The first rule of the connection that the request fails: S5 if a run awaits its attach, S1 if
+/// no session has begun, and then those of its fids. It takes no memory.
 #[tactic(auto, unfolding(cs_permit::specs::Table::first_table_rule))]
 pub(crate) fn first_of(
     awaits: bool,
@@ -66,7 +67,7 @@ pub(crate) fn first_of(
     first_table_rule(request, fids)
 }
 
-/// The reply to a denial or to want of memory.
+/// The reply to an answer that grants nothing: the rule of a denial, else out of memory.
 pub(crate) fn refusal(answer: Answer) -> Reply
     ensures value { result ≡ refusal answer }
     ensures plain { IsPlain result }

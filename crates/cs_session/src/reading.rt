@@ -19,17 +19,17 @@ use cs_permit::{Call, ReadCall};
 use cs_run::Answer;
 use std::alloc::AllocError;
 
-/// The bytes of an Rread beside its data: size, type, tag and count (read(5)).
+/// How many bytes an Rread has besides its data: size, type, tag and count (read(5)).
 pub const READ_OVERHEAD: u32 = 11;
 
-/// At most as many bytes as an Rread of that message size holds.
+/// The count, but at most as many bytes as an Rread of that message size holds; 0 with no session.
 fn read_count(msize: Option<u32>, count: u32) -> u32
     ensures { result ≡ read_count msize count }
 {
     count.min(msize.unwrap_or(0).saturating_sub(READ_OVERHEAD))
 }
 
-/// The place again, which takes memory only for a name.
+/// A copy of the place. Only its name takes memory.
 fn try_clone_place(place: &Place) -> Result<Place, AllocError>
     ensures ok { IfOk result (λ copy. copy ≡ place.now) }
     ensures memory { OnErr result (is_some place.now.last ≡ true) }
@@ -44,7 +44,7 @@ fn try_clone_place(place: &Place) -> Result<Place, AllocError>
     })
 }
 
-/// What a read asks.
+/// What a read asks the fid's run, or the reply that refuses it.
 pub(crate) fn decide_read(
     awaits: bool,
     msize: Option<u32>,
@@ -86,7 +86,7 @@ pub(crate) fn decide_read(
     Ok(RunQuestion::new(now, fid.run(), fid.pass(), call))
 }
 
-/// Has the fid's next read of a directory go on there, if anywhere else than before.
+/// Keeps the place at which the fid's next read of a directory goes on; None if it stays the same.
 fn go_on_at(fids: &mut FidTable, fid: u32, place: Option<Place>)
     ensures { fids.new.fids ≡ read_left fids.old.fids fid (opened_at fids.old.fids fid) place }
 {
@@ -95,7 +95,7 @@ fn go_on_at(fids: &mut FidTable, fid: u32, place: Option<Place>)
     }
 }
 
-/// The reply to a read, and its fid.
+/// The reply to a read. If it is granted, the fid keeps the place at which the next one goes on.
 pub(crate) fn settle_read(fids: &mut FidTable, fid: u32, answer: Answer) -> Reply
     ensures value { (result, fids.new.fids) ≡ read_after fids.old.fids fid answer }
     ensures fits { (msize : Option ℕ) (count : ℕ) → bytes_in answer ≤ read_count msize count

@@ -66,7 +66,7 @@ fn first_failing_front(msize: Option<u32>, bytes: &[u8]) -> Option<RuleId>
     None
 }
 
-/// The message that the bytes spell; want of memory; or that they are no message.
+/// The message that the bytes spell. The refusal is out of memory, or S2 if they are no message.
 fn decoded(alloc: Global, bytes: &[u8]) -> Result<TMessage<'_>, Reply>
     ensures ok { IfOk result (λ message. IsSpelled bytes.now message) }
     ensures err { IfErr result (IsUnread bytes.now) }
@@ -78,7 +78,8 @@ fn decoded(alloc: Global, bytes: &[u8]) -> Result<TMessage<'_>, Reply>
     }
 }
 
-/// What a message asks of its session, or the reply of one that takes no step.
+/// The message for the session; or the reply to one that takes no step: S3 to a Tauth, and an
+/// Rflush to a Tflush.
 fn message_in<'a>(body: TBody<'a>) -> Result<Message<'a>, Reply>
     ensures { result ≡ message_in body.entry }
 {
@@ -117,6 +118,7 @@ fn message_in<'a>(body: TBody<'a>) -> Result<Message<'a>, Reply>
     })
 }
 
+/// A Twalk for the session.
 fn walk(fid: u32, newfid: u32, names: Vec<String>) -> CallMessage<'static>
     ensures { result
         ≡ call.Walk (record { fid = fid; newfid = newfid; names = map string_bytes names.items }) }
@@ -128,6 +130,7 @@ fn walk(fid: u32, newfid: u32, names: Vec<String>) -> CallMessage<'static>
     })
 }
 
+/// A Tcreate for the session.
 fn create(fid: u32, name: String, perm: u32, mode: u8) -> CallMessage<'static>
     ensures { result
         ≡ call.Create (record { fid = fid; name = string_bytes name; perm = perm; mode = mode }) }
@@ -140,12 +143,14 @@ fn create(fid: u32, name: String, perm: u32, mode: u8) -> CallMessage<'static>
     })
 }
 
+/// A Tread for the session.
 fn read(fid: u32, offset: u64, count: u32) -> CallMessage<'static>
     ensures { result ≡ call.Read (record { fid = fid; offset = offset; count = count }) }
 {
     CallMessage::Read(ReadMessage { fid, offset, count })
 }
 
+/// A Twrite for the session, whose bytes are lent.
 fn write(fid: u32, offset: u64, bytes: &[u8]) -> CallMessage<'_>
     ensures { result ≡ call.Write (record { fid = fid; offset = offset; bytes = bytes.now }) }
 {
@@ -156,6 +161,7 @@ fn write(fid: u32, offset: u64, bytes: &[u8]) -> CallMessage<'_>
     })
 }
 
+/// A Twstat for the session, with all fields of the stat that was sent.
 fn wstat(fid: u32, stat: Stat) -> CallMessage<'static>
     ensures { result ≡ call.Wstat (record { fid = fid; stat = sent_of stat }) }
 {
@@ -165,7 +171,7 @@ fn wstat(fid: u32, stat: Stat) -> CallMessage<'static>
     })
 }
 
-/// What the reply to a version names.
+/// The version that the reply to a version names.
 fn version_text(is_spoken: bool) -> &'static str
     ensures value { result.now ≡ version_named is_spoken }
     ensures shown { IsShown 7 result.now }
@@ -173,7 +179,7 @@ fn version_text(is_spoken: bool) -> &'static str
     if is_spoken { "9P2000" } else { "unknown" }
 }
 
-/// The text of a rule.
+/// The text of a rule, which is short enough for every session.
 fn rule_text(rule: RuleId) -> &'static str
     ensures value { result.now ≡ text_of rule }
     ensures shown { IsShown 48 result.now }
@@ -193,7 +199,7 @@ fn error(text: &'static str) -> RBody
     }
 }
 
-/// The same qid, whose numbers are in their ranges, as any qid's are.
+/// The same qid. The contract says that its numbers are in their ranges, as those of any qid are.
 fn ranged(qid: Qid) -> Qid
     ensures value { result ≡ qid }
     ensures fits { IsQid result }
@@ -205,7 +211,7 @@ fn ranged(qid: Qid) -> Qid
     }
 }
 
-/// The words of a reply. It takes no memory.
+/// The body of a reply on the wire. It takes no memory.
 fn body_of(reply: Reply) -> RBody
     ensures value { (tag : ℕ) → r_view (record { tag = tag; body = result }) ≡ wire_of tag reply }
     ensures fits { (msize : Option ℕ) → ForSome msize IsAgreed → ReplyFits msize reply
@@ -247,7 +253,7 @@ fn body_of(reply: Reply) -> RBody
     }
 }
 
-/// The text of want of memory.
+/// The text of out of memory, which is short enough for every session.
 fn memory_text() -> &'static str
     ensures value { result.now ≡ codes "out of memory" }
     ensures shown { IsShown 48 result.now }
@@ -256,7 +262,8 @@ fn memory_text() -> &'static str
 }
 
 impl Session {
-    /// What a message's bytes come to.
+    /// Answers the bytes of a message: the first rule that fails, out of memory, or what its steps
+    /// answer.
     fn receive<P: Port>(&mut self, alloc: Global, port: &mut P, now: u32, bytes: &[u8]) -> Reply
         requires whole { 7 ≤ length bytes.now }
         requires idle { self.old.awaited ≡ None }
@@ -279,9 +286,9 @@ impl Session {
         self.answer(alloc, port, now, asks)
     }
 
-    /// Answers one message, of 7 bytes at least, at that moment. The reply carries the message's
-    /// tag, and has at most as many bytes as the session's message size; it is an Rerror for the
-    /// first rule that fails, and for want of memory (error(5)).
+    /// Answers one message, of 7 bytes at least, at that moment. The reply has the message's tag,
+    /// and at most as many bytes as the session's message size; it is an Rerror for the first rule
+    /// that fails, and if memory runs out (error(5)).
     pub fn reply<P: Port>(
         &mut self,
         alloc: Global,

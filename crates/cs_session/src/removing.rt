@@ -14,7 +14,8 @@ use cs_names::RuleId;
 use cs_permit::{Call, RemoveCall, Request};
 use cs_run::Answer;
 
-/// What the remove of this entry asks, whose user it takes.
+/// What the remove of this entry asks its run: on the file, for the fid's user, and, if the fid is
+/// open, with the number of its open.
 fn remove_run_question(now: u32, entry: FidEntry) -> RunQuestion<'static>
     ensures { result ≡ remove_run_question now entry }
 {
@@ -31,7 +32,8 @@ fn remove_run_question(now: u32, entry: FidEntry) -> RunQuestion<'static>
     RunQuestion::new(now, run, pass, call)
 }
 
-/// What a remove asks, whose fid is free then. It takes no memory.
+/// What a remove asks the fid's run, and the fid is free then; or the reply that refuses it, and
+/// the fids stay as they were. It takes no memory.
 pub(crate) fn decide_remove(
     awaits: bool,
     msize: Option<u32>,

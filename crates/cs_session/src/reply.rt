@@ -1,11 +1,11 @@
-//! What a step, and a message, is answered.
+//! The replies to steps and messages.
 
 use cs_names::{Bytes, RuleId};
 use cs_run::{FileStat, Walk};
 use cs_wire::Qid;
 
-/// What a step comes to. The last one's is the reply to its message. A walk keeps the rule that
-/// stopped it.
+/// The reply to a step. The reply to the last step of a message is the reply to the message. That
+/// to a walk keeps the rule that stopped it.
 #[derive(Debug, Drop)]
 pub enum Reply {
     /// The message size, and whether the version is one that this server speaks.
@@ -29,6 +29,6 @@ pub enum Reply {
     Closed,
     /// The first rule that fails.
     Error(RuleId),
-    /// Want of memory.
+    /// Out of memory.
     Memory,
 }

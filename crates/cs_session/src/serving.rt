@@ -24,7 +24,7 @@ pub enum ServeFault {
     ReadFault,
     /// A write failed, took no byte, or 1,000 in a row were interrupted.
     WriteFault,
-    /// No message stands next.
+    /// What comes next is no message.
     FrameFault(FrameFault),
     /// There was no memory for the buffers: nothing was read.
     Memory,
@@ -48,11 +48,11 @@ pub(crate) enum Progress {
     More,
     /// No whole message is left.
     Done,
-    /// No message stands next.
+    /// What comes next is no message.
     Stopped(FrameFault),
 }
 
-/// The buffers of a connection: for what comes, and for the replies. They never grow.
+/// The buffers of a connection: one for what comes, and one for the replies. They never grow.
 fn buffers(alloc: Global) -> Result<(Framer, Vec<u8>), AllocError>
     ensures left { IfOk result (λ x. pending_bytes x.0 ≡ []) }
     ensures size { IfOk result (λ x. MESSAGE_BYTES ≤ size_of x.0) }
@@ -64,7 +64,7 @@ fn buffers(alloc: Global) -> Result<(Framer, Vec<u8>), AllocError>
     Ok((framer, replies))
 }
 
-/// Answers a message, and puts its reply behind the others.
+/// Answers a message, and adds its reply after the others.
 fn answer_one<P: Port>(
     alloc: Global,
     session: &mut Session,
@@ -85,8 +85,8 @@ fn answer_one<P: Port>(
     encode_reply(&reply, replies).unwrap();
 }
 
-/// Answers whole messages in place, with each reply at its final place behind the others, while
-/// there is room for a reply.
+/// Answers whole messages while there is room for a reply, and adds each reply after the others.
+/// Neither a message nor a reply is copied.
 fn answer_some<P: Port, C: Clock>(
     alloc: Global,
     framer: &mut Framer,
@@ -118,7 +118,8 @@ fn answer_some<P: Port, C: Clock>(
     Progress::More
 }
 
-/// Answers every whole message, and writes the replies that are ready in one write.
+/// Answers every whole message that came, and writes the replies, as many at once as the buffer
+/// holds.
 fn answer_all<S: Stream, P: Port, C: Clock>(
     alloc: Global,
     framer: &mut Framer,
@@ -228,10 +229,10 @@ fn converse<S: Stream, P: Port, C: Clock>(
 /// Serves a stream to its end: answers each whole message at its moment, and writes the replies in
 /// order. Then it hangs up, whatever it returns.
 ///
-/// It ends with `Ok` where the stream ended between two messages. An interrupted read or write is
-/// tried again, up to 999 in a row: the thousandth in a row is a fault. A connection has
-/// 4,294,967,295 reads, those that are interrupted among them. Memory for its buffers is taken
-/// once, before the first read; a message that memory is wanting for is answered by an Rerror.
+/// It returns `Ok` if the stream ended between two messages. An interrupted read or write is tried
+/// again, up to 999 in a row: the thousandth in a row is a fault. A connection has 4,294,967,295
+/// reads, counting the interrupted ones. Memory for its buffers is taken once, before the first
+/// read; if memory for a message runs out, the reply is an Rerror.
 pub fn serve_stream<S: Stream, P: Port, C: Clock>(
     alloc: Global,
     stream: &mut S,

@@ -1,4 +1,4 @@
-//! A connection's session, and its steps; those of calls stand in a module of their own.
+//! A connection's session and its steps. Those that make a call are in `calls`.
 ghost use Rattle.std.specs.Prelude.{◌≡◌, ◌≢◌, ◌<◌, is_ok, is_some, IfSome, IsOk, IsSome, None};
 ghost use Rattle.std.specs.FinMap.{len};
 ghost use Rattle.cs_fids.specs.Tables.{least_open, opened_in};
@@ -23,8 +23,8 @@ use cs_names::RuleId;
 use std::alloc::Global;
 use std::marker::Model;
 
-/// A connection: its message size, where a session stands; a run that awaits its attach; and its
-/// fids.
+/// A connection: the message size of its session, if it has begun one; the run that awaits its
+/// attach, if any; and its fids.
 #[derive(Drop)]
 pub struct Session {
     msize: Option<u32>,
@@ -57,7 +57,7 @@ impl Session {
         }
     }
 
-    /// The message size, if a session stands.
+    /// The message size of the session, if one has begun.
     pub fn msize(&self) -> Option<u32>
         ensures value { result ≡ self.now.msize }
         ensures agreed { ForSome result IsAgreed }
@@ -65,8 +65,9 @@ impl Session {
         self.msize
     }
 
-    /// Finds the run of an attach; the run then awaits the attach. A refusal leaves the
-    /// connection.
+    /// Finds the run of an attach, and answers Found: the run then awaits the attach. If it is
+    /// refused, the connection is unchanged. The moment counts for nothing; the contract, which is
+    /// that of every step, names it.
     pub fn find_step<P: Port>(
         &mut self,
         alloc: Global,
@@ -98,8 +99,8 @@ impl Session {
         }
     }
 
-    /// Attaches to the run that was found, which then awaits its attach no more. S5 where none was
-    /// found. It takes no memory but the port's.
+    /// Attaches to the run that was found. Whatever the reply is, no run awaits its attach then.
+    /// S5 if none was found. Only the port takes memory.
     pub fn attach_step<P: Port>(&mut self, alloc: Global, port: &mut P, now: u32) -> Reply
         ensures takes { IsStepTaken P.gives now self.old port.old AttachStep result self.new
             port.new }
@@ -122,7 +123,8 @@ impl Session {
         }
     }
 
-    /// Closes an open fid, which is free then, whatever the answer is. S5 where the fid isn't open.
+    /// Closes an open fid. The fid is free then, whatever the run answers. S5, and nothing changes,
+    /// if the fid isn't open or a run awaits its attach.
     pub fn close_step<P: Port>(&mut self, alloc: Global, port: &mut P, now: u32, fid: u32) -> Reply
         ensures takes { IsStepTaken P.gives now self.old port.old (CloseStep fid) result self.new
             port.new }
@@ -150,9 +152,10 @@ impl Session {
         self.msize = msize;
     }
 
-    /// Changes the connection's own table, and asks nothing of the port (version(5), clunk(5)). S5
-    /// where a run awaits its attach, where the fid of a clunk is open, and where a fid is open at
-    /// a version or a hang-up: it changes nothing.
+    /// Changes only the connection's fids and message size, and asks the port nothing (version(5),
+    /// clunk(5)). S5, and nothing changes, if a run awaits its attach, if the fid of a clunk is
+    /// open, or if any fid is open at a version or a hang-up. Port and moment count for nothing;
+    /// the contract, which is that of every step, names them.
     pub fn table_step<P: Port>(&mut self, port: &mut P, now: u32, step: TableStep) -> Reply
         ensures takes { IsStepTaken P.gives now self.old port.old (Table step) result self.new
             port.new }
@@ -195,7 +198,7 @@ impl Session {
         self.fids.least_open()
     }
 
-    /// Whether the number stands for an open fid.
+    /// Whether the fid of that number is open; false if there is none.
     pub(crate) fn is_open(&self, fid: u32) -> bool
         ensures { result ≡ is_ok (opened_in (entry_at self.now fid)) }
     {

@@ -14,7 +14,7 @@ use cs_names::RuleId;
 use cs_permit::{Call, StatCall, WstatCall};
 use cs_run::Answer;
 
-/// What a stat asks. It takes no memory.
+/// What a stat asks the fid's run, or the reply that refuses it. It takes no memory.
 pub(crate) fn decide_stat(
     awaits: bool,
     msize: Option<u32>,
@@ -42,7 +42,7 @@ pub(crate) fn decide_stat(
     Ok(RunQuestion::new(now, entry.run(), entry.pass(), call))
 }
 
-/// What a wstat asks.
+/// What a wstat asks the fid's run, or the reply that refuses it.
 pub(crate) fn decide_wstat(
     awaits: bool,
     msize: Option<u32>,

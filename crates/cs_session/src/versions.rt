@@ -12,6 +12,7 @@ use cs_fids::{FidFault, FidTable};
 use cs_names::limits::{LEAST_MESSAGE_SIZE, MESSAGE_BYTES};
 use cs_names::{Pieces, RuleId};
 
+/// The text up to its first period; all of it if it has none.
 fn before_period(text: &[u8]) -> &[u8]
     ensures { result.now ≡ before_period text.now }
 {
@@ -25,7 +26,8 @@ fn is_spoken(text: &[u8]) -> bool
     before_period(text) == b"9P2000".as_slice()
 }
 
-/// The reply to a version.
+/// The reply to a version: the smaller message size of the client's and the server's, and whether
+/// the version is spoken. S4 if the client's is too small for a session.
 pub(crate) fn version_reply(msize: u32, version: &str) -> Reply
     ensures value { result ≡ version_reply msize version.now }
     ensures plain { IsPlain result }
@@ -39,7 +41,7 @@ pub(crate) fn version_reply(msize: u32, version: &str) -> Reply
     }
 }
 
-/// The message size of the session that a version begins, if it begins one.
+/// The message size of the session that a version begins; None if it begins none.
 pub(crate) fn session_size(msize: u32, version: &str) -> Option<u32>
     ensures value { result ≡ session_size msize version.now }
     ensures agreed { ForSome result IsAgreed }
@@ -50,7 +52,7 @@ pub(crate) fn session_size(msize: u32, version: &str) -> Option<u32>
     Some(msize.min(MESSAGE_BYTES))
 }
 
-/// Frees a fid that isn't open.
+/// Frees a fid that isn't open. S5 if it is open, N1 if there is none: the fids stay as they were.
 pub(crate) fn clunk(fids: &mut FidTable, fid: u32) -> Reply
     ensures value { result ≡ clunk_reply (fid_at fids.old fid) }
     ensures plain { IsPlain result }

@@ -19,7 +19,8 @@ use cs_names::RuleId;
 use cs_permit::{Call, Request, WalkCall};
 use cs_run::{Answer, Walk};
 
-/// What a walk asks, with a copy of the fid from which it goes, and room for a new one.
+/// What a walk asks the fid's run, and a copy of the fid from which it goes; or the reply that
+/// refuses it. It makes room in the table for a new fid.
 pub(crate) fn decide_walk(
     awaits: bool,
     msize: Option<u32>,
@@ -70,7 +71,7 @@ pub(crate) fn decide_walk(
     Ok((ask, from))
 }
 
-/// Has the new fid stand for the last file, unless a rule stopped the walk.
+/// Makes the new fid that of the last file, unless a rule stopped the walk.
 fn move_fid(fids: &mut FidTable, fid: u32, newfid: u32, from: Fid<Walked>, way: &Walk)
     requires from { walked_at fids.old.fids fid ≡ Some from }
     requires named { newfid ≢ NOFID }
@@ -88,7 +89,7 @@ fn move_fid(fids: &mut FidTable, fid: u32, newfid: u32, from: Fid<Walked>, way: 
     }
 }
 
-/// The reply to a walk, and its fid.
+/// The reply to a walk, which makes or moves its new fid.
 pub(crate) fn settle_walk(
     fids: &mut FidTable,
     fid: u32,

@@ -15,7 +15,7 @@ use cs_permit::mode::covers_write;
 use cs_permit::{Call, WriteCall};
 use cs_run::Answer;
 
-/// What a write asks.
+/// What a write asks the fid's run, or the reply that refuses it.
 pub(crate) fn decide_write<'a>(
     awaits: bool,
     msize: Option<u32>,

@@ -1,4 +1,4 @@
--- Each shared run has the key that it is kept under.
+-- Each shared run has its key in the registry.
 use Rattle.std.proofs.Common.{◌≡◌, ◌∙◌, ◌+◌, ◌++◌, ℕ, take, [], ◌∷◌, Option, None, Some, get_or, refl, sym, ap}
 use Rattle.std.specs.Prelude.{All, slice_get, slice_set}
 use Rattle.std.specs.Map.{keys_of}
@@ -15,7 +15,7 @@ use Rattle.cs_registry.specs.declared.found.Found.{Found}
 use Rattle.cs_shared_runs.specs.Finding.{IsKeyed}
 
 module _ (runs : Runs Key) (place : ℕ) (keyed : All IsKeyed runs) where
-  -- a find more leaves what is kept
+  -- one more find leaves what is kept
   pub found_again_keyed : All IsKeyed (with_find runs place)
   found_again_keyed = by (slice_get runs place) refl
     where

@@ -33,7 +33,7 @@ module _ (run : RunOf) (pass : PassOf) (now : ℕ) (call : Call) (mark : StepMar
       by false true = of_short
       by false false = of_entering
 
-  -- a step keeps the tree that the run began with
+  -- a step leaves the tree with which the run began
   pub step_keeps : (step run pass now call mark).run.fresh ≡ run.fresh
   step_keeps = of_each_end (λ s. s.run.fresh ≡ run.fresh) refl refl refl
 

@@ -1,4 +1,4 @@
--- What a call on a shared run returns, whatever other threads do.
+-- What a call on a shared run returns, independent of other threads.
 use Rattle.std.specs.Prelude.{◌≡◌, ◌≢◌, ℕ, ◌≤◌, ◌⊎◌, ⊤, Option, None, Some, Result, Ok, Err}
 use Rattle.cs_names.specs.declared.limits.TheConstants.{RUN_ATTACHES}
 use Rattle.cs_names.specs.declared.rule_id.RuleId.TheVariants.{S5}
@@ -61,7 +61,7 @@ pub record IsFull (serves : HasTree) (number : ℕ) : Type 0 where
   pub served : IsServed serves number run
   pub full : RUN_ATTACHES ≤ run.passes
 
--- why an attach gives no pass; that an allocation fails has no reason here
+-- why an attach gives no pass; no reason is stated for a failed allocation
 abbrev pub IsRefused : HasTree → ℕ → PassFault → Type 0
 IsRefused serves number Foreign = IsOfAnother serves number
 IsRefused serves number Room = IsFull serves number
@@ -74,7 +74,7 @@ IsAttachOf serves number now call (Ok x) =
     IsStepOfServedRun serves number (fresh_pass x.0.number) now call x.1 x.0
 IsAttachOf serves number now call (Err fault) = IsRefused serves number fault
 
--- what was seen of the run under the lock; nothing if that is of another number
+-- what a look returned of the run under the lock; None if that is of another number
 abbrev pub IsTold : {T : Type 0} → HasTree → ℕ → (RunOf → T → Type 0) → Option T → Type 0
 IsTold serves number tells (Some told) =
     (run : RunOf) × IsServed serves number run × tells run told

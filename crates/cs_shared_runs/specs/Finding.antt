@@ -1,4 +1,4 @@
--- What the registry's lock keeps, and what is found under it.
+-- What the registry's lock protects, and what is found under it.
 use Rattle.std.specs.Prelude.{◌≡◌, ℕ, All, List, Some, Result, Ok, Err}
 use Rattle.cs_plan.specs.Scenes.{Scene}
 use Rattle.cs_registry.specs.Finds.{Finds}
@@ -11,11 +11,11 @@ use Rattle.cs_registry.specs.declared.found.Found.{Found}
 use Rattle.cs_tree_model.specs.Tree.{Tree}
 use Rattle.cs_users.specs.Rows.{Row}
 
--- Of a shared run contracts see its key, which is the key that the registry has it under.
+-- Of a shared run contracts see its key, which is its key in the registry.
 abbrev pub IsKeyed : Key × Found Key → Type 0
 IsKeyed run = run.1.held ≡ run.0
 
--- a registry is of the server's scene, and each run has the key that it is kept under
+-- a registry is of the server's scene, and each run has its key there
 pub record IsOfServer (is_scene : Scene → Type 0) (registry : Registry Key) : Type 0 where
   pub scene : is_scene registry.scene
   pub keyed : All IsKeyed registry.runs
@@ -24,7 +24,8 @@ pub record IsOfServer (is_scene : Scene → Type 0) (registry : Registry Key) : 
 abbrev pub is_fresh : Key → Tree → List Row → Key → Type 0
 is_fresh key tree users shared = shared ≡ key
 
--- a refusal is passed on; of the run at the place one more handle is given, or an allocation fails
+-- a refusal is passed on; otherwise a handle of the run at the place is returned, or an allocation
+-- fails
 abbrev pub IsHandle : Registry Key → Result ℕ FindFault → Result Key FindFault → Type 0
 IsHandle new (Err fault) answer = answer ≡ Err fault
 IsHandle new (Ok place) (Ok shared) = held_at new.runs place ≡ Some shared

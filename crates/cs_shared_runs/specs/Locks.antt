@@ -1,4 +1,4 @@
--- What a run's lock keeps, and what is done under it.
+-- What a run's lock protects, and what is done under it.
 use Rattle.std.specs.Prelude.{◌≡◌, ◌≢◌, ℕ, ◌<◌, ◌≤◌, ◌⊎◌, Result, Ok, Err, refl}
 use Rattle.std.specs.Coded.{Coded, code_by, coded×, coded_ℕ}
 use Rattle.cs_names.specs.declared.limits.TheConstants.{RUN_ATTACHES}
@@ -28,8 +28,8 @@ LockedSteps old run pass now call answer new pass' =
     (mark : StepMark) × (record { answer = answer; run = new.run; pass = pass' }
     ≡ step run pass now call mark) × (new.number ≡ old.number)
 
--- A call for the run of a number: S5, and nothing changes, if the numbers differ or the pass doesn't
--- fit; else a step.
+-- A call for the run of a number: S5, and nothing changes, if the numbers differ or the pass
+-- doesn't fit; else a step.
 pub record LockedCalls (old : Locked) (number : ℕ) (pass : PassOf) (now : ℕ) (call : Call)
     (answer : Answer) (new : Locked) (pass' : PassOf) : Type 0 where
   pub foreign : (number ≢ old.number) ⊎ (¬ Fits old.run pass)

@@ -12,7 +12,7 @@ abbrev pub key_cmp : Key → Key → Ordering
 key_cmp one other =
     ordering_then (nat_cmp one.number other.number) (slice_cmp nat_cmp one.name other.name)
 
--- it is an order, and keys that tie are the same
+-- it is an order, and keys that are equal in it are the same
 pub key_total : IsTotalOrder key_cmp
 key_total =
     then_total (on_total (λ (key : Key). key.number) nat_cmp_total)

@@ -1,4 +1,4 @@
-//! Runs are compared by their keys: by the numbers of their states, and then by their names.
+//! The order of runs: by the numbers of their states, and then by their names.
 ghost use Rattle.std.specs.Prelude.{refl};
 ghost use Rattle.std.specs.Cmp.{partial_equiv_from_equiv};
 ghost use Rattle.std.specs.Ordering.{as_partial_cmp};

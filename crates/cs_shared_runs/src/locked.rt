@@ -1,4 +1,4 @@
-//! What a run's lock keeps.
+//! What a run's lock protects.
 ghost use Rattle.std.specs.Prelude.{◌≡◌, ◌≢◌, ◌↔◌, IsNone, IsSomeAnd, IsTrue};
 ghost use Rattle.cs_permit.specs.declared.call.Call.TheVariants as called;
 ghost use Rattle.cs_run.specs.Laws.{FitsCall};
@@ -16,9 +16,8 @@ use cs_run::Answer;
 use std::alloc::Global;
 use std::marker::{Model, PhantomData};
 
-/// A run, with the number of its state: the server has the tree that the run began with under that
-/// number. What is done under the lock is done by these calls, and each of them compares the number
-/// with that of the handle that it came by. Contracts see the number and the run.
+/// A run and the number of its state; the run began with the tree that the server has under that
+/// number. Whatever is done under the lock is done by the calls below. Contracts see both.
 #[derive(Drop)]
 pub(crate) struct Locked<S: ServerBrand> {
     number: u32,
@@ -39,6 +38,7 @@ impl<S: ServerBrand> Model for Locked<S> {
 }
 
 impl<S: ServerBrand> Locked<S> {
+    /// The run of the state of that number, to be put under a lock.
     pub(crate) fn new(number: u32, run: Run<Built>) -> Locked<S>
         requires { S.serves number run.fresh }
         ensures { result ≡ record { number = number; run = run } }
@@ -50,15 +50,17 @@ impl<S: ServerBrand> Locked<S> {
         }
     }
 
-    /// Whether this run is of the number.
+    /// Whether the run is of that number. It always is: a handle and its lock are made with the
+    /// same number. But contracts see nothing inside a lock, so each call checks it and says what
+    /// it does otherwise.
     fn is_of(&self, number: u32) -> bool
         ensures { IsTrue result ↔ (self.now.number ≡ number) }
     {
         self.number == number
     }
 
-    /// Makes a call under a pass at that moment. S5 if this run is of another number, or the pass
-    /// doesn't fit it.
+    /// Does a call under a pass at that moment. Denied by S5 if the run is of another number, which
+    /// can't happen, or the pass isn't one of it.
     pub(crate) fn call(
         &mut self,
         alloc: Global,
@@ -72,6 +74,7 @@ impl<S: ServerBrand> Locked<S> {
         ensures told { IsAnswerOf S.serves number pass.old now call.entry result pass.new }
         ensures fits { FitsCall call.entry result }
     {
+        // by its contract the journal is legal
         know(self.run.entries());
         if !self.is_of(number) {
             return Answer::Denied(RuleId::S5);
@@ -82,7 +85,8 @@ impl<S: ServerBrand> Locked<S> {
         self.run.step(alloc, pass, now, call)
     }
 
-    /// Attaches a user under a new pass, at that moment. Foreign if this run is of another number.
+    /// Attaches a user under a new pass at that moment. Foreign if the run is of another number,
+    /// which can't happen.
     pub(crate) fn attach(
         &mut self,
         alloc: Global,
@@ -95,6 +99,7 @@ impl<S: ServerBrand> Locked<S> {
         ensures told { IsAttachOf S.serves number now
             (called.Attach (record { user = user })) result }
     {
+        // by its contract the journal is legal
         know(self.run.entries());
         if !self.is_of(number) {
             return Err(PassFault::Foreign);
@@ -103,19 +108,21 @@ impl<S: ServerBrand> Locked<S> {
             Ok(pass) => pass,
             Err(fault) => return Err(fault),
         };
+        // and it still is after the new pass
         know(self.run.entries());
         let call = Call::Attach(AttachCall { user });
         let answer = self.run.step(alloc, &mut pass, now, call);
         Ok((pass, answer))
     }
 
-    /// Lends the run. None if it is of another number.
+    /// What `look` returns of the run. None if the run is of another number, which can't happen.
     pub(crate) fn inspect<T, K: Look<T> + Drop>(&self, number: u32, look: K) -> Option<T>
         ensures looks { self.now.number ≡ number
             → IsSomeAnd result (K.tells look self.now.run) }
         ensures foreign { self.now.number ≢ number → IsNone result }
         ensures told { IsTold S.serves number (K.tells look) result }
     {
+        // by its contract the journal is legal
         know(self.run.entries());
         if !self.is_of(number) {
             return None;

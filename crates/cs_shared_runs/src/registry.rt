@@ -1,4 +1,4 @@
-//! What the registry's lock keeps.
+//! What the registry's lock protects.
 ghost use Rattle.std.specs.Prelude.{◌≡◌, ◌≢◌, ◌≤◌, All, Err, IfOk, OnErr, length};
 ghost use Rattle.std.specs.Arc.{arc_value};
 ghost use Rattle.std.specs.List.Sorted.{IsPermutation, IsSorted};
@@ -19,8 +19,8 @@ use std::alloc::{AllocError, Global};
 use std::marker::Model;
 use std::sync::Arc;
 
-/// The published states of the server's scene and their shared runs. Contracts see it as
-/// cs_registry's, and of a run its key.
+/// The published states of the server's scene and their shared runs. Contracts see what they see of
+/// a `States`, and of each run its key.
 #[derive(Drop)]
 pub struct Registry<S: ServerBrand> {
     states: States<SharedRun<S>>,
@@ -38,7 +38,7 @@ impl<S: ServerBrand> Model for Registry<S> {
     ghost invariant = { λ r. IsOfServer S.is_scene r.states };
 }
 
-/// The users that a registry loaded: `Registry::reload` alone makes one. Contracts see their rows.
+/// The users that a registry loaded. Only `Registry::reload` makes one. Contracts see their rows.
 #[derive(Drop)]
 pub struct LoadedUsers {
     users: Arc<Users>,
@@ -55,7 +55,8 @@ impl Model for LoadedUsers {
 }
 
 impl<S: ServerBrand> Registry<S> {
-    /// A registry of the states of the server's scene, of which none is published.
+    /// A registry of the server's scene with no published state. Its runs have these users until
+    /// others are loaded.
     pub fn new(
         alloc: Global,
         scene: Arc<Scene>,
@@ -72,8 +73,8 @@ impl<S: ServerBrand> Registry<S> {
         })
     }
 
-    /// The registry of these states of the server's scene and their runs, as `publish_all` gives
-    /// it.
+    /// The registry of these states of the server's scene and their runs, as cs_publish's
+    /// `publish_all` makes it.
     pub fn of(states: States<SharedRun<S>>) -> Registry<S>
         requires own { S.is_scene states.scene }
         requires keyed { All IsKeyed states.runs }
@@ -82,14 +83,14 @@ impl<S: ServerBrand> Registry<S> {
         Registry { states }
     }
 
-    /// The scene.
+    /// The scene of the registry.
     pub fn scene(&self) -> &Arc<Scene>
         ensures { arc_value result.now ≡ self.now.scene }
     {
         self.states.scene()
     }
 
-    /// How many states of the plan aren't published.
+    /// How many states of the plan aren't published yet.
     pub fn missing(&self) -> u32
         ensures count { result ≡ missing_of self.now }
         ensures few { result ≤ length self.now.scene.plan }
@@ -98,8 +99,8 @@ impl<S: ServerBrand> Registry<S> {
         self.states.missing()
     }
 
-    /// Publishes a state under its number: Stranger if the plan has no such number, or the state was
-    /// made in a scene of other content; then Twice; then Memory.
+    /// Publishes a state under its number, as `States::publish`: refused as Stranger, Twice or
+    /// Memory, in this order.
     pub fn publish(&mut self, alloc: Global, state: Published) -> Result<(), PublishFault>
         ensures publishes { Publishes self.old state result self.new }
         ensures own { S.is_scene self.old.scene }
@@ -107,8 +108,8 @@ impl<S: ServerBrand> Registry<S> {
         self.states.publish(alloc, state)
     }
 
-    /// The same for a state of the one scene that may be the server's: no content is compared, and
-    /// it is no stranger.
+    /// Publishes a state of the only scene that may be the server's, as `publish` does but without
+    /// comparing contents. It is never Stranger.
     pub fn publish_own(&mut self, alloc: Global, state: Published) -> Result<(), PublishFault>
         requires { IsOnly S.is_scene state.scene }
         ensures publishes { Publishes self.old state result self.new }
@@ -119,20 +120,21 @@ impl<S: ServerBrand> Registry<S> {
         self.states.publish_own(alloc, state)
     }
 
-    /// Finds the run of a key.
+    /// Finds the run of a key, as `States::find_key`, and returns a handle of it. Memory also if
+    /// the run has as many handles as can be; the find stays counted then.
     pub fn find_key(&mut self, alloc: Global, key: RunKey) -> Result<SharedRun<S>, FindFault>
         ensures finds { FindsShared self.old key result self.new }
         ensures key { IfOk result (λ shared. shared ≡ key) }
     {
         let place = self.states.find_key(alloc, key)?;
-        match self.states.at(place).again() {
+        match self.states.held_at(place).again() {
             Ok(shared) => Ok(shared),
             Err(_) => Err(FindFault::Memory),
         }
     }
 
-    /// Loads these users: a run that is made from now on has them. The error is out of memory, and
-    /// then the old list stays.
+    /// Loads these users, for the runs that are made from now on. If memory runs out, the old list
+    /// stays.
     pub fn reload(&mut self, users: Arc<Users>) -> Result<LoadedUsers, AllocError>
         ensures value { IfOk result (λ loaded. loaded ≡ arc_value users) }
         ensures loads { IfOk result (λ loaded. self.new ≡ with_users self.old (arc_value users)) }
@@ -143,7 +145,7 @@ impl<S: ServerBrand> Registry<S> {
         Ok(LoadedUsers { users })
     }
 
-    /// All runs, in the order of their keys.
+    /// Handles of all runs, in the order of their keys.
     pub fn runs(&self, alloc: Global) -> Result<Vec<SharedRun<S>>, AllocError>
         ensures all { IfOk result (λ runs. IsPermutation (keys_of self.now.runs) runs.items) }
         ensures sorted { IfOk result (λ runs. IsSorted key_cmp runs.items) }
@@ -154,7 +156,7 @@ impl<S: ServerBrand> Registry<S> {
     }
 }
 
-/// The runs, in the order in which they were made.
+/// Handles of all runs, in the order in which they were made.
 fn all_runs<S: ServerBrand>(
     alloc: Global,
     states: &States<SharedRun<S>>,
@@ -164,7 +166,7 @@ fn all_runs<S: ServerBrand>(
 {
     let mut runs = Vec::new(alloc);
     for place in 0..states.run_count() {
-        let run = states.at(place).again()?;
+        let run = states.held_at(place).again()?;
         runs.push(run)?;
     }
     Ok(runs)

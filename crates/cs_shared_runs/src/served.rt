@@ -1,21 +1,21 @@
-//! Which scene a server has, and which trees.
+//! The scene of a server, and its trees.
 ghost use Rattle.std.specs.Prelude.{ℕ};
 ghost use Rattle.cs_plan.specs.Scenes.{Scene};
 ghost use Rattle.cs_tree_model.specs.Tree.{Tree};
 
 use std::marker::Brand;
 
-/// Names a server, so that what a lock keeps can say by its type of which scene it is, and which
+/// Names a server by a type, so that the type of what a lock protects says whose scene and whose
 /// trees it has.
 pub trait ServerBrand {
-    /// The trees that it has under a number: fresh runs begin with these.
+    /// The trees that the server has under a number. New runs begin with these.
     ghost serves: { ℕ → Tree → Type 0 };
 
-    /// Whether it is the server's scene.
+    /// Whether a scene is the server's.
     ghost is_scene: { Scene → Type 0 };
 }
 
-/// Names a server of the states of any scenes.
+/// Names a server of any scene.
 pub struct AnyScene;
 
 impl ServerBrand for AnyScene {
@@ -26,7 +26,7 @@ impl ServerBrand for AnyScene {
     ghost is_scene = { λ scene. Unit {0} };
 }
 
-// a call that passes this one picks its scene and its trees
+// a caller that passes `Brand` chooses which scene and which trees it means
 impl ServerBrand for Brand {
     ghost use Rattle.cs_shared_runs.specs.Serving.{IsStateOfSome};
 

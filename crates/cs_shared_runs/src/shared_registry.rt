@@ -18,8 +18,9 @@ use std::alloc::{AllocError, Global};
 use std::marker::Model;
 use std::sync::{Arc, Mutex, Wait};
 
-/// The published states of the server's scene, and their runs, which threads share. Contracts see
-/// the scene. Each call takes the registry's lock once, and no run's.
+/// The published states of the server's scene and their runs, shared by threads under a lock.
+/// Contracts see the scene, and nothing under the lock. Each call takes this lock once, and no
+/// run's.
 #[derive(Drop)]
 pub struct SharedRegistry<S: ServerBrand> {
     scene: Arc<Scene>,
@@ -38,8 +39,8 @@ impl<S: ServerBrand> Model for SharedRegistry<S> {
 }
 
 impl<S: ServerBrand> SharedRegistry<S> {
-    /// A registry of the states of the server's scene, of which none is published, whose runs have
-    /// these users until others are loaded.
+    /// A registry of the server's scene with no published state. Its runs have these users until
+    /// others are loaded.
     pub fn new(
         alloc: Global,
         scene: Arc<Scene>,
@@ -57,10 +58,11 @@ impl<S: ServerBrand> SharedRegistry<S> {
         })
     }
 
-    /// The same of the states and the runs of a registry.
+    /// The states and the runs of this registry, to be shared.
     pub fn of(registry: Registry<S>) -> Result<SharedRegistry<S>, AllocError>
         ensures { IfOk result (λ shared. shared ≡ registry.scene) }
     {
+        // its scene is the server's
         know(registry.missing());
         let scene = Arc::try_clone(registry.scene())?;
         Ok(SharedRegistry {
@@ -69,7 +71,7 @@ impl<S: ServerBrand> SharedRegistry<S> {
         })
     }
 
-    /// The scene.
+    /// The scene of the registry.
     pub fn scene(&self) -> &Arc<Scene>
         ensures scene { arc_value result.now ≡ self.now }
         ensures own { S.is_scene self.now }
@@ -77,15 +79,16 @@ impl<S: ServerBrand> SharedRegistry<S> {
         &self.scene
     }
 
-    /// How many states of the plan aren't published.
+    /// How many states of the plan aren't published yet.
     pub fn missing(&self, rt: &impl Wait) -> u32
         ensures { IsOnly S.is_scene self.now → result ≤ length self.now.plan }
     {
         self.inside.lock(rt).missing()
     }
 
-    /// Publishes a state under its number: Stranger if the plan has no such number, or the state was
-    /// made in a scene of other content; then Twice; then Memory.
+    /// Publishes a state under its number, by `States::publish` under the lock. If no other scene
+    /// may be the server's, it is Stranger exactly if the scene has no such state. No clause says
+    /// when it is Twice or Memory, since contracts see nothing under the lock.
     pub fn publish(
         &self,
         rt: &impl Wait,
@@ -98,8 +101,8 @@ impl<S: ServerBrand> SharedRegistry<S> {
         self.inside.lock(rt).publish(alloc, state)
     }
 
-    /// The same for a state of the scene, which is the only one that may be the server's: no
-    /// content is compared, and it is no stranger.
+    /// Publishes a state of the scene, which is the only one that may be the server's, as `publish`
+    /// does but without comparing contents. It is never Stranger.
     pub fn publish_own(
         &self,
         rt: &impl Wait,
@@ -113,9 +116,9 @@ impl<S: ServerBrand> SharedRegistry<S> {
         self.inside.lock(rt).publish_own(alloc, state)
     }
 
-    /// Finds the run of that name of the state of that number, and counts the find: the run is made
-    /// at the first. Unpublished (A4), Full (A5) and Memory are as `States::find` has them; Memory
-    /// also if the run has as many handles as can be, and then the find stays counted.
+    /// Finds the run of that name over the state of that number, or makes it, by `States::find`
+    /// under the lock, and returns a handle of it. Memory also if the run has as many handles as
+    /// can be; the find stays counted then. No clause says when a find is refused.
     pub fn find(
         &self,
         rt: &impl Wait,
@@ -128,7 +131,7 @@ impl<S: ServerBrand> SharedRegistry<S> {
         self.find_key(rt, alloc, RunKey::new(number, name))
     }
 
-    /// The same for the key of a run.
+    /// Finds the run of a key, as `find` does.
     pub fn find_key(
         &self,
         rt: &impl Wait,
@@ -140,9 +143,8 @@ impl<S: ServerBrand> SharedRegistry<S> {
         self.inside.lock(rt).find_key(alloc, key)
     }
 
-    /// Loads another list of users: a run that is made from then on has them. A run that exists
-    /// keeps the list with which it was made. The error is out of memory, and then the old list
-    /// stays.
+    /// Loads another list of users, for the runs that are made from then on. A run that exists
+    /// keeps the list with which it was made. If memory runs out, the old list stays.
     pub fn reload(
         &self,
         rt: &impl Wait,
@@ -155,7 +157,7 @@ impl<S: ServerBrand> SharedRegistry<S> {
         self.inside.lock(rt).reload(users)
     }
 
-    /// All runs, by the numbers of their states and then by name.
+    /// Handles of all runs, ordered by the numbers of their states and then by name.
     pub fn runs(&self, rt: &impl Wait, alloc: Global) -> Result<Vec<SharedRun<S>>, AllocError>
         ensures { IfOk result (λ runs. IsSorted key_cmp runs.items) }
     {

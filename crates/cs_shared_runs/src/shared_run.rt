@@ -1,4 +1,4 @@
-//! A run that threads share.
+//! A handle of a run that threads share.
 ghost use Rattle.std.specs.Prelude.{◌≡◌, IfOk};
 ghost use Rattle.std.specs.Arc.{arc_value};
 ghost use Rattle.cs_journal.specs.Bounds.{CanGrow};
@@ -20,8 +20,8 @@ use std::alloc::{AllocError, Global};
 use std::marker::Model;
 use std::sync::{Arc, Mutex, Wait};
 
-/// A run that threads share, under a lock, with its key. Contracts see the key. Each call takes the
-/// run's lock once, and no other.
+/// A handle of a run that threads share under a lock, with the run's key. Contracts see the key.
+/// Each call takes the run's lock once, and no other.
 #[derive(Drop)]
 pub struct SharedRun<S: ServerBrand> {
     key: RunKey,
@@ -37,7 +37,7 @@ impl<S: ServerBrand> Model for SharedRun<S> {
 }
 
 impl<S: ServerBrand> SharedRun<S> {
-    /// The run of a key, over the tree of its state, with no open and no entry.
+    /// A handle of a new run of that key, over the tree of its state, with no open and no entry.
     pub fn fresh(
         alloc: Global,
         key: RunKey,
@@ -53,7 +53,7 @@ impl<S: ServerBrand> SharedRun<S> {
         Ok(SharedRun { key, run })
     }
 
-    /// The same run.
+    /// Another handle of the same run. It fails if the run has as many handles as can be.
     pub fn again(&self) -> Result<SharedRun<S>, AllocError>
         ensures { IfOk result (λ shared. shared ≡ self.now) }
     {
@@ -63,16 +63,16 @@ impl<S: ServerBrand> SharedRun<S> {
         })
     }
 
-    /// Its key.
+    /// The key of the run.
     pub fn key(&self) -> &RunKey
         ensures { result.now ≡ self.now }
     {
         &self.key
     }
 
-    /// Attaches a user under a new pass, at that moment, in seconds since 1970. Foreign if the run
-    /// under the lock is of another number; then Room if it gave RUN_ATTACHES passes; then Memory.
-    /// After a refusal no pass was given, and the run is as it was.
+    /// Attaches a user under a new pass at that moment, in seconds since 1970. Room if the run gave
+    /// RUN_ATTACHES passes; otherwise it may be Memory. (Foreign, for a run of another number under
+    /// the lock, can't happen.) After a refusal no pass was given, and the run is as it was.
     pub fn attach(
         &self,
         rt: &impl Wait,
@@ -87,8 +87,8 @@ impl<S: ServerBrand> SharedRun<S> {
         self.run.lock(rt).attach(alloc, number, now, user)
     }
 
-    /// Makes a call under a pass at that moment, in seconds since 1970. S5 if the run under the
-    /// lock is of another number, or the pass doesn't fit it; else as `Run::step`.
+    /// Does a call under a pass at that moment, in seconds since 1970, by `Run::step`. Denied by S5
+    /// if the pass isn't one of the run.
     pub fn call(
         &self,
         rt: &impl Wait,
@@ -105,8 +105,8 @@ impl<S: ServerBrand> SharedRun<S> {
         self.run.lock(rt).call(alloc, number, pass, now, call)
     }
 
-    /// Lends the run to `look`, under the lock: what it tells. None if the run under the lock is of
-    /// another number.
+    /// What `look` returns of the run, under the lock. (None, for a run of another number under the
+    /// lock, can't happen.)
     pub fn inspect<T, K: Look<T> + Drop>(&self, rt: &impl Wait, look: K) -> Option<T>
         ensures { IsTold S.serves self.now.number (K.tells look) result }
     {
@@ -122,6 +122,7 @@ impl<S: ServerBrand> Held for SharedRun<S> {
 
     ghost is_fresh = { λ key tree users shared. shared ≡ key };
 
+    /// A handle of the new run of that key.
     fn fresh(
         alloc: Global,
         key: &RunKey,

@@ -144,7 +144,7 @@ module _ (s : State) (is_made : IsMade s) where
       by None e = absurd (false≢true (sym (ap is_some e)))
       by (Some p) e = id_low (parent_path p) id (sym e)
 
-  -- ---- by an id at which something stands
+  -- ---- by an id at which there is something
 
   module _ (id n : ℕ) (is : place_of (slots_in s) id ≡ Some n) where
     standing_here : (b : Bool) → is_entry (slot_at (slots_in s) id) ≡ b → (is_entry (slot_at (slots_in s) id) ≡ true)

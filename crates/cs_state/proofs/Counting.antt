@@ -47,7 +47,7 @@ module _ {X : Type 0} (f : X → ℕ) where
       below_split xs d y k (omega (arith, long)) (λ j h. low (suc j) (omega (arith, h)))
       (λ j l h. high (suc j) (omega (arith, l)) (omega (arith, h))) in omega (arith, a, b))
 
-  -- where the list ascends, so many are below the k-th
+  -- if the list ascends, so many are below the k-th
   pub below_at : (xs : List X) (d : X) → ((i j : ℕ) → i < j → j < length xs → f (get_or xs i d) < f (get_or xs j d)) → (k : ℕ)
       → k < length xs → count_with_key_below f xs (f (get_or xs k d)) ≡ k
   below_at xs d up k low = below_split xs d (f (get_or xs k d)) k (omega (arith, low)) (λ j h. up j k h low) (λ j l h. ⊎_elim
@@ -78,7 +78,7 @@ module _ {X : Type 0} (f : X → ℕ) where
       omega (arith, a, b, rest)))
       (cases_lt (f x) y)
 
-  -- where the list ascends, at most one is y
+  -- if the list ascends, at most one is y
   below_step : (xs : List X) (d : X) → ((i j : ℕ) → i < j → j < length xs → f (get_or xs i d) < f (get_or xs j d)) → (y : ℕ)
       → count_with_key_below f xs (suc y) ≤ suc (count_with_key_below f xs y)
   below_step [] d up y = omega arith
@@ -341,7 +341,7 @@ module _ (f : Own → ℕ) (own : List Own) (least most end from y r : ℕ) (is_
 
 -- ---- what an id is found by
 
--- no state's own has the id, where the first that isn't below it hasn't
+-- no state's own has the id, if the first that isn't below it hasn't
 pub no_own : (own : List Own) → ((i j : ℕ) → i < j → j < length own → (own_in_place own i).id < (own_in_place own j).id) → (id a : ℕ)
     → a ≤ length own → ((k : ℕ) → k < a → (own_in_place own k).id < id) → ((k : ℕ) → a ≤ k → k < length own → id ≤ (own_in_place own k).id)
     → (a < length own → (own_in_place own a).id ≢ id) → IsOwn own id → ⊥

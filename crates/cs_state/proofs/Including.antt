@@ -33,7 +33,7 @@ no_ids f none zero = refl
 no_ids f none (suc n) =
     ap (λ b. numbers_that_pass f n ++ cond b (n ∷ []) []) (none n) ∙ append-nil (numbers_that_pass f n) ∙ no_ids f none n
 
--- one more passes, behind all others
+-- one more passes, after all others
 ids_more : (f g : ℕ → Bool) (p n : ℕ) → p < n → ((k : ℕ) → p ≤ k → f k ≡ false) → g p ≡ true → ((k : ℕ) → k ≢ p → g k ≡ f k)
     → numbers_that_pass g n ≡ numbers_that_pass f n ++ p ∷ []
 ids_more f g p zero low none here same = absurd (omega (arith, low))

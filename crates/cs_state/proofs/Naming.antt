@@ -1,4 +1,4 @@
--- Every path that ever stands is in a directory, so all of them as directories are a tree.
+-- Every path that ever exists is in a directory, so all of them as directories are a tree.
 use Rattle.std.proofs.Common.{◌≡◌, ℕ, ◌<◌, ◌≤◌, List, [], Option, None, Some, refl, sym, ap, ◌∙◌, subst, arith, ⊎_elim, length}
 use Rattle.std.proofs.lemmas.Bool.{cases_lt, false≢true}
 use Rattle.std.proofs.lemmas.List.{get_or_default, get_or_past}

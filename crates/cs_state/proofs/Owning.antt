@@ -147,7 +147,7 @@ module _ (kept counts : List ℕ) (slots : List Slot) where
       (own_up ts n later rises i j lt (subst (λ os. j < length os) (without_first t ts n gone) low)))
       (cases_Bool (is_entry (slot_at slots t)))
 
-  -- each touched id at which something stands is among them
+  -- each touched id at which there is something is among them
   own_has : (ts : List ℕ) (n : ℕ) (k : ℕ) → k < length ts → is_entry (slot_at slots (kept_at ts k)) ≡ true
       → IsOwn (own_from counts ts slots n) (kept_at ts k)
   own_has [] n k low stand = absurd (omega (arith, low))

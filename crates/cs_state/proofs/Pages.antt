@@ -108,7 +108,7 @@ module _ (n size : ℕ) (ops : List MicroOp) where
           let w = ids_have test (length ops) k low is in
           subst (λ j. HasRow rows (op_at ops j)) w.2 (has w.0 0 w.1)
 
-      -- a page without a row is reached by cuts alone
+      -- a page without a row is reached by cuts only
       one_unwritten : (page s : ℕ) → rows page ≡ None → (o : MicroOp) → (changes_file n o ≡ true → HasRow rows o)
           → (changes_file n o && reaches None s o) ≡ (changes_file n o && reaches (Some page) s o)
       one_unwritten page s none (ChangeFileSize file to) there = refl
@@ -128,7 +128,7 @@ module _ (n size : ℕ) (ops : List MicroOp) where
       unwritten page none = ids_same (touches n size ops None) (touches n size ops (Some page)) (length ops)
           (λ k low. one_unwritten page (size_before n size ops k) none (op_at ops k) (has_row k low))
 
-      -- each page's row, or the cuts where it has none, are those that reach it
+      -- each page's row, or the cuts if it has none, are those that reach it
       pub rows_are : AreRows sizes ops (numbers_that_pass test (length ops)) rows → (cuts : List ℕ)
           → cuts ≡ places_reaching sizes ops (numbers_that_pass test (length ops)) None
           → (page : ℕ) → option_map_or (λ row. row.items) (rows page) cuts ≡ numbers_that_pass (touches n size ops (Some page)) (length ops)
@@ -214,7 +214,7 @@ module _ (n : ℕ) (start : Content) (ops : List MicroOp) (members : List Bool) 
   left_more : (k : ℕ) → left (suc k) ≡ cond (mark_at members k) (content_after n (left k) (op_at ops k)) (left k)
   left_more k = fold_ids (λ f j. content_after n f (op_at ops j)) start (mark_at members) k
 
-  -- where each that changes the size is a member, the size is what all leave
+  -- if each that changes the size is a member, the size is what all leave
   sizes_same : (k : ℕ) → ((j : ℕ) → j < k → resizes n (op_at ops j) ≡ true → mark_at members j ≡ true)
       → (left k).size ≡ size_before n start.size ops k
   sizes_same zero all = refl

@@ -1,4 +1,4 @@
--- The next entry of a directory where names at which nothing stands are passed.
+-- The next entry of a directory, if names at which there is nothing are skipped.
 use Rattle.std.proofs.Common.{◌≡◌, ℕ, ◌<◌, Bool, true, false, cond, [], ◌∷◌, Option, None, Some, IsSome, refl, sym, ap, ◌∙◌, arith, ⊎_elim}
 use Rattle.std.proofs.Common.{length}
 use Rattle.std.proofs.lemmas.Bool.{cases_Bool, false≢true}
@@ -28,11 +28,11 @@ module _ (all : NameBytes → Option ℕ) (place : ℕ → Option ℕ) (from bou
   none_shown none = λ y h. none y (there y h)
 
   module _ (x : NameBytes) (next : IsNext (λ y. IsSome (all y) × (comes_before bound y ≡ true)) from x) where
-    -- the next name, if something stands there
+    -- the next name, if something is there
     pub first_shown : IsSome (shown x) → IsNext (λ y. IsSome (shown y) × (comes_before bound y ≡ true)) from x
     first_shown here = record { there = (here, next.there.1); after = next.after; least = λ y h after. next.least y (there y h) after }
 
-    -- or what is next behind it
+    -- or what is next after it
     module _ (gone : shown x ≡ None) where
       later : (y : NameBytes) → IsSome (shown y) × (comes_before bound y ≡ true) → comes_after from y ≡ true → comes_after (Some x) y ≡ true
       later y h after = ⊎_elim

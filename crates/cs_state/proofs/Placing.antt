@@ -113,7 +113,7 @@ all_standing paths (suc i) le =
     (let rest = all_standing paths i (omega (arith, le)) in let one : ◌≡◌ {A = ℕ} (cond (is_entry (slot_at (all paths) i)) 1 0) 1 =
     ap (λ s. cond (is_entry s) 1 0) (all_at paths i (omega (arith, le))) in omega (arith, rest, one))
 
--- where no path is, no slot has anything
+-- if there is no path, no slot has anything
 absent : (rights : List Rights) (paths : List Path) (slots : List Slot) (p : Path) → slot_entry rights paths (all paths) p ≡ None
     → slot_entry rights paths slots p ≡ None
 absent rights [] slots p none = refl
@@ -198,7 +198,7 @@ module _ (rights owners owners_before : List Rights) (files before : List Conten
             ap (number_at state) at.1 ∙ standing_at id at.0 (is_entry (slot_at slots id)) refl ∙ sym
             (ap (option_and_then (place_of slots)) some)
 
-    -- and what it has is where all paths have its id
+    -- and what it has is at its id among all paths
     pub path_both : (id n : ℕ) → place_of slots id ≡ Some n → id < length paths → path_numbered state n ≡ path_numbered names id
     path_both id n is low =
         let f = found_in names names_tree id (path_at paths id) (path_of_id id low) in

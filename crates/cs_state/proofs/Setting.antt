@@ -12,7 +12,7 @@ use Rattle.cs_apm.specs.Rules.{op_at}
 use Rattle.cs_state.specs.Owners.{rights_places, sets_rights, AreRightsRows, HasRightsRow}
 use Rattle.cs_state.proofs.Including.{no_ids}
 
--- where a file has no row, nothing sets its rights
+-- if a file has no row, nothing sets its rights
 has_row : (rows : ℕ → Option (Vec ℕ)) (file : ℕ) (o : MicroOp) → HasRightsRow rows o → sets_rights file o ≡ true → IsSome (rows file)
 has_row rows file (SetAttr (targets.File other) rights) has is = subst (λ n. IsSome (rows n)) (eqb-true other file is) has
 has_row rows file _ has is = absurd (false≢true is)

@@ -53,7 +53,7 @@ fold_same steps id left [] slots = refl
 fold_same steps id left (k ∷ places) slots =
     fold_same steps id left places (slots_after slots (step_at steps k)) ∙ after_left slots (step_at steps k) id (leaves_at steps id left k)
 
--- no more stand than there are slots
+-- there are no more entries than slots
 pub standing_low : (slots : List Slot) (i : ℕ) → count_standing slots i ≤ i
 standing_low slots zero = omega arith
 standing_low slots (suc i) = ⊎_elim

@@ -63,7 +63,7 @@ module _ (at : ℕ) (new : List ℕ) (f : Content) where
   pub byte_behind : (k : ℕ) → at + length new ≤ k → byte_of (overwritten at new f) k ≡ byte_of f k
   byte_behind k ge = put_behind at new room enough k ge ∙ same_room k
 
-  -- where the piece isn't in the part, the part stays
+  -- if the piece isn't in the part, the part stays
   pub part_kept : (offset : ℕ) (part : List ℕ) → IsPart offset f part
       → ((k : ℕ) → k < length part → (offset + k < at) ⊎ (at + length new ≤ offset + k)) → IsPart offset (overwritten at new f) part
   part_kept offset part is apart k low = is k low ∙ sym (⊎_elim
@@ -115,7 +115,7 @@ module _ (offset at from end : ℕ) (piece part : List ℕ) (f : Content) (first
       → IsPart offset f part → IsPart offset (overwritten at piece f) new
   part_written new is was = subst (IsPart offset (overwritten at piece f)) (sym is) (shown was)
 
--- what is copied of a file that has no hidden bytes, with zeros behind
+-- what is copied of a file that has no hidden bytes, with zeros after it
 pub part_copied : (bytes : List ℕ) (offset count from end : ℕ) → from ≡ min offset (length bytes)
     → end ≡ min (length bytes) (offset + count) → (copied : List ℕ) → copied ≡ slice_range bytes from (max end from)
     → (k : ℕ) → k < count → get_or copied k 0 ≡ get_or bytes (offset + k) 0

@@ -1,4 +1,4 @@
--- How many slots something stands in: a state's numbers.
+-- How many slots have something: a state's numbers.
 use Rattle.std.proofs.Common.{◌≡◌, ◌≢◌, ℕ, zero, suc, ◌+◌, ◌<◌, ◌≤◌, nat_lt, Bool, true, false, cond, List, [], ◌∷◌, ◌⊎◌, inl, inr, None}
 use Rattle.std.proofs.Common.{Some, refl, sym, ap, ◌∙◌, arith, ⊎_elim, length, get_or, slice_get}
 use Rattle.std.proofs.lemmas.Bool.{cases_eq, cases_lt, false≢true, le-ltb, cases_Bool}
@@ -38,7 +38,7 @@ module _ (slots : List Slot) (kept : List ℕ) (own : List Own) (h : IsShared sl
   absent : (i : ℕ) → is_entry (slot_at slots i) ≡ false → HasId kept own i → ⊥
   absent i gone has = false≢true (sym gone ∙ h.there i has)
 
-  -- as many stand before an id as are below it in the two
+  -- as many entries are before an id as are below it in the two
   pub standing_number : (i : ℕ) → number_in kept own i ≡ count_standing slots i
   standing_number zero = (let a = zero_below (λ k. k) kept in let b = zero_below (λ (o : Own). o.id) own in omega (arith, a, b))
     where
@@ -74,7 +74,7 @@ standing_first s ss zero = refl
 standing_first s ss (suc i) = (let rest = standing_first s ss i in omega (arith, rest))
 
 module _ (rights : List Rights) where
-  -- what stands in the slot i is the entry of its number
+  -- what is in the slot i is the entry of its number
   pub present_at : (paths : List Path) (slots : List Slot) → length slots ≡ length paths → (i : ℕ) → i < length paths → (e : Entry)
       → entry_of rights (slot_at slots i) ≡ Some e
       → slice_get (entries_in_slots rights paths slots) (count_standing slots i) ≡ Some (path_at paths i, e)
@@ -97,7 +97,7 @@ module _ (rights : List Rights) where
       ap (slice_get (entries_in_slots rights (p ∷ ps) (File k ∷ ss))) (standing_first (File k) ss i ∙ one_more (count_standing ss i)) ∙
       present_at ps ss (omega (arith, long)) i (omega (arith, low)) e is
 
-  -- so many stand in all
+  -- there are so many in all
   pub present_count : (paths : List Path) (slots : List Slot) → length slots ≡ length paths
       → length (entries_in_slots rights paths slots) ≡ count_standing slots (length slots)
   present_count [] [] long = refl
@@ -113,7 +113,7 @@ module _ (rights : List Rights) where
       (let rest = present_count ps ss (omega (arith, long)) in let first = standing_first (File k) ss (length ss) in
       omega (arith, rest, first))
 
--- what stands is in a slot
+-- each entry is in a slot
 pub stands_inside : (slots : List Slot) (i : ℕ) → is_entry (slot_at slots i) ≡ true → i < length slots
 stands_inside slots i here = ⊎_elim
     (λ (low : i < length slots). low)

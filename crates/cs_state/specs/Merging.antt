@@ -6,7 +6,7 @@ use Rattle.cs_state.specs.declared.numbers.Own.{Own}
 use Rattle.cs_state.specs.Numbers.{kept_at}
 use Rattle.cs_state.specs.Shares.{is_entry}
 
--- what stands at the touched id, if something does: so many kept ones come before it, and n of a
+-- what is at the touched id, if there is something: so many kept ones come before it, and n of a
 -- state's own
 abbrev pub own_one : ℕ → ℕ → Slot → ℕ → List Own
 own_one id before slot n = cond (is_entry slot) (record {
@@ -15,7 +15,7 @@ own_one id before slot n = cond (is_entry slot) (record {
   slot = slot;
 } ∷ []) []
 
--- the touched ids at which something stands; n of them stand before
+-- the touched ids at which there is something; n of them come before these
 abbrev pub own_from : List ℕ → List ℕ → List Slot → ℕ → List Own
 own_from counts [] slots n = []
 own_from counts (t ∷ ts) slots n =

@@ -1,4 +1,4 @@
--- Every path that ever stands, as a tree of directories: a path's number is its place among them.
+-- Every path that ever exists, as a tree of directories: a path's number is its place among them.
 use Rattle.std.specs.Prelude.{List, [], length, replicate}
 use Rattle.cs_tree_model.specs.Fresh.{fresh}
 use Rattle.cs_tree_model.specs.Maps.Values.{map_values}

@@ -1,4 +1,4 @@
--- The numbers of ids that stand in two ascending lists: those that all states share, and a state's
+-- The numbers of ids that are in two ascending lists: those that all states share, and a state's
 -- own.
 use Rattle.std.specs.Prelude.{◌≡◌, ◌≢◌, ◌+◌, ◌<◌, ◌⊎◌, ℕ, cond, nat_lt, List, [], ◌∷◌, length}
 use Rattle.std.specs.Prelude.{slice_index_or}
@@ -27,7 +27,7 @@ abbrev pub number_in : List ℕ → List Own → ℕ → ℕ
 number_in kept own id =
     count_with_key_below (λ k. k) kept id + count_with_key_below (λ (o : Own). o.id) own id
 
--- the id stands in the list
+-- the id is in the list
 abbrev pub IsKept : List ℕ → ℕ → Type 0
 IsKept kept id = (k : ℕ) × (k < length kept) × (kept_at kept k ≡ id)
 
@@ -38,7 +38,7 @@ IsOwn own id = (k : ℕ) × (k < length own) × ((own_in_place own k).id ≡ id)
 abbrev pub HasId : List ℕ → List Own → ℕ → Type 0
 HasId kept own id = IsKept kept id ⊎ IsOwn own id
 
--- what stands there is what stands there at the start, or what the state has of its own
+-- what is there is what is there at the start, or what the state has of its own
 abbrev pub IsFound : List ℕ → List Slot → List Own → Found → Type 0
 IsFound kept slots own f =
     (IsKept kept f.id × (f.slot ≡ slot_at slots f.id))

@@ -57,7 +57,7 @@ abbrev pub owner_in : Parts → List ℕ → ℕ → Rights
 owner_in parts places file =
     slice_index_or (owners_left parts.trace parts.micros.ops places) file no_rights
 
--- the record of what stands in a slot, but for its number
+-- the record of what is in a slot, but for its number
 abbrev pub record_in : Parts → List ℕ → Slot → Option Record
 record_in parts places slot =
     option_map
@@ -70,7 +70,7 @@ read_in parts places slot offset count =
     option_map (λ bytes. take count (drop offset bytes))
     (option_and_then (λ (r : Record). r.content) (record_in parts places slot))
 
--- what a record that was never changed says beside its bytes
+-- the metadata of a record that was never changed
 abbrev pub unchanged_metadata : ℕ → Rights → ℕ → Kind → MetadataBuf
 unchanged_metadata number rights bit kind = record {
   number = number;

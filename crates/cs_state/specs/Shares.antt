@@ -16,18 +16,18 @@ use Rattle.cs_state.specs.Names.{names_in}
 use Rattle.cs_state.specs.Numbers.{own_in_place, count_with_key_below, kept_at, HasId, IsKept}
 use Rattle.cs_state.specs.Numbers.{IsMerge}
 
--- something stands in the slot
+-- something is in the slot
 abbrev pub is_entry : Slot → Bool
 is_entry Nothing = false
 is_entry (Directory k) = true
 is_entry (File n) = true
 
--- in how many of the first i slots something stands
+-- how many of the first i slots have something
 abbrev pub count_standing : List Slot → ℕ → ℕ
 count_standing slots zero = 0
 count_standing slots (suc i) = cond (is_entry (slot_at slots i)) 1 0 + count_standing slots i
 
--- the number of what stands in the slot, if something does
+-- the number of what is in the slot, if there is something
 abbrev pub place_of : List Slot → ℕ → Option ℕ
 place_of slots id = cond (is_entry (slot_at slots id)) (Some (count_standing slots id)) None
 
@@ -42,7 +42,7 @@ Leaves id step.Other = Unit {0}
 abbrev pub IsLeft : List Step → ℕ → Type 0
 IsLeft steps id = (k : ℕ) → k < length steps → Leaves id (step_at steps k)
 
--- the step changes what stands at the id
+-- the step changes what is at the id
 abbrev pub Touches : ℕ → Step → Type 0
 Touches id (step.Set i s) = i ≡ id
 Touches id (step.Move i j) = (i ≡ id) ⊎ (j ≡ id)
@@ -56,7 +56,7 @@ IsTouched steps id = (k : ℕ) × (k < length steps) × Touches id (step_at step
 abbrev pub mark_at : List Bool → ℕ → Bool
 mark_at marks i = slice_index_or marks i false
 
--- the same stands there in every state
+-- the same is there in every state
 abbrev pub is_in_every_state : List Bool → List Slot → ℕ → Bool
 is_in_every_state marks slots id = not (mark_at marks id) && is_entry (slot_at slots id)
 
@@ -71,7 +71,7 @@ slots_left tables places =
     fold slots_after tables.slots.items (map (step_at tables.steps.items) places)
 
 -- the lists are of the tables: no step changes what is kept, one changes what is touched, and what
--- is in neither list never stands
+-- is in neither list never exists
 pub record IsShares (t : Trace) (ops : List MicroOp) (tables : Tables)
     (shares : Shares) : Type 0 where
   pub few : length tables.slots.items < 2 ^ 20
@@ -97,8 +97,8 @@ pub record IsShares (t : Trace) (ops : List MicroOp) (tables : Tables)
       ⊎ ((is_entry (slot_at tables.slots.items id) ≡ false) × IsLeft tables.steps.items id)
   pub names : shares.names ≡ names_in t ops tables
 
--- the two lists have the ids of the slots in which something stands, and each of its own has what
--- stands
+-- the two lists have the ids of the slots that have something, and each of its own has what is
+-- there
 pub record IsShared (slots : List Slot) (kept : List ℕ) (own : List Own) : Type 0 where
   pub merge : IsMerge kept own
   pub listed : (id : ℕ) → is_entry (slot_at slots id) ≡ true → HasId kept own id

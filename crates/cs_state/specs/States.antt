@@ -24,7 +24,7 @@ slots_in s = slots_left (arc_value s.parts).tables (places_in s)
 abbrev pub tree_in : State → Tree
 tree_in s = state_in (arc_value s.parts) (places_in s)
 
--- the number of what stands under a name in the directory of the path with this id
+-- the number of what is under a name in the directory of the path with this id
 abbrev pub number_shown : State → ℕ → NameBytes → Option ℕ
 number_shown s directory name =
     option_and_then (place_of (slots_in s))

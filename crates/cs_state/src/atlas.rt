@@ -26,8 +26,8 @@ use std::sync::Arc;
 /// The store of a state.
 pub type Built = StateTree;
 
-/// A trace with its micro-operations, and with what is found once for all its states: every path
-/// that ever stands, what stands there at the start, and what each micro-operation does there.
+/// A trace with its micro-operations, and with what is computed once for all its states: every path
+/// that ever exists, what is there at the start, and what each micro-operation does there.
 /// Contracts see the trace.
 #[derive(Drop)]
 pub struct Atlas {
@@ -47,7 +47,7 @@ impl Model for Atlas {
 }
 
 impl Atlas {
-    /// The atlas of a trace and what it breaks into, as `break_up` gives it.
+    /// The atlas of a trace and what it breaks into, as `break_up` returns it.
     pub fn of(alloc: Global, trace: Trace, micros: Micros) -> Result<Atlas, AllocError>
         requires broken { micros ≡ micros_in trace }
         requires legal { AreLegal (block_of_version trace.version) (start_paths trace)
@@ -88,7 +88,7 @@ impl Atlas {
         &self.parts.micros
     }
 
-    /// The state of a set, which is allowed.
+    /// The state of an allowed set.
     pub fn build(&self, alloc: Global, places: &[u32]) -> Result<Built, AllocError>
         requires { IsAllowed (needs_of (micros_in self.now)) (length (micros_in self.now).ops)
             places.now }

@@ -1,4 +1,4 @@
-//! What a state has of its own.
+//! What a state doesn't share with the others.
 ghost use Rattle.std.specs.Prelude.{◌≡◌, ◌+◌, ◌<◌, ◌^◌, ◌++◌, ℕ, length, IfOk, OnOk};
 ghost use Rattle.cs_apm.specs.Orders.{needs_of};
 ghost use Rattle.cs_apm.specs.Sets.{IsAllowed};
@@ -11,11 +11,10 @@ use crate::marks::is_entry;
 use crate::numbers::Own;
 use crate::parts::Parts;
 use cs_apm::slot::Slot;
-use cs_apm::state::filled;
+use cs_apm::state::slots_of_set;
 use std::alloc::{AllocError, Global};
 
-/// Puts what stands at a touched path behind the others, if something does; so many kept paths come
-/// before it.
+/// Appends what is at a touched path, if there is something. `before` kept paths come before it.
 fn push_own(own: &mut Vec<Own>, id: u32, before: u32, slot: Slot) -> Result<(), AllocError>
     requires { before + length own.old.items < 2 ^ 32 }
     ensures { OnOk result
@@ -28,7 +27,7 @@ fn push_own(own: &mut Vec<Own>, id: u32, before: u32, slot: Slot) -> Result<(), 
     Ok(())
 }
 
-/// The touched paths at which something stands, with their numbers.
+/// The touched paths at which there is something, with their numbers.
 fn count_standing(
     alloc: Global,
     touched: &[u32],
@@ -49,8 +48,8 @@ fn count_standing(
     Ok(own)
 }
 
-/// What the state of a set has of its own: the members' steps are taken in the slots, and those of
-/// the touched paths are kept.
+/// What the state of a set doesn't share with the others: the members' steps are made in the slots,
+/// and the slots of the touched paths are kept.
 pub fn own_of(alloc: Global, parts: &Parts, places: &[u32]) -> Result<Vec<Own>, AllocError>
     requires parts { AreParts parts.now }
     requires allowed { IsAllowed (needs_of parts.now.micros) (length parts.now.micros.ops)
@@ -60,7 +59,7 @@ pub fn own_of(alloc: Global, parts: &Parts, places: &[u32]) -> Result<Vec<Own>, 
         own.items) }
 {
     let shares = &parts.shares;
-    let slots = filled(alloc, &parts.tables, places)?;
+    let slots = slots_of_set(alloc, &parts.tables, places)?;
     let own = count_standing(alloc, &shares.touched, &shares.kept_below, &slots)?;
     let own = Vec::from_slice(alloc, &own)?;
     Ok(own)

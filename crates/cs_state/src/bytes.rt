@@ -12,14 +12,14 @@ ghost use Rattle.cs_state.specs.Steps.{members_in, resizes, row_at, content_afte
 ghost use Rattle.cs_state.specs.Steps.{AgreeIn, IsPartIn};
 ghost use Rattle.cs_state.specs.Windows.{size_after, whole_content, IsPart};
 
-use crate::file_part::{copy_part, cut, write};
+use crate::file_part::{copy_part, write_piece, zero_past};
 use crate::file_steps::{FileSteps, PAGE_BYTES, size_after};
 use crate::members::{first_members, is_member};
 use cs_micro::MicroOp;
 use std::alloc::{AllocError, Global};
 
-/// The size that the members leave of the file, which had this size: the last of those that change
-/// it says so.
+/// The size of the file after the members, from the size that it had: that of the last member in
+/// `sizes`, which has the places of all that change it.
 pub fn size_left(file: usize, size: u64, ops: &[MicroOp], sizes: &[u32], members: &[bool]) -> u64
     requires sizes { sizes.now
         ≡ numbers_that_pass (λ k. resizes file (op_at ops.now k)) (length ops.now) }
@@ -36,7 +36,7 @@ pub fn size_left(file: usize, size: u64, ops: &[MicroOp], sizes: &[u32], members
     size_after(file, size, &ops[sizes[count - 1] as usize])
 }
 
-/// At most so many of the bytes, from an offset on.
+/// At most `count` of the bytes, from an offset on; none if the offset is past their end.
 fn piece_of(bytes: &[u8], offset: usize, count: usize) -> &[u8]
     ensures { result.now ≡ take count (drop offset bytes.now) }
 {
@@ -44,8 +44,9 @@ fn piece_of(bytes: &[u8], offset: usize, count: usize) -> &[u8]
     &rest[..rest.len().min(count)]
 }
 
-/// The same, copied.
-pub fn copied_piece(
+/// A copy of at most `count` of the bytes, from an offset on. It runs out of memory only if there
+/// is a byte to copy.
+pub fn copy_piece(
     alloc: Global,
     bytes: &[u8],
     offset: u64,
@@ -61,8 +62,9 @@ pub fn copied_piece(
     Vec::from_slice(alloc, piece)
 }
 
-/// Cuts a part of a file that begins at the offset, or writes into it.
-fn strike(part: &mut [u8], offset: usize, op: &MicroOp)
+/// Applies a change of size or a write to a part of a file that begins at the offset; any other
+/// micro-operation changes nothing. A change of size only zeroes what is past it.
+fn apply_op(part: &mut [u8], offset: usize, op: &MicroOp)
     requires room { offset + length part.old < 2 ^ 64 }
     requires small { IsSmall op.now }
     ensures long { length part.new ≡ length part.old }
@@ -70,19 +72,20 @@ fn strike(part: &mut [u8], offset: usize, op: &MicroOp)
         → IsPart offset (content_after_cut f op.now) part.new }
 {
     match op {
-        MicroOp::ChangeFileSize { length, .. } => cut(part, offset, *length as usize),
+        MicroOp::ChangeFileSize { length, .. } => zero_past(part, offset, *length as usize),
         MicroOp::WriteBlock {
             start,
             at,
             bytes,
             ..
-        } => write(part, offset, (*start + *at) as usize, bytes.as_slice()),
+        } => write_piece(part, offset, (*start + *at) as usize, bytes.as_slice()),
         _ => {}
     }
 }
 
-/// Takes those of the places that are members, in a part of a file that begins at the offset.
-fn take(part: &mut [u8], offset: usize, ops: &[MicroOp], places: &[u32], members: &[bool])
+/// Applies those of the places that are members, in their order, to a part of a file that begins at
+/// the offset.
+fn apply_members(part: &mut [u8], offset: usize, ops: &[MicroOp], places: &[u32], members: &[bool])
     requires room { offset + length part.old < 2 ^ 64 }
     requires small { All IsSmall ops.now }
     requires inside { All (λ place. place < length ops.now) places.now }
@@ -92,14 +95,14 @@ fn take(part: &mut [u8], offset: usize, ops: &[MicroOp], places: &[u32], members
 {
     for place in places {
         if is_member(members, *place) {
-            strike(part, offset, &ops[*place as usize]);
+            apply_op(part, offset, &ops[*place as usize]);
         }
     }
 }
 
-/// Takes those of the places that are members, in what lies in the page of a part of a file that
-/// begins at the offset.
-fn take_page(
+/// Applies those of the places that are members, in their order, to the bytes of one page, in a
+/// part of a file that begins at the offset.
+fn apply_to_page(
     part: &mut [u8],
     offset: usize,
     page: usize,
@@ -123,11 +126,11 @@ fn take_page(
     let from = first.saturating_sub(offset);
     let end = first.saturating_add(PAGE_BYTES as usize) - offset;
     let end = part.len().min(end);
-    take(&mut part[from..end], offset + from, ops, places, members);
+    apply_members(&mut part[from..end], offset + from, ops, places, members);
 }
 
-/// So many bytes from an offset on that the members leave of a file, which had these, by the steps
-/// that change it.
+/// `count` bytes of a file after the members, from an offset on, with zeros past its end. `start`
+/// has its bytes at the start, and `steps` the micro-operations that change it.
 pub fn part_left(
     alloc: Global,
     start: &[u8],
@@ -154,7 +157,7 @@ pub fn part_left(
     let last = (offset + count - 1) / PAGE_BYTES as usize;
     for page in first..last + 1 {
         let row = steps.row(page as u64);
-        take_page(&mut part, offset, page, ops, row, members);
+        apply_to_page(&mut part, offset, page, ops, row, members);
     }
     Ok(part)
 }

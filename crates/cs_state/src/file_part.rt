@@ -1,4 +1,4 @@
-//! A part of a file: so many of its bytes from an offset on, and what changes them.
+//! A part of a file: `count` of its bytes from an offset on, and what changes them.
 ghost use Rattle.std.specs.Prelude.{◌≡◌, ◌+◌, ◌<◌, ◌≤◌, ◌^◌, length, take, IfOk};
 ghost use Rattle.cs_names.specs.declared.limits.TheConstants.{FILE_BYTES};
 ghost use Rattle.cs_apm.specs.States.{Content, overwritten};
@@ -7,7 +7,7 @@ ghost use Rattle.cs_state.specs.Windows.{whole_content, IsPart};
 use cs_apm::content::put_at;
 use std::alloc::{AllocError, Global};
 
-/// The bytes from an offset on that a file with these bytes shows, and zeros past its end.
+/// `count` bytes of a file from an offset on, with zeros past its end.
 pub fn copy_part(
     alloc: Global,
     bytes: &[u8],
@@ -25,8 +25,8 @@ pub fn copy_part(
     Ok(part)
 }
 
-/// Makes what lies past a size zero, in a part of a file that begins at the offset.
-pub fn cut(part: &mut [u8], offset: usize, size: usize)
+/// Overwrites by zeros what is past a size of the file, in a part that begins at the offset.
+pub fn zero_past(part: &mut [u8], offset: usize, size: usize)
     ensures long { length part.new ≡ length part.old }
     ensures part { (f : Content) → IsPart offset f part.old
         → IsPart offset (record f { bytes = take size f.bytes }) part.new }
@@ -35,8 +35,9 @@ pub fn cut(part: &mut [u8], offset: usize, size: usize)
     part[from..].fill(0);
 }
 
-/// Writes a piece at its place, in a part of a file that begins at the offset.
-pub fn write(part: &mut [u8], offset: usize, at: usize, piece: &[u8])
+/// Writes what of the piece is within a part that begins at the offset; `at` is the piece's offset
+/// in the file.
+pub fn write_piece(part: &mut [u8], offset: usize, at: usize, piece: &[u8])
     requires room { offset + length part.old < 2 ^ 64 }
     requires small { at + length piece.now ≤ FILE_BYTES }
     ensures long { length part.new ≡ length part.old }

@@ -27,10 +27,10 @@ pub const PAGE_BYTES: u64 = 4_096;
 pub struct FileSteps {
     /// Those that change its size.
     pub sizes: Vec<u32>,
-    /// Those that cut it off: no other reaches a page that none writes into.
+    /// Those that make it shorter: only these reach a page that none writes into.
     pub cuts: Vec<u32>,
-    /// For each page that one writes into, by its number: those that do, and those that cut the
-    /// file off.
+    /// For each page that one writes into, by its number: those that do, and those that make the
+    /// file shorter.
     pub pages: BTreeMap<u64, Vec<u32>>,
 }
 
@@ -63,8 +63,8 @@ fn resizes(file: usize, op: &MicroOp) -> bool
     }
 }
 
-/// Whether the micro-operation cuts off its file, which has this size, or writes into the page, if
-/// there is one.
+/// Whether the micro-operation makes its file shorter than `size`, or writes into the page, if one
+/// is given.
 fn reaches(page: Option<u64>, size: u64, op: &MicroOp) -> bool
     requires { IsSmall op.now }
     ensures { result ≡ reaches page size op.now }
@@ -76,7 +76,7 @@ fn reaches(page: Option<u64>, size: u64, op: &MicroOp) -> bool
     }
 }
 
-/// Whether the micro-operation changes the file.
+/// Whether the micro-operation changes the size or the bytes of the file.
 fn changes(file: usize, op: &MicroOp) -> bool
     ensures { result ≡ changes_file file op.now }
 {
@@ -88,7 +88,7 @@ fn changes(file: usize, op: &MicroOp) -> bool
     }
 }
 
-/// The sizes that the file has before each micro-operation, where all before it are done.
+/// The size of the file before each micro-operation, after all before it.
 fn sizes_before(
     alloc: Global,
     file: usize,
@@ -109,8 +109,8 @@ fn sizes_before(
     Ok(sizes)
 }
 
-/// The places of those that change the size of the file.
-fn resizing(alloc: Global, file: usize, ops: &[MicroOp]) -> Result<Vec<u32>, AllocError>
+/// The places of the micro-operations that change the size of the file.
+fn resizing_places(alloc: Global, file: usize, ops: &[MicroOp]) -> Result<Vec<u32>, AllocError>
     requires { length ops.now < 2 ^ 20 }
     ensures { IfOk result
         (λ places. places.items
@@ -123,8 +123,8 @@ fn resizing(alloc: Global, file: usize, ops: &[MicroOp]) -> Result<Vec<u32>, All
     Ok(places)
 }
 
-/// The places of those that change the file.
-fn changing(alloc: Global, file: usize, ops: &[MicroOp]) -> Result<Vec<u32>, AllocError>
+/// The places of the micro-operations that change the size or the bytes of the file.
+fn changing_places(alloc: Global, file: usize, ops: &[MicroOp]) -> Result<Vec<u32>, AllocError>
     requires { length ops.now < 2 ^ 20 }
     ensures { IfOk result
         (λ places. places.items
@@ -137,8 +137,8 @@ fn changing(alloc: Global, file: usize, ops: &[MicroOp]) -> Result<Vec<u32>, All
     Ok(places)
 }
 
-/// Those of the places whose micro-operations reach the page, or cut the file off; its size before
-/// each is given.
+/// Those of the places whose micro-operations write into the page, if one is given, or make the
+/// file shorter. `sizes` has the file's size before each micro-operation.
 fn places_reaching(
     alloc: Global,
     page: Option<u64>,
@@ -161,7 +161,7 @@ fn places_reaching(
     Ok(found)
 }
 
-/// Gives the page a row, if it has none.
+/// Adds a row for the page, unless it has one.
 fn add_row(
     alloc: Global,
     rows: &mut BTreeMap<u64, Vec<u32>>,
@@ -189,7 +189,8 @@ fn add_row(
     Ok(())
 }
 
-/// For each page that one of the places writes into those that reach it.
+/// For each page that a micro-operation at one of the places writes into: the places of those that
+/// write into it or make the file shorter.
 fn page_rows(
     alloc: Global,
     sizes: &[u64],
@@ -215,7 +216,7 @@ fn page_rows(
 }
 
 impl FileSteps {
-    /// Nothing changes the file.
+    /// The steps of a file that nothing changes.
     fn none(alloc: Global) -> FileSteps {
         FileSteps {
             sizes: Vec::new(alloc),
@@ -224,7 +225,7 @@ impl FileSteps {
         }
     }
 
-    /// Those of the file of this number, which has so many bytes at the start.
+    /// The steps of the file of this number, which has `start` bytes at the start.
     fn of(
         alloc: Global,
         file: usize,
@@ -236,14 +237,14 @@ impl FileSteps {
         ensures { IfOk result (AreFileSteps file start ops.now) }
     {
         let sizes = sizes_before(alloc, file, start as u64, ops)?;
-        let places = changing(alloc, file, ops)?;
+        let places = changing_places(alloc, file, ops)?;
         let cuts = places_reaching(alloc, None, &sizes, ops, &places)?;
         let pages = page_rows(alloc, &sizes, ops, &places)?;
-        let sizes = resizing(alloc, file, ops)?;
+        let sizes = resizing_places(alloc, file, ops)?;
         Ok(FileSteps { sizes, cuts, pages })
     }
 
-    /// Those that reach the page.
+    /// The places of the micro-operations that write into the page, or make the file shorter.
     pub fn row(&self, page: u64) -> &[u32]
         ensures { result.now ≡ row_at self.now page }
     {
@@ -254,7 +255,8 @@ impl FileSteps {
     }
 }
 
-/// The bytes of the file at the start; one that is made has none.
+/// The bytes of the file at the start; none if an operation makes it. `_ops` is for the contract
+/// only: it speaks of all files, those that `ops` makes too.
 pub fn start_bytes<'a>(trace: &'a Trace, _ops: &[MicroOp], tables: &Tables, file: usize) -> &'a [u8]
     requires { AreStarts trace.now tables.now.starts.items }
     ensures { result.now ≡ (content_before trace.now _ops.now file).bytes }
@@ -267,7 +269,7 @@ pub fn start_bytes<'a>(trace: &'a Trace, _ops: &[MicroOp], tables: &Tables, file
     record.content.bytes().unwrap_or(&[])
 }
 
-/// Those of the file, if something changes it.
+/// The steps of the file, or no step if no micro-operation changes it.
 fn steps_of(
     alloc: Global,
     trace: &Trace,
@@ -291,7 +293,7 @@ fn steps_of(
     Ok(steps)
 }
 
-/// Those of each file that something changes, by its number.
+/// The steps of each file, by its number.
 pub fn all_steps(
     alloc: Global,
     trace: &Trace,

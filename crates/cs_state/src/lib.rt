@@ -1,5 +1,5 @@
-//! The crash states of a trace, as stores that share what all of them have: a state keeps the
-//! members of its set, and the entries at the paths that some operation touches.
+//! The crash states of a trace, as stores that share what all of them have: a state has the members
+//! of its set, and the entries at the paths that some operation touches.
 #![tactic(auto)]
 
 pub mod atlas;

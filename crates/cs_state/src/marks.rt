@@ -1,4 +1,4 @@
-//! Which of the paths that ever stand some operation touches.
+//! Which of the paths that ever exist some operation touches.
 ghost use Rattle.std.specs.Prelude.{◌≡◌, ◌+◌, ◌<◌, ◌^◌, ◌⊎◌, ◌++◌, ◌∷◌, [], ℕ, cond, false, true};
 ghost use Rattle.std.specs.Prelude.{length, IfOk, OnOk};
 ghost use Rattle.std.specs.List.{All};
@@ -10,8 +10,8 @@ ghost use Rattle.cs_state.specs.Shares.{IsLeft, IsTouched, Leaves, Touches};
 use cs_apm::slot::{Slot, Step};
 use std::alloc::{AllocError, Global};
 
-/// Marks the paths that a step changes.
-fn mark(marks: &mut [bool], step: Step)
+/// Marks the paths that a step changes; there are at most two.
+fn mark_touched(marks: &mut [bool], step: Step)
     requires { FitsIn (length marks.old) step }
     ensures long { length marks.new ≡ length marks.old }
     ensures left { (id : ℕ) → mark_at marks.new id ≡ false → (mark_at marks.old id ≡ false)
@@ -29,7 +29,7 @@ fn mark(marks: &mut [bool], step: Step)
     }
 }
 
-/// For each of so many paths whether one of the steps changes it.
+/// For each of `count` paths, whether one of the steps changes it.
 pub fn marks_of(alloc: Global, steps: &[Step], count: usize) -> Result<Vec<bool>, AllocError>
     requires { All (FitsIn count) steps.now }
     ensures long { IfOk result (λ marks. length marks.items ≡ count) }
@@ -40,12 +40,12 @@ pub fn marks_of(alloc: Global, steps: &[Step], count: usize) -> Result<Vec<bool>
 {
     let mut marks = vec![in alloc; false; count]?;
     for step in steps {
-        mark(&mut marks, *step);
+        mark_touched(&mut marks, *step);
     }
     Ok(marks)
 }
 
-/// Whether something stands in the slot.
+/// Whether there is a file or a directory in the slot.
 pub fn is_entry(slot: Slot) -> bool
     ensures { result ≡ is_entry slot }
 {
@@ -55,7 +55,7 @@ pub fn is_entry(slot: Slot) -> bool
     }
 }
 
-/// Puts the path behind the others, if it passes.
+/// Appends the id, if it passes.
 pub fn push_if(ids: &mut Vec<u32>, id: usize, passes: bool) -> Result<(), AllocError>
     requires { id < 2 ^ 20 }
     ensures { OnOk result (ids.new.items ≡ ids.old.items ++ cond passes (id ∷ []) []) }
@@ -66,8 +66,8 @@ pub fn push_if(ids: &mut Vec<u32>, id: usize, passes: bool) -> Result<(), AllocE
     Ok(())
 }
 
-/// The marked paths.
-pub fn marked(alloc: Global, marks: &[bool]) -> Result<Vec<u32>, AllocError>
+/// The ids of the marked paths, ascending.
+pub fn marked_ids(alloc: Global, marks: &[bool]) -> Result<Vec<u32>, AllocError>
     requires { length marks.now < 2 ^ 20 }
     ensures { IfOk result
         (λ found. found.items ≡ numbers_that_pass (mark_at marks.now) (length marks.now)) }
@@ -79,7 +79,7 @@ pub fn marked(alloc: Global, marks: &[bool]) -> Result<Vec<u32>, AllocError>
     Ok(found)
 }
 
-/// Whether something stands at the path from the start on, and no step changes it.
+/// Whether there is something at the path from the start on, and no step changes it.
 fn is_kept(marks: &[bool], slots: &[Slot], id: usize) -> bool
     requires marked { id < length marks.now }
     requires there { id < length slots.now }
@@ -88,7 +88,8 @@ fn is_kept(marks: &[bool], slots: &[Slot], id: usize) -> bool
     !marks[id] && is_entry(slots[id])
 }
 
-/// The paths at which something stands from the start on, and that no step changes.
+/// The ids, ascending, of the paths at which there is something from the start on, and that no step
+/// changes.
 pub fn kept_of(alloc: Global, marks: &[bool], slots: &[Slot]) -> Result<Vec<u32>, AllocError>
     requires few { length slots.now < 2 ^ 20 }
     requires long { length marks.now ≡ length slots.now }
@@ -103,7 +104,7 @@ pub fn kept_of(alloc: Global, marks: &[bool], slots: &[Slot]) -> Result<Vec<u32>
     Ok(found)
 }
 
-/// One more, if it passes.
+/// One more than the count, if it passes.
 fn count_if(count: u32, passes: bool) -> u32
     requires { count < 2 ^ 20 }
     ensures { result ≡ count + cond passes 1 0 }
@@ -111,7 +112,7 @@ fn count_if(count: u32, passes: bool) -> u32
     if passes { count + 1 } else { count }
 }
 
-/// For each path how many of these come before it.
+/// For each path, how many of the kept paths come before it.
 pub fn kept_below(alloc: Global, marks: &[bool], slots: &[Slot]) -> Result<Vec<u32>, AllocError>
     requires few { length slots.now < 2 ^ 20 }
     requires long { length marks.now ≡ length slots.now }

@@ -7,7 +7,7 @@ ghost use Rattle.cs_state.specs.Steps.{members_in};
 
 use std::alloc::{AllocError, Global};
 
-/// A mark for each of so many micro-operations, whether it is at one of these places.
+/// A mark for each of `count` micro-operations: whether it is at one of these places.
 pub fn members_of(alloc: Global, count: usize, places: &[u32]) -> Result<Vec<bool>, AllocError>
     requires ascending { (i j : ℕ) → i < j → j < length places.now
         → kept_at places.now i < kept_at places.now j }
@@ -22,14 +22,15 @@ pub fn members_of(alloc: Global, count: usize, places: &[u32]) -> Result<Vec<boo
     Ok(members)
 }
 
-/// Whether the place is that of a member.
+/// Whether the micro-operation at the place is a member; false if the place is out of range.
 pub fn is_member(members: &[bool], place: u32) -> bool
     ensures { result ≡ mark_at members.now place }
 {
     members.get(place as usize).copied().unwrap_or(false)
 }
 
-/// How many of these are members, where these are the first of them.
+/// How many of these places are members. The members must be the first of them, since it is a
+/// binary search.
 pub fn first_members(members: &[bool], places: &[u32]) -> usize
     requires { (i j : ℕ) → i < j → j < length places.now
         → mark_at members.now (kept_at places.now j) ≡ true

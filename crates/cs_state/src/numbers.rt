@@ -1,5 +1,5 @@
-//! The numbers of what stands in a state, from what all states share and from what the state has of
-//! its own.
+//! The numbers of the files and directories of a state, from what all states share and from what
+//! the state doesn't share.
 ghost use Rattle.std.specs.Prelude.{◌≡◌, ◌+◌, ◌^◌, ◌<◌, ◌≤◌, ℕ, length, IfNone, IfSome};
 ghost use Rattle.std.specs.List.Sorted.{IsNonDecreasingBy};
 ghost use Rattle.cs_state.specs.Numbers.{own_in_place, count_with_key_below, kept_at, number_in};
@@ -7,25 +7,26 @@ ghost use Rattle.cs_state.specs.Numbers.{HasId, IsFound, IsMerge};
 
 use cs_apm::slot::Slot;
 
-/// A touched path at which something stands in a state.
+/// A touched path at which there is something in a state.
 #[derive(Clone, Copy, Debug)]
 pub struct Own {
-    /// The path's place among all that ever stand.
+    /// The path's place among all that ever exist.
     pub id: u32,
-    /// Its place among those at which something stands.
+    /// Its place among those at which there is something in the state.
     pub number: u32,
-    /// What stands there.
+    /// What is there.
     pub slot: Slot,
 }
 
-/// A path at which something stands in a state, by its place among all that ever stand.
+/// A path at which there is something in a state, by its place among all that ever exist.
 #[derive(Clone, Copy, Debug)]
 pub struct Found {
     pub id: u32,
     pub slot: Slot,
 }
 
-/// How many of the numbers are below this one; it is known that at least so many are, and at most.
+/// How many of the own numbers are below this one. They must be at least `least` and at most
+/// `most`; the binary search is between these.
 fn numbers_below(own: &[Own], least: usize, most: usize, number: u64) -> usize
     requires rising { IsNonDecreasingBy (λ (o : Own). o.number) own.now }
     requires least { (k : ℕ) → k < least → k < length own.now
@@ -42,7 +43,8 @@ fn numbers_below(own: &[Own], least: usize, most: usize, number: u64) -> usize
     from + own[from..end].partition_point(|o| (o.number as u64) < number)
 }
 
-/// How many of the ids are below this one; it is known that at least so many are, and at most.
+/// How many of the own ids are below this one. They must be at least `least` and at most `most`;
+/// the binary search is between these.
 fn ids_below(own: &[Own], least: usize, most: usize, id: u32) -> usize
     requires rising { IsNonDecreasingBy (λ (o : Own). o.id) own.now }
     requires least { (k : ℕ) → k < least → k < length own.now → (own_in_place own.now k).id < id }
@@ -56,7 +58,7 @@ fn ids_below(own: &[Own], least: usize, most: usize, id: u32) -> usize
     from + own[from..end].partition_point(|o| o.id < id)
 }
 
-/// What has the number.
+/// What has the number in the state, if it has so many.
 pub fn found_at(kept: &[u32], slots: &[Slot], own: &[Own], number: u64) -> Option<Found>
     requires merge { IsMerge kept.now own.now }
     requires inside { (k : ℕ) → k < length kept.now → kept_at kept.now k < length slots.now }
@@ -64,7 +66,7 @@ pub fn found_at(kept: &[u32], slots: &[Slot], own: &[Own], number: u64) -> Optio
     ensures number { IfSome result (λ f. number_in kept.now own.now f.id ≡ number) }
     ensures none { IfNone result (length kept.now + length own.now ≤ number) }
 {
-    // the others of the numbers below it are kept paths'
+    // the rest of the numbers below it are those of kept paths
     let most = number as usize;
     let before = numbers_below(own, most.saturating_sub(kept.len()), most, number);
     if before < own.len() {
@@ -86,7 +88,7 @@ pub fn found_at(kept: &[u32], slots: &[Slot], own: &[Own], number: u64) -> Optio
     }
 }
 
-/// The number of what stands at the path, if something does.
+/// The number of what is at the path with this id. None if there is nothing in the state.
 pub fn number_of(kept: &[u32], kept_below: &[u32], own: &[Own], id: u32) -> Option<u64>
     requires merge { IsMerge kept.now own.now }
     requires there { id < length kept_below.now }
@@ -101,7 +103,7 @@ pub fn number_of(kept: &[u32], kept_below: &[u32], own: &[Own], id: u32) -> Opti
     ensures none { IfNone result (HasId kept.now own.now id → ⊥) }
 {
     let place = kept_below[id as usize] as usize;
-    // so many of the paths before it aren't kept, and so many of the others
+    // at most so many own ones come before it, and at most so many from it on
     let most = id as usize - place;
     let others = (kept_below.len() - id as usize).saturating_sub(kept.len() - place);
     let before = ids_below(own, own.len().saturating_sub(others), most, id);

@@ -20,11 +20,11 @@ use std::collections::BTreeMap;
 /// The places of the micro-operations that set the owner, group and permissions of files.
 #[derive(Debug, Drop)]
 pub struct OwnerSteps {
-    /// Those of each file for which there are any, by its number.
+    /// For each file that some micro-operation names so, by its number: the places of all that do.
     pub rows: BTreeMap<u32, Vec<u32>>,
 }
 
-/// Whether the micro-operation sets those of the file.
+/// Whether the micro-operation sets the owner, group and permissions of the file.
 fn sets_rights(file: u32, op: &MicroOp) -> bool
     ensures { result ≡ sets_rights file op.now }
 {
@@ -37,7 +37,7 @@ fn sets_rights(file: u32, op: &MicroOp) -> bool
     }
 }
 
-/// The places of those that set the file's.
+/// The places of the micro-operations that set the owner, group and permissions of the file.
 fn rights_places(alloc: Global, file: u32, ops: &[MicroOp]) -> Result<Vec<u32>, AllocError>
     requires { length ops.now < 2 ^ 20 }
     ensures { IfOk result (λ places. places.items ≡ rights_places ops.now file) }
@@ -49,7 +49,7 @@ fn rights_places(alloc: Global, file: u32, ops: &[MicroOp]) -> Result<Vec<u32>, 
     Ok(places)
 }
 
-/// Gives the file a row, if it has none.
+/// Adds a row for the file, unless it has one.
 fn add_row(
     alloc: Global,
     rows: &mut BTreeMap<u32, Vec<u32>>,
@@ -73,7 +73,7 @@ fn add_row(
 }
 
 impl OwnerSteps {
-    /// Those of a trace.
+    /// The owner steps of a trace's micro-operations.
     pub fn of(alloc: Global, ops: &[MicroOp]) -> Result<OwnerSteps, AllocError>
         requires { length ops.now < 2 ^ 20 }
         ensures { IfOk result (AreOwnerSteps ops.now) }
@@ -91,7 +91,8 @@ impl OwnerSteps {
         Ok(OwnerSteps { rows })
     }
 
-    /// Those of the file.
+    /// The places of the micro-operations that set the owner, group and permissions of the file;
+    /// empty if none does.
     pub fn row(&self, file: u32) -> &[u32]
         ensures { result.now ≡ rights_row self.now file }
     {
@@ -102,8 +103,8 @@ impl OwnerSteps {
     }
 }
 
-/// The owner, group and permissions that the members leave of the file, which had these: the last
-/// of those that set them says so.
+/// The owner, group and permissions of the file after the members, from those that it had: those
+/// that the last member in `places` sets.
 pub fn owner_left<'a>(
     file: u32,
     owner: &'a Rights,

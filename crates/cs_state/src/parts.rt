@@ -7,7 +7,7 @@ use cs_apm::tables::Tables;
 use cs_micro::Micros;
 use cs_trace::Trace;
 
-/// A trace with what was found of it once for all its states.
+/// A trace with what is computed once for all its states.
 #[derive(Drop)]
 pub struct Parts {
     pub trace: Trace,

@@ -1,4 +1,4 @@
-//! What stands at a path of a state, and what is read of a file.
+//! Metadata and bytes of what is at a path of a state.
 
 ghost use Rattle.std.specs.Prelude.{◌≡◌, ◌≢◌, ◌+◌, ◌<◌, ◌≤◌, ◌^◌, [], true, Some, drop, length};
 ghost use Rattle.std.specs.Prelude.{slice_get, take, IfErr, IfOk, IsErr, IsSomeAnd};
@@ -12,7 +12,7 @@ ghost use Rattle.cs_state.specs.Parts.{record_in, read_in, unchanged_metadata};
 ghost use Rattle.cs_state.specs.Steps.{members_in};
 ghost use Rattle.cs_state.specs.Windows.{IsPart};
 
-use crate::bytes::{copied_piece, part_left, size_left};
+use crate::bytes::{copy_piece, part_left, size_left};
 use crate::file_steps::start_bytes;
 use crate::owner_steps::owner_left;
 use crate::parts::Parts;
@@ -21,7 +21,7 @@ use cs_trace::Rights;
 use cs_tree_model::{DMDIR, Kind, Metadata};
 use std::alloc::{AllocError, Global};
 
-/// The bytes of the file at the start; one that is made has none.
+/// The bytes of the file at the start; none if an operation makes it.
 fn start_of<'a>(parts: &'a Parts, file: u32) -> &'a [u8]
     requires { AreParts parts.now }
     ensures { result.now ≡ bytes_before parts.now file }
@@ -34,8 +34,8 @@ fn start_of<'a>(parts: &'a Parts, file: u32) -> &'a [u8]
     )
 }
 
-/// The size that the members leave of the file, which some micro-operation changes, and which had
-/// this size at the start.
+/// The size, after the members, of a file that some micro-operation changes; `size` is its size at
+/// the start.
 fn changed_size(parts: &Parts, members: &[bool], file: u32, size: u64) -> u64
     requires parts { AreParts parts.now }
     requires known { file < length parts.now.tables.owners.items }
@@ -48,7 +48,7 @@ fn changed_size(parts: &Parts, members: &[bool], file: u32, size: u64) -> u64
     size_left(file as usize, size, parts.micros.ops(), sizes, members)
 }
 
-/// The size that the members leave of the file.
+/// The size of the file after the members.
 fn size_of(parts: &Parts, members: &[bool], file: u32) -> u64
     requires parts { AreParts parts.now }
     requires known { file < length parts.now.tables.owners.items }
@@ -63,8 +63,8 @@ fn size_of(parts: &Parts, members: &[bool], file: u32) -> u64
     }
 }
 
-/// So many bytes of the file, which some micro-operation changes, and which had these at the start,
-/// from an offset on; each of them lies before its end.
+/// `count` bytes, from an offset on, of a file that some micro-operation changes; all must be
+/// before its end. `start` has its bytes at the start.
 fn changed_part(
     alloc: Global,
     parts: &Parts,
@@ -92,8 +92,9 @@ fn changed_part(
     Ok(part)
 }
 
-/// The bytes from an offset on that the members leave of the file, so many of them or as many as
-/// there are. Some micro-operation changes the file, which had these bytes at the start.
+/// At most `count` bytes after the members, from an offset on, of a file that some micro-operation
+/// changes; `start` has its bytes at the start. It runs out of memory only if there is a byte to
+/// read.
 fn changed_bytes(
     alloc: Global,
     parts: &Parts,
@@ -125,7 +126,8 @@ fn changed_bytes(
     Ok(bytes)
 }
 
-/// The same of any file.
+/// At most `count` bytes of the file after the members, from an offset on. It runs out of memory
+/// only if there is a byte to read.
 fn bytes_of(
     alloc: Global,
     parts: &Parts,
@@ -148,11 +150,11 @@ fn bytes_of(
     if parts.tables.changed[file as usize] {
         changed_bytes(alloc, parts, members, file, start, offset, count)
     } else {
-        copied_piece(alloc, start, offset, count)
+        copy_piece(alloc, start, offset, count)
     }
 }
 
-/// The owner, group and permissions that the members leave of the file.
+/// The owner, group and permissions of the file after the members.
 fn owner_of<'a>(parts: &'a Parts, members: &[bool], file: u32) -> &'a Rights
     requires parts { AreParts parts.now }
     requires known { file < length parts.now.tables.owners.items }
@@ -164,8 +166,9 @@ fn owner_of<'a>(parts: &'a Parts, members: &[bool], file: u32) -> &'a Rights
     owner_left(file, made, parts.micros.ops(), steps, members)
 }
 
-/// What a record says beside its bytes, where it was never changed.
-fn unchanged(number: u64, rights: &Rights, bit: u32, kind: Kind) -> Metadata<'_>
+/// The metadata of a record that was never changed: version and times are 0, and the owner is also
+/// the user who changed it last. `bit` is DMDIR for a directory, 0 for a file.
+fn unchanged_metadata(number: u64, rights: &Rights, bit: u32, kind: Kind) -> Metadata<'_>
     requires { bit ≤ DMDIR }
     ensures { metadata_of_ref result ≡ unchanged_metadata number rights.now bit kind }
 {
@@ -182,7 +185,7 @@ fn unchanged(number: u64, rights: &Rights, bit: u32, kind: Kind) -> Metadata<'_>
     }
 }
 
-/// What the record of what stands in a slot says beside its bytes.
+/// The metadata of what is in a slot. None if the slot is empty.
 pub fn metadata_of<'a>(
     parts: &'a Parts,
     members: &[bool],
@@ -201,17 +204,18 @@ pub fn metadata_of<'a>(
         Slot::Nothing => None,
         Slot::Directory(k) => {
             let rights = &parts.tables.rights[k as usize];
-            Some(unchanged(number, rights, DMDIR, Kind::Directory))
+            Some(unchanged_metadata(number, rights, DMDIR, Kind::Directory))
         }
         Slot::File(file) => {
             let length = size_of(parts, members, file);
             let owner = owner_of(parts, members, file);
-            Some(unchanged(number, owner, 0, Kind::File { length }))
+            Some(unchanged_metadata(number, owner, 0, Kind::File { length }))
         }
     }
 }
 
-/// What is read of what stands in a slot.
+/// At most `count` bytes from an offset on of the file in a slot. None if there is no file. It runs
+/// out of memory only if there is a byte to read.
 pub fn read(
     alloc: Global,
     parts: &Parts,

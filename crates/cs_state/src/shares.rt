@@ -1,10 +1,10 @@
-//! What is found once of a trace, so that its states can share it.
+//! What is computed once from a trace, so that its states can share it.
 
 ghost use Rattle.std.specs.Prelude.{◌≡◌, ◌≤◌, length, IfOk};
 ghost use Rattle.cs_apm.specs.Atlases.{IsAtlas, atlas_in};
 ghost use Rattle.cs_state.specs.Names.{names_in};
 
-use crate::marks::{kept_below, kept_of, marked, marks_of};
+use crate::marks::{kept_below, kept_of, marked_ids, marks_of};
 use cs_apm::making::store_of;
 use cs_apm::slot::Slot;
 use cs_apm::tables::Tables;
@@ -14,13 +14,13 @@ use cs_trace::Trace;
 use cs_tree::PlainTree;
 use std::alloc::{AllocError, Global};
 
-/// What all states of a trace share beside its tables. A path is told by its place among all that
-/// ever stand.
+/// What all states of a trace share in addition to its tables. A path is given by its place among
+/// all that ever exist.
 #[derive(Drop)]
 pub struct Shares {
-    /// The paths at which the same stands in every state.
+    /// The paths at which the same is in every state.
     pub kept: Vec<u32>,
-    /// How many of them come before each path.
+    /// For each path, how many of these come before it.
     pub kept_below: Vec<u32>,
     /// The paths that some operation touches.
     pub touched: Vec<u32>,
@@ -28,7 +28,7 @@ pub struct Shares {
     pub names: PlainTree,
 }
 
-/// Every path as a directory.
+/// Every path that ever exists as a directory.
 fn names_of(
     alloc: Global,
     trace: &Trace,
@@ -46,7 +46,7 @@ impl Shares {
     ghost use Rattle.cs_names.specs.declared.limits.TheConstants.{MICRO_OPERATIONS};
     ghost use Rattle.cs_state.specs.Shares.{IsShares};
 
-    /// Those of a trace, its micro-operations and its tables.
+    /// What the states of a trace share, from its micro-operations and its tables.
     pub fn of(
         alloc: Global,
         trace: &Trace,
@@ -62,7 +62,7 @@ impl Shares {
         let marks = marks_of(alloc, &tables.steps, tables.slots.len())?;
         let kept = kept_of(alloc, &marks, &tables.slots)?;
         let kept_below = kept_below(alloc, &marks, &tables.slots)?;
-        let touched = marked(alloc, &marks)?;
+        let touched = marked_ids(alloc, &marks)?;
         let names = names_of(alloc, trace, ops, tables)?;
         Ok(Shares {
             kept,

@@ -1,4 +1,4 @@
-//! What a state keeps, and what is read of it by places.
+//! What a state has, and how it is read by the ids of paths.
 ghost use Rattle.std.specs.Prelude.{◌≡◌, ◌≢◌, ◌<◌, ◌≤◌, [], Some, length, IfNone, IfOk, IfSome};
 ghost use Rattle.std.specs.Prelude.{IsErr, IsSomeAnd};
 ghost use Rattle.std.specs.Arc.{arc_value};
@@ -20,8 +20,8 @@ use cs_tree_model::Metadata;
 use std::alloc::{AllocError, Global};
 use std::sync::Arc;
 
-/// What a state keeps: what it shares with the others, for each micro-operation whether it is a
-/// member of its set, and what stands at the touched paths.
+/// What a state has: what it shares with the others, for each micro-operation whether it is a
+/// member of its set, and what is at the touched paths.
 #[derive(Drop)]
 pub struct State {
     pub parts: Arc<Parts>,
@@ -29,7 +29,8 @@ pub struct State {
     pub own: Vec<Own>,
 }
 
-/// What has the number in the state of a set.
+/// What has the number in the state of a set, if it has so many. `_members` is for the contract
+/// only, which speaks of the set.
 fn found_in(parts: &Parts, _members: &[bool], own: &[Own], number: u64) -> Option<Found>
     requires { IsState parts.now (members_in _members.now) own.now }
     ensures slot { IfSome result
@@ -41,7 +42,8 @@ fn found_in(parts: &Parts, _members: &[bool], own: &[Own], number: u64) -> Optio
     found_at(&parts.shares.kept, &parts.tables.slots, own, number)
 }
 
-/// The number of what stands at the path in the state of a set, if something does.
+/// The number of what is at the path with this id in the state of a set. None if there is nothing.
+/// `_members` is for the contract only, which speaks of the set.
 fn number_in(parts: &Parts, _members: &[bool], own: &[Own], id: u64) -> Option<u64>
     requires state { IsState parts.now (members_in _members.now) own.now }
     requires there { id < length parts.now.tables.slots.items }
@@ -51,7 +53,7 @@ fn number_in(parts: &Parts, _members: &[bool], own: &[Own], id: u64) -> Option<u
 }
 
 impl State {
-    /// What has the number.
+    /// What has the number, if the state has so many.
     pub fn found(&self, number: u64) -> Option<Found>
         requires { IsMade self.now }
         ensures slot { IfSome result (λ f. f.slot ≡ slot_at (slots_in self.now) f.id) }
@@ -62,7 +64,7 @@ impl State {
         found_in(&self.parts, &self.members, &self.own, number)
     }
 
-    /// The number of what stands at the path, if something does.
+    /// The number of what is at the path with this id. None if there is nothing.
     pub fn number(&self, id: u64) -> Option<u64>
         requires made { IsMade self.now }
         requires there { id < length (arc_value self.now.parts).tables.slots.items }
@@ -71,14 +73,14 @@ impl State {
         number_in(&self.parts, &self.members, &self.own, id)
     }
 
-    /// Every path that ever stands.
+    /// Every path that ever exists, as a directory; its number is its id.
     pub fn names(&self) -> &PlainTree
         ensures { result.now ≡ (arc_value self.now.parts).shares.names }
     {
         &self.parts.shares.names
     }
 
-    /// How many records there are.
+    /// How many files and directories the state has, including the root.
     pub fn count(&self) -> usize
         requires { IsMade self.now }
         ensures { result ≡ count_in (arc_value self.now.parts) (members_in self.now.members.items) }
@@ -86,7 +88,7 @@ impl State {
         self.parts.shares.kept.len() + self.own.len()
     }
 
-    /// What the record of what stands in a slot says beside its bytes.
+    /// The metadata of what is in a slot. None if the slot is empty.
     pub fn metadata(&self, number: u64, slot: Slot) -> Option<Metadata<'_>>
         requires made { IsMade self.now }
         requires known { IsKnown (length (arc_value self.now.parts).tables.rights.items)
@@ -98,7 +100,8 @@ impl State {
         metadata_of(&self.parts, &self.members, number, slot)
     }
 
-    /// What is read of what stands in a slot.
+    /// At most `count` bytes from the offset on of the file in a slot: fewer, or none, near its end
+    /// or past it. None if there is no file. It runs out of memory only if there is a byte to read.
     pub fn read(
         &self,
         alloc: Global,

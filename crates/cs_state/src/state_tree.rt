@@ -10,9 +10,8 @@ use cs_tree_model::{ListedEntry, Metadata, TreeRead};
 use std::alloc::{AllocError, Global};
 use std::marker::Model;
 
-/// The state of a set of a trace's micro-operations. It keeps the members of the set, and what
-/// stands at the paths that some operation touches; all else it shares with the other states of the
-/// trace.
+/// The state of a set of a trace's micro-operations. It has the members of the set, and what is at
+/// the paths that some operation touches. All else it shares with the other states of the trace.
 #[derive(Drop)]
 pub struct StateTree {
     state: State,
@@ -32,7 +31,7 @@ impl Model for StateTree {
 }
 
 impl StateTree {
-    /// The state that keeps this.
+    /// The store of this state.
     pub(crate) fn of(state: State) -> StateTree
         requires { IsMade state }
         ensures { result ≡ tree_in state }
@@ -44,28 +43,33 @@ impl StateTree {
 impl TreeRead for StateTree {
     ghost tree = { λ t. t };
 
+    /// Computed from the members and the shared tables: a state has no records.
     fn record(&self, number: u64) -> Option<Metadata<'_>> {
         let found = self.state.found(number)?;
         self.state.metadata(number, found.slot)
     }
 
+    /// Looks the name up among all paths, and then whether there is something in this state.
     fn find_number(&self, directory: u64, name: &str) -> Option<u64> {
         let found = self.state.found(directory)?;
         let id = self.state.names().find_number(found.id as u64, name)?;
         self.state.number(id)
     }
 
+    /// The number of the parent path, which has a directory in every state that has the entry.
     fn parent_of(&self, number: u64) -> Option<u64> {
         let found = self.state.found(number)?;
         let id = self.state.names().parent_of(found.id as u64)?;
         self.state.number(id)
     }
 
+    /// A path has the same name in every state, so it is lent from the shared tree of names.
     fn name_of(&self, number: u64) -> Option<&Name> {
         let found = self.state.found(number)?;
         self.state.names().name_of(found.id as u64)
     }
 
+    /// Skips names at which there is nothing in this state.
     fn entry_after(
         &self,
         directory: u64,
@@ -76,14 +80,17 @@ impl TreeRead for StateTree {
         entry_in(&self.state, found.id as u64, last, bound)
     }
 
+    /// Paths that are the same in every state, and this state's own.
     fn count(&self) -> usize {
         self.state.count()
     }
 
+    /// Numbers are places in the order of paths, and the root is in every state.
     fn last_number(&self) -> u64 {
         self.state.count() as u64 - 1
     }
 
+    /// Applies only those members that reach the pages that are read.
     fn read_at(
         &self,
         alloc: Global,
@@ -99,8 +106,8 @@ impl TreeRead for StateTree {
     }
 }
 
-/// The next entry at which something stands, of the directory at a path. Names at which nothing
-/// stands are passed.
+/// The next entry of a directory, given by its path's id, after `last` and up to `bound`. Names at
+/// which there is nothing in this state are skipped.
 fn entry_in<'a>(
     state: &'a State,
     directory: u64,

@@ -4,7 +4,6 @@ mod acknowledged;
 mod links;
 mod lists;
 mod made;
-mod picks;
 mod rights;
 mod same;
 mod scenes;

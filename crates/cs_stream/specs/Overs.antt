@@ -29,7 +29,7 @@ abbrev pub stopped_by : ErrorKind → Transfer
 stopped_by kind.Interrupted = Interrupted
 stopped_by _ = Failed
 
--- so many bytes; or none, where it was interrupted or failed
+-- so many bytes; or none, if it was interrupted or failed
 abbrev pub transfer_of : Result ℕ Error → Transfer
 transfer_of (Ok count) = Bytes count
 transfer_of (Err error) = stopped_by (error_kind error)

@@ -1,4 +1,4 @@
--- What a stream's calls do to its bytes, where these are known, and to its counts.
+-- What a stream's calls do to its bytes, if these are known, and to its counts.
 use Rattle.std.specs.Prelude.{◌≡◌, ℕ, ◌+◌, ◌-◌, ◌<◌, ◌≤◌, ◌⊎◌, ◌==◌, ◌&&◌, min, nat_lt}
 use Rattle.std.specs.Prelude.{if◌then◌else◌, List, ◌++◌, length, take, Option}
 use Rattle.std.specs.Prelude.{Result, Ok, Err}
@@ -39,6 +39,7 @@ Writes (Err fault) old new bytes = AppendsFront old new bytes
 abbrev pub saturating_sum : ℕ → ℕ → ℕ
 saturating_sum more count = count + min more (18446744073709551615 - count)
 
+-- the counts after a read that gave this, into so much room
 abbrev pub counted_read : Transfer → ℕ → Counts → Counts
 counted_read (Bytes count) room c =
     record c {
@@ -60,6 +61,7 @@ counted_read Failed room c =
           saturating_sum 1 c.failed_reads;
     }
 
+-- the counts after a write of so many bytes that gave this
 abbrev pub counted_write : Transfer → ℕ → Counts → Counts
 counted_write (Bytes count) bytes c =
     record c {
@@ -88,20 +90,20 @@ pub record KeepsReads (old new : Counts) : Type 0 where
   pub interrupted : new.interrupted_reads ≡ old.interrupted_reads
   pub ends : new.ends ≡ old.ends
 
--- no write is forgotten, and no fault of one
+-- no count of writes, or of their faults, is lower
 pub record KeepsFaults (old new : Counts) : Type 0 where
   pub writes : old.writes ≤ new.writes
   pub failed : old.failed_writes ≤ new.failed_writes
   pub idle : old.idle_writes ≤ new.idle_writes
 
--- the last INTERRUPTIONS calls were all interrupted, and all of them made since: calls before and
--- by now, and the last ones that were interrupted
+-- the last INTERRUPTIONS calls were all interrupted, and all were made since: the counts are of the
+-- calls before and by now, and of the interrupted calls in a row up to now
 abbrev pub GaveUp : ℕ → ℕ → ℕ → Type 0
 GaveUp before now interrupted =
     (saturating_sum INTERRUPTIONS before ≤ now) × (INTERRUPTIONS ≤ interrupted)
 
--- at most INTERRUPTIONS of the calls since were interrupted in a row up to now: the last calls in a
--- row that were interrupted, before and now
+-- at most INTERRUPTIONS of the calls since were interrupted in a row up to now; the counts are of
+-- the interrupted calls in a row, before and now
 abbrev pub GaveUpInTime : ℕ → ℕ → Type 0
 GaveUpInTime before now = now ≤ saturating_sum INTERRUPTIONS before
 

@@ -6,7 +6,7 @@ ghost use Rattle.cs_stream.specs.Overs.{transfer_of};
 use crate::stream::{Counts, Stream, Transfer};
 use std::io::{self, ErrorKind, Read, Write};
 
-/// What a reader or a writer answered.
+/// The transfer that a reader's or a writer's answer means.
 fn transfer(answer: io::Result<usize>) -> Transfer
     ensures { result ≡ transfer_of answer }
 {
@@ -19,7 +19,8 @@ fn transfer(answer: io::Result<usize>) -> Transfer
     }
 }
 
-/// Any reader and writer in one, as a socket is. It doesn't tell its bytes.
+/// A stream over one object that is both reader and writer, as a socket is. Contracts don't know
+/// its bytes.
 #[derive(Drop)]
 pub struct Counted<RW> {
     inner: RW,
@@ -27,7 +28,7 @@ pub struct Counted<RW> {
 }
 
 impl<RW> Counted<RW> {
-    /// With no call counted.
+    /// A stream over `inner`, with no call counted.
     pub fn new(inner: RW) -> Counted<RW>
         ensures inner { inner_of result ≡ inner }
         ensures counts { counts_of result ≡ Counts.NONE }
@@ -38,14 +39,14 @@ impl<RW> Counted<RW> {
         }
     }
 
-    /// How often it did what.
+    /// The counts of its calls so far.
     pub fn counts(&self) -> Counts
         ensures { result ≡ counts_of self.now }
     {
         self.counts
     }
 
-    /// What it is over.
+    /// The reader and writer that it is over; the counts are dropped.
     pub fn into_inner(self) -> RW
         ensures { result ≡ inner_of self }
     {
@@ -73,8 +74,8 @@ impl<RW: Read + Write> Stream for Counted<RW> {
     }
 }
 
-/// A reader and a writer, each an end of its own. It tells the bytes of each end where that end
-/// does.
+/// A stream over a reader and a writer that are two objects. Contracts know the bytes of an end if
+/// they know those of its reader or writer.
 #[derive(Drop)]
 pub struct TwoEnded<R, W> {
     reader: R,
@@ -83,7 +84,7 @@ pub struct TwoEnded<R, W> {
 }
 
 impl<R, W> TwoEnded<R, W> {
-    /// With no call counted.
+    /// A stream over both, with no call counted.
     pub fn new(reader: R, writer: W) -> TwoEnded<R, W>
         ensures reader { reader_of result ≡ reader }
         ensures writer { writer_of result ≡ writer }
@@ -96,14 +97,14 @@ impl<R, W> TwoEnded<R, W> {
         }
     }
 
-    /// How often it did what.
+    /// The counts of its calls so far.
     pub fn counts(&self) -> Counts
         ensures { result ≡ ends_counts self.now }
     {
         self.counts
     }
 
-    /// What was written to.
+    /// The writer; the reader and the counts are dropped.
     pub fn into_writer(self) -> W
     where
         R: Drop,

@@ -1,4 +1,4 @@
-//! Streams of bytes with their calls counted, and writes of all of some bytes.
+//! Streams of bytes that count their calls, and `write_all`, which writes all bytes or fails.
 #![tactic(auto)]
 
 pub mod counted;

@@ -11,7 +11,7 @@ use cs_names::limits::INTERRUPTIONS;
 /// What a read or a write did.
 #[derive(Clone, Copy, Debug, PartialEq, Eq)]
 pub enum Transfer {
-    /// It moved so many bytes. A read of none, where there was room, met the stream's end.
+    /// It moved this many bytes. A read of none into some room met the stream's end.
     Bytes(usize),
     /// It was interrupted, and moved none.
     Interrupted,
@@ -19,22 +19,22 @@ pub enum Transfer {
     Failed,
 }
 
-/// How often a stream did what. A count that is full stays so.
+/// How often a stream was called, and with which results. A count that is full stays so.
 #[derive(Clone, Copy, Debug, PartialEq, Eq)]
 pub struct Counts {
     /// Reads.
     pub reads: u64,
     /// Reads that failed.
     pub failed_reads: u64,
-    /// The last reads in a row, as far as they were interrupted.
+    /// Interrupted reads since the last read that wasn't.
     pub interrupted_reads: u64,
-    /// Reads of no byte where there was room.
+    /// Reads of no byte into some room.
     pub ends: u64,
     /// Writes.
     pub writes: u64,
     /// Writes that failed.
     pub failed_writes: u64,
-    /// The last writes in a row, as far as they were interrupted.
+    /// Interrupted writes since the last write that wasn't.
     pub interrupted_writes: u64,
     /// Writes of some bytes that took none.
     pub idle_writes: u64,
@@ -53,7 +53,7 @@ impl Counts {
         idle_writes: 0,
     };
 
-    /// Counts a read into so much room.
+    /// Counts a read into `room` bytes.
     pub fn count_read(&mut self, done: Transfer, room: usize)
         ensures { self.new ≡ counted_read done room self.old }
     {
@@ -75,7 +75,7 @@ impl Counts {
         }
     }
 
-    /// Counts a write of so many bytes.
+    /// Counts a write of `bytes` bytes.
     pub fn count_write(&mut self, done: Transfer, bytes: usize)
         ensures { self.new ≡ counted_write done bytes self.old }
     {
@@ -98,18 +98,18 @@ impl Counts {
     }
 }
 
-/// A stream, which may tell its bytes, and counts its calls.
+/// A stream that counts its calls. Contracts may know its bytes.
 pub trait Stream {
-    /// The bytes that reads will give from here on, where they are known.
+    /// The bytes that reads will give from here on, if they are known.
     ghost remaining: { Self → Option (List ℕ) };
 
-    /// The bytes that writes have taken, where they are known.
+    /// The bytes that writes have taken, if they are known.
     ghost contents: { Self → Option (List ℕ) };
 
-    /// How often it did what.
+    /// The counts of its calls so far.
     ghost counts: { Self → Counts };
 
-    /// Reads some bytes.
+    /// Reads some bytes into the front of `buf`.
     fn read(&mut self, buf: &mut [u8]) -> Transfer
         ensures bytes { ReadGives (remaining self.old) (remaining self.new) result buf.new }
         ensures contents { contents self.new ≡ contents self.old }
@@ -124,13 +124,12 @@ pub trait Stream {
             ≡ counted_write result (length buf.now) (counts self.old) };
 }
 
-/// The bytes were not all written: a write failed, took no byte, or 1,000 in a row were
-/// interrupted.
+/// Not all bytes were written: a write failed, took no byte, or 1,000 in a row were interrupted.
 #[derive(Clone, Copy, Debug, PartialEq, Eq)]
 pub struct WriteFault;
 
-/// Writes all of the bytes. An interrupted write is tried again, up to 999 in a row: the thousandth
-/// in a row is a fault. After a fault some of them, from the front, were written.
+/// Writes all of the bytes. An interrupted write is tried again, but the thousandth in a row is a
+/// fault. After a fault some of the bytes, from the front, were written.
 pub fn write_all<S: Stream>(stream: &mut S, bytes: &[u8]) -> Result<(), WriteFault>
     ensures ok { OnOk result (Appends (S.contents stream.old) (S.contents stream.new) bytes.now) }
     ensures err { OnErr result

@@ -1,4 +1,4 @@
-//! Whether a store may be asked for a change: what the calls of `TreeStore` leave to their caller.
+//! Tests of the conditions that the calls of `TreeStore` require of their caller.
 ghost use Rattle.std.specs.Prelude.{◌≡◌, ◌≢◌, ◌+◌, ◌<◌, ◌^◌, ℕ, List, None, IsTrue, IsSome, IfSome};
 ghost use Rattle.cs_tree_model.specs.Mode.{is_directory_mode};
 ghost use Rattle.cs_tree_model.specs.Tree.{record_numbered, parent_numbered, number_in};
@@ -8,7 +8,7 @@ ghost use Rattle.cs_tree_model.specs.Stores.{CanStamp, CanStampParent, IsDirecto
 use cs_names::Name;
 use cs_tree_model::{Kind, TreeRead, is_directory_mode};
 
-/// Whether the file can be changed once more.
+/// Whether there is such a file or directory, and its version can count one more change.
 pub fn takes_changes<T: TreeRead>(tree: &T, number: u64) -> bool
     ensures there { IsTrue result → IsSome (record_numbered (T.tree tree.now) number) }
     ensures vers { IsTrue result → CanStamp (T.tree tree.now) number }
@@ -19,7 +19,7 @@ pub fn takes_changes<T: TreeRead>(tree: &T, number: u64) -> bool
     }
 }
 
-/// Whether it is a directory that can be changed once more.
+/// Whether it is a directory whose version can count one more change.
 pub fn takes_entries<T: TreeRead>(tree: &T, number: u64) -> bool
     ensures directory { IsTrue result → IsDirectoryNumbered (T.tree tree.now) number }
     ensures vers { IsTrue result → CanStamp (T.tree tree.now) number }
@@ -33,7 +33,7 @@ pub fn takes_entries<T: TreeRead>(tree: &T, number: u64) -> bool
     }
 }
 
-/// Whether it is a file, and no directory.
+/// Whether it is a file, not a directory.
 pub fn has_bytes<T: TreeRead>(tree: &T, number: u64) -> bool
     ensures { IsTrue result → IsSome (content_numbered (T.tree tree.now) number) }
 {
@@ -46,7 +46,7 @@ pub fn has_bytes<T: TreeRead>(tree: &T, number: u64) -> bool
     }
 }
 
-/// Whether its directory can be changed once more.
+/// Whether the version of its directory can count one more change.
 pub fn can_leave<T: TreeRead>(tree: &T, number: u64) -> bool
     ensures { IsTrue result → CanStampParent (T.tree tree.now) number }
 {
@@ -56,7 +56,7 @@ pub fn can_leave<T: TreeRead>(tree: &T, number: u64) -> bool
     }
 }
 
-/// Whether the file takes so many bytes, if a length is asked.
+/// Whether a change may set this length: it is below 2^63, and of a file. True if there is none.
 pub fn takes_length<T: TreeRead>(tree: &T, number: u64, length: Option<u64>) -> bool
     ensures file { IsTrue result → IsSome length
         → IsSome (content_numbered (T.tree tree.now) number) }
@@ -68,7 +68,8 @@ pub fn takes_length<T: TreeRead>(tree: &T, number: u64, length: Option<u64>) -> 
     }
 }
 
-/// Whether the mode, if one is asked, leaves a directory a directory and a file a file.
+/// Whether a change may set this mode: it keeps a directory a directory, and a file a file. True if
+/// there is none.
 pub fn takes_mode<T: TreeRead>(tree: &T, number: u64, mode: Option<u32>) -> bool
     ensures { IsTrue result
         → IfSome mode
@@ -84,7 +85,8 @@ pub fn takes_mode<T: TreeRead>(tree: &T, number: u64, mode: Option<u32>) -> bool
     }
 }
 
-/// Whether the name, if one is asked, is free in the file's directory.
+/// Whether a change may set this name: the file isn't the root, and the name is free in its
+/// directory, which can be stamped. True if there is none.
 pub fn takes_name<T: TreeRead>(tree: &T, number: u64, name: &Option<Name>) -> bool
     ensures not_root { IsTrue result → IsSome name.now → number ≢ 0 }
     ensures free { IsTrue result

@@ -1,4 +1,4 @@
-//! What the calls of a store leave to their caller, as tests of a tree: for tests of stores.
+//! The conditions of a store's calls as tests of a tree, for crates that test stores.
 #![tactic(auto)]
 
 mod allowed;

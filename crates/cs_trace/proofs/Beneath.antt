@@ -1,4 +1,4 @@
--- The paths below a directory stand right after it in the order of paths.
+-- The paths below a directory come right after it in the order of paths.
 use Rattle.std.proofs.Common.{◌≡◌, ◌≢◌, length-append, ◌<◌, ◌||◌, ◌&&◌, Bool, true, false, not, List, [], ◌∷◌, ◌++◌, length, drop, filter}
 use Rattle.std.proofs.Common.{nat_lt, refl, sym, ap, ◌∙◌, arith}
 use Rattle.std.proofs.lemmas.List.{append-nil}

@@ -31,7 +31,7 @@ use Rattle.cs_trace.specs.declared.operation.Node.TheVariants.{Directory, File}
 
 -- ---- one check after another
 
--- the checks tell the fault
+-- the first check that fails gives the fault
 abbrev Tells : {A : Type 0} → List Check → Result A TraceFaultKind → Type 0
 Tells cs r = result_err r ≡ first_fault cs
 

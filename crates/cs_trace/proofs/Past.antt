@@ -1,4 +1,4 @@
--- Faults that only what stands shows, and paths that are too long to stand.
+-- Faults that need the tree, and paths that are too long to be in it.
 use Rattle.std.proofs.Common.{◌≡◌, ℕ, ◌+◌, ◌-◌, ◌<◌, Bool, true, false, List, length, Option, None, Some, Result, refl, arith, length-take}
 use Rattle.std.specs.FinMap.{get}
 use Rattle.cs_names.specs.declared.limits.TheConstants.{TRACE_PATH_NAMES}
@@ -124,14 +124,14 @@ module _ (m : Paths) where
   pub past_fsync_range : (p : Path) (offset count : ℕ) → IsPastNames (fsync_range m p offset count)
   past_fsync_range p offset count = past_file (get m p) _ (λ _. tt)
 
-  -- ---- paths that are too long to stand
+  -- ---- paths that are too long to be in the tree
 
   module _ (short : AreShort m) where
     nothing_by : (p : Path) (node : Option Node) → get m p ≡ node → TRACE_PATH_NAMES < length p → get m p ≡ None
     nothing_by p None is long = is
     nothing_by p (Some node) is long = absurd (omega (arith, short p node is))
 
-    -- nothing stands at a path that is longer
+    -- nothing is at a path that is longer
     pub nothing_at : (p : Path) → TRACE_PATH_NAMES + 1 < length p → get m p ≡ None
     nothing_at p long = nothing_by p (get m p) refl (omega arith)
 

@@ -1,4 +1,4 @@
--- An operation that is taken is legal.
+-- An operation that is accepted is legal.
 use Rattle.std.proofs.Common.{◌≡◌, ◌≢◌, ◌⊎◌, ℕ, ◌+◌, ◌-◌, ◌<◌, ◌≤◌, ◌||◌, ◌&&◌, Bool, true, false, List, [], ◌∷◌, ◌++◌, length, drop, cond}
 use Rattle.std.proofs.Common.{inl, inr, ⊎_elim, Option, None, Some, Ok, refl, sym, ap, ◌∙◌, subst, arith, length-take}
 use Rattle.std.proofs.lemmas.Bool.{eqb-true, false≢true, or_parts}
@@ -38,7 +38,7 @@ use Rattle.cs_trace_lines.specs.declared.version.Version.TheVariants.{First, Sec
 use Rattle.cs_trace_lines.proofs.Octal.{HasOctalChange, IsOctal}
 use Rattle.cs_trace.proofs.Within.{ends_within, limit_by, then_by, value_by}
 
--- ---- what stands
+-- ---- what is in the tree
 
 file_is : (node : Option Node) (file : ℕ) → file_by node ≡ Ok file → node ≡ Some (File file)
 file_is None file is = absurd (cc)
@@ -120,7 +120,7 @@ pub legal_is : (path : Option Path) (p : Path) → or_bad_name path ≡ Ok p →
 legal_is None p is = absurd (cc)
 legal_is (Some q) p is = let same : q ≡ p = cc in ap Some same
 
--- ---- what a reader knows of an operation that is taken
+-- ---- what a reader knows of an operation that is accepted
 
 -- a new path has few enough names
 abbrev pub MakesShort : Operation → Type 0
@@ -144,7 +144,7 @@ limits_by made p is =
     let few : made + 1 ≤ TREE_RECORDS = grind (arith, nat_tests, both.1) in
     (short_by p both.0, few)
 
--- each file that stands has a size
+-- each file in the tree has a size
 abbrev pub AreKnown : Paths → List ℕ → Type 0
 AreKnown m sizes = (p : Path) (file : ℕ) → get m p ≡ Some (File file) → file < length sizes
 

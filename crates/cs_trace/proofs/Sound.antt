@@ -1,4 +1,4 @@
--- What each line that is taken keeps.
+-- What each line that is accepted keeps.
 use Rattle.std.proofs.Common.{◌≡◌, ◌≢◌, ◌⊎◌, ℕ, suc, zero, ◌+◌, ◌<◌, ◌≤◌, true, false, cond, List, [], ◌∷◌, ◌++◌, length, map, inl, inr}
 use Rattle.std.proofs.Common.{⊎_elim, Option, None, Some, option_map, refl, sym, ap, ◌∙◌, subst, arith, length-append}
 use Rattle.std.proofs.lemmas.Option.{same_Some}
@@ -26,7 +26,7 @@ use Rattle.cs_trace.specs.declared.operation.Rights.{Rights}
 use Rattle.cs_trace.specs.declared.operation.Node.TheVariants.{Directory, File}
 use Rattle.cs_trace.proofs.Resolved.{AreKnown, AreOctal, kept_octal}
 
--- what stands at the start
+-- what is at each path at the start
 abbrev pub start_of : State → Paths
 start_of s = map_values node_of s.start
 
@@ -169,7 +169,7 @@ module _ (s : State) (sound : IsSound s) (p : Path) (e : StartFile)
       get-insert_other path_total path_exact s.start q p e
       (other q (node_of f) (get-map_values path_cmp node_of s.start q ∙ ap (option_map node_of) there)) ∙ there
 
-  -- what stood before finds its file, also after new ones
+  -- what was there before finds its file, also after new ones
   still_found : (files : List Path) → ((n : ℕ) (q : Path) → slice_get s.files n ≡ Some q → slice_get files n ≡ Some q)
       → (q : Path) (f : StartFile) → get s.start q ≡ Some f → (bytes : List ℕ) → f.content ≡ Some bytes
       → HasOwn files (insert s.start p e) f
@@ -231,7 +231,7 @@ module _ (s : State) (sound : IsSound s) (p : Path) (e : StartFile)
   sizes_then : s.sizes ≡ sizes_of s
   sizes_then = sound.sizes ∙ ap (sizes_after_all (sizes_of s)) none
 
-  -- the files that stood before keep their sizes
+  -- the files that were there before keep their sizes
   same_sizes : map (λ q. entry_size (get s.start q)) s.files ≡ map (λ q. entry_size (get (insert s.start p e) q)) s.files
   same_sizes = map_same _ _ s.files (λ n q at.
       ap entry_size (sym (get-insert_other path_total path_exact s.start q p e (other q (File n) (sound.numbered n q at)))))

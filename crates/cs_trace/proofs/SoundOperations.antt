@@ -38,7 +38,7 @@ stood m p q node there = ⊎_elim
     (λ (two : (eq_by_cmp path_cmp q p ≡ false) × (q ≢ p)). sym (get-remove_other path_total path_exact m q p two.1) ∙ there)
     (path_cases q p)
 
--- what holds of all that stands, and of what moves at its new path, holds after a move
+-- what holds of each path, and of the moved node at its new path, holds after a move
 moved_each : (m : Paths) (p q : Path) (P : Path → Node → Type 0) → ((r : Path) (node : Node) → get m r ≡ Some node → P r node)
     → ((node : Node) → P p node → P q node)
     → (here : Option Node) → get m p ≡ here → (r : Path) (node : Node)

@@ -1,4 +1,4 @@
--- What a sound state leaves is a trace.
+-- A sound state is a trace.
 use Rattle.std.proofs.Common.{◌≡◌, ◌≢◌, ℕ, ◌+◌, ◌*◌, ◌^◌, ◌<◌, ◌≤◌, List, [], ◌∷◌, get_or, length, map, Option, None, Some, option_map}
 use Rattle.std.proofs.Common.{refl, sym, ap, ◌∙◌, subst, arith, lit≤}
 use Rattle.std.proofs.lemmas.List.{length-map}
@@ -47,12 +47,12 @@ marked_by : (e : StartFile) (content : Option (List ℕ)) → e.rights.permissio
 marked_by e None low is = rw (is, has_bit e.rights.permissions low) refl
 marked_by e (Some bytes) low is = rw (is, no_bit e.rights.permissions low) refl
 
--- an entry at which a directory stands has no bytes
+-- the entry of a directory has no bytes
 directory_by : (content : Option (List ℕ)) (number : ℕ) → node_by content number ≡ Directory → content ≡ None
 directory_by None number is = refl
 directory_by (Some bytes) number is = absurd (cc)
 
--- an entry at which a file stands has bytes, and its number
+-- the entry of a file has bytes, and its number
 file_by : (content : Option (List ℕ)) (number n : ℕ) → node_by content number ≡ File n → (bytes : List ℕ) × (content ≡ Some bytes)
     × (number ≡ n)
 file_by None number n is = absurd (cc)
@@ -80,7 +80,7 @@ module _ (m : Entries) where
       let e = entry_at node_of p Directory there in
       (record_of e.0, value_at record_of p e.0 e.1, directory_by e.0.content e.0.number e.2)
 
-  -- ---- what stands, and the sizes
+  -- ---- what is at each path, and the sizes
 
   zipped : (k : ℕ) (es : List (Path × StartFile))
       → zip (map (λ e. e.0) (with_numbers_from k (map_entries record_of es))) (map (λ e. node_of e.1) es) ≡ map_entries node_of es

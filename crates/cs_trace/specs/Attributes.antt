@@ -43,7 +43,7 @@ with_file a rights = record a { files = a.files ++ rights ∷ [] }
 abbrev pub with_directory : Attributes → Path → Rights → Attributes
 with_directory a p rights = record a { directories = insert a.directories p rights }
 
--- the same, with these in place of those before
+-- the attributes with these rights in place of those before
 abbrev pub with_set : Attributes → Target → Rights → Attributes
 with_set a (targets.File file) rights = record a { files = slice_set a.files file rights }
 with_set a (targets.Directory p) rights = with_directory a p rights
@@ -54,17 +54,17 @@ attributes_after a (Mkdir p rights) = with_directory a p rights
 attributes_after a (SetAttr target before after) = with_set a target after
 attributes_after a _ = a
 
--- no line of the first version asks for them, and it keeps none
+-- no line of the first version needs them, and none are kept
 abbrev pub kept_in : Version → Attributes → Attributes → Attributes
 kept_in First before after = before
 kept_in _ before after = after
 
--- those of what stands at a path
+-- those of the file or directory at a path
 abbrev pub rights_at : Attributes → Node → Path → Option Rights
 rights_at a Directory p = get a.directories p
 rights_at a (File file) p = slice_get a.files file
 
--- what stands at a path, as a chmod and a chown name it
+-- the file or directory at a path, as a chmod and a chown name it
 abbrev pub target_of : Node → Path → Target
 target_of Directory p = targets.Directory p
 target_of (File file) p = targets.File file

@@ -1,4 +1,4 @@
--- What stands below a path.
+-- What is below a path.
 use Rattle.std.specs.Prelude.{ℕ, Bool, ◌&&◌, nat_lt, length, refl, Option, None, Some}
 use Rattle.std.specs.Coded.{Coded, code_by, coded_ℕ, coded_list, coded_option}
 use Rattle.std.specs.FinMap.{code, entries}
@@ -32,6 +32,6 @@ paths_code = code (coded_list (coded_list coded_ℕ)) node_code
 abbrev pub is_below : Path → Path → Bool
 is_below d p = nat_lt (length d) (length p) && starts_with same_bytes p d
 
--- something stands below the path
+-- something is below the path
 abbrev pub has_below : Paths → Path → Bool
 has_below m d = list_any (λ e. is_below d e.0) (entries m)

@@ -33,7 +33,7 @@ abbrev pub first_fault : List Check → Option TraceFaultKind
 first_fault [] = None
 first_fault (c ∷ cs) = if c.0 then Some c.1 else first_fault cs
 
--- ---- what stands
+-- ---- what is at a path
 
 abbrev pub is_file : Option Node → Bool
 is_file None = false
@@ -59,7 +59,7 @@ abbrev pub target_checks : Option Node → Option Node → List Check
 target_checks above here =
     (is_none above, NoParent) ∷ (is_file above, NotDir) ∷ (is_directory here, NotFile) ∷ []
 
--- what needs a directory that is empty; whether something stands below it
+-- what needs a directory that is empty; whether something is below it
 abbrev pub emptied_checks : Option Node → Bool → List Check
 emptied_checks here below =
     (is_none here, Missing) ∷ (is_file here, NotDir) ∷ (below, NotEmpty) ∷ []
@@ -76,7 +76,7 @@ on_path path checks = (is_none path, BadName) ∷ checks (unwrap_or path [])
 abbrev pub made_checks : Paths → ℕ → Path → List Check
 made_checks m made p = new_checks (get m (parent_path p)) (get m p) ++ limit (is_too_much made p)
 
--- a file gets one path more, q; what stands at the path that it has
+-- a file gets one path more, q; what is at the path that it has
 abbrev pub linked_checks : Paths → ℕ → Option Node → Path → List Check
 linked_checks m made here q = file_checks here ++ made_checks m made q
 

@@ -1,4 +1,4 @@
--- What stands at each path.
+-- What is at each path at the start.
 use Rattle.std.specs.Prelude.{ℕ, ◌+◌, List, Option, None, Some, length, map, refl}
 use Rattle.std.specs.Coded.{Coded, code_by, coded×, coded_ℕ, coded_list, coded_option}
 use Rattle.std.specs.FinMap.{FinMap, code, entries}
@@ -33,7 +33,7 @@ entry_code = code_by
 abbrev pub entries_code : Coded Entries
 entries_code = code (coded_list (coded_list coded_ℕ)) entry_code
 
--- what stands where an entry does: one without bytes is a directory
+-- the file or directory of an entry: one without bytes is a directory
 abbrev pub node_by : Option (List ℕ) → ℕ → Node
 node_by None number = Directory
 node_by (Some bytes) number = File number

@@ -1,4 +1,4 @@
--- What is said of a text that is no trace.
+-- The message for a text that is no trace.
 use Rattle.std.specs.Prelude.{ℕ, List, ◌++◌, codes, decimal}
 use Rattle.cs_trace.specs.declared.fault.TraceFaultKind.{TraceFaultKind}
 use Rattle.cs_trace.specs.declared.fault.TraceFaultKind.TheVariants.{Syntax, UnknownOp, BadName}
@@ -23,7 +23,7 @@ kind_text Memory = codes "out of memory"
 abbrev pub line_text : ℕ → List ℕ → List ℕ
 line_text line kind = codes "trace line " ++ (decimal line ++ (codes ": " ++ kind))
 
--- want of memory is said of no line
+-- out of memory names no line
 abbrev pub fault_text : ℕ → TraceFaultKind → List ℕ
 fault_text line Memory = kind_text Memory
 fault_text line kind = line_text line (kind_text kind)

@@ -1,4 +1,4 @@
--- What a line needs of what stands, and its first fault.
+-- What a line needs of the state before it, and its first fault.
 use Rattle.std.specs.Prelude.{◌≡◌, ◌≤◌, ℕ, ◌+◌, ◌==◌, ◌||◌, ◌&&◌, Bool, true, false, List, length}
 use Rattle.std.specs.Prelude.{nat_le, nat_lt, Option, Some, None, slice_index_or, if◌then◌else◌}
 use Rattle.std.specs.Prelude.{Result, Ok, Err}
@@ -32,22 +32,22 @@ abbrev pub and_then : {A B E : Type 0} → Result A E → (A → Result B E) →
 and_then (Ok x) f = f x
 and_then (Err e) f = Err e
 
--- ---- what stands at a path, as a line needs it
+-- ---- what is at a path, as a line needs it
 
--- the number of the file that stands here
+-- the number of the file here
 abbrev pub file_by : Option Node → Result ℕ TraceFaultKind
 file_by None = Err Missing
 file_by (Some Directory) = Err NotFile
 file_by (Some (File file)) = Ok file
 
--- a new entry may stand here, below what stands above
+-- a new entry may be here, below what is above
 abbrev pub free_by : Option Node → Option Node → Result (Unit {0}) TraceFaultKind
 free_by None here = Err NoParent
 free_by (Some (File file)) here = Err NotDir
 free_by (Some Directory) (Some node) = Err Exists
 free_by (Some Directory) None = Ok tt
 
--- a file may come here, over a file, below what stands above
+-- a file may be moved here, over a file, below what is above
 abbrev pub target_by : Option Node → Option Node → Result (Unit {0}) TraceFaultKind
 target_by None here = Err NoParent
 target_by (Some (File file)) here = Err NotDir
@@ -55,14 +55,14 @@ target_by (Some Directory) (Some Directory) = Err NotFile
 target_by (Some Directory) (Some (File file)) = Ok tt
 target_by (Some Directory) None = Ok tt
 
--- an empty directory stands here; whether something stands below it
+-- an empty directory is here; the flag says whether something is below it
 abbrev pub emptied_by : Option Node → Bool → Result (Unit {0}) TraceFaultKind
 emptied_by None below = Err Missing
 emptied_by (Some (File file)) below = Err NotDir
 emptied_by (Some Directory) true = Err NotEmpty
 emptied_by (Some Directory) false = Ok tt
 
--- what an fsync of what stands here covers
+-- what an fsync of the file or directory here covers
 abbrev pub covered_by : Option Node → Path → Result Operation TraceFaultKind
 covered_by None p = Err Missing
 covered_by (Some Directory) p = Ok (Sync (covers.Directory p))
@@ -80,14 +80,14 @@ target_at m p = target_by (get m (parent_path p)) (get m p)
 abbrev pub emptied_at : Paths → Path → Result (Unit {0}) TraceFaultKind
 emptied_at m p = emptied_by (get m p) (has_below m p)
 
--- the file or directory that stands at a path, with its rights
+-- the file or directory at a path, with its rights
 abbrev pub held_by : Attributes → Path → Node → Option (Target × Rights)
 held_by a p node = option_map (λ rights. (target_of node p, rights)) (rights_at a node p)
 
 abbrev pub node_and_rights_at : Paths → Attributes → Path → Option (Target × Rights)
 node_and_rights_at m a p = option_and_then (held_by a p) (get m p)
 
--- what there is; Missing where there is nothing
+-- the value; Missing if there is none
 abbrev pub or_missing : {A : Type 0} → Option A → Result A TraceFaultKind
 or_missing here = option_map_or Ok here (Err Missing)
 
@@ -111,7 +111,7 @@ size_in sizes file = slice_index_or sizes file 0
 abbrev pub unless_too_large : {A : Type 0} → Bool → A → Result A TraceFaultKind
 unless_too_large large x = if large then Err TooLarge else Ok x
 
--- ---- operations, where their names are legal
+-- ---- operations, if their names are legal
 
 abbrev pub creat : Paths → ℕ → ℕ → Path → Claims → Result Operation TraceFaultKind
 creat m made file p claims =
@@ -136,7 +136,7 @@ unlink m p = and_then (file_at m p) (λ _. Ok (Unlink p))
 abbrev pub rmdir : Paths → Path → Result Operation TraceFaultKind
 rmdir m p = and_then (emptied_at m p) (λ _. Ok (Rmdir p))
 
--- the file of this number stands here
+-- the file of this number is here
 abbrev pub is_path_of : ℕ → Option Node → Bool
 is_path_of file None = false
 is_path_of file (Some Directory) = false
@@ -163,7 +163,7 @@ truncate m sizes p size =
     and_then (file_at m p) (λ file.
     unless_too_large (nat_lt FILE_BYTES size) (Truncate file (size_in sizes file) size))
 
--- a chmod leaves owner and group as they stand, and a chown the permissions
+-- a chmod leaves owner and group as they are, and a chown the permissions
 abbrev pub rights_after : Change → Rights → Rights
 rights_after (Mode permissions) rights = record rights { permissions = permissions }
 rights_after (Owner owner group) rights = record rights { owner = owner; group = group }
@@ -183,7 +183,7 @@ fsync_range m p offset count =
 abbrev pub say : List ℕ → Result Operation TraceFaultKind
 say text = unless_too_large (nat_lt SAY_BYTES (length text)) Say
 
--- ---- with the names judged first
+-- ---- with the names checked first
 
 -- a path that a text spells; one that spells none is BadName
 abbrev pub or_bad_name : Option Path → Result Path TraceFaultKind
@@ -193,8 +193,8 @@ abbrev pub with_path : {A : Type 0}
     → Option Path → (Path → Result A TraceFaultKind) → Result A TraceFaultKind
 with_path path f = and_then (or_bad_name path) f
 
--- the operation of a line, where these paths stand, the files have these sizes, so many records
--- were made, and files and directories have these attributes; or its first fault
+-- the operation of a line, if these are the paths and the sizes of the files, so many records were
+-- made, and files and directories have these attributes; or its first fault
 abbrev pub resolve :
     Paths → List ℕ → ℕ → Attributes → OperationLine → Result Operation TraceFaultKind
 resolve m sizes made a (line.Creat text claims) =
@@ -219,10 +219,10 @@ resolve m sizes made a (line.FsyncRange text offset count) =
 resolve m sizes made a line.Sync = Ok (Sync covers.All)
 resolve m sizes made a (line.Say text) = say text
 
--- ---- where memory may be wanted
+-- ---- when a call may be out of memory
 
--- there is no fault, or one that only what stands shows: it comes after the names are kept, for
--- which memory may be wanted
+-- there is no fault, or one that needs the tree: it comes after the names are copied, which takes
+-- memory
 abbrev pub IsPastNames : {A : Type 0} → Result A TraceFaultKind → Type 0
 IsPastNames (Ok x) = Unit {0}
 IsPastNames (Err Syntax) = ⊥
@@ -231,8 +231,8 @@ IsPastNames (Err BadName) = ⊥
 IsPastNames (Err Memory) = ⊥
 IsPastNames (Err kind) = Unit {0}
 
--- ---- what a reader keeps of what stands
+-- ---- what a reader keeps of the tree
 
--- no path that stands has too many names
+-- no path in the tree has too many names
 abbrev pub AreShort : Paths → Type 0
 AreShort m = (p : Path) (node : Node) → get m p ≡ Some node → length p ≤ TRACE_PATH_NAMES

@@ -20,7 +20,7 @@ abbrev pub rights_of : Claims → Rights
 rights_of claims =
     record { owner = claims.owner; group = claims.group; permissions = claims.permissions }
 
--- the path that a text spells; None where it is not legal
+-- the path that a text spells; None if it is not legal
 abbrev pub path_of : List ℕ → Option Path
 path_of text = result_ok (path_in text)
 
@@ -33,27 +33,27 @@ abbrev pub below_root : Path → Option Path
 below_root [] = None
 below_root (name ∷ names) = Some (name ∷ names)
 
--- the path of an entry; None where it is not legal
+-- the path of an entry; None if it is not legal
 abbrev pub entry_path_of : List ℕ → Option Path
 entry_path_of text = option_and_then below_root (path_of text)
 
--- the path of a new entry, with its owner and its group; None where one of them is not legal
+-- the path of a new entry, with its owner and its group; None if one of them is not legal
 abbrev pub new_path_of : List ℕ → Claims → Option Path
 new_path_of text claims =
     option_and_then (λ p. if are_user_names claims then Some p else None) (entry_path_of text)
 
--- what is set has legal names
+-- the owner and group that a chown sets are legal names; a chmod sets none
 abbrev pub are_set_names : Change → Bool
 are_set_names (Mode permissions) = true
 are_set_names (Owner owner group) = is_user_name owner && is_user_name group
 
--- the path of what is set; None where a name is not legal
+-- the path of a chmod or a chown; None if a name is not legal
 abbrev pub set_path_of : List ℕ → Change → Option Path
 set_path_of text change =
     option_and_then (λ p. if are_set_names change then Some p else None) (path_of text)
 
--- a text that spells a path of so many names, which aren't too many for a directory; none is known
--- to where there are 0 of them
+-- a text that spells a path of so many names, which aren't too many for a directory; with 0 names
+-- the text spells nothing that is known
 abbrev pub MaySpell : ℕ → List ℕ → Path → Type 0
 MaySpell count text p =
     0 < count → (path_of text ≡ Some p) × (count ≡ length p) × (count ≤ TRACE_PATH_NAMES + 1)

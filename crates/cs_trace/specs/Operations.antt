@@ -1,4 +1,4 @@
--- An operation of a trace: where it is legal, and what stands after it.
+-- An operation of a trace: when it is legal, and what is at each path after it.
 use Rattle.std.specs.Prelude.{◌≡◌, ◌≢◌, ◌⊎◌, ◌<◌, ◌≤◌, ℕ, ◌+◌, ◌==◌, List, [], ◌∷◌, ◌++◌, None}
 use Rattle.std.specs.Prelude.{Some, length, max, slice_get, slice_set, fold, if◌then◌else◌}
 use Rattle.std.specs.FinMap.{FinMap, get, insert, remove}
@@ -15,13 +15,13 @@ use Rattle.cs_trace.specs.declared.operation.Operation.TheVariants.{Rmdir, Renam
 use Rattle.cs_trace.specs.declared.operation.Operation.TheVariants.{SetAttr, Sync, Say}
 use Rattle.cs_trace.specs.declared.operation.Target.TheVariants as targets
 
--- what stands at each path
+-- what is at each path
 abbrev pub Paths : Type 0
 Paths = FinMap path_cmp Node
 
 -- ---- what an operation leaves
 
--- what stands at p comes to q
+-- what is at p moves to q
 abbrev pub moved : Path → Path → Paths → Paths
 moved p q m = option_map_or (λ node. insert (remove m p) q node) (get m p) m
 
@@ -54,7 +54,7 @@ made_by (Mkdir p rights) = 1
 made_by (Link p file) = 1
 made_by _ = 0
 
--- ---- where an operation is legal
+-- ---- when an operation is legal
 
 abbrev pub IsDirectoryAt : Paths → Path → Type 0
 IsDirectoryAt m p = get m p ≡ Some Directory
@@ -66,15 +66,15 @@ IsFileAt m p = (file : ℕ) × (get m p ≡ Some (File file))
 abbrev pub IsEmptyAt : Paths → Path → Type 0
 IsEmptyAt m d = (p : Path) → p ≢ [] → parent_path p ≡ d → get m p ≡ None
 
--- a new entry may stand at the path
+-- a new entry may be made at the path
 abbrev pub IsFree : Paths → Path → Type 0
 IsFree m p = (get m p ≡ None) × IsDirectoryAt m (parent_path p)
 
--- a file may come to the path: it is free, or a file's that is replaced
+-- a file may be moved to the path: it is free, or a file's that is replaced
 abbrev pub MayTake : Paths → Path → Type 0
 MayTake m q = ((get m q ≡ None) ⊎ IsFileAt m q) × IsDirectoryAt m (parent_path q)
 
--- the file of the number stands at some path
+-- the file of the number is at some path
 abbrev pub Stands : Paths → ℕ → Type 0
 Stands m file = (p : Path) × (get m p ≡ Some (File file))
 
@@ -86,9 +86,9 @@ HasSize sizes file size = slice_get sizes file ≡ Some size
 abbrev pub IsOctal : Rights → Type 0
 IsOctal rights = rights.permissions ≤ 511
 
--- the operation is legal where these paths stand and the files have these sizes: a new file has the
--- next number, a file that is changed, waited for or gets one more path stands, as does a
--- directory, permissions are three octal digits, and no operation leaves a file that is too large
+-- the operation is legal if these are the paths and the sizes of the files: a new file has the next
+-- number, a file or directory that is changed, waited for or gets one more path is there,
+-- permissions are three octal digits, and no operation leaves a file that is too large
 abbrev pub IsLegal : Paths → List ℕ → Operation → Type 0
 IsLegal m sizes (Creat p file rights) = IsFree m p × (file ≡ length sizes) × IsOctal rights
 IsLegal m sizes (Mkdir p rights) = IsFree m p × IsOctal rights

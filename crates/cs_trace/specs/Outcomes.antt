@@ -1,10 +1,10 @@
--- What a call returns beside what is expected of it, if memory may be wanted; for private clauses.
+-- What a call returns that may be out of memory; for private clauses.
 use Rattle.std.specs.Prelude.{◌≡◌, ◌≢◌, Result, Ok, Err}
 use Rattle.cs_trace.specs.declared.fault.TraceFaultKind.{TraceFaultKind}
 use Rattle.cs_trace.specs.declared.fault.TraceFaultKind.TheVariants.{Memory}
 
--- a call that fails has the expected fault, or wants memory, and that only if the expected result
--- meets May
+-- a call that fails has the expected fault, or is out of memory, and that only if the expected
+-- result meets May
 pub record Fails {A : Type 0} (expected : Result A TraceFaultKind) (kind : TraceFaultKind)
     (May : Result A TraceFaultKind → Type 0) : Type 0 where
   pub fault : kind ≢ Memory → expected ≡ Err kind

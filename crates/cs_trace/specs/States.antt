@@ -1,4 +1,4 @@
--- What the lines of a trace leave, one after another.
+-- The state after the lines of a trace, one after another.
 use Rattle.std.specs.Prelude.{ℕ, ◌+◌, ◌==◌, List, [], ◌∷◌, ◌++◌, length, nat_lt, ◌||◌, Option, Some}
 use Rattle.std.specs.Prelude.{None, if◌then◌else◌, Result, Ok, Err}
 use Rattle.std.specs.FinMap.{empty, get, insert}
@@ -24,10 +24,10 @@ use Rattle.cs_trace.specs.declared.operation.Operation.{Operation as Resolved}
 use Rattle.cs_trace_lines.specs.declared.version.Version.{Version}
 use Rattle.cs_trace_lines.specs.declared.version.Version.TheVariants.{First}
 
--- what the lines so far leave: the version; the entries at the start, the path that each of its
--- files was made at, by their numbers, and the further paths of them with the file's number; what
--- stands now, each file's size by its number, how many records were ever made, and owner, group and
--- permissions of files and directories, where the version asks for them; the operations
+-- the state after the lines so far: the version; the entries at the start, the path that each of
+-- its files was made at, by their numbers, and the further paths of them with the file's number;
+-- what is at each path now, each file's size by its number, how many records were ever made, and
+-- owner, group and permissions of files and directories, if the version needs them; the operations
 pub record State : Type 0 where
   pub version : Version
   pub start : Entries
@@ -92,17 +92,17 @@ with_link s p e = record s {
   made = s.made + 1;
 }
 
--- the root stands in a trace of this version
+-- a trace of this version, with only the root
 abbrev pub after_header : State → Version → Claims → State
 after_header s version claims = with_start (record s { version = version }) [] claims None
 
--- the first line is the header, which tells the version and gives the root
+-- the first line is the header, which sets the version and adds the root
 abbrev pub first_step : State → Line → Result State TraceFaultKind
 first_step s (Header version claims) =
     if are_user_names claims then Ok (after_header s version claims) else Err BadName
 first_step s _ = Err Syntax
 
--- a file or a directory at the start, where its names are legal
+-- a file or a directory at the start, if its names are legal
 abbrev pub start_at : State → Path → Claims → Option (List ℕ) → Result State TraceFaultKind
 start_at s p claims content =
     and_then (free_at s.paths p) (λ _.
@@ -156,7 +156,7 @@ later_step s UnknownOperation = Err UnknownOp
 abbrev pub line_step : State → Line → Result State TraceFaultKind
 line_step s line = if s.made == 0 then first_step s line else later_step s line
 
--- what a line leaves, which may be blank; before the header no version is known, and any is as good
+-- the state after a line, which may be blank; the header is read alike in every version
 abbrev pub step : State → List ℕ → Result State TraceFaultKind
 step s text =
     if is_blank text then Ok s
@@ -169,13 +169,13 @@ abbrev pub at_line : ℕ → Result State TraceFaultKind → Result State TraceF
 at_line number (Ok s) = Ok s
 at_line number (Err kind) = Err (record { line = number; kind = kind })
 
--- what these lines leave, the first of which has that number; or the first line's fault
+-- the state after these lines, the first of which has that number; or the first fault
 abbrev pub state_from : State → ℕ → List (List ℕ) → Result State TraceFault
 state_from s number [] = Ok s
 state_from s number (text ∷ lines) =
     and_then (at_line number (step s text)) (λ next. state_from next (number + 1) lines)
 
--- what a trace's lines leave
+-- the state after a trace's lines
 abbrev pub state_in : List (List ℕ) → Result State TraceFault
 state_in lines = state_from empty_state 1 lines
 

@@ -36,11 +36,11 @@ pub record Trace : Type 0 where
 
 -- ---- the start
 
--- each record's path with what stands there
+-- each record's path with the file or directory there
 abbrev pub paths_of_records : List (Path × Record) → List Node → Paths
 paths_of_records records nodes = from_entries (zip (map (λ e. e.0) records) nodes)
 
--- what stands at each path at the start
+-- what is at each path at the start
 abbrev pub start_paths : Trace → Paths
 start_paths t = paths_of_records t.records t.nodes
 
@@ -78,13 +78,13 @@ abbrev pub IsNodeOf : Node → Record → Type 0
 IsNodeOf Directory r = r.content ≡ None
 IsNodeOf (File file) r = (bytes : List ℕ) × (r.content ≡ Some bytes)
 
--- each node is what the record beside it is
+-- each node is what the record at its place is
 abbrev pub AreNodesOf : List Node → List (Path × Record) → Type 0
 AreNodesOf nodes records =
     (n : ℕ) (node : Node) (e : Path × Record)
     → slice_get nodes n ≡ Some node → slice_get records n ≡ Some e → IsNodeOf node e.1
 
--- what stands at a path, beside its record
+-- what is at a path, and its record
 abbrev pub StandsAs : Option Node → Option Record → Type 0
 StandsAs None None = Unit {0}
 StandsAs (Some node) (Some r) = IsNodeOf node r
@@ -110,13 +110,13 @@ pub record IsPathOf (t : Trace) (file : ℕ) (p : Path) : Type 0 where
   pub at : slice_get t.files file ≡ Some own
   pub alike : AreAlikeAt (record_in t.records p) (record_in t.records own)
 
--- each of these paths has the file of the number beside it
+-- each of these paths is one of the file of its number
 abbrev pub AreLinks : Paths → List (Path × ℕ) → Type 0
 AreLinks m links =
     (n : ℕ) (link : Path × ℕ) → slice_get links n ≡ Some link → get m link.0 ≡ Some (File link.1)
 
 -- a trace that was read: its start is a tree, whose records nobody changed, in the order of their
--- paths and numbered from 0; what stands there is what the records are; the n-th path of a file has
+-- paths and numbered from 0; the nodes are what the records are; the n-th path of a file has
 -- the file of that number, and each other path of it has a record like its own; each operation is
 -- legal in what the ones before it leave; and no limit is passed
 pub record IsTrace (t : Trace) : Type 0 where
@@ -137,7 +137,7 @@ pub record IsTrace (t : Trace) : Type 0 where
 
 -- ---- the trace of a text
 
--- what the lines leave, as a trace
+-- the state after the lines, as a trace
 abbrev pub trace_of_state : State → Trace
 trace_of_state s = record {
   records = records_in s.start;
@@ -159,9 +159,9 @@ trace_by lines = and_then (state_in lines) trace_of
 unfoldable pub trace_in : List ℕ → Result Trace TraceFault
 trace_in text = trace_by (lines_in text)
 
--- memory may be wanted at the line of that number: it is one of the lines, those before it have no
--- fault, and it isn't blank, unless it is the last, the whole has no fault, and only the records
--- are left to keep
+-- reading may be out of memory at the line of that number: it is one of the lines, those before it
+-- have no fault, and it isn't blank, unless it is the last, the whole has no fault, and only the
+-- records have still to be made
 pub record MayWant (lines : List (List ℕ)) (number : ℕ) : Type 0 where
   pub above : 0 < number
   pub among : number ≤ length lines

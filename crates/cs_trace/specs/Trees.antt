@@ -1,4 +1,4 @@
--- The tree that lines make: what stood at each path at the start, and what stands there now.
+-- The tree that lines make: what was at each path at the start, and what is there now.
 use Rattle.std.specs.Prelude.{Option, None, Some, refl}
 use Rattle.std.specs.Coded.{Coded, code_by, coded×}
 use Rattle.std.specs.FinMap.{empty, insert}
@@ -21,7 +21,7 @@ tree_code = code_by
     (λ p. record { start = p.0; nodes = p.1 })
     (λ _. refl)
 
--- what stands now; as long as nothing changed, what stood at the start
+-- what is at each path now; as long as nothing changed, what was there at the start
 abbrev pub nodes_by : Entries → Option Paths → Paths
 nodes_by start None = map_values node_of start
 nodes_by start (Some now) = now

@@ -1,4 +1,4 @@
-//! Owner, group and permissions of what stands while a trace is read.
+//! Owner, group and permissions of the files and directories while a trace is read.
 ghost use Rattle.std.specs.Prelude.{◌≡◌, ◌∷◌, ◌++◌, [], IfOk, OnOk, option_map, slice_set};
 ghost use Rattle.std.specs.FinMap as map;
 ghost use Rattle.cs_trace.specs.Attributes.{attributes_after, no_attributes, rights_at};
@@ -11,13 +11,14 @@ use std::alloc::{AllocError, Global};
 use std::collections::BTreeMap;
 use std::marker::Model;
 
-/// Those of the last directory at each path. Contracts see a finite map, in the order of paths.
+/// Owner, group and permissions of the last directory at each path. Contracts see a finite map, in
+/// the order of paths.
 #[derive(Drop)]
 pub(crate) struct Directories {
     by_path: BTreeMap<Path, Rights>,
 }
 
-/// Those of each file and of each directory.
+/// Owner, group and permissions of each file and of each directory.
 #[derive(Drop)]
 pub(crate) struct Attributes {
     /// Each file's, by its number.
@@ -37,6 +38,7 @@ impl Model for Directories {
 }
 
 impl Directories {
+    /// The rights of no directory.
     fn new(alloc: Global) -> Directories
         ensures { result ≡ map.empty }
     {
@@ -45,12 +47,14 @@ impl Directories {
         }
     }
 
+    /// The rights of the last directory at the path. It takes no memory.
     fn get(&self, path: &Path) -> Option<&Rights>
         ensures { option_map (λ rights. rights.now) result ≡ map.get self.now path.now }
     {
         self.by_path.get(path)
     }
 
+    /// Sets the rights of the directory at the path, in place of those that were there.
     fn insert(&mut self, path: Path, rights: Rights) -> Result<(), AllocError>
         ensures { OnOk result (self.new ≡ map.insert self.old path rights) }
     {
@@ -59,7 +63,7 @@ impl Directories {
     }
 }
 
-/// These rights in place of those of the file of that number.
+/// Sets the rights of the file of that number. If there is no such file, nothing changes.
 fn set_file(files: &mut [Rights], file: u32, rights: Rights)
     ensures { files.new ≡ slice_set files.old file rights }
 {
@@ -70,7 +74,7 @@ fn set_file(files: &mut [Rights], file: u32, rights: Rights)
 }
 
 impl Attributes {
-    /// Where nothing stands.
+    /// Those of no file and no directory.
     pub(crate) fn new(alloc: Global) -> Attributes
         ensures { attributes_of result ≡ no_attributes }
     {
@@ -80,7 +84,7 @@ impl Attributes {
         }
     }
 
-    /// A new file has the next number.
+    /// Adds a file, which gets the next number.
     fn add_file(&mut self, rights: Rights) -> Result<(), AllocError>
         ensures { OnOk result (attributes_of self.new ≡ with_file (attributes_of self.old) rights) }
     {
@@ -88,7 +92,7 @@ impl Attributes {
         Ok(())
     }
 
-    /// A directory stands at the path.
+    /// Sets the rights of the directory at the path, in place of those that were there.
     fn set_directory(&mut self, path: Path, rights: Rights) -> Result<(), AllocError>
         ensures { OnOk result
             (attributes_of self.new ≡ with_directory (attributes_of self.old) path rights) }
@@ -96,7 +100,8 @@ impl Attributes {
         self.directories.insert(path, rights)
     }
 
-    /// One entry more: a file, or a directory at the path.
+    /// Adds the rights of a new entry: of a file, which gets the next number, or of a directory at
+    /// the path.
     pub(crate) fn add(
         &mut self,
         alloc: Global,
@@ -114,7 +119,7 @@ impl Attributes {
         }
     }
 
-    /// Those of what stands at the path. It takes no memory.
+    /// The rights of this file or directory, which is at the path. It takes no memory.
     pub(crate) fn rights(&self, node: Node, path: &Path) -> Option<&Rights>
         ensures { option_map (λ rights. rights.now) result
             ≡ rights_at (attributes_of self.now) node path.now }
@@ -125,7 +130,7 @@ impl Attributes {
         }
     }
 
-    /// Those after the operation.
+    /// Applies the operation: it adds or sets rights, or leaves them as they are.
     pub(crate) fn change(&mut self, alloc: Global, operation: &Operation) -> Result<(), AllocError>
         ensures { OnOk result (attributes_of self.new
             ≡ attributes_after (attributes_of self.old) operation.now) }

@@ -1,4 +1,4 @@
-//! The files at the start by their paths.
+//! The files and directories at the start, by their paths.
 ghost use Rattle.std.specs.Prelude.{◌≡◌, IfOk, OnOk};
 ghost use Rattle.std.specs.FinMap as map;
 ghost use Rattle.std.specs.Option.{is_some, option_map};
@@ -16,7 +16,8 @@ use std::collections::BTreeMap;
 use std::marker::Model;
 use std::ops::Bound;
 
-/// What stands at each path. Contracts see a finite map, in the order of paths.
+/// The file or directory at each path at the start. Contracts see a finite map, in the order of
+/// paths.
 #[derive(Drop)]
 pub(crate) struct Entries {
     by_path: BTreeMap<Path, StartFile>,
@@ -34,6 +35,7 @@ impl Model for Entries {
 }
 
 impl Entries {
+    /// No file and no directory.
     pub(crate) fn new(alloc: Global) -> Entries
         ensures { result ≡ map.empty }
     {
@@ -49,7 +51,7 @@ impl Entries {
         self.by_path.get(path)
     }
 
-    /// What stands at the path. It takes no memory.
+    /// Whether a file or a directory is at the path, and which. It takes no memory.
     pub(crate) fn get(&self, path: &Path) -> Option<Node>
         ensures { result ≡ option_map node_of (map.get self.now path.now) }
     {
@@ -59,7 +61,7 @@ impl Entries {
         }
     }
 
-    /// Whether something stands below the path: it would come right after it. It takes no memory.
+    /// Whether something is below the path: it would come right after it. It takes no memory.
     pub(crate) fn has_below(&self, path: &Path) -> bool
         ensures { result ≡ has_below (map_values node_of self.now) path.now }
     {
@@ -73,7 +75,7 @@ impl Entries {
         }
     }
 
-    /// What stands at each path.
+    /// Copies the map, without what only the start has.
     pub(crate) fn nodes(&self, alloc: Global) -> Result<Standing, AllocError>
         ensures { IfOk result (λ standing. standing ≡ map_values node_of self.now) }
     {
@@ -84,7 +86,7 @@ impl Entries {
         Ok(standing)
     }
 
-    /// The entry stands at the path. It answers whether something stood there before.
+    /// Puts the entry at the path, and returns whether another was there before.
     pub(crate) fn insert(&mut self, path: Path, entry: StartFile) -> Result<bool, AllocError>
         ensures stood { IfOk result (λ stood. stood ≡ is_some (map.get self.old path)) }
         ensures state { OnOk result (self.new ≡ map.insert self.old path entry) }
@@ -93,7 +95,7 @@ impl Entries {
         Ok(before.is_some())
     }
 
-    /// The records in the order of their paths, with fresh numbers; and what each of them is.
+    /// The records in the order of their paths, numbered from 0, and the file or directory of each.
     pub(crate) fn into_parts(
         self,
         alloc: Global,

@@ -1,4 +1,4 @@
-//! What stands at a path at the start.
+//! The file or directory at a path at the start.
 ghost use Rattle.std.specs.Prelude.{◌≡◌, ◌≤◌, IfOk};
 ghost use Rattle.cs_tree_model.specs.Fresh.{fresh_record};
 ghost use Rattle.cs_trace.specs.Entries.{file_mode, node_of, record_of};
@@ -16,6 +16,7 @@ pub(crate) struct StartFile {
     pub(crate) content: Content,
 }
 
+/// The mode of a record: the permissions, with a directory's bit above them.
 fn file_mode(content: &Content, permissions: u16) -> u32
     ensures { result ≡ file_mode content.now permissions }
 {
@@ -26,6 +27,7 @@ fn file_mode(content: &Content, permissions: u16) -> u32
 }
 
 impl StartFile {
+    /// The entry without its rights and its bytes: a directory, or a file by its number.
     pub(crate) fn node(&self) -> Node
         ensures { result ≡ node_of self.now }
     {
@@ -46,7 +48,7 @@ impl StartFile {
         })
     }
 
-    /// The record that nobody changed yet, with that number.
+    /// The entry as a record of that number that nobody has changed yet.
     pub(crate) fn into_record(self, number: u64) -> Result<Record, AllocError>
         ensures { IfOk result (λ fresh. fresh ≡ fresh_record number (record_of self)) }
     {

@@ -10,28 +10,28 @@ use std::fmt;
 /// this order.
 #[derive(Clone, Copy, Debug, PartialEq, Eq)]
 pub enum TraceFaultKind {
-    /// No line of this form, or not at this place.
+    /// No line has this form, or none may have it at this place.
     Syntax,
-    /// The line's operation, or its kind of start, is none that is known.
+    /// The operation, or the kind of start line, is unknown.
     UnknownOp,
     /// A path, or the name of an owner or a group, is not legal.
     BadName,
-    /// Nothing stands at the path's directory.
+    /// There is nothing at the path of the directory.
     NoParent,
-    /// A file stands at the path's directory, or where a directory is to be removed.
+    /// A file is at the path of the directory, or of a directory that is to be removed.
     NotDir,
-    /// Something stands at the path.
+    /// Something is at the path.
     Exists,
-    /// Nothing stands at the path.
+    /// Nothing is at the path.
     Missing,
-    /// A directory stands at the path.
+    /// A directory is at the path.
     NotFile,
-    /// Something stands in the directory.
+    /// Something is in the directory.
     NotEmpty,
     /// A path of too many names, too many files, a file of too many bytes, or a text that is too
     /// long.
     TooLarge,
-    /// No memory to keep what the line says.
+    /// Out of memory.
     Memory,
 }
 
@@ -66,8 +66,8 @@ impl From<AllocError> for TraceFaultKind {
 /// The first fault of a trace.
 #[derive(Clone, Copy, Debug, PartialEq, Eq)]
 pub struct TraceFault {
-    /// The line at fault, counted from 1, blank lines among the rest; where memory was wanted, the
-    /// line that was reached.
+    /// The line at fault, counted from 1, with blank lines. If memory ran out, the line that was
+    /// being read.
     pub line: usize,
     /// What is wrong with it.
     pub kind: TraceFaultKind,

@@ -1,4 +1,4 @@
-//! What an operation needs of what stands, and the limits of a trace.
+//! What an operation needs of the files and directories that are there, and the limits of a trace.
 ghost use Rattle.std.specs.Prelude.{◌≡◌, ◌||◌, length, nat_le, nat_lt};
 ghost use Rattle.cs_names.specs.declared.limits.TheConstants.{TRACE_PATH_NAMES, TREE_RECORDS};
 ghost use Rattle.cs_tree_model.specs.Tree.{parent_path};
@@ -11,7 +11,7 @@ use crate::tree::Tree;
 use cs_names::Path;
 use cs_names::limits::{FILE_BYTES, TRACE_PATH_NAMES, TREE_RECORDS};
 
-/// The number of the file that stands at the path.
+/// The number of the file at the path.
 pub(crate) fn file_at(tree: &Tree, path: &Path) -> Result<u32, TraceFaultKind>
     ensures { result ≡ file_at tree.now.nodes path.now }
 {
@@ -22,7 +22,7 @@ pub(crate) fn file_at(tree: &Tree, path: &Path) -> Result<u32, TraceFaultKind>
     }
 }
 
-/// Whether a new entry may stand at the path, in the directory above.
+/// Whether a new entry may be made at the path, in the directory above. If not, why.
 pub(crate) fn check_free(tree: &Tree, above: &Path, path: &Path) -> Result<(), TraceFaultKind>
     requires { above.now ≡ parent_path path.now }
     ensures { result ≡ free_at tree.now.nodes path.now }
@@ -35,7 +35,8 @@ pub(crate) fn check_free(tree: &Tree, above: &Path, path: &Path) -> Result<(), T
     }
 }
 
-/// Whether a file may come to the path, over a file that stands there, in the directory above.
+/// Whether a file may be moved to the path, over a file that is there, in the directory above. If
+/// not, why.
 pub(crate) fn check_target(tree: &Tree, above: &Path, path: &Path) -> Result<(), TraceFaultKind>
     requires { above.now ≡ parent_path path.now }
     ensures { result ≡ target_at tree.now.nodes path.now }
@@ -48,7 +49,7 @@ pub(crate) fn check_target(tree: &Tree, above: &Path, path: &Path) -> Result<(),
     }
 }
 
-/// Whether an empty directory stands at the path.
+/// Whether an empty directory is at the path. If not, why.
 pub(crate) fn check_emptied(tree: &Tree, path: &Path) -> Result<(), TraceFaultKind>
     ensures { result ≡ emptied_at tree.now.nodes path.now }
 {
@@ -60,7 +61,7 @@ pub(crate) fn check_emptied(tree: &Tree, path: &Path) -> Result<(), TraceFaultKi
     }
 }
 
-/// Whether the file of that number is what stands there.
+/// Whether the node is the file of that number.
 pub(crate) fn is_path_of(file: u32, node: Option<Node>) -> bool
     ensures { result ≡ is_path_of file node }
 {
@@ -77,14 +78,15 @@ pub(crate) fn are_too_many(names: usize) -> bool
     names > TRACE_PATH_NAMES
 }
 
-/// Whether one record more at a path of so many names goes past a limit, after so many.
+/// Whether a limit forbids one record more, after `made`, at a path of so many names.
 pub(crate) fn is_too_much(made: usize, names: usize) -> bool
     ensures { result ≡ (nat_lt TRACE_PATH_NAMES names || nat_le TREE_RECORDS made) }
 {
     are_too_many(names) || made >= TREE_RECORDS
 }
 
-/// Whether a write of these bytes ends above the greatest size. One of no byte never does.
+/// Whether a write of these bytes ends above the greatest size of a file. A write of no byte never
+/// does.
 pub(crate) fn ends_above(offset: u64, bytes: &[u8]) -> bool
     ensures { result ≡ ends_above offset bytes.now }
 {
@@ -92,7 +94,7 @@ pub(crate) fn ends_above(offset: u64, bytes: &[u8]) -> bool
     count > 0 && (offset > FILE_BYTES || count > FILE_BYTES - offset)
 }
 
-/// The size of the file of that number.
+/// The size of the file of that number; 0 if there is none.
 pub(crate) fn size_in(sizes: &[u64], file: u32) -> u64
     ensures { result ≡ size_in sizes.now file }
 {

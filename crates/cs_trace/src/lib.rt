@@ -1,4 +1,4 @@
-//! The trace of a storage application: the files that stand at its start, and its operations.
+//! The trace of a storage application: the files and directories at its start, and its operations.
 #![tactic(auto)]
 
 mod attributes;

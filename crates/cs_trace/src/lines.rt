@@ -17,7 +17,7 @@ use crate::state::LinesSoFar;
 use cs_trace_lines::{Line, LineFault, OperationLine, Version, is_blank, read_line};
 use std::alloc::Global;
 
-/// What a line that isn't blank says.
+/// What a line that isn't blank says by itself.
 fn read(alloc: Global, version: Version, text: &str) -> Result<Line, TraceFaultKind>
     ensures read { IfOk result (λ line. line_in version text.now ≡ Some (line_value line)) }
     ensures fault { IfErr result (λ kind. kind ≢ Memory → kind ≡ Syntax) }
@@ -30,7 +30,7 @@ fn read(alloc: Global, version: Version, text: &str) -> Result<Line, TraceFaultK
     }
 }
 
-/// An operation after the header.
+/// Applies the line of an operation.
 fn take_operation(
     alloc: Global,
     state: &mut LinesSoFar,
@@ -42,11 +42,11 @@ fn take_operation(
         result (state_of state.new) IsPastNames }
 {
     let operation = resolve(alloc, state, line)?;
-    state.take(alloc, operation)?;
+    state.apply(alloc, operation)?;
     Ok(())
 }
 
-/// The first line that isn't blank, which is the header.
+/// Applies the first line that isn't blank, which must be the header.
 fn take_first(alloc: Global, state: &mut LinesSoFar, line: Line) -> Result<(), TraceFaultKind>
     requires { IsBounded (state_of state.old) }
     ensures { Leaves
@@ -59,7 +59,8 @@ fn take_first(alloc: Global, state: &mut LinesSoFar, line: Line) -> Result<(), T
     }
 }
 
-/// A line after the header that isn't blank: first those of the start, and then operations.
+/// Applies a line after the header that isn't blank. Once there is an operation, a start line is
+/// Syntax.
 fn take_later(alloc: Global, state: &mut LinesSoFar, line: Line) -> Result<(), TraceFaultKind>
     requires { IsBounded (state_of state.old) }
     ensures { Leaves
@@ -80,7 +81,7 @@ fn take_later(alloc: Global, state: &mut LinesSoFar, line: Line) -> Result<(), T
     }
 }
 
-/// One line more.
+/// Applies the next line. A blank one changes nothing.
 fn take(alloc: Global, state: &mut LinesSoFar, text: &str) -> Result<(), TraceFaultKind>
     requires { IsBounded (state_of state.old) }
     ensures { Leaves
@@ -98,7 +99,7 @@ fn take(alloc: Global, state: &mut LinesSoFar, text: &str) -> Result<(), TraceFa
     }
 }
 
-/// What all lines of the text leave.
+/// The state after all lines of the text, or the first fault with the number of its line.
 pub(crate) fn take_lines(alloc: Global, text: &str) -> Result<LinesSoFar, TraceFault>
     ensures done { IfOk result (λ state. state_in (lines_in text.now) ≡ Ok (state_of state)) }
     ensures fault { IfErr result (λ fault. fault.kind ≢ Memory
@@ -115,6 +116,7 @@ pub(crate) fn take_lines(alloc: Global, text: &str) -> Result<LinesSoFar, TraceF
     Ok(state)
 }
 
+/// How many lines the text has, blank ones too. An empty text has one.
 pub(crate) fn line_count(text: &str) -> usize
     ensures { result ≡ length (lines_in text.now) }
 {

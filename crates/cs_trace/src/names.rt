@@ -1,4 +1,4 @@
-//! The names of users and groups in a line: judged without memory, and kept.
+//! The names of users and groups in a line: checked without taking memory, and copied.
 ghost use Rattle.std.specs.Prelude.{◌≡◌, IfOk};
 ghost use Rattle.cs_trace.specs.Names.{are_set_names, are_user_names, is_user_name};
 ghost use Rattle.cs_trace_lines.specs.Said.{change_value, claims_of};
@@ -7,19 +7,21 @@ use cs_names::UserName;
 use cs_trace_lines::{Change, Claims};
 use std::alloc::{AllocError, Global};
 
+/// Whether the text is the legal name of a user or a group. It takes no memory.
 fn is_user_name(text: &str) -> bool
     ensures { result ≡ is_user_name text.now }
 {
     UserName::check(text.as_bytes()).is_ok()
 }
 
+/// Whether both the owner and the group of a line have legal names.
 pub(crate) fn are_user_names(claims: &Claims) -> bool
     ensures { result ≡ are_user_names (claims_of claims.now) }
 {
     is_user_name(&claims.owner) && is_user_name(&claims.group)
 }
 
-/// Whether what is set has legal names.
+/// Whether the owner and the group that a chown sets have legal names. A chmod sets none.
 pub(crate) fn are_set_names(change: &Change) -> bool
     ensures { result ≡ are_set_names (change_value change.now) }
 {
@@ -29,7 +31,8 @@ pub(crate) fn are_set_names(change: &Change) -> bool
     }
 }
 
-/// The name of a user or a group that is known to be legal.
+/// A copy of the name of a user or a group, which the caller has checked. One that isn't legal is
+/// refused as out of memory.
 pub(crate) fn keep_user_name(alloc: Global, text: &str) -> Result<UserName, AllocError>
     ensures { IfOk result (λ name. name ≡ text.now) }
 {

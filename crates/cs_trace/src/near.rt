@@ -1,4 +1,5 @@
-//! The directory of a start line, with the text that spells it, for the lines after it.
+//! The directory of the last start line, with the text that spells it. Most often the next line's
+//! path is in it, too, and isn't checked again.
 ghost use Rattle.std.specs.Prelude.{◌≡◌, ◌<◌, ℕ, List, IfOk, IfSome, Some, length};
 ghost use Rattle.cs_tree_model.specs.Tree.{parent_path};
 ghost use Rattle.cs_trace.specs.Names.{entry_path_of, path_of};
@@ -12,9 +13,9 @@ use std::marker::Model;
 #[derive(Drop)]
 pub(crate) struct Near {
     path: Path,
-    /// What spells it; none of the root.
+    /// The text that spells it; empty for the root.
     text: String,
-    /// How many names that has; 0 where there is none.
+    /// How many names it has; 0 if the text isn't known.
     count: usize,
 }
 
@@ -29,7 +30,7 @@ impl Model for Near {
     ghost invariant = { λ near. MaySpell near.count (string_bytes near.text) near.path };
 }
 
-/// The path before the last name of a text that spells one; None of an entry of the root.
+/// The text of the directory of the path that this text spells; None for an entry of the root.
 fn text_above<'a>(text: &'a str) -> Option<PathText<'a>>
     ensures above { IfSome result (λ above. (p : List (List ℕ))
         → path_of text.now ≡ Some p → above ≡ parent_path p) }
@@ -43,7 +44,7 @@ fn text_above<'a>(text: &'a str) -> Option<PathText<'a>>
 }
 
 impl Near {
-    /// The directory of the path, which the text spells.
+    /// The directory of the path. The text spells the path, not the directory.
     pub(crate) fn above(alloc: Global, path: &Path, text: &PathText<'_>) -> Result<Near, AllocError>
         requires { text.now ≡ path.now }
         ensures { IfOk result (λ near. near ≡ parent_path path.now) }
@@ -63,14 +64,15 @@ impl Near {
         }
     }
 
+    /// The path of the directory.
     pub(crate) fn path(&self) -> &Path
         ensures { result.now ≡ self.now }
     {
         &self.path
     }
 
-    /// The path of an entry that the text spells with the directory in front, of which the last
-    /// name alone is judged. None of other texts, which are to be judged whole.
+    /// The path that the text spells, if it begins with the text of the directory. Then only its
+    /// last name is checked. None for any other text, which must be checked whole.
     pub(crate) fn entry<'a>(&self, text: &'a str) -> Option<PathText<'a>>
         ensures { IfSome result (λ path. entry_path_of text.now ≡ Some path) }
     {
@@ -80,7 +82,7 @@ impl Near {
         let rest = text.as_bytes().strip_prefix(self.text.as_bytes())?;
         let name = rest.strip_prefix(b"/".as_slice())?;
         match Name::check(name) {
-            Ok(_) => Some(PathText::known(text, self.count + 1)),
+            Ok(_) => Some(PathText::of_checked(text, self.count + 1)),
             Err(_) => None,
         }
     }

@@ -1,4 +1,4 @@
-//! The operations of a trace, with the files that they name found.
+//! The operations of a trace. A file is named by its number instead of its path.
 ghost use Rattle.std.specs.Prelude.{◌≡◌, IfOk};
 ghost use Rattle.cs_trace.specs.Attributes.{target_of};
 ghost use Rattle.cs_trace.specs.Judging.{rights_after};
@@ -10,7 +10,7 @@ use cs_names::{Bytes, Path, UserName};
 use cs_trace_lines::{Change, Claims};
 use std::alloc::{AllocError, Global};
 
-/// What stands at a path.
+/// What is at a path.
 #[derive(Clone, Copy, Debug, PartialEq, Eq)]
 pub enum Node {
     Directory,
@@ -19,7 +19,7 @@ pub enum Node {
     File(u32),
 }
 
-/// Who has a file, and what they and others may do with it.
+/// Owner, group and permissions of a file or a directory.
 #[derive(Debug, Drop, PartialEq)]
 pub struct Rights {
     pub owner: UserName,
@@ -56,7 +56,7 @@ pub enum Target {
     Directory(Path),
 }
 
-/// An operation of a trace. A file that stands is told by its number, and an entry by its path.
+/// An operation of a trace. It names a file by its number, and an entry of a directory by its path.
 #[derive(Debug, Drop, PartialEq)]
 pub enum Operation {
     /// A new file without a byte, with the next number.
@@ -83,13 +83,14 @@ pub enum Operation {
     Rmdir {
         path: Path,
     },
-    /// A file's entry is moved, over a file that stands there. With one path for both nothing
-    /// changes. A rename onto another path of the same file is read as one of that path to itself.
+    /// A file's entry is moved and replaces a file that is there. If both paths are one, nothing
+    /// changes. A rename onto another path of the same file is read as a rename of that path to
+    /// itself.
     Rename {
         from: Path,
         to: Path,
     },
-    /// Bytes are written from an offset on. With no byte nothing changes, wherever the offset is.
+    /// Bytes are written from an offset on. A write of no byte changes nothing at any offset.
     Write {
         file: u32,
         /// The file's size before it.
@@ -108,19 +109,19 @@ pub enum Operation {
     /// Owner, group and permissions are set.
     SetAttr {
         target: Target,
-        /// As they stand before it.
+        /// As they are before it.
         before: Rights,
-        /// As they stand after it.
+        /// As they are after it.
         after: Rights,
     },
     /// An fsync of a file or of a part of it, or a sync of everything.
     Sync(Covers),
-    /// A text that the application tells its users.
+    /// A text that the application acknowledges to its users.
     Say,
 }
 
 impl Rights {
-    /// The rights that legal names claim.
+    /// The rights that a line claims. The caller has checked its names.
     pub(crate) fn keep(alloc: Global, claims: &Claims) -> Result<Rights, AllocError>
         ensures { IfOk result (λ rights. rights ≡ rights_of (claims_of claims.now)) }
     {
@@ -142,8 +143,9 @@ impl Rights {
         })
     }
 
-    /// The rights with other permissions, or with an owner and a group whose names are legal.
-    pub(crate) fn changed(&self, alloc: Global, change: &Change) -> Result<Rights, AllocError>
+    /// These rights with other permissions, or with another owner and group. The caller has checked
+    /// their names.
+    pub(crate) fn with_change(&self, alloc: Global, change: &Change) -> Result<Rights, AllocError>
         ensures { IfOk result (λ rights. rights ≡ rights_after (change_value change.now) self.now) }
     {
         let mut rights = self.try_clone()?;
@@ -159,7 +161,7 @@ impl Rights {
 }
 
 impl Target {
-    /// What stands at the path.
+    /// The target of a chmod or a chown of this node, which is at the path.
     pub(crate) fn of(node: Node, path: Path) -> Target
         ensures { result ≡ target_of node path }
     {

@@ -1,4 +1,4 @@
-//! A path that a line spells: judged without memory, and kept.
+//! A path that a line spells: checked without taking memory, and copied.
 ghost use Rattle.std.specs.Prelude.{◌≡◌, ◌≢◌, ◌<◌, ◌+◌, ◌↔◌, IfErr, IfOk, IsTrue, Some, length};
 ghost use Rattle.cs_names.specs.declared.limits.TheConstants.{TRACE_PATH_NAMES};
 ghost use Rattle.cs_trace.specs.Names.{entry_path_of, path_of, spelled_path};
@@ -30,7 +30,7 @@ impl<'a> Model for PathText<'a> {
 }
 
 impl<'a> PathText<'a> {
-    /// The path that the text spells.
+    /// The path that the text spells; None if it spells none.
     pub(crate) fn of(text: &'a str) -> Option<PathText<'a>>
         ensures { result ≡ path_of text.now }
     {
@@ -40,7 +40,7 @@ impl<'a> PathText<'a> {
         }
     }
 
-    /// The same of a path that has a name.
+    /// The path that the text spells, unless it is the root, which is no entry.
     pub(crate) fn of_entry(text: &'a str) -> Option<PathText<'a>>
         ensures { result ≡ entry_path_of text.now }
     {
@@ -51,8 +51,8 @@ impl<'a> PathText<'a> {
         Some(path)
     }
 
-    /// The path of a text that is known to spell one of so many names.
-    pub(crate) fn known(text: &'a str, count: usize) -> PathText<'a>
+    /// The path of a text that is known to spell one, with so many names. It isn't checked again.
+    pub(crate) fn of_checked(text: &'a str, count: usize) -> PathText<'a>
         requires legal { path_of text.now ≡ Some (spelled_path text.now) }
         requires count { count ≡ length (spelled_path text.now) }
         ensures { result ≡ spelled_path text.now }
@@ -60,34 +60,36 @@ impl<'a> PathText<'a> {
         PathText { text, count }
     }
 
+    /// The text that spells the path.
     pub(crate) fn text(&self) -> &'a str
         ensures { path_of result.now ≡ Some self.now }
     {
         self.text
     }
 
+    /// How many names the path has; 0 for the root.
     pub(crate) fn len(&self) -> usize
         ensures { result ≡ length self.now }
     {
         self.count
     }
 
-    /// The path, kept.
+    /// A path of its own, made from the text.
     pub(crate) fn keep(&self, alloc: Global) -> Result<Path, AllocError>
         ensures { IfOk result (λ path. path ≡ self.now) }
     {
         Path::keep(alloc, self.text)
     }
 
-    /// Whether no path of a trace's tree, or of a directory of it, has so many names.
+    /// Whether neither a path of a trace's tree, nor one in a directory of it, has so many names.
     pub(crate) fn is_long(&self) -> bool
         ensures { IsTrue result ↔ (TRACE_PATH_NAMES + 1 < length self.now) }
     {
         self.len() > TRACE_PATH_NAMES + 1
     }
 
-    /// A path that may be in a trace's tree, or in a directory of it, kept. A longer one has this
-    /// fault, and takes no memory.
+    /// A path of its own, made from the text, unless it is too long for a path or a directory of a
+    /// trace's tree. Such a path has this fault, and takes no memory.
     pub(crate) fn keep_or(
         &self,
         alloc: Global,

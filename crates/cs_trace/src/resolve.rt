@@ -1,5 +1,5 @@
-//! An operation's line in what stands: its paths are judged, then kept, and then what it needs is
-//! asked.
+//! From the line of an operation to the operation: its paths are checked, then copied, and then
+//! looked up in the tree.
 ghost use Rattle.std.specs.Prelude.{◌≡◌, ◌<◌, ◌^◌, length};
 ghost use Rattle.cs_trace.specs.Judging.{AreShort, IsPastNames, creat, fsync, fsync_range};
 ghost use Rattle.cs_trace.specs.Judging.{or_bad_name, link, mkdir, rename, resolve, rmdir, say};
@@ -24,21 +24,21 @@ use cs_names::{Bytes, Path};
 use cs_trace_lines::{Change, Claims, OperationLine};
 use std::alloc::Global;
 
-/// A path, which may be the root's.
+/// The path that the text spells, which may be the root. A text that spells none is BadName.
 fn any_path(text: &str) -> Result<PathText<'_>, TraceFaultKind>
     ensures { result ≡ or_bad_name (path_of text.now) }
 {
     PathText::of(text).ok_or(TraceFaultKind::BadName)
 }
 
-/// The path of an entry.
+/// The path that the text spells. The root, and a text that spells none, are BadName.
 pub(crate) fn entry_path(text: &str) -> Result<PathText<'_>, TraceFaultKind>
     ensures { result ≡ or_bad_name (entry_path_of text.now) }
 {
     PathText::of_entry(text).ok_or(TraceFaultKind::BadName)
 }
 
-/// The path of a new entry, whose owner and group are judged with it.
+/// The path of a new entry. If the path, the owner or the group isn't legal, it is BadName.
 pub(crate) fn new_path<'a>(text: &'a str, claims: &Claims) -> Result<PathText<'a>, TraceFaultKind>
     ensures { result ≡ or_bad_name (new_path_of text.now (claims_of claims.now)) }
 {
@@ -49,7 +49,7 @@ pub(crate) fn new_path<'a>(text: &'a str, claims: &Claims) -> Result<PathText<'a
     Ok(path)
 }
 
-/// The path of what is set, whose names are judged with it.
+/// The path of a chmod or a chown. If the path, the owner or the group isn't legal, it is BadName.
 fn set_path<'a>(text: &'a str, change: &Change) -> Result<PathText<'a>, TraceFaultKind>
     ensures { result ≡ or_bad_name (set_path_of text.now (change_value change.now)) }
 {
@@ -60,6 +60,7 @@ fn set_path<'a>(text: &'a str, change: &Change) -> Result<PathText<'a>, TraceFau
     Ok(path)
 }
 
+/// A creat of the file with the next number.
 #[tactic(auto, using(crate::proofs::Past::nothing_above, crate::proofs::Past::past_creat))]
 fn creat(
     alloc: Global,
@@ -85,6 +86,7 @@ fn creat(
     Ok(Operation::Creat { path, file, rights })
 }
 
+/// A mkdir at the path, after `made` records.
 #[tactic(auto, using(crate::proofs::Past::nothing_above, crate::proofs::Past::past_mkdir))]
 fn mkdir(
     alloc: Global,
@@ -106,7 +108,7 @@ fn mkdir(
     Ok(Operation::Mkdir { path, rights })
 }
 
-/// One more path, `to`, for the file at `from`.
+/// A link of one more path, `to`, to the file at `from`, after `made` records.
 #[tactic(auto, using(crate::proofs::Past::nothing_at, crate::proofs::Past::nothing_above, crate::proofs::Past::past_link))]
 fn link(
     alloc: Global,
@@ -129,6 +131,7 @@ fn link(
     Ok(Operation::Link { path, file })
 }
 
+/// An unlink of the path, if a file is there.
 #[tactic(auto, using(crate::proofs::Past::nothing_at, crate::proofs::Past::past_unlink))]
 fn unlink(alloc: Global, tree: &Tree, path: &PathText<'_>) -> Result<Operation, TraceFaultKind>
     requires { AreShort tree.now.nodes }
@@ -139,6 +142,7 @@ fn unlink(alloc: Global, tree: &Tree, path: &PathText<'_>) -> Result<Operation, 
     Ok(Operation::Unlink { path })
 }
 
+/// An rmdir of the path, if an empty directory is there.
 #[tactic(auto, using(crate::proofs::Past::nothing_at, crate::proofs::Past::past_rmdir))]
 fn rmdir(alloc: Global, tree: &Tree, path: &PathText<'_>) -> Result<Operation, TraceFaultKind>
     requires { AreShort tree.now.nodes }
@@ -149,6 +153,7 @@ fn rmdir(alloc: Global, tree: &Tree, path: &PathText<'_>) -> Result<Operation, T
     Ok(Operation::Rmdir { path })
 }
 
+/// A rename of the file at `from`, which may replace a file at `to`.
 #[tactic(auto, using(crate::proofs::Past::nothing_at, crate::proofs::Past::nothing_above, crate::proofs::Past::past_rename))]
 fn rename(
     alloc: Global,
@@ -176,6 +181,7 @@ fn rename(
     Ok(Operation::Rename { from, to })
 }
 
+/// A write to the file at the path. No byte may come after the greatest size of a file.
 #[tactic(auto, using(crate::proofs::Past::nothing_at, crate::proofs::Past::past_write))]
 fn write(
     alloc: Global,
@@ -202,6 +208,7 @@ fn write(
     })
 }
 
+/// A truncate of the file at the path to a new length, which may be greater than its size.
 #[tactic(auto, using(crate::proofs::Past::nothing_at, crate::proofs::Past::past_truncate))]
 fn truncate(
     alloc: Global,
@@ -223,7 +230,7 @@ fn truncate(
     Ok(Operation::Truncate { file, size, length })
 }
 
-/// Owner and group, or the permissions, of what stands at the path become others.
+/// A chmod or a chown of the file or directory at the path, with its rights before and after.
 #[tactic(auto, using(crate::proofs::Past::nothing_at, crate::proofs::Past::past_set_attr))]
 fn set_attr(
     alloc: Global,
@@ -245,7 +252,7 @@ fn set_attr(
         return Err(TraceFaultKind::Missing);
     };
     let before = rights.try_clone()?;
-    let after = rights.changed(alloc, change)?;
+    let after = rights.with_change(alloc, change)?;
     Ok(Operation::SetAttr {
         target: Target::of(node, path),
         before,
@@ -253,6 +260,7 @@ fn set_attr(
     })
 }
 
+/// An fsync of the file at the path, or of the entries of the directory there.
 #[tactic(auto, using(crate::proofs::Past::nothing_at, crate::proofs::Past::past_fsync))]
 fn fsync(alloc: Global, tree: &Tree, path: &PathText<'_>) -> Result<Operation, TraceFaultKind>
     requires { AreShort tree.now.nodes }
@@ -266,7 +274,7 @@ fn fsync(alloc: Global, tree: &Tree, path: &PathText<'_>) -> Result<Operation, T
     }
 }
 
-/// A sync of so many bytes of a file, from the offset on.
+/// A sync of `length` bytes of the file at the path, from the offset on.
 #[tactic(auto, using(crate::proofs::Past::nothing_at, crate::proofs::Past::past_fsync_range))]
 fn fsync_range(
     alloc: Global,
@@ -287,6 +295,7 @@ fn fsync_range(
     }))
 }
 
+/// A say of the text, which has a greatest length.
 fn say(text: &str) -> Result<Operation, TraceFaultKind>
     ensures { result ≡ say text.now }
 {
@@ -296,7 +305,7 @@ fn say(text: &str) -> Result<Operation, TraceFaultKind>
     Ok(Operation::Say)
 }
 
-/// The operation of a line where the state stands, or its first fault.
+/// The operation that the line is in this state, or its first fault.
 #[tactic(auto, using(crate::proofs::Past::past_say))]
 pub(crate) fn resolve(
     alloc: Global,

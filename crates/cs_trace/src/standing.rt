@@ -1,4 +1,4 @@
-//! What stands at each path while a trace is read.
+//! What is at each path while a trace is read.
 ghost use Rattle.std.specs.Prelude.{◌≡◌, IfOk, OnOk};
 ghost use Rattle.std.specs.FinMap as map;
 ghost use Rattle.std.specs.Option.{is_some};
@@ -11,7 +11,7 @@ use std::collections::BTreeMap;
 use std::marker::Model;
 use std::ops::Bound;
 
-/// What stands at each path. Contracts see a finite map, in the order of paths.
+/// The file or directory at each path now. Contracts see a finite map, in the order of paths.
 #[derive(Drop)]
 pub(crate) struct Standing {
     by_path: BTreeMap<Path, Node>,
@@ -31,6 +31,7 @@ impl Model for Standing {
 }
 
 impl Standing {
+    /// No file and no directory.
     pub(crate) fn new(alloc: Global) -> Standing
         ensures { result ≡ map.empty }
     {
@@ -39,14 +40,14 @@ impl Standing {
         }
     }
 
-    /// What stands at the path. It takes no memory.
+    /// What is at the path. It takes no memory.
     pub(crate) fn get(&self, path: &Path) -> Option<Node>
         ensures { result ≡ map.get self.now path.now }
     {
         self.by_path.get(path).copied()
     }
 
-    /// Whether something stands below the path: it would come right after it. It takes no memory.
+    /// Whether something is below the path: it would come right after it. It takes no memory.
     pub(crate) fn has_below(&self, path: &Path) -> bool
         ensures { result ≡ has_below self.now path.now }
     {
@@ -60,7 +61,7 @@ impl Standing {
         }
     }
 
-    /// The node stands at the path. It answers whether something stood there before.
+    /// Puts the node at the path, and returns whether another was there before.
     pub(crate) fn insert(&mut self, path: Path, node: Node) -> Result<bool, AllocError>
         ensures stood { IfOk result (λ stood. stood ≡ is_some (map.get self.old path)) }
         ensures state { OnOk result (self.new ≡ map.insert self.old path node) }
@@ -69,7 +70,7 @@ impl Standing {
         Ok(before.is_some())
     }
 
-    /// Nothing stands at the path any more.
+    /// Removes what is at the path, if anything is.
     pub(crate) fn remove(&mut self, path: &Path)
         ensures { self.new ≡ map.remove self.old path.now }
     {

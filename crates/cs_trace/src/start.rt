@@ -1,4 +1,4 @@
-//! The header and the start lines, each where the state stands.
+//! What the header and the start lines add to the state.
 ghost use Rattle.std.specs.Prelude.{◌≡◌, ◌≢◌, ◌<◌, ◌^◌, IfErr, IfOk, IsOk, OnOk, None, Some, Ok};
 ghost use Rattle.std.specs.Prelude.{Err, length};
 ghost use Rattle.std.specs.FinMap as map;
@@ -33,6 +33,7 @@ use cs_trace_lines::{Claims, StartLine, Version};
 use cs_tree_model::{Content, Kind};
 use std::alloc::{AllocError, Global};
 
+/// How many bytes a file has; 0 for a directory, which has no content.
 fn size_of(content: &Option<Vec<u8>>) -> u64
     ensures { result ≡ size_of (option_map (λ bytes. bytes.items) content.now) }
 {
@@ -42,7 +43,7 @@ fn size_of(content: &Option<Vec<u8>>) -> u64
     }
 }
 
-/// A file with its number, or a directory.
+/// The entry of a new file, with the next number, or of a directory if there is no content.
 fn keep_entry(
     alloc: Global,
     state: &LinesSoFar,
@@ -68,8 +69,8 @@ fn keep_entry(
     })
 }
 
-/// One entry more at the start. It answers whether something stood there before.
-fn place(
+/// Puts an entry at the path, and returns whether another was there before.
+fn put_entry(
     alloc: Global,
     state: &mut LinesSoFar,
     path: Path,
@@ -98,7 +99,7 @@ fn place(
     Ok(stood)
 }
 
-/// The directory that a new entry is to stand in, which stands.
+/// The directory of a new entry at the path that the text spells. It must be there.
 fn find_above(
     alloc: Global,
     tree: &mut Tree,
@@ -123,7 +124,7 @@ fn find_above(
     }
 }
 
-/// One entry more at the path of so many names, in the directory above.
+/// Adds an entry at the path, which has so many names, in the directory above.
 #[tactic(auto, using(crate::proofs::Past::past_start_at))]
 fn start_in(
     alloc: Global,
@@ -150,7 +151,7 @@ fn start_in(
         });
     }
     let entry = keep_entry(alloc, state, claims, content)?;
-    let stood = place(alloc, state, path, entry)?;
+    let stood = put_entry(alloc, state, path, entry)?;
     if stood {
         return Err(TraceFaultKind::Exists);
     }
@@ -158,7 +159,7 @@ fn start_in(
     Ok(())
 }
 
-/// The path of a new entry, whose owner and group are judged with it.
+/// The path of a new entry. If the path, the owner or the group isn't legal, it is BadName.
 fn start_path<'a>(
     tree: &Tree,
     path: &'a str,
@@ -175,9 +176,9 @@ fn start_path<'a>(
     Ok(entry)
 }
 
-/// A file or a directory at the path that the text spells.
+/// Adds a file or a directory at the path that the text spells.
 #[tactic(auto, using(crate::proofs::Past::nothing_above, crate::proofs::Past::past_start_at))]
-fn start(
+fn add_entry(
     alloc: Global,
     state: &mut LinesSoFar,
     text: &PathText<'_>,
@@ -195,7 +196,7 @@ fn start(
     start_in(alloc, state, path, text.len(), above, claims, content)
 }
 
-/// A file or a directory after the header.
+/// Applies the start line of a file or a directory.
 pub(crate) fn take_start(
     alloc: Global,
     state: &mut LinesSoFar,
@@ -212,10 +213,10 @@ pub(crate) fn take_start(
         content,
     } = line;
     let text = start_path(&state.tree, &path, &claims)?;
-    start(alloc, state, &text, &claims, content)
+    add_entry(alloc, state, &text, &claims, content)
 }
 
-/// The file at the path of the start.
+/// The file that was at the path at the start. Nothing is Missing, and a directory is NotFile.
 fn start_file<'a>(tree: &'a Tree, path: &Path) -> Result<&'a StartFile, TraceFaultKind>
     ensures file { IfOk result (λ entry.
         start_file_at (map.get tree.now.start path.now) ≡ Ok entry.now) }
@@ -231,8 +232,8 @@ fn start_file<'a>(tree: &'a Tree, path: &Path) -> Result<&'a StartFile, TraceFau
     }
 }
 
-/// One path more for a file of the start, which has this entry.
-fn place_link(
+/// Puts one path more for the file of the start that has this entry.
+fn put_link(
     alloc: Global,
     state: &mut LinesSoFar,
     path: Path,
@@ -247,9 +248,9 @@ fn place_link(
     Ok(())
 }
 
-/// One path more, `to`, for the file of the start at `from`.
+/// Adds one path more, `to`, for the file of the start at `from`.
 #[tactic(auto, using(crate::proofs::Past::nothing_above, crate::proofs::Past::no_start_at, crate::proofs::Past::past_start_link_at))]
-fn link(
+fn add_link(
     alloc: Global,
     state: &mut LinesSoFar,
     from: &PathText<'_>,
@@ -269,11 +270,11 @@ fn link(
         return Err(TraceFaultKind::TooLarge);
     }
     let entry = entry.try_clone(alloc)?;
-    place_link(alloc, state, path, entry)?;
+    put_link(alloc, state, path, entry)?;
     Ok(())
 }
 
-/// A link after the header.
+/// Applies the start line of a link, with the texts of its two paths.
 pub(crate) fn take_link(
     alloc: Global,
     state: &mut LinesSoFar,
@@ -287,10 +288,10 @@ pub(crate) fn take_link(
 {
     let path = entry_path(path)?;
     let from = entry_path(from)?;
-    link(alloc, state, &from, &path)
+    add_link(alloc, state, &from, &path)
 }
 
-/// The first line that isn't blank: the header tells the version and gives the root.
+/// Applies the header: it sets the version and adds the root.
 pub(crate) fn take_header(
     alloc: Global,
     state: &mut LinesSoFar,
@@ -307,6 +308,6 @@ pub(crate) fn take_header(
     }
     state.version = version;
     let root = keep_entry(alloc, state, claims, None)?;
-    place(alloc, state, Path::root(alloc), root)?;
+    put_entry(alloc, state, Path::root(alloc), root)?;
     Ok(())
 }

@@ -1,4 +1,4 @@
-//! What the lines of a trace leave.
+//! The state that the lines of a trace lead to.
 ghost use Rattle.std.specs.Prelude.{◌≡◌, ◌<◌, ◌≤◌, ◌+◌, ◌^◌, IfOk, OnOk, List, ℕ, length};
 ghost use Rattle.std.specs.Prelude.{slice_set};
 ghost use Rattle.cs_names.specs.declared.limits.TheConstants.{TREE_RECORDS};
@@ -13,12 +13,12 @@ use cs_names::{Bytes, Path};
 use cs_trace_lines::Version;
 use std::alloc::{AllocError, Global};
 
-/// What the lines so far leave.
+/// The state after the lines so far.
 #[derive(Drop)]
 pub(crate) struct LinesSoFar {
-    /// The first, until the header tells another.
+    /// That of the header; the first until there is one.
     pub(crate) version: Version,
-    /// What stood at the start, and what stands now.
+    /// What was at each path at the start, and what is there now.
     pub(crate) tree: Tree,
     /// The path that each file at the start was made at, by their numbers.
     pub(crate) files: Vec<Path>,
@@ -28,12 +28,12 @@ pub(crate) struct LinesSoFar {
     pub(crate) sizes: Vec<u64>,
     /// How many records were ever made.
     pub(crate) made: usize,
-    /// Owner, group and permissions of each file and directory, where the version asks for them.
+    /// Owner, group and permissions of each file and directory, if the version has chmod and chown.
     pub(crate) attributes: Attributes,
     pub(crate) operations: Vec<Operation>,
 }
 
-/// What stands after a file's entry was moved.
+/// Moves what is at `from` to `to`.
 fn rename(alloc: Global, tree: &mut Tree, from: &Path, to: &Path) -> Result<(), AllocError>
     ensures start { OnOk result (tree.new.start ≡ tree.old.start) }
     ensures nodes { OnOk result (tree.new.nodes
@@ -46,7 +46,7 @@ fn rename(alloc: Global, tree: &mut Tree, from: &Path, to: &Path) -> Result<(), 
     tree.insert(alloc, to.try_clone(alloc)?, node)
 }
 
-/// What stands after the operation.
+/// Applies the operation to the tree.
 fn move_paths(alloc: Global, tree: &mut Tree, operation: &Operation) -> Result<(), AllocError>
     ensures start { OnOk result (tree.new.start ≡ tree.old.start) }
     ensures nodes { OnOk result (tree.new.nodes ≡ paths_after tree.old.nodes operation.now) }
@@ -71,6 +71,7 @@ fn move_paths(alloc: Global, tree: &mut Tree, operation: &Operation) -> Result<(
     }
 }
 
+/// The size of a file that had `size` bytes, after a write. A write of no byte leaves it.
 fn written_size(size: u64, offset: u64, bytes: &Bytes) -> u64
     requires { 0 < length bytes.now → offset + length bytes.now < 2 ^ 64 }
     ensures { result ≡ written_size size offset bytes.now }
@@ -82,6 +83,7 @@ fn written_size(size: u64, offset: u64, bytes: &Bytes) -> u64
     size.max(offset + count)
 }
 
+/// Sets the size of the file of that number. If there is no such file, nothing changes.
 fn set_size(sizes: &mut [u64], file: u32, size: u64)
     ensures { sizes.new ≡ slice_set sizes.old file size }
 {
@@ -91,7 +93,7 @@ fn set_size(sizes: &mut [u64], file: u32, size: u64)
     }
 }
 
-/// The sizes after the operation.
+/// Applies the operation to the sizes of the files.
 fn change_sizes(sizes: &mut Vec<u64>, operation: &Operation) -> Result<(), AllocError>
     requires { IsWithin operation.now }
     ensures { OnOk result (sizes.new.items ≡ sizes_after sizes.old.items operation.now) }
@@ -136,7 +138,7 @@ fn made_by(operation: &Operation) -> usize
 }
 
 impl LinesSoFar {
-    /// Before the first line.
+    /// The state before the first line.
     pub(crate) fn new(alloc: Global) -> LinesSoFar
         ensures { state_of result ≡ empty_state }
     {
@@ -152,8 +154,8 @@ impl LinesSoFar {
         }
     }
 
-    /// The operation is one more.
-    pub(crate) fn take(&mut self, alloc: Global, operation: Operation) -> Result<(), AllocError>
+    /// Applies the operation to all parts of the state, and keeps it as the last one.
+    pub(crate) fn apply(&mut self, alloc: Global, operation: Operation) -> Result<(), AllocError>
         requires within { IsWithin operation }
         requires few { self.old.made ≤ TREE_RECORDS }
         ensures { OnOk result (state_of self.new ≡ after_operation (state_of self.old) operation) }

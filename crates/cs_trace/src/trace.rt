@@ -75,7 +75,7 @@ impl Trace {
         &self.records
     }
 
-    /// What each of the records is, in their order.
+    /// The file or directory of each record, in the order of the records.
     pub fn nodes(&self) -> &[Node]
         ensures value { result.now ≡ self.now.nodes }
         ensures each { length self.now.nodes ≡ length self.now.records }
@@ -134,7 +134,7 @@ impl Trace {
     }
 }
 
-/// The state after the last line, as a trace.
+/// The trace that the state after the last line is.
 fn finish(alloc: Global, state: LinesSoFar) -> Result<Trace, AllocError>
     requires { IsTrace (trace_of_state (state_of state)) }
     ensures { IfOk result (λ trace. trace ≡ trace_of_state (state_of state)) }
@@ -152,7 +152,7 @@ fn finish(alloc: Global, state: LinesSoFar) -> Result<Trace, AllocError>
 
 /// The trace that a text spells, or the fault of its first line that has one.
 ///
-/// Lines are cut at line feeds and counted from 1; those of JSON's blanks alone are skipped. The
+/// Lines end at line feeds and are counted from 1; lines of only JSON's blanks are skipped. The
 /// first is the header, which gives the root; start lines follow, each of which gives a file or a
 /// directory; and then operations:
 ///
@@ -173,7 +173,7 @@ fn finish(alloc: Global, state: LinesSoFar) -> Result<Trace, AllocError>
 /// ```
 ///
 /// Version 2 has another header, where F is `blocks` or `ordered`, and two operations more; the
-/// first leaves owner and group as they stand, and the second the mode:
+/// first leaves owner and group as they are, and the second the mode:
 ///
 /// ```text
 /// {"trace":2,"profile":F,"owner":O,"group":G,"mode":M}
@@ -199,11 +199,11 @@ fn finish(alloc: Global, state: LinesSoFar) -> Result<Trace, AllocError>
 /// The keys may be in any order, with no others. P has a name after each `/`, and is `/` for an
 /// fsync, a chmod and a chown only; O and G are the names of a user and a group; M is three octal
 /// digits, H is hexadecimal, N a whole number below 2^64, and T any text. A text without a header
-/// is Syntax at line 1. Each line is judged in what the lines before it leave.
+/// is Syntax at line 1. Each line is checked in the state after the lines before it.
 ///
-/// A fault is that of the first check that its line fails, and the lines before it have none. Want
-/// of memory is a fault of kind Memory, at a line before which there is no fault. It is the line
-/// that was read, or the last one where only the records were left to keep.
+/// A fault is that of the first check that its line fails, and the lines before it have none. If
+/// memory runs out, the fault is of kind Memory, at a line before which there is no fault: the one
+/// that was being read, or the last one if only the records had still to be made.
 pub fn read_trace(alloc: Global, text: &str) -> Result<Trace, TraceFault>
     ensures done { IfOk result (λ trace. trace_in text.now ≡ Ok trace) }
     ensures fault { IfErr result (λ fault. fault.kind ≢ Memory

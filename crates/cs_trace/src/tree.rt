@@ -1,4 +1,5 @@
-//! The tree that the lines of a trace make: what stood at the start, and what stands now.
+//! The tree that the lines of a trace make: what was at each path at the start, and what is there
+//! now.
 ghost use Rattle.std.specs.Prelude.{◌≡◌, Some, IfOk, IfSome, OnOk};
 ghost use Rattle.std.specs.FinMap as map;
 ghost use Rattle.std.specs.Option.{is_some, option_map};
@@ -20,15 +21,15 @@ use cs_tree_model::Record;
 use std::alloc::{AllocError, Global};
 use std::marker::Model;
 
-/// What stands at each path. Contracts see two finite maps: what stood at the start, and what
-/// stands now. As long as they are the same, only the first is kept.
+/// What is at each path. Contracts see two finite maps: one of the start, and one of now. As long
+/// as they are the same, only the first is kept.
 #[derive(Drop)]
 pub(crate) struct Tree {
-    /// The files at the start.
+    /// The files and directories at the start.
     start: Entries,
-    /// What stands now, once something changed.
+    /// What is at each path now; None until the first operation that changes that.
     changed: Option<Standing>,
-    /// A directory that stands: most often the next start line's, too.
+    /// The directory of the last start line, which is there: most often the next line's, too.
     near: Option<Near>,
 }
 
@@ -52,6 +53,7 @@ impl Model for Tree {
 }
 
 impl Tree {
+    /// The tree without files and directories.
     pub(crate) fn new(alloc: Global) -> Tree
         ensures { result ≡ empty_tree }
     {
@@ -62,7 +64,7 @@ impl Tree {
         }
     }
 
-    /// What stands at the path. It takes no memory.
+    /// What is at the path now. It takes no memory.
     pub(crate) fn get(&self, path: &Path) -> Option<Node>
         ensures { result ≡ map.get self.now.nodes path.now }
     {
@@ -72,14 +74,14 @@ impl Tree {
         }
     }
 
-    /// The entry at the path at the start. It takes no memory.
+    /// The entry that was at the path at the start. It takes no memory.
     pub(crate) fn start_entry(&self, path: &Path) -> Option<&StartFile>
         ensures { option_map (λ entry. entry.now) result ≡ map.get self.now.start path.now }
     {
         self.start.entry(path)
     }
 
-    /// Whether something stands below the path. It takes no memory.
+    /// Whether something is below the path now. It takes no memory.
     pub(crate) fn has_below(&self, path: &Path) -> bool
         ensures { result ≡ has_below self.now.nodes path.now }
     {
@@ -89,8 +91,8 @@ impl Tree {
         }
     }
 
-    /// The path of an entry that the text spells, where its directory is the one of the start line
-    /// before, which isn't judged again.
+    /// The path of an entry that the text spells, if its directory is that of the last start line,
+    /// which isn't checked again. None for any other text, which must be checked whole.
     pub(crate) fn near_entry<'a>(&self, text: &'a str) -> Option<PathText<'a>>
         ensures { IfSome result (λ path. entry_path_of text.now ≡ Some path) }
     {
@@ -100,7 +102,7 @@ impl Tree {
         }
     }
 
-    /// The path's directory, where it is the one of the start line before, which stands.
+    /// The directory of the path, if it is that of the last start line. It is there.
     #[tactic(auto, using(crate::proofs::Trees::same_path))]
     pub(crate) fn take_near(&mut self, path: &Path) -> Option<Near>
         ensures same { self.new ≡ self.old }
@@ -114,7 +116,7 @@ impl Tree {
         None
     }
 
-    /// The next start line is likely in the directory.
+    /// Remembers the directory of a start line, for the next line.
     pub(crate) fn stay_near(&mut self, directory: Near)
         requires { map.get self.old.nodes directory ≡ Some Directory }
         ensures { self.new ≡ self.old }
@@ -122,7 +124,7 @@ impl Tree {
         self.near = Some(directory);
     }
 
-    /// One entry more at the start. It answers whether something stood there before.
+    /// Puts an entry at a path of the start, and returns whether another was there before.
     pub(crate) fn insert_start(
         &mut self,
         alloc: Global,
@@ -143,7 +145,7 @@ impl Tree {
         }
     }
 
-    /// The node stands at the path from now on.
+    /// Puts the node at the path; the start stays as it is.
     pub(crate) fn insert(&mut self, alloc: Global, path: Path, node: Node) -> Result<(), AllocError>
         ensures start { OnOk result (self.new.start ≡ self.old.start) }
         ensures nodes { OnOk result (self.new.nodes ≡ map.insert self.old.nodes path node) }
@@ -162,7 +164,7 @@ impl Tree {
         Ok(())
     }
 
-    /// Nothing stands at the path any more.
+    /// Removes what is at the path, if anything is; the start stays as it is.
     pub(crate) fn remove(&mut self, alloc: Global, path: &Path) -> Result<(), AllocError>
         ensures start { OnOk result (self.new.start ≡ self.old.start) }
         ensures nodes { OnOk result (self.new.nodes ≡ map.remove self.old.nodes path.now) }
@@ -179,8 +181,8 @@ impl Tree {
         Ok(())
     }
 
-    /// The start's records in the order of their paths, with fresh numbers; and what each of them
-    /// is.
+    /// The start's records in the order of their paths, numbered from 0, and the file or directory
+    /// of each.
     pub(crate) fn into_start(
         self,
         alloc: Global,

@@ -3,7 +3,7 @@ use Rattle.std.specs.Prelude.{◌≡◌, MatchResult, Option, None, Some, Result
 use Rattle.cs_trace_lines.specs.declared.fault.LineFault.{LineFault}
 use Rattle.cs_trace_lines.specs.declared.fault.LineFault.TheVariants.{Syntax}
 
--- what is said, or Syntax if nothing is; memory may be out in any case
+-- the result is what the line says, or Syntax if it says nothing; or out of memory in any case
 abbrev pub IsRead : {A B : Type 0} → (A → B) → Option B → Result A LineFault → Type 0
 IsRead said line result =
     MatchResult result (λ a. line ≡ Some (said a)) (λ fault. fault ≡ Syntax → line ≡ None)

@@ -59,7 +59,7 @@ is_known key =
     ∷ codes "from" ∷ codes "to" ∷ codes "owner" ∷ codes "group" ∷ codes "mode" ∷ codes "bytes"
     ∷ codes "offset" ∷ codes "length" ∷ codes "text" ∷ codes "note" ∷ [])
 
--- one of the keys is none that the format has
+-- there is a key that the format does not have
 abbrev pub has_others : Members → Bool
 has_others no_members = false
 has_others (member key d ms) = not (is_known key) || has_others ms
@@ -96,7 +96,7 @@ saying_fields f =
     f.trace ∷ f.profile ∷ f.block ∷ f.start ∷ f.op ∷ f.path ∷ f.from ∷ f.to ∷ f.owner ∷ f.group
     ∷ f.mode ∷ f.bytes ∷ f.offset ∷ f.length ∷ f.text ∷ []
 
--- exactly so many keys beside a note, and each of them one that the format has
+-- exactly so many keys, a note not counted, and each is one that the format has
 abbrev pub has_keys : ℕ → Fields → Bool
 has_keys count f = not f.others && (length (filter is_some (saying_fields f)) == count)
 

@@ -70,7 +70,7 @@ pub data Line : Type 0 where
   UnknownStart : Line
   UnknownOperation : Line
 
--- spaces, tabs and carriage returns alone
+-- spaces, tabs and carriage returns only
 abbrev pub is_blank : List ℕ → Bool
 is_blank line = list_all (λ c. c == 32 || c == 9 || c == 13) line
 
@@ -134,7 +134,7 @@ may_note version (Some (Text s)) = is_third version
 may_note version (Some (Number n)) = false
 may_note version (Some Other) = false
 
--- exactly so many keys, beside a note
+-- exactly so many keys, a note not counted
 abbrev pub has_only : Version → ℕ → Fields → Bool
 has_only version count f = has_keys count f && may_note version f.note
 
@@ -166,7 +166,7 @@ version_of f number =
 abbrev pub version_in : Fields → Option Version
 version_in f = option_and_then (version_of f) (whole_in f.trace)
 
--- how many keys a header has, beside a note
+-- how many keys a header has, a note not counted
 abbrev pub header_key_count : Version → ℕ
 header_key_count First = 4
 header_key_count (Second profile) = 5
@@ -191,7 +191,7 @@ kind_in version name =
     else (if pointwise nat_eq name (codes "link") && is_third version then Some kind.Link
     else None))
 
--- how many keys its line has beside a note, `start` among them
+-- how many keys its line has, with `start`, but without a note
 abbrev pub start_key_count : StartKind → ℕ
 start_key_count kind.Directory = 5
 start_key_count kind.File = 6
@@ -259,7 +259,7 @@ abbrev pub verb_in : Version → List ℕ → Option Verb
 verb_in version name =
     option_and_then (λ v. if belongs_to version v then Some v else None) (verb_named name)
 
--- how many keys its line has beside a note, `op` among them
+-- how many keys its line has, with `op`, but without a note
 abbrev pub key_count : Verb → ℕ
 key_count verb.Creat = 5
 key_count verb.Mkdir = 5
@@ -325,7 +325,7 @@ operation_named version f name =
 abbrev pub operation_in : Version → Fields → Option Line
 operation_in version f = option_and_then (operation_named version f) (text_in f.op)
 
--- ---- lines; None if it is Syntax
+-- ---- lines; None if they are Syntax
 
 -- a line has exactly one of the keys `trace`, `start` and `op`
 abbrev pub line_by : Version → Fields → Option Field → Option Field → Option Field → Option Line

@@ -41,7 +41,7 @@ says_first First = false
 says_first (Second profile) = false
 says_first (Third profile block) = true
 
--- lines may have notes, links, and texts in the place of digits
+-- there may be links, notes, and texts in place of digits
 abbrev pub is_third : Version → Bool
 is_third First = false
 is_third (Second profile) = false

@@ -40,6 +40,7 @@ pub(crate) struct Fields {
 }
 
 impl Field {
+    /// What the format looks at in a value: a text, a number, or that it is neither.
     fn of(value: Value) -> Field
         ensures { field_value result ≡ field_of (view value) }
     {
@@ -52,6 +53,7 @@ impl Field {
 }
 
 impl Fields {
+    /// The fields of an object without keys.
     fn new() -> Fields
         ensures { field_values result ≡ fields_of no_members }
     {
@@ -76,7 +78,8 @@ impl Fields {
         }
     }
 
-    /// Takes the value of a key, in the place of one before it.
+    /// Sets the field of a key, in place of one that was set before. Of a key that the format
+    /// doesn't have, only that it is there is kept.
     fn put(&mut self, key: &str, field: Field)
         ensures { field_values self.new
             ≡ with_field key.now (field_value field) (field_values self.old) }
@@ -102,7 +105,7 @@ impl Fields {
         }
     }
 
-    /// The fields of these members.
+    /// The fields of an object with these members.
     fn of(members: Map<String, Value>) -> Fields
         ensures { field_values result ≡ fields_of (members_view members.entries) }
     {
@@ -113,7 +116,7 @@ impl Fields {
         fields
     }
 
-    /// The fields of an object.
+    /// The fields of an object; None of any other value.
     pub(crate) fn of_value(value: Value) -> Option<Fields>
         ensures { option_map field_values result ≡ fields_in (view value) }
     {
@@ -123,7 +126,8 @@ impl Fields {
         }
     }
 
-    /// Whether there are exactly so many keys beside a note, and each is one of the format.
+    /// Whether the object has exactly so many keys, a note not counted, and each is a key of the
+    /// format.
     pub(crate) fn has_keys(&self, count: usize) -> bool
         ensures { result ≡ has_keys count (field_values self.now) }
     {

@@ -13,6 +13,7 @@ use crate::profile::Profile;
 use crate::values::{has_only, take_claims, text_of, whole_in};
 use crate::version::{BlockSize, Version};
 
+/// The profile of this name in a header.
 fn profile_named(name: &str) -> Option<Profile>
     ensures { result ≡ profile_named name.now }
 {
@@ -23,19 +24,22 @@ fn profile_named(name: &str) -> Option<Profile>
     }
 }
 
+/// The profile that a header names. Another text, another value or no value is Syntax.
 fn profile_in(profile: &Option<Field>) -> Result<Profile, LineFault>
     ensures { IsRead (λ profile. profile) (profile_in (option_map field_value profile.now)) result }
 {
     profile_named(text_of(profile)?).ok_or(LineFault::Syntax)
 }
 
+/// The block size of a header. A number that is no block size, another value or no value is
+/// Syntax.
 fn block_size_in(block: &Option<Field>) -> Result<BlockSize, LineFault>
     ensures { IsRead (λ block. block) (block_size_in (option_map field_value block.now)) result }
 {
     BlockSize::of_bytes(whole_in(block)?).ok_or(LineFault::Syntax)
 }
 
-/// The version of a header.
+/// The version that a header declares, with its profile and its block size if it has them.
 fn version_in(fields: &Fields) -> Result<Version, LineFault>
     ensures { IsRead (λ version. version) (version_in (field_values fields.now)) result }
 {
@@ -47,7 +51,7 @@ fn version_in(fields: &Fields) -> Result<Version, LineFault>
     }
 }
 
-/// How many keys a header has, beside a note.
+/// How many keys a header of this version has, a note not counted.
 fn header_key_count(version: Version) -> usize
     ensures { result ≡ header_key_count version }
 {
@@ -58,6 +62,7 @@ fn header_key_count(version: Version) -> usize
     }
 }
 
+/// The header that these fields make. It takes the texts out of the fields.
 pub(crate) fn header_in(fields: &mut Fields) -> Result<Line, LineFault>
     ensures { IsRead line_value (header_in (field_values fields.old)) result }
 {

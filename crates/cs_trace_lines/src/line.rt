@@ -17,10 +17,10 @@ use crate::version::Version;
 use serde_json::Value;
 use std::alloc::Global;
 
-/// What a line says. The texts in it are not yet judged as names and paths.
+/// What a line says. Its texts are not yet checked to be names and paths.
 #[derive(Drop)]
 pub enum Line {
-    /// The header: the version, and who has the root.
+    /// The header: the version, and the root's owner, group and permissions.
     Header(Version, Claims),
     /// A file or a directory at the start.
     Start(StartLine),
@@ -112,7 +112,7 @@ pub enum OperationLine {
     },
 }
 
-/// Whether the line has JSON's blanks only: it is skipped, and counted.
+/// Whether the line has only blanks of JSON, or nothing. Such a line is skipped, but counted.
 pub fn is_blank(line: &str) -> bool
     ensures { result ≡ is_blank line.now }
 {
@@ -121,7 +121,8 @@ pub fn is_blank(line: &str) -> bool
         .all(|c| *c == b' ' || *c == b'\t' || *c == b'\r')
 }
 
-/// The fields of a line's object.
+/// The fields of the object that a line spells. A text that isn't JSON, or another value, is
+/// Syntax.
 fn fields_in(alloc: Global, text: &str) -> Result<Fields, LineFault>
     ensures { IsRead field_values (option_and_then fields_in (read text.now)) result }
 {
@@ -136,7 +137,8 @@ fn fields_in(alloc: Global, text: &str) -> Result<Fields, LineFault>
     }
 }
 
-/// What the line with these fields says.
+/// What the line with these fields says. Unless exactly one of `trace`, `start` and `op` is among
+/// them, it is Syntax.
 fn line_of(alloc: Global, version: Version, fields: &mut Fields) -> Result<Line, LineFault>
     ensures { IsRead line_value (line_of version (field_values fields.old)) result }
 {
@@ -148,7 +150,7 @@ fn line_of(alloc: Global, version: Version, fields: &mut Fields) -> Result<Line,
     }
 }
 
-/// What the text of a line says in a trace of this version.
+/// What the text of a line says in a trace of this version. A header says the same in each.
 #[tactic(auto, unfolding(crate::specs::Lines::line_in))]
 pub fn read_line(alloc: Global, version: Version, text: &str) -> Result<Line, LineFault>
     ensures read { IfOk result (λ line. line_in version text.now ≡ Some (line_value line)) }

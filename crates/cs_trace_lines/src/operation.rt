@@ -1,4 +1,5 @@
-//! The lines of operations. Of a known one only a write depends on the version.
+//! The lines of operations. Once the verb is known, only a write still depends on the version, so
+//! that the other contracts name the first.
 ghost use Rattle.std.specs.Prelude.{◌≡◌};
 ghost use Rattle.cs_trace_lines.specs.Faults.{IsRead};
 ghost use Rattle.cs_trace_lines.specs.Lines.{operation_in, operation_of};
@@ -15,6 +16,7 @@ use crate::verb::Verb;
 use crate::version::Version;
 use std::alloc::Global;
 
+/// The creation of a file, from the fields of its line.
 fn creat(fields: &mut Fields) -> Result<OperationLine, LineFault>
     ensures { IsRead operation_value
         (operation_of First verb.Creat (field_values fields.old)) result }
@@ -25,6 +27,7 @@ fn creat(fields: &mut Fields) -> Result<OperationLine, LineFault>
     })
 }
 
+/// The creation of a directory, from the fields of its line.
 fn mkdir(fields: &mut Fields) -> Result<OperationLine, LineFault>
     ensures { IsRead operation_value
         (operation_of First verb.Mkdir (field_values fields.old)) result }
@@ -35,6 +38,7 @@ fn mkdir(fields: &mut Fields) -> Result<OperationLine, LineFault>
     })
 }
 
+/// The removal of a path of a file, from the fields of its line.
 fn unlink(fields: &mut Fields) -> Result<OperationLine, LineFault>
     ensures { IsRead operation_value
         (operation_of First verb.Unlink (field_values fields.old)) result }
@@ -44,6 +48,7 @@ fn unlink(fields: &mut Fields) -> Result<OperationLine, LineFault>
     })
 }
 
+/// The removal of a directory, from the fields of its line.
 fn rmdir(fields: &mut Fields) -> Result<OperationLine, LineFault>
     ensures { IsRead operation_value
         (operation_of First verb.Rmdir (field_values fields.old)) result }
@@ -53,6 +58,7 @@ fn rmdir(fields: &mut Fields) -> Result<OperationLine, LineFault>
     })
 }
 
+/// The rename of a path, from the fields of its line.
 fn rename(fields: &mut Fields) -> Result<OperationLine, LineFault>
     ensures { IsRead operation_value
         (operation_of First verb.Rename (field_values fields.old)) result }
@@ -63,6 +69,7 @@ fn rename(fields: &mut Fields) -> Result<OperationLine, LineFault>
     })
 }
 
+/// The link of one more path, `to`, to the file at `from`.
 fn link(fields: &mut Fields) -> Result<OperationLine, LineFault>
     ensures { IsRead operation_value
         (operation_of First verb.Link (field_values fields.old)) result }
@@ -73,6 +80,7 @@ fn link(fields: &mut Fields) -> Result<OperationLine, LineFault>
     })
 }
 
+/// The write of bytes at an offset, from the fields of its line.
 fn write(alloc: Global, version: Version, fields: &mut Fields) -> Result<OperationLine, LineFault>
     ensures { IsRead operation_value
         (operation_of version verb.Write (field_values fields.old)) result }
@@ -84,6 +92,7 @@ fn write(alloc: Global, version: Version, fields: &mut Fields) -> Result<Operati
     })
 }
 
+/// The change of a file's length: the key is `length`, the field `size`.
 fn truncate(fields: &mut Fields) -> Result<OperationLine, LineFault>
     ensures { IsRead operation_value
         (operation_of First verb.Truncate (field_values fields.old)) result }
@@ -94,6 +103,7 @@ fn truncate(fields: &mut Fields) -> Result<OperationLine, LineFault>
     })
 }
 
+/// The change of the permissions, from the fields of its line.
 fn chmod(fields: &mut Fields) -> Result<OperationLine, LineFault>
     ensures { IsRead operation_value
         (operation_of First verb.Chmod (field_values fields.old)) result }
@@ -104,6 +114,7 @@ fn chmod(fields: &mut Fields) -> Result<OperationLine, LineFault>
     })
 }
 
+/// The change of owner and group, from the fields of its line.
 fn chown(fields: &mut Fields) -> Result<OperationLine, LineFault>
     ensures { IsRead operation_value
         (operation_of First verb.Chown (field_values fields.old)) result }
@@ -117,6 +128,7 @@ fn chown(fields: &mut Fields) -> Result<OperationLine, LineFault>
     })
 }
 
+/// The sync of a path, from the fields of its line.
 fn fsync(fields: &mut Fields) -> Result<OperationLine, LineFault>
     ensures { IsRead operation_value
         (operation_of First verb.Fsync (field_values fields.old)) result }
@@ -126,6 +138,7 @@ fn fsync(fields: &mut Fields) -> Result<OperationLine, LineFault>
     })
 }
 
+/// The sync of `length` bytes from `offset` on, from the fields of its line.
 fn fsync_range(fields: &mut Fields) -> Result<OperationLine, LineFault>
     ensures { IsRead operation_value
         (operation_of First verb.FsyncRange (field_values fields.old)) result }
@@ -137,6 +150,7 @@ fn fsync_range(fields: &mut Fields) -> Result<OperationLine, LineFault>
     })
 }
 
+/// The acknowledgement of a text, from the fields of its line.
 fn say(fields: &mut Fields) -> Result<OperationLine, LineFault>
     ensures { IsRead operation_value
         (operation_of First verb.Say (field_values fields.old)) result }
@@ -146,7 +160,7 @@ fn say(fields: &mut Fields) -> Result<OperationLine, LineFault>
     })
 }
 
-/// What the operation has under its keys.
+/// The operation of this verb, once its keys are known to be the right ones.
 fn operation_of(
     alloc: Global,
     version: Version,
@@ -173,6 +187,7 @@ fn operation_of(
     }
 }
 
+/// The operation that these fields make. A name that its version doesn't have is no fault here.
 pub(crate) fn operation_in(
     alloc: Global,
     version: Version,

@@ -24,7 +24,7 @@ pub(crate) enum StartKind {
 }
 
 impl StartKind {
-    /// The kind of this name in a trace of this version.
+    /// The kind of this name in a trace of this version; a link is known in the third only.
     fn of(version: Version, name: &str) -> Option<StartKind>
         ensures { result ≡ kind_in version name.now }
     {
@@ -36,7 +36,7 @@ impl StartKind {
         }
     }
 
-    /// How many keys its line has beside a note, `start` among them.
+    /// How many keys its line has, with `start`, but without a note.
     fn key_count(self) -> usize
         ensures { result ≡ start_key_count self }
     {
@@ -48,7 +48,7 @@ impl StartKind {
     }
 }
 
-/// A file with these bytes, or a directory.
+/// The start line of a file with these bytes, or of a directory if there are none.
 fn start_with(fields: &mut Fields, content: Option<Vec<u8>>) -> Result<Line, LineFault>
     ensures { IsRead line_value
         (start_with (field_values fields.old) (option_map (λ bytes. bytes.items) content)) result }
@@ -60,6 +60,7 @@ fn start_with(fields: &mut Fields, content: Option<Vec<u8>>) -> Result<Line, Lin
     }))
 }
 
+/// The start line of a file. It takes the texts out of the fields.
 fn file(alloc: Global, version: Version, fields: &mut Fields) -> Result<Line, LineFault>
     ensures { IsRead line_value (start_under version (field_values fields.old) File) result }
 {
@@ -67,6 +68,8 @@ fn file(alloc: Global, version: Version, fields: &mut Fields) -> Result<Line, Li
     start_with(fields, Some(bytes))
 }
 
+/// The start line of one more path of a file. The contract names the first version, since a link's
+/// fields are read in the same way in all.
 fn link(fields: &mut Fields) -> Result<Line, LineFault>
     ensures { IsRead line_value (start_under First (field_values fields.old) Link) result }
 {
@@ -76,7 +79,7 @@ fn link(fields: &mut Fields) -> Result<Line, LineFault>
     })
 }
 
-/// What a line of this kind has under its keys.
+/// The start line of this kind, once its keys are known to be the right ones.
 fn start_of(
     alloc: Global,
     version: Version,
@@ -92,6 +95,7 @@ fn start_of(
     }
 }
 
+/// The start line that these fields make. A kind that its version doesn't have is no fault here.
 pub(crate) fn start_line_in(
     alloc: Global,
     version: Version,

@@ -14,7 +14,7 @@ use crate::version::Version;
 use hex::FromHexError;
 use std::alloc::Global;
 
-/// The text of a field, lent.
+/// The text of a field, borrowed. Another value or no value is Syntax.
 pub(crate) fn text_of(field: &Option<Field>) -> Result<&str, LineFault>
     ensures { IsRead (λ text. text.now) (text_in (option_map field_value field.now)) result }
 {
@@ -24,7 +24,7 @@ pub(crate) fn text_of(field: &Option<Field>) -> Result<&str, LineFault>
     }
 }
 
-/// Takes the text of a field.
+/// Takes the text out of a field. Another value or no value is Syntax.
 pub(crate) fn take_text(field: &mut Option<Field>) -> Result<String, LineFault>
     ensures { IsRead string_bytes (text_in (option_map field_value field.old)) result }
 {
@@ -34,7 +34,7 @@ pub(crate) fn take_text(field: &mut Option<Field>) -> Result<String, LineFault>
     }
 }
 
-/// The whole number of a field.
+/// The whole number below 2^64 of a field. Another value or no value is Syntax.
 pub(crate) fn whole_in(field: &Option<Field>) -> Result<u64, LineFault>
     ensures { IsRead (λ n. n) (whole_in (option_map field_value field.now)) result }
 {
@@ -44,13 +44,14 @@ pub(crate) fn whole_in(field: &Option<Field>) -> Result<u64, LineFault>
     }
 }
 
+/// Whether the byte is an octal digit in ASCII.
 fn is_octal(digit: u8) -> bool
     ensures { result ≡ is_octal digit }
 {
     digit >= b'0' && digit <= b'7'
 }
 
-/// The permissions that three octal digits spell.
+/// The permissions that three octal digits spell; None of any other text.
 fn permissions_in(text: &str) -> Option<u16>
     ensures { result ≡ permissions_in text.now }
 {
@@ -63,14 +64,14 @@ fn permissions_in(text: &str) -> Option<u16>
     Some(u16::from(*a - b'0') * 64 + u16::from(*b - b'0') * 8 + u16::from(*c - b'0'))
 }
 
-/// The permissions of a mode.
+/// The permissions that a mode field spells. Anything but three octal digits is Syntax.
 pub(crate) fn mode_in(mode: &Option<Field>) -> Result<u16, LineFault>
     ensures { IsRead (λ n. n) (mode_in (option_map field_value mode.now)) result }
 {
     permissions_in(text_of(mode)?).ok_or(LineFault::Syntax)
 }
 
-/// Takes owner, group and mode.
+/// Takes owner, group and mode out of the fields.
 pub(crate) fn take_claims(fields: &mut Fields) -> Result<Claims, LineFault>
     ensures { IsRead claims_of (claims_in (field_values fields.old)) result }
 {
@@ -93,7 +94,8 @@ fn bytes_in(alloc: Global, field: &Option<Field>) -> Result<Vec<u8>, LineFault>
     }
 }
 
-/// Takes the bytes under one of two keys: digits, or a text if the version has them.
+/// The bytes of a file or a write: spelled by `digits` if that key is there, else, in the third
+/// version, those of `text`, which is taken.
 pub(crate) fn take_content(
     alloc: Global,
     version: Version,
@@ -113,7 +115,7 @@ pub(crate) fn take_content(
     Ok(take_text(text)?.into_bytes())
 }
 
-/// Whether a note is a text, in a version that has notes.
+/// Whether the line may have this note: none, or a text in the third version.
 fn may_note(version: Version, note: &Option<Field>) -> bool
     ensures { result ≡ may_note version (option_map field_value note.now) }
 {
@@ -124,7 +126,7 @@ fn may_note(version: Version, note: &Option<Field>) -> bool
     }
 }
 
-/// Whether there are exactly so many keys, beside a note.
+/// Whether the line has exactly so many keys, each of the format, and at most a note more.
 pub(crate) fn has_only(version: Version, count: usize, fields: &Fields) -> bool
     ensures { result ≡ has_only version count (field_values fields.now) }
 {

@@ -47,7 +47,8 @@ impl Verb {
         })
     }
 
-    /// Whether a trace of this version may have it.
+    /// Whether a trace of this version may have it: chmod and chown come with the second version,
+    /// links and syncs of a range with the third.
     fn belongs_to(self, version: Version) -> bool
         ensures { result ≡ belongs_to version self }
     {
@@ -70,7 +71,7 @@ impl Verb {
         }
     }
 
-    /// How many keys its line has beside a note, `op` among them.
+    /// How many keys its line has, with `op`, but without a note.
     pub(crate) fn key_count(self) -> usize
         ensures { result ≡ key_count self }
     {

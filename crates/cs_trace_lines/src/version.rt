@@ -15,6 +15,7 @@ pub enum BlockSize {
 }
 
 impl BlockSize {
+    /// How many bytes a block of this size has.
     pub fn bytes(self) -> u64
         ensures { result ≡ block_bytes self }
     {
@@ -72,13 +73,15 @@ impl Version {
         }
     }
 
-    /// Whether what was acknowledged comes before all that follows it.
+    /// Whether an acknowledgement orders operations: what was acknowledged reaches the disk before
+    /// all that follows it.
     pub fn says_first(self) -> bool
         ensures { result ≡ says_first self }
     {
         self.is_third()
     }
 
+    /// Whether it is the third version, of any profile and block size.
     pub(crate) fn is_third(self) -> bool
         ensures { result ≡ is_third self }
     {

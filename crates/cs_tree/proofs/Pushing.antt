@@ -1,4 +1,4 @@
--- A record that follows those that are there.
+-- A record that follows those of the tree.
 use Rattle.std.proofs.Common.{◌≡◌, ◌≢◌, ◌+◌, ◌<◌, ◌≤◌, ℕ, Bool, true, false, not, if◌then◌else◌, [], ◌∷◌, ◌++◌, Option, None, Some, IsSome}
 use Rattle.std.proofs.Common.{refl, sym, ap, ◌∙◌, subst, ⊎_elim, unwrap_or, arith}
 use Rattle.std.proofs.lemmas.Bool.{cases_eq}
@@ -25,7 +25,7 @@ use Rattle.cs_tree.proofs.Lookups.{is_tree, next_is}
 use Rattle.cs_tree.proofs.Tables.{content_with_child, kids_new, kids_with, node_behind, nodes_put, one_table, shapes_put, step_here}
 use Rattle.cs_tree.proofs.Tables.{with_at_other}
 
--- the test of a mode says what it is to tell
+-- the test of a mode answers whether the mode is right
 told : (d m : Bool) → (if d then m else not m) ≡ true → m ≡ d
 told true true e = refl
 told true false e = e
@@ -44,7 +44,7 @@ marked_if_tested r = told (is_directory r.content) (is_directory_mode r.mode)
 pub tested_if_marked : (r : Record) → IsMarked r → is_marked r ≡ true
 tested_if_marked r = tells (is_directory r.content) (is_directory_mode r.mode)
 
--- what stands at a number is the same when it is put there again
+-- a table in which a number's node is put again is the same
 set_again : (at : Nodes) (k : ℕ) (d : table.Node) → at k ≡ Some d → set_node at k d ≡ at
 set_again at k d here = λ i q. each q i
   where
@@ -185,6 +185,11 @@ module _ (at : ℕ → Option Node) (next : ℕ) (h : IsHeld at next) (t : Tree)
     pub follows : (r : Record) → next ≤ r.number → IsMarked r → Follows t.files t.next p r
     follows r above marked =
         follows_in t p r u x (subst (λ q. IsPlace t q u x) same w) (subst (λ k. k ≤ r.number) (sym (next_is at next h t view)) above) marked
+
+    -- the directory of the place is there
+    pub place_there : IsSome (at u)
+    place_there = subst IsSome
+        (sym (directory at next h p u x (subst (λ v. IsPlace v p u x) (sym view) (subst (λ q. IsPlace t q u x) same w))).1) refl
 
     module _ (r : Record) (above : next ≤ r.number) (label : NameBytes) (same_label : label ≡ x) (node : Node)
         (made : IsNodeOf u (Some label) r node)

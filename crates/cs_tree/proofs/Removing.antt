@@ -1,4 +1,4 @@
--- A call that takes a file out.
+-- A call that removes a file.
 use Rattle.std.proofs.Common.{◌≡◌, ◌≢◌, ℕ, [], Option, None, Some, IsSome, IfSome, refl, sym, ap, ◌∙◌, subst, unwrap_or}
 use Rattle.std.specs.Option.{option_map}
 use Rattle.cs_tree_model.specs.declared.change.Stamp.{Stamp}
@@ -30,6 +30,9 @@ module _ (at : ℕ → Option Node) (next : ℕ) (h : IsHeld at next) (t : Tree)
         let u = laws.node_above (model_nodes at) (child_lookup at) next h.indexed t view n (shape_of d) shape_here not_root in
         let b = node_behind at d.parent u.0 u.1 in
         (b.0, b.1, ap (λ (w : table.Node). w.file.content) b.2 ∙ u.2)
+
+    pub is_above : IsSome (at d.parent)
+    is_above = subst IsSome (sym above.1) refl
 
     abbrev dir : Node
     dir = above.0
@@ -90,6 +93,14 @@ module _ (at : ℕ → Option Node) (next : ℕ) (h : IsHeld at next) (t : Tree)
       tree_removed =
           ap (λ v. tree_of v next) shapes_are ∙ laws.tree_removed (model_nodes at) (child_lookup at) next h.indexed t view n (shape_of d)
           shape_here not_root (shape_of dir) shape_above s empty
+
+module _ (at : ℕ → Option Node) (next : ℕ) (h : IsHeld at next) (t : Tree) (view : tree_of (model_nodes at) next ≡ t) (n : ℕ)
+    (not_root : n ≢ 0) (there : IsSome (record_numbered t n)) (s : Stamp) where
+  -- the file's directory is there
+  pub parent_there : IfSome (at n) (λ d. IsSome (at d.parent))
+  parent_there =
+      let found : (d : Node) × (at n ≡ Some d) = node_there at next h t view n there in
+      subst (λ o. IfSome o (λ d. IsSome (at d.parent))) (sym found.1) (is_above at next h t view n found.0 found.1 not_root s)
 
 -- ---- the same from what a caller promises
 

@@ -1,4 +1,4 @@
--- What steps of the table of nodes are in the model, and for the look-ups by name.
+-- What steps of the table of nodes are in the model, and what they do to look-ups by name.
 use Rattle.std.proofs.Common.{◌≡◌, ◌≢◌, ℕ, ◌==◌, true, false, Option, None, Some, refl, sym, ap, ◌∙◌, subst, ⊎_elim}
 use Rattle.std.proofs.lemmas.Bool.{false≢true, cases_eq, eq-eqb, ne_eqb}
 use Rattle.std.specs.Option.{option_map, option_and_then, is_some}
@@ -15,7 +15,7 @@ use Rattle.cs_tree.specs.declared.node.Node.{Node}
 use Rattle.cs_tree.specs.Held.{model_nodes, child_lookup, IsNode}
 use Rattle.cs_tree.specs.Node.{Alike, body_with_child, body_without_child, child_in, content_of, shape_of, step_at, with_at}
 
--- tables that answer alike are one
+-- tables that answer alike are the same
 pub one_table : (at bt : ℕ → Option Node) → Alike at bt → at ≡ bt
 one_table at bt alike = λ i q. sym (alike q) i
 

@@ -21,27 +21,29 @@ impl Model for Bytes {
 }
 
 impl Bytes {
+    /// The content of a file with these bytes.
     pub fn of(bytes: Vec<u8>) -> Bytes
         ensures { result ≡ bytes.items }
     {
         Bytes { bytes }
     }
 
+    /// How many bytes there are.
     pub fn len(&self) -> u64
         ensures { result ≡ length self.now }
     {
         self.bytes.len() as u64
     }
 
-    /// At most `count` bytes from `offset` on.
+    /// At most `count` bytes from `offset` on: fewer if the file ends before, none past its end.
     pub fn part(&self, offset: u64, count: usize) -> &[u8]
         ensures { result.now ≡ take count (drop offset self.now) }
     {
         part(&self.bytes, offset as usize, count)
     }
 
-    /// Puts bytes over those at an offset, with zeros between the end and the offset. Allocates
-    /// only if the file grows.
+    /// Writes bytes at an offset. If that is past the end, the bytes between are zeros. It
+    /// allocates only if the file grows; after an error the file is unchanged.
     pub fn place(&mut self, offset: u64, bytes: &[u8]) -> Result<(), AllocError>
         requires some { 0 < length bytes.now }
         requires room { offset + length bytes.now < 2 ^ 63 }
@@ -52,7 +54,7 @@ impl Bytes {
         Ok(())
     }
 
-    /// The first bytes, so many, with zeros after the last one if there are fewer.
+    /// A copy that has `length` bytes: the first ones, with zeros after them if there are fewer.
     pub fn resized(&self, alloc: Global, length: u64) -> Result<Bytes, AllocError>
         requires { length < 2 ^ 63 }
         ensures { IfOk result (λ file. file ≡ take length (self.now ++ replicate length 0)) }
@@ -62,6 +64,7 @@ impl Bytes {
     }
 }
 
+/// At most `count` bytes from `offset` on.
 fn part(bytes: &[u8], offset: usize, count: usize) -> &[u8]
     ensures { result.now ≡ take count (drop offset bytes.now) }
 {
@@ -71,6 +74,7 @@ fn part(bytes: &[u8], offset: usize, count: usize) -> &[u8]
     &rest[..end]
 }
 
+/// Writes bytes at an offset, with zeros between the old end and the offset.
 fn place(content: &mut Vec<u8>, offset: usize, bytes: &[u8]) -> Result<(), AllocError>
     requires some { 0 < length bytes.now }
     requires room { offset + length bytes.now < 2 ^ 63 }
@@ -85,7 +89,7 @@ fn place(content: &mut Vec<u8>, offset: usize, bytes: &[u8]) -> Result<(), Alloc
     Ok(())
 }
 
-/// Puts bytes over others, which reach as far.
+/// Replaces the bytes at an offset; they don't reach past the end.
 fn overwrite(content: &mut [u8], offset: usize, bytes: &[u8])
     requires { offset + length bytes.now ≤ length content.old }
     ensures bytes { content.new ≡ take offset content.old ++ bytes.now
@@ -95,6 +99,7 @@ fn overwrite(content: &mut [u8], offset: usize, bytes: &[u8])
     content[offset..offset + bytes.len()].copy_from_slice(bytes);
 }
 
+/// A copy that has `length` bytes: the first ones, with zeros after them if there are fewer.
 fn resized(alloc: Global, bytes: &[u8], length: usize) -> Result<Vec<u8>, AllocError>
     ensures { IfOk result (λ v. v.items ≡ take length (bytes.now ++ replicate length 0)) }
 {

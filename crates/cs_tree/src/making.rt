@@ -1,4 +1,4 @@
-//! What a store makes before it changes anything.
+//! What a store allocates before it changes anything.
 ghost use Rattle.std.specs.Prelude.{◌≡◌, ◌≢◌, [], IfOk, IsErr};
 ghost use Rattle.cs_tree_model.specs.Effects.{new_content, new_record};
 ghost use Rattle.cs_tree_model.specs.Record.{is_marked};
@@ -7,7 +7,7 @@ use cs_names::UserName;
 use cs_tree_model::{Content, Kind, New, Record, Stamp, is_directory_mode};
 use std::alloc::{AllocError, Global};
 
-/// The bytes in a memory of their own; no byte takes none.
+/// A copy of the bytes; it takes no memory if there are none.
 pub fn try_clone_bytes(alloc: Global, bytes: &[u8]) -> Result<Vec<u8>, AllocError>
     ensures value { IfOk result (λ v. v.items ≡ bytes.now) }
     ensures memory { IsErr result → bytes.now ≢ [] }
@@ -18,7 +18,7 @@ pub fn try_clone_bytes(alloc: Global, bytes: &[u8]) -> Result<Vec<u8>, AllocErro
     Vec::from_slice(alloc, bytes)
 }
 
-/// The name again, if there is one.
+/// A copy of the name, if there is one.
 pub fn try_clone_name(name: &Option<UserName>) -> Result<Option<UserName>, AllocError>
     ensures { IfOk result (λ again. again ≡ name.now) }
 {
@@ -28,7 +28,7 @@ pub fn try_clone_name(name: &Option<UserName>) -> Result<Option<UserName>, Alloc
     }
 }
 
-/// The record of a new file.
+/// The record of a new file or directory, which the stamp's user made at the stamp's moment.
 pub fn new_record(
     alloc: Global,
     number: u64,
@@ -53,6 +53,7 @@ pub fn new_record(
     })
 }
 
+/// The content of a new file: no bytes, or a directory's if the mode says so.
 fn new_content(alloc: Global, mode: u32) -> Content
     ensures { result ≡ new_content mode }
 {

@@ -1,4 +1,4 @@
-//! The nodes by their numbers.
+//! The nodes of a tree by their numbers.
 ghost use Rattle.std.specs.Prelude.{◌≡◌, ◌≢◌, ◌+◌, ◌<◌, ◌^◌, ℕ, nat_eq, List, None, Some, OnOk};
 ghost use Rattle.std.specs.Prelude.{OnErr, IfOk, IfSome, IsSome, length, option_and_then};
 ghost use Rattle.std.specs.Prelude.{string_bytes, unwrap_or};
@@ -17,7 +17,7 @@ use std::alloc::{AllocError, Global};
 use std::collections::HashMap;
 use std::mem;
 
-/// The table of the root alone.
+/// The table that has only the root.
 pub fn root_table(alloc: Global, root: Record) -> Result<HashMap<u64, Node>, AllocError>
     ensures { IfOk result (λ nodes. IsRootTable (get nat_eq nodes) root) }
 {
@@ -26,13 +26,14 @@ pub fn root_table(alloc: Global, root: Record) -> Result<HashMap<u64, Node>, All
     Ok(nodes)
 }
 
-/// Enters a file into a directory.
+/// Adds an entry to a directory. After an error the table is unchanged.
 fn link(
     nodes: &mut HashMap<u64, Node>,
     directory: u64,
     name: String,
     number: u64,
 ) -> Result<(), AllocError>
+    requires { IsSome (get nat_eq nodes.old directory) }
     ensures ok { OnOk result
         (Alike (step_at (get nat_eq nodes.old) directory
         (λ d. with_child d (string_bytes name) number)) (get nat_eq nodes.new)) }
@@ -41,11 +42,11 @@ fn link(
 {
     match nodes.get_mut(&directory) {
         Some(node) => node.link(name, number),
-        None => Ok(()),
+        None => unreachable!(),
     }
 }
 
-/// Puts a node into the table, which has room for it.
+/// Adds a node to the table, which has room for it.
 fn put(nodes: &mut HashMap<u64, Node>, number: u64, node: Node)
     requires { 0 < spare nodes.old }
     ensures { Alike (with_at (get nat_eq nodes.old) number (Some node)) (get nat_eq nodes.new) }
@@ -56,7 +57,7 @@ fn put(nodes: &mut HashMap<u64, Node>, number: u64, node: Node)
     }
 }
 
-/// Puts a new node into the table and into its directory.
+/// Adds a new node to the table, and an entry to its directory. After an error neither is there.
 pub fn grow(
     nodes: &mut HashMap<u64, Node>,
     directory: u64,
@@ -64,6 +65,7 @@ pub fn grow(
     number: u64,
     node: Node,
 ) -> Result<(), AllocError>
+    requires { IsSome (get nat_eq nodes.old directory) }
     ensures ok { OnOk result
         (Alike (with_at
         (step_at (get nat_eq nodes.old) directory (λ d. with_child d (string_bytes name) number))
@@ -76,7 +78,7 @@ pub fn grow(
     Ok(())
 }
 
-/// Counts a change of a directory's entries.
+/// Stamps a directory after a change of its entries.
 pub fn stamp_node(nodes: &mut HashMap<u64, Node>, number: u64, stamp: Stamp)
     requires { CanStampNode (get nat_eq nodes.old) number }
     ensures { Alike (step_at (get nat_eq nodes.old) number (λ d. with_stamp d stamp))
@@ -87,7 +89,7 @@ pub fn stamp_node(nodes: &mut HashMap<u64, Node>, number: u64, stamp: Stamp)
     }
 }
 
-/// Takes a name out of a directory, and stamps the directory.
+/// Removes an entry of a directory, and stamps the directory.
 fn unlink(nodes: &mut HashMap<u64, Node>, directory: u64, name: &str, stamp: Stamp)
     requires { CanStampNode (get nat_eq nodes.old) directory }
     ensures { Alike
@@ -100,8 +102,9 @@ fn unlink(nodes: &mut HashMap<u64, Node>, directory: u64, name: &str, stamp: Sta
     }
 }
 
-/// Takes a file out of the table and out of its directory, which is stamped.
+/// Removes a file from the table and from its directory, which is stamped.
 pub fn take_out(nodes: &mut HashMap<u64, Node>, number: u64, stamp: Stamp)
+    requires there { IsSome (get nat_eq nodes.old number) }
     requires named { IfSome (get nat_eq nodes.old number) (λ d. IsSome d.name) }
     requires vers { IfSome (get nat_eq nodes.old number)
         (λ d. CanStampNode (get nat_eq nodes.old) d.parent) }
@@ -109,14 +112,14 @@ pub fn take_out(nodes: &mut HashMap<u64, Node>, number: u64, stamp: Stamp)
         (λ d. Alike (without_node (get nat_eq nodes.old) number d stamp) (get nat_eq nodes.new)) }
 {
     let Some(node) = nodes.remove(&number) else {
-        return;
+        unreachable!();
     };
     if let Some(name) = &node.name {
         unlink(nodes, node.parent, name.as_str(), stamp);
     }
 }
 
-/// Puts bytes into a file.
+/// Writes bytes into a file at an offset, and stamps it. After an error it is unchanged.
 pub fn write(
     nodes: &mut HashMap<u64, Node>,
     number: u64,
@@ -124,6 +127,7 @@ pub fn write(
     bytes: &[u8],
     stamp: Stamp,
 ) -> Result<(), AllocError>
+    requires there { IsSome (get nat_eq nodes.old number) }
     requires vers { CanStampNode (get nat_eq nodes.old) number }
     requires some { 0 < length bytes.now }
     requires room { offset + length bytes.now < 2 ^ 63 }
@@ -134,11 +138,11 @@ pub fn write(
 {
     match nodes.get_mut(&number) {
         Some(node) => node.write(offset, bytes, stamp),
-        None => Ok(()),
+        None => unreachable!(),
     }
 }
 
-/// Gives a file another name, and gives back the one that it had.
+/// Sets the name of a file's node, and returns the old one.
 fn set_name(nodes: &mut HashMap<u64, Node>, number: u64, name: Name) -> Option<Name>
     ensures old { result ≡ option_and_then (λ d. d.name) (get nat_eq nodes.old number) }
     ensures set { Alike (step_at (get nat_eq nodes.old) number (λ d. with_name d name))
@@ -150,13 +154,16 @@ fn set_name(nodes: &mut HashMap<u64, Node>, number: u64, name: Name) -> Option<N
     }
 }
 
-/// Gives a file another name in its directory, which is stamped.
+/// Renames a file in its directory, which is stamped. After an error nothing has changed.
 pub fn rename(
     nodes: &mut HashMap<u64, Node>,
     number: u64,
     name: &Name,
     stamp: Stamp,
 ) -> Result<(), AllocError>
+    requires there { IsSome (get nat_eq nodes.old number) }
+    requires above { IfSome (get nat_eq nodes.old number)
+        (λ d. IsSome (get nat_eq nodes.old d.parent)) }
     requires named { IfSome (get nat_eq nodes.old number) (λ d. IsSome d.name) }
     requires vers { IfSome (get nat_eq nodes.old number)
         (λ d. CanStampNode (get nat_eq nodes.old) d.parent) }
@@ -168,7 +175,7 @@ pub fn rename(
 {
     let directory = match nodes.get(&number) {
         Some(node) => node.parent,
-        None => return Ok(()),
+        None => unreachable!(),
     };
     let key = name.as_string().clone()?;
     let name = name.try_clone()?;
@@ -179,7 +186,8 @@ pub fn rename(
     Ok(())
 }
 
-/// The bytes of a file, so many as are asked; None if no length is asked, and of a directory.
+/// A copy of a file's bytes with that length, past the old end zeros. None if no length is given,
+/// or if the number isn't a file's.
 pub fn resized(
     alloc: Global,
     nodes: &HashMap<u64, Node>,
@@ -201,8 +209,8 @@ pub fn resized(
     }
 }
 
-/// Gives a file the fields of a change but its name: `group` is the change's group, and `bytes`
-/// what the change's length makes of the bytes.
+/// Sets the fields that a change names, except the name: `group` is the change's group, and `bytes`
+/// are the file's bytes with the change's length.
 pub fn change(
     nodes: &mut HashMap<u64, Node>,
     number: u64,

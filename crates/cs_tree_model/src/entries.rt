@@ -1,4 +1,4 @@
-//! The entries of a directory, one after the other.
+//! The entries of a directory, in the byte order of their names.
 ghost use Rattle.std.specs.Prelude.{◌≡◌, None, Some, IfNone, IfSome, IsFalse, IsSome, IsTrue};
 ghost use Rattle.std.specs.Prelude.{string_bytes};
 ghost use Rattle.std.specs.BTreeMap.{get_by_text};
@@ -11,14 +11,15 @@ use cs_names::Name;
 use std::collections::BTreeMap;
 use std::ops::Bound;
 
-/// A file's name in its directory, lent by the store, and its number.
+/// An entry of a directory, lent by the store: the file's name in it, and the file's number.
 #[derive(Clone, Copy, Debug)]
 pub struct ListedEntry<'a> {
     pub name: &'a Name,
     pub number: u64,
 }
 
-/// The first entry of a map after a name, or of all.
+/// The first entry of a map whose key comes after `last`, or of the whole map if that is None. None
+/// if there is no such entry.
 fn after<'a, X>(map: &'a BTreeMap<String, X>, last: Option<&Name>) -> Option<(&'a String, &'a X)>
     ensures some { IfSome result
         (λ e. IsEntry (λ y. IsSome (get_by_text map.now y)) (option_copied last.entry)
@@ -40,7 +41,7 @@ fn after<'a, X>(map: &'a BTreeMap<String, X>, last: Option<&Name>) -> Option<(&'
     }
 }
 
-/// Whether a name comes before the bound.
+/// Whether a name comes before the bound; true if there is no bound.
 fn is_before(bound: Option<&Name>, name: &str) -> bool
     ensures { result ≡ comes_before (option_copied bound.entry) name.now }
 {
@@ -50,8 +51,8 @@ fn is_before(bound: Option<&Name>, name: &str) -> bool
     }
 }
 
-/// The first entry of a map after a name, or of all, if it comes before the bound. It takes no
-/// memory, and time logarithmic in the map.
+/// The first entry of a map after `last`, or of the whole map if that is None, and None if it
+/// doesn't come before the bound. It takes no memory, and time logarithmic in the size of the map.
 pub fn first_after<'a, X>(
     map: &'a BTreeMap<String, X>,
     last: Option<&Name>,
@@ -72,7 +73,7 @@ pub fn first_after<'a, X>(
     Some((name, value))
 }
 
-/// Whether no file is in the directory; true also of a file, and of a number without a record.
+/// Whether the directory has no entries. Also true of a file, and of a number that has no record.
 pub fn is_empty<T: TreeRead>(tree: &T, directory: u64) -> bool
     ensures empty { IsTrue result → (x : NameBytes)
         → number_in (T.tree tree.now) directory x ≡ None }

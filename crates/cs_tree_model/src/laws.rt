@@ -1,4 +1,4 @@
-//! Laws of trees that change. A call of a function here does nothing: its contract is the law.
+//! Laws of trees that change. Calling a function here does nothing: its contract is the law.
 ghost use Rattle.std.specs.Prelude.{◌≡◌, ◌≢◌, ◌+◌, ◌≤◌, ◌∷◌, [], ◌++◌, ℕ, List, Option, None, Some};
 ghost use Rattle.std.specs.Prelude.{IfSome, IsSome};
 ghost use Rattle.std.specs.Option.{option_map, option_map_or};
@@ -19,13 +19,15 @@ use crate::read::TreeRead;
 use crate::record::Record;
 use cs_names::Path;
 
-/// In the tree of a listing each mode says rightly whether its record is a directory's.
+/// In the tree of a listing, each mode has a directory's bit exactly if its record is a
+/// directory's.
 pub fn listings_are_marked(records: &[(Path, Record)])
     requires { IsListing records.now }
     ensures { AreMarked (tree_of_records records.now) }
 {}
 
-/// And so they do after any call of a store; a change keeps the directory's bit as it is.
+/// After any call of a store, modes still have a directory's bit exactly if their records are
+/// directories'. This requires that a change keeps that bit as it is.
 pub fn calls_keep_marks<T: TreeRead>(tree: &T)
     requires is_tree { IsTree (T.tree tree.now) }
     requires marked { AreMarked (T.tree tree.now) }
@@ -40,9 +42,9 @@ pub fn calls_keep_marks<T: TreeRead>(tree: &T)
         → AreMarked (tree_with_change n c s (T.tree tree.now)) }
 {}
 
-/// A new name of a file renames every path that begins with the file's own, and leaves every other:
-/// all below a directory keep their numbers and move with it. It changes no record but the file's
-/// own and its directory's.
+/// A new name of a file renames every path that begins with the file's path, and no other: files
+/// below a directory keep their numbers and move with it. The only records that change are the
+/// file's and its directory's.
 pub fn rename_moves_what_is_below<T: TreeRead>(
     tree: &T,
     number: u64,
@@ -66,8 +68,8 @@ pub fn rename_moves_what_is_below<T: TreeRead>(
         (path_numbered (T.tree tree.now) n))) }
 {}
 
-/// A remove takes one file out of the tree. Every other keeps its path, and its record too unless
-/// it is the directory that had the file.
+/// A remove takes one file out of the tree. Every other file keeps its path, and keeps its record
+/// unless it is the directory that had the removed file.
 pub fn remove_leaves_the_others<T: TreeRead>(tree: &T, number: u64, stamp: &Stamp)
     requires is_tree { IsTree (T.tree tree.now) }
     requires not_root { number ≢ 0 }
@@ -82,7 +84,7 @@ pub fn remove_leaves_the_others<T: TreeRead>(tree: &T, number: u64, stamp: &Stam
         ≡ record_numbered (T.tree tree.now) n }
 {}
 
-/// A tree stays a tree after any call of a store, under the call's own conditions.
+/// A tree is still a tree after any call of a store that meets the call's conditions.
 pub fn calls_keep_trees<T: TreeRead>(tree: &T)
     requires { IsTree (T.tree tree.now) }
     ensures added { (d : ℕ) (x : NameBytes) (w : new.New) (s : stamp.Stamp)
@@ -100,8 +102,8 @@ pub fn calls_keep_trees<T: TreeRead>(tree: &T)
         → IsTree (tree_with_change n c s (T.tree tree.now)) }
 {}
 
-/// A number is given once. No file has the next number or one above it; a new file takes the next
-/// one, which grows by one; and no other call gives a number to a file.
+/// A number is given once. No file has the next number or a higher one. A new file takes the next
+/// number, which then grows by one. No other call gives a file a number.
 pub fn numbers_are_given_once<T: TreeRead>(tree: &T)
     requires { IsTree (T.tree tree.now) }
     ensures free { (n : ℕ) → (T.tree tree.now).next ≤ n
@@ -130,8 +132,8 @@ pub fn numbers_are_given_once<T: TreeRead>(tree: &T)
         → record_numbered (tree_with_change f c s (T.tree tree.now)) n ≡ None }
 {}
 
-/// A listing goes on: the names of a directory after the last one are the next name and the names
-/// after it. So a reader that asks for one entry after the other meets each name once.
+/// The names of a directory after a given one are the next name and the names after that. So a
+/// reader that asks for one entry after another meets each name once.
 pub fn listing_goes_on<T: TreeRead>(tree: &T, directory: u64)
     ensures { (last : Option NameBytes)
         → names_after (T.tree tree.now) directory last

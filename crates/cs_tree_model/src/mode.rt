@@ -1,4 +1,4 @@
-//! The high bits of a file's mode, which stand above its permissions (stat(5), open(5)).
+//! The high bits of a file's mode, above its permissions (stat(5), open(5)).
 ghost use Rattle.std.specs.Prelude.{◌≡◌};
 ghost use Rattle.cs_tree_model.specs.Mode.{is_directory_mode};
 
@@ -11,7 +11,7 @@ pub const DMEXCL: u32 = 0x2000_0000;
 /// A file that is not worth a backup.
 pub const DMTMP: u32 = 0x0400_0000;
 
-/// Whether the mode is a directory's.
+/// Whether the mode has a directory's bit.
 pub fn is_directory_mode(mode: u32) -> bool
     ensures { result ≡ is_directory_mode mode }
 {

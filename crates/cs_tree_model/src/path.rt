@@ -1,4 +1,4 @@
-//! The path of a file of any store.
+//! The path of a file in any store.
 ghost use Rattle.std.specs.Prelude.{◌≡◌, ◌≢◌, [], IfOk, IsErr, IsSomeAnd};
 ghost use Rattle.cs_tree_model.specs.Tree.{path_numbered};
 
@@ -6,8 +6,8 @@ use crate::read::TreeRead;
 use cs_names::Path;
 use std::alloc::{AllocError, Global};
 
-/// The names from the root down to the file; none for the root, and None if no record has the
-/// number. Only the names that are given take memory.
+/// The names from the root down to the file with that number: no names for the root, and None if no
+/// record has the number. Only the names that are returned take memory.
 pub fn path_of<T: TreeRead>(
     alloc: Global,
     tree: &T,

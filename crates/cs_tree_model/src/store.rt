@@ -15,8 +15,8 @@ use std::alloc::{AllocError, Global};
 /// A store whose tree changes. Each call allocates before it changes anything, and after
 /// an error the tree is as it was.
 pub trait TreeStore: TreeRead {
-    /// A new file in a directory, whose group it takes; the directory is stamped. Gives the file's
-    /// number, the next one.
+    /// Makes a new file in a directory, whose group it gets, and stamps the directory. Returns the
+    /// file's number, which is the tree's next one.
     fn add(
         &mut self,
         alloc: Global,
@@ -34,7 +34,8 @@ pub trait TreeStore: TreeRead {
             (Self.tree self.new ≡ tree_with_file directory name new stamp (Self.tree self.old)) }
         ensures err { OnErr result (Self.tree self.new ≡ Self.tree self.old) };
 
-    /// Takes out a file, or a directory without entries; not the root. Its directory is stamped.
+    /// Removes a file, or a directory without entries, but not the root. The directory that had it
+    /// is stamped.
     fn remove(&mut self, alloc: Global, number: u64, stamp: Stamp) -> Result<(), AllocError>
         requires not_root { number ≢ 0 }
         requires there { IsSome (record_numbered (Self.tree self.old) number) }
@@ -44,8 +45,8 @@ pub trait TreeStore: TreeRead {
             (Self.tree self.new ≡ tree_without_file number stamp (Self.tree self.old)) }
         ensures err { OnErr result (Self.tree self.new ≡ Self.tree self.old) };
 
-    /// Puts at least one byte into a file, at an offset; between its end and the offset stand
-    /// zeros. The file is stamped.
+    /// Writes at least one byte into a file, at an offset, and stamps the file. If the offset is
+    /// past the end, the bytes between are zeros.
     fn write_at(
         &mut self,
         alloc: Global,
@@ -62,9 +63,9 @@ pub trait TreeStore: TreeRead {
             (Self.tree self.new ≡ written_to number offset bytes.now stamp (Self.tree self.old)) }
         ensures err { OnErr result (Self.tree self.new ≡ Self.tree self.old) };
 
-    /// Gives a file the fields that the change names: all of them, or after an error none.
-    /// The file's version grows by one; another length also sets its mtime and muid to the stamp's,
-    /// before an mtime that is named; another name stamps its directory.
+    /// Gives a file the fields that the change names: all of them, or after an error none. The
+    /// file's version grows by one. A length also sets mtime and muid to the stamp's, and then an
+    /// mtime that is named replaces that. A name stamps the directory.
     fn change(
         &mut self,
         alloc: Global,

@@ -1,4 +1,4 @@
--- Ascending numbers, and where they are found.
+-- Ascending numbers, and the places at which they are found.
 use Rattle.std.proofs.Common.{◌≡◌, ℕ, zero, suc, ◌+◌, ◌<◌, ◌≤◌, ◌==◌, ◌||◌, Bool, true, false, Result, Ok, Err, List, [], ◌∷◌, length}
 use Rattle.std.proofs.Common.{get_or, refl, sym, subst, ap, ◌∙◌, ⊎_elim, add-one, arith, Contains}
 use Rattle.std.specs.Prelude.{nat_eq, is_ok}

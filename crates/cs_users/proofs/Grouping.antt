@@ -49,7 +49,7 @@ pub filter_map-push : (place_of : List ℕ → Option ℕ) (names : List (List �
 filter_map-push place_of names name None e = filter_map-append place_of names (name ∷ []) ∙ rw e refl
 filter_map-push place_of names name (Some place) e = filter_map-append place_of names (name ∷ []) ∙ rw e refl
 
--- ---- a leader is the one who is named, or a member where none is named
+-- ---- a leader is the user that the row names, or a member if it names none
 
 so_led : (leads led empty member : Bool) → leads ≡ (led || (empty && member)) → led ≡ true → true ≡ leads
 so_led leads led empty member is told = sym (is ∙ rw told refl)
@@ -109,7 +109,7 @@ module _ (rows : List Row) (groups : List Group) (kept : AreKept rows groups) (n
         is_leader-at now at user row kept_named low within stands ∙ ap
         (λ (o : Option ℕ). is_at o user || ((length row.leader == 0) && is_member now (name_at now user) (name_at now at))) (sym leader)
 
-    -- the leader, a member where the row names no leader, and anyone else
+    -- the leader, a member if the row names no leader, and any other user
     pub led_kept : (user : ℕ) (row : Row) → user < length now → row ≡ get_or rows at row → is_at group.leader user ≡ true
         → true ≡ is_leader now (name_at now user) (name_at now at)
     led_kept user row within is_row told =

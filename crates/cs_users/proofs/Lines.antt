@@ -68,7 +68,7 @@ known_by : (spelled : Option Row) (rows : List Row) (others : Bool) (name : List
 known_by None rows others name h = h
 known_by (Some row) rows others name h = ap (λ (b : Bool). same_name row.name name || b) h
 
--- the rows of the lines have a name where one of the lines has it
+-- the rows of the lines have a name if one of the lines has it
 pub is_known-rows_in : (lines : List (List ℕ)) (name : List ℕ) → is_known (rows_in lines) name ≡ list_any (names name) lines
 is_known-rows_in [] name = refl
 is_known-rows_in (line ∷ lines) name =

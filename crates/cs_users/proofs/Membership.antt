@@ -38,7 +38,7 @@ unless : (none : Bool) (found : Option ℕ) (p : ℕ) → cond none None found �
 unless true found p e = absurd cc
 unless false found p e = e
 
--- a name is found at the place of a user where it is that user's, who is somebody
+-- a name is found at the place of a user if it is that user's, and not `none`
 is_at-somebody : (rows : List Row) (user name : List ℕ) (place : ℕ) → place_of rows user ≡ Some place
     → is_at (somebody_at rows name) place ≡ (same_name name user && not (same_name user none_name))
 is_at-somebody rows user name place there =
@@ -69,7 +69,7 @@ shared true false true = refl
 shared true false false = refl
 shared false b c = refl
 
--- the place of a user who is somebody is found where the name is among them
+-- the place of a user other than `none` is found if the name is among them
 has-somebody : (rows : List Row) (user : List ℕ) (place : ℕ) (names : List (List ℕ)) → place_of rows user ≡ Some place
     → has (filter_map (somebody_at rows) names) place ≡ (list_any (λ name. same_name name user) names && not (same_name user none_name))
 has-somebody rows user place [] there = refl
@@ -155,7 +155,7 @@ module _ (rows : List Row) (named : AreNamed rows) (user group : List ℕ) (plac
   nobody : not (same_name user none_name) ≡ false → is_member rows user group ≡ false
   nobody none = rw user_known (rw group_known (rw none refl))
 
-  -- a leader is one whose place is the leader's, or a member where the line names no leader
+  -- a leader is one whose place is the leader's, or a member if the line names no leader
   is_leader-placed : is_leader rows user group
       ≡ (is_at (somebody_at rows row.leader) place || ((length row.leader == 0) && is_member rows user group))
   is_leader-placed =
@@ -174,7 +174,7 @@ pub members_increasing : (rows : List Row) (group : ℕ) → IsStrictlyIncreasin
 unfolding members_of
 members_increasing rows group = filter_increasing (λ user. is_member rows (name_at rows user) (name_at rows group)) (length rows)
 
--- a place is among them where a member has it
+-- a place is among them if a member has it
 pub has-members_of : (rows : List Row) (group user : ℕ) → user < length rows
     → has (members_of rows group) user ≡ is_member rows (name_at rows user) (name_at rows group)
 unfolding members_of
@@ -245,7 +245,7 @@ is_leader-no_group rows user group e =
     ∙ neither (is_known rows user) (not (same_name user none_name))
     (has_leader rows group user || (has_leader rows group [] && is_member rows user group))
 
--- what is asked of the names at two places is asked of those names
+-- a test of the names at two places is a test of those names
 pub asked_at : (asks : List Row → List ℕ → List ℕ → Bool) (rows : List Row) (user group : List ℕ) (place at : ℕ)
     → place_of rows user ≡ Some place → place_of rows group ≡ Some at
     → asks rows (name_at rows place) (name_at rows at) ≡ asks rows user group
@@ -253,7 +253,7 @@ asked_at asks rows user group place at e f =
     ap (λ (n : List ℕ). asks rows n (name_at rows at)) (name_at-place_of rows user place blank e) ∙ ap (asks rows user)
     (name_at-place_of rows group at blank f)
 
--- where a name is found among the rows that are kept, it is found among those that are seen
+-- a name that is found among the rows that are kept is found among those that are seen
 pub place_seen : (rows now : List Row) (name : List ℕ) (result found : Option ℕ) → rows ≡ now → result ≡ place_of rows name → result ≡ found
     → place_of now name ≡ found
 place_seen rows now name result found view is e = subst (λ (rs : List Row). place_of rs name ≡ found) view (sym is ∙ e)

@@ -69,7 +69,7 @@ asked_along p (row ∷ rows) name pairs =
     asked_by (same_name row.name name) p row (list_any (λ r. same_name r.name name && p r) rows) (row_named rows name)
     (asked_along p rows name (pair_tail row rows pairs)) (none_of p row rows name (others_differ row rows pairs))
 
--- what is asked of each row of a name is asked of the one row of that name
+-- what holds of each row of a name holds of the one row of that name
 pub list_any-named : (p : Row → Bool) (rows : List Row) (name : List ℕ) → AreNamed rows
     → list_any (λ r. same_name r.name name && p r) rows ≡ option_map_or p (row_named rows name) false
 list_any-named p rows name named = asked_along p rows name named.distinct

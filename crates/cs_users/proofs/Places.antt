@@ -95,7 +95,7 @@ is_some_by : (there : Bool) (place : ℕ) → is_some (cond there (Some place) N
 is_some_by true place = refl
 is_some_by false place = refl
 
--- a name has a place where it is known
+-- a name has a place if it is known
 pub is_some-place_of : (rows : List Row) (name : List ℕ) → is_some (place_of rows name) ≡ is_known rows name
 is_some-place_of rows name = is_some_by _ _ ∙ within (λ row. same_name row.name name) rows
 
@@ -125,7 +125,7 @@ the_place rows k d (Some j) named within there e =
     let at = row_at_place rows (slice_index_or rows k d).name j d e in
     ap Some (one_place rows j k d named at.0 within at.1)
 
--- a row stands at the place of its name
+-- a row is at the place of its name
 pub place_of-row : (rows : List Row) (k : ℕ) (d : Row) → AreNamed rows → k < length rows
     → place_of rows (slice_index_or rows k d).name ≡ Some k
 place_of-row rows k d named low =

@@ -5,8 +5,8 @@ use Rattle.cs_users.specs.Rows.{Row, AreNamed}
 use Rattle.cs_users.specs.Groups.{leader_of, members_of}
 use Rattle.cs_users.specs.Marks.{AreMarks}
 
--- the places of the leader and of the members of the group at that place, and a mark at each where
--- there are marks
+-- the places of the leader and of the members of the group at that place, and, if there are marks,
+-- a mark at each member
 pub record IsGroup (rows : List Row) (place : ℕ) (group : Group) : Type 0 where
   pub leader : group.leader ≡ leader_of rows place
   pub members : group.members.items ≡ members_of rows place

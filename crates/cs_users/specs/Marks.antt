@@ -7,7 +7,7 @@ use Rattle.std.specs.List.{list_any}
 abbrev pub is_marked : List ℕ → ℕ → Bool
 is_marked words place = bit_at (slice_index_or words (place / 64) 0) (place % 64) == 1
 
--- of the rows, so many as the count, just those at the places are marked
+-- of the rows 0 to count - 1 exactly those at the places are marked
 abbrev pub AreMarks : ℕ → List ℕ → List ℕ → Type 0
 AreMarks count places words =
     (place : ℕ) → place < count

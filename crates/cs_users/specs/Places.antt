@@ -1,4 +1,4 @@
--- Where the row of a name stands among the rows.
+-- The place of a name's row among the rows.
 use Rattle.std.specs.Prelude.{◌≡◌, ℕ, List, Vec, nat_eq}
 use Rattle.std.specs.Global.{Global}
 use Rattle.std.specs.HashMap.{HashMap, get_by}

@@ -44,7 +44,8 @@ rows_in lines = filter_map row_in lines
 abbrev pub names : List ℕ → List ℕ → Bool
 names name line = option_map_or (λ row. same_name row.name name) (row_in line) false
 
--- what is wrong with the name on the line of this number, where an earlier line has it or none does
+-- what is wrong with the name on the line of this number; is_taken says whether an earlier line has
+-- it
 abbrev pub fault_of_name : Bool → ℕ → List ℕ → Option UsersFault
 fault_of_name is_taken number name =
     if length name == 0 then Some (EmptyName number)
@@ -63,8 +64,8 @@ abbrev pub or_else : Option UsersFault → Option UsersFault → Option UsersFau
 or_else None later = later
 or_else (Some fault) later = Some fault
 
--- what is wrong with the first bad line, where the first list of lines precedes the second; lines
--- are counted from 1
+-- what is wrong with the first bad line of the second list; the lines of the first list precede it,
+-- and lines count from 1
 abbrev pub first_fault : List (List ℕ) → List (List ℕ) → Option UsersFault
 first_fault before [] = None
 first_fault before (line ∷ lines) =

@@ -6,19 +6,19 @@ ghost use Rattle.cs_users.specs.declared.fault.UsersFault.TheVariants.{Memory};
 use std::alloc::{AllocError, AllocFailed};
 use std::fmt;
 
-/// The first thing that is wrong with bytes that were read as a users file, or want of memory to
-/// keep it. A line's number counts from 1, skipped lines among the rest.
+/// The first fault of bytes that were read as a users file, or Memory if there is no memory to keep
+/// it. Lines count from 1, and skipped lines count too.
 #[derive(Clone, Copy, Debug, PartialEq, Eq)]
 pub enum UsersFault {
-    /// Bytes that are no UTF-8, or a NUL.
+    /// The bytes are not UTF-8, or have a NUL.
     NotText,
     /// The line hasn't exactly four fields.
     FieldCount(usize),
-    /// The line's name has no byte.
+    /// The name on the line is empty.
     EmptyName(usize),
-    /// The line's name is longer than a user's name may be.
+    /// The name on the line is longer than a user's name may be.
     LongName(usize),
-    /// An earlier line has the line's name.
+    /// An earlier line has the same name.
     Twice(usize),
     /// No memory to keep it; the file itself has no fault.
     Memory,

@@ -1,4 +1,4 @@
-//! What the lines of a users file say of other lines, as places of rows.
+//! The leader and the members that each line of a users file names, as places of rows.
 ghost use Rattle.std.specs.Prelude.{◌≡◌, ◌==◌, ◌<◌, ◌++◌, ◌∷◌, [], false, length, IfOk, IfSome};
 ghost use Rattle.std.specs.List.{filter_map, list_any};
 ghost use Rattle.std.specs.List.Sorted.{IsStrictlyIncreasing};
@@ -13,21 +13,21 @@ use crate::row::Row;
 use crate::rows::Rows;
 use std::alloc::{AllocError, Global};
 
-/// The places of a line's leader and members: of none that isn't there, and never that of `none`.
+/// The places of a line's leader and members. A name that no row has is left out, and so is `none`.
 #[derive(Debug, Drop)]
 pub(crate) struct Group {
     leader: Option<usize>,
     // they ascend
     members: Vec<usize>,
-    // the same as bits, where they are many
+    // the same as bits, if they are many
     marks: Option<Marks>,
 }
 
-/// Up to one member among so many rows is found by a search: then marks would take more than
-/// sixteen times the room of the members.
+/// A group with at most one member for this many rows has no marks, and its members are found by
+/// binary search: marks would take more than sixteen times the memory of the members.
 const FEW_AMONG: usize = 1024;
 
-/// The places of those that the line lists, as they come.
+/// The places of the members that the line lists, in its order, without those that no row has.
 fn listed(alloc: Global, rows: &Rows, row: &Row) -> Result<Vec<usize>, AllocError>
     ensures { IfOk result
         (λ places. places.items ≡ filter_map (somebody_at rows.now) row.now.members) }
@@ -37,7 +37,8 @@ fn listed(alloc: Global, rows: &Rows, row: &Row) -> Result<Vec<usize>, AllocErro
         .collect(alloc)
 }
 
-/// The same, and the place of the line's own user.
+/// The places of the members that the line lists, and the place of the line's own user: a user is
+/// a member of the group of the same name.
 fn belonging(alloc: Global, rows: &Rows, row: &Row) -> Result<Vec<usize>, AllocError>
     ensures { IfOk result
         (λ places. places.items
@@ -50,7 +51,7 @@ fn belonging(alloc: Global, rows: &Rows, row: &Row) -> Result<Vec<usize>, AllocE
     Ok(places)
 }
 
-/// A mark at each of these places, among so many rows, where they are many.
+/// Marks at these places among `count` rows; None if the members are too few to need them.
 fn marks_if_many(
     alloc: Global,
     count: usize,
@@ -66,7 +67,7 @@ fn marks_if_many(
 }
 
 impl Group {
-    /// What the line at that place says.
+    /// The leader and the members that the line at that place names.
     fn of(alloc: Global, rows: &Rows, place: usize) -> Result<Group, AllocError>
         requires { place < length rows.now }
         ensures { IfOk result (IsGroup rows.now place) }
@@ -83,6 +84,7 @@ impl Group {
         })
     }
 
+    /// The places of the members, in ascending order.
     pub(crate) fn members(&self) -> &[usize]
         ensures { result.now ≡ self.now.members.items }
     {
@@ -114,7 +116,7 @@ impl Group {
     }
 }
 
-/// What each of the lines says, in their order.
+/// The group of each line, in the order of the lines.
 pub(crate) fn groups_of(alloc: Global, rows: &Rows) -> Result<Vec<Group>, AllocError>
     ensures named { AreNamed rows.now }
     ensures groups { IfOk result (λ groups. AreGroups rows.now (length rows.now) groups.items) }

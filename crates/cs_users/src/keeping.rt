@@ -1,4 +1,4 @@
-//! The lines of a users file kept as rows, each looked at once.
+//! Makes rows of the lines of a users file, and reads each line once.
 ghost use Rattle.std.specs.Prelude.{◌≡◌, ◌⊎◌, ◌++◌, None, Some, IfErr, IfOk, IfSome, IsTrue, OnOk};
 ghost use Rattle.std.specs.Prelude.{option_to_list};
 ghost use Rattle.cs_names.specs.Pieces.{pieces};
@@ -12,7 +12,7 @@ use crate::rows::Rows;
 use cs_names::Pieces;
 use std::alloc::Global;
 
-/// Keeps the line of this number beside the rows before it, if it has no fault.
+/// The rows with that of this line at the end, or the line's fault. A skipped line adds no row.
 fn keep_line(alloc: Global, rows: Rows, number: usize, line: &[u8]) -> Result<Rows, UsersFault>
     requires { IfSome (row_in line.now) (λ row. IsText row.name) }
     ensures good { OnOk result (fault_of_line rows number line.now ≡ None) }
@@ -31,8 +31,8 @@ fn keep_line(alloc: Global, rows: Rows, number: usize, line: &[u8]) -> Result<Ro
     Ok(rows.with(alloc, row)?)
 }
 
-/// The rows of the lines, or the fault of the first bad one; Memory as soon as a growth is refused,
-/// whatever later lines say.
+/// The rows of the lines, or the fault of the first bad line. It is Memory as soon as an allocation
+/// fails, even if a later line has a fault.
 pub(crate) fn keep_lines(alloc: Global, text: &[u8]) -> Result<Rows, UsersFault>
     requires { IsTrue (is_text text.now) }
     ensures kept { IfOk result (λ rows. rows_or_fault (pieces 10 text.now) ≡ Ok rows) }

@@ -1,5 +1,5 @@
-//! The users file, users(6): who is known, who is a member of a group, who leads it, and the rights
-//! that they have on a file.
+//! The users file, users(6): which users are known, the members and the leader of each group, and
+//! the rights that a user has on a file.
 #![tactic(auto)]
 
 pub mod fault;

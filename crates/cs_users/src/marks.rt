@@ -1,10 +1,10 @@
-//! A bit for each row: where many are members, a look at one bit is faster than a search.
+//! A bit for each row: if a group has many members, reading one bit is faster than a search.
 ghost use Rattle.std.specs.Prelude.{◌≡◌, ℕ, ◌<◌, ◌/◌, ◌==◌, ◌||◌, length, IfOk};
 ghost use Rattle.cs_users.specs.Marks.{AreMarks, is_marked};
 
 use std::alloc::{AllocError, Global};
 
-/// The bits, 64 to a word. One more word than the rows fill does no harm.
+/// The bits, 64 to a word. There may be one word more than the rows need.
 #[derive(Debug, Drop)]
 pub(crate) struct Marks {
     words: Vec<u64>,
@@ -21,7 +21,7 @@ fn mark(words: &mut Vec<u64>, place: usize)
 }
 
 impl Marks {
-    /// The bits of so many rows, set at these places.
+    /// The bits of `count` rows, set at these places. A place past the last row is ignored.
     pub(crate) fn of(alloc: Global, count: usize, places: &[usize]) -> Result<Marks, AllocError>
         ensures { IfOk result (λ marks. AreMarks count places.now marks.words.items) }
     {
@@ -34,7 +34,7 @@ impl Marks {
         Ok(Marks { words })
     }
 
-    /// Whether the bit of the row at that place is set.
+    /// Whether the bit of the row at that place is set; false past the last row.
     pub(crate) fn has(&self, place: usize) -> bool
         ensures { result ≡ is_marked self.now.words.items place }
     {

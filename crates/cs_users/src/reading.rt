@@ -1,4 +1,4 @@
-//! What is wrong with a users file, found line by line without any memory.
+//! Finds the first fault of a users file, line by line, without allocating memory.
 ghost use Rattle.std.specs.Prelude.{◌≡◌, ◌+◌, ◌≤◌, [], length, take};
 ghost use Rattle.std.specs.Result.{result_err};
 ghost use Rattle.cs_names.specs.Pieces.{pieces};
@@ -10,7 +10,7 @@ use crate::row::{fields_of, is_skipped};
 use cs_names::Pieces;
 use cs_names::limits::USER_NAME_BYTES;
 
-/// Looks at the name on the line of this number, where it is told whether an earlier line has it.
+/// Checks the name on the line of this number. The caller says whether an earlier line has it.
 pub(crate) fn check_name(number: usize, name: &[u8], is_taken: bool) -> Result<(), UsersFault>
     ensures { result_err result ≡ fault_of_name is_taken number name.now }
 {
@@ -26,6 +26,7 @@ pub(crate) fn check_name(number: usize, name: &[u8], is_taken: bool) -> Result<(
     Ok(())
 }
 
+/// Whether the line has exactly four fields, isn't skipped, and its name is this one.
 fn names(name: &[u8], line: &[u8]) -> bool
     ensures { result ≡ names name.now line.now }
 {
@@ -35,7 +36,7 @@ fn names(name: &[u8], line: &[u8]) -> bool
     }
 }
 
-/// Whether one of the first so many lines has the name. It reads them again, and so takes no
+/// Whether one of the first `before` lines has the name. It reads them again, so that it needs no
 /// memory.
 fn is_named_before(text: &[u8], before: usize, name: &[u8]) -> bool
     ensures { result ≡ is_known (rows_in (take before (pieces 10 text.now))) name.now }
@@ -45,7 +46,7 @@ fn is_named_before(text: &[u8], before: usize, name: &[u8]) -> bool
         .any(|line| names(name, line))
 }
 
-/// Looks at the line that so many lines precede.
+/// Checks the line that `before` lines precede.
 fn check_line(text: &[u8], before: usize, line: &[u8]) -> Result<(), UsersFault>
     requires { before ≤ length text.now }
     ensures { result_err result
@@ -64,8 +65,8 @@ fn check_line(text: &[u8], before: usize, line: &[u8]) -> Result<(), UsersFault>
     }
 }
 
-/// Looks for the first bad line, and takes no memory: each line's name is looked for in the lines
-/// before it, so that the time goes with the square of the file's length.
+/// The fault of the first bad line, if there is one. It needs no memory: it looks for each line's
+/// name in the lines before it, so its time grows with the square of the file's length.
 pub(crate) fn check_lines(text: &[u8]) -> Result<(), UsersFault>
     ensures { result_err result ≡ first_fault [] (pieces 10 text.now) }
 {

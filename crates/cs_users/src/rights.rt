@@ -17,7 +17,7 @@ pub enum Right {
 }
 
 impl Right {
-    /// Its bit among those of others: 4, 2 or 1.
+    /// The right's bit among those of others: 4, 2 or 1.
     fn bit(self) -> u32
         ensures value { result ≡ bit_of self }
         ensures small { result ≤ 4 }
@@ -46,8 +46,8 @@ pub fn owns(user: &[u8], owner: &[u8]) -> bool
 }
 
 /// Whether the user has the right on a file of this owner, group and mode: by the bits of others,
-/// by the owner's where the user owns the file, or by the group's where the user is a member of its
-/// group. So `none` has others' bits alone. The group is asked for only where its bit decides.
+/// by the owner's bits if the user owns the file, or by the group's if the user is a member of its
+/// group. So `none` has only the bits of others. The group is looked up only if its bit decides.
 pub fn has_right(
     users: &Users,
     user: &[u8],

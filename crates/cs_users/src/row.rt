@@ -1,4 +1,4 @@
-//! A line of the users file, as it stands there and as it is kept.
+//! A line of the users file, as it is in the file and as it is kept.
 ghost use Rattle.std.specs.Prelude.{◌≡◌, IfOk};
 ghost use Rattle.std.specs.Option.{option_map};
 ghost use Rattle.cs_names.specs.Legal.{IsUserName};
@@ -11,7 +11,7 @@ use cs_names::{NameFault, Pieces, UserName};
 use std::alloc::{AllocError, Global};
 use std::marker::Model;
 
-/// The four fields of a line, as they stand in the file.
+/// The four fields of a line, borrowed from the file's bytes.
 #[derive(Drop)]
 pub(crate) struct Fields<'a> {
     id: &'a [u8],
@@ -20,7 +20,7 @@ pub(crate) struct Fields<'a> {
     members: &'a [u8],
 }
 
-/// A line that is kept. The members stay one text, with their commas.
+/// A line that is kept. The members stay one text with commas.
 #[derive(Debug, Drop)]
 pub(crate) struct Row {
     id: Vec<u8>,
@@ -78,7 +78,7 @@ pub(crate) fn fields_of(line: &[u8]) -> Option<Fields<'_>>
     split_fields(line)
 }
 
-/// Keeps a name that is legal, so that nothing but memory can be wanting.
+/// A copy of a name that is legal, so that only an allocation can fail.
 fn keep_name(alloc: Global, name: &[u8]) -> Result<UserName, AllocError>
     requires { IsUserName name.now }
     ensures { IfOk result (λ kept. kept ≡ name.now) }
@@ -91,6 +91,7 @@ fn keep_name(alloc: Global, name: &[u8]) -> Result<UserName, AllocError>
 }
 
 impl Row {
+    /// The row of these fields, with copies of them.
     pub(crate) fn keep(alloc: Global, fields: &Fields) -> Result<Row, AllocError>
         requires { IsUserName fields.now.name.now }
         ensures { IfOk result (λ row. row ≡ row_of fields.now) }
@@ -103,7 +104,7 @@ impl Row {
         })
     }
 
-    /// The same row again.
+    /// A copy of the row.
     pub(crate) fn try_clone(&self) -> Result<Row, AllocError>
         ensures { IfOk result (λ row. row ≡ self.now) }
     {
@@ -115,6 +116,7 @@ impl Row {
         })
     }
 
+    /// The name of the user or group, which is legal.
     pub(crate) fn name(&self) -> &[u8]
         ensures value { result.now ≡ self.now.name }
         ensures legal { IsUserName self.now.name }
@@ -122,13 +124,14 @@ impl Row {
         self.name.as_bytes()
     }
 
+    /// The leader's name; empty if the line has none.
     pub(crate) fn leader(&self) -> &[u8]
         ensures { result.now ≡ self.now.leader }
     {
         self.leader.as_slice()
     }
 
-    /// The users that the line lists.
+    /// The names of the members that the line lists. One may be empty or unknown.
     pub(crate) fn members(&self) -> Pieces<'_>
         ensures { pieces_left result ≡ self.now.members }
     {

@@ -9,7 +9,7 @@ use std::alloc::{AllocError, Global};
 use std::collections::HashMap;
 use std::marker::Model;
 
-/// Rows that each have a legal name of their own. Contracts see the list of the rows.
+/// Rows with legal names, all different. Contracts see the list of the rows.
 #[derive(Debug, Drop)]
 pub(crate) struct Rows {
     rows: Vec<Row>,
@@ -30,7 +30,7 @@ impl Model for Rows {
     ghost invariant = { λ rows. IsIndexed rows.rows.items rows.places };
 }
 
-/// Whether it is the user `none`, who belongs to no group, leads none and owns nothing.
+/// Whether it is the user `none`, which is a member of no group, leads none and owns nothing.
 pub(crate) fn is_none(user: &[u8]) -> bool
     ensures { result ≡ same_name user.now none_name }
 {
@@ -38,6 +38,7 @@ pub(crate) fn is_none(user: &[u8]) -> bool
 }
 
 impl Rows {
+    /// No rows.
     pub(crate) fn new(alloc: Global) -> Rows
         ensures { result ≡ [] }
     {
@@ -47,7 +48,7 @@ impl Rows {
         }
     }
 
-    /// The same with one more row at the end.
+    /// The rows with one more at the end, whose name no row has yet.
     pub(crate) fn with(self, alloc: Global, row: Row) -> Result<Rows, AllocError>
         requires { is_known self row.name ≡ false }
         ensures { IfOk result (λ more. more ≡ self ++ row ∷ []) }
@@ -62,7 +63,7 @@ impl Rows {
         Ok(Rows { rows, places })
     }
 
-    /// The same rows again.
+    /// A copy of the rows.
     pub(crate) fn try_clone(&self, alloc: Global) -> Result<Rows, AllocError>
         ensures { IfOk result (λ copy. copy ≡ self.now) }
     {
@@ -73,6 +74,7 @@ impl Rows {
         Ok(copy)
     }
 
+    /// The number of rows.
     pub(crate) fn len(&self) -> usize
         ensures value { result ≡ length self.now }
         ensures named { AreNamed self.now }
@@ -80,7 +82,7 @@ impl Rows {
         self.rows.len()
     }
 
-    /// The row at that place.
+    /// The row at that place, from 0.
     pub(crate) fn at(&self, place: usize) -> &Row
         requires { place < length self.now }
         ensures row { result.now ≡ slice_index_or self.now place result.now }
@@ -89,7 +91,7 @@ impl Rows {
         &self.rows[place]
     }
 
-    /// The place of the row of that name.
+    /// The place of the row of that name, from 0; None if no row has it.
     pub(crate) fn place_of(&self, name: &[u8]) -> Option<usize>
         ensures { result ≡ place_of self.now name.now }
     {
@@ -103,7 +105,7 @@ impl Rows {
         self.place_of(name).is_some()
     }
 
-    /// The place of the row of that name, unless it is that of `none`.
+    /// The place of the row of that name; None if no row has it, and for `none`.
     pub(crate) fn somebody_at(&self, name: &[u8]) -> Option<usize>
         ensures { result ≡ somebody_at self.now name.now }
     {

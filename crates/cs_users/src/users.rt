@@ -1,4 +1,4 @@
-//! Who is known, who belongs to a group, and who leads it.
+//! Which users are known, which belong to a group, and which lead it.
 ghost use Rattle.std.specs.Prelude.{◌≡◌, ◌⊎◌, ◌↔◌, ◌<◌, Ok, Err, length, IfErr, IfOk, IfSome};
 ghost use Rattle.std.specs.Prelude.{IsSome, IsTrue};
 ghost use Rattle.cs_names.specs.Legal.{IsUserName};
@@ -20,12 +20,12 @@ use cs_names::is_text;
 use std::alloc::{AllocError, Global};
 use std::marker::Model;
 
-/// The users and groups of a users file, users(6), each with a legal name of its own. Contracts see
-/// what the file's lines say, in their order: the list of its rows.
+/// The users and groups of a users file, users(6), with legal names that are all different.
+/// Contracts see the list of the file's rows, in the order of its lines.
 #[derive(Debug, Drop)]
 pub struct Users {
     rows: Rows,
-    // what each row says of others
+    // the group of each row
     groups: Vec<Group>,
 }
 
@@ -44,9 +44,9 @@ impl Model for Users {
 
 impl Users {
     /// The users file that the bytes spell: lines `id:name:leader:members`, the members with commas
-    /// between them, where empty lines and those that begin with `#` are skipped. Else NotText, or
-    /// the first of FieldCount, EmptyName, LongName, Twice on the first bad line; Memory only where
-    /// the file has no fault. So each row has a legal name of its own.
+    /// between them; empty lines and those that begin with `#` are skipped. Else NotText, or the
+    /// first of FieldCount, EmptyName, LongName, Twice on the first bad line. It is Memory only if
+    /// the file has no fault.
     pub fn read(alloc: Global, bytes: &[u8]) -> Result<Users, UsersFault>
         ensures exact { ReadsAs UsersFault.Memory result (users_in bytes.now) }
         ensures named { IfOk result AreNamed }
@@ -64,7 +64,8 @@ impl Users {
         }
     }
 
-    /// The same of a text; Memory as soon as a growth is refused, whatever later lines say.
+    /// The users file that a text spells, or its first fault. It is Memory as soon as an allocation
+    /// fails, even if a later line has a fault.
     fn keep(alloc: Global, text: &[u8]) -> Result<Users, UsersFault>
         requires { IsTrue (is_text text.now) }
         ensures kept { IfOk result (λ users. rows_or_fault (pieces 10 text.now) ≡ Ok users) }
@@ -78,7 +79,7 @@ impl Users {
         Ok(Users { rows, groups })
     }
 
-    /// The same users again.
+    /// A copy of the users.
     pub fn try_clone(&self, alloc: Global) -> Result<Users, AllocError>
         ensures { IfOk result (λ copy. copy ≡ self.now) }
     {
@@ -126,8 +127,8 @@ impl Users {
         }
     }
 
-    /// The places, from 0, of the rows whose users are members of the group at that place, in
-    /// ascending order; None past the last row.
+    /// The places, from 0 and in ascending order, of the members of the group at that place; None
+    /// past the last row.
     pub fn members(&self, group: usize) -> Option<&[usize]>
         ensures some { IsSome result ↔ (group < length self.now) }
         ensures members { IfSome result (λ places. places.now ≡ members_of self.now group) }

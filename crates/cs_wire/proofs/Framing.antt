@@ -8,7 +8,7 @@ use Rattle.cs_wire.specs.Messages.{Side, Message, Fits, fields_of, spelling}
 use Rattle.cs_wire.specs.Framing.{size_in, IsWhole}
 use Rattle.cs_wire.proofs.Messages.{spelling_len}
 
--- the size stands in the first four bytes
+-- the first four bytes are the size
 pub size_in-append : (front more : List ℕ) → 4 ≤ length front → size_in (front ++ more) ≡ size_in front
 unfolding size_in
 size_in-append front more long =

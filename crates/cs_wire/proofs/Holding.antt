@@ -24,7 +24,7 @@ pub left-taken : (items : List ℕ) (place filled count : ℕ) → place ≤ fil
 left-taken items place filled count before within =
     drop-append-le place (take filled items) (take count (drop filled items)) (omega (arith, before, length-take-le filled items within))
 
--- what is written into the room stands behind what came
+-- what is written into the room comes after the bytes that came
 pub held-written : (items : List ℕ) (place filled long : ℕ) (w : List ℕ) → filled ≤ length items → long ≡ length items
     → let whole = take filled items ++ (w ++ drop (length w) (drop filled items)) in
     held (take long (whole ++ drop (length whole) items)) place filled ≡ record (held items place filled) {

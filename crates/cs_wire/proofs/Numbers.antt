@@ -83,7 +83,7 @@ front_again n xs rest len =
     let long : ltb (length (xs ++ rest)) n ≡ false = le-ltb _ _ (omega (arith, length-append xs rest)) in
     rw (long, take_at xs rest n len, drop_at xs rest n len) refl
 
--- numbers of so many bytes are below the limit, and their bytes are theirs alone
+-- numbers of so many bytes are below the limit, and different numbers have different bytes
 pub record IsWide (w : Width) (limit : ℕ) : Type 0 where
   pub len : (n : ℕ) → length (to_le_bytes w n) ≡ byte_len w
   pub back : (bytes : List ℕ) → length bytes ≡ byte_len w → IsBytes bytes → to_le_bytes w (from_le_bytes w bytes) ≡ bytes

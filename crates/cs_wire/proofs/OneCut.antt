@@ -13,7 +13,7 @@ use Rattle.cs_wire.proofs.Framing.{whole_size}
 some_is : (m n : ℕ) → Some m ≡ Some n → m ≡ n
 some_is m n e = cc
 
--- one whole message at most stands in front
+-- the bytes begin with at most one whole message
 one_front : (a b x y : List ℕ) → IsWhole a → IsWhole b → a ++ x ≡ b ++ y → (a ≡ b) × (x ≡ y)
 one_front a b x y p q e =
     let long : length a ≡ length b = some_is _ _ (sym (whole_size a x p) ∙ ap size_in e ∙ whole_size b y q) in (
@@ -76,7 +76,7 @@ same calls others left rest h g e stops ends =
     let end = none_more left on.0 rest stops on.1.1.begins in
     (sym (append-nil (messages_given calls)) ∙ ap (λ (z : List (List ℕ)). messages_given calls ++ z) (sym end.0) ∙ sym on.1.0, end.1)
 
--- ---- where no message is given
+-- ---- when no message is given
 
 size_of_front : (bytes message rest : List ℕ) → IsWhole message → bytes ≡ message ++ rest → size_in bytes ≡ Some (length message)
 size_of_front bytes message rest whole e = ap size_in e ∙ whole_size message rest whole

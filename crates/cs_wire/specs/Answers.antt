@@ -14,7 +14,7 @@ abbrev pub IsSeenAs : {X Y : Type 0} → (X → Y) → Result X WireFault → Re
 IsSeenAs view (Ok x) read = read ≡ Ok (view x)
 IsSeenAs view (Err e) read = IsFault e read
 
--- likewise, where the call leaves this rest of the bytes
+-- likewise, if the call leaves this rest of the bytes
 abbrev pub IsFrontSeenAs : {X Y : Type 0} → (X → Y) → Result X WireFault → List ℕ
     → Result (Y × List ℕ) WireFault → Type 0
 IsFrontSeenAs view (Ok x) rest read = read ≡ Ok (view x, rest)

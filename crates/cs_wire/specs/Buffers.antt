@@ -7,8 +7,7 @@ use Rattle.cs_wire.specs.declared.framer.FrameFault.TheVariants.{Undersize, Over
 use Rattle.cs_wire.specs.Framing.{IsWhole, IsUnfinished, IsUndersized, IsOversized}
 use Rattle.cs_wire.specs.Held.{Held, pending_bytes}
 
--- the whole message in front is given, and the place goes on behind it; the bytes stay where they
--- are
+-- the whole message in front is given, and the place is then after it; no byte moves
 pub record GoesOn (message : List ℕ) (old new : Held) : Type 0 where
   pub whole : IsWhole message
   pub front : pending_bytes old ≡ message ++ pending_bytes new
@@ -22,7 +21,8 @@ NextGives (Err Undersize) old new = IsUndersized (pending_bytes old) × (new ≡
 NextGives (Err Oversize) old new = IsOversized (pending_bytes old) × (new ≡ old)
 NextGives (Err Cut) old new = ⊥
 
--- what stands in front of the bytes
+-- the size of the whole message that the bytes begin with, None if it isn't there, or why there is
+-- none
 abbrev pub FrontIs : Result (Option ℕ) FrameFault → List ℕ → Type 0
 FrontIs (Ok (Some size)) bytes =
     (size ≤ length bytes) × IsWhole (take size bytes) × (length (take size bytes) ≡ size)

@@ -2,7 +2,7 @@
 use Rattle.std.specs.Prelude.{◌≡◌, ℕ, List, [], ◌∷◌, ◌++◌}
 use Rattle.cs_wire.specs.Framing.{IsWhole}
 
--- What a framer was asked: to take a piece, or for a message, which it gave.
+-- A call of a framer: it took a piece, or gave a message.
 pub data Call : Type 0 where
   Fed : (piece : List ℕ) → Call
   Gave : (message : List ℕ) → Call

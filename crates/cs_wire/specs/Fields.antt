@@ -8,7 +8,7 @@ use Rattle.std.specs.Str.{is_utf8}
 use Rattle.cs_names.specs.declared.limits.TheConstants.{WALK_NAMES}
 
 infixr 20 ◌▸◌
--- What stands in a message: a field, or fields in a row.
+-- The shape of what a message holds: a field, or fields in a row.
 pub data Shape : Type 0 where
   -- no field
   Nothing : Shape

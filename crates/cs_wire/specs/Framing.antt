@@ -36,7 +36,7 @@ pub record Begins (bytes : List ℕ) (messages : List (List ℕ)) (rest : List �
   pub each : AllByRecursion IsWhole messages
   pub parts : bytes ≡ concat messages ++ rest
 
--- no whole message stands in front
+-- the bytes don't begin with a whole message
 abbrev pub HasNoWhole : List ℕ → Type 0
 HasNoWhole bytes = (message rest : List ℕ) → IsWhole message → bytes ≡ message ++ rest → ⊥
 

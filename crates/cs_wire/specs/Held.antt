@@ -1,7 +1,7 @@
 -- The buffer of a framer.
 use Rattle.std.specs.Prelude.{ℕ, ◌+◌, List, ◌++◌, length, take, drop}
 
--- The bytes that came, how many of them were given, and what lies in the room behind them.
+-- The bytes that came, how many of them were given, and the bytes of the room after them.
 pub record Held : Type 0 where
   pub bytes : List ℕ
   pub place : ℕ

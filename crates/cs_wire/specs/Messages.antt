@@ -141,7 +141,7 @@ requests = record { number = t_number; kind_of = t_kind_of; layout = t_layout; l
 abbrev pub replies : Side RKind
 replies = record { number = r_number; kind_of = r_kind_of; layout = r_layout; lent = λ _. false }
 
--- A message without where it lies in memory: its type, its tag, and what its fields hold.
+-- A message as a value, not as it is in memory: its type, its tag, and the values of its fields.
 pub record Message {Kind : Type 0} (side : Side Kind) : Type 0 where
   pub kind : Kind
   pub tag : ℕ
@@ -208,7 +208,7 @@ stat_of s = (
   ),
 )
 
--- texts without where they lie in memory
+-- the bytes of the texts
 abbrev pub names_of : List (String Global) → List (List ℕ)
 names_of names = map string_bytes names
 
@@ -269,10 +269,10 @@ with_reply f r.Remove = f rk.Remove tt
 with_reply f (r.Stat stat) = f rk.Stat (stat_of stat)
 with_reply f r.Wstat = f rk.Wstat tt
 
--- a client's message without where it lies in memory
+-- a client's message as a value
 abbrev pub t_view : TMessage → Message requests
 t_view m = with_request (λ kind fields. record { kind = kind; tag = m.tag; fields = fields }) m.body
 
--- a reply without where it lies in memory
+-- a reply as a value
 abbrev pub r_view : RMessage → Message replies
 r_view m = with_reply (λ kind fields. record { kind = kind; tag = m.tag; fields = fields }) m.body

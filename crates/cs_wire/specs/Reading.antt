@@ -92,7 +92,7 @@ boxed_at read bytes = do
   value ← entry_in read front.0
   Ok (value, front.1)
 
--- what stands in front, and the bytes after it
+-- the value that the bytes begin with, and the bytes after it
 unfoldable pub field_at : (s : Shape) → List ℕ → Result (Value s × List ℕ) WireFault
 field_at Nothing bytes = Ok (tt, bytes)
 field_at One bytes = number_at w8 bytes

@@ -1,4 +1,4 @@
-//! Copies of what a message's fields hold. Nothing is taken where there is nothing to copy.
+//! Copies of what a message's fields hold. If there is nothing to copy nothing is allocated.
 
 ghost use Rattle.std.specs.Prelude.{◌≡◌, IfOk, OnErr, true};
 ghost use Rattle.std.specs.String.{string_bytes};
@@ -7,6 +7,7 @@ ghost use Rattle.cs_wire.specs.Messages.{names_of, texts_in};
 
 use std::alloc::{AllocError, Global};
 
+/// A copy of the text; an empty one allocates nothing.
 pub(crate) fn text_copied(alloc: Global, text: &str) -> Result<String, AllocError>
     ensures same { IfOk result (λ copy. string_bytes copy ≡ text.now) }
     ensures grows { OnErr result (has_some text.now ≡ true) }
@@ -17,6 +18,7 @@ pub(crate) fn text_copied(alloc: Global, text: &str) -> Result<String, AllocErro
     String::from_str(alloc, text)
 }
 
+/// A copy of the items; of none it allocates nothing.
 pub(crate) fn items_copied<T: Copy>(alloc: Global, items: &[T]) -> Result<Vec<T>, AllocError>
     ensures same { IfOk result (λ copy. copy.items ≡ items.now) }
     ensures grows { OnErr result (has_some items.now ≡ true) }
@@ -27,6 +29,7 @@ pub(crate) fn items_copied<T: Copy>(alloc: Global, items: &[T]) -> Result<Vec<T>
     Vec::from_slice(alloc, items)
 }
 
+/// A copy of each of the names, in their order; of none it allocates nothing.
 pub(crate) fn names_copied(alloc: Global, names: &[&str]) -> Result<Vec<String>, AllocError>
     ensures same { IfOk result (λ copy. names_of copy.items ≡ texts_in names.now) }
     ensures grows { OnErr result (has_some names.now ≡ true) }

@@ -1,4 +1,5 @@
-//! What is left of a message's bytes: each call takes one field from the front, and no memory.
+//! What is left of a message's bytes: each call takes one field from the front, and allocates
+//! nothing.
 
 ghost use Rattle.std.specs.Prelude.{◌≡◌, ◌≤◌, ◌==◌, map, IfSome, IfNone, true, false};
 ghost use Rattle.std.specs.Int.{w8, w16, w32, w64};
@@ -22,13 +23,14 @@ pub(crate) struct Cursor<'a> {
     pub(crate) rest: &'a [u8],
 }
 
+/// Whether one of the bytes is 0.
 pub(crate) fn has_nul(bytes: &[u8]) -> bool
     ensures { result ≡ list_any (λ b. b == 0) bytes.now }
 {
     bytes.iter().any(|b| *b == 0)
 }
 
-/// Valid UTF-8 without NUL.
+/// The bytes as a text, if they are UTF-8 without NUL.
 fn as_text(bytes: &[u8]) -> Option<&str>
     ensures some { IfSome result (λ s. (s.now ≡ bytes.now) × (is_text bytes.now ≡ true)) }
     ensures none { IfNone result (is_text bytes.now ≡ false) }
@@ -39,9 +41,9 @@ fn as_text(bytes: &[u8]) -> Option<&str>
     }
 }
 
-/// The stat whose size and fields fill the bytes.
+/// The stat whose size and fields fill the bytes: Trailing if bytes are left.
 #[tactic(auto, unfolding(crate::specs::Reading::sized_in))]
-fn sized(bytes: &[u8]) -> Result<StatRef, WireFault>
+fn sized_stat(bytes: &[u8]) -> Result<StatRef, WireFault>
     ensures { IsSeenAs stat_in result (sized_in (field_at stat_shape) bytes.now) }
 {
     let mut cursor = Cursor { rest: bytes };
@@ -56,18 +58,19 @@ fn sized(bytes: &[u8]) -> Result<StatRef, WireFault>
     Ok(stat)
 }
 
-/// Likewise, but fields that end too early or too late say that the sizes lie.
+/// The stat whose size and fields fill the bytes. Here fields that end too early or too late are
+/// SizeLies, since the size before the bytes was wrong.
 fn entry(bytes: &[u8]) -> Result<StatRef, WireFault>
     ensures { IsSeenAs stat_in result (entry_in (field_at stat_shape) bytes.now) }
 {
-    match sized(bytes) {
+    match sized_stat(bytes) {
         Err(WireFault::Short | WireFault::Trailing) => Err(WireFault::SizeLies),
         answer => answer,
     }
 }
 
 impl<'a> Cursor<'a> {
-    /// So many bytes.
+    /// The next `count` bytes; Short, and nothing is taken, if there are fewer.
     pub(crate) fn front(&mut self, count: usize) -> Result<&'a [u8], WireFault>
         ensures { IsFrontSeenAs (λ x. x.now) result self.new.rest.now
             (front_at count self.old.rest.now) }
@@ -80,7 +83,7 @@ impl<'a> Cursor<'a> {
         Ok(front)
     }
 
-    /// That no byte is left.
+    /// Trailing if a byte is left.
     pub(crate) fn end(&self) -> Result<(), WireFault>
         ensures { IsSeenAs (λ _. tt) result (end_at self.now.rest.now) }
     {
@@ -90,6 +93,7 @@ impl<'a> Cursor<'a> {
         Ok(())
     }
 
+    /// The next N bytes; Short, and nothing is taken, if there are fewer.
     fn array<const N: usize>(&mut self) -> Result<[u8; N], WireFault>
         ensures { IsFrontSeenAs (λ x. x) result self.new.rest.now (front_at N self.old.rest.now) }
     {
@@ -167,6 +171,7 @@ impl<'a> Cursor<'a> {
         self.front(count as usize)
     }
 
+    /// The next `count` texts.
     fn times_text(&mut self, count: u16) -> Result<Few<&'a str>, WireFault>
         requires { count ≤ WALK_NAMES }
         ensures { IsFrontSeenAs (λ names. texts_in (items_of names)) result self.new.rest.now
@@ -180,6 +185,7 @@ impl<'a> Cursor<'a> {
         Ok(names)
     }
 
+    /// The next `count` qids.
     fn times_qid(&mut self, count: u16) -> Result<Few<Qid>, WireFault>
         requires { count ≤ WALK_NAMES }
         ensures { IsFrontSeenAs (λ qids. map qid_of (items_of qids)) result self.new.rest.now
@@ -224,6 +230,7 @@ impl<'a> Cursor<'a> {
         self.times_qid(count)
     }
 
+    /// The fields of a stat, without a size before them.
     #[tactic(auto, unfolding(crate::specs::Reading::field_at))]
     fn stat_fields(&mut self) -> Result<StatRef<'a>, WireFault>
         ensures { IsFrontSeenAs stat_in result self.new.rest.now

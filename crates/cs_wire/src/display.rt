@@ -1,11 +1,11 @@
-//! Messages for people, as one line: the type, the tag, and the fields in the manual's order. Each
-//! form of fields has a function of its own.
+//! Messages for people, as one line: the type, the tag, and the fields in the manual's order. There
+//! is a function for each form of fields.
 
 use crate::message::{Qid, RBody, RMessage, Stat, TBody, TMessage};
 use crate::table::{each_reply, each_request};
 use std::fmt;
 
-/// The qids of a walk.
+/// The qids of a walk, printed in brackets.
 #[derive(Clone, Copy)]
 struct Qids<'a>(&'a [Qid]);
 
@@ -29,6 +29,7 @@ impl fmt::Display for Qid {
     }
 }
 
+/// Prints the first fields of a stat: kind, device, qid, and mode in octal.
 fn file<W: fmt::Write>(
     f: &mut fmt::Formatter<W>,
     kind: u16,
@@ -39,6 +40,7 @@ fn file<W: fmt::Write>(
     write!(f, "type {kind} dev {dev} qid {qid} mode {mode:o}")
 }
 
+/// Prints the times of a stat, and its length.
 fn times<W: fmt::Write>(
     f: &mut fmt::Formatter<W>,
     atime: u32,
@@ -48,6 +50,7 @@ fn times<W: fmt::Write>(
     write!(f, " atime {atime} mtime {mtime} length {length}")
 }
 
+/// Prints a field that is a text, in quotation marks.
 fn text<W: fmt::Write>(f: &mut fmt::Formatter<W>, name: &str, text: &str) -> fmt::Result {
     write!(f, " {name} {text:?}")
 }
@@ -63,26 +66,32 @@ impl fmt::Display for Stat {
     }
 }
 
+/// Prints the beginning of the line: the type's name and the tag.
 fn line<W: fmt::Write>(f: &mut fmt::Formatter<W>, title: &str, tag: u16) -> fmt::Result {
     write!(f, "{title} tag {tag}")
 }
 
+/// Prints a field that is a number, in decimal.
 fn number<W: fmt::Write>(f: &mut fmt::Formatter<W>, name: &str, number: u32) -> fmt::Result {
     write!(f, " {name} {number}")
 }
 
+/// Prints the number of the bytes, not the bytes.
 fn count<W: fmt::Write>(f: &mut fmt::Formatter<W>, bytes: &[u8]) -> fmt::Result {
     write!(f, " count {}", bytes.len())
 }
 
+/// Prints a field that is a qid.
 fn qid<W: fmt::Write>(f: &mut fmt::Formatter<W>, name: &str, qid: Qid) -> fmt::Result {
     write!(f, " {name} {qid}")
 }
 
+/// Prints the fields of a Tversion or an Rversion.
 fn version<W: fmt::Write>(f: &mut fmt::Formatter<W>, msize: u32, version: &str) -> fmt::Result {
     write!(f, " msize {msize} version {version:?}")
 }
 
+/// Prints the fields of a Tauth, with which those of a Tattach end.
 fn auth<W: fmt::Write>(
     f: &mut fmt::Formatter<W>,
     afid: u32,
@@ -92,6 +101,7 @@ fn auth<W: fmt::Write>(
     write!(f, " afid {afid} uname {uname:?} aname {aname:?}")
 }
 
+/// Prints the fields of a Twalk.
 fn walk<W: fmt::Write>(
     f: &mut fmt::Formatter<W>,
     fid: u32,
@@ -101,10 +111,12 @@ fn walk<W: fmt::Write>(
     write!(f, " fid {fid} newfid {newfid} wname {wname:?}")
 }
 
+/// Prints the fields of a Topen.
 fn open<W: fmt::Write>(f: &mut fmt::Formatter<W>, fid: u32, mode: u8) -> fmt::Result {
     write!(f, " fid {fid} mode {mode:#04x}")
 }
 
+/// Prints the fields of a Tcreate, the permissions in octal.
 fn create<W: fmt::Write>(
     f: &mut fmt::Formatter<W>,
     fid: u32,
@@ -115,10 +127,12 @@ fn create<W: fmt::Write>(
     write!(f, " fid {fid} name {name:?} perm {perm:o} mode {mode:#04x}")
 }
 
+/// Prints the fid and the offset of a Tread or a Twrite.
 fn place<W: fmt::Write>(f: &mut fmt::Formatter<W>, fid: u32, offset: u64) -> fmt::Result {
     write!(f, " fid {fid} offset {offset}")
 }
 
+/// Prints the fields of a Tread.
 fn read<W: fmt::Write>(
     f: &mut fmt::Formatter<W>,
     fid: u32,
@@ -129,6 +143,7 @@ fn read<W: fmt::Write>(
     number(f, "count", count)
 }
 
+/// Prints the fields of a Twrite, of its data only the number of bytes.
 fn write<W: fmt::Write>(
     f: &mut fmt::Formatter<W>,
     fid: u32,
@@ -139,19 +154,23 @@ fn write<W: fmt::Write>(
     count(f, data)
 }
 
+/// Prints the fields of a Twstat.
 fn wstat<W: fmt::Write>(f: &mut fmt::Formatter<W>, fid: u32, stat: &Stat) -> fmt::Result {
     write!(f, " fid {fid} {stat}")
 }
 
+/// Prints the fields of an Ropen or an Rcreate.
 fn opened<W: fmt::Write>(f: &mut fmt::Formatter<W>, qid: Qid, iounit: u32) -> fmt::Result {
     write!(f, " qid {qid} iounit {iounit}")
 }
 
+/// Prints the qids of an Rwalk.
 fn walked<W: fmt::Write>(f: &mut fmt::Formatter<W>, wqid: &[Qid]) -> fmt::Result {
     let wqid = Qids(wqid);
     write!(f, " wqid {wqid}")
 }
 
+/// The name of a body's type, from the table.
 macro_rules! title_of_body {
     (($body:ident $bodies:ident)
     $($name:ident $title:literal $code:literal { $($field:ident: $holds:ident),* })*) => {
@@ -161,10 +180,12 @@ macro_rules! title_of_body {
     };
 }
 
+/// The name of the request's type, such as `Twalk`.
 fn request_title(body: &TBody<'_>) -> &'static str {
     each_request!(title_of_body (body TBody))
 }
 
+/// The name of the reply's type, such as `Rwalk`.
 fn reply_title(body: &RBody) -> &'static str {
     each_reply!(title_of_body (body RBody))
 }

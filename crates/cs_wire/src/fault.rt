@@ -1,4 +1,4 @@
-//! Why bytes are no message.
+//! Why bytes aren't a message.
 
 ghost use Rattle.std.specs.Prelude.{◌≡◌};
 ghost use Rattle.cs_wire.specs.declared.fault.WireFault.TheVariants.{Memory};
@@ -6,22 +6,22 @@ ghost use Rattle.cs_wire.specs.declared.fault.WireFault.TheVariants.{Memory};
 use std::alloc::{AllocError, AllocFailed};
 use std::fmt;
 
-/// What is wrong with the bytes of a message: the first fault, from the left.
+/// The first fault of a message's bytes, from the left.
 #[derive(Clone, Copy, Debug, PartialEq, Eq)]
 pub enum WireFault {
     /// Fewer than 7 bytes, or a field that runs past the end.
     Short,
     /// The size is not the number of bytes, or a stat is not as long as its sizes say.
     SizeLies,
-    /// The type is none of the table.
+    /// The type isn't in the table.
     UnknownType,
     /// A text is not UTF-8, or has a NUL.
     BadText,
     /// More than 16 names, or qids, in a walk.
     TooManyNames,
-    /// Bytes stand after the last field.
+    /// There are bytes after the last field.
     Trailing,
-    /// The bytes are a message, and no memory is there to hold it.
+    /// The bytes are a message, but there is no memory for it.
     Memory,
 }
 

@@ -1,14 +1,14 @@
-//! A few items, which take no memory.
+//! A list of at most 16 items, which needs no allocation.
 
 ghost use Rattle.std.specs.Prelude.{◌≤◌};
 ghost use Rattle.cs_names.specs.declared.limits.TheConstants.{WALK_NAMES};
 
 use cs_names::limits::WALK_NAMES;
 
-/// How many names a walk can have, and qids its reply.
+/// The most names that a walk can have, and qids that its reply can have.
 const PLACES: usize = WALK_NAMES as usize;
 
-/// At most as many items as a walk can have names, in the order that they came.
+/// At most 16 items, in the order that they came.
 #[derive(Drop)]
 pub(crate) struct Few<T: Copy> {
     places: [T; PLACES],
@@ -20,7 +20,7 @@ impl<T: Copy> Few<T> {
     ghost use Rattle.std.specs.Prelude.{◌≡◌, ◌<◌, ◌++◌, ◌+◌, [], ◌∷◌};
     ghost use Rattle.cs_wire.specs.Few.{items_of};
 
-    /// No item; the blank one only fills the places.
+    /// No item; `blank` only fills the unused places.
     pub(crate) fn new(blank: T) -> Few<T>
         ensures items { items_of result ≡ [] }
         ensures count { result.count ≡ 0 }
@@ -31,6 +31,7 @@ impl<T: Copy> Few<T> {
         }
     }
 
+    /// Adds an item at the end. There must be room.
     pub(crate) fn push(&mut self, item: T)
         requires { self.old.count < WALK_NAMES }
         ensures items { items_of self.new ≡ items_of self.old ++ item ∷ [] }
@@ -40,6 +41,7 @@ impl<T: Copy> Few<T> {
         self.count += 1;
     }
 
+    /// The items, in the order that they came.
     pub(crate) fn as_slice(&self) -> &[T]
         ensures { result.now ≡ items_of self.now }
     {

@@ -1,5 +1,5 @@
-//! Which messages have a spelling, and how long it is. A private function gives the bytes that a
-//! field takes, and None if it can't hold the value.
+//! Which messages have a spelling, and its length. Each private function gives the number of bytes
+//! of a field, or None if the field can't hold the value.
 
 ghost use Rattle.std.specs.Prelude.{◌≡◌, ◌≤◌, ◌<◌, length, true, IfSome, Some, Option, map, ◌↔◌};
 ghost use Rattle.cs_wire.specs.Fields.{One, Two, Four, Eight, Text, Several, Raw, ◌▸◌, is_text};
@@ -15,42 +15,51 @@ use crate::table::{each_reply, each_request};
 use cs_names::laws::know;
 use cs_names::limits::{MESSAGE_BYTES, WALK_NAMES};
 
+/// The bytes of a number of one byte: 1.
 #[tactic(auto, unfolding(crate::specs::Fields::size_of))]
 fn one(number: &u8) -> usize
     ensures size { size_of One number.now ≡ Some result }
     ensures small { result ≡ 1 }
 {
+    // the contract speaks of the number, the result doesn't need it
     know(*number);
     1
 }
 
+/// The bytes of a number of two bytes: 2.
 #[tactic(auto, unfolding(crate::specs::Fields::size_of))]
 fn two(number: &u16) -> usize
     ensures size { size_of Two number.now ≡ Some result }
     ensures small { result ≡ 2 }
 {
+    // as in `one`
     know(*number);
     2
 }
 
+/// The bytes of a number of four bytes: 4.
 #[tactic(auto, unfolding(crate::specs::Fields::size_of))]
 fn four(number: &u32) -> usize
     ensures size { size_of Four number.now ≡ Some result }
     ensures small { result ≡ 4 }
 {
+    // as in `one`
     know(*number);
     4
 }
 
+/// The bytes of a number of eight bytes: 8.
 #[tactic(auto, unfolding(crate::specs::Fields::size_of))]
 fn eight(number: &u64) -> usize
     ensures size { size_of Eight number.now ≡ Some result }
     ensures small { result ≡ 8 }
 {
+    // as in `one`
     know(*number);
     8
 }
 
+/// The bytes of a qid: 13.
 #[tactic(auto, unfolding(crate::specs::Fields::size_of))]
 fn qid(qid: &Qid) -> usize
     ensures size { size_of qid_shape (qid_of qid.now) ≡ Some result }
@@ -59,12 +68,14 @@ fn qid(qid: &Qid) -> usize
     one(&qid.kind) + four(&qid.vers) + eight(&qid.path)
 }
 
+/// Whether a message can hold the text: it has no NUL.
 fn is_legal(text: &str) -> bool
     ensures { result ≡ is_text text.now }
 {
     !has_nul(text.as_bytes())
 }
 
+/// The bytes of a text, with the two of its length; None if it is too long or has a NUL.
 #[tactic(auto, unfolding(crate::specs::Fields::size_of))]
 fn text(text: &str) -> Option<usize>
     ensures size { result ≡ size_of Text text.now }
@@ -76,6 +87,7 @@ fn text(text: &str) -> Option<usize>
     Some(text.len() + 2)
 }
 
+/// The bytes of data, with the four of their count; None if there are too many.
 #[tactic(auto, unfolding(crate::specs::Fields::size_of))]
 fn raw(bytes: &[u8]) -> Option<usize>
     ensures size { result ≡ size_of Raw bytes.now }
@@ -87,6 +99,7 @@ fn raw(bytes: &[u8]) -> Option<usize>
     Some(bytes.len() + 4)
 }
 
+/// The bytes of all of the texts, each with its length; None if one can't be held.
 fn all_texts(texts: &[String]) -> Option<usize>
     requires { length texts.now ≤ WALK_NAMES }
     ensures size { result ≡ sizes_of (size_of Text) (names_of texts.now) }
@@ -99,6 +112,7 @@ fn all_texts(texts: &[String]) -> Option<usize>
     Some(total)
 }
 
+/// The bytes of all of the qids.
 fn all_qids(qids: &[Qid]) -> usize
     requires { length qids.now ≤ WALK_NAMES }
     ensures size { sizes_of (size_of qid_shape) (map qid_of qids.now) ≡ Some result }
@@ -111,6 +125,8 @@ fn all_qids(qids: &[Qid]) -> usize
     total
 }
 
+/// The bytes of a walk's names, with the two of their count; None if there are more than 16, or if
+/// one can't be held.
 #[tactic(auto, unfolding(crate::specs::Fields::size_of))]
 fn names(wname: &[String]) -> Option<usize>
     ensures size { result ≡ size_of (Several Text) (names_of wname.now) }
@@ -122,6 +138,7 @@ fn names(wname: &[String]) -> Option<usize>
     Some(2 + all_texts(wname)?)
 }
 
+/// The bytes of a walk's qids, with the two of their count; None if there are more than 16.
 #[tactic(auto, unfolding(crate::specs::Fields::size_of))]
 fn qids(wqid: &[Qid]) -> Option<usize>
     ensures size { result ≡ size_of (Several qid_shape) (map qid_of wqid.now) }
@@ -133,6 +150,7 @@ fn qids(wqid: &[Qid]) -> Option<usize>
     Some(2 + all_qids(wqid))
 }
 
+/// The bytes of a stat's fields, without a size before them; None if a text can't be held.
 #[tactic(auto, unfolding(crate::specs::Fields::size_of))]
 fn stat_fields(stat: &StatRef) -> Option<usize>
     ensures size { result ≡ size_of stat_shape (stat_in stat.now) }
@@ -145,6 +163,7 @@ fn stat_fields(stat: &StatRef) -> Option<usize>
     Some(numbers + times + name + users)
 }
 
+/// The bytes of a stat's entry, with the two of its size; None if it has none.
 fn entry(stat: &StatRef) -> Option<usize>
     ensures size { result ≡ entry_size (size_of stat_shape (stat_in stat.now)) }
     ensures small { IfSome result (λ size. size < 65536) }
@@ -156,7 +175,7 @@ fn entry(stat: &StatRef) -> Option<usize>
     Some(size)
 }
 
-/// The bytes of a field; if it can't hold the value, the function ends with None.
+/// The number of bytes of a field; if it can't hold the value, the function returns None.
 macro_rules! field_size {
     (text $text:ident) => { text($text.as_str())? };
     (names $names:ident) => { names($names)? };
@@ -166,6 +185,7 @@ macro_rules! field_size {
     ($number:ident $value:ident) => { self::$number($value) };
 }
 
+/// The number of bytes of a body's fields, one match arm for each row of the table.
 macro_rules! size_of_body {
     (($body:ident $bodies:ident)
     $($name:ident $title:literal $code:literal { $($field:ident: $holds:ident),* })*) => {
@@ -175,6 +195,7 @@ macro_rules! size_of_body {
     };
 }
 
+/// The bytes of a request's fields; None if one can't hold its value.
 #[tactic(auto, unfolding(crate::specs::Fields::size_of))]
 fn of_request(body: &TBody<'_>) -> Option<usize>
     ensures size { result ≡ request_size body.now }
@@ -183,6 +204,7 @@ fn of_request(body: &TBody<'_>) -> Option<usize>
     each_request!(size_of_body (body TBody))
 }
 
+/// The bytes of a reply's fields; None if one can't hold its value.
 #[tactic(auto, unfolding(crate::specs::Fields::size_of))]
 fn of_reply(body: &RBody) -> Option<usize>
     ensures size { result ≡ reply_size body.now }
@@ -191,6 +213,7 @@ fn of_reply(body: &RBody) -> Option<usize>
     each_reply!(size_of_body (body RBody))
 }
 
+/// The bytes of a message with these fields, with the seven of size, type and tag before them.
 #[tactic(auto, unfolding(crate::specs::Fields::size_of))]
 fn size_with_header(tag: &u16, fields: Option<usize>) -> Option<usize>
     requires { IfSome fields (λ size. size ≤ 4295000000) }
@@ -200,8 +223,8 @@ fn size_with_header(tag: &u16, fields: Option<usize>) -> Option<usize>
 }
 
 impl TMessage<'_> {
-    /// Whether it has a spelling, and one of at most 65,536 bytes: each text is shorter than 65,536
-    /// bytes and has no NUL, and a walk has at most 16 names.
+    /// Whether it has a spelling of at most 65,536 bytes: each text is shorter than 65,536 bytes
+    /// and has no NUL, and a walk has at most 16 names.
     pub fn fits(&self) -> bool
         ensures { result ≡ true ↔ Fits (t_view self.now) }
     {
@@ -221,9 +244,8 @@ impl TMessage<'_> {
 }
 
 impl RMessage {
-    /// Whether it has a spelling, and one of at most 65,536 bytes: each text is shorter than 65,536
-    /// bytes and has no NUL, a walk has at most 16 qids, and a stat's entry is shorter than 65,536
-    /// bytes.
+    /// Whether it has a spelling of at most 65,536 bytes: each text is shorter than 65,536 bytes
+    /// and has no NUL, a walk has at most 16 qids, and a stat's entry is shorter than 65,536 bytes.
     pub fn fits(&self) -> bool
         ensures { result ≡ true ↔ Fits (r_view self.now) }
     {
@@ -243,15 +265,15 @@ impl RMessage {
 }
 
 impl StatRef<'_> {
-    /// Whether it has an entry: each text is shorter than 65,536 bytes and has no NUL, and so is
-    /// the entry.
+    /// Whether it has an entry: the entry and each text are shorter than 65,536 bytes, and no text
+    /// has a NUL.
     pub fn fits(&self) -> bool
         ensures { result ≡ true ↔ IsEntry (stat_in self.now) }
     {
         entry(self).is_some()
     }
 
-    /// The bytes of its entry, with the two of its size.
+    /// The number of bytes of its entry, with the two of its size.
     pub fn entry_length(&self) -> usize
         requires { IsEntry (stat_in self.now) }
         ensures { result ≡ length (stat_entry (stat_in self.now)) }

@@ -1,5 +1,5 @@
-//! A stream of messages in one buffer: bytes come in pieces, and whole messages are lent from where
-//! they lie.
+//! A stream of messages in one buffer: bytes come in pieces, and whole messages are lent from the
+//! buffer.
 
 ghost use Rattle.std.specs.Prelude.{◌≡◌, ◌≢◌, ◌+◌, ◌≤◌, ◌<◌, ℕ, List, [], ◌++◌, length, take, drop};
 ghost use Rattle.std.specs.Prelude.{vec_len, IsOk, OnOk, OnErr, MatchResult, MatchOption, IfOk};
@@ -39,7 +39,7 @@ impl fmt::Display for FrameFault {
 /// Bytes of size, type and tag, which each message has.
 const LEAST_MESSAGE: usize = 7;
 
-/// The size in front, if its four bytes are there.
+/// The size that the bytes begin with, if its four bytes are there.
 #[tactic(auto, unfolding(crate::specs::Framing::size_in))]
 fn size_in_front(bytes: &[u8]) -> Option<usize>
     ensures { result ≡ size_in bytes.now }
@@ -50,7 +50,7 @@ fn size_in_front(bytes: &[u8]) -> Option<usize>
     }
 }
 
-/// The size of the whole message in front, if it is there.
+/// The size of the message that the bytes begin with, if all of it is there.
 fn whole_in_front(bytes: &[u8]) -> Result<Option<usize>, FrameFault>
     ensures { FrontIs result bytes.now }
 {
@@ -73,9 +73,9 @@ fn whole_in_front(bytes: &[u8]) -> Result<Option<usize>, FrameFault>
 
 /// The bytes of a stream that came, in one buffer, and the place up to which they were given.
 ///
-/// Bytes move only if the room behind them doesn't do: then those that weren't given yet move to
-/// the front, and the buffer grows if that isn't enough. A caller that takes every whole message
-/// before it feeds again moves each byte at most once, unless the buffer grows, which moves all of
+/// Bytes move only if there isn't enough room after them: then those that weren't given yet move to
+/// the front, and the buffer grows if that isn't enough. If the caller takes every whole message
+/// before it feeds again, each byte moves at most once, unless the buffer grows, which moves all of
 /// them.
 #[derive(Drop)]
 pub struct Framer {
@@ -115,7 +115,7 @@ impl Framer {
         }
     }
 
-    /// The bytes that are kept, and how many of them were given: the rest were not given yet.
+    /// The bytes in the buffer, and the number of them that were given already.
     pub fn buffered(&self) -> (&[u8], usize)
         ensures bytes { result.0.now ≡ self.now.bytes }
         ensures place { result.1 ≡ self.now.place }
@@ -124,8 +124,8 @@ impl Framer {
         (&self.buffer[..self.filled], self.place)
     }
 
-    /// Sees to room for so many bytes behind those that came. Where it is there nothing moves; else
-    /// the bytes that weren't given yet move to the front, and the buffer grows if that isn't
+    /// Makes room for `count` bytes after those that came. If there is room already nothing moves;
+    /// else the bytes that weren't given yet move to the front, and the buffer grows if that isn't
     /// enough. After an `Err` the framer is as it was.
     pub fn reserve(&mut self, count: usize) -> Result<(), AllocError>
         ensures ok { OnOk result (count ≤ length self.new.room) }
@@ -148,8 +148,8 @@ impl Framer {
         Ok(())
     }
 
-    /// Moves the bytes that weren't given yet to the front, so that all behind them is room. It
-    /// takes no memory.
+    /// Moves the bytes that weren't given yet to the front, so that all after them is room. It
+    /// allocates nothing.
     pub fn make_room(&mut self)
         ensures left { pending_bytes self.new ≡ pending_bytes self.old }
         ensures size { size_of self.new ≡ size_of self.old }
@@ -163,8 +163,8 @@ impl Framer {
         self.place = 0;
     }
 
-    /// The room behind the bytes that came, to be written to: `advance` then says how much of it
-    /// was.
+    /// The room after the bytes that came, to be written to. Call `advance` then with the number of
+    /// bytes written.
     pub fn room(&mut self) -> &mut [u8]
         ensures* writes_back { sem 𝓛 (LendsRoom self.entry result) }
         ensures value { result.now ≡ self.old.room }
@@ -172,7 +172,7 @@ impl Framer {
         self.buffer.slice_mut(self.filled..)
     }
 
-    /// So many bytes that were written to the room have come.
+    /// Adds the first `count` bytes of the room, which the caller wrote, to those that came.
     pub fn advance(&mut self, count: usize)
         requires { count ≤ length self.old.room }
         ensures left { pending_bytes self.new ≡ pending_bytes self.old ++ take count self.old.room }
@@ -181,8 +181,8 @@ impl Framer {
         self.filled += count;
     }
 
-    /// Takes the next piece of the stream. Where the room does, nothing moves and no memory is
-    /// taken. After an `Err` the framer is as it was.
+    /// Takes the next piece of the stream. If there is room for it, nothing moves and nothing is
+    /// allocated. After an `Err` the framer is as it was.
     pub fn feed(&mut self, piece: &[u8]) -> Result<(), AllocError>
         ensures ok { OnOk result (pending_bytes self.new ≡ pending_bytes self.old ++ piece.now) }
         ensures enough { length (pending_bytes self.old) + length piece.now ≤ size_of self.old
@@ -198,8 +198,8 @@ impl Framer {
         Ok(())
     }
 
-    /// Whether the stream may end here: Cut if bytes are left that weren't given, be they a part
-    /// of a message or whole messages that `next` wasn't asked for. The framer stays.
+    /// Cut if the stream can't end here: bytes are left that weren't given, either a part of a
+    /// message or whole messages that weren't taken by `next`. The framer stays.
     pub fn end(&self) -> Result<(), FrameFault>
         ensures { MatchResult result (λ _. pending_bytes self.now ≡ [])
             (λ fault. (fault ≡ FrameFault.Cut) × (pending_bytes self.now ≢ [])) }
@@ -210,7 +210,7 @@ impl Framer {
         Ok(())
     }
 
-    /// The next whole message, lent from where it lies; None if it hasn't come yet (intro(5)).
+    /// The next whole message, lent from the buffer; None if it hasn't come yet (intro(5)).
     ///
     /// A size below 7 is Undersize and one above 65,536 Oversize, as soon as its four bytes are
     /// there. After these, and after None, the framer is as it was, and answers the same again.

@@ -42,6 +42,7 @@ pub enum RKind {
     Wstat,
 }
 
+/// The type of that number, from the table.
 macro_rules! kind_of_number {
     (($number:ident $kinds:ident)
     $($name:ident $title:literal $code:literal { $($field:ident: $holds:ident),* })*) => {
@@ -53,7 +54,7 @@ macro_rules! kind_of_number {
 }
 
 impl TKind {
-    /// The type of a client's message with that number (intro(5)).
+    /// The type of a client's message with that number (intro(5)), if there is one.
     #[tactic(auto, unfolding(crate::specs::Messages::t_kind_of))]
     pub fn of_number(number: u8) -> Option<TKind>
         ensures { result ≡ t_kind_of number }
@@ -63,7 +64,7 @@ impl TKind {
 }
 
 impl RKind {
-    /// The type of a reply with that number (intro(5)).
+    /// The type of a reply with that number (intro(5)), if there is one.
     #[tactic(auto, unfolding(crate::specs::Messages::r_kind_of))]
     pub fn of_number(number: u8) -> Option<RKind>
         ensures { result ≡ r_kind_of number }

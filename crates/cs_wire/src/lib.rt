@@ -1,4 +1,4 @@
-//! The messages of 9P2000 as bytes: one grammar, which decoding and encoding both meet.
+//! The messages of 9P2000 as bytes: one grammar for decoding and encoding.
 #![tactic(auto)]
 
 mod copying;

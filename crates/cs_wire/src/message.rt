@@ -2,7 +2,7 @@
 
 use std::borrow::CowStr;
 
-/// The server's own number of a file, as it knows it at one moment (intro(5)).
+/// The server's identification of a file: its kind, its version and its number (intro(5)).
 #[derive(Clone, Copy, Debug, PartialEq, Eq)]
 pub struct Qid {
     /// The high byte of the file's mode.
@@ -13,7 +13,7 @@ pub struct Qid {
     pub path: u64,
 }
 
-/// What stat(5) tells of a file.
+/// What a stat says of a file (stat(5)).
 #[derive(Debug, Drop)]
 pub struct Stat {
     /// For the server's kernel; 0 in each stat that this server sends.
@@ -21,9 +21,9 @@ pub struct Stat {
     /// For the server's kernel; 0 in each stat that this server sends.
     pub dev: u32,
     pub qid: Qid,
-    /// The permissions, and DMDIR and its kin above them.
+    /// The permissions, and the bits above them such as DMDIR.
     pub mode: u32,
-    /// When it was made, in seconds since 1970; a read does not change it.
+    /// When it was made, in seconds since 1970; reads don't change it.
     pub atime: u32,
     /// When it was last changed, in seconds since 1970.
     pub mtime: u32,
@@ -38,7 +38,7 @@ pub struct Stat {
     pub muid: String,
 }
 
-/// What a client asks.
+/// A request: the message of a client.
 #[derive(Debug, Drop)]
 pub struct TMessage<'a> {
     /// The client's number for this request.
@@ -46,7 +46,7 @@ pub struct TMessage<'a> {
     pub body: TBody<'a>,
 }
 
-/// What a client asks, by its type.
+/// The fields of a request, by its type.
 #[derive(Debug, Drop)]
 pub enum TBody<'a> {
     /// Tversion 100, version(5).
@@ -95,7 +95,7 @@ pub enum TBody<'a> {
         offset: u64,
         count: u32,
     },
-    /// Twrite 118, read(5); its bytes are lent by the message that was read.
+    /// Twrite 118, read(5); its data is borrowed from the bytes that were decoded.
     Write {
         fid: u32,
         offset: u64,
@@ -120,7 +120,7 @@ pub enum TBody<'a> {
     },
 }
 
-/// What the server answers.
+/// A reply: the message of the server.
 #[derive(Drop)]
 pub struct RMessage {
     /// The tag of the request.
@@ -128,7 +128,7 @@ pub struct RMessage {
     pub body: RBody,
 }
 
-/// What the server answers, by its type.
+/// The fields of a reply, by its type.
 #[derive(Drop)]
 pub enum RBody {
     /// Rversion 101, version(5).

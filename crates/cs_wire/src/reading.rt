@@ -15,7 +15,8 @@ use crate::replies::reply;
 use crate::requests::request;
 use std::alloc::Global;
 
-/// Type, tag and the fields' bytes of what is as long as its size says.
+/// The type, the tag and the fields' bytes of a message. Short if it has fewer than 7 bytes, and
+/// SizeLies if its size isn't the number of its bytes.
 #[tactic(auto, unfolding(crate::specs::Reading::header_at))]
 fn header(bytes: &[u8]) -> Result<(u8, u16, Cursor), WireFault>
     ensures { IsSeenAs (λ x. (x.0, x.1, x.2.rest.now)) result (header_at bytes.now) }
@@ -33,6 +34,7 @@ fn header(bytes: &[u8]) -> Result<(u8, u16, Cursor), WireFault>
     Ok((number, tag, cursor))
 }
 
+/// The client's message that the bytes spell, or its first fault.
 #[tactic(auto, unfolding(crate::specs::Reading::message_of))]
 fn read_request(alloc: Global, bytes: &[u8]) -> Result<TMessage<'_>, WireFault>
     ensures { IsSeenAsOrMemory t_view result (message_of requests bytes.now) }
@@ -42,6 +44,7 @@ fn read_request(alloc: Global, bytes: &[u8]) -> Result<TMessage<'_>, WireFault>
     request(alloc, kind, tag, fields)
 }
 
+/// The reply that the bytes spell, or its first fault.
 #[tactic(auto, unfolding(crate::specs::Reading::message_of))]
 fn read_reply(alloc: Global, bytes: &[u8]) -> Result<RMessage, WireFault>
     ensures { IsSeenAsOrMemory r_view result (message_of replies bytes.now) }
@@ -55,9 +58,8 @@ fn read_reply(alloc: Global, bytes: &[u8]) -> Result<RMessage, WireFault>
 ///
 /// Else the first fault, from the left: fewer than 7 bytes, a size that isn't their number, a type
 /// that isn't known, then the fields one after the other, then bytes that are left. It is
-/// `Memory` only if the bytes are a message, and one of its texts has a byte, or its list an
-/// item: nothing is taken for an empty one, nor for the bytes of a write, which stay where they
-/// are.
+/// `Memory` only if the bytes are a message that has a text or a list that isn't empty: an empty
+/// one needs no allocation, and the data of a write is lent, not copied.
 pub fn decode_request(alloc: Global, bytes: &[u8]) -> Result<TMessage<'_>, WireFault>
     // What is read is spelled so.
     ensures found { IfOk result (λ m. IsMessage (t_view m) × (bytes.now ≡ spelling (t_view m))) }
@@ -74,7 +76,7 @@ pub fn decode_request(alloc: Global, bytes: &[u8]) -> Result<TMessage<'_>, WireF
     read_request(alloc, bytes)
 }
 
-/// The reply that the bytes spell, or the first fault, as `decode_request` has it.
+/// The reply that the bytes spell, or the first fault, as `decode_request`.
 pub fn decode_reply(alloc: Global, bytes: &[u8]) -> Result<RMessage, WireFault>
     // What is read is spelled so.
     ensures found { IfOk result (λ m. IsMessage (r_view m) × (bytes.now ≡ spelling (r_view m))) }
@@ -91,8 +93,8 @@ pub fn decode_reply(alloc: Global, bytes: &[u8]) -> Result<RMessage, WireFault>
     read_reply(alloc, bytes)
 }
 
-/// A message has one spelling, and no spelling begins another: what was written is read again,
-/// whatever follows it.
+/// Different messages have different spellings, and none of them is the beginning of another: so a
+/// message that was written is read again, whatever follows it.
 pub fn one_spelling()
     ensures requests { (a b : Message requests) (x y : List ℕ) → IsMessage a → IsMessage b
         → spelling a ++ x ≡ spelling b ++ y → (a ≡ b) × (x ≡ y) }
@@ -100,8 +102,8 @@ pub fn one_spelling()
         → spelling a ++ x ≡ spelling b ++ y → (a ≡ b) × (x ≡ y) }
 {}
 
-/// What `encode_request` appends to an empty `Vec` of a message that fits, `decode_request` reads as
-/// the same message, and so does `decode_reply` what `encode_reply` appends, unless memory runs out.
+/// Unless memory runs out, `decode_request` reads what `encode_request` appends to an empty `Vec`
+/// as the same message, and so does `decode_reply` with what `encode_reply` appends.
 pub fn what_is_written_is_read()
     ensures requests { IsReadBack requests t_view }
     ensures replies { IsReadBack replies r_view }

@@ -1,4 +1,4 @@
-//! The fields of each reply, read and copied as those of a request are.
+//! Each reply from all of the bytes of a cursor, read and copied as requests are.
 
 ghost use Rattle.cs_wire.specs.declared.kind.RKind.TheVariants as rk;
 ghost use Rattle.cs_wire.specs.Messages.{replies, r_view};
@@ -13,6 +13,7 @@ use crate::message::{RBody, RMessage};
 use std::alloc::Global;
 use std::borrow::CowStr;
 
+/// Reads the fields of an Rversion.
 #[tactic(auto, unfolding(crate::specs::Reading::all_of, crate::specs::Reading::field_at))]
 fn version(alloc: Global, tag: u16, mut fields: Cursor) -> Result<RMessage, WireFault>
     ensures { IsSeenAsOrMemory r_view result (all_of replies rk.Version tag fields.entry.rest.now) }
@@ -27,6 +28,7 @@ fn version(alloc: Global, tag: u16, mut fields: Cursor) -> Result<RMessage, Wire
     })
 }
 
+/// Reads the fields of an Rauth.
 #[tactic(auto, unfolding(crate::specs::Reading::all_of))]
 fn auth(tag: u16, mut fields: Cursor) -> Result<RMessage, WireFault>
     ensures { IsSeenAs r_view result (all_of replies rk.Auth tag fields.entry.rest.now) }
@@ -39,6 +41,7 @@ fn auth(tag: u16, mut fields: Cursor) -> Result<RMessage, WireFault>
     })
 }
 
+/// Reads the fields of an Rattach.
 #[tactic(auto, unfolding(crate::specs::Reading::all_of))]
 fn attach(tag: u16, mut fields: Cursor) -> Result<RMessage, WireFault>
     ensures { IsSeenAs r_view result (all_of replies rk.Attach tag fields.entry.rest.now) }
@@ -51,6 +54,7 @@ fn attach(tag: u16, mut fields: Cursor) -> Result<RMessage, WireFault>
     })
 }
 
+/// Reads the fields of an Rerror.
 #[tactic(auto, unfolding(crate::specs::Reading::all_of))]
 fn error(alloc: Global, tag: u16, mut fields: Cursor) -> Result<RMessage, WireFault>
     ensures { IsSeenAsOrMemory r_view result (all_of replies rk.Error tag fields.entry.rest.now) }
@@ -64,6 +68,7 @@ fn error(alloc: Global, tag: u16, mut fields: Cursor) -> Result<RMessage, WireFa
     })
 }
 
+/// Reads the fields of an Rflush, which has none.
 #[tactic(auto, unfolding(crate::specs::Reading::all_of, crate::specs::Reading::field_at))]
 fn flush(tag: u16, fields: Cursor) -> Result<RMessage, WireFault>
     ensures { IsSeenAs r_view result (all_of replies rk.Flush tag fields.entry.rest.now) }
@@ -75,6 +80,7 @@ fn flush(tag: u16, fields: Cursor) -> Result<RMessage, WireFault>
     })
 }
 
+/// Reads the fields of an Rwalk, of at most 16 qids.
 #[tactic(auto, unfolding(crate::specs::Reading::all_of, crate::specs::Reading::field_at))]
 fn walk(alloc: Global, tag: u16, mut fields: Cursor) -> Result<RMessage, WireFault>
     ensures { IsSeenAsOrMemory r_view result (all_of replies rk.Walk tag fields.entry.rest.now) }
@@ -88,6 +94,7 @@ fn walk(alloc: Global, tag: u16, mut fields: Cursor) -> Result<RMessage, WireFau
     })
 }
 
+/// Reads the fields of an Ropen.
 #[tactic(auto, unfolding(crate::specs::Reading::all_of, crate::specs::Reading::field_at))]
 fn open(tag: u16, mut fields: Cursor) -> Result<RMessage, WireFault>
     ensures { IsSeenAs r_view result (all_of replies rk.Open tag fields.entry.rest.now) }
@@ -101,6 +108,7 @@ fn open(tag: u16, mut fields: Cursor) -> Result<RMessage, WireFault>
     })
 }
 
+/// Reads the fields of an Rcreate.
 #[tactic(auto, unfolding(crate::specs::Reading::all_of, crate::specs::Reading::field_at))]
 fn create(tag: u16, mut fields: Cursor) -> Result<RMessage, WireFault>
     ensures { IsSeenAs r_view result (all_of replies rk.Create tag fields.entry.rest.now) }
@@ -114,6 +122,7 @@ fn create(tag: u16, mut fields: Cursor) -> Result<RMessage, WireFault>
     })
 }
 
+/// Reads the fields of an Rread, and copies its data.
 #[tactic(auto, unfolding(crate::specs::Reading::all_of, crate::specs::Reading::field_at))]
 fn read(alloc: Global, tag: u16, mut fields: Cursor) -> Result<RMessage, WireFault>
     ensures { IsSeenAsOrMemory r_view result (all_of replies rk.Read tag fields.entry.rest.now) }
@@ -127,6 +136,7 @@ fn read(alloc: Global, tag: u16, mut fields: Cursor) -> Result<RMessage, WireFau
     })
 }
 
+/// Reads the fields of an Rwrite.
 #[tactic(auto, unfolding(crate::specs::Reading::all_of, crate::specs::Reading::field_at))]
 fn write(tag: u16, mut fields: Cursor) -> Result<RMessage, WireFault>
     ensures { IsSeenAs r_view result (all_of replies rk.Write tag fields.entry.rest.now) }
@@ -139,6 +149,7 @@ fn write(tag: u16, mut fields: Cursor) -> Result<RMessage, WireFault>
     })
 }
 
+/// Reads the fields of an Rclunk, which has none.
 #[tactic(auto, unfolding(crate::specs::Reading::all_of, crate::specs::Reading::field_at))]
 fn clunk(tag: u16, fields: Cursor) -> Result<RMessage, WireFault>
     ensures { IsSeenAs r_view result (all_of replies rk.Clunk tag fields.entry.rest.now) }
@@ -150,6 +161,7 @@ fn clunk(tag: u16, fields: Cursor) -> Result<RMessage, WireFault>
     })
 }
 
+/// Reads the fields of an Rremove, which has none.
 #[tactic(auto, unfolding(crate::specs::Reading::all_of, crate::specs::Reading::field_at))]
 fn remove(tag: u16, fields: Cursor) -> Result<RMessage, WireFault>
     ensures { IsSeenAs r_view result (all_of replies rk.Remove tag fields.entry.rest.now) }
@@ -161,6 +173,7 @@ fn remove(tag: u16, fields: Cursor) -> Result<RMessage, WireFault>
     })
 }
 
+/// Reads the fields of an Rstat.
 #[tactic(auto, unfolding(crate::specs::Reading::all_of, crate::specs::Reading::field_at))]
 fn stat(alloc: Global, tag: u16, mut fields: Cursor) -> Result<RMessage, WireFault>
     ensures { IsSeenAsOrMemory r_view result (all_of replies rk.Stat tag fields.entry.rest.now) }
@@ -174,6 +187,7 @@ fn stat(alloc: Global, tag: u16, mut fields: Cursor) -> Result<RMessage, WireFau
     })
 }
 
+/// Reads the fields of an Rwstat, which has none.
 #[tactic(auto, unfolding(crate::specs::Reading::all_of, crate::specs::Reading::field_at))]
 fn wstat(tag: u16, fields: Cursor) -> Result<RMessage, WireFault>
     ensures { IsSeenAs r_view result (all_of replies rk.Wstat tag fields.entry.rest.now) }

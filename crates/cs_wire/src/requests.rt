@@ -1,6 +1,6 @@
-//! The fields of each request, from all of the bytes that a cursor has: first they are read, then
-//! the end is met, and only then are they copied, so that out of memory is the last fault. The bytes
-//! of a write are lent.
+//! Each request from all of the bytes of a cursor: first its fields are read, then no byte may be
+//! left, and only then are they copied, so that Memory is the last fault. The data of a write is
+//! lent, not copied.
 
 ghost use Rattle.cs_wire.specs.declared.kind.TKind.TheVariants as tk;
 ghost use Rattle.cs_wire.specs.Messages.{requests, t_view};
@@ -14,6 +14,7 @@ use crate::kind::TKind;
 use crate::message::{TBody, TMessage};
 use std::alloc::Global;
 
+/// Reads the fields of a Tversion.
 #[tactic(auto, unfolding(crate::specs::Reading::all_of, crate::specs::Reading::field_at))]
 fn version(alloc: Global, tag: u16, mut fields: Cursor<'_>) -> Result<TMessage<'_>, WireFault>
     ensures { IsSeenAsOrMemory t_view result
@@ -29,6 +30,7 @@ fn version(alloc: Global, tag: u16, mut fields: Cursor<'_>) -> Result<TMessage<'
     Ok(TMessage { tag, body })
 }
 
+/// Reads the fields of a Tauth.
 #[tactic(auto, unfolding(crate::specs::Reading::all_of, crate::specs::Reading::field_at))]
 fn auth(alloc: Global, tag: u16, mut fields: Cursor<'_>) -> Result<TMessage<'_>, WireFault>
     ensures { IsSeenAsOrMemory t_view result (all_of requests tk.Auth tag fields.entry.rest.now) }
@@ -45,6 +47,7 @@ fn auth(alloc: Global, tag: u16, mut fields: Cursor<'_>) -> Result<TMessage<'_>,
     Ok(TMessage { tag, body })
 }
 
+/// Reads the fields of a Tattach.
 #[tactic(auto, unfolding(crate::specs::Reading::all_of, crate::specs::Reading::field_at))]
 fn attach(alloc: Global, tag: u16, mut fields: Cursor<'_>) -> Result<TMessage<'_>, WireFault>
     ensures { IsSeenAsOrMemory t_view result (all_of requests tk.Attach tag fields.entry.rest.now) }
@@ -63,6 +66,7 @@ fn attach(alloc: Global, tag: u16, mut fields: Cursor<'_>) -> Result<TMessage<'_
     Ok(TMessage { tag, body })
 }
 
+/// Reads the fields of a Tflush.
 #[tactic(auto, unfolding(crate::specs::Reading::all_of, crate::specs::Reading::field_at))]
 fn flush(tag: u16, mut fields: Cursor<'_>) -> Result<TMessage<'_>, WireFault>
     ensures { IsSeenAs t_view result (all_of requests tk.Flush tag fields.entry.rest.now) }
@@ -75,6 +79,7 @@ fn flush(tag: u16, mut fields: Cursor<'_>) -> Result<TMessage<'_>, WireFault>
     })
 }
 
+/// Reads the fields of a Twalk, of at most 16 names.
 #[tactic(auto, unfolding(crate::specs::Reading::all_of, crate::specs::Reading::field_at))]
 fn walk(alloc: Global, tag: u16, mut fields: Cursor<'_>) -> Result<TMessage<'_>, WireFault>
     ensures { IsSeenAsOrMemory t_view result (all_of requests tk.Walk tag fields.entry.rest.now) }
@@ -91,6 +96,7 @@ fn walk(alloc: Global, tag: u16, mut fields: Cursor<'_>) -> Result<TMessage<'_>,
     Ok(TMessage { tag, body })
 }
 
+/// Reads the fields of a Topen.
 #[tactic(auto, unfolding(crate::specs::Reading::all_of, crate::specs::Reading::field_at))]
 fn open(tag: u16, mut fields: Cursor<'_>) -> Result<TMessage<'_>, WireFault>
     ensures { IsSeenAs t_view result (all_of requests tk.Open tag fields.entry.rest.now) }
@@ -104,6 +110,7 @@ fn open(tag: u16, mut fields: Cursor<'_>) -> Result<TMessage<'_>, WireFault>
     })
 }
 
+/// Reads the fields of a Tcreate.
 #[tactic(auto, unfolding(crate::specs::Reading::all_of, crate::specs::Reading::field_at))]
 fn create(alloc: Global, tag: u16, mut fields: Cursor<'_>) -> Result<TMessage<'_>, WireFault>
     ensures { IsSeenAsOrMemory t_view result (all_of requests tk.Create tag fields.entry.rest.now) }
@@ -122,6 +129,7 @@ fn create(alloc: Global, tag: u16, mut fields: Cursor<'_>) -> Result<TMessage<'_
     Ok(TMessage { tag, body })
 }
 
+/// Reads the fields of a Tread.
 #[tactic(auto, unfolding(crate::specs::Reading::all_of, crate::specs::Reading::field_at))]
 fn read(tag: u16, mut fields: Cursor<'_>) -> Result<TMessage<'_>, WireFault>
     ensures { IsSeenAs t_view result (all_of requests tk.Read tag fields.entry.rest.now) }
@@ -136,6 +144,7 @@ fn read(tag: u16, mut fields: Cursor<'_>) -> Result<TMessage<'_>, WireFault>
     })
 }
 
+/// Reads the fields of a Twrite, whose data is lent by the bytes.
 #[tactic(auto, unfolding(crate::specs::Reading::all_of, crate::specs::Reading::field_at))]
 fn write(tag: u16, mut fields: Cursor<'_>) -> Result<TMessage<'_>, WireFault>
     ensures { IsSeenAs t_view result (all_of requests tk.Write tag fields.entry.rest.now) }
@@ -150,6 +159,7 @@ fn write(tag: u16, mut fields: Cursor<'_>) -> Result<TMessage<'_>, WireFault>
     })
 }
 
+/// Reads the fields of a Tclunk.
 #[tactic(auto, unfolding(crate::specs::Reading::all_of, crate::specs::Reading::field_at))]
 fn clunk(tag: u16, mut fields: Cursor<'_>) -> Result<TMessage<'_>, WireFault>
     ensures { IsSeenAs t_view result (all_of requests tk.Clunk tag fields.entry.rest.now) }
@@ -162,6 +172,7 @@ fn clunk(tag: u16, mut fields: Cursor<'_>) -> Result<TMessage<'_>, WireFault>
     })
 }
 
+/// Reads the fields of a Tremove.
 #[tactic(auto, unfolding(crate::specs::Reading::all_of, crate::specs::Reading::field_at))]
 fn remove(tag: u16, mut fields: Cursor<'_>) -> Result<TMessage<'_>, WireFault>
     ensures { IsSeenAs t_view result (all_of requests tk.Remove tag fields.entry.rest.now) }
@@ -174,6 +185,7 @@ fn remove(tag: u16, mut fields: Cursor<'_>) -> Result<TMessage<'_>, WireFault>
     })
 }
 
+/// Reads the fields of a Tstat.
 #[tactic(auto, unfolding(crate::specs::Reading::all_of, crate::specs::Reading::field_at))]
 fn stat(tag: u16, mut fields: Cursor<'_>) -> Result<TMessage<'_>, WireFault>
     ensures { IsSeenAs t_view result (all_of requests tk.Stat tag fields.entry.rest.now) }
@@ -186,6 +198,7 @@ fn stat(tag: u16, mut fields: Cursor<'_>) -> Result<TMessage<'_>, WireFault>
     })
 }
 
+/// Reads the fields of a Twstat.
 #[tactic(auto, unfolding(crate::specs::Reading::all_of, crate::specs::Reading::field_at))]
 fn wstat(alloc: Global, tag: u16, mut fields: Cursor<'_>) -> Result<TMessage<'_>, WireFault>
     ensures { IsSeenAsOrMemory t_view result (all_of requests tk.Wstat tag fields.entry.rest.now) }

@@ -1,4 +1,4 @@
-//! A stat whose texts lie elsewhere.
+//! A stat whose texts are borrowed.
 
 ghost use Rattle.std.specs.Prelude.{◌≡◌, IfOk, OnErr, true};
 ghost use Rattle.cs_wire.specs.Fields.{holds_bytes};
@@ -8,7 +8,7 @@ use crate::copying::text_copied;
 use crate::message::{Qid, Stat};
 use std::alloc::{AllocError, Global};
 
-/// What stat(5) tells of a file, with texts that lie elsewhere.
+/// What a stat says of a file (stat(5)), with borrowed texts.
 #[derive(Clone, Copy)]
 pub struct StatRef<'a> {
     pub kind: u16,
@@ -25,7 +25,7 @@ pub struct StatRef<'a> {
 }
 
 impl StatRef<'_> {
-    /// A stat with texts of its own, which takes memory only if one of them has a byte.
+    /// A stat with copies of the texts. It allocates only if one of them isn't empty.
     pub fn copied(&self, alloc: Global) -> Result<Stat, AllocError>
         ensures same { IfOk result (λ copy. stat_of copy ≡ stat_in self.now) }
         ensures grows { OnErr result (holds_bytes stat_shape (stat_in self.now) ≡ true) }
@@ -47,7 +47,7 @@ impl StatRef<'_> {
 }
 
 impl Stat {
-    /// The same, with its texts borrowed.
+    /// The same stat, with its texts borrowed.
     pub fn borrowed(&self) -> StatRef<'_>
         ensures { stat_in result ≡ stat_of self.now }
     {

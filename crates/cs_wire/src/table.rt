@@ -1,7 +1,7 @@
 //! Each type of message: its name, its number, and its fields in the manual's order by what they
-//! hold. A macro that is handed the table writes one arm a row.
+//! hold. A macro that gets the table writes one match arm for each row.
 
-/// What clients send.
+/// The messages that clients send.
 macro_rules! each_request {
     ($rows:ident $args:tt) => {
         $rows! { $args
@@ -22,7 +22,7 @@ macro_rules! each_request {
     };
 }
 
-/// What the server sends.
+/// The messages that the server sends.
 macro_rules! each_reply {
     ($rows:ident $args:tt) => {
         $rows! { $args

@@ -16,7 +16,7 @@ use crate::stat::StatRef;
 use crate::table::{each_reply, each_request};
 use std::alloc::AllocError;
 
-/// Appends to what has the room, as each function here does.
+/// Appends bytes to a `Vec` that has room for them, as each function here does.
 fn put(out: &mut Vec<u8>, bytes: &[u8])
     requires { vec_len out.old + length bytes.now ≤ vec_capacity out.old }
     ensures items { out.new.items ≡ out.old.items ++ bytes.now }
@@ -26,6 +26,7 @@ fn put(out: &mut Vec<u8>, bytes: &[u8])
     out.extend_from_slice(bytes).unwrap();
 }
 
+/// Appends a number of one byte.
 #[tactic(auto, unfolding(crate::specs::Fields::bytes_of_field))]
 fn put_one(out: &mut Vec<u8>, number: u8)
     requires { vec_len out.old + 1 ≤ vec_capacity out.old }
@@ -36,6 +37,7 @@ fn put_one(out: &mut Vec<u8>, number: u8)
     put(out, &number.to_le_bytes());
 }
 
+/// Appends a number of two bytes, the low one first.
 #[tactic(auto, unfolding(crate::specs::Fields::bytes_of_field))]
 fn put_two(out: &mut Vec<u8>, number: u16)
     requires { vec_len out.old + 2 ≤ vec_capacity out.old }
@@ -46,6 +48,7 @@ fn put_two(out: &mut Vec<u8>, number: u16)
     put(out, &number.to_le_bytes());
 }
 
+/// Appends a number of four bytes, the low one first.
 #[tactic(auto, unfolding(crate::specs::Fields::bytes_of_field))]
 fn put_four(out: &mut Vec<u8>, number: u32)
     requires { vec_len out.old + 4 ≤ vec_capacity out.old }
@@ -56,6 +59,7 @@ fn put_four(out: &mut Vec<u8>, number: u32)
     put(out, &number.to_le_bytes());
 }
 
+/// Appends a number of eight bytes, the low one first.
 #[tactic(auto, unfolding(crate::specs::Fields::bytes_of_field))]
 fn put_eight(out: &mut Vec<u8>, number: u64)
     requires { vec_len out.old + 8 ≤ vec_capacity out.old }
@@ -66,6 +70,7 @@ fn put_eight(out: &mut Vec<u8>, number: u64)
     put(out, &number.to_le_bytes());
 }
 
+/// Appends a text: its length in two bytes, and its bytes.
 #[tactic(auto, unfolding(crate::specs::Fields::bytes_of_field))]
 fn put_text(out: &mut Vec<u8>, text: &str)
     requires fits { IsIn Text text.now }
@@ -78,6 +83,7 @@ fn put_text(out: &mut Vec<u8>, text: &str)
     put(out, text.as_bytes());
 }
 
+/// Appends the 13 bytes of a qid.
 #[tactic(auto, unfolding(crate::specs::Fields::bytes_of_field))]
 fn put_qid(out: &mut Vec<u8>, qid: &Qid)
     requires { vec_len out.old + 13 ≤ vec_capacity out.old }
@@ -90,7 +96,8 @@ fn put_qid(out: &mut Vec<u8>, qid: &Qid)
     put_eight(out, qid.path);
 }
 
-fn put_texts(out: &mut Vec<u8>, texts: &[String])
+/// Appends the texts one after the other, without a count before them.
+fn put_each_text(out: &mut Vec<u8>, texts: &[String])
     requires fits { AllByRecursion (IsIn Text) (names_of texts.now) }
     requires room { vec_len out.old + length (flat_map (bytes_of_field Text) (names_of texts.now))
         ≤ vec_capacity out.old }
@@ -105,7 +112,8 @@ fn put_texts(out: &mut Vec<u8>, texts: &[String])
     }
 }
 
-fn put_qids(out: &mut Vec<u8>, qids: &[Qid])
+/// Appends the qids one after the other, without a count before them.
+fn put_each_qid(out: &mut Vec<u8>, qids: &[Qid])
     requires room { vec_len out.old + length
         (flat_map (bytes_of_field qid_shape) (map qid_of qids.now)) ≤ vec_capacity out.old }
     ensures items { out.new.items ≡ out.old.items
@@ -119,6 +127,7 @@ fn put_qids(out: &mut Vec<u8>, qids: &[Qid])
     }
 }
 
+/// Appends the names of a walk, after their count in two bytes.
 #[tactic(auto, unfolding(crate::specs::Fields::bytes_of_field))]
 fn put_names(out: &mut Vec<u8>, names: &[String])
     requires fits { IsIn (Several Text) (names_of names.now) }
@@ -131,9 +140,10 @@ fn put_names(out: &mut Vec<u8>, names: &[String])
     ensures capacity { vec_capacity out.old ≤ vec_capacity out.new }
 {
     put_two(out, names.len() as u16);
-    put_texts(out, names);
+    put_each_text(out, names);
 }
 
+/// Appends the qids of a walk, after their count in two bytes.
 #[tactic(auto, unfolding(crate::specs::Fields::bytes_of_field))]
 fn put_wqid(out: &mut Vec<u8>, wqid: &[Qid])
     requires fits { IsIn (Several qid_shape) (map qid_of wqid.now) }
@@ -146,9 +156,10 @@ fn put_wqid(out: &mut Vec<u8>, wqid: &[Qid])
     ensures capacity { vec_capacity out.old ≤ vec_capacity out.new }
 {
     put_two(out, wqid.len() as u16);
-    put_qids(out, wqid);
+    put_each_qid(out, wqid);
 }
 
+/// Appends bytes, after their count in four.
 #[tactic(auto, unfolding(crate::specs::Fields::bytes_of_field))]
 fn put_data(out: &mut Vec<u8>, bytes: &[u8])
     requires fits { IsIn Raw bytes.now }
@@ -161,6 +172,7 @@ fn put_data(out: &mut Vec<u8>, bytes: &[u8])
     put(out, bytes);
 }
 
+/// Appends the last four fields of a stat: name, owner, group and last writer.
 #[tactic(auto, unfolding(crate::specs::Fields::bytes_of_field))]
 fn put_stat_texts(out: &mut Vec<u8>, stat: &StatRef)
     requires fits { IsIn (Text ▸ Text ▸ Text ▸ Text) (users_in stat.now) }
@@ -176,6 +188,7 @@ fn put_stat_texts(out: &mut Vec<u8>, stat: &StatRef)
     put_text(out, stat.muid);
 }
 
+/// Appends the fields of a stat, without a size before them.
 fn put_stat_fields(out: &mut Vec<u8>, stat: &StatRef)
     requires fits { IsIn (Text ▸ Text ▸ Text ▸ Text) (users_in stat.now) }
     requires room { vec_len
@@ -194,6 +207,7 @@ fn put_stat_fields(out: &mut Vec<u8>, stat: &StatRef)
     put_stat_texts(out, stat);
 }
 
+/// Appends a stat as a directory's entry: the size of its fields in two bytes, and the fields.
 fn put_entry(out: &mut Vec<u8>, stat: &StatRef)
     requires fits { IsEntry (stat_in stat.now) }
     requires room { vec_len out.old + length (stat_entry (stat_in stat.now))
@@ -205,6 +219,7 @@ fn put_entry(out: &mut Vec<u8>, stat: &StatRef)
     put_stat_fields(out, stat);
 }
 
+/// Appends a stat as a message has it: the size of its entry in two bytes, and the entry.
 fn put_stat(out: &mut Vec<u8>, stat: &StatRef)
     requires fits { IsIn (Boxed stat_shape) (stat_in stat.now) }
     requires room { vec_len out.old + length (bytes_of_field (Boxed stat_shape) (stat_in stat.now))
@@ -217,6 +232,7 @@ fn put_stat(out: &mut Vec<u8>, stat: &StatRef)
     put_entry(out, stat);
 }
 
+/// Appends a field, by what the table says that it holds.
 macro_rules! put_field {
     ($out:ident one $number:ident) => { put_one($out, *$number) };
     ($out:ident two $number:ident) => { put_two($out, *$number) };
@@ -230,6 +246,7 @@ macro_rules! put_field {
     ($out:ident stat $stat:ident) => { put_stat($out, &$stat.borrowed()) };
 }
 
+/// Appends the fields of a body, one match arm for each row of the table.
 macro_rules! put_body {
     (($body:ident $bodies:ident $out:ident)
     $($name:ident $title:literal $code:literal { $($field:ident: $holds:ident),* })*) => {
@@ -239,6 +256,7 @@ macro_rules! put_body {
     };
 }
 
+/// Appends the fields of a request, in the order of the table.
 #[tactic(auto, unfolding(crate::specs::Fields::bytes_of_field))]
 fn put_request(out: &mut Vec<u8>, body: &TBody<'_>)
     requires fits { RequestFits body.now }
@@ -249,6 +267,7 @@ fn put_request(out: &mut Vec<u8>, body: &TBody<'_>)
     each_request!(put_body (body TBody out))
 }
 
+/// Appends the fields of a reply, in the order of the table.
 #[tactic(auto, unfolding(crate::specs::Fields::bytes_of_field))]
 fn put_reply(out: &mut Vec<u8>, body: &RBody)
     requires fits { ReplyFits body.now }
@@ -259,6 +278,7 @@ fn put_reply(out: &mut Vec<u8>, body: &RBody)
     each_reply!(put_body (body RBody out))
 }
 
+/// The number of a body's type, from the table.
 macro_rules! number_of_body {
     (($body:ident $bodies:ident)
     $($name:ident $title:literal $code:literal { $($field:ident: $holds:ident),* })*) => {
@@ -268,19 +288,21 @@ macro_rules! number_of_body {
     };
 }
 
+/// The number of the request's type.
 fn request_kind(body: &TBody<'_>) -> u8
     ensures { result ≡ request_number body.now }
 {
     each_request!(number_of_body (body TBody))
 }
 
+/// The number of the reply's type.
 fn reply_kind(body: &RBody) -> u8
     ensures { result ≡ reply_number body.now }
 {
     each_reply!(number_of_body (body RBody))
 }
 
-/// The size, the type and the tag of a message.
+/// Appends the size, the type and the tag of a message.
 fn put_header(out: &mut Vec<u8>, size: u32, kind: u8, tag: u16)
     requires { vec_len out.old + 7 ≤ vec_capacity out.old }
     ensures items { out.new.items ≡ out.old.items
@@ -293,8 +315,8 @@ fn put_header(out: &mut Vec<u8>, size: u32, kind: u8, tag: u16)
     put_two(out, tag);
 }
 
-/// Appends the one spelling of a reply that fits (intro(5)). Where the room is there it takes no
-/// memory and succeeds. After an `Err` the bytes are as before.
+/// Appends the only spelling of a reply that fits (intro(5)). If `out` has room for it nothing is
+/// allocated, and it succeeds. After an `Err` the bytes are as before.
 pub fn encode_reply(message: &RMessage, out: &mut Vec<u8>) -> Result<(), AllocError>
     requires { Fits (r_view message.now) }
     ensures ok { OnOk result (out.new.items ≡ out.old.items ++ spelling (r_view message.now)) }
@@ -310,7 +332,7 @@ pub fn encode_reply(message: &RMessage, out: &mut Vec<u8>) -> Result<(), AllocEr
     Ok(())
 }
 
-/// Appends the one spelling of a client's message that fits, as `encode_reply` does.
+/// Appends the only spelling of a client's message that fits, as `encode_reply` does.
 pub fn encode_request(message: &TMessage<'_>, out: &mut Vec<u8>) -> Result<(), AllocError>
     requires { Fits (t_view message.now) }
     ensures ok { OnOk result (out.new.items ≡ out.old.items ++ spelling (t_view message.now)) }
@@ -327,8 +349,8 @@ pub fn encode_request(message: &TMessage<'_>, out: &mut Vec<u8>) -> Result<(), A
 }
 
 impl StatRef<'_> {
-    /// Appends the bytes of its entry (stat(5)). Where the room is there it takes no memory and
-    /// succeeds. After an `Err` the bytes are as before.
+    /// Appends the bytes of its entry (stat(5)). If `out` has room for them nothing is allocated,
+    /// and it succeeds. After an `Err` the bytes are as before.
     pub fn encode_entry(&self, out: &mut Vec<u8>) -> Result<(), AllocError>
         requires { IsEntry (stat_in self.now) }
         ensures ok { OnOk result (out.new.items ≡ out.old.items ++ stat_entry (stat_in self.now)) }

@@ -1,4 +1,4 @@
--- The runs of the first of two groups, in a registry and in another one that has them alone.
+-- The runs of the first of two groups, in a registry and in another one that has only them.
 use Rattle.std.proofs.Common.{◌≡◌, ◌≢◌, ◌∙◌, ℕ, zero, suc, ◌+◌, ◌<◌, ◌≤◌, ◌==◌, Bool, true, false, not, cond, [], ◌∷◌, ◌++◌, length}
 use Rattle.std.proofs.Common.{length-append, Option, None, Some, refl, sym, ap, arith, inl, inr}
 use Rattle.std.specs.Prelude.{slice_get, slice_set}
@@ -36,7 +36,7 @@ module _ (runs : Runs RunOf) (n : ℕ) (new : Found RunOf → Found RunOf) where
   key_change : (p : ℕ) → key_at (change new n runs) p ≡ key_at runs p
   key_change p = key_by p (p == n) refl (slice_get runs n) refl
 
--- a test of the key at a place, where a run stands there
+-- a test of the key at a place, if a run is there
 abbrev pub tests : (Key → Bool) → Runs RunOf → ℕ → Bool
 tests g runs p = option_map_or g (key_at runs p) false
 
@@ -64,7 +64,7 @@ module _ (g : Key → Bool) (runs : Runs RunOf) where
   pub some_at : (p : ℕ) → tests g runs p ≡ true → (e : Kept) × (slice_get runs p ≡ Some e)
   some_at p is = some_by p (slice_get runs p) refl is
 
--- a run stands at the place
+-- a run is at the place
 abbrev pub there : Registry RunOf → ℕ → Bool
 there r p = tests (λ key. true) r.runs p
 
@@ -73,7 +73,7 @@ module _ (ours : Key → Bool) where
   abbrev pub their : Registry RunOf → ℕ → Bool
   their r p = tests (λ key. not (ours key)) r.runs p
 
-  -- the second registry has the runs of the first group alone, each of which stands in the first one too, at the place that f gives
+  -- the second registry has only the runs of the first group, each of which is in the first one too, at the place that f gives
   pub record AgreeRuns (f : ℕ → ℕ) (w v : Registry RunOf) : Type 0 where
     pub scene : w.scene ≡ v.scene
     pub users : w.users ≡ v.users

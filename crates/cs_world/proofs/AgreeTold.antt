@@ -1,4 +1,4 @@
--- What connections of two groups are told: the first ones the same in both registries, and the others nothing of the first group.
+-- What connections of two groups are answered: the first ones the same in both registries, the others nothing of the first group.
 use Rattle.std.proofs.Common.{◌≡◌, ◌∙◌, ℕ, ◌+◌, Bool, true, false, not, cond, List, [], ◌∷◌, ◌++◌, length, Option, None, Some, Result, Ok}
 use Rattle.std.proofs.Common.{Err, refl, sym, ap, subst, arith}
 use Rattle.std.specs.Prelude.{nat_le, slice_get, slice_index_or}
@@ -28,7 +28,7 @@ use Rattle.cs_world.proofs.AgreeRuns.{f_more, f_new, f_old, other_change, other_
 use Rattle.cs_world.proofs.Within.{out, still_out}
 
 module _ (ours : Key → Bool) where
-  -- ---- what a connection of the first group is told
+  -- ---- what a connection of the first group is answered
 
   module _ (f : ℕ → ℕ) (w v : Registry RunOf) (a : AgreeRuns ours f w v) where
     -- of the answers and the registries then
@@ -155,7 +155,7 @@ module _ (ours : Key → Bool) where
             held = (serve run).1;
           }) p its.0 its.1 (serve run).0 (serve run).0 (plain run f) (plain run _))
 
-  -- ---- what one of the second group is told
+  -- ---- what one of the second group is answered
 
   module _ (f : ℕ → ℕ) (w v : Registry RunOf) (a : AgreeRuns ours f w v) where
     pub record Other (x : PortAnswer × Registry RunOf) : Type 0 where

@@ -25,7 +25,7 @@ use Rattle.cs_world.proofs.Invariant.{attach_asks, find_by}
 use Rattle.cs_world.proofs.Standing.{counted, given, held_there, one_if, stands}
 use Rattle.cs_world.proofs.Tables.{IsAsked, call_asks, close_asks, fid_in, freed_by, judged_asks}
 
--- a call that ends an open that stands has room
+-- a call that ends an open that is there has room
 free_by : (s : RunState) (pass : ℕ) (asked : Call) (number : ℕ) → closed_open_number asked ≡ Some number
     → IsSome (open_numbered number pass s.opens) → HasRoom s → is_full s pass asked ≡ false
 free_by s pass asked number is stands room =

@@ -121,7 +121,7 @@ module _ (key : Key) where
       there_made (step_of w x.0 x.1).1 (stays w there x.0 x.1) xs,
     )
 
-    -- the users that stood then are those that it was made with
+    -- the users at that time are those that it was made with
     pub made_with : (w : World) (xs : List (Step × WorldMark)) → users_made_with w xs key ≡ Some users → MadeWith key users w xs
     made_with w [] is = tt
     made_with w (x ∷ xs) is = by (has_run (step_of w x.0 x.1).1.registry) refl is (made_with (step_of w x.0 x.1).1 xs)

@@ -1,4 +1,4 @@
--- What a step of a connection comes to in a consistent world.
+-- What a step of a connection results in, in a consistent world.
 use Rattle.std.proofs.Common.{◌≡◌, ℕ, ◌<◌, Bool, true, false, Option, None, Some, refl, sym, subst, arith}
 use Rattle.std.specs.Prelude.{IsSome, IsSomeAnd, nat_le, nat_lt}
 use Rattle.std.proofs.lemmas.Bool.Decides.{nat_tests}
@@ -107,7 +107,7 @@ module _ (w : World) (ok : IsConsistent w) (conn : ℕ) (inside : conn < CONNECT
   by_front x refused mark (Asks q) e = by_question x refused q mark e
 
 module _ (w : World) (ok : IsConsistent w) (conn now : ℕ) (x : Step) (mark : WorldMark) where
-  -- each step of a connection comes to one of these
+  -- each step of a connection results in one of these
   pub comes : ConnectionStepComesTo w conn now x (refuses_own mark) (on_connection w conn now x mark).0 (on_connection w conn now x mark).1
   comes = on_ends w conn now x mark (λ q y. ConnectionStepComesTo w conn now x (refuses_own mark) y.0 y.1)
       (λ low. by_front w ok conn low now x (refuses_own mark) (run_mark_of mark)

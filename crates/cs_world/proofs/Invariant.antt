@@ -79,7 +79,7 @@ attach_asks now s (Some p) is q e = record { awaited = p; waits = is; is = cc }
 -- ---- a step of a connection
 
 module _ (w : World) (ok : HasConsistentRuns w) (conn : ℕ) where
-  -- the entries that a call leaves stand on runs that are there
+  -- the entries that a call leaves are of runs that are there
   source_attached : (of : ℕ) (answer : Answer) (fid : ℕ) (e : FidEntry) → Source (session_at w conn).fids of answer fid e
       → HasAttached w.registry (run_of e) (pass_of e) (user_of e)
   source_attached of answer fid e (Kept there) = ok.fids conn fid e there

@@ -40,7 +40,7 @@ module _ (scene : Scene) (users : List Row) (key : Key) where
   ends marked own stood o is =
       alone_there key own w marked (made_with key own w marked stood) ∙ ap (λ (o : Option RunOf). from o (puts marked)) is
 
-  -- ---- a run that was found is that of what reached it, alone
+  -- ---- a run that was found is that of only the calls that reached it
 
   record IsFrom (marked : List (Step × WorldMark)) (run : RunOf) : Type 0 where
     own : List Row
@@ -103,7 +103,7 @@ module _ (scene : Scene) (users : List Row) (key : Key) where
 
   -- ---- the same calls leave the same run
 
-  -- where nothing was put to it, nothing was told
+  -- if nothing was put to it, nothing was answered
   untold : (marked : List (Step × WorldMark)) (o : Option (List Row)) → users_made_with w marked key ≡ o → puts marked ≡ []
       → answers_of w marked key ≡ []
   untold marked None stood none = (never key w marked refl stood).answers

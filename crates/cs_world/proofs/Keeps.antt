@@ -216,7 +216,7 @@ module _ (w : World) (ok : HasConsistentRuns w) (conn : ℕ) (p : Awaited) (wait
   with_pass_attached : (held : RunOf) (pass : ℕ) (user : List ℕ) → IsAttachedAs held pass user → IsAttachedAs (with_pass held) pass user
   with_pass_attached held pass user h = record { place = h.place; moment = h.moment; entry = h.entry }
 
-  -- the run changes, and awaits the attach no more
+  -- the run changes, and no longer awaits the attach
   attach_moves : (held : RunOf) → held.fresh ≡ run.held.fresh → (IsSound run.held → IsSound held) → run.held.passes ≤ held.passes
       → held.passes ≤ run.held.passes + 1 → ((pass : ℕ) (user : List ℕ) → IsAttachedAs run.held pass user → IsAttachedAs held pass user)
       → (s' : SessionState) → s'.awaited ≡ None

@@ -172,7 +172,7 @@ one_before w x reply next s steps rest w' r = record {
   leads = ap (reply_before reply) r.leads ∙ ap (λ (y : Reply × World). reply_before y.0 (steps_of y.1 r.marked)) s.1;
 }
 
--- ---- where calls lead from a consistent world
+-- ---- calls from a consistent world
 
 pub by_step : (w w' : World) (x : t.Step) (reply : Reply) → IsStep w x reply w' → IsConsistent w → IsConsistent w'
 by_step w w' x reply s ok = subst IsConsistent (sym (ap (λ (y : Reply × World). y.1) s.1)) (stays_consistent w ok x s.0)

@@ -23,7 +23,7 @@ use Rattle.cs_world.proofs.Apart.{Agree}
 use Rattle.cs_world.proofs.ApartLists.{AllOwned, step_both}
 use Rattle.cs_world.proofs.Moved.{get_moved, least_moved}
 
--- ---- the next step doesn't hang on places
+-- ---- the next step doesn't depend on places
 
 module _ (f : ℕ → ℕ) where
   find_same : (o : Option Awaited) (x : AttachMessage) → find_or (option_map (awaited_with_places f) o) x ≡ find_or o x

@@ -1,4 +1,4 @@
--- A connection whose runs have other places: what its table of fids tells, and what it asks, is the same but for the places.
+-- A connection whose runs have other places: what its table of fids says, and what it asks, is the same except for the places.
 use Rattle.std.proofs.Common.{◌≡◌, ◌∙◌, ℕ, ◌==◌, not, ◌&&◌, ◌||◌, Bool, true, false, cond, List, [], ◌∷◌, length, Option, None, Some, Ok}
 use Rattle.std.proofs.Common.{Err, refl, sym, ap}
 use Rattle.std.specs.Prelude.{is_err, is_none, is_some, nat_le, option_and_then}
@@ -31,7 +31,7 @@ use Rattle.cs_session.specs.Steps.{FirstMove, Done, Asks}
 use Rattle.cs_tree_model.specs.Maps.Values.{map_entries, entries-map_values, get-map_values}
 use Rattle.cs_world.specs.Places.{entry_with_places, fid_with_places, fids_with_places, with_places}
 
--- ---- what is asked and told
+-- ---- questions and answers
 
 abbrev pub moved_question : (ℕ → ℕ) → Question → Question
 moved_question f (FindRun state_name run_name) = FindRun state_name run_name

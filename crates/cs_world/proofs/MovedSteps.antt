@@ -1,4 +1,4 @@
--- A connection whose runs stand at other places does and leaves the same, but for the places.
+-- A connection whose runs are at other places does and leaves the same, except for the places.
 use Rattle.std.proofs.Common.{◌≡◌, ◌∙◌, ℕ, ◌&&◌, Bool, true, false, cond, List, [], ◌∷◌, Option, None, Some, Ok, Err, refl, sym, ap}
 use Rattle.std.specs.Prelude.{is_none, is_some, option_and_then}
 use Rattle.std.specs.Option.{option_map, option_map_or}
@@ -309,7 +309,7 @@ module _ (f : ℕ → ℕ) where
   call_moved fids (m.Stat fid) answer = refl
   call_moved fids (m.Wstat x) answer = refl
 
-  -- what comes of what it is told is the same but for the places
+  -- after its answer all is the same except for the places
   pub after_moved : (s : SessionState) (x : Step) (told : PortAnswer)
       → reply_and_session (with_places f s) x (moved_told f told) ≡ moved_reply f (reply_and_session s x told)
   after_moved s (FindStep x) (FindAnswer (Ok place)) = refl

@@ -17,7 +17,7 @@ use Rattle.cs_world.specs.Passes.{AreOf}
 use Rattle.cs_world.specs.Runs.{attach_on, call_on, answer_and_run, run_step, with_pass_number}
 use Rattle.cs_world.proofs.Placing.{get_pushed, get_set}
 
--- ---- what a step leaves of its run doesn't hang on the pass's receipts
+-- ---- what a step leaves of its run doesn't depend on the pass's receipts
 
 module _ (r : RunOf) (p : PassOf) (now : ℕ) (c : Call) (mark : StepMark) where
   same_by : (full short : Bool) → is_full (state_of r) p.number c ≡ full

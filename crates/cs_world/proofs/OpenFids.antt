@@ -44,7 +44,7 @@ use Rattle.cs_world.proofs.Reached.{keeps, put_other, put_same}
 use Rattle.cs_world.proofs.Standing.{given, held_there}
 use Rattle.cs_world.proofs.Tables.{IsAsked, Source, Kept, Walks, Opens, Reads, inserted}
 
--- ---- where an open fid comes from
+-- ---- the origin of an open fid
 
 -- it was open before, and its open isn't the one that ends
 pub record Was (w : World) (conn : ℕ) (freed : Option ℕ) (c fid : ℕ) (f : FidOf Opened) : Type 0 where
@@ -233,7 +233,7 @@ module _ (w : World) (there : HasConsistentRuns w) (ok : HaveTheirOpens w) (conn
 
   module _ (run : RunOf) (held : held_at w.registry.runs (run_of its.held) ≡ Some run) (answer : Answer) (run' : RunOf)
       (end : CallComesTo run now (pass_of its.held) its.call answer run') where
-    -- an open that stood stands, but for the one that ends
+    -- an open that was there stays, except the one that ends
     stands_still : (c fid : ℕ) (f : FidOf Opened) → entry_at (session_at w c) fid ≡ Some (entry.Opened f)
         → (c ≡ conn → freed ≡ Some fid → ⊥) → HasOpen (with_run_at w.registry (run_of its.held) run') f.run f.pass f.state.open_number
     stands_still c fid f is keeps =
@@ -245,7 +245,7 @@ module _ (w : World) (there : HasConsistentRuns w) (ok : HaveTheirOpens w) (conn
         let one = ok.own c fid conn at f g is mine (same ∙ ap run_of e.1) (sym e.2) in
         keeps one.0 (e.3 ∙ ap Some (sym one.1))) stood) (ok.stand c fid f is)
 
-    -- an open that the answer tells is new
+    -- an open that the answer names is new
     new_open : (fid mode open_number number : ℕ) (qid : _) (from : FidOf Walked) (f : FidOf Opened) → fid ≡ at
         → get (session_at w conn).fids fid ≡ Some (entry.Walked from) → answer ≡ a.Opened qid open_number number
         → entry.Opened f ≡ entry.Opened (opened_fid (moved_to from number) mode open_number)

@@ -1,4 +1,4 @@
--- The opens of a run that stand after a call.
+-- The opens of a run after a call.
 use Rattle.std.proofs.Common.{◌≡◌, ◌≢◌, ◌∙◌, ℕ, zero, suc, ◌<◌, ◌≤◌, Bool, true, false, cond, List, [], ◌∷◌, ◌++◌, length, Option, None}
 use Rattle.std.proofs.Common.{Some, IsSome, get_or, refl, sym, ap, subst, arith}
 use Rattle.std.specs.List.{position, position_or_len}
@@ -54,7 +54,7 @@ module _ {A : Type 0} (P : A → Bool) (xs : List A) (k : ℕ) (x : A) (there : 
   fails is = fails_by (nat_lt (position_or_len P xs) (length xs)) refl is
 
 module _ (number pass : ℕ) where
-  -- it stands at some place
+  -- it is at some place
   pub record At (opens : List OpenFile) : Type 0 where
     pub place : ℕ
     pub open_file : OpenFile
@@ -84,7 +84,7 @@ module _ (number pass : ℕ) where
   pub finds : (opens : List OpenFile) → At opens → IsSome (open_numbered number pass opens)
   finds opens at = finds_by opens (position (is_open number pass) opens) refl at
 
-  -- so it stands where others come behind
+  -- so it is there if others come after it
   pub more : (opens others : List OpenFile) → IsSome (open_numbered number pass opens)
       → IsSome (open_numbered number pass (opens ++ others))
   more opens others h =
@@ -127,7 +127,7 @@ module _ (number pass : ℕ) (opens : List OpenFile) (h : IsSome (open_numbered 
       let left = elsewhere opens its.place j its.open_file apart its.there in
       finds number pass (remove opens j) (record { place = left.0; open_file = its.open_file; there = left.1; is = its.is })
 
-  -- it stands where another one is ended
+  -- it is there if another one is ended
   without : (closed : Option ℕ) (own : ℕ) → (closed ≡ Some number → ⊥)
       → IsSome (open_numbered number pass (opens_without_if closed own opens))
   without None own differs = h
@@ -147,7 +147,7 @@ module _ (s : RulesView) (w : Turn) (asked : Call) (number pass : ℕ) (differs 
   applied_stands o.Short = without number pass s.opens h (closed_open_number asked) w.pass differs
 
 module _ (run : RunOf) (now own : ℕ) (asked : Call) (answer : Answer) (run' : RunOf) where
-  -- an open stands still that the call doesn't end
+  -- an open that the call doesn't end is still there
   pub stays : CallComesTo run now own asked answer run' → (number pass : ℕ) → (closed_open_number asked ≡ Some number → ⊥)
       → IsSome (open_numbered number pass (state_of run).opens) → IsSome (open_numbered number pass (state_of run').opens)
   stays (Full f is same) number pass differs h = subst (λ r. IsSome (open_numbered number pass (state_of r).opens)) (sym same) h
@@ -181,7 +181,7 @@ stat_tells : (o : Option (Value stat_shape)) (qid : Qid) (n number : ℕ) → op
 stat_tells None qid n number e = cc
 stat_tells (Some stat) qid n number e = cc
 
--- only an open and a create tell of an open, and its number is the place of the call
+-- only the answers to an open and a create name an open, and its number is the place of the call
 opened_by : (s : RulesView) (w : Turn) (asked : Call) (qid : Qid) (n number : ℕ) → (effect_of s w asked).answer ≡ a.Opened qid n number
     → (opens_one asked ≡ true) × (n ≡ w.place)
 unfolding open_effect create_effect write_effect close_effect remove_effect wstat_effect
@@ -201,7 +201,7 @@ is_its o number pass n p = rw (eq-eqb o.number number n, eq-eqb o.pass pass p) r
 
 module _ (run : RunOf) (now own : ℕ) (asked : Call) (answer : Answer) (run' : RunOf) (qid : Qid) (n number : ℕ)
     (told : answer ≡ a.Opened qid n number) where
-  -- the open that an answer tells is new, and stands
+  -- the open that an answer names is new, and is there
   pub opens : CallComesTo run now own asked answer run' → (n ≡ (state_of run).entries) × IsSome (open_numbered n own (state_of run').opens)
   opens (Full f is same) = absurd (cc)
   opens (ShortBefore f none is same) = absurd (cc)

@@ -49,7 +49,7 @@ get_below [] ys k inside = absurd (omega arith)
 get_below (x ∷ xs) ys zero inside = refl
 get_below (x ∷ xs) ys (suc k) inside = get_below xs ys k (omega arith)
 
--- what stood stands when others come behind
+-- what was there stays when others come after it
 pub get_kept : {A : Type 0} (xs ys : List A) (k : ℕ) (y : A) → slice_get xs k ≡ Some y → slice_get (xs ++ ys) k ≡ Some y
 get_kept xs ys k y there = get_below xs ys k (slice_get_within xs k y there) ∙ there
 

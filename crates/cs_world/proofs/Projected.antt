@@ -1,4 +1,4 @@
--- What reaches a run where no reply says out of memory is what reaches it where memory refuses nothing.
+-- What reaches a run if no reply says out of memory is what reaches it if memory refuses nothing.
 use Rattle.std.proofs.Common.{◌≡◌, ◌∙◌, ℕ, Bool, true, false, cond, List, [], ◌∷◌, ◌++◌, append_assoc, length, Option, None, Some, refl}
 use Rattle.std.proofs.Common.{sym, ap, inl, inr}
 use Rattle.std.specs.Prelude.{nat_lt}

@@ -1,4 +1,4 @@
--- Steps whose marks that no reply tells of are left out lead to the same.
+-- Without the marks that no reply reports, steps lead to the same.
 use Rattle.std.proofs.Common.{◌≡◌, ◌∙◌, Bool, true, false, cond, List, [], ◌∷◌, map, refl, sym, ap, subst}
 use Rattle.cs_world.specs.declared.reply.Reply.{Reply}
 use Rattle.cs_world.specs.declared.step.Step.{Step}
@@ -13,7 +13,7 @@ use Rattle.cs_world.proofs.AmpleSteps.{same_ample}
 abbrev told_of : World → Step → WorldMark → Bool
 told_of w x mark = says_out_of_memory (step_of w x mark).0
 
--- a mark that the reply tells of, and else none
+-- a mark that the reply reports, else none
 abbrev pub told_mark : World → Step × WorldMark → WorldMark
 told_mark w x = cond (told_of w x.0 x.1) x.1 nothing_refused
 
@@ -58,7 +58,7 @@ all_told w (x ∷ xs) =
           (all_told next xs),
     )
 
--- a run of steps is one whose marks are all told of
+-- a list of steps is one whose marks are all reported
 pub run_told : (w : World) (steps : List Step) (replies : List Reply) (w' : World) → IsStepList w steps replies w'
     → (run : IsStepList w steps replies w') × RefusesOnlyWhereTold w run.marked
 run_told w steps replies w' run = (

@@ -92,12 +92,12 @@ is_there registry place key run there = rw there refl
 
 -- ---- one connection and the registry move
 
--- 1 where the connection awaits its attach to the run at that place
+-- 1 if the connection awaits its attach to the run at that place, else 0
 abbrev pub one_if : Bool → ℕ
 one_if b = cond b 1 0
 
 module _ (w : World) (conn : ℕ) (s' : SessionState) (r' : Registry RunOf) where
-  -- a run of the new registry stood before, or was made
+  -- a run of the new registry was there before, or was made
   pub data Came (place : ℕ) (key : Key) (run' : Found RunOf) : Type 0 where
     Stood : (run : Found RunOf) → slice_get w.registry.runs place ≡ Some (key, run) → run'.held.fresh ≡ run.held.fresh
         → (IsSound run.held → IsSound run'.held)

@@ -1,4 +1,4 @@
--- Where the fids of a connection come from, after a step.
+-- The origin of the fids of a connection, after a step.
 use Rattle.std.proofs.Common.{◌≡◌, ◌≢◌, ◌∙◌, ℕ, ◌==◌, Bool, true, false, cond, Option, Some, None, Result, Ok, Err, refl, sym, ap, subst}
 use Rattle.std.proofs.Common.{rules, ◌⊎◌, inl, inr}
 use Rattle.std.specs.Prelude.{is_none, is_some, option_and_then, option_map, List}
@@ -77,7 +77,7 @@ opened_there None f is = absurd (cc)
 opened_there (Some (entry.Walked x)) f is = absurd (cc)
 opened_there (Some (entry.Opened x)) f is = cc
 
--- ---- what a call is asked of
+-- ---- the run and the fid of a call
 
 -- a call on the run of the entry of a fid, under its pass; it ends no open but that of a fid that is free then
 pub record IsAsked (fids : FidMap) (now fid : ℕ) (freed : Option ℕ) (q : Question) : Type 0 where
@@ -215,7 +215,7 @@ module _ (now : ℕ) (s : SessionState) (q : Question) where
 
 -- ---- what a call leaves
 
--- an entry that a call leaves: one that was there, one that goes on from a fid there, or one of an open that the answer tells
+-- an entry that a call leaves: one that was there, one that goes on from a fid there, or one of an open that the answer names
 pub data Source (fids : FidMap) (fid : ℕ) (answer : Answer) (k : ℕ) (e : FidEntry) : Type 0 where
   Kept : get fids k ≡ Some e → Source fids fid answer k e
   Walks : (j : ℕ) (from : FidOf Walked) (number : ℕ) → get fids j ≡ Some (entry.Walked from) → e ≡ entry.Walked (moved_to from number)

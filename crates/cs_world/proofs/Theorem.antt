@@ -1,4 +1,4 @@
--- What each step of a list comes to, and how runs began.
+-- What each step of a list results in, and how runs began.
 use Rattle.std.proofs.Common.{◌≡◌, ◌↔◌, ◌∙◌, ℕ, false, List, [], ◌∷◌, Option, None, Some, refl, sym, ap, subst}
 use Rattle.std.specs.Prelude.{option_map, slice_get}
 use Rattle.cs_apm.specs.States.{crash_state_of}

@@ -1,4 +1,4 @@
--- What connections leave and ask, whose places all stand within a set, stands within it.
+-- If all places of a connection are in a set, so are those of what it leaves and asks.
 use Rattle.std.proofs.Common.{◌≡◌, ◌∙◌, ℕ, suc, Bool, true, false, cond, Option, None, Some, refl, sym, ap, arith}
 use Rattle.std.specs.Option.{option_map}
 use Rattle.std.specs.Cmp.{nat_cmp_total}
@@ -14,7 +14,7 @@ use Rattle.cs_world.specs.Places.{awaited_with_places, entry_with_places, fids_w
 use Rattle.cs_world.proofs.Moved.{get_moved, moved_front, moved_question, moved_told}
 use Rattle.cs_world.proofs.MovedSteps.{front_moved, after_moved}
 
--- the run of each fid, and the one that awaits an attach, stand within
+-- the run of each fid, and the one that awaits an attach, are in the set
 pub record Within (b : ℕ → Bool) (s : SessionState) : Type 0 where
   pub fids : (fid : ℕ) (e : FidEntry) → get s.fids fid ≡ Some e → b (run_of e) ≡ true
   pub awaits : (p : Awaited) → s.awaited ≡ Some p → b p.run ≡ true
@@ -105,7 +105,7 @@ module _ (b : ℕ → Bool) where
     front_fixed : first_move_by now s x refused ≡ moved_front out (first_move_by now s x refused)
     front_fixed = ap (λ (y : SessionState). first_move_by now y x refused) (sym (fixed s in_b)) ∙ front_moved out now s x refused
 
-    -- what it leaves where it answers by itself stands within
+    -- what it leaves if it answers by itself is in the set
     pub done_within : (reply : Reply) (s' : SessionState) → first_move_by now s x refused ≡ Done reply s' → Within b s'
     done_within reply s' is =
         within s' (let e : Done reply s' ≡ Done reply (with_places out s') = sym is ∙ front_fixed ∙ ap (moved_front out) is in cc)
@@ -114,7 +114,7 @@ module _ (b : ℕ → Bool) where
     pub asks_fixed : (q : Question) → first_move_by now s x refused ≡ Asks q → q ≡ moved_question out q
     asks_fixed q is = let e : Asks q ≡ Asks (moved_question out q) = sym is ∙ front_fixed ∙ ap (moved_front out) is in cc
 
-  -- and what it leaves where what it is told does
+  -- and what it leaves, if what it is answered is
   pub after_within : (s : SessionState) (x : Step) (told : PortAnswer) → Within b s → told ≡ moved_told out told
       → Within b (reply_and_session s x told).1
   after_within s x told in_b same = within (reply_and_session s x told).1

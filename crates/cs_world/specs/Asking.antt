@@ -1,5 +1,5 @@
--- What the runs of a world answer to what a connection asks: the registry to a find, one run to an
--- attach or a call.
+-- What the runs of a world answer to a connection's questions: the registry answers a find, and
+-- one run an attach or a call.
 use Rattle.std.specs.Prelude.{◌≡◌, ℕ, Option, None, Some, Result, Err, if◌then◌else◌}
 use Rattle.std.specs.Option.{option_map, option_map_or}
 use Rattle.cs_names.specs.declared.rule_id.RuleId.TheVariants.{S5}
@@ -61,7 +61,7 @@ answer_of_runs registry (CallOn now place pass call) mark =
     (λ run. call_answer registry place (call_on run now pass call (step_mark_of mark)))
     (held_at registry.runs place) (CallAnswer (Denied S5), registry)
 
--- the answer is the definition's, with some growth refused
+-- the answer is the definition's, with or without a growth refused
 abbrev pub IsGiven : Registry RunOf → Question → PortAnswer → Registry RunOf → Type 0
 IsGiven registry question answer after =
     (mark : RunMark) × ((answer, after) ≡ answer_of_runs registry question mark)

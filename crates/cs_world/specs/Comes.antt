@@ -23,27 +23,27 @@ use Rattle.cs_world.specs.Marks.{RunMark, WorldMark, refuses_own}
 use Rattle.cs_world.specs.Steps.{continued_from, on_connection}
 use Rattle.cs_world.specs.Worlds.{World, session_at, with_both}
 
--- what a step of a connection results in, by whether memory for what it takes of its own is
--- refused; in a consistent world each step results in one of these
+-- what a step of a connection results in; the Bool says whether the memory that the connection
+-- itself takes is refused; in a consistent world each step results in one of these
 pub data ConnectionStepComesTo (world : World) (conn now : ℕ) (step : SessionStep) (refused : Bool)
     (reply : Reply) (after : World) : Type 0 where
   -- no connection has the number: S5
   NoConnection : CONNECTIONS ≤ conn → reply ≡ Connection (Error S5) → after ≡ world
       → ConnectionStepComesTo world conn now step refused reply after
-  -- the connection answers by itself, by its own rules, out of memory for what it takes of its own,
-  -- or by a change of its table: no run changes
+  -- the connection answers by itself: by its own rules, out of memory that it takes itself, or by a
+  -- change of its table; no run changes
   OwnReply : (own_reply : SessionReply) (session : SessionState)
       → first_move_by now (session_at world conn) step refused ≡ Done own_reply session
       → reply ≡ Connection own_reply → after ≡ with_both world conn session world.registry
       → ConnectionStepComesTo world conn now step refused reply after
-  -- the registry is asked for a run, and memory may refuse that growth; from its answer, and from
-  -- those below, the connection goes on
+  -- the registry is asked for a run, and memory may refuse that growth; the connection goes on from
+  -- its answer, as from those below
   AsksRegistry : (state_name run_name : List ℕ) (mark : RunMark)
       → first_move_by now (session_at world conn) step refused ≡ Asks (FindRun state_name run_name)
       → (reply, after) ≡ continued_from world conn step
       (found_by world.registry mark (key_in state_name run_name))
       → ConnectionStepComesTo world conn now step refused reply after
-  -- the run at a place has no memory for a new pass, and stays
+  -- the run at a place has no memory for a new pass, and is unchanged
   AttachShort : (place : ℕ) (attach : AttachCall) (run : RunOf)
       → first_move_by now (session_at world conn) step refused ≡ Asks (AttachTo now place attach)
       → held_at world.registry.runs place ≡ Some run

@@ -30,7 +30,7 @@ use Rattle.cs_world.specs.Worlds.{World, session_at}
 abbrev pub awaits : ℕ → SessionState → Bool
 awaits place session = option_map_or (λ awaited. awaited.run == place) session.awaited false
 
--- how many connections have found it, and are still to attach to it
+-- how many connections found it and still await their attach
 abbrev pub count_awaiting : ℕ → List SessionState → ℕ
 count_awaiting place connections = length (filter (awaits place) connections)
 
@@ -59,9 +59,9 @@ pub record IsConsistentRun (world : World) (place : ℕ) (key : Key) (found : Fo
   pub published : is_published world.registry key.number ≡ true
   pub fresh : state_at world.registry.scene key.number ≡ Some found.held.fresh
 
--- of each number of the plan it is kept whether its state is published; each run is consistent; a
--- run that awaits an attach is there; and each fid has a run that is there, a pass that it gave,
--- and the user whom a granted attach of that pass named
+-- for each number of the plan the registry keeps whether its state is published; each run is
+-- consistent; a run that awaits an attach is there; and each fid has a run that is there, a pass
+-- that it gave, and the user whom a granted attach of that pass named
 pub record HasConsistentRuns (world : World) : Type 0 where
   pub all : length world.connections ≡ CONNECTIONS
   pub states : length world.registry.published ≡ length world.registry.scene.plan
@@ -94,8 +94,8 @@ pub record IsConsistent (world : World) : Type 0 where
   pub there : HasConsistentRuns world
   pub opens : HaveTheirOpens world
 
--- what a question is put to is there: of an attach a run that can give a pass, and of a call a run
--- that gave the pass; and a close, and a remove of an open fid, has room for its entry
+-- what a question needs is there: an attach has a run that can give a pass, and a call a run that
+-- gave the pass; and a close, and a remove of an open fid, has room for its entry
 abbrev pub CanBeAsked : Registry RunOf → Question → Type 0
 CanBeAsked registry (FindRun state_name run_name) = Unit {0}
 CanBeAsked registry (AttachTo now place call) =
@@ -104,7 +104,7 @@ CanBeAsked registry (CallOn now place pass call) =
     IsSomeAnd (held_at registry.runs place) (λ run. (pass < run.passes)
     × (IsSome (closed_open_number call) → is_full (state_of run) pass call ≡ false))
 
--- so can all that a connection asks
+-- likewise for all that a connection asks
 abbrev pub AsksWhatCanBeAsked : World → ℕ → Type 0
 AsksWhatCanBeAsked world conn =
     (now : ℕ) (step : SessionStep) (refused : Bool) (question : Question)

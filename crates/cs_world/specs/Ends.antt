@@ -31,13 +31,13 @@ pub record HasEntry (run : RunOf) (entry : EntryOf) (answer : Answer) (run' : Ru
 abbrev pub failing_rule_of : RunOf → Call → Option RuleId
 failing_rule_of run call = failing_rule (rules_view_of (state_of run)) call
 
--- one of five ends; that memory was refused `want` of the theorem says
+-- one of five ends; `want` of the theorem says whether memory was refused
 pub data CallComesTo (run : RunOf) (now pass : ℕ) (call : Call) (answer : Answer) (run' : RunOf)
     : Type 0 where
   -- no room in the journal: nothing changes
   Full : is_full (state_of run) pass call ≡ true → answer ≡ answers.Denied L1 → run' ≡ run
       → CallComesTo run now pass call answer run'
-  -- the entry isn't reserved, and the call is answered short: nothing changes
+  -- there is no memory for the entry, and the reply says out of memory: nothing changes
   ShortBefore : is_full (state_of run) pass call ≡ false
       → open_that_ends (state_of run).opens pass call ≡ None → answer ≡ answers.Short → run' ≡ run
       → CallComesTo run now pass call answer run'

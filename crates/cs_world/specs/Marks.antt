@@ -3,14 +3,14 @@
 use Rattle.std.specs.Prelude.{Bool, true, false}
 use Rattle.cs_journal.specs.Marks.{StepMark, Ample}
 
--- Of what a run needs: the run itself, which is made; a pass; or what a call in it takes.
+-- For a run: the run itself, which is made; a pass; or what a call in it takes.
 pub data RunMark : Type 0 where
   NoRun : RunMark
   NoPass : RunMark
   InRun : StepMark → RunMark
 
--- Of a step: the list of users that is loaded; the state that is made; what keeps it, once it is
--- published; what a connection takes of its own; or what a run needs.
+-- For a step: the list of users that is loaded; the state that is made; what keeps it, once it is
+-- published; what a connection itself takes; or what a run needs.
 pub data WorldMark : Type 0 where
   NoUsers : WorldMark
   NoState : WorldMark

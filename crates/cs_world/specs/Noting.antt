@@ -17,8 +17,8 @@ abbrev pub world_in : WatchedWorld → World
 world_in watching =
     record { registry = watching.watched.runs; connections = watching.sessions.items }
 
--- with some mark the step has that reply and leads there, and the call that it puts to the run is
--- noted last
+-- with some mark the step has that reply and leads there, and the call that reaches the run by it
+-- is noted last
 pub record NotesStep (old : WatchedWorld) (step : Step) (reply : Reply) (new : WatchedWorld)
     : Type 0 where
   pub mark : WorldMark

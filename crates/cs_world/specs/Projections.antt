@@ -1,4 +1,4 @@
--- What of a list of steps reaches one run, and that run alone.
+-- The calls of a list of steps that reach one run, and a run with only these calls.
 use Rattle.std.specs.Prelude.{ℕ, ◌==◌, Bool, true, false, List, [], ◌∷◌, ◌++◌, map, Option}
 use Rattle.std.specs.Prelude.{None, Some, option_and_then, Ok, Err, if◌then◌else◌}
 use Rattle.std.specs.Option.{option_map_or}
@@ -115,7 +115,7 @@ answers_of world (one ∷ rest) key =
     answers_by world key one.1 (question_of_step world one.0 one.1)
     ++ answers_of (step_of world one.0 one.1).1 rest key
 
--- ---- that run alone
+-- ---- a run with only these calls
 
 abbrev pub answer_before : PortAnswer × RunOf → List PortAnswer × RunOf → List PortAnswer × RunOf
 answer_before one rest = (one.0 ∷ rest.0, rest.1)

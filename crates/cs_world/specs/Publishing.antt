@@ -1,4 +1,4 @@
--- What it is to make the state of a number and to publish it.
+-- How the state of a number is made and published.
 use Rattle.std.specs.Prelude.{ℕ, nat_lt, not, length, if◌then◌else◌}
 use Rattle.cs_registry.specs.Publishing.{with_published}
 use Rattle.cs_registry.specs.Registries.{Registry, is_published}
@@ -8,8 +8,8 @@ use Rattle.cs_world.specs.declared.reply.StateFault.TheVariants.{NoSuchState, Tw
 use Rattle.cs_world.specs.Marks.{WorldMark, refuses_keeping, refuses_state}
 use Rattle.cs_journal.specs.Runs.{RunOf}
 
--- the plan has to have the number; then the state is made; then it must not be published; then it
--- is kept
+-- the plan must have the number; then the state is made; then it must not be published yet; then
+-- it is kept
 abbrev pub publish_step : Registry RunOf → ℕ → WorldMark → Reply × Registry RunOf
 publish_step registry number mark =
     if not (nat_lt number (length registry.scene.plan))

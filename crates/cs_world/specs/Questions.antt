@@ -9,7 +9,7 @@ use Rattle.cs_world.specs.ConnectionSteps.{session_step}
 use Rattle.cs_world.specs.Marks.{WorldMark, refuses_own}
 use Rattle.cs_world.specs.Worlds.{World, session_at}
 
--- what passes the connection's own rules is a question
+-- the question of a step, if none of the connection's own rules refuses it
 abbrev pub question_of_move : FirstMove → Option Question
 question_of_move (Done reply session) = None
 question_of_move (Asks question) = Some question

@@ -1,4 +1,4 @@
--- What it is to load another list of users.
+-- How another list of users is loaded.
 use Rattle.std.specs.Prelude.{List, if◌then◌else◌}
 use Rattle.cs_journal.specs.Runs.{RunOf}
 use Rattle.cs_registry.specs.Registries.{Registry, with_users}

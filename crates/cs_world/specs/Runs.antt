@@ -21,8 +21,8 @@ use Rattle.cs_world.specs.Marks.{RunMark, step_mark_of, refuses_pass}
 abbrev pub answer_and_run : StepResult → Answer × RunOf
 answer_and_run stepped = (stepped.answer, stepped.run)
 
--- a run's step under the pass of that number; its answer and the run that it leaves don't depend
--- on the pass's receipts
+-- a run's step under the pass of that number; neither its answer nor the run then depends on the
+-- pass's receipts
 abbrev pub run_step : RunOf → ℕ → ℕ → Call → StepMark → Answer × RunOf
 run_step run now pass call mark = answer_and_run (step run (fresh_pass pass) now call mark)
 

@@ -48,8 +48,8 @@ StepComesTo world other mark reply after = (reply, after) ≡ step_of world othe
 pub record StepIsJudged (world : World) (step : Step) (mark : WorldMark) (reply : Reply)
     (after : World) : Type 0 where
   pub comes : StepComesTo world step mark reply after
-  -- a call that a connection asks for is made for one of its fids, and for the user whom a granted
-  -- attach of the fid's pass named
+  -- a call that a connection makes is for one of its fids, and for the user whom a granted attach
+  -- of the fid's pass named
   pub of_its_fid : (conn now : ℕ) (own : ConnectionStep) (moment place pass : ℕ) (call : Call)
       → step ≡ On conn now own
       → first_move_by now (session_at world conn) (session_step own) (refuses_own mark)
@@ -63,7 +63,7 @@ pub record StepIsJudged (world : World) (step : Step) (mark : WorldMark) (reply 
       → IsFirstToFail (own_rules now (session_at world conn) (session_step own)) rule
   -- the reply says out of memory exactly if a growth was refused
   pub want : (says_out_of_memory reply ≡ false) ↔ (mark ≡ nothing_refused)
-  -- no run changes but the one that it asks or finds, and the scene stays
+  -- no run changes except the one that it asks or finds, and the scene stays
   pub others : (place : ℕ) → run_asked_or_found_by world step mark ≢ Some place
       → place < length world.registry.runs
       → slice_get after.registry.runs place ≡ slice_get world.registry.runs place

@@ -1,4 +1,4 @@
--- What reaches the run of a key, as it is noted.
+-- The calls that reach the run of a key, as they are noted.
 use Rattle.std.specs.Prelude.{◌≡◌, ℕ, Bool, true, false, List, [], ◌∷◌, ◌++◌, Result, Ok, Err}
 use Rattle.std.specs.Prelude.{if◌then◌else◌}
 use Rattle.std.specs.declared.alloc.AllocError.{AllocError}
@@ -31,7 +31,7 @@ NotesAttach old short false now call given new = (short ≡ false) × (new ≡ o
 NotesAttach old short true now call (Ok given) new = NotesOne old short given.0 now call new
 NotesAttach old short true now call (Err fault) new = ⊥
 
--- the answer is the runs', and what it puts to the run of the key is noted last
+-- the answer is the runs', and a call that reaches the run of the key is noted last
 pub record IsWatched (old : WatchedRuns) (question : Question) (answer : PortAnswer)
     (new : WatchedRuns) : Type 0 where
   pub mark : RunMark

@@ -48,6 +48,7 @@ impl Held for RunWithPasses {
 
     ghost is_fresh = { λ key tree users run. run ≡ fresh_run tree users };
 
+    /// A run over the tree with these users, which gave no pass yet. It doesn't keep its key.
     fn fresh(
         alloc: Global,
         _key: &RunKey,
@@ -63,7 +64,7 @@ impl Held for RunWithPasses {
 
 impl RunWithPasses {
     /// Attaches a user under a new pass, at that moment: the pass's number, and the answer. Room
-    /// if RUN_ATTACHES passes were given. If it gives no pass it is unchanged.
+    /// if it gave RUN_ATTACHES passes already. If it gives no pass, the run is unchanged.
     pub(crate) fn attach(
         &mut self,
         alloc: Global,
@@ -87,7 +88,8 @@ impl RunWithPasses {
         Ok((number, answer))
     }
 
-    /// Makes a call under the pass of that number, at that moment; S5 if it gave no such pass.
+    /// Makes a call under the pass of that number, at that moment. S5, and nothing changes, if the
+    /// run gave no such pass.
     pub(crate) fn call(&mut self, alloc: Global, now: u32, pass: u32, call: Call<'_>) -> Answer
         ensures called { (mark : StepMark)
             × ((result, self.new) ≡ call_on self.old now pass call.entry mark) }

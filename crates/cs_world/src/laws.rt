@@ -24,20 +24,20 @@ ghost use Rattle.cs_world.specs.Steps.{on_connection, step_of};
 ghost use Rattle.cs_world.specs.Theorem.{AllBegan};
 ghost use Rattle.cs_world.specs.Worlds.{World, new_world};
 
-/// A call on a run ends in one of five ways: L1 if its journal is full; out of memory for its entry,
-/// which isn't reserved; and with an entry, the last of the journal, under that pass and of that
-/// moment: denied by the first rule that fails on the run's tree, opens and users, or, if none
-/// fails, short of memory that it takes, or granted with the effect of its kind. Only a grant
-/// changes the tree.
+/// A call on a run ends in one of five ways. Without an entry in the journal: L1 if the journal is
+/// full, or out of memory for the entry. With an entry, which is the journal's last and has that
+/// pass and moment: denied by the first rule that fails on the run's tree, opens and users; or, if
+/// none fails, out of memory that the call takes, or granted with the effect of its kind. Only a
+/// grant changes the tree.
 pub fn calls_are_judged()
     ensures { (run : RunOf) (now pass : ℕ) (call : Call) (mark : StepMark) →
         CallComesTo run now pass call (run_step run now pass call mark).0
         (run_step run now pass call mark).1 }
 {}
 
-/// A step of a connection changes no run but the one that it asks, and no other connection; of a
-/// run that it neither asks nor finds it changes nothing, nor key nor count of finds; a publish and
-/// a reload change no run and no connection. No step changes the scene.
+/// A step of a connection changes no other connection, and at most one run: the one that it asks.
+/// Of every run that it neither asks nor finds, the key and the count of finds stay too. A publish
+/// and a reload change no run and no connection. No step changes the scene.
 pub fn only_what_is_asked_changes()
     ensures step { (world : World) (conn now : ℕ) (step : SessionStep) (mark : WorldMark) →
         ChangesWhatItAsks world conn now step mark }
@@ -58,10 +58,10 @@ pub fn new_runs_are_states()
 
 /// A new world is consistent, and each step leads from a consistent world to a consistent one. In
 /// such a world a connection attaches to a run that is there and can give a pass, and calls on a
-/// run that is there, under a pass that it gave: so no attach to a run that was found is A5 or S5,
-/// and no call is S5 because there is no run or no pass. Each fid's user is one that a granted
+/// run that is there, under a pass that the run gave: so no attach to a run that was found is A5 or
+/// S5, and no call is S5 because there is no run or no pass. Each fid's user is one that a granted
 /// attach of its pass named. Each run began as the crash state of its number's set, which is
-/// allowed: that the plan is one says `World::scene`.
+/// allowed if the scene's plan is one; `World::scene` says that it is.
 pub fn worlds_are_consistent()
     ensures new { (scene : Scene) (users : List Row) → IsConsistent (new_world scene users) }
     ensures step { (world : World) → IsConsistent world → (step : Step) (mark : WorldMark) →
@@ -74,10 +74,10 @@ pub fn worlds_are_consistent()
         IsPlan (order_in world.registry.scene) world.registry.scene.plan → AllBegan world }
 {}
 
-/// What a step of a connection results in, in a consistent world: it is S5 if nobody has the
-/// number; the connection answers by itself, and no run changes; the registry finds a run; or the
-/// call, which an attach is too, is judged on its run under its pass, no other run changes, and the
-/// connection goes on from the answer.
+/// A step of a connection, in a consistent world, results in one of these: S5 if no connection has
+/// the number; the connection answers by itself, and no run changes; the registry finds a run; or
+/// the call, which an attach is too, is judged on its run under its pass, no other run changes, and
+/// the connection goes on from the answer.
 pub fn steps_are_judged()
     ensures { (world : World) → IsConsistent world →
         (conn now : ℕ) (step : SessionStep) (mark : WorldMark) →
@@ -85,8 +85,8 @@ pub fn steps_are_judged()
 {}
 
 /// The reply to a message, and to a hang-up, is that of the last of some steps of the world, all of
-/// that connection at that moment, taken one after the other; or no step was taken. Lists of steps,
-/// one after the other, are one list.
+/// that connection at that moment, taken one after the other; or no step was taken. To take two
+/// lists of steps, one after the other, is to take them as one list.
 pub fn messages_are_steps()
     ensures message { (world : World) (conn now : ℕ) → conn < CONNECTIONS →
         conn < length world.connections → AreRepliedBySteps world conn now }
@@ -96,8 +96,8 @@ pub fn messages_are_steps()
         steps_of world (ones ++ others) ≡ follow_on (steps_of world ones) others }
 {}
 
-/// A step whose reply doesn't say out of memory is the one in which memory refuses nothing; and in a
-/// consistent world the reply of that one doesn't say it.
+/// A step whose reply doesn't say out of memory is the same as if memory refused nothing; and in a
+/// consistent world, if memory refuses nothing, the reply doesn't say out of memory.
 pub fn only_out_of_memory_differs()
     ensures differs { (world : World) (step : Step) (mark : WorldMark) →
         says_out_of_memory (step_of world step mark).0 ≡ false →
@@ -106,10 +106,10 @@ pub fn only_out_of_memory_differs()
         says_out_of_memory (step_of world step nothing_refused).0 ≡ false }
 {}
 
-/// No run reaches another: three laws of every list of steps from a new world, whatever growths
-/// memory refuses in them; so also of what `step`, `message` and `hang_up` result in, one after
-/// the other. Each run that was found has the users of the time of its first granted find, whatever
-/// was loaded later.
+/// No run reaches another: three laws of every list of steps from a new world, whichever growths
+/// memory refuses in them; so they also hold for what `step`, `message` and `hang_up` result in,
+/// one after the other. Each run that was found has the users of the time of its first granted
+/// find, whatever was loaded later.
 pub fn no_run_reaches_another()
     ensures { (scene : Scene) (users : List Row) (marked : List (Step × WorldMark)) →
         NoneReachesAnother (new_world scene users) marked }

@@ -1,4 +1,4 @@
-//! What a world does with a message, and with the end of a connection.
+//! The messages of a world's connections, and the end of a connection.
 ghost use Rattle.std.specs.Option.{ForSome};
 ghost use Rattle.std.specs.Prelude.{◌≡◌, ◌≢◌, ◌<◌, ◌≤◌, length, None, slice_set, ℕ, Option};
 ghost use Rattle.cs_names.specs.declared.limits.TheConstants.{CONNECTIONS};
@@ -23,7 +23,7 @@ use cs_wire::{RBody, RMessage};
 use std::alloc::Global;
 use std::borrow::CowStr;
 
-/// What a message is answered that comes while a run awaits its attach.
+/// The reply to a message that comes while a run awaits its attach: S5, with the message's tag.
 fn out_of_turn(bytes: &[u8]) -> RMessage
     requires { 7 ≤ length bytes.now }
     ensures value { r_view result ≡ wire_of (tag_in bytes.now) (reply.Error S5) }
@@ -39,10 +39,10 @@ fn out_of_turn(bytes: &[u8]) -> RMessage
 }
 
 impl World {
-    /// Answers one message of a connection, of 7 bytes at least, at that moment: by its steps, one
-    /// after the other, and their last reply. The reply carries the message's tag; an Rerror has
-    /// the first rule that fails, or says out of memory (error(5)). While a run awaits its
-    /// attach the connection can take none of a message's steps: the reply is S5, and nothing
+    /// Answers one message of a connection, of 7 bytes at least, at that moment. It takes the
+    /// message's steps, one after the other; the reply is that of the last, with the message's
+    /// tag; an Rerror has the first rule that fails, or says out of memory (error(5)). While a run
+    /// awaits its attach the connection can't take a message's steps: the reply is S5, and nothing
     /// changes. No other connection changes.
     pub fn message(&mut self, alloc: Global, conn: u32, now: u32, bytes: &[u8]) -> RMessage
         requires connection { conn < CONNECTIONS }
@@ -66,8 +66,8 @@ impl World {
     }
 
     /// Ends a connection at that moment: its open fids are closed, the least first, and all are
-    /// freed (intro(5)). The reply is Closed; while a run awaits its attach the connection can take
-    /// none of these steps: the reply is S5, and nothing changes. No other connection changes.
+    /// freed (intro(5)). The reply is Closed. While a run awaits its attach the connection can't
+    /// take these steps: the reply is S5, and nothing changes. No other connection changes.
     pub fn hang_up(&mut self, alloc: Global, conn: u32, now: u32) -> Reply
         requires connection { conn < CONNECTIONS }
         ensures closed { (session_at self.old conn).awaited ≡ None →

@@ -1,4 +1,4 @@
-//! What of a list of steps reaches one run.
+//! The calls of a list of steps that reach one run.
 ghost use Rattle.std.specs.Prelude.{◌≡◌, IfOk, length};
 ghost use Rattle.std.specs.Arc.{arc_value};
 ghost use Rattle.cs_names.specs.declared.limits.TheConstants.{CONNECTIONS};
@@ -22,7 +22,7 @@ use cs_users::Users;
 use std::alloc::{AllocError, Global};
 use std::sync::Arc;
 
-/// A world, with what reached the run of a key.
+/// A world, with the calls that reached the run of a key.
 #[derive(Drop)]
 pub(crate) struct WatchedWorld {
     watched: WatchedRuns,
@@ -30,7 +30,7 @@ pub(crate) struct WatchedWorld {
 }
 
 impl WatchedWorld {
-    /// A new world, in which nothing reached it.
+    /// A new world, in which no call reached the run yet.
     fn new(
         alloc: Global,
         scene: Arc<Scene>,
@@ -51,7 +51,7 @@ impl WatchedWorld {
         })
     }
 
-    /// Takes a step, and notes what it puts to the run.
+    /// Takes a step, and notes the call that reaches the run, if one does.
     fn step(&mut self, alloc: Global, step: Step) -> Reply
         requires all { length self.old.sessions.items ≡ CONNECTIONS }
         ensures all { length self.new.sessions.items ≡ CONNECTIONS }
@@ -64,7 +64,8 @@ impl WatchedWorld {
         }
     }
 
-    /// Takes a step of a connection.
+    /// Takes a step of a connection, and notes the call that reaches the run, if one does. S5 if no
+    /// connection has the number.
     fn take(&mut self, alloc: Global, conn: u32, now: u32, step: ConnectionStep) -> Reply
         requires all { length self.old.sessions.items ≡ CONNECTIONS }
         ensures all { length self.new.sessions.items ≡ CONNECTIONS }
@@ -78,7 +79,7 @@ impl WatchedWorld {
 }
 
 impl World {
-    /// A new world of the same scene and users, in which nothing reached the run of a key.
+    /// A new world of the same scene and users, in which no call reached the run of the key yet.
     fn watching(&self, alloc: Global, key: RunKey) -> Result<WatchedWorld, AllocError>
         ensures { IfOk result (λ world.
             IsStart self.now.registry.scene self.now.registry.users key world) }
@@ -89,10 +90,10 @@ impl World {
         WatchedWorld::new(alloc, scene, users, key)
     }
 
-    /// What of a list of steps reaches one run, of that name and of the state of that number: the
-    /// calls that reach it if the steps are those of a new world, of this one's scene and users, in
-    /// which memory refuses nothing, each with its pass and its moment; a reload among the steps is
-    /// taken. The error is out of memory while this is found out. This world stays as it is.
+    /// The calls of a list of steps that reach one run, of that name and of the state of that
+    /// number, each with its pass and its moment. The steps are taken in a new world of this one's
+    /// scene and users, reloads too, and memory refuses nothing: if an allocation fails, that is
+    /// the error. This world is unchanged.
     pub fn project(
         &self,
         alloc: Global,

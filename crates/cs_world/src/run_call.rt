@@ -1,9 +1,9 @@
-//! What reaches a run.
+//! The calls that reach a run.
 
 use cs_permit::Call;
 
 /// A call that reached a run: under the pass of that number, at that moment, in seconds since 1970.
-/// An attach's pass is the one that it is given.
+/// The pass of an attach is the one that the run gave for it.
 #[derive(Debug, Drop)]
 pub struct RunCall {
     pub pass: u32,

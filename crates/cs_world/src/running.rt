@@ -15,12 +15,11 @@ use cs_names::laws::know;
 use std::alloc::{AllocError, Global};
 
 impl World {
-    /// Takes steps, one after the other; their replies. The memory for the replies is taken first:
-    /// if there is none, no step was taken, and they come back. If steps led to this world, each
-    /// call is refused, out of memory or of room, or denied by the first rule that fails, or
+    /// Takes steps, one after the other, and returns their replies. Memory for the replies is taken
+    /// first: if there is none, no step is taken, and the steps come back. From a consistent world,
+    /// each call is refused, out of memory or of room, or denied by the first rule that fails, or
     /// granted with its effect; no other run changes; and each run that is there then began as the
-    /// state of its number, which a crash may leave. Of a new world's steps, no run reaches
-    /// another.
+    /// state of its number, which a crash may leave. From a new world, no run reaches another.
     pub fn run(
         &mut self,
         alloc: Global,

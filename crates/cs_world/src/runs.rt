@@ -36,7 +36,7 @@ impl Runs {
     ghost use Rattle.cs_world.specs.Publishing.{publish_step};
     ghost use Rattle.cs_world.specs.Reloading.{reload_step};
 
-    /// Makes the state of that number and publishes it.
+    /// Makes the state of that number and publishes it. If that is refused, nothing changes.
     pub(crate) fn publish(&mut self, alloc: Global, number: u32) -> Reply
         ensures { (mark : WorldMark) × ((result, self.new) ≡ publish_step self.old number mark) }
     {
@@ -54,7 +54,8 @@ impl Runs {
         }
     }
 
-    /// Loads another list of users: a run that is there keeps the one with which it was made.
+    /// Loads another list of users. A run that is there keeps the list with which it was made. If
+    /// memory runs out, the old list stays.
     pub(crate) fn reload(&mut self, alloc: Global, users: Users) -> Reply
         ensures { (mark : WorldMark) × ((result, self.new) ≡ reload_step self.old users mark) }
     {
@@ -70,13 +71,16 @@ impl Port for Runs {
 
     ghost gives = { λ old question answer new. IsGiven old question answer new };
 
+    /// Finds the run of that key in the registry, which makes it at the first find. Unpublished if
+    /// the name names no run.
     fn find(&mut self, alloc: Global, name: &TreeName) -> Result<u32, FindFault> {
-        let Some(key) = RunKey::named(name) else {
+        let Some(key) = RunKey::of_tree_name(name) else {
             return Err(FindFault::Unpublished);
         };
         self.states.find_key(alloc, key)
     }
 
+    /// Attaches a user to the run at that place. The place of the pass is its number in its run.
     fn attach(
         &mut self,
         alloc: Global,
@@ -87,13 +91,14 @@ impl Port for Runs {
         if run >= self.states.run_count() {
             return Err(PassFault::Foreign);
         }
-        self.states.at_mut(run).attach(alloc, now, user)
+        self.states.held_at_mut(run).attach(alloc, now, user)
     }
 
+    /// Makes a call on the run at that place. S5 if there is no run, or the run gave no such pass.
     fn call(&mut self, alloc: Global, now: u32, run: u32, pass: u32, call: Call<'_>) -> Answer {
         if run >= self.states.run_count() {
             return Answer::Denied(RuleId::S5);
         }
-        self.states.at_mut(run).call(alloc, now, pass, call)
+        self.states.held_at_mut(run).call(alloc, now, pass, call)
     }
 }

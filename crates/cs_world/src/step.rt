@@ -5,10 +5,10 @@ use cs_session::{AttachMessage, CallMessage, TableStep};
 use cs_users::Users;
 use std::alloc::{AllocError, Global};
 
-/// What a connection does.
+/// A step that a connection takes.
 #[derive(Debug, Drop)]
 pub enum ConnectionStep {
-    /// The run of an attach is found, and then awaits it (attach(5)).
+    /// The run of an attach is found, and then awaits the attach (attach(5)).
     Find(AttachMessage),
     /// The user of that find is attached to its run (attach(5)).
     Attach,
@@ -21,7 +21,7 @@ pub enum ConnectionStep {
 }
 
 impl ConnectionStep {
-    /// The same step again.
+    /// A copy of the step.
     fn try_clone(&self, alloc: Global) -> Result<ConnectionStep, AllocError>
         ensures { IfOk result (λ copy. copy ≡ self.now) }
     {
@@ -35,14 +35,14 @@ impl ConnectionStep {
     }
 }
 
-/// A step: a publish, a reload, or what a connection does.
+/// A step of a world: a publish, a reload, or a step of a connection.
 #[derive(Debug, Drop)]
 pub enum Step {
     /// The state of that number is made and published.
     Publish(u32),
     /// Another list of users is loaded: the runs that are made from then on have it.
     Reload(Users),
-    /// What the connection of that number does at that moment, in seconds since 1970. The moment of
+    /// A step of the connection of that number at that moment, in seconds since 1970. The moment of
     /// a find, and of a change of the table, counts for nothing.
     On {
         conn: u32,
@@ -52,7 +52,7 @@ pub enum Step {
 }
 
 impl Step {
-    /// The same step again.
+    /// A copy of the step.
     pub(crate) fn try_clone(&self, alloc: Global) -> Result<Step, AllocError>
         ensures { IfOk result (λ copy. copy ≡ self.now) }
     {

@@ -1,4 +1,4 @@
-//! Steps of a connection over the runs.
+//! Steps of a connection over its port.
 ghost use Rattle.cs_session.specs.Steps.{IsStepTaken};
 ghost use Rattle.cs_world.specs.ConnectionSteps.{session_step};
 
@@ -6,7 +6,7 @@ use crate::step::ConnectionStep;
 use cs_session::{Port, Reply, Session};
 use std::alloc::Global;
 
-/// Takes a step of a connection at that moment, over the runs that are its port.
+/// Takes a step of a connection at that moment, over these runs as its port.
 pub(crate) fn take<P: Port>(
     alloc: Global,
     session: &mut Session,

@@ -1,4 +1,4 @@
-//! The runs of a world, with what reaches one of them.
+//! The runs of a world, with the calls that reach one of them.
 ghost use Rattle.std.specs.Prelude.{◌≡◌, false, IfOk};
 ghost use Rattle.cs_permit.specs.declared.call.Call.TheVariants.{Attach};
 ghost use Rattle.cs_world.specs.Projections.{is_at};
@@ -13,8 +13,9 @@ use cs_run::Answer;
 use cs_session::{FindFault, PassFault, Port};
 use std::alloc::{AllocError, Global};
 
-/// The runs of a world, which are the port of its connections, and what reached the run of a key.
-/// It is short if there was no memory for a note.
+/// The runs of a world, which are the port of its connections, and the calls that reached the run
+/// of a key, in order. It is short if there was no memory to note one: the calls may then be
+/// incomplete.
 #[derive(Drop)]
 pub(crate) struct WatchedRuns {
     pub(crate) runs: Runs,
@@ -34,7 +35,8 @@ impl WatchedRuns {
         }
     }
 
-    /// Notes a call that reached the run.
+    /// Notes a call that reached the run. If there is no copy of it, or no memory to keep it, the
+    /// runs are short.
     fn note(&mut self, pass: u32, now: u32, call: Result<Call<'static>, AllocError>)
         ensures runs { self.new.runs ≡ self.old.runs }
         ensures key { self.new.key ≡ self.old.key }
@@ -70,8 +72,7 @@ impl WatchedRuns {
         }
     }
 
-    /// Notes an attach that got a pass, if it reaches the run. One that got none is taken as out
-    /// of memory.
+    /// Notes an attach that got a pass, if it reaches the run. If it got none, the runs are short.
     fn note_attach(
         &mut self,
         reaches: bool,
@@ -99,10 +100,12 @@ impl Port for WatchedRuns {
 
     ghost gives = { λ old question answer new. IsWatched old question answer new };
 
+    /// Finds as the runs do. Nothing is noted.
     fn find(&mut self, alloc: Global, name: &TreeName) -> Result<u32, FindFault> {
         self.runs.find(alloc, name)
     }
 
+    /// Attaches as the runs do, and notes the attach if it reaches the run of the key.
     fn attach(
         &mut self,
         alloc: Global,
@@ -117,6 +120,7 @@ impl Port for WatchedRuns {
         given
     }
 
+    /// Calls as the runs do, and notes the call if it reaches the run of the key.
     fn call(&mut self, alloc: Global, now: u32, run: u32, pass: u32, call: Call<'_>) -> Answer {
         let reaches = self.is_at(run);
         self.note_call(alloc, reaches, pass, now, &call);
@@ -124,7 +128,7 @@ impl Port for WatchedRuns {
     }
 }
 
-/// The call of an attach of that user.
+/// The call that attaches the user.
 fn attach_of(user: &Text) -> Result<Call<'static>, AllocError>
     ensures { IfOk result (λ call. call ≡ Attach (record { user = user.now })) }
 {

@@ -17,10 +17,10 @@ const FULL: u32 = 65_536;
 
 const EIGHTH: u32 = 8_192;
 
-/// Where nothing is timed a journal has this many entries.
+/// How many entries it has if nothing is timed.
 const FEW: u32 = 128;
 
-/// How often the audits are made where they are timed.
+/// How often the audits are made if they are timed.
 const ROUNDS: u64 = 100;
 
 /// A run, and the passes that its entries were made under.
@@ -46,7 +46,7 @@ impl Audit {
         })
     }
 
-    /// Makes a stat under one of the passes, each in its turn.
+    /// Makes a stat under one of the passes, which take turns.
     fn stat(&mut self, alloc: Global) -> Option<()> {
         let turn = (self.entries % PASSES) as usize;
         let pass = self.passes.get_mut(turn)?;
@@ -69,7 +69,7 @@ impl Audit {
 }
 
 impl Work for Audit {
-    /// Counts the entries, where the audit is ok.
+    /// The number of entries, if the audit is ok.
     fn run(&mut self, _alloc: Global) -> u64 {
         match self.run.audit(self.passes.as_slice()) {
             Ok(()) => self.run.entries() as u64,
@@ -91,7 +91,7 @@ fn whole(
     print_figure(rt, what, total.done(), figure, Bound::AtMost(10.0), timed)
 }
 
-/// Audits a full journal, beside one with an eighth of the entries.
+/// Audits a full journal, and for comparison one with an eighth of the entries.
 pub fn audits(rt: &(impl Clock + Print + AllocGlobal), timed: bool) -> io::Result<()> {
     let (many, few) = if timed { (FULL, EIGHTH) } else { (FEW, FEW) };
     let alloc = rt.alloc();

@@ -1,4 +1,4 @@
-//! Calls on a run that keeps no journal, beside the tree's own calls.
+//! Calls on a run that keeps no journal, compared with the tree's own calls.
 ghost use Rattle.std.specs.Prelude.{◌≡◌, IsTrue, IsSome};
 ghost use Rattle.cs_tree_model.specs.Stores.{CanStamp};
 ghost use Rattle.cs_tree_model.specs.Tree.{content_numbered};
@@ -29,7 +29,7 @@ struct ByCall<'a> {
     repeats: u64,
 }
 
-/// Makes a call: whether it is granted.
+/// Makes a call, and returns whether it is granted.
 pub fn is_granted<T: TreeStore + Drop>(
     alloc: Global,
     run: &mut CountedRun<T>,
@@ -52,7 +52,7 @@ impl Work for ByCall<'_> {
     }
 }
 
-/// The same by the tree's own calls.
+/// Does the same by the tree's own calls.
 #[derive(Drop)]
 struct ByTree<'a> {
     tree: PlainTree,
@@ -63,7 +63,7 @@ struct ByTree<'a> {
     repeats: u64,
 }
 
-/// Whether it is a file that can be changed once more.
+/// Whether there is a file whose version can grow.
 fn takes_bytes(tree: &PlainTree, number: u64) -> bool
     ensures file { IsTrue result → IsSome (content_numbered tree.now number) }
     ensures vers { IsTrue result → CanStamp tree.now number }

@@ -1,4 +1,4 @@
-//! What runs begin with.
+//! The trees with which runs begin.
 
 use cs_names::{Name, Path, UserName};
 use cs_tree::PlainTree;
@@ -12,7 +12,7 @@ pub const FILE: u64 = 1;
 /// How many bytes it has.
 const FILE_LENGTH: usize = 1_048_576;
 
-/// How many directories stand in one another: the root has the first, which has the second, and so
+/// How many nested directories there are: the first is in the root, the second in the first, and so
 /// on.
 pub const DEPTH: u64 = 16;
 
@@ -49,7 +49,7 @@ fn record(alloc: Global, names: &[Name], number: u64, content: Content) -> Optio
     Some((Path::from_names(alloc, names).ok()?, record))
 }
 
-/// A root with a file of 1 MB, and directories in one another.
+/// A root with a file of 1 MB, and nested directories.
 pub fn tree(alloc: Global) -> Option<PlainTree> {
     let mut names = Vec::new(alloc);
     let mut records = Vec::new(alloc);

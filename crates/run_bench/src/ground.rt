@@ -1,4 +1,4 @@
-//! What runs stand on, and a run with a pass.
+//! A tree for runs, and a run with a pass.
 ghost use Rattle.std.specs.Arc.{arc_value};
 ghost use Rattle.std.specs.Prelude.{IfSome};
 ghost use Rattle.cs_journal.specs.Bounds.{CanGrow};
@@ -51,7 +51,7 @@ impl Ground {
         Some(Ground { lower, users })
     }
 
-    /// That of a file of 1 MB and directories in one another.
+    /// The tree with a file of 1 MB and nested directories.
     pub fn level(alloc: Global) -> Option<Ground> {
         Ground::new(alloc, tree(alloc)?)
     }
@@ -69,8 +69,8 @@ impl Ground {
     }
 }
 
-/// Makes so many calls under a pass: how many are granted.
-// the one place that steps, so that they are in line there
+/// Makes so many calls under a pass, and returns how many are granted.
+// the only place with steps, so that they are inline there
 pub fn step_all(
     alloc: Global,
     run: &mut Run<PlainTree>,
@@ -119,7 +119,7 @@ impl Side {
         Some(Side { run, pass })
     }
 
-    /// Makes so many calls: how many are granted.
+    /// Makes so many calls, and returns how many are granted.
     pub fn step_all(&mut self, alloc: Global, kind: Kind, blocks: &[u8], count: u64) -> u64 {
         step_all(alloc, &mut self.run, &mut self.pass, kind, blocks, count)
     }

@@ -21,16 +21,16 @@ pub enum Kind {
     Walks(u64),
 }
 
-/// Bytes of a message of such a write.
+/// The size of the message of such a write, in bytes.
 const MESSAGE: u64 = 4_119;
 
-/// Two blocks, from which each write lends its bytes.
+/// Two blocks, from which each write borrows its bytes.
 pub fn blocks(alloc: Global) -> Option<Vec<u8>> {
     vec![in alloc; 9u8; BLOCK * 2].ok()
 }
 
-/// The bytes of a write. Those of the next lie further on by a message, as on a connection: how
-/// fast a processor copies depends on where in their pages both places lie.
+/// The bytes of a write. Those of the next write begin a message later, as on a connection: how
+/// fast a processor copies depends on the two places within their pages.
 fn written(blocks: &[u8], place: u64) -> Option<&[u8]> {
     let begin = (place.wrapping_mul(MESSAGE) % BLOCK as u64) as usize;
     blocks.get(begin..begin + BLOCK)
@@ -61,7 +61,7 @@ impl Kind {
         }
     }
 
-    /// The call at a place among others. A write lends its bytes from these blocks.
+    /// The call at a place among others. A write borrows its bytes from these blocks.
     pub fn call<'a>(self, alloc: Global, blocks: &'a [u8], place: u64) -> Option<Call<'a>> {
         match self {
             Kind::Stats => Some(Call::Stat(StatCall { number: FILE })),

@@ -1,6 +1,7 @@
-//! Runs that stand; calls on a run without a journal, beside the tree's own calls; steps of a run
-//! that keeps one, beside such calls; and audits. Run by hand with the word `time`, each row tells
-//! how long its work takes or what it comes to, and whether that is within its bound.
+//! Benchmarks of many runs at once; of calls on a run without a journal, compared with the tree's
+//! own calls; of steps of a run with a journal, compared with such calls; and of audits. Run by
+//! hand with the word `time`, each row prints its time or size, and whether that is within its
+//! bound.
 #![tactic(auto)]
 
 mod audits;
@@ -8,13 +9,13 @@ mod calls;
 mod files;
 mod ground;
 mod kind;
-mod standing;
+mod many;
 mod steps;
 
 use crate::audits::audits;
 use crate::calls::calls;
 use crate::kind::Kind;
-use crate::standing::standing;
+use crate::many::measure_fresh_runs;
 use crate::steps::steps;
 use std::{env, io};
 
@@ -28,8 +29,8 @@ const CALLS: [Kind; 5] = [
 
 fn main(rt: HostRuntime) -> io::Result<()> {
     let timed = env::args(&rt)?.count() > 1;
-    // first, so that the memory that the runs take was never used before
-    standing(&rt, timed)?;
+    // first, so that the memory of the runs was never used before
+    measure_fresh_runs(&rt, timed)?;
     for kind in CALLS {
         calls(&rt, kind, timed)?;
     }

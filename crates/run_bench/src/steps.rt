@@ -1,4 +1,4 @@
-//! Steps of a run that keeps a journal, beside the same calls on its tree alone.
+//! Steps of a run with a journal, compared with the same calls on its tree.
 
 use crate::calls::is_granted;
 use crate::ground::{Ground, Side};
@@ -14,7 +14,7 @@ use std::rt::Clock;
 /// On how many runs the steps are made.
 const RUNS: u64 = 16;
 
-/// So many calls: what a write lends its bytes from stands.
+/// So many calls, and the blocks from which a write borrows its bytes.
 #[derive(Clone, Copy)]
 struct Many<'a> {
     kind: Kind,
@@ -69,8 +69,8 @@ fn row(kind: Kind) -> (u64, f64) {
     }
 }
 
-/// Makes the steps on fresh runs, each time beside as many calls on one run without a journal. Of
-/// several runs the first doesn't count: it finds no memory that was used before.
+/// Makes the steps on fresh runs, each time compared with as many calls on one run without a
+/// journal. Of several runs the first doesn't count: its memory was never used before.
 fn take_turns(
     rt: &(impl Clock + AllocGlobal),
     many: Many<'_>,
@@ -86,7 +86,7 @@ fn take_turns(
     }
 }
 
-/// The same over that ground. What is let go at each way out is a side at most.
+/// Makes the steps over that tree. At most one side is dropped at each exit.
 fn take_each(
     rt: &(impl Clock + AllocGlobal),
     ground: &Ground,
@@ -110,7 +110,7 @@ fn take_each(
     Ok(Some(totals))
 }
 
-/// Makes steps, and the same calls alone.
+/// Makes steps, and the same calls without a journal.
 pub fn steps(rt: &(impl Clock + Print + AllocGlobal), kind: Kind, timed: bool) -> io::Result<()> {
     let (steps, most) = row(kind);
     let (count, runs) = if timed { (steps, RUNS) } else { (1, 1) };

@@ -12,10 +12,10 @@ use std::alloc::Global;
 use std::io;
 use std::rt::Clock;
 
-/// The size of the file beside it: 1 MB.
+/// The size of the file that it is compared with: 1 MB.
 const SMALL_BYTES: u64 = 1_048_576;
 
-/// The number of the file that stands at the start.
+/// The number of the file that is there at the start.
 const FILE: u64 = 1;
 
 /// Bytes of a read, and how many there are in a turn.
@@ -73,7 +73,7 @@ fn block(alloc: Global, files: &mut Files) -> Option<u64> {
     Some(number)
 }
 
-/// Grows files of one block and cuts them again, to the largest size and to two blocks.
+/// Grows files of one block, to the largest size and to two blocks, and cuts them again.
 fn resizes(
     rt: &(impl Clock + Print + AllocGlobal),
     (large, small): (&mut Files, &mut Files),
@@ -101,7 +101,7 @@ fn resizes(
     compare(rt, &row, &mut first, &mut second, timed)
 }
 
-/// Puts a block at the head of the file.
+/// Writes a block at the head of the file.
 fn change(alloc: Global, files: &mut Files) -> Option<()> {
     files.put(alloc, FILE, 0, &BLOCK)
 }

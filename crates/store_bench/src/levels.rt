@@ -1,5 +1,5 @@
-//! An overlay over a crash state, in which nothing was changed, beside the same state as a plain
-//! store.
+//! An overlay over a crash state, in which nothing was changed, compared with the same state as a
+//! plain store.
 ghost use Rattle.std.specs.Prelude.{◌≡◌, length};
 ghost use Rattle.cs_micro.specs.Legal.{AreLegal};
 ghost use Rattle.cs_micro.specs.Micros.{block_of_version, micros_in};
@@ -36,7 +36,7 @@ pub struct Sides {
     pub plain: PlainTree,
 }
 
-/// So many places from the first on.
+/// The first `count` places.
 fn first_places(alloc: Global, count: usize) -> Option<Vec<u32>> {
     let mut places = Vec::new(alloc);
     for place in 0..u32::try_from(count).ok()? {
@@ -45,7 +45,7 @@ fn first_places(alloc: Global, count: usize) -> Option<Vec<u32>> {
     Some(places)
 }
 
-/// The state of a set, which is to be allowed, as a plain store.
+/// The state of a set, which must be allowed, as a plain store.
 pub fn plain(alloc: Global, trace: &Trace, micros: &Micros, places: &[u32]) -> Option<PlainTree>
     requires broken { micros.now ≡ micros_in trace.now }
     requires legal { AreLegal (block_of_version trace.now.version) (start_paths trace.now)
@@ -60,7 +60,7 @@ pub fn plain(alloc: Global, trace: &Trace, micros: &Micros, places: &[u32]) -> O
     }
 }
 
-/// The same state as it is shared.
+/// The same state, which shares what is the same in all.
 fn shared(alloc: Global, atlas: &Atlas, places: &[u32]) -> Option<StateTree> {
     let micros = atlas.micros();
     let order = Order::of(alloc, micros).ok()?;
@@ -99,7 +99,7 @@ fn text_of(alloc: Global, files: u64) -> Option<Text> {
     Some(text)
 }
 
-/// Both with so many files.
+/// Both ways, with so many files.
 fn stores(alloc: Global, files: u64) -> Option<(Store<Overlay<StateTree>>, Store<PlainTree>)> {
     let text = text_of(alloc, files)?;
     let sides = read_sides(alloc, text.as_str())?;

@@ -1,6 +1,6 @@
-//! What lies below the server, timed: traces that are read, trees, states, and files of the largest
-//! size. Run by hand with the word `time`, each row tells how long its work takes, and whether it
-//! is within its bound.
+//! What is below the server, timed: traces that are read, trees, states, and files of the largest
+//! size. Run by hand with the word `time`, each row says how long its work takes, and whether it is
+//! within its bound.
 #![tactic(auto)]
 
 mod large;
@@ -20,6 +20,7 @@ use crate::states::states;
 use crate::trees::trees;
 use std::{env, io};
 
+/// Times each sort of work, or with no argument runs each on small counts and prints no time.
 fn main(rt: HostRuntime) -> io::Result<()> {
     let timed = env::args(&rt)?.count() > 1;
     // first, so that the memory that the states take was never used before

@@ -1,5 +1,5 @@
 //! Files in std's maps and vectors as one would write them with no model in mind: what the store is
-//! measured beside.
+//! compared with.
 
 use crate::subject::Subject;
 use cs_names::Name;
@@ -22,6 +22,7 @@ struct File {
 }
 
 impl File {
+    /// Marks the file as changed by the user.
     fn stamp(&mut self, user: String) {
         self.vers = self.vers.wrapping_add(1);
         self.mtime = 1;
@@ -39,7 +40,7 @@ pub struct Files {
 }
 
 impl Files {
-    /// The root alone.
+    /// Only the root.
     pub fn new(alloc: Global) -> Option<Files> {
         Some(Files {
             files: BTreeMap::new(alloc),
@@ -78,10 +79,12 @@ impl Files {
 }
 
 impl Subject for Files {
+    /// One search by name.
     fn look_up(&self, name: &Name) -> Option<u64> {
         self.entries.get(name.as_str()).copied()
     }
 
+    /// Searches for each entry again, as a client does that asks for one at a time.
     fn list(&self) -> u64 {
         let mut last = None;
         let mut count = 0u64;
@@ -95,6 +98,7 @@ impl Subject for Files {
         count
     }
 
+    /// Copies the bytes.
     fn read(&self, alloc: Global, number: u64, offset: u64, count: usize) -> Option<()> {
         let start = usize::try_from(offset).ok()?;
         let end = start.checked_add(count)?;
@@ -103,6 +107,7 @@ impl Subject for Files {
         Some(())
     }
 
+    /// Fails if there is a file of that name.
     fn make(&mut self, alloc: Global, name: &Name) -> Option<u64> {
         if self.entries.get(name.as_str()).is_some() {
             return None;
@@ -117,23 +122,25 @@ impl Subject for Files {
         Some(number)
     }
 
+    /// Removes the file and its entry.
     fn delete(&mut self, _alloc: Global, number: u64) -> Option<()> {
         let file = self.files.remove(&number)?;
         self.entries.remove(file.name.as_str());
         Some(())
     }
 
+    /// Writes the bytes and stamps the file.
     fn put(&mut self, _alloc: Global, number: u64, offset: u64, bytes: &[u8]) -> Option<()> {
         let user = self.user.clone().ok()?;
         let file = self.files.get_mut(&number)?;
-        put(&mut file.bytes, usize::try_from(offset).ok()?, bytes)?;
+        write_bytes(&mut file.bytes, usize::try_from(offset).ok()?, bytes)?;
         file.stamp(user);
         Some(())
     }
 }
 
-/// Puts bytes over others, or after the last one.
-fn put(content: &mut Vec<u8>, offset: usize, bytes: &[u8]) -> Option<()> {
+/// Writes bytes over others, or after the last one; a gap is filled by zeros.
+fn write_bytes(content: &mut Vec<u8>, offset: usize, bytes: &[u8]) -> Option<()> {
     if offset == content.len() {
         return content.extend_from_slice(bytes).ok();
     }

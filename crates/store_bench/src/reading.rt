@@ -1,4 +1,5 @@
-//! Traces that are read, beside what `serde_json` alone takes to read the same lines as values.
+//! Traces that are read, compared with what `serde_json` alone takes to read the same lines as
+//! values.
 
 use cs_bench::{Row, Text, Work, compare};
 use cs_names::limits::FILE_BYTES;
@@ -8,13 +9,14 @@ use std::alloc::{AllocError, Global};
 use std::io;
 use std::rt::Clock;
 
-/// The text as a trace: how many records and operations it has.
+/// Reads the text as a trace, and counts its records and operations.
 #[derive(Drop)]
 struct AsTrace<'a> {
     text: &'a str,
 }
 
 impl Work for AsTrace<'_> {
+    /// Returns 0 if the text is no trace.
     fn run(&mut self, alloc: Global) -> u64 {
         match read_trace(alloc, self.text) {
             Ok(trace) => {
@@ -25,13 +27,14 @@ impl Work for AsTrace<'_> {
     }
 }
 
-/// Each line of the text as a value: how many there are.
+/// Reads each line of the text as a value, and counts them.
 #[derive(Drop)]
 struct AsValues<'a> {
     text: &'a str,
 }
 
 impl Work for AsValues<'_> {
+    /// Leaves out a line that is no value.
     fn run(&mut self, alloc: Global) -> u64 {
         let mut count = 0u64;
         for line in self.text.split('\n') {
@@ -114,6 +117,7 @@ const SORTS: [Sort; 7] = [
     },
 ];
 
+/// `count` writes of 16 bytes into one file.
 fn small_writes(alloc: Global, count: u64) -> Result<Text, AllocError> {
     let mut text = Text::new(alloc)?;
     text.make("creat", "/log")?;
@@ -123,6 +127,7 @@ fn small_writes(alloc: Global, count: u64) -> Result<Text, AllocError> {
     Ok(text)
 }
 
+/// `count` times a file is made, synced and moved to one of 100 names.
 fn renames(alloc: Global, count: u64) -> Result<Text, AllocError> {
     let mut text = Text::new(alloc)?;
     for file in 0..count {
@@ -134,6 +139,7 @@ fn renames(alloc: Global, count: u64) -> Result<Text, AllocError> {
     Ok(text)
 }
 
+/// `count` writes of a million bytes into one file.
 fn large_writes(alloc: Global, count: u64) -> Result<Text, AllocError> {
     let mut text = Text::new(alloc)?;
     text.make("creat", "/log")?;
@@ -143,7 +149,7 @@ fn large_writes(alloc: Global, count: u64) -> Result<Text, AllocError> {
     Ok(text)
 }
 
-/// So many directories in one another: the path of the last.
+/// Adds `depth` directories, each in the one before, and returns the path of the last.
 fn directories(alloc: Global, text: &mut Text, depth: u64) -> Result<String, AllocError> {
     let mut above = String::new(alloc);
     for _ in 0..depth {
@@ -153,6 +159,7 @@ fn directories(alloc: Global, text: &mut Text, depth: u64) -> Result<String, All
     Ok(above)
 }
 
+/// `count` start files below `depth` directories; one of them is removed, if that is asked for.
 fn starts(alloc: Global, count: u64, depth: u64, removed: bool) -> Result<Text, AllocError> {
     let mut text = Text::new(alloc)?;
     let above = directories(alloc, &mut text, depth)?;
@@ -167,12 +174,14 @@ fn starts(alloc: Global, count: u64, depth: u64, removed: bool) -> Result<Text, 
     Ok(text)
 }
 
+/// One start file of so many bytes.
 fn large(alloc: Global, bytes: u64) -> Result<Text, AllocError> {
     let mut text = Text::new(alloc)?;
     text.start_file("/f", bytes)?;
     Ok(text)
 }
 
+/// The trace of a kind, of this size.
 fn text_of(alloc: Global, kind: Kind, count: u64) -> Result<Text, AllocError> {
     match kind {
         Kind::SmallWrites => small_writes(alloc, count),
@@ -184,7 +193,7 @@ fn text_of(alloc: Global, kind: Kind, count: u64) -> Result<Text, AllocError> {
     }
 }
 
-/// Reads a trace both ways.
+/// Times a trace that is read as a trace and as values.
 fn read(rt: &(impl Clock + Print + AllocGlobal), sort: Sort, timed: bool) -> io::Result<()> {
     let count = if timed {
         sort.count
@@ -208,7 +217,7 @@ fn read(rt: &(impl Clock + Print + AllocGlobal), sort: Sort, timed: bool) -> io:
     )
 }
 
-/// Reads traces of many lines, and of half as many.
+/// Times traces of many lines, and of half as many.
 fn double(rt: &(impl Clock + Print + AllocGlobal), timed: bool) -> io::Result<()> {
     let count = if timed { 500_000 } else { 500 };
     let many = small_writes(rt.alloc(), count)?;
@@ -228,7 +237,7 @@ fn double(rt: &(impl Clock + Print + AllocGlobal), timed: bool) -> io::Result<()
     compare(rt, &row, &mut many, &mut half, timed)
 }
 
-/// Reads traces of each sort.
+/// Times traces of each sort.
 pub fn traces(rt: &(impl Clock + Print + AllocGlobal), timed: bool) -> io::Result<()> {
     for sort in SORTS {
         read(rt, sort, timed)?;

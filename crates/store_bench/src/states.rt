@@ -17,19 +17,20 @@ use std::num::nearest_u64_to_f64;
 use std::rt::{Clock, Files};
 use std::sync::Arc;
 
-/// The states of a trace, with holes if they are asked for.
+/// The scene of a trace, with holes if they are asked for.
 fn scene(alloc: Global, text: &str, holes: bool) -> Option<Scene> {
     let trace = read_trace(alloc, text).ok()?;
     Scene::of(alloc, trace, holes, Vec::new(alloc)).ok()
 }
 
-/// The states of a trace are planned and listed: how many there are.
+/// Plans and lists the states of a trace, and counts them.
 #[derive(Drop)]
 struct Planning<'a> {
     text: &'a str,
 }
 
 impl Work for Planning<'_> {
+    /// Returns how many states the plan has, or 0 if there is no plan.
     fn run(&mut self, alloc: Global) -> u64 {
         let Some(scene) = scene(alloc, self.text, true) else {
             return 0;
@@ -41,13 +42,14 @@ impl Work for Planning<'_> {
     }
 }
 
-/// The order of micro-operations is found: how many there are.
+/// Computes the order of micro-operations, and counts them.
 #[derive(Drop)]
 struct Ordering<'a> {
     micros: &'a Micros,
 }
 
 impl Work for Ordering<'_> {
+    /// Returns how many micro-operations the order has, or 0 if it runs out of memory.
     fn run(&mut self, alloc: Global) -> u64 {
         match Order::of(alloc, self.micros) {
             Ok(order) => order.len() as u64,
@@ -56,7 +58,7 @@ impl Work for Ordering<'_> {
     }
 }
 
-/// All states of a scene, kept at once.
+/// All states of a scene, kept at the same time.
 #[derive(Drop)]
 struct Keeping<'a> {
     scene: &'a Arc<Scene>,
@@ -64,6 +66,7 @@ struct Keeping<'a> {
 }
 
 impl Work for Keeping<'_> {
+    /// Returns how many states it has; one that can't be made is left out.
     fn run(&mut self, alloc: Global) -> u64 {
         for number in 0..self.scene.plan().len() as u32 {
             if let Ok(state) = Scene::make(alloc, self.scene, number) {
@@ -80,7 +83,7 @@ struct AsPlain<'a> {
     trace: &'a Trace,
 }
 
-/// How many of them are made.
+/// Makes the state of each prefix but the empty one, as a plain store, and counts them.
 fn plain_states(alloc: Global, trace: &Trace, micros: &Micros) -> Option<u64>
     requires broken { micros.now ≡ micros_in trace.now }
     requires legal { AreLegal (block_of_version trace.now.version) (start_paths trace.now)
@@ -97,6 +100,7 @@ fn plain_states(alloc: Global, trace: &Trace, micros: &Micros) -> Option<u64>
 }
 
 impl Work for AsPlain<'_> {
+    /// Returns how many states were made, or 0 if one couldn't be.
     fn run(&mut self, alloc: Global) -> u64 {
         let Ok(micros) = break_up(alloc, self.trace) else {
             return 0;
@@ -105,7 +109,7 @@ impl Work for AsPlain<'_> {
     }
 }
 
-/// Prints how long one work took, in seconds.
+/// Times a work once, and prints the seconds.
 fn time_once<W: Work>(
     rt: &(impl Clock + Print + AllocGlobal),
     what: &str,
@@ -119,8 +123,8 @@ fn time_once<W: Work>(
     print_figure(rt, what, total.done(), figure, Bound::AtMost(most), timed)
 }
 
-/// How long a work takes, and how many bytes the program has more then.
-fn kept<W: Work>(
+/// Times a work, and returns also how many bytes of memory the program has more after it.
+fn time_with_memory<W: Work>(
     rt: &(impl Clock + Files + AllocGlobal),
     work: &mut W,
 ) -> io::Result<(Total, u64)> {
@@ -130,8 +134,8 @@ fn kept<W: Work>(
     Ok((total, resident(rt)?.saturating_sub(before)))
 }
 
-/// Makes all states of a scene and keeps them, in so many MB at most: how long that takes.
-fn keep(
+/// Makes all states of a scene and keeps them, in at most `most` MB. Returns how long that takes.
+fn keep_states(
     rt: &(impl Clock + Files + Print + AllocGlobal),
     what: &str,
     scene: Scene,
@@ -144,14 +148,14 @@ fn keep(
         scene: &scene,
         states: Vec::new(alloc),
     };
-    let (total, bytes) = kept(rt, &mut keeping)?;
+    let (total, bytes) = time_with_memory(rt, &mut keeping)?;
     let figure = (nearest_u64_to_f64(bytes) / 1e6, "MB");
     print_figure(rt, what, total.done(), figure, Bound::AtMost(most), timed)?;
     Ok(total)
 }
 
-/// Keeps all states of a trace, with holes if they are asked for, and makes plain stores beside
-/// them.
+/// Keeps all states of a trace, with holes if they are asked for, and compares that with plain
+/// stores.
 fn keep_beside(
     rt: &(impl Clock + Files + Print + AllocGlobal),
     (what, each): (&str, &str),
@@ -165,7 +169,7 @@ fn keep_beside(
     ) else {
         return println!(rt; "no plan");
     };
-    let total = keep(rt, what, scene, most, timed)?;
+    let total = keep_states(rt, what, scene, most, timed)?;
     let mut beside = Total::new();
     beside.time(rt, &mut AsPlain { trace: &trace })?;
     let row = Row {
@@ -177,7 +181,7 @@ fn keep_beside(
     row.print(rt, &total, &beside, timed)
 }
 
-/// So many files that are made over a start of so many, each of some bytes.
+/// `files` files are made over a start of `starts` files of `bytes` bytes each.
 fn creats(alloc: Global, starts: u64, bytes: u64, files: u64) -> Result<Text, AllocError> {
     let mut text = Text::new(alloc)?;
     text.start_files(alloc, files.saturating_add(1), starts, bytes)?;
@@ -185,7 +189,7 @@ fn creats(alloc: Global, starts: u64, bytes: u64, files: u64) -> Result<Text, Al
     Ok(text)
 }
 
-/// So many writes into the blocks of a file of 1 MB.
+/// `writes` writes into the blocks of a file of 1 MB.
 fn block_writes(alloc: Global, writes: u64) -> Result<Text, AllocError> {
     let mut text = Text::new(alloc)?;
     text.start_file("/f", 1_048_576)?;
@@ -195,7 +199,7 @@ fn block_writes(alloc: Global, writes: u64) -> Result<Text, AllocError> {
     Ok(text)
 }
 
-/// So many files that are truncated to the largest size.
+/// `files` files are truncated to the largest size.
 fn truncates(alloc: Global, files: u64) -> Result<Text, AllocError> {
     let mut text = Text::new(alloc)?;
     text.start_files(alloc, 1, files, 16)?;
@@ -206,7 +210,7 @@ fn truncates(alloc: Global, files: u64) -> Result<Text, AllocError> {
     Ok(text)
 }
 
-/// A file that is moved so often in one directory.
+/// A file is moved `count` times in one directory.
 fn moves(alloc: Global, count: u64) -> Result<Text, AllocError> {
     let mut text = Text::new(alloc)?;
     text.make("mkdir", "/d")?;
@@ -230,13 +234,13 @@ fn keep_large(
         return println!(rt; "no plan");
     };
     let what = "states of files truncated to the largest size, kept";
-    let total = keep(rt, what, scene, 10.0, timed)?;
+    let total = keep_states(rt, what, scene, 10.0, timed)?;
     let figure = (total.seconds(), "s");
     let what = "made";
     print_figure(rt, what, total.done(), figure, Bound::AtMost(0.2), timed)
 }
 
-/// Finds the order of renames in one directory.
+/// Times the order of renames in one directory.
 fn order(rt: &(impl Clock + Print + AllocGlobal), count: u64, timed: bool) -> io::Result<()> {
     let text = moves(rt.alloc(), count)?;
     let Ok(trace) = read_trace(rt.alloc(), text.as_str()) else {

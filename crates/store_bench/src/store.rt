@@ -1,4 +1,4 @@
-//! A store, which is asked before each change what it wants of its caller.
+//! A store; before each change, what the store requires of its caller is checked.
 ghost use Rattle.std.specs.Prelude.{◌≡◌, IsTrue, IsSome};
 ghost use Rattle.cs_tree_model.specs.Tree.{content_numbered};
 ghost use Rattle.cs_tree_model.specs.Stores.{CanStamp, CanStampParent, IsDirectoryNumbered};
@@ -21,7 +21,7 @@ pub struct Store<T> {
     user: UserName,
 }
 
-/// Whether it is a directory that can be changed once more.
+/// Whether the number is that of a directory whose version can still grow.
 fn takes_files<T: TreeRead>(tree: &T, number: u64) -> bool
     ensures directory { IsTrue result → IsDirectoryNumbered (T.tree tree.now) number }
     ensures vers { IsTrue result → CanStamp (T.tree tree.now) number }
@@ -35,7 +35,7 @@ fn takes_files<T: TreeRead>(tree: &T, number: u64) -> bool
     }
 }
 
-/// Whether it is a file that can be changed once more.
+/// Whether the number is that of a file whose version can still grow.
 fn takes_bytes<T: TreeRead>(tree: &T, number: u64) -> bool
     ensures file { IsTrue result → IsSome (content_numbered (T.tree tree.now) number) }
     ensures vers { IsTrue result → CanStamp (T.tree tree.now) number }
@@ -49,7 +49,7 @@ fn takes_bytes<T: TreeRead>(tree: &T, number: u64) -> bool
     }
 }
 
-/// Whether its directory can be changed once more.
+/// Whether the version of its directory can still grow.
 fn can_leave<T: TreeRead>(tree: &T, number: u64) -> bool
     ensures { IsTrue result → CanStampParent (T.tree tree.now) number }
 {
@@ -60,7 +60,7 @@ fn can_leave<T: TreeRead>(tree: &T, number: u64) -> bool
 }
 
 impl<T: TreeStore + Drop> Store<T> {
-    /// The store, whose files Ann changes.
+    /// The store, whose files the user ann changes.
     pub fn new(alloc: Global, tree: T) -> Option<Store<T>> {
         let user = UserName::read(alloc, b"ann").ok()?;
         Some(Store { tree, user })
@@ -68,12 +68,13 @@ impl<T: TreeStore + Drop> Store<T> {
 }
 
 impl<T: TreeStore> Store<T> {
+    /// The stamp of each change: the user, at time 1.
     fn stamp(&self) -> Option<Stamp> {
         let user = self.user.try_clone().ok()?;
         Some(Stamp { now: 1, user })
     }
 
-    /// Gives a file a length.
+    /// Gives a file a length of 32 bits at most.
     pub fn resize(&mut self, alloc: Global, number: u64, length: u64) -> Option<()> {
         if !takes_bytes(&self.tree, number) || length > u64::from(u32::MAX) {
             return None;
@@ -91,10 +92,12 @@ impl<T: TreeStore> Store<T> {
 }
 
 impl<T: TreeStore> Subject for Store<T> {
+    /// One search by name in the root.
     fn look_up(&self, name: &Name) -> Option<u64> {
         self.tree.find_number(0, name.as_str())
     }
 
+    /// Asks the store for each entry after the one before.
     fn list(&self) -> u64 {
         let mut last = None;
         let mut count = 0u64;
@@ -108,11 +111,14 @@ impl<T: TreeStore> Subject for Store<T> {
         count
     }
 
+    /// Fails if the file has fewer bytes.
     fn read(&self, alloc: Global, number: u64, offset: u64, count: usize) -> Option<()> {
         let bytes = self.tree.read_at(alloc, number, offset, count).ok()??;
         (bytes.len() == count).then_some(())
     }
 
+    /// Fails if the root can't be changed again, no number is left, or there is a file of that
+    /// name.
     fn make(&mut self, alloc: Global, name: &Name) -> Option<u64> {
         if !takes_files(&self.tree, 0) || self.tree.last_number() == u64::MAX {
             return None;
@@ -127,6 +133,7 @@ impl<T: TreeStore> Subject for Store<T> {
             .ok()
     }
 
+    /// Fails for the root, a directory that isn't empty, or one that can't be changed again.
     fn delete(&mut self, alloc: Global, number: u64) -> Option<()> {
         if number == 0 || self.tree.record(number).is_none() {
             return None;
@@ -138,6 +145,8 @@ impl<T: TreeStore> Subject for Store<T> {
         self.tree.remove(alloc, number, stamp).ok()
     }
 
+    /// Fails for no byte, more than MOST_BYTES, an offset of more than 32 bits, or a file that
+    /// can't be changed again.
     fn put(&mut self, alloc: Global, number: u64, offset: u64, bytes: &[u8]) -> Option<()> {
         if bytes.is_empty() || bytes.len() > MOST_BYTES || offset > u64::from(u32::MAX) {
             return None;

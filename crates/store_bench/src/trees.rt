@@ -1,4 +1,4 @@
-//! The plain store beside std's maps.
+//! The plain store compared with std's maps.
 
 use crate::levels::read_sides;
 use crate::ordinary::Files;
@@ -12,7 +12,7 @@ use std::alloc::Global;
 use std::io;
 use std::rt::Clock;
 
-/// How many files stand in the root.
+/// How many files are in the root.
 pub fn sizes(timed: bool) -> [u64; 3] {
     if timed {
         [16, 1_024, 65_000]
@@ -33,7 +33,7 @@ const MEGABYTE: usize = 1_048_576;
 
 const MAPS: &str = "std's maps";
 
-/// Two with the same files, so many in the root.
+/// Two subjects with the same files, so many in the root.
 #[derive(Drop)]
 pub struct Pair<'a, A, B> {
     pub first: &'a A,
@@ -96,6 +96,7 @@ pub fn listings<A: Subject, B: Subject>(
     compare(rt, &row, &mut first, &mut second, timed)
 }
 
+/// Makes a file of each name.
 fn make_each<S: Subject>(alloc: Global, files: &mut S, names: &[Name]) -> Option<()> {
     for name in names {
         files.make(alloc, name)?;
@@ -103,7 +104,7 @@ fn make_each<S: Subject>(alloc: Global, files: &mut S, names: &[Name]) -> Option
     Some(())
 }
 
-/// A store with so many files in the root.
+/// A store with `files` files in the root.
 fn store(alloc: Global, files: u64) -> Option<Store<PlainTree>> {
     let text = Text::new(alloc).ok()?;
     let mut store = Store::new(alloc, read_sides(alloc, text.as_str())?.plain)?;
@@ -118,7 +119,7 @@ fn maps(alloc: Global, files: u64) -> Option<Files> {
     Some(maps)
 }
 
-/// Adds files and takes them out again.
+/// Adds files and removes them.
 fn changes(
     rt: &(impl Clock + Print + AllocGlobal),
     (store, maps): (&mut Store<PlainTree>, &mut Files),
@@ -248,7 +249,7 @@ fn appends<A: Subject, B: Subject>(
     compare(rt, &row, &mut first, &mut second, timed)
 }
 
-/// Does each work on the plain store and on std's maps.
+/// Times each work on the plain store and on std's maps.
 pub fn trees(rt: &(impl Clock + Print + AllocGlobal), timed: bool) -> io::Result<()> {
     for files in sizes(timed) {
         with_files(rt, files, timed)?;

@@ -7,7 +7,7 @@ use cs_names::Name;
 use cs_tree_model::TreeStore;
 use std::alloc::Global;
 
-/// Each name is looked up, so many times.
+/// Each name is looked up, `rounds` times.
 #[derive(Drop)]
 pub struct LookUps<'a, S> {
     pub files: &'a S,
@@ -15,7 +15,8 @@ pub struct LookUps<'a, S> {
     pub rounds: u64,
 }
 
-fn found<S: Subject>(files: &S, names: &[Name]) -> u64 {
+/// How many of the names are found.
+fn count_found<S: Subject>(files: &S, names: &[Name]) -> u64 {
     let mut found = 0u64;
     for name in names {
         if files.look_up(name).is_some() {
@@ -26,10 +27,11 @@ fn found<S: Subject>(files: &S, names: &[Name]) -> u64 {
 }
 
 impl<S: Subject> Work for LookUps<'_, S> {
+    /// Returns how many look-ups found a file.
     fn run(&mut self, _alloc: Global) -> u64 {
         let mut done = 0u64;
         for _ in 0..self.rounds {
-            done = done.wrapping_add(found(self.files, self.names));
+            done = done.wrapping_add(count_found(self.files, self.names));
         }
         done
     }
@@ -42,12 +44,13 @@ pub struct Listing<'a, S> {
 }
 
 impl<S: Subject> Work for Listing<'_, S> {
+    /// Returns how many entries were listed.
     fn run(&mut self, _alloc: Global) -> u64 {
         self.files.list()
     }
 }
 
-/// So many reads of a file, each as far behind the one before.
+/// `count` reads of a file; each begins `step` bytes after the one before.
 #[derive(Drop)]
 pub struct Reads<'a, S> {
     pub files: &'a S,
@@ -58,6 +61,7 @@ pub struct Reads<'a, S> {
 }
 
 impl<S: Subject> Work for Reads<'_, S> {
+    /// Returns how many reads succeeded.
     fn run(&mut self, alloc: Global) -> u64 {
         let mut done = 0u64;
         for read in 0..self.count {
@@ -69,7 +73,7 @@ impl<S: Subject> Work for Reads<'_, S> {
     }
 }
 
-/// A file of each name is made and taken out again.
+/// A file of each name is made and removed.
 #[derive(Drop)]
 pub struct Changes<'a, S> {
     pub files: &'a mut S,
@@ -77,6 +81,7 @@ pub struct Changes<'a, S> {
 }
 
 impl<S: Subject> Work for Changes<'_, S> {
+    /// Returns how many files were made and removed.
     fn run(&mut self, alloc: Global) -> u64 {
         let mut done = 0u64;
         for name in self.names {
@@ -89,7 +94,8 @@ impl<S: Subject> Work for Changes<'_, S> {
     }
 }
 
-/// Bytes are written to a file so often, each time behind the ones before.
+/// Writes the bytes to a file `count` times, each time after those before. Returns how many writes
+/// succeeded.
 pub fn put_each<S: Subject>(
     alloc: Global,
     files: &mut S,
@@ -107,7 +113,7 @@ pub fn put_each<S: Subject>(
     done
 }
 
-/// Bytes are written over those of a file so often, in their order.
+/// Bytes are written over those of a file `count` times, one piece after the other.
 #[derive(Drop)]
 pub struct Writes<'a, S> {
     pub files: &'a mut S,
@@ -117,12 +123,13 @@ pub struct Writes<'a, S> {
 }
 
 impl<S: Subject> Work for Writes<'_, S> {
+    /// Returns how many writes succeeded.
     fn run(&mut self, alloc: Global) -> u64 {
         put_each(alloc, self.files, self.number, self.bytes, self.count)
     }
 }
 
-/// Bytes are appended so often to a file that is made for it, and taken out again.
+/// Bytes are appended `count` times to a file that is made for it and removed again.
 #[derive(Drop)]
 pub struct Appends<'a, S> {
     files: &'a mut S,
@@ -132,7 +139,7 @@ pub struct Appends<'a, S> {
 }
 
 impl<'a, S> Appends<'a, S> {
-    /// Pieces of so many bytes, up to so many in all.
+    /// Appends of `piece` bytes each, up to `all` bytes.
     pub fn new(
         alloc: Global,
         files: &'a mut S,
@@ -152,6 +159,7 @@ impl<'a, S> Appends<'a, S> {
 }
 
 impl<S: Subject> Work for Appends<'_, S> {
+    /// Returns how many appends succeeded.
     fn run(&mut self, alloc: Global) -> u64 {
         let Some(number) = self.files.make(alloc, &self.name) else {
             return 0;
@@ -171,6 +179,7 @@ pub struct Resizes<'a, T> {
 }
 
 impl<T: TreeStore> Work for Resizes<'_, T> {
+    /// Returns 1 if both succeeded, else 0.
     fn run(&mut self, alloc: Global) -> u64 {
         let grown = self.store.resize(alloc, self.number, self.length);
         let cut = self.store.resize(alloc, self.number, 4_096);

@@ -1,4 +1,4 @@
-//! A session over one run alone, with no world about it.
+//! A session over one run only, without a world.
 ghost use Rattle.std.specs.Prelude.{IfSome};
 ghost use Rattle.std.specs.Arc.{arc_value};
 ghost use Rattle.cs_journal.specs.Bounds.{CanGrow};
@@ -15,7 +15,7 @@ use std::alloc::Global;
 use std::marker::Model;
 use std::sync::Arc;
 
-/// One run, with its one pass; each is the one at the place 0.
+/// One run and its only pass, both at the place 0.
 #[derive(Drop)]
 struct LoneRun {
     run: Run<Built>,
@@ -36,10 +36,12 @@ impl Model for LoneRun {
 impl Port for LoneRun {
     ghost gives = { λ before question told after. Unit {0} };
 
+    /// Finds the one run, whatever the name is.
     fn find(&mut self, _alloc: Global, _name: &TreeName) -> Result<u32, FindFault> {
         Ok(0)
     }
 
+    /// Attaches under the one pass.
     fn attach(
         &mut self,
         alloc: Global,
@@ -52,12 +54,13 @@ impl Port for LoneRun {
         Ok((0, answer))
     }
 
+    /// Makes a call on the one run, under its pass.
     fn call(&mut self, alloc: Global, now: u32, _run: u32, _pass: u32, call: Call<'_>) -> Answer {
         self.run.step(alloc, &mut self.pass, now, call)
     }
 }
 
-/// The scene's state 0, if runs can begin with it.
+/// The scene's state 0; None if no run can begin with it, or memory runs out.
 fn state_of(alloc: Global, scene: Scene) -> Option<Arc<Built>>
     ensures { IfSome result (λ lower. CanGrow (arc_value lower)) }
 {
@@ -70,7 +73,7 @@ fn state_of(alloc: Global, scene: Scene) -> Option<Arc<Built>>
 }
 
 impl LoneRun {
-    /// A fresh run over the tree, and its first pass.
+    /// A fresh run over the tree, and its first pass. None if memory runs out.
     fn over(alloc: Global, lower: Arc<Built>, users: Arc<Users>) -> Option<LoneRun>
         requires { CanGrow (arc_value lower) }
     {
@@ -80,7 +83,7 @@ impl LoneRun {
     }
 }
 
-/// A session, and the run that its fids stand in.
+/// A session, and the run of its fids.
 #[derive(Drop)]
 pub struct Alone {
     session: Session,
@@ -88,7 +91,8 @@ pub struct Alone {
 }
 
 impl Alone {
-    /// A session that has not begun, over a fresh run of the scene's state 0.
+    /// A session that has not begun, over a fresh run of the scene's state 0. None if that can't be
+    /// made.
     pub fn new(alloc: Global, scene: Scene, users: Users) -> Option<Alone> {
         let lower = state_of(alloc, scene)?;
         let users = Arc::new(alloc, users).ok()?;
@@ -98,7 +102,7 @@ impl Alone {
         })
     }
 
-    /// Sends a message, and encodes its reply in a buffer that is kept. None where it is denied.
+    /// Sends a message, and encodes its reply in a buffer that is reused. None if it is denied.
     pub fn send(&mut self, alloc: Global, bytes: &[u8], out: &mut Vec<u8>) -> Option<()> {
         if bytes.len() < 7 || self.session.awaits() {
             return None;

@@ -1,4 +1,4 @@
-//! Messages beside many open fids, and the end of a connection that has them.
+//! Messages of a connection that has many open fids, and its end.
 
 use crate::messages::{ask, push, walk};
 use crate::sides::ToWorld;
@@ -9,10 +9,10 @@ use std::alloc::Global;
 use std::io;
 use std::rt::Clock;
 
-/// How many fids are open beside, each on the file.
+/// How many other fids are open, each on the file.
 const MANY: u32 = 4_000;
 
-/// Of the hang-up that the other is held to.
+/// How many fids are open at the hang-up that the other is compared with.
 const FEW: u32 = 100;
 
 /// How often a file is opened in a round, and how many rounds are timed.
@@ -23,7 +23,7 @@ const ROUNDS: u64 = 20;
 /// The number of the first of them.
 const FIRST: u32 = 10;
 
-/// Opens the file as one more fid.
+/// Opens the file as one more fid. None if that is denied.
 fn open(alloc: Global, side: &mut ToWorld, fid: u32) -> Option<()> {
     let to_file = walk(alloc, 2, fid, None)?;
     ask(alloc, &mut side.world, to_file, &mut side.out)?;
@@ -31,6 +31,7 @@ fn open(alloc: Global, side: &mut ToWorld, fid: u32) -> Option<()> {
     ask(alloc, &mut side.world, open, &mut side.out)
 }
 
+/// Opens the file as so many fids more, numbered from FIRST on. None if one is denied.
 fn open_each(alloc: Global, side: &mut ToWorld, fids: u32) -> Option<()> {
     for fid in FIRST..FIRST.saturating_add(fids) {
         open(alloc, side, fid)?;
@@ -38,7 +39,7 @@ fn open_each(alloc: Global, side: &mut ToWorld, fids: u32) -> Option<()> {
     Some(())
 }
 
-/// Opens the fids, and puts the messages that are timed in the place of the first ones.
+/// Opens so many fids, and then replaces the messages by those that are timed.
 fn prepare(alloc: Global, side: &mut ToWorld, fids: u32) -> Option<()> {
     open_each(alloc, side, fids)?;
     side.messages.clear();
@@ -48,14 +49,14 @@ fn prepare(alloc: Global, side: &mut ToWorld, fids: u32) -> Option<()> {
     push(alloc, &mut side.messages, Some(TBody::Clunk { fid: 4 }))
 }
 
-/// A walk to the file, an open and a clunk of it, in a world with so many open fids beside.
+/// A walk to the file, an open and a clunk of it, in a world with so many other open fids.
 fn crowd(alloc: Global, fids: u32, repeats: u64) -> Option<ToWorld> {
     let mut side = ToWorld::of(alloc, 0, repeats)?;
     prepare(alloc, &mut side, fids)?;
     Some(side)
 }
 
-/// The end of a connection, once.
+/// The end of a connection that has so many open fids, once.
 #[derive(Drop)]
 struct HangUp {
     side: ToWorld,
@@ -63,7 +64,7 @@ struct HangUp {
 }
 
 impl Work for HangUp {
-    /// Counts the fids that it had open, where it is closed.
+    /// Hangs up, and counts the fids that were open; 0 if the connection isn't closed.
     fn run(&mut self, alloc: Global) -> u64 {
         match self.side.world.hang_up(alloc, 0, 1) {
             Reply::Closed => u64::from(self.fids),
@@ -72,7 +73,7 @@ impl Work for HangUp {
     }
 }
 
-/// Walks to, opens and clunks a file beside many open fids, beside the same with one.
+/// Times a walk to a file, its open and its clunk with many other fids open, and with one.
 pub fn crowds(rt: &(impl Clock + Print + AllocGlobal), timed: bool) -> io::Result<()> {
     let alloc = rt.alloc();
     let repeats = if timed { REPEATS } else { 1 };
@@ -89,7 +90,7 @@ pub fn crowds(rt: &(impl Clock + Print + AllocGlobal), timed: bool) -> io::Resul
     compare(rt, &row, &mut many, &mut one, timed)
 }
 
-/// Ends a connection with many open fids, and one with few.
+/// Times the end of a connection with many open fids, and of one with few, for each fid.
 pub fn hang_ups(rt: &(impl Clock + Print + AllocGlobal), timed: bool) -> io::Result<()> {
     let alloc = rt.alloc();
     let (Some(many), Some(few)) = (crowd(alloc, MANY, 1), crowd(alloc, FEW, 1)) else {

@@ -1,4 +1,4 @@
-//! What the messages are about.
+//! The users and the trees of the worlds.
 
 use cs_plan::Scene;
 use cs_trace::read_trace;
@@ -8,16 +8,17 @@ use std::alloc::Global;
 /// How many bytes the file has.
 const FILE_LENGTH: usize = 1_048_576;
 
+/// The one user, ann. None if memory runs out.
 pub fn users(alloc: Global) -> Option<Users> {
     Users::read(alloc, b"1:ann::\n").ok()
 }
 
-/// A root with a directory and a file, as a trace has them, up to the file's bytes.
+/// A trace's root with a directory and a file, up to the file's bytes.
 const TRACE: &str = "{\"trace\":1,\"owner\":\"ann\",\"group\":\"ann\",\"mode\":\"755\"}
 {\"start\":\"dir\",\"path\":\"/d\",\"owner\":\"ann\",\"group\":\"ann\",\"mode\":\"755\"}
 {\"start\":\"file\",\"path\":\"/f\",\"owner\":\"ann\",\"group\":\"ann\",\"mode\":\"644\",\"bytes\":\"";
 
-/// The trace's text, and operations that make so many files more.
+/// The trace's text, with so many operations that make a file. None if memory runs out.
 fn trace_text(alloc: Global, creats: u32) -> Option<String> {
     let mut text = String::from_str(alloc, TRACE).ok()?;
     for _ in 0..FILE_LENGTH {
@@ -33,7 +34,8 @@ fn trace_text(alloc: Global, creats: u32) -> Option<String> {
     Some(text)
 }
 
-/// The states of that trace, holes among them: of no creats there is one.
+/// The states of that trace, with holes too; with no creat there is one state. None if memory runs
+/// out.
 pub fn scene(alloc: Global, creats: u32) -> Option<Scene> {
     let text = trace_text(alloc, creats)?;
     let trace = read_trace(alloc, text.as_str()).ok()?;

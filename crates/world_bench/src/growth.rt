@@ -1,5 +1,5 @@
-//! Messages to a world of many states, and to one with many runs too, beside a world of one of
-//! each.
+//! Messages to a world of many states, and to one with many runs too, compared with a world of one
+//! of each.
 
 use crate::kind::Kind;
 use crate::messages::{attach, send_on, spelled, version};
@@ -10,10 +10,10 @@ use std::alloc::Global;
 use std::io;
 use std::rt::Clock;
 
-/// How many files the operations make of which there are many states: 16,291.
+/// How many files the operations make; there are 16,291 states of them.
 const CREATS: u32 = 180;
 
-/// How many runs stand beside the one that the messages are about.
+/// How many runs there are besides the one that the messages go to.
 const RUNS: u32 = 4_095;
 
 /// How often each work is done in a round, and how many rounds are timed: a run's journal has room
@@ -22,7 +22,7 @@ const REPEATS: u64 = 250;
 
 const ROUNDS: u64 = 20;
 
-/// Begins a session on each of the other connections.
+/// Begins a session on each connection but the first. None if one is denied.
 fn begin_others(alloc: Global, side: &mut ToWorld) -> Option<()> {
     let version = spelled(alloc, version(alloc)?)?;
     for conn in 1..CONNECTIONS {
@@ -31,13 +31,14 @@ fn begin_others(alloc: Global, side: &mut ToWorld) -> Option<()> {
     Some(())
 }
 
+/// Attaches on a connection to a run of the state of that number. None if that is denied.
 fn find_run(alloc: Global, side: &mut ToWorld, state: u32, run: u32, conn: u32) -> Option<()> {
     let name = format!(in alloc; "{state}/r{run}").ok()?;
     let bytes = spelled(alloc, attach(alloc, run, name.as_str())?)?;
     send_on(alloc, &mut side.world, conn, &bytes, &mut side.out)
 }
 
-/// Attaches to so many runs more, of one state after the other. How many it came to.
+/// Attaches to so many runs more, of one state after the other. Returns how many were granted.
 fn find_runs(alloc: Global, side: &mut ToWorld, states: u32, runs: u32) -> u32 {
     let mut found = 0u32;
     for run in 0..runs {
@@ -49,7 +50,7 @@ fn find_runs(alloc: Global, side: &mut ToWorld, states: u32, runs: u32) -> u32 {
     found
 }
 
-/// Begins the other sessions, and attaches on them: to how many runs.
+/// Begins the other sessions, and attaches on them. Returns to how many runs.
 fn begin_and_find(alloc: Global, side: &mut ToWorld, states: u32, runs: u32) -> u32 {
     match begin_others(alloc, side) {
         Some(()) => find_runs(alloc, side, states, runs),
@@ -65,6 +66,8 @@ struct Worlds {
     runs: ToWorld,
 }
 
+/// Makes the three worlds, smaller ones if nothing is timed, and prints how many runs were added.
+/// None if memory runs out.
 fn make_worlds(rt: &(impl Print + AllocGlobal), timed: bool) -> Option<Worlds> {
     let alloc = rt.alloc();
     let (creats, count, repeats) = if timed {
@@ -87,7 +90,7 @@ fn make_worlds(rt: &(impl Print + AllocGlobal), timed: bool) -> Option<Worlds> {
     }
 }
 
-/// Does a work among many states or runs, beside the same among one of each.
+/// Times messages of a kind among many states or runs, and among one of each.
 fn row(
     rt: &(impl Clock + Print + AllocGlobal),
     kind: Kind,
@@ -113,7 +116,7 @@ fn row(
     compare(rt, &row, many, small, timed)
 }
 
-/// Does each work in each world.
+/// Times messages of each kind in each world.
 pub fn growth(rt: &(impl Clock + Print + AllocGlobal), timed: bool) -> io::Result<()> {
     let Some(worlds) = make_worlds(rt, timed) else {
         return println!(rt; "out of memory");

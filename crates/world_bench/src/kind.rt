@@ -4,14 +4,14 @@ use crate::messages::{spelled, walk};
 use cs_wire::TBody;
 use std::alloc::Global;
 
-/// Bytes of a read and of a write.
+/// How many bytes a read and a write have.
 const BLOCK: u32 = 4_096;
 
-/// What is written.
+/// The bytes of a write.
 const WRITTEN: [u8; BLOCK as usize] = [9; BLOCK as usize];
 
-/// What is sent again and again, on a connection with fids on the root (0 and 1) and on the file
-/// (2, and 3, which is open).
+/// The kind of the messages that are sent again and again, on a connection with fids on the root
+/// (0 and 1) and on the file (2, and 3, which is open).
 #[derive(Clone, Copy, Debug, PartialEq, Eq)]
 pub enum Kind {
     Stats,
@@ -23,6 +23,7 @@ pub enum Kind {
 impl Kind {
     pub const ALL: [Kind; 4] = [Kind::Stats, Kind::Reads, Kind::Writes, Kind::Walks];
 
+    /// The messages in the words of a row.
     pub fn name(self) -> &'static str {
         match self {
             Kind::Stats => "stats",
@@ -32,7 +33,7 @@ impl Kind {
         }
     }
 
-    /// One message, or two of which the second takes the first back.
+    /// One message, or two of which the second undoes the first. None if memory runs out.
     fn bodies(self, alloc: Global) -> Option<(TBody<'static>, Option<TBody<'static>>)> {
         Some(match self {
             Kind::Stats => (TBody::Stat { fid: 2 }, None),
@@ -59,7 +60,7 @@ impl Kind {
         })
     }
 
-    /// The messages as bytes.
+    /// The messages as bytes. None if memory runs out.
     pub fn messages(self, alloc: Global) -> Option<Vec<Vec<u8>>> {
         let (first, second) = self.bodies(alloc)?;
         let mut all = Vec::new(alloc);

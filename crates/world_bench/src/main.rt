@@ -1,7 +1,7 @@
-//! Messages to a world, beside the same to a session over one run alone: stats, reads and writes of
-//! 4 kB, and walks of one name; the same among many states and runs; opens and clunks beside many
-//! fids, and hang-ups. Run by hand with the word `time`, each row tells how long its work takes,
-//! and whether it is within its bound.
+//! Messages to a world, compared with the same to a session over one run only: stats, reads and
+//! writes of 4 kB, and walks of one name; the same among many states and runs; opens and clunks
+//! with many open fids, and hang-ups. If you run it with the word `time`, each row says how long
+//! its work takes, and whether that is within its bound.
 #![tactic(auto)]
 
 mod alone;
@@ -26,7 +26,7 @@ const REPEATS: u64 = 500;
 
 const ROUNDS: u64 = 50;
 
-/// Sends the messages to a world, beside the same to a session alone.
+/// Times messages of a kind to a world, and the same to a session without one.
 fn beside_session(
     rt: &(impl Clock + Print + AllocGlobal),
     kind: Kind,
@@ -53,6 +53,7 @@ fn beside_session(
     compare(rt, &row, &mut world, &mut alone, timed)
 }
 
+/// Prints each row; only with an argument the work is repeated and timed.
 fn main(rt: HostRuntime) -> io::Result<()> {
     let timed = env::args(&rt)?.count() > 1;
     for kind in Kind::ALL {

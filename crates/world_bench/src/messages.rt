@@ -1,11 +1,11 @@
-//! Messages as bytes, and what they come to.
+//! Messages as bytes, and how they are sent.
 
 use cs_names::limits::CONNECTIONS;
 use cs_wire::{RBody, RMessage, TBody, TMessage, encode_reply, encode_request};
 use cs_world::World;
 use std::alloc::Global;
 
-/// The bytes of a message; of none where memory is wanting.
+/// The bytes of a message. None if it has no spelling, or memory runs out.
 pub fn spelled(alloc: Global, body: TBody<'_>) -> Option<Vec<u8>> {
     let message = TMessage { tag: 1, body };
     if !message.fits() {
@@ -16,8 +16,8 @@ pub fn spelled(alloc: Global, body: TBody<'_>) -> Option<Vec<u8>> {
     Some(bytes)
 }
 
-/// Sends a message on a connection, and encodes its reply in a buffer that is kept. None where it
-/// is denied.
+/// Sends a message on a connection, and encodes its reply in a buffer that is reused. None if it is
+/// denied.
 pub fn send_on(
     alloc: Global,
     world: &mut World,
@@ -41,12 +41,13 @@ pub fn send(alloc: Global, world: &mut World, bytes: &[u8], out: &mut Vec<u8>) -
     send_on(alloc, world, 0, bytes, out)
 }
 
-/// Sends a message whose words are these.
+/// Sends a message with this body on the connection 0.
 pub fn ask(alloc: Global, world: &mut World, body: TBody<'_>, out: &mut Vec<u8>) -> Option<()> {
     let bytes = spelled(alloc, body)?;
     send(alloc, world, &bytes, out)
 }
 
+/// A walk of one name, or of none. None if memory runs out.
 pub fn walk(alloc: Global, fid: u32, newfid: u32, name: Option<&str>) -> Option<TBody<'static>> {
     let mut wname = Vec::new(alloc);
     if let Some(name) = name {
@@ -55,6 +56,7 @@ pub fn walk(alloc: Global, fid: u32, newfid: u32, name: Option<&str>) -> Option<
     Some(TBody::Walk { fid, newfid, wname })
 }
 
+/// A version that begins a session of 65,536 bytes. None if memory runs out.
 pub fn version(alloc: Global) -> Option<TBody<'static>> {
     Some(TBody::Version {
         msize: 65_536,
@@ -62,7 +64,7 @@ pub fn version(alloc: Global) -> Option<TBody<'static>> {
     })
 }
 
-/// An attach of a user to a tree of that name.
+/// An attach of ann to the tree of that name. None if memory runs out.
 pub fn attach(alloc: Global, fid: u32, aname: &str) -> Option<TBody<'static>> {
     Some(TBody::Attach {
         fid,
@@ -72,13 +74,14 @@ pub fn attach(alloc: Global, fid: u32, aname: &str) -> Option<TBody<'static>> {
     })
 }
 
-/// Adds a message's bytes.
+/// Adds a message's bytes to the messages. None if there is no message, or memory runs out.
 pub fn push(alloc: Global, all: &mut Vec<Vec<u8>>, body: Option<TBody<'_>>) -> Option<()> {
     let bytes = spelled(alloc, body?)?;
     all.push(bytes).ok()
 }
 
-/// Nothing is let go at its ways out.
+/// Adds the messages that begin a session. They are added to a list of the caller, so that nothing
+/// is dropped at an early return.
 fn push_opening(alloc: Global, all: &mut Vec<Vec<u8>>) -> Option<()> {
     push(alloc, all, version(alloc))?;
     push(alloc, all, attach(alloc, 0, "0/x"))?;

@@ -1,4 +1,4 @@
--- The slots mirror what stands at each path, step by step, and list it in order.
+-- The slots mirror what is at each path, step by step, and list it in order.
 use Rattle.std.proofs.Common.{◌≡◌, ◌≢◌, ℕ, zero, suc, ◌<◌, Bool, true, false, cond, T, List, []}
 use Rattle.std.proofs.Common.{◌∷◌, None, Some, refl, sym, ap, ◌∙◌, subst, arith, ⊎_elim, length}
 use Rattle.std.proofs.lemmas.Bool.{false≢true}

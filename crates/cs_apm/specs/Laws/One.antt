@@ -98,9 +98,9 @@ move_apart : (from here : Option Node) → move_look false false from here ≡ h
 move_apart None here = refl
 move_apart (Some e) here = refl
 
--- ---- what stands at a path after an operation
+-- ---- what is at a path after an operation
 
--- a path that isn't touched keeps what stands there
+-- a path that isn't touched keeps what is there
 pub untouched : (m : Paths) (o : MicroOp) (q : Path) → touches o q ≡ false
     → get (paths_after m o) q ≡ get m q
 untouched m (CreateDirEntry p node rights) q h = get-insert_other m q p node (one_apart p q h)
@@ -117,7 +117,7 @@ untouched m (WriteBlock file block start at bytes) q h = refl
 untouched m (SetAttr target rights) q h = refl
 untouched m Say q h = refl
 
--- where two maps agree on what an operation touches, they agree there after it
+-- if two maps agree on what an operation touches, they agree there after it
 pub agree : (m n : Paths) (o : MicroOp) → ((q : Path) → touches o q ≡ true → get m q ≡ get n q)
     → (q : Path) → touches o q ≡ true → get (paths_after m o) q ≡ get (paths_after n o) q
 agree m n (CreateDirEntry p node rights) same q h =
@@ -205,7 +205,7 @@ apart m (WriteBlock file block start at bytes) d h directory = inl refl
 apart m (SetAttr target rights) d h directory = inl refl
 apart m Say d h directory = inl refl
 
--- and where it leaves one, it made it
+-- and if it leaves one, it made it
 pub made : (m : Paths) (o : MicroOp) (d : Path) → IsLegalThere m o → touches o d ≡ true
     → IsDirectoryAt (paths_after m o) d → creates o d ≡ true
 made m (CreateDirEntry p node rights) d h t directory =
@@ -244,7 +244,7 @@ made m (WriteBlock file block start at bytes) d h t directory = absurd (false≢
 made m (SetAttr target rights) d h t directory = absurd (false≢true t)
 made m Say d h t directory = absurd (false≢true t)
 
--- what stands somewhere after it has had a directory above it
+-- what is at a path after it had a directory above it
 pub above : (m : Paths) (o : MicroOp) → IsLegalThere m o → AreNested m → (q : Path) (e : Node)
     → get (paths_after m o) q ≡ Some e → q ≢ [] → IsDirectoryAt m (parent_path q)
 above m o h nested q e is named = ⊎_elim

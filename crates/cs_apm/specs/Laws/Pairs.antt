@@ -52,7 +52,7 @@ listed o p n =
         absurd (let low = h.1 in omega (arith, low))
     touched_listed Say h = h
 
--- what stands in a list of one
+-- what is in a list of one
 pub only_one : (q p : Path) (k : ℕ) → k < 1 → get_or (q ∷ []) k p ≡ p → q ≡ p
 only_one q p zero low is = is
 only_one q p (suc k) low is = absurd (omega (arith, low))

@@ -1,5 +1,5 @@
--- What stands at a path after a set's operations: what stood there after the last of them that
--- touches it.
+-- What is at a path after a set's operations: what was there after the last of them that touches
+-- it.
 use Rattle.std.proofs.Common.{◌≡◌, ◌≢◌, ℕ, zero, suc, ◌<◌, ◌≤◌, Bool, true, false, cond, ◌&&◌, List}
 use Rattle.std.proofs.Common.{◌⊎◌, inl, inr, refl, sym, ap, ◌∙◌, subst, arith, ⊎_elim}
 use Rattle.std.proofs.lemmas.Bool.{cases_eq, false≢true, cases_Bool, and_parts}
@@ -20,7 +20,7 @@ abbrev pub cut : List MicroOp → (ℕ → Bool) → Path → ℕ → ℕ
 cut ops has p zero = 0
 cut ops has p (suc k) = cond (has k && touches (op_at ops k) p) (suc k) (cut ops has p k)
 
--- where the cut is not the front, the operation before it is the set's and touches p
+-- if the cut is not 0, the operation before it is in the set and touches p
 pub record IsCutBy (ops : List MicroOp) (has : ℕ → Bool) (p : Path) (k c : ℕ) : Type 0 where
   pub place : ℕ
   pub next : c ≡ suc place

@@ -1,5 +1,5 @@
--- The entries at a trace's start stand where its nodes do; and the state of each allowed set is a
--- tree.
+-- The entries at a trace's start are at the paths of its nodes; and the state of each allowed set
+-- is a tree.
 use Rattle.std.proofs.Common.{◌≡◌, ℕ, cond, List, [], ◌∷◌, Some, refl, sym, ap, ◌∙◌, subst, map}
 use Rattle.std.proofs.Common.{length}
 use Rattle.std.specs.FinMap.{find, get-from_entries, same_map}

@@ -87,7 +87,7 @@ abbrev pub node_of : Entry → Node
 node_of (Directory rights) = nodes.Directory
 node_of (File file) = nodes.File file
 
--- what stands at each path, by its node
+-- what is at each path, by its node
 abbrev pub nodes_in : Entries → Paths
 nodes_in m = map_values node_of m
 
@@ -121,7 +121,7 @@ nodes_removed m p =
     ∙ sym (get-remove path_total (nodes_in m) p q ∙ ap (cond (is_eq (path_cmp q p)) None)
     (get_nodes m q)))
 
--- what stands somewhere already is put there again
+-- what is at a path already is put there again
 again : (m : Paths) (p : Path) (n : Node) → get m p ≡ Some n → insert m p n ≡ m
 again m p n there =
     same_map path_total path_exact (insert m p n) m (λ q. get-insert path_total m p n q ∙ at q)

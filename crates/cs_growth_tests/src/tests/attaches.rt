@@ -45,8 +45,7 @@ fn finds(rt: &impl Abort, alloc: Global, world: &mut World) -> bool {
     matches!(reply, cs_world::Reply::Connection(Reply::Found))
 }
 
-/// Attaches to the run that was found, with no byte left: whether that is refused for want of
-/// memory.
+/// Attaches to the run that was found with no byte left, and returns whether that is out of memory.
 fn is_refused(rt: &impl Abort, alloc: Global, hoard: &mut Hoard, world: &mut World) -> bool {
     hoard.close(alloc, 0).expect(rt, "memory");
     let reply = world.step(alloc, taken(ConnectionStep::Attach));
@@ -65,7 +64,7 @@ fn refusals(rt: &impl Abort, alloc: Global, hoard: &mut Hoard, world: &mut World
     refused
 }
 
-/// The same, and what the next find is told.
+/// Has 64 attaches refused: how many were, and the reply to the next find.
 fn spend(rt: &impl Abort, alloc: Global, hoard: &mut Hoard) -> String {
     let mut world = start_world(alloc).expect(rt, "a world");
     world.step(alloc, begin(rt, alloc));

@@ -18,7 +18,7 @@ pub enum Word {
     Attach,
     /// To `/d/s`.
     Walk,
-    /// Its bytes are cut.
+    /// It empties the file.
     Open,
     /// `/new`.
     Create,
@@ -148,7 +148,7 @@ fn attach(alloc: Global) -> Option<Call<'static>> {
     Some(Call::Attach(AttachCall { user }))
 }
 
-/// The call that a word stands for.
+/// The call that a word means.
 pub fn call_of(alloc: Global, word: Word) -> Option<Call<'static>> {
     let ann = user(alloc, b"ann")?;
     match word {
@@ -167,7 +167,7 @@ pub fn call_of(alloc: Global, word: Word) -> Option<Call<'static>> {
     }
 }
 
-/// Adds the bytes of a read, and where the next read of the directory goes on.
+/// Adds the bytes of a read, and the place of the next read of the directory.
 pub fn push_data(text: &mut String, data: Data) -> Option<()> {
     let (bytes, place) = data.into_parts();
     push_bytes(text, &bytes)?;
@@ -187,8 +187,8 @@ fn push_stat(text: &mut String, stat: &Stat) -> Option<()> {
     write!(text, " {mode:o} {length} {} {}", stat.atime, stat.mtime).ok()
 }
 
-/// Adds an answer. The texts in it are told as they are, which takes no memory. The number of an
-/// open is left out: a call that was refused before may count.
+/// Adds an answer. Its texts are added as they are, without allocating. The number of an open is
+/// left out: a call that was refused before may count.
 pub fn push_answer(text: &mut String, answer: Answer) -> Option<()> {
     match answer {
         Answer::Opened { qid, number, .. } => write!(text, "open {qid:?} {number}").ok(),

@@ -61,7 +61,7 @@ fn copied(alloc: Global, given: &Given) -> Result<Given, AllocError> {
     })
 }
 
-/// What is copied, and stays as it is.
+/// What is copied; the original stays as it is.
 #[derive(Drop)]
 struct Kept {
     given: Given,
@@ -113,8 +113,8 @@ const NO_GROWTH: [Row<Word>; 4] = [
     Row("cs_session TableStep::try_clone", Word::HangUp),
 ];
 
-/// Copies of messages and of a version. That of a walk by no name, of an open, of a read and of a
-/// hang-up meets no growth.
+/// Copies of messages and of a version. Copies of a walk by no name, an open, a read and a hang-up
+/// need no growth.
 #[test]
 fn what_is_copied_stays_as_it_was(rt: HostRuntime) {
     expect_swept::<Word, Kept>(&rt, &ROWS);

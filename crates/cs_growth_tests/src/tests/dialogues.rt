@@ -27,7 +27,7 @@ pub const CREATES: &str = r#"0 version 8192 9P2000 => Rversion tag 1 msize 8192 
 0 create 3 sub dir:777 0 => Rcreate tag 1 qid (80 0 9) iounit 0
 "#;
 
-/// A remove on close by a hang-up, and who may ask for one.
+/// A remove on close by a hang-up, and the users that may ask for one.
 pub const REMOVES: &str = r#"0 version 8192 9P2000 => Rversion tag 1 msize 8192 version "9P2000"
 0 attach 0 ann 0/x => Rattach tag 1 qid (80 0 0)
 1 version 8192 9P2000 => Rversion tag 1 msize 8192 version "9P2000"
@@ -60,7 +60,7 @@ pub const WSTATS: &str = r#"0 version 8192 9P2000 => Rversion tag 1 msize 8192 v
 0 wstat 1 name=g,mode=600,length=2 => Rwstat tag 1
 "#;
 
-/// A run that two share, beside another; and a remove of an open fid.
+/// A run that two clients share, next to another run; and a remove of an open fid.
 pub const SHARED: &str = r#"0 version 8192 9P2000 => Rversion tag 1 msize 8192 version "9P2000"
 0 attach 0 ann 0/a => Rattach tag 1 qid (80 0 0)
 0 walk 0 1 f => Rwalk tag 1 wqid [(00 0 4)]

@@ -1,4 +1,4 @@
-//! An open that removes its file on close, whose removal is refused: the open is released, and the
+//! An open with remove on close, whose removal runs out of memory: the open is released, and the
 //! file stays.
 
 use super::scene::start_world;
@@ -17,8 +17,8 @@ const BEFORE: &str = r#"0 version 8192 9P2000 => Rversion tag 1 msize 8192 versi
 1 attach 0 ann 0/x => Rattach tag 1 qid (80 0 0)
 "#;
 
-/// How that open ends: a dialogue where the removal is refused in the first line, and the same
-/// where it is not.
+/// How that open ends: a dialogue in which the removal runs out of memory in the first line, and
+/// the same without that.
 struct Ending(&'static str, &'static str);
 
 const ENDINGS: [Ending; 3] = [
@@ -61,7 +61,7 @@ fn begin(rt: &impl Abort, alloc: Global, world: &mut World) {
     assert!(rt; told.as_str() == BEFORE, "{told}");
 }
 
-/// A dialogue with its replies, where the first line is asked with so many bytes left.
+/// A dialogue with its replies, with so many bytes left for the first line.
 fn told(rt: &impl Abort, alloc: Global, hoard: &mut Hoard, dialogue: &str, bytes: usize) -> String {
     let mut world = start_world(alloc).expect(rt, "a world");
     begin(rt, alloc, &mut world);
@@ -77,7 +77,7 @@ fn told(rt: &impl Abort, alloc: Global, hoard: &mut Hoard, dialogue: &str, bytes
     text
 }
 
-/// How often the removal is refused, with no byte left and then 16 more each time.
+/// How often the removal runs out of memory, with no byte left and then 16 more each time.
 fn refusals(rt: &(impl Abort + AllocGlobal), hoard: &mut Hoard, ending: &Ending) -> usize {
     for count in 0..1000usize {
         let told = told(rt, rt.alloc(), hoard, ending.0, count * 16);
@@ -90,9 +90,9 @@ fn refusals(rt: &(impl Abort + AllocGlobal), hoard: &mut Hoard, ending: &Ending)
     0
 }
 
-/// ann has `/f` open with 0x41, and the removal is refused: in a clunk, `out of memory`, and the
-/// second is N1; in a hang-up, Closed; in a Tremove, `out of memory`, and the second is M1. Each
-/// time a walk to `f` gives number 4, vers 0, until the removal has its memory.
+/// ann has `/f` open with 0x41, and the removal runs out of memory: in a clunk, `out of memory`,
+/// and the second clunk is N1; in a hang-up, Closed; in a Tremove, `out of memory`, and the second
+/// is M1. Each time a walk to `f` gives number 4, vers 0, until there is memory for the removal.
 #[test]
 fn a_removal_that_is_refused_releases_the_open_and_leaves_the_file(rt: HostRuntime) {
     let mut hoard = Hoard::new(rt.alloc()).expect(&rt, "memory");

@@ -11,7 +11,7 @@ use std::alloc::Global;
 enum Call {
     CloneFid,
     ClonePlace,
-    /// Room for one fid more, where there are so many.
+    /// Room for one more fid in a table of so many.
     Reserve(u32),
 }
 
@@ -27,7 +27,7 @@ fn fid(alloc: Global, number: u64) -> Option<Fid<Walked>> {
     Some(Fid::new(1, 2, number, user(alloc, b"ann")?))
 }
 
-/// Has each number below the count stand for a fid.
+/// Makes a fid of each number below the count.
 fn put_each(alloc: Global, table: &mut FidTable, count: u32) -> Option<()> {
     for number in 0..count {
         table.reserve().ok()?;
@@ -40,7 +40,7 @@ fn put_each(alloc: Global, table: &mut FidTable, count: u32) -> Option<()> {
     Some(())
 }
 
-/// What a call answers that only memory can refuse.
+/// The end of a call that fails only if memory runs out.
 fn answered<T: Drop, E: Drop>(answer: Result<T, E>) -> Option<End<()>> {
     match answer {
         Ok(_) => Some(End::Done(())),
@@ -114,7 +114,7 @@ const ROWS: [Row<Call>; 5] = [
     Row("cs_fids FidTable::reserve", Call::Reserve(16)),
 ];
 
-/// A copy of a fid and of a place; room for one fid more among 0, 4 and 16.
+/// A copy of a fid and of a place; room for one more fid next to 0, 4 and 16.
 #[test]
 fn a_table_of_fids_stays_as_it_was(rt: HostRuntime) {
     expect_swept::<Call, Kept>(&rt, &ROWS);

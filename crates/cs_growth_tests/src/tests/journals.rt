@@ -65,7 +65,7 @@ impl Kept {
         Some(self.run.step(alloc, &mut self.pass, 7, call))
     }
 
-    /// Makes the calls that come before.
+    /// Makes the calls before the one that is swept.
     fn begin(&mut self, alloc: Global, kind: Kind) -> Option<()> {
         match kind {
             Kind::Answer(_) => {
@@ -157,8 +157,8 @@ impl Subject for Kept {
         }
     }
 
-    /// Asks of each file, and for the bytes of `/f` and the entries of the root. How many entries
-    /// there are isn't told: a call that is short of memory has one.
+    /// Adds each file's stat, the bytes of `/f` and the entries of the root. The journal's entries
+    /// aren't counted: a call that runs out of memory may have one.
     fn tell(&mut self, alloc: Global, told: &mut String) -> Option<()> {
         for number in 0..8u64 {
             self.push(alloc, stat(number), told)?;
@@ -204,8 +204,8 @@ const CHANGES: [Row<Kind>; 7] = [
 
 const NO_GROWTH: [Row<Kind>; 1] = [Row("cs_journal Run::step", Kind::Step(Word::ClosePlainly))];
 
-/// The same on a run with a journal, a pass, and the answer of an entry. A close without remove on
-/// close, whose open stands, meets no growth at all.
+/// Calls that change nothing on a run with a journal, a pass, and the answer of an entry. A close
+/// without remove on close, whose open is there, needs no growth at all.
 #[test]
 fn a_run_that_is_looked_at_stays_as_it_was(rt: HostRuntime) {
     expect_swept::<Kind, Kept>(&rt, &PASSES);
@@ -213,8 +213,7 @@ fn a_run_that_is_looked_at_stays_as_it_was(rt: HostRuntime) {
     expect_no_growth::<Kind, Kept>(&rt, &NO_GROWTH);
 }
 
-/// The same on a run with a journal, a pass, and the answer of an entry. A close without remove on
-/// close, whose open stands, meets no growth at all.
+/// Calls that change a run with a journal.
 #[test]
 fn a_run_stays_as_it_was(rt: HostRuntime) {
     expect_swept::<Kind, Kept>(&rt, &CHANGES);

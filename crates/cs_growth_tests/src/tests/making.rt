@@ -1,4 +1,5 @@
-//! Calls that make a tree: of records, of an overlay that changes no more, and over a lower tree.
+//! Calls that make a tree: from records, from an overlay that won't change again, and over a lower
+//! tree.
 
 use super::rows::{Row, expect_swept};
 use super::shown::push_tree;
@@ -16,13 +17,13 @@ use std::sync::Arc;
 
 #[derive(Clone, Copy)]
 enum Call {
-    /// Of the root alone.
+    /// Of the root only.
     Root,
     /// Of the records of the start tree.
     Records,
     /// Of an overlay over the start tree.
     Freeze,
-    /// A write into an overlay over the start tree, beside another over it.
+    /// A write into an overlay over the start tree, with another overlay over it.
     Over,
 }
 
@@ -67,7 +68,7 @@ fn give(alloc: Global, call: Call) -> Option<Given> {
     })
 }
 
-/// The tree of a root with these names. Its list of one record is made of memory too.
+/// The tree of a root with these names. Its list of one record is allocated too.
 fn of_root(alloc: Global, owner: UserName, group: UserName, muid: UserName) -> Option<PlainTree> {
     let root = Record {
         number: 0,
@@ -104,7 +105,7 @@ impl Maker {
         }
     }
 
-    /// After a refusal the overlay is given once more, as it came back.
+    /// After a refusal the overlay is given again, as it came back.
     fn freeze(&mut self, alloc: Global, tree: Overlay<PlainTree>) -> Option<End<()>> {
         match tree.freeze(alloc) {
             Ok(lower) => self.keep(Some(Made::Frozen(lower))),

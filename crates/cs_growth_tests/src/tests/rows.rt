@@ -7,10 +7,10 @@ use std::process::Abort;
 #[derive(Clone, Copy)]
 pub struct Row<C>(pub &'static str, pub C);
 
-/// As few bytes as malloc gives.
+/// The least number of bytes that malloc gives.
 pub const FEW: usize = 16;
 
-/// Makes the call of each row with its growths refused in turn, of which there is one at least.
+/// Makes the call of each row with its growths refused in turn; it must have at least one.
 pub fn expect_swept<C, S: Subject<Row = Row<C>>>(rt: &(impl Abort + AllocGlobal), rows: &[Row<C>]) {
     let mut hoard = Hoard::new(rt.alloc()).expect(rt, "memory");
     for (place, row) in rows.iter().enumerate() {
@@ -22,7 +22,7 @@ pub fn expect_swept<C, S: Subject<Row = Row<C>>>(rt: &(impl Abort + AllocGlobal)
     }
 }
 
-/// The same of calls that meet no growth.
+/// Makes the call of each row, which must need no growth.
 pub fn expect_no_growth<C, S: Subject<Row = Row<C>>>(
     rt: &(impl Abort + AllocGlobal),
     rows: &[Row<C>],

@@ -18,7 +18,7 @@ enum Kind {
     Step(Word),
     /// What a walk does, or a read, without a run.
     Alone(Word),
-    /// Room for one open more.
+    /// Room for one more open.
     Reserve,
 }
 
@@ -33,7 +33,7 @@ struct Kept {
 
 type Tree = Overlay<PlainTree>;
 
-/// What a call answered.
+/// The answer to a call.
 #[derive(Drop)]
 enum Told {
     Nothing,
@@ -167,8 +167,9 @@ const NO_GROWTH: [Row<Kind>; 2] = [
     Row("cs_run CountedRun::step", Kind::Step(Word::ClosePlainly)),
 ];
 
-/// Each call that takes memory on a run without a journal; a close that would remove its file has
-/// released the open, and the file stays. An attach and a plain close meet no growth.
+/// Each call that needs memory on a run without a journal. After a refusal of a close that would
+/// remove its file the open is released, and the file stays. An attach and a plain close need no
+/// growth.
 #[test]
 fn a_tree_stays_as_it_was(rt: HostRuntime) {
     expect_swept::<Kind, Kept>(&rt, &ROWS);

@@ -1,4 +1,4 @@
-//! The calls of a connection, over a port that takes no memory.
+//! The calls of a connection, over a port that allocates nothing.
 
 use super::messages::{attach, create, open, read, text, walk, write, wstat};
 use super::rows::{Row, expect_no_growth, expect_swept};
@@ -33,14 +33,14 @@ enum Word {
     HangUp,
 }
 
-/// The qid that each attach and open is answered.
+/// The qid in the answer to each attach and open.
 const QID: Qid = Qid {
     kind: 0,
     vers: 4,
     path: 3,
 };
 
-/// Answers each call by its kind.
+/// Answers each call according to its kind.
 #[derive(Drop)]
 struct Fake;
 
@@ -100,7 +100,7 @@ fn give(alloc: Global, word: Word) -> Option<Given> {
     }))
 }
 
-/// What a step or a message was answered.
+/// The answer to a step or a message.
 #[derive(Drop)]
 enum Told {
     Nothing,
@@ -229,7 +229,7 @@ impl Subject for Kept {
         }
     }
 
-    /// Asks what each fid is: one that there isn't fails another rule, and so does one that is
+    /// Asks what each fid is: one that doesn't exist fails another rule, and so does one that is
     /// open.
     fn tell(&mut self, alloc: Global, told: &mut String) -> Option<()> {
         write!(told, "{:?}", self.session.msize()).ok()?;
@@ -272,7 +272,7 @@ const NO_GROWTH: [Row<Word>; 6] = [
     Row("cs_session Session::hang_up", Word::HangUp),
 ];
 
-/// Steps and messages of a connection over a port that takes no memory.
+/// Steps and messages of a connection over a port that allocates nothing.
 #[test]
 fn a_connection_stays_as_it_was(rt: HostRuntime) {
     expect_swept::<Word, Kept>(&rt, &ROWS);

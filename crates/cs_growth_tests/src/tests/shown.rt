@@ -3,7 +3,7 @@
 use cs_tree_model::{Metadata, TreeRead, path_of};
 use std::alloc::Global;
 
-/// Adds how many bytes there are, and each that isn't zero behind its place.
+/// Adds how many bytes there are, and each byte that isn't zero, after its place.
 pub fn push_bytes(text: &mut String, bytes: &[u8]) -> Option<()> {
     write!(text, " {} bytes", bytes.len()).ok()?;
     for (place, byte) in bytes.iter().enumerate() {

@@ -211,7 +211,7 @@ impl<T: Store> Subject for Kept<T> {
     }
 }
 
-/// A removal from a plain tree takes no memory.
+/// A removal from a plain tree needs no memory.
 const OF_PLAIN: [Row<Call>; 6] = [
     Row("cs_tree PlainTree::read_at", Call::Read),
     Row("cs_tree PlainTree::add", Call::Add),

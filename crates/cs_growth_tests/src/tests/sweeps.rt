@@ -1,5 +1,5 @@
-//! Messages of which a growth is refused, each in its turn: want of memory is told, nothing has
-//! changed, and the same message again has its reply. A clunk or a remove has freed its fid.
+//! Messages with each growth refused in turn: the reply is out of memory, nothing has changed, and
+//! the same message again has its usual reply. A clunk or a remove has freed its fid.
 
 use super::dialogues::{CREATES, FIRST, REMOVES, SHARED, WSTATS};
 use super::rows::FEW;
@@ -22,7 +22,7 @@ impl Row {
         self.dialogue.lines().nth(self.place)
     }
 
-    /// Asks what the lines before it ask.
+    /// Sends what the lines before it ask.
     fn replay(&self, alloc: Global, world: &mut World) -> Option<()> {
         for line in self.dialogue.lines().take(self.place) {
             let asked = asked_by(alloc, line)?;
@@ -53,13 +53,13 @@ struct Kept {
     shows_fids: bool,
 }
 
-/// The paths that dialogues speak of.
+/// The paths in the dialogues.
 const PATHS: [&str; 7] = ["f", "g", "d", "d/new", "p", "p/new", "p/sub"];
 
-/// Asked of what is at a path, behind a walk to it as the fid 9.
+/// Messages about the file at a path, after a walk to it as fid 9.
 const FILE: [&str; 4] = ["stat 9", "open 9 0", "read 9 0 512", "clunk 9"];
 
-/// Asked of the fids that dialogues make.
+/// Messages about the fids that dialogues make.
 const FIDS: [&str; 6] = [
     "stat 1",
     "read 1 0 1",
@@ -69,7 +69,7 @@ const FIDS: [&str; 6] = [
     "read 3 0 1",
 ];
 
-/// Adds what a connection is told.
+/// Adds the reply that a connection gets.
 fn push_answers(
     alloc: Global,
     world: &mut World,
@@ -166,8 +166,7 @@ fn push_unmet(rt: &(impl Abort + AllocGlobal), hoard: &mut Hoard, unmet: &mut St
     unmet.push('\n').expect(rt, "memory");
 }
 
-/// Sends each message of a dialogue with its growths refused in turn. Those that meet none are
-/// told.
+/// Sends each message of a dialogue with its growths refused in turn. Returns those that need none.
 fn expect_refused(rt: &(impl Abort + AllocGlobal), dialogue: &'static str, wanted: &str) {
     let mut hoard = Hoard::new(rt.alloc()).expect(rt, "memory");
     let mut unmet = String::new(rt.alloc());
@@ -178,10 +177,10 @@ fn expect_refused(rt: &(impl Abort + AllocGlobal), dialogue: &'static str, wante
     assert!(rt; unmet.as_str() == wanted, "{unmet}");
 }
 
-/// Version, attach, walk, open, read, stat. The clunk of the open fid meets no growth.
+/// Version, attach, walk, open, read, stat. The clunk of the open fid needs no growth.
 #[test]
 fn the_first_exchange_is_answered_out_of_memory(rt: HostRuntime) {
-    // The close of an open that stands, and doesn't remove its file.
+    // the close of an open that is there and doesn't remove its file
     expect_refused(&rt, FIRST, "0 clunk 1 => Rclunk tag 1\n");
 }
 
@@ -206,8 +205,8 @@ fn wstats_are_answered_out_of_memory(rt: HostRuntime) {
 }
 
 /// ann writes `HI` in run `0/a`. bob reads `hello` in `0/b`, and cat `HIllo` in `0/a`. ann removes
-/// `/f` by her open fid: after a refusal the second Tremove is M1. cat's clunk, of what is gone,
-/// meets no growth.
+/// `/f` by her open fid: after a refusal the second Tremove is M1. cat's clunk of a file that is
+/// gone needs no growth.
 #[test]
 fn those_who_share_a_run_are_answered_out_of_memory(rt: HostRuntime) {
     expect_refused(&rt, SHARED, "2 clunk 1 => Rclunk tag 1\n");

@@ -1,4 +1,4 @@
-//! Dialogues with a world. Each line has what is asked, an arrow, and the reply. What is asked is a
+//! Dialogues with a world. Each line has a request, an arrow, and the reply. A request is a
 //! connection's number, and a message in words or `hangup`.
 
 use cs_session::Reply;
@@ -15,14 +15,14 @@ pub struct Asked {
     message: Option<Vec<u8>>,
 }
 
-/// What it is told.
+/// The reply to it.
 #[derive(Drop)]
 pub enum Told {
     Reply(RMessage),
     Closed(Reply),
 }
 
-/// What words ask for.
+/// The request that words mean.
 pub fn asked_in(alloc: Global, asked: &str) -> Option<Asked> {
     let (conn, words) = asked.split_once(' ')?;
     let conn = conn.parse::<u32>().ok()?;
@@ -39,13 +39,13 @@ pub fn asked_in(alloc: Global, asked: &str) -> Option<Asked> {
     })
 }
 
-/// What a line asks by the words before its arrow.
+/// The request of a line: the words before its arrow.
 pub fn asked_by(alloc: Global, line: &str) -> Option<Asked> {
     let (asked, _) = line.split_once(" => ")?;
     asked_in(alloc, asked)
 }
 
-/// Asks it of the world. A message is answered in no memory but what the world takes.
+/// Sends the request to the world. A reply needs no memory but the world's.
 pub fn ask(alloc: Global, world: &mut World, asked: &Asked) -> Option<Told> {
     if asked.conn >= 64 {
         return None;
@@ -69,7 +69,7 @@ pub fn tells_memory(told: &Told) -> bool {
     }
 }
 
-/// Adds a reply, that to a read with its bytes.
+/// Adds a reply; a read's with its bytes.
 fn push_reply(text: &mut String, reply: &RMessage) -> Option<()> {
     write!(text, "{reply}").ok()?;
     if let RBody::Read { data } = &reply.body {
@@ -85,21 +85,21 @@ pub fn push_told(text: &mut String, told: &Told) -> Option<()> {
     }
 }
 
-/// Adds what words ask for, an arrow, what it is told, and a line feed.
+/// Adds a line: the request, an arrow, and the reply.
 pub fn push_line(text: &mut String, asked: &str, told: &Told) -> Option<()> {
     write!(text, "{asked} => ").ok()?;
     push_told(text, told)?;
     text.push('\n').ok()
 }
 
-/// Asks what words ask for, and adds the line.
+/// Sends the request that words mean, and adds its line.
 pub fn push_asked(alloc: Global, world: &mut World, text: &mut String, words: &str) -> Option<()> {
     let asked = asked_in(alloc, words)?;
     let told = ask(alloc, world, &asked)?;
     push_line(text, words, &told)
 }
 
-/// Adds a dialogue with what its lines are told.
+/// Adds a dialogue with the replies to its lines.
 pub fn push_dialogue(
     alloc: Global,
     world: &mut World,

@@ -91,7 +91,7 @@ fn before(alloc: Global, word: Word) -> Option<Vec<Step>> {
     Some(steps)
 }
 
-/// What a word's call is given.
+/// The input of a word's call.
 #[derive(Drop)]
 enum Given {
     /// The walk's bytes.
@@ -124,7 +124,7 @@ fn give(alloc: Global, word: Word) -> Option<Given> {
     }))
 }
 
-/// What a call answered.
+/// The answer to a call.
 #[derive(Drop)]
 enum Told {
     Nothing,
@@ -152,7 +152,7 @@ fn end_of(reply: Reply) -> Option<End<Told>> {
     Some(End::Done(Told::Reply(reply)))
 }
 
-/// None of the steps takes memory.
+/// None of the steps needs memory.
 fn end_of_all(replies: Vec<Reply>) -> Option<End<Told>> {
     for reply in &replies {
         if reply.says_out_of_memory() {
@@ -205,7 +205,7 @@ impl Kept {
 }
 
 impl Kept {
-    /// After a refusal the steps are given once more, as they came back.
+    /// After a refusal the steps are given again, as they came back.
     fn run(&mut self, alloc: Global, steps: Vec<Step>) -> Option<End<Told>> {
         match self.world.run(alloc, steps) {
             Ok(replies) => end_of_all(replies),
@@ -279,7 +279,7 @@ impl Subject for Kept {
 
     fn spent(row: &Row<Word>, said: &str) -> Option<bool> {
         match row.1 {
-            // the find counts, and is awaited no more
+            // the find counts, and is no longer awaited
             Word::Attach => Some(said == "Connection(Error(S5))"),
             _ => None,
         }
@@ -300,9 +300,9 @@ const ROWS: [Row<Word>; 9] = [
 
 const NO_GROWTH: [Row<Word>; 1] = [Row("cs_world World::hang_up", Word::HangUp)];
 
-/// Steps of a world; a message; a list of steps, for whose replies memory is wanting before any
-/// step; a projection. An attach that is refused is awaited no more. A hang-up with nothing open
-/// meets no growth.
+/// Steps of a world; a message; a list of steps, for whose replies memory runs out before any step;
+/// a projection. A refused attach is no longer awaited. A hang-up with nothing open needs no
+/// growth.
 #[test]
 fn a_world_stays_as_it_was(rt: HostRuntime) {
     expect_swept::<Word, Kept>(&rt, &ROWS);

@@ -5,7 +5,7 @@ use cs_run::{Answer, Data, Walk};
 use cs_wire::Stat;
 use std::process::Abort;
 
-/// Adds how far a walk came: the qids as `number.version`, and the rule that stopped it, if any.
+/// Adds how far a walk got: the qids as `number.version`, and the rule that stopped it, if any.
 fn push_walk(rt: &impl Abort, text: &mut String, walk: &Walk) {
     write!(text, "at {}:", walk.last()).expect(rt, "memory");
     for qid in walk.qids() {
@@ -17,7 +17,7 @@ fn push_walk(rt: &impl Abort, text: &mut String, walk: &Walk) {
     }
 }
 
-/// Adds what a stat tells: name, mode, version, length, mtime, owner, group and muid.
+/// Adds the fields of a stat: name, mode, version, length, mtime, owner, group and muid.
 fn push_stat(rt: &impl Abort, text: &mut String, stat: &Stat) {
     write!(
         text,
@@ -29,8 +29,8 @@ fn push_stat(rt: &impl Abort, text: &mut String, stat: &Stat) {
     write!(text, " of {} {} by {}", stat.uid, stat.gid, stat.muid).expect(rt, "memory")
 }
 
-/// Adds what a read gives: bytes of a file between quotes, or how many bytes of entries, and keeps
-/// the new place.
+/// Adds the result of a read: bytes of a file between quotes, or how many bytes of entries; and
+/// keeps the new place.
 fn push_given(rt: &impl Abort, text: &mut String, data: Data, place: &mut Place) {
     let (bytes, next) = data.into_parts();
     let Some(next) = next else {

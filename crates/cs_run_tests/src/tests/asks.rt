@@ -1,4 +1,4 @@
-//! Calls by their words.
+//! Calls written in words.
 
 use cs_fids::Place;
 use cs_names::{Name, Text, Texts, UserName};
@@ -10,8 +10,8 @@ use cs_wire::{Qid, Stat};
 use std::alloc::Global;
 use std::process::Abort;
 
-/// The first word, and those behind it.
-pub fn cut(words: &str) -> (&str, &str) {
+/// The first word, and the words after it.
+pub fn split_word(words: &str) -> (&str, &str) {
     words.split_once(' ').unwrap_or((words, ""))
 }
 
@@ -28,8 +28,8 @@ fn mode_of(word: &str) -> Option<u8> {
     u8::from_str_radix(word, 16).ok()
 }
 
-/// Permissions: octal digits, with `dir:`, `append:` or `excl:` before them where it is no plain
-/// file (stat(5)).
+/// Permissions: octal digits, after `dir:`, `append:` or `excl:` if it isn't a plain file
+/// (stat(5)).
 fn perm_of(word: &str) -> Option<u32> {
     let (bit, digits) = match word.split_once(':') {
         Some(("dir", digits)) => (0x8000_0000, digits),
@@ -61,7 +61,7 @@ fn names_of(rt: &impl Abort, alloc: Global, text: &str) -> Texts {
 
 /// From a file, by these names.
 fn walk(rt: &impl Abort, alloc: Global, user: UserName, words: &str) -> Call<'static> {
-    let (file, names) = cut(words);
+    let (file, names) = split_word(words);
     let number = number(file).expect(rt, "a value");
     let names = names_of(rt, alloc, names);
     Call::Walk(WalkCall {
@@ -73,7 +73,7 @@ fn walk(rt: &impl Abort, alloc: Global, user: UserName, words: &str) -> Call<'st
 
 /// The file and the mode.
 fn open(rt: &impl Abort, user: UserName, words: &str) -> Call<'static> {
-    let (file, mode) = cut(words);
+    let (file, mode) = split_word(words);
     let (number, mode) = (
         number(file).expect(rt, "a value"),
         mode_of(mode).expect(rt, "a value"),
@@ -83,9 +83,9 @@ fn open(rt: &impl Abort, user: UserName, words: &str) -> Call<'static> {
 
 /// The directory, the name, the permissions and the mode.
 fn create(rt: &impl Abort, alloc: Global, user: UserName, words: &str) -> Call<'static> {
-    let (file, words) = cut(words);
-    let (name, words) = cut(words);
-    let (perm, mode) = cut(words);
+    let (file, words) = split_word(words);
+    let (name, words) = split_word(words);
+    let (perm, mode) = split_word(words);
     let (number, perm, mode) = (
         number(file).expect(rt, "a value"),
         perm_of(perm).expect(rt, "a value"),
@@ -101,10 +101,10 @@ fn create(rt: &impl Abort, alloc: Global, user: UserName, words: &str) -> Call<'
     })
 }
 
-/// The file, the offset and the count; it goes on from a place.
+/// A read by the words for file, offset and count, which continues from a place.
 fn read(rt: &impl Abort, words: &str, place: &Place) -> Call<'static> {
-    let (file, words) = cut(words);
-    let (offset, count) = cut(words);
+    let (file, words) = split_word(words);
+    let (offset, count) = split_word(words);
     let (number, offset, count) = (
         number(file).expect(rt, "a value"),
         number(offset).expect(rt, "a value"),
@@ -121,8 +121,8 @@ fn read(rt: &impl Abort, words: &str, place: &Place) -> Call<'static> {
 
 /// The file, the offset and the bytes.
 fn write(rt: &impl Abort, alloc: Global, user: UserName, words: &str) -> Call<'static> {
-    let (file, words) = cut(words);
-    let (offset, text) = cut(words);
+    let (file, words) = split_word(words);
+    let (offset, text) = split_word(words);
     let (number, offset) = (
         number(file).expect(rt, "a value"),
         number(offset).expect(rt, "a value"),
@@ -154,7 +154,7 @@ fn remove(rt: &impl Abort, user: UserName, words: &str) -> Call<'static> {
 
 /// The file, of a fid that is open, and the number of the open.
 fn remove_open(rt: &impl Abort, user: UserName, words: &str) -> Call<'static> {
-    let (file, open_number) = cut(words);
+    let (file, open_number) = split_word(words);
     let (number, open_number) = (
         number(file).expect(rt, "a value"),
         short(open_number).expect(rt, "a value"),
@@ -232,14 +232,14 @@ fn stat_of(rt: &impl Abort, alloc: Global, changes: &str) -> Stat {
 
 /// The file and the changes.
 fn wstat(rt: &impl Abort, alloc: Global, user: UserName, words: &str) -> Call<'static> {
-    let (file, changes) = cut(words);
+    let (file, changes) = split_word(words);
     let number = number(file).expect(rt, "a value");
     let stat = SentStat::new(stat_of(rt, alloc, changes));
     Call::Wstat(WstatCall { number, user, stat })
 }
 
-/// The call that words ask for, of that user: a word, and what its function takes. A read goes on
-/// from that place. Numbers are those of files, and of a close that of the open.
+/// The user's call that the words mean: a word, and what its function takes. A read continues from
+/// that place. Numbers are those of files, for a close that of the open.
 pub fn call_of(
     rt: &impl Abort,
     alloc: Global,
@@ -247,7 +247,7 @@ pub fn call_of(
     words: &str,
     place: &Place,
 ) -> Call<'static> {
-    let (word, words) = cut(words);
+    let (word, words) = split_word(words);
     let user = UserName::read(alloc, user.as_bytes()).expect(rt, "a value");
     match word {
         "attach" => attach(rt, alloc, user),

@@ -1,6 +1,6 @@
-//! Whether the journal of a run is the one that its users were answered from.
+//! Audits: whether the journal of a run agrees with the answers that its users got.
 
-use super::asks::cut;
+use super::asks::split_word;
 use super::side::{attach, call_of, run, stat};
 use cs_journal::{AuditFault, Pass, Receipt, Run};
 use cs_run::{Answer, Outcome};
@@ -8,7 +8,7 @@ use cs_tree::PlainTree;
 use std::alloc::Global;
 use std::process::Abort;
 
-/// A run, its passes, and what was answered under them, a line each.
+/// A run, its passes, and the answers under them, a line each.
 #[derive(Drop)]
 struct Users {
     run: Run<PlainTree>,
@@ -16,7 +16,7 @@ struct Users {
     told: String,
 }
 
-/// Adds a line with what was answered.
+/// Adds a line with an answer.
 fn push_answer(rt: &impl Abort, told: &mut String, answer: &Answer) {
     write!(told, "{answer:?}\n").expect(rt, "memory")
 }
@@ -56,7 +56,7 @@ impl Users {
     /// Makes calls, a line each: by whom, and what.
     fn make(&mut self, rt: &impl Abort, alloc: Global, calls: &str) {
         for line in calls.lines() {
-            let (user, call) = cut(line);
+            let (user, call) = split_word(line);
             self.call(rt, alloc, if user == "ann" { 0 } else { 1 }, call);
         }
     }
@@ -90,7 +90,7 @@ fn an_audit_tells_the_first_entry_without_its_own_receipt(rt: HostRuntime) {
     assert!(rt; x.run.audit(x.passes.as_slice()) == Err(AuditFault::Count));
 }
 
-/// Adds passes behind others.
+/// Appends passes to others.
 fn push_passes(rt: &impl Abort, passes: &mut Vec<Pass>, more: Vec<Pass>) {
     for pass in more {
         passes.push(pass).expect(rt, "memory");
@@ -100,7 +100,7 @@ fn push_passes(rt: &impl Abort, passes: &mut Vec<Pass>, more: Vec<Pass>) {
 /// A run with as many entries as the passes of two others have receipts.
 const SEVEN: &str = "ann stat\nann stat\nann stat\nann stat\nann stat";
 
-/// By the passes of a run on which ann walked (2), and behind them those of the first run, a run on
+/// By the passes of a run on which ann walked (2), followed by those of the first run, a run on
 /// which she made a stat at 2 and four more is Changed(2): the first pass of her number counts.
 #[test]
 fn an_audit_takes_the_first_pass_of_a_number(rt: HostRuntime) {
@@ -110,7 +110,7 @@ fn an_audit_takes_the_first_pass_of_a_number(rt: HostRuntime) {
     assert!(rt; seven.run.audit(passes.as_slice()) == Err(AuditFault::Changed(2)));
 }
 
-/// What the journal says that was answered, a line each, up to its end.
+/// The answers by the journal, a line each, up to its end.
 fn told_again(rt: &impl Abort, alloc: Global, run: &Run<PlainTree>) -> String {
     let mut told = String::new(alloc);
     for place in 0..run.entries() {
@@ -125,7 +125,7 @@ fn told_again(rt: &impl Abort, alloc: Global, run: &Run<PlainTree>) -> String {
     told
 }
 
-/// Calls of every kind that is kept in a way of its own, some of them denied.
+/// Calls of each kind that is kept in its own way, some of them denied.
 const CALLS: &str = "\
 ann stat
 bob walk
@@ -138,8 +138,8 @@ ann remove 8
 bob stat
 ann close 4";
 
-/// Stats, a walk, opens, writes, a remove and closes, some denied: the journal tells each answer as
-/// it was given, and None behind the last.
+/// Stats, a walk, opens, writes, a remove and closes, some denied: by the journal each answer is
+/// the one that was given, and None after the last.
 #[test]
 fn a_journal_tells_each_answer_again(rt: HostRuntime) {
     let users = after(&rt, CALLS);

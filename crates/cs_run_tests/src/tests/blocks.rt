@@ -11,7 +11,7 @@ struct Row(u64, usize, u8);
 /// A block's bytes; three of the second; and more than the second has left.
 const WRITES: [Row; 3] = [Row(0, 65_536, 1), Row(65_536, 3, 2), Row(65_539, 65_534, 3)];
 
-/// Opens the file, writes, and reads where two writes meet, and where the last ends.
+/// Opens the file, writes, and reads at the border of two writes and at the end of the last.
 fn write_and_read(rt: &impl Abort, alloc: Global, side: &mut Side) {
     let _attached = side.step(alloc, call_of(rt, alloc, "attach"));
     let _opened = side.step(alloc, call_of(rt, alloc, "open 66"));
@@ -27,7 +27,7 @@ fn write_row(rt: &impl Abort, alloc: Global, side: &mut Side, row: &Row) {
     let _written = side.step(alloc, write_of(rt, alloc, row.0, bytes.as_slice()));
 }
 
-/// Whether the call of the entry at the place was answered these bytes.
+/// Whether these bytes were the answer to the call of the entry at that place.
 fn reads(rt: &impl Abort, alloc: Global, side: &Side, place: usize, bytes: &[u8]) -> bool {
     match side.answer_at(rt, alloc, place) {
         Answer::Data(data) => data.bytes() == bytes,

@@ -22,7 +22,7 @@ stat 4
 wstat 4 name=g,mode=600
 ";
 
-/// A place behind an entry of a directory, so that a read has a name to copy.
+/// A place after an entry of a directory, so that a read has a name to copy.
 fn place(rt: &impl Abort, alloc: Global) -> Place {
     let last = Some(Name::read(alloc, b"d").expect(rt, "a value"));
     Place { end: 61, last }
@@ -34,7 +34,7 @@ fn shown(rt: &impl Abort, alloc: Global, call: &Call<'_>) -> String {
     text
 }
 
-/// A call of ann, and its copy, each with all that it says.
+/// A call of ann and its copy, each in full.
 fn with_copy(rt: &impl Abort, alloc: Global, words: &str) -> (String, String) {
     let call = call_of(rt, alloc, "ann", words, &place(rt, alloc));
     let copy = call.try_clone(alloc).expect(rt, "memory");

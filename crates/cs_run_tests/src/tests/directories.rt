@@ -2,8 +2,8 @@
 
 use super::world::run;
 
-/// ann reads the root: 60 bytes are G5, 61 give `d`, 62 as offset is G4, 61 give `f`, 121 give `n`
-/// alone, and so on to an empty read at 245. From 0 it begins again.
+/// ann reads the root: 60 bytes are G5, 61 give `d`, 62 as offset is G4, 61 give `f`, 121 give only
+/// `n`, and so on to an empty read at 245. From 0 it begins again.
 #[test]
 fn directory_gives_whole_entries_that_fit(rt: HostRuntime) {
     run(
@@ -24,7 +24,7 @@ fn directory_gives_whole_entries_that_fit(rt: HostRuntime) {
     );
 }
 
-/// After `f` was given it is removed and `e` made: the listing goes on with `n`.
+/// After `f` was listed it is removed and `e` made: the listing continues with `n`.
 #[test]
 fn listing_goes_on_behind_a_name_that_is_gone(rt: HostRuntime) {
     run(

@@ -1,5 +1,5 @@
-//! An open of the largest file that removes it on close, and whose removal is refused its memory:
-//! the open is released, and the file stays.
+//! An open of the largest file with remove on close, whose removal runs out of memory: the open is
+//! released, and the file stays.
 
 use super::answers::push_answer;
 use super::asks::call_of;
@@ -17,7 +17,7 @@ wstat 1 length=16777216 => changed
 open 1 41 => open 1 of 1: 1.1
 ";
 
-/// How that open ends: calls, the first of which is refused its memory, and the same if it isn't.
+/// How that open ends: calls, the first of which runs out of memory, and the same if it doesn't.
 struct Ending(&'static str, &'static str);
 
 /// A clunk, a hang-up, and a remove.
@@ -90,7 +90,7 @@ fn begin(rt: &impl Abort, alloc: Global) -> Side {
     side
 }
 
-/// Makes a call while so many bytes of memory are left.
+/// Makes a call with so many bytes of memory left.
 fn step_with(
     rt: &impl Abort,
     alloc: Global,
@@ -105,7 +105,7 @@ fn step_with(
     answer
 }
 
-/// The calls with their answers, where so many bytes are left for the first.
+/// The calls with their answers, with so many bytes left for the first.
 fn answers(rt: &impl Abort, alloc: Global, lines: &str, bytes: usize) -> String {
     let mut side = begin(rt, alloc);
     let mut text = String::new(alloc);
@@ -117,7 +117,7 @@ fn answers(rt: &impl Abort, alloc: Global, lines: &str, bytes: usize) -> String 
     text
 }
 
-/// How often the removal is refused, with no byte left and then 256 more each time.
+/// How often the removal runs out of memory, with no byte left and then 256 more each time.
 fn refusals(rt: &(impl Abort + AllocGlobal), ending: &Ending) -> usize {
     for count in 0..100usize {
         let text = answers(rt, rt.alloc(), ending.0, count * 256);
@@ -130,9 +130,9 @@ fn refusals(rt: &(impl Abort + AllocGlobal), ending: &Ending) -> usize {
     0
 }
 
-/// After one wstat that makes `/f` 16,777,216 bytes long, ann has it open with 0x41, and a clunk,
-/// a hang-up or a remove is refused the memory for its removal: the open is released, and `/f` is
-/// there in version 1, until the removal has its memory.
+/// After one wstat that makes `/f` 16,777,216 bytes long, ann has it open with 0x41, and the
+/// removal by a clunk, a hang-up or a remove runs out of memory: the open is released, and `/f` is
+/// there in version 1, until there is memory for the removal.
 #[test]
 fn refused_removal_of_the_largest_file_leaves_it(rt: HostRuntime) {
     for ending in &ENDINGS {

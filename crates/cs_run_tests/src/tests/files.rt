@@ -3,7 +3,7 @@
 use super::world::run;
 
 /// bob walks from `/d` by `s`, `z`, `q`: one qid, and K7 stops him. From `/d/s` by `z` it is K7 at
-/// once, and ann goes on. zed's attach is A6.
+/// once, and ann walks on. zed's attach is A6.
 #[test]
 fn walk_stops_at_missing_search_right(rt: HostRuntime) {
     run(

@@ -1,4 +1,4 @@
-//! What a run answers, and how many entries its journal has then.
+//! The answers of a run, and how many entries its journal has after each.
 
 use super::side::{Side, call_of, run, stat};
 use cs_journal::{Entry, PassFault, Receipt};
@@ -40,8 +40,8 @@ fn push_lines(rt: &impl Abort, alloc: Global, side: &mut Side, text: &mut String
     }
 }
 
-/// Makes calls, and looks at each for its answer, and how many entries there are then, receipts,
-/// and places for closes.
+/// Makes calls, and compares after each the answer and the counts of entries, receipts and places
+/// for closes.
 fn expect(rt: &(impl Abort + AllocGlobal), side: &mut Side, lines: &str) {
     let mut text = String::new(rt.alloc());
     push_lines(rt, rt.alloc(), side, &mut text, lines);

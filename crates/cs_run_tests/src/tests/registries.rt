@@ -1,5 +1,4 @@
-//! States that are published, and runs that are found: values from outside, for what is kept of a
-//! run in general.
+//! Published states and found runs, for any kind of value that a registry keeps of a run.
 ghost use Rattle.std.specs.Prelude.{◌≡◌};
 
 use cs_names::RunName;
@@ -75,7 +74,7 @@ fn publish(alloc: Global, states: &mut States<Note>, number: u32) -> Result<(), 
     }
 }
 
-/// The same, with no comparison of scenes.
+/// Makes a state of their scene, and publishes it without a comparison of scenes.
 fn publish_own(alloc: Global, states: &mut States<Note>, number: u32) -> Result<(), PublishFault> {
     match Scene::make(alloc, states.scene(), number) {
         Ok(made) => states.publish_own(alloc, made),
@@ -151,7 +150,7 @@ fn a_run_is_found_64_times_and_only_where_its_state_is_published(rt: HostRuntime
 /// Looks at what is kept of a run, and at its key.
 fn expect_run(rt: &impl Abort, states: &States<Note>, place: u32, text: u32) {
     assert!(rt; place < states.run_count());
-    let note = states.at(place);
+    let note = states.held_at(place);
     assert!(rt; note.number == place && note.text == text);
     let key = states.key_at(place);
     assert!(rt; key.number() == place && key.name() == "a");
@@ -169,7 +168,7 @@ fn a_run_is_what_was_left_of_it_and_no_other_is(rt: HostRuntime) {
     assert!(rt; find(rt.alloc(), &mut states, 0, "a") == Ok(0));
     assert!(rt; states.run_count() == 2);
     assert!(rt; 0 < states.run_count());
-    states.at_mut(0).text = 7;
+    states.held_at_mut(0).text = 7;
     expect_run(&rt, &states, 0, 7);
     expect_run(&rt, &states, 1, 0);
 }
@@ -181,7 +180,7 @@ fn expect_numbered(rt: &(impl Abort + AllocGlobal), states: &mut States<Note>, n
     assert!(rt; states.find_key(rt.alloc(), key) == Ok(number));
 }
 
-/// 4,096 runs stand; one more is A5, and the last of them is found again. `A` is no run's name.
+/// There are 4,096 runs; one more is A5, and the last of them is found again. `A` is no run's name.
 #[test]
 fn a_new_run_is_one_of_4096(rt: HostRuntime) {
     let mut states = registry_of(&rt, HEADER);

@@ -1,8 +1,8 @@
-//! Another list of users while runs stand: each keeps the list with which it was made.
+//! Another list of users while there are runs: each keeps the list with which it was made.
 ghost use Rattle.std.specs.Prelude.{◌≡◌};
 
 use super::answers::push_answer;
-use super::asks::{call_of, cut};
+use super::asks::{call_of, split_word};
 use cs_fids::Place;
 use cs_journal::{Pass, Run, can_grow};
 use cs_names::RunName;
@@ -97,14 +97,14 @@ fn find_and_visit(
     name: &str,
     visitor: &str,
 ) -> Answer {
-    let (user, words) = cut(visitor);
+    let (user, words) = split_word(visitor);
     let name = RunName::read(alloc, name.as_bytes()).expect(rt, "a value");
     let place = states.find(alloc, 0, &name).expect(rt, "memory");
     assert!(rt; place < states.run_count());
-    visit(rt, alloc, &mut states.at_mut(place).run, user, words)
+    visit(rt, alloc, &mut states.held_at_mut(place).run, user, words)
 }
 
-/// Adds a line with what was answered.
+/// Adds a line with an answer.
 fn push_line(
     rt: &impl Abort,
     alloc: Global,
@@ -113,7 +113,7 @@ fn push_line(
     line: &str,
 ) {
     let (asked, _) = line.split_once(" => ").expect(rt, "a value");
-    let (name, visitor) = cut(asked);
+    let (name, visitor) = split_word(asked);
     let answer = find_and_visit(rt, alloc, states, name, visitor);
     write!(text, "{asked} => ").expect(rt, "memory");
     push_answer(rt, text, answer, &mut Place::start());
@@ -132,7 +132,7 @@ fn push_lines(
     }
 }
 
-/// Makes visits, a line each: of which run, by whom, a call if there is one, and what was answered.
+/// Makes visits, a line each: the run, the user, a call if there is one, and the answer.
 fn expect(rt: &(impl Abort + AllocGlobal), states: &mut States<Own>, lines: &str) {
     let mut text = String::new(rt.alloc());
     push_lines(rt, rt.alloc(), states, &mut text, lines);

@@ -18,7 +18,7 @@ fn removed_file_made_again_has_another_number(rt: HostRuntime) {
     );
 }
 
-/// `/d` has entries (M5), the root can't go (M3), `/p` goes, and then is gone (M2).
+/// `/d` has entries (M5), the root can't be removed (M3), `/p` is removed, and then is gone (M2).
 #[test]
 fn remove_refuses_the_root_and_a_directory_with_entries(rt: HostRuntime) {
     run(

@@ -1,7 +1,7 @@
 //! A run over a root with one file, and a pass of it.
 ghost use Rattle.std.specs.Prelude.{◌≡◌};
 
-use super::asks::cut;
+use super::asks::split_word;
 use cs_fids::Place;
 use cs_journal::{Pass, Run, can_grow};
 use cs_names::{Path, Text, Texts, UserName};
@@ -110,7 +110,7 @@ impl Side {
         self.run.step(alloc, &mut self.pass, 1000, call)
     }
 
-    /// What the call of the entry at the place was answered.
+    /// The answer to the call of the entry at that place.
     pub fn answer_at(&self, rt: &impl Abort, alloc: Global, place: usize) -> Answer {
         let answer = self.run.answer_at(alloc, place).expect(rt, "memory");
         answer.expect(rt, "an entry")
@@ -203,10 +203,10 @@ pub fn stat() -> Call<'static> {
     Call::Stat(StatCall { number: FILE })
 }
 
-/// The call that words ask for: `attach`, `walk` or `stat`; `open` with its mode, `write` with its
+/// The call that the words mean: `attach`, `walk` or `stat`; `open` with its mode, `write` with its
 /// offset and bytes, `close` or `remove` with the number of the open.
 pub fn call_of(rt: &impl Abort, alloc: Global, words: &str) -> Call<'static> {
-    let (word, words) = cut(words);
+    let (word, words) = split_word(words);
     match word {
         "attach" => attach(rt, alloc, "ann"),
         "walk" => walk(rt, alloc),

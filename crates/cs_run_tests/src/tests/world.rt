@@ -90,7 +90,7 @@ impl World {
         }
     }
 
-    /// Makes a call at second 1000, in the turn of its number.
+    /// Makes a call at second 1000; its place is the number of calls before.
     fn step(&mut self, rt: &impl Abort, alloc: Global, pass: u32, call: &Call<'_>) -> Answer {
         assert!(rt; !self.run.is_full());
         let (_outcome, answer) = self.run.step(alloc, 1000, pass, call);
@@ -123,7 +123,7 @@ fn push_lines(rt: &impl Abort, alloc: Global, text: &mut String, lines: &str) {
     }
 }
 
-/// Makes calls one after the other in a new run, and looks for their answers. Each line has the
+/// Makes calls one after the other in a new run, and compares their answers. Each line has the
 /// pass, the user, the call in words, an arrow, and the answer. An open has the number of its line,
 /// from 0.
 pub fn run(rt: &(impl Abort + AllocGlobal), lines: &str) {

@@ -2,7 +2,7 @@
 
 use super::world::run;
 
-/// bob's wstat with a name and a mode is Q12, and the name stays. One that touches nothing is
+/// bob's wstat with a name and a mode is Q12, and the name stays. One that changes nothing is
 /// granted.
 #[test]
 fn wstat_that_is_denied_changes_nothing(rt: HostRuntime) {

@@ -1,4 +1,5 @@
-//! The steps of a session that make one call.
+//! The steps of a session that make one call. Each of the eight is the same: the connection's own
+//! rules and the memory that it takes, the call on the fid's run, and what comes of the answer.
 ghost use Rattle.std.specs.Prelude.{◌≡◌};
 ghost use Rattle.cs_session.specs.declared.message.CallMessage.TheVariants as call;
 ghost use Rattle.cs_session.specs.Sizes.{CallFits, ReplyFits};
@@ -19,6 +20,7 @@ use crate::writing::{decide_write, write_reply};
 use std::alloc::Global;
 
 impl Session {
+    /// Walks from a fid to a new one, or to itself. If a rule stops the walk, no fid changes.
     fn walk_step<P: Port>(
         &mut self,
         alloc: Global,
@@ -43,6 +45,7 @@ impl Session {
         }
     }
 
+    /// Opens the fid. If it is refused, the fid stays as it was.
     fn open_step<P: Port>(
         &mut self,
         alloc: Global,
@@ -66,6 +69,8 @@ impl Session {
         }
     }
 
+    /// Makes a file in the fid's directory; the fid is then the new file's, and open. If it is
+    /// refused, the fid stays as it was.
     fn create_step<P: Port>(
         &mut self,
         alloc: Global,
@@ -89,6 +94,8 @@ impl Session {
         }
     }
 
+    /// Reads from an open fid at most as many bytes as a reply holds. After a read of a directory
+    /// the fid keeps the place at which the next one goes on.
     fn read_step<P: Port>(
         &mut self,
         alloc: Global,
@@ -112,6 +119,7 @@ impl Session {
         }
     }
 
+    /// Writes to an open fid. No fid changes.
     fn write_step<P: Port>(
         &mut self,
         alloc: Global,
@@ -134,6 +142,7 @@ impl Session {
         write_reply(answer)
     }
 
+    /// Removes the fid's file. Once the run is asked the fid is free, also if the run refuses.
     fn remove_step<P: Port>(&mut self, alloc: Global, port: &mut P, now: u32, fid: u32) -> Reply
         ensures takes { IsStepTaken P.gives now self.old port.old (CallStep (call.Remove fid))
             result
@@ -150,6 +159,7 @@ impl Session {
         remove_reply(answer)
     }
 
+    /// Returns the attributes of the fid's file. No fid changes.
     fn stat_step<P: Port>(&mut self, alloc: Global, port: &mut P, now: u32, fid: u32) -> Reply
         ensures takes { IsStepTaken P.gives now self.old port.old (CallStep (call.Stat fid)) result
             self.new port.new }
@@ -165,6 +175,7 @@ impl Session {
         stat_reply(answer)
     }
 
+    /// Changes attributes of the fid's file. No fid changes.
     fn wstat_step<P: Port>(
         &mut self,
         alloc: Global,
@@ -187,9 +198,9 @@ impl Session {
         wstat_reply(answer)
     }
 
-    /// Makes a call on a fid's run: the connection's rules, the memory that it takes of its own,
-    /// and then what the run answers. A refusal leaves the fids, but for a remove that was asked,
-    /// whose fid is free (remove(5)).
+    /// Makes a call on a fid's run. The reply is the first of the connection's rules that fails,
+    /// or out of memory, or else what the run answers. If it is refused, no fid changes, except
+    /// that the fid of a remove is free once the run is asked (remove(5)).
     pub fn call_step<P: Port>(
         &mut self,
         alloc: Global,

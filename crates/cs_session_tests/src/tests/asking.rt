@@ -1,4 +1,4 @@
-//! Messages by their words.
+//! Messages that are written as words.
 use cs_fids::NOFID;
 use cs_names::{Text, Texts};
 use cs_permit::{SentBytes, SentStat};
@@ -81,7 +81,7 @@ const KEPT_QID: Qid = Qid {
     path: u64::MAX,
 };
 
-/// A wstat that changes the name alone.
+/// A wstat that changes only the name.
 fn renaming(rt: &impl Abort, alloc: Global, fid: u32) -> CallMessage<'static> {
     let stat = Stat {
         kind: u16::MAX,
@@ -117,7 +117,7 @@ fn call_of(rt: &impl Abort, alloc: Global, word: &str, fid: u32) -> CallMessage<
     }
 }
 
-/// The message that words ask for: `version` and a message size, or another word and a fid.
+/// The message that the words name: `version` and a message size, or another word and a fid.
 pub fn message_of(rt: &impl Abort, alloc: Global, words: &str) -> Message<'static> {
     let (word, number) = words.split_once(' ').expect(rt, "a value");
     let number = number.parse::<u32>().expect(rt, "a value");

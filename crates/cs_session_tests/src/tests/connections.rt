@@ -15,7 +15,7 @@ fn ask(alloc: Global, session: &mut Session, port: &mut Fake, message: Message<'
     session.answer(alloc, port, 1, message)
 }
 
-/// Adds what is asked, an arrow, and the reply.
+/// Adds the message, an arrow, and the reply.
 fn push_line(
     rt: &impl Abort,
     alloc: Global,
@@ -43,7 +43,7 @@ fn push_lines(
     }
 }
 
-/// Sends messages, and looks for their replies. Each line has a message in words, an arrow, and the
+/// Sends messages, and checks their replies. Each line has a message in words, an arrow, and the
 /// reply.
 fn expect(rt: &(impl Abort + AllocGlobal), session: &mut Session, port: &mut Fake, lines: &str) {
     let mut told = String::new(rt.alloc());
@@ -125,7 +125,7 @@ version 1023 => Error(S4)
 }
 
 /// Fids 8, 4, 9 are opened in this order. A hang-up closes the opens 1, 0, 2 of the fids 4, 8, 9,
-/// and no session stands then.
+/// and the connection has no session then.
 #[test]
 fn a_hang_up_closes_open_fids_in_ascending_order_and_frees_all(rt: HostRuntime) {
     let mut port = Fake::new(rt.alloc());
@@ -150,7 +150,7 @@ open 9 => Open(Qid { kind: 0, vers: 4, path: 3 })
     expect(&rt, &mut session, &mut port, "clunk 8 => Error(S1)\n");
 }
 
-/// The close of a clunk is short of memory: the next clunk is N1.
+/// The close of a clunk is out of memory: the next clunk is N1.
 #[test]
 fn frees_a_fid_whose_close_is_short_of_memory(rt: HostRuntime) {
     let mut port = Fake::new(rt.alloc());
@@ -196,7 +196,7 @@ clunk 6 => Clunk
     );
 }
 
-/// Looks for the reply to a step.
+/// Checks the reply to a step.
 fn expect_reply(rt: &(impl Abort + AllocGlobal), reply: Reply, wanted: &str) {
     let mut text = String::new(rt.alloc());
     write!(text, "{reply:?}").expect(rt, "memory");

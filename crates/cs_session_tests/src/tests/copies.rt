@@ -7,7 +7,7 @@ use std::alloc::Global;
 use std::fmt::Debug;
 use std::process::Abort;
 
-/// A message of each kind that asks a call, and a walk of no name.
+/// A message of each kind that makes a call, and a walk of no name.
 const CALLS: &str = "\
 walk 1
 clone 1
@@ -26,7 +26,7 @@ fn shown<T: Debug>(rt: &impl Abort, alloc: Global, value: &T) -> String {
     text
 }
 
-/// What a message says that words ask for, and what its copy says.
+/// The message that the words name, and its copy, as texts.
 fn call_and_copy(rt: &impl Abort, alloc: Global, words: &str) -> (String, String) {
     let Message::Call(message) = message_of(rt, alloc, words) else {
         panic!(rt; "no call");
@@ -48,14 +48,13 @@ fn change_and_copy(rt: &impl Abort, alloc: Global, change: &TableStep) -> (Strin
     (shown(rt, alloc, change), shown(rt, alloc, &copy))
 }
 
-/// They say the same.
+/// Checks that the two texts are equal.
 fn expect_same(rt: &impl Abort, both: (String, String)) {
     let (said, copy) = both;
     assert!(rt; copy.as_str() == said.as_str(), "{copy}");
 }
 
-/// A copy of each message that asks a call, of an attach, of a version, and of each other change of
-/// the table, says the same.
+/// A copy of each message that makes a call, and of an attach, says the same.
 #[test]
 fn a_copy_of_each_message_says_the_same(rt: HostRuntime) {
     for words in CALLS.lines() {
@@ -64,8 +63,7 @@ fn a_copy_of_each_message_says_the_same(rt: HostRuntime) {
     expect_same(&rt, attach_and_copy(&rt, rt.alloc()));
 }
 
-/// A copy of each message that asks a call, of an attach, of a version, and of each other change of
-/// the table, says the same.
+/// A copy of a version, of a clunk and of a hang-up says the same.
 #[test]
 fn a_copy_of_each_change_of_a_table_says_the_same(rt: HostRuntime) {
     let alloc = rt.alloc();

@@ -1,4 +1,4 @@
-//! Streams that are cut, and streams whose reads and writes fail as told.
+//! Streams that are cut, and streams whose reads and writes fail as planned.
 
 use super::lone_run::{Alone, REPLIES, REQUESTS, WHOLE};
 use super::streams::Standing;
@@ -12,7 +12,7 @@ use std::process::Abort;
 /// More than any call here moves.
 const ALL: usize = 1 << 16;
 
-/// How many reads, or writes, go well, and what comes then.
+/// How many reads, or writes, succeed, and what comes then.
 #[derive(Clone, Copy)]
 struct Plan {
     /// How many bytes each of these moves at most.
@@ -28,12 +28,13 @@ enum End {
     Fails,
     /// It moves no byte.
     Stops,
-    /// It moves all it can, and so do the calls behind it.
+    /// It moves all it can, and so do the calls after it.
     Goes,
 }
 
 impl Plan {
-    /// How many bytes the next call may move; none where it stops.
+    /// How many bytes the next call may move, 0 if it moves none; a fault if it is interrupted or
+    /// fails.
     fn next(&mut self) -> io::Result<usize> {
         if self.good > 0 {
             self.good -= 1;
@@ -99,7 +100,7 @@ const WELL: Plan = Plan {
     end: End::Goes,
 };
 
-/// What serving comes to, what was written, and how many files are open then.
+/// The result of serving, what was written, and how many files are open then.
 struct Served(Result<(), ServeFault>, Vec<u8>, usize);
 
 fn serve(
@@ -152,7 +153,7 @@ fn expect_cut(rt: &(impl Abort + AllocGlobal), place: usize) {
     assert!(rt; opens == 0, "at {place}");
 }
 
-/// The first exchange's 121 bytes, ended behind each: Ok behind each message, else Cut, with the
+/// The first exchange's 121 bytes, ended after each byte: Ok after each message, else Cut, with the
 /// replies of the whole messages, and no file open.
 #[test]
 fn a_stream_that_is_cut_has_the_replies_of_its_whole_messages(rt: HostRuntime) {
@@ -161,7 +162,7 @@ fn a_stream_that_is_cut_has_the_replies_of_its_whole_messages(rt: HostRuntime) {
     }
 }
 
-/// Reads and writes of 8 bytes: so many go well.
+/// Reads and writes of 8 bytes, of which so many succeed.
 fn after(good: u32, interruptions: u32, end: End) -> Plan {
     Plan {
         most: 8,
@@ -171,8 +172,7 @@ fn after(good: u32, interruptions: u32, end: End) -> Plan {
     }
 }
 
-/// Serves the exchange, and looks for what it comes to, and that what was written begins the
-/// replies.
+/// Serves the exchange, and checks its result, and that what was written begins the replies.
 fn expect_end(
     rt: &(impl Abort + AllocGlobal),
     reads: Plan,
@@ -186,7 +186,7 @@ fn expect_end(
     assert!(rt; opens == 0);
 }
 
-/// So many reads go well, and then one fails, or many are interrupted.
+/// So many reads succeed, and then one fails, or many are interrupted.
 fn expect_read_fault(rt: &(impl Abort + AllocGlobal), good: u32) {
     expect_end(rt, after(good, 0, End::Fails), WELL, READ_FAULT);
     expect_end(rt, after(good, 999, End::Goes), WELL, Ok(()));
@@ -201,7 +201,7 @@ fn a_read_that_fails_at_any_place_ends_the_connection(rt: HostRuntime) {
     }
 }
 
-/// So many writes go well, and then one fails or takes no byte, or many are interrupted.
+/// So many writes succeed, and then one fails or takes no byte, or many are interrupted.
 fn expect_write_fault(rt: &(impl Abort + AllocGlobal), good: u32) {
     expect_end(rt, WELL, after(good, 0, End::Fails), WRITE_FAULT);
     expect_end(rt, WELL, after(good, 0, End::Stops), WRITE_FAULT);
@@ -226,7 +226,7 @@ fn once(most: usize) -> Plan {
     }
 }
 
-/// The first write takes so many bytes, and the next one the others.
+/// The first write takes so many bytes, and the next one the rest.
 #[test]
 fn any_two_pieces_of_a_write_join(rt: HostRuntime) {
     for most in 1..=178usize {
@@ -234,7 +234,7 @@ fn any_two_pieces_of_a_write_join(rt: HostRuntime) {
     }
 }
 
-/// The first read gives so many bytes, and the next one the others.
+/// The first read gives so many bytes, and the next one the rest.
 #[test]
 fn any_two_pieces_of_a_read_join(rt: HostRuntime) {
     for most in 1..=121usize {

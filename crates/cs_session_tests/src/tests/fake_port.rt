@@ -6,7 +6,7 @@ use cs_session::{FindFault, PassFault, Port};
 use cs_wire::Qid;
 use std::alloc::Global;
 
-/// The qid that each attach and open is answered.
+/// The qid in the answer to each attach and open.
 const QID: Qid = Qid {
     kind: 0,
     vers: 4,
@@ -19,7 +19,7 @@ const QID: Qid = Qid {
 pub struct Fake {
     /// No user is known.
     pub knows_none: bool,
-    /// Each close is short of memory.
+    /// Each close is out of memory.
     pub is_short: bool,
     opens: u32,
     pub closed: Vec<u32>,

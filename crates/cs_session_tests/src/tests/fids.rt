@@ -17,7 +17,7 @@ fn put(rt: &(impl Abort + AllocGlobal), table: &mut FidTable, fid: u32, number: 
     assert!(rt; table.put(fid, FidEntry::Walked(walked)).is_ok());
 }
 
-/// A table where fid 1 was walked to file 10, and fid 2 to file 20 and opened.
+/// A table in which fid 1 was walked to file 10, and fid 2 to file 20 and opened.
 fn table_of_two(rt: &(impl Abort + AllocGlobal)) -> FidTable {
     let mut table = FidTable::new(rt.alloc());
     put(rt, &mut table, 1, 10);
@@ -26,7 +26,7 @@ fn table_of_two(rt: &(impl Abort + AllocGlobal)) -> FidTable {
     table
 }
 
-/// The number of the file that the fid stands for.
+/// The number of the fid's file.
 fn number_at(table: &FidTable, fid: u32) -> Option<u64> {
     Some(table.look(fid)?.number())
 }
@@ -42,14 +42,14 @@ fn moves_a_fid_and_opens_it(rt: HostRuntime) {
     assert!(rt; opened.mode() == 0x41 && opened.open_number() == 12 && opened.number() == 7);
 }
 
-/// Looks at the run, the pass, the file and the user of an entry.
+/// Checks the run, the pass, the file and the user of an entry.
 fn expect_entry(rt: &impl Abort, entry: &FidEntry, number: u64) {
     assert!(rt; entry.run() == 2 && entry.pass() == 5 && entry.number() == number);
     assert!(rt; entry.user().as_str() == "ann");
 }
 
-/// An entry that is walked to and one that is open tell run, pass, file and user alike, and each is
-/// only what it is.
+/// An entry that is walked to and one that is open have the same run, pass, file and user, and each
+/// is only what it is.
 #[test]
 fn tells_of_an_entry_whatever_its_state(rt: HostRuntime) {
     let walked = FidEntry::Walked(fid_of(&rt, 3));
@@ -84,7 +84,7 @@ fn keeps_the_place_of_a_read(rt: HostRuntime) {
     assert!(rt; place.end == 61 && place.last.is_some());
 }
 
-/// Looks for the fault where a fid is taken as one that was walked to, opened, or moved.
+/// Checks the fault if a fid is taken as one that was walked to, opened, or moved.
 fn expect_not_walked(rt: &impl Abort, table: &mut FidTable, fid: u32, fault: FidFault) {
     assert!(rt; table.take_walked(fid).err() == Some(fault));
     assert!(rt; table.open(fid, 1, 1) == Err(fault));
@@ -102,7 +102,7 @@ fn refuses_to_take_or_open_what_was_not_walked_to(rt: HostRuntime) {
     assert!(rt; table.take_walked(1).expect(&rt, "a fid").number() == 10);
 }
 
-/// Looks for the fault where a fid is lent as an open one, or its read goes on.
+/// Checks the fault if a fid is lent as an open one, or its read goes on.
 fn expect_not_open(rt: &impl Abort, table: &mut FidTable, fid: u32, fault: FidFault) {
     assert!(rt; table.set_place(fid, Place::start()) == Err(fault));
     assert!(rt; table.get_opened(fid).err() == Some(fault));
@@ -116,7 +116,7 @@ fn refuses_to_read_on_where_no_fid_is_open(rt: HostRuntime) {
     expect_not_open(&rt, &mut table, 1, FidFault::NotOpen);
 }
 
-/// Takes a fid of this file, and a second time in vain.
+/// Takes a fid of this file; a second time it is refused.
 fn expect_taken(rt: &impl Abort, table: &mut FidTable, fid: u32, number: u64) {
     assert!(rt; table.take_any(fid).expect(rt, "a fid").number() == number);
     assert!(rt; table.take_any(fid).is_err());
@@ -130,7 +130,7 @@ fn takes_a_fid_in_any_state_once(rt: HostRuntime) {
     expect_taken(&rt, &mut table, 2, 20);
 }
 
-/// A fid of file 30 put at 1 is InUse and comes back; 1 still stands for file 10.
+/// A fid of file 30 put at 1 is InUse and comes back; 1 is still the fid of file 10.
 #[test]
 fn gives_a_fid_back_where_its_number_is_taken(rt: HostRuntime) {
     let mut table = table_of_two(&rt);
@@ -142,7 +142,7 @@ fn gives_a_fid_back_where_its_number_is_taken(rt: HostRuntime) {
     assert!(rt; number_at(&table, 1) == Some(10));
 }
 
-/// A table where fids 9, 1, 7 and 3 were walked to.
+/// A table in which fids 9, 1, 7 and 3 were walked to.
 fn table_of_four(rt: &(impl Abort + AllocGlobal)) -> FidTable {
     let mut table = FidTable::new(rt.alloc());
     put(rt, &mut table, 9, 0);
@@ -152,13 +152,13 @@ fn table_of_four(rt: &(impl Abort + AllocGlobal)) -> FidTable {
     table
 }
 
-/// Opens the fid, under its own number, and looks for the least open one then.
+/// Opens the fid, under its own number, and checks which open one is then the least.
 fn expect_after_open(rt: &impl Abort, table: &mut FidTable, fid: u32, least: u32) {
     table.open(fid, 0, fid).expect(rt, "an open");
     assert!(rt; table.least_open() == Some(least));
 }
 
-/// Takes the fid out, and looks for the least open one then.
+/// Takes the fid out, and checks which open one is then the least.
 fn expect_after_take(rt: &impl Abort, table: &mut FidTable, fid: u32, least: u32) {
     assert!(rt; table.take_any(fid).is_ok());
     assert!(rt; table.least_open() == Some(least));

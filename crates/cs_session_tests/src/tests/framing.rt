@@ -1,9 +1,9 @@
-//! Streams of messages, cut in every way.
+//! Streams of messages, cut into pieces of any size.
 
 use cs_wire::{FrameFault, Framer};
 use std::process::Abort;
 
-/// What a client says first, from outside: version, attach, walk to `f`, open, read, stat, clunk.
+/// A client's first messages, from outside: version, attach, walk to `f`, open, read, stat, clunk.
 const MESSAGES: [&[u8]; 7] = [
     b"\x13\0\0\0d\xff\xff\0 \0\0\x06\09P2000",
     b"\x19\0\0\0h\x01\0\0\0\0\0\xff\xff\xff\xff\x03\0ann\x03\00/x",
@@ -14,7 +14,7 @@ const MESSAGES: [&[u8]; 7] = [
     b"\x0b\0\0\0x\x01\0\x01\0\0\0",
 ];
 
-/// The same messages, one behind the other.
+/// The same messages, one after the other.
 const EXCHANGE: &[u8] =
     b"\x13\0\0\0d\xff\xff\0 \0\0\x06\09P2000\x19\0\0\0h\x01\0\0\0\0\0\xff\xff\xff\xff\x03\0ann\x03\00/x\x14\0\0\0n\x01\0\0\0\0\0\x01\0\0\0\x01\0\x01\0f\x0c\0\0\0p\x01\0\x01\0\0\0\0\x17\0\0\0t\x01\0\x01\0\0\0\0\0\0\0\0\0\0\0@\0\0\0\x0b\0\0\0|\x01\0\x01\0\0\0\x0b\0\0\0x\x01\0\x01\0\0\0";
 
@@ -36,7 +36,7 @@ fn expect_piece(rt: &impl Abort, framer: &mut Framer, piece: &[u8], taken: &mut 
     take_all(rt, framer, taken);
 }
 
-/// All messages were taken, and no byte is left.
+/// Checks that all messages were taken, and no byte is left.
 fn expect_end(rt: &impl Abort, framer: &Framer, taken: usize) {
     assert!(rt; taken == MESSAGES.len());
     assert!(rt; framer.end().is_ok());
@@ -71,13 +71,13 @@ fn a_stream_cut_in_two_gives_the_same_messages(rt: HostRuntime) {
     }
 }
 
-/// Looks for this message as the next one.
+/// Checks that this message is the next one.
 fn expect_next(rt: &impl Abort, framer: &mut Framer, wanted: &[u8]) {
     let message = framer.next().expect(rt, "no fault");
     assert!(rt; message.expect(rt, "a message") == wanted);
 }
 
-/// Looks for no message, since bytes are missing.
+/// Checks that no message is next, since bytes are missing.
 fn expect_none(rt: &impl Abort, framer: &mut Framer) {
     assert!(rt; framer.next().expect(rt, "no fault").is_none());
 }
@@ -97,7 +97,7 @@ fn three_bytes_more_stay_buffered(rt: HostRuntime) {
     assert!(rt; framer.end() == Err(FrameFault::Cut));
 }
 
-/// Feeds a size, and a message behind it: both times the fault is told, and nothing is taken.
+/// Feeds a size, and a message after it: both times the fault is reported, and nothing is taken.
 fn expect_fault(rt: &(impl Abort + AllocGlobal), size: &[u8], fault: FrameFault) {
     let mut framer = Framer::new(rt.alloc());
     framer.feed(size).expect(rt, "memory");

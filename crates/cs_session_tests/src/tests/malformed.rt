@@ -56,7 +56,7 @@ fn told(
     told
 }
 
-/// What bytes are answered in a session of 1,024 bytes.
+/// The reply to bytes in a session of 1,024 bytes.
 fn told_after(rt: &impl Abort, alloc: Global, bytes: &[u8]) -> String {
     let mut port = Alone::new(rt, alloc);
     let mut session = Session::new(alloc);
@@ -69,15 +69,15 @@ fn expect_malformed(rt: &(impl Abort + AllocGlobal), bytes: &[u8]) {
     assert!(rt; told.ends_with(" ename \"S2 malformed message\""));
 }
 
-/// Looks for the fault, and that a session tells that it is malformed.
+/// Checks the fault of the bytes, and that a session replies S2 to them.
 fn expect_faulty(rt: &(impl Abort + AllocGlobal), faulty: &Faulty) {
     let told = decode_request(rt.alloc(), faulty.0).err();
     assert!(rt; told == Some(faulty.1));
     expect_malformed(rt, faulty.0);
 }
 
-/// Seven messages of a type that there isn't, that end too soon, that have a NUL in a text, 17
-/// names, a byte too many, or sizes that don't agree; each of them in a session is S2.
+/// Seven messages: of no type, that end too soon, with a NUL in a text, 17 names, a byte too many,
+/// or sizes that don't agree. Each of them is S2 in a session.
 #[test]
 fn a_malformed_message_is_told_in_a_session(rt: HostRuntime) {
     for faulty in &FAULTS {

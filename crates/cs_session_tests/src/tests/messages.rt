@@ -1,4 +1,4 @@
-//! Messages as they stand on the wire, from outside.
+//! Messages as bytes on the wire, from outside.
 
 use cs_wire::{
     RBody, RMessage, Stat, TBody, TMessage, WireFault, decode_reply, decode_request, encode_reply,
@@ -80,8 +80,8 @@ fn expect_request(rt: &(impl Abort + AllocGlobal), spelled: &Spelled) {
 }
 
 /// The requests of the first exchange, and versions `9P2000.L` and `8P`: read, printed, and written
-/// again to the same bytes. So are a Tcreate, a Twrite, a Tremove, and a Twstat that changes the
-/// name alone.
+/// again to the same bytes. So are a Tcreate, a Twrite, a Tremove, and a Twstat that changes only
+/// the name.
 #[test]
 fn requests_are_read_and_written_again(rt: HostRuntime) {
     for spelled in &REQUESTS {
@@ -193,7 +193,7 @@ fn expect_fault(rt: &(impl Abort + AllocGlobal), faulty: &Faulty) {
     assert!(rt; fault == faulty.1);
 }
 
-/// Type 106; a size that lies; a text that runs past the end; a NUL; 17 names; a byte too many; 6
+/// Type 106; a wrong size; a text that runs past the end; a NUL; 17 names; a byte too many; 6
 /// bytes; a write with one byte less than its count, and one more. Each has its fault.
 #[test]
 fn the_first_fault_is_told(rt: HostRuntime) {
@@ -240,7 +240,7 @@ fn expect_reply_fault(rt: &(impl Abort + AllocGlobal), faulty: &Faulty) {
     assert!(rt; fault == faulty.1);
 }
 
-/// 17 qids; a stat whose inner size lies, and one of one byte; type 106; data that run past the
+/// 17 qids; a stat whose inner size is wrong, and one of one byte; type 106; data that run past the
 /// end; a stat with a text that runs past it, a NUL, a byte left in it, a byte after it, and bytes
 /// that are missing.
 #[test]
@@ -334,7 +334,7 @@ fn expect_entry(rt: &(impl Abort + AllocGlobal), stat: &Stat, bytes: &[u8]) {
     assert!(rt; stat.entry_length() == 61);
 }
 
-/// An entry alone is the last 61 bytes of the Rstat that has it.
+/// An entry by itself is the last 61 bytes of the Rstat that has it.
 #[test]
 fn an_entry_is_what_a_reply_to_stat_holds(rt: HostRuntime) {
     let reply = decode_reply(rt.alloc(), F).expect(&rt, "a reply");
@@ -344,7 +344,7 @@ fn an_entry_is_what_a_reply_to_stat_holds(rt: HostRuntime) {
     expect_entry(&rt, stat, &F[9..]);
 }
 
-/// A Twstat that changes the name alone.
+/// A Twstat that changes only the name.
 const NAMED_G: &[u8] =
     b"?\0\0\0~\x01\0\x01\0\0\0\x32\0\x30\0\xff\xff\xff\xff\xff\xff\xff\xff\xff\xff\xff\xff\xff\xff\xff\xff\xff\xff\xff\xff\xff\xff\xff\xff\xff\xff\xff\xff\xff\xff\xff\xff\xff\xff\xff\xff\xff\xff\xff\x01\0g\0\0\0\0\0\0";
 

@@ -1,4 +1,4 @@
-//! Connections over streams, whose bytes come in every way, and whose calls fail.
+//! Connections over streams whose bytes come in pieces of any size, and whose calls fail.
 use super::fake_port::Fake;
 use cs_session::{Clock, ServeFault, serve_stream};
 use cs_stream::{Counted, Counts, Stream, Transfer, TwoEnded, write_all};
@@ -19,11 +19,11 @@ const REQUESTS: [&[u8]; 4] = [
 const REPLIES: &[u8] =
     b"\x13\0\0\0e\xff\xff\0 \0\0\x06\09P2000\x14\0\0\0i\x01\0\0\x04\0\0\0\x03\0\0\0\0\0\0\0\x18\0\0\0q\x01\0\0\x04\0\0\0\x03\0\0\0\0\0\0\0\0\0\0\0\x07\0\0\0y\x01\0";
 
-/// The same requests, one behind the other.
+/// The same requests, one after the other.
 const ALL_REQUESTS: &[u8] =
     b"\x13\0\0\0d\xff\xff\0 \0\0\x06\09P2000\x19\0\0\0h\x01\0\0\0\0\0\xff\xff\xff\xff\x03\0ann\x03\00/a\x0c\0\0\0p\x01\0\0\0\0\0\0\x0b\0\0\0x\x01\0\0\0\0\0";
 
-/// All of them but the clunk.
+/// All of them except the clunk.
 const THREE_REQUESTS: &[u8] =
     b"\x13\0\0\0d\xff\xff\0 \0\0\x06\09P2000\x19\0\0\0h\x01\0\0\0\0\0\xff\xff\xff\xff\x03\0ann\x03\00/a\x0c\0\0\0p\x01\0\0\0\0\0\0";
 
@@ -31,7 +31,7 @@ const THREE_REQUESTS: &[u8] =
 const UNFINISHED: &[u8] =
     b"\x13\0\0\0d\xff\xff\0 \0\0\x06\09P2000\x19\0\0\0h\x01\0\0\0\0\0\xff\xff\xff\xff\x03\0ann\x03\00/a\x0c\0\0\0p\x01\0\0\0\0\0\0\x05\0\0\0";
 
-/// A clock that stands.
+/// A clock that always gives the same moment.
 #[derive(Drop)]
 pub struct Standing;
 
@@ -41,7 +41,7 @@ impl Clock for Standing {
     }
 }
 
-/// A clock that goes on by a minute each time it is asked.
+/// A clock that advances by a minute each time it is read.
 #[derive(Drop)]
 struct Ticking {
     moment: u32,
@@ -105,7 +105,7 @@ impl Write for Narrow {
     }
 }
 
-/// A client that sends each request once the reply to the one before was written, and then is gone.
+/// A client that sends each request after the reply to the one before, and then disconnects.
 #[derive(Drop)]
 struct Client {
     sent: usize,
@@ -143,8 +143,7 @@ impl Write for Client {
     }
 }
 
-/// Serves a stream with this end for reading, and looks for what it comes to, and for what it
-/// writes.
+/// Serves a stream with this end for reading, and checks its result and what it writes.
 fn expect_served<R: Read + Drop>(
     rt: &(impl Abort + AllocGlobal),
     reader: R,
@@ -269,7 +268,7 @@ fn a_client_has_each_reply_before_it_sends_more(rt: HostRuntime) {
     assert!(rt; stream.into_inner().replies.as_slice() == REPLIES);
 }
 
-/// The clock tells a minute more each time, from the second 720 on. A version asks nothing; the
+/// The clock gives a minute more each time, from the second 720 on. A version asks nothing; the
 /// attach is asked at 780, the open at 840, and the close at the hang-up at 900.
 #[test]
 fn each_message_is_answered_at_a_moment_of_its_own(rt: HostRuntime) {
@@ -290,7 +289,7 @@ fn writes_go_on_until_one_takes_no_byte(rt: HostRuntime) {
     expect_narrow(&rt, 0, 0, WRITE_FAULT, b"", 1);
 }
 
-/// A fid is open when the stream breaks off: its open is closed.
+/// A fid is open when the stream ends in a fault: its open is closed.
 #[test]
 fn it_hangs_up_before_it_returns(rt: HostRuntime) {
     let mut stream = TwoEnded::new(UNFINISHED, Vec::new(rt.alloc()));

@@ -1,4 +1,4 @@
-//! Whether the journal of a shared run is the one that its users were answered from.
+//! Audits: whether the journal of a shared run agrees with the answers that its users got.
 
 use super::side::{attach, audit, find, open, published, read, stat, walk, write};
 use cs_journal::{AuditFault, Pass, Run};
@@ -10,7 +10,7 @@ use std::alloc::{AllocError, Global};
 use std::process::Abort;
 use std::sync::Wait;
 
-/// A run, the passes of ann and of bob, and what was answered under them, a line each.
+/// A run, the passes of ann and of bob, and the answers under them, a line each.
 #[derive(Drop)]
 struct Pair {
     run: SharedRun<AnyScene>,
@@ -18,7 +18,7 @@ struct Pair {
     told: String,
 }
 
-/// What the journal tells of the call at a place, if there is one.
+/// Looks for the answer to the call at a place, if there is one.
 #[derive(Drop)]
 struct AnswerAt {
     alloc: Global,
@@ -35,7 +35,7 @@ impl Look<Result<Option<Answer>, AllocError>> for AnswerAt {
     }
 }
 
-/// The call that a word asks for.
+/// The call that a word means.
 fn call_of(rt: &impl Abort, alloc: Global, user: &str, word: &str) -> Call<'static> {
     match word {
         "walk" => walk(rt, alloc, user),
@@ -88,7 +88,7 @@ impl Pair {
         audit(rt, &self.run, passes).1
     }
 
-    /// What the journal tells of the call at a place, if there is one.
+    /// The answer by the journal to the call at a place, if there is one.
     fn answer_at<R: Wait + Abort>(&self, rt: &R, alloc: Global, place: usize) -> Option<Answer> {
         let answer: Option<Result<Option<Answer>, AllocError>> = self
             .run
@@ -100,7 +100,7 @@ impl Pair {
         found.expect(rt, "memory")
     }
 
-    /// What the journal tells of the calls behind the attaches, a line each.
+    /// The answers by the journal to the calls after the attaches, a line each.
     fn told_again<R: Wait + Abort>(&self, rt: &R, alloc: Global) -> String {
         let mut told = String::new(alloc);
         for place in 2..4 {
@@ -142,8 +142,8 @@ fn an_audit_of_a_shared_run_tells_the_first_entry_without_its_own_receipt(rt: Ho
     assert!(rt; x.audit(&rt, x.passes.as_slice()) == Err(AuditFault::Count));
 }
 
-/// The journal of `x` tells at 2 and 3 what ann and bob were answered, and None at 4. So a call
-/// that invents an answer shows.
+/// By the journal of `x` the answers at 2 and 3 are those that ann and bob got, and None at 4. So a
+/// call that invents an answer is noticed.
 #[test]
 fn no_answer_is_invented_under_the_lock(rt: HostRuntime) {
     let alloc = rt.alloc();
@@ -163,7 +163,7 @@ fn bob_reads<R: Wait + Abort>(rt: &R, alloc: Global, pair: &mut Pair, text: &str
 }
 
 /// ann and bob are attached. ann opens `/f` and writes `HI`; bob, under the pass that he had
-/// before, opens it and reads `HIllo`, and the audit is ok. A run that begins anew would have
+/// before, opens it and reads `HIllo`, and the audit is ok. A run that started again would have
 /// `hello`, and S5 for one of them.
 #[test]
 fn a_run_does_not_restart_under_the_lock(rt: HostRuntime) {

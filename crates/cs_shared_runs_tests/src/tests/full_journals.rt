@@ -16,7 +16,7 @@ const ANNS: u32 = 32_766;
 
 const BOBS: u32 = 32_765;
 
-/// Makes so many stats: the pass, where all are granted.
+/// Makes so many stats, and returns the pass if all are granted.
 fn stats<R: Wait + Abort>(
     rt: &R,
     alloc: Global,
@@ -31,7 +31,7 @@ fn stats<R: Wait + Abort>(
     pass
 }
 
-/// Makes a walk, and an open of the file: the number of the open.
+/// Makes a walk and an open of the file, and returns the open's number.
 fn walk_and_open<R: Wait + Abort>(
     rt: &R,
     alloc: Global,
@@ -61,7 +61,7 @@ fn begun<R: Wait + Abort>(rt: &R, alloc: Global) -> (SharedRun<AnyScene>, Pass, 
     (run, ann, bob, open_number)
 }
 
-/// Looks that the journal has room for the close of an open alone.
+/// Checks that the journal has only room for the close of an open.
 fn expect_full<R: Wait + Abort>(rt: &R, alloc: Global, run: &SharedRun<AnyScene>, pass: &mut Pass) {
     let answer = run.call(rt, alloc, pass, 3, stat());
     assert!(rt; matches!(answer, Answer::Denied(RuleId::L1)));

@@ -25,7 +25,7 @@ const CREAT: &str =
 const MOVED: &str =
     "{\"op\":\"fsync\",\"path\":\"/t\"}\n{\"op\":\"rename\",\"from\":\"/t\",\"to\":\"/a\"}\n";
 
-/// How often a worker looks for what another is to do.
+/// How often a worker checks what another must do.
 const TURNS: u32 = 10_000_000;
 
 /// What is kept of a run here: nothing.
@@ -47,7 +47,7 @@ impl Held for Nothing {
     }
 }
 
-/// Holds the worker of state 0 until another asks for state 1.
+/// Blocks the worker of state 0 until another asks for state 1.
 #[derive(Drop)]
 struct UntilOne {
     asked: AtomicBool,
@@ -72,7 +72,7 @@ impl Gate for UntilOne {
     }
 }
 
-/// Keeps which states it was asked for, a bit each, and how often it was asked.
+/// Records for which states it was asked, a bit each, and how often it was asked.
 #[derive(Drop)]
 struct Asked {
     states: AtomicU32,
@@ -136,8 +136,8 @@ fn state_of(rt: &impl Abort, alloc: Global, scene: &Arc<Scene>) -> Published {
     Scene::make(alloc, scene, 0).expect(rt, "a state")
 }
 
-/// How many states are missing, and how many runs there are, once so many workers have published;
-/// the fault where they are refused.
+/// How many states are missing and how many runs there are after so many workers have published, or
+/// the fault.
 fn publish<R: Threads + Wait + Sync + Abort, G: Gate>(
     rt: &R,
     alloc: Global,
@@ -150,7 +150,7 @@ fn publish<R: Threads + Wait + Sync + Abort, G: Gate>(
     Ok((states.missing(), states.run_count()))
 }
 
-/// Two workers publish all states, where the gate holds state 0 until state 1 was asked for:
+/// Two workers publish all states, and the gate blocks state 0 until it was asked for state 1:
 /// nothing is missing, and there is no run.
 #[test]
 fn two_workers_are_at_it_at_once(rt: HostRuntime) {
@@ -186,7 +186,7 @@ fn registry_of<S: ServerBrand, R: Abort>(
     SharedRegistry::<S>::new(alloc, scene, users_of(rt, alloc)).expect(rt, "memory")
 }
 
-/// So many workers publish into the registry, and this comes of it.
+/// So many workers publish into the registry, with this result.
 fn publishes<S: ServerBrand, R: Threads + Wait + Sync + Abort, G: Gate>(
     rt: &R,
     alloc: Global,
@@ -200,7 +200,7 @@ fn publishes<S: ServerBrand, R: Threads + Wait + Sync + Abort, G: Gate>(
     assert!(rt; publish_own_into(rt, alloc, registry, workers, gate) == wanted);
 }
 
-/// A state of that scene is not published, for this fault.
+/// A state of that scene is refused with this fault.
 fn is_refused<S: ServerBrand, R: Wait + Abort>(
     rt: &R,
     alloc: Global,
@@ -258,8 +258,8 @@ fn asks<S: ServerBrand, R: Threads + Wait + Sync + Abort>(
     publishes(rt, alloc, &registry, 2, gate, Ok(12));
 }
 
-/// Two workers publish all 12 states, for a registry of their own and for one that stands: the gate
-/// is asked for each state once.
+/// Two workers publish all 12 states, in a new registry and in one that exists: the gate is asked
+/// for each state once.
 #[test]
 fn a_gate_is_asked_once_for_each_state(rt: HostRuntime) {
     let alloc = rt.alloc();

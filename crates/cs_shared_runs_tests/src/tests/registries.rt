@@ -1,4 +1,4 @@
-//! Registries of a server of any scenes, whose states workers published.
+//! Registries of a server of any scene, whose states workers published.
 ghost use Rattle.std.specs.Prelude.{◌≡◌, []};
 
 use super::publishing::{moved, users_of};
@@ -20,7 +20,7 @@ fn attach_ann<R: Wait + Abort>(rt: &R, alloc: Global, registry: &SharedRegistry<
     let _pass = attach(rt, alloc, &run, "ann");
 }
 
-/// For a server of any scenes two workers publish 12 states, and then none; ann is attached to run
+/// For a server of any scene two workers publish 12 states, and then none; ann is attached to run
 /// `a` of state 11, which has that key.
 #[test]
 fn workers_publish_for_a_server_of_any_scenes(rt: HostRuntime) {
@@ -45,8 +45,8 @@ fn published<R: Threads + Wait + Sync + Abort>(rt: &R, alloc: Global) -> States<
     )
 }
 
-/// The states that two workers published become a registry that threads share: nothing is missing,
-/// and ann is attached to run `a` of state 11.
+/// A registry whose states two workers published is shared by threads: nothing is missing, and ann
+/// is attached to run `a` of state 11.
 #[test]
 fn a_registry_is_made_of_what_workers_published(rt: HostRuntime) {
     let alloc = rt.alloc();

@@ -13,7 +13,7 @@ use std::thread;
 
 const ANN_AND_DAN: &[u8] = b"1:ann::\n2:dan::\n";
 
-/// Whether the user is attached to the run of that name, or A6 says that nobody is known by it.
+/// Whether the user is attached to the run of that name; otherwise the attach must be A6.
 fn is_known<R: Wait + Abort>(
     rt: &R,
     alloc: Global,
@@ -50,7 +50,7 @@ fn load<R: Wait + Abort>(rt: &R, alloc: Global, registry: &SharedRegistry<AnySce
     let _loaded = registry.reload(rt, alloc, users).expect(rt, "memory");
 }
 
-/// Loads another list once bob was attached, and attaches dan to `x` and to `y`.
+/// Loads another list after bob was attached, and attaches dan to `x` and to `y`.
 fn dans<R: Wait + Abort>(
     rt: &R,
     alloc: Global,
@@ -68,7 +68,7 @@ fn dans<R: Wait + Abort>(
 
 /// In one thread bob is attached to `x`. The other then loads ann and dan: dan is A6 at `x` and
 /// attached to `y`. bob is attached to `x` again, and A6 at `y`. Each waits for the other, and
-/// gives up after ten million looks.
+/// gives up after ten million checks.
 #[test]
 fn a_list_is_loaded_between_two_attaches(rt: HostRuntime) {
     let alloc = rt.alloc();

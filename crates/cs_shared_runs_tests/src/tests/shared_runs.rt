@@ -1,4 +1,4 @@
-//! Runs that users share, of a state that is published.
+//! Runs that users share, over a published state.
 
 use super::side::{F, attach, audit, comes, find, open, published, read, registry_of, write};
 use cs_journal::{Pass, Run};
@@ -102,7 +102,7 @@ fn push_runs(rt: &impl Abort, text: &mut String, runs: &[SharedRun<AnyScene>]) {
     }
 }
 
-/// The runs are told as `a` and `b`, though `b` was found first.
+/// The runs are listed as `a` and `b`, though `b` was found first.
 #[test]
 fn runs_are_told_by_their_names(rt: HostRuntime) {
     let alloc = rt.alloc();
@@ -124,7 +124,7 @@ fn push_entries<R: Wait + Abort>(rt: &R, text: &mut String, runs: &[SharedRun<An
 }
 
 /// ann attaches, opens `/f` and writes in `0/a`; bob attaches to `0/b`. By the handles that the
-/// registry tells, the first has three entries, and the second one.
+/// registry lists, the first has three entries, and the second one.
 #[test]
 fn each_run_is_told_by_its_own_handle(rt: HostRuntime) {
     let alloc = rt.alloc();
@@ -139,7 +139,7 @@ fn each_run_is_told_by_its_own_handle(rt: HostRuntime) {
     assert!(rt; text.as_str() == "3, 1, ");
 }
 
-/// Looks at a run until the flag comes.
+/// Looks at a run until the flag is set.
 #[derive(Drop)]
 struct UntilAnswered<'f> {
     looking: &'f AtomicBool,
@@ -167,7 +167,7 @@ fn look<R: Wait>(
     looked == Some(true)
 }
 
-/// Asks for a stat once the flag came.
+/// Asks for a stat after the flag is set.
 fn ask<R: Wait>(
     rt: &R,
     alloc: Global,
@@ -183,8 +183,8 @@ fn ask<R: Wait>(
     in_time && matches!(answer, Answer::Stat(_))
 }
 
-/// While one thread looks at run `a` under its lock, another is answered on run `b`, or gives up
-/// after ten million looks.
+/// While one thread looks at run `a` under its lock, another gets an answer of run `b`, or gives up
+/// after ten million checks.
 #[test]
 fn a_run_is_called_while_another_is_locked(rt: HostRuntime) {
     let alloc = rt.alloc();

@@ -23,7 +23,7 @@ const USERS: &[u8] = b"1:ann::\n2:bob::\n3:cat::\n4:staff:ann:ann,bob\n";
 /// The number of the file.
 pub const F: u64 = 1;
 
-/// How often a thread looks for what another is to do.
+/// How often a thread checks what another must do.
 const TURNS: u32 = 10_000_000;
 
 /// A registry of a scene, and its one state.
@@ -125,7 +125,7 @@ pub fn read() -> Call<'static> {
     })
 }
 
-/// Whether the flag comes within so many looks.
+/// Whether the flag is set within so many checks.
 pub fn comes(flag: &AtomicBool) -> bool {
     for _ in 0..TURNS {
         if flag.load(Ordering::SeqCst) {

@@ -90,7 +90,7 @@ fn a_file_may_lose_its_first_path_before_it_has_the_second(rt: HostRuntime) {
     has_files(&rt, alloc, &scene, 15, 1);
 }
 
-/// The pick `[3]`, the new path alone, isn't allowed.
+/// The pick `[3]`, only the new path, isn't allowed.
 #[test]
 fn a_path_that_is_linked_needs_the_making_of_its_file(rt: HostRuntime) {
     let fault = fault_of(&rt, rt.alloc(), &SECOND_PATH, &[&[0, 3], &[3]]);
@@ -156,7 +156,7 @@ const KEPT: &str = "0 / 0 cat staff 775 0 0 cat d
 2 /g 0 ann staff 644 0 0 ann 1: 1y
 ";
 
-/// `/g` alone is written: the new byte shows at both, which no operation touches.
+/// Only `/g` is written: the new byte is at both paths, which no operation touches.
 #[test]
 fn paths_of_one_file_that_no_operation_touches_show_what_was_written(rt: HostRuntime) {
     let tree = state_of(&rt, rt.alloc(), START, &[OVERWRITTEN], &[0]);

@@ -5,7 +5,7 @@ use cs_trace::Trace;
 use std::alloc::Global;
 use std::process::Abort;
 
-/// Looks at what is printed of a scene.
+/// Checks what is printed of a scene.
 pub fn is_listed(rt: &impl Abort, alloc: Global, scene: &Scene, wanted: &str) {
     let list = scene.listing().to_string(alloc).expect(rt, "memory");
     assert!(rt; list.as_str() == wanted, "{list}");
@@ -80,10 +80,10 @@ fn is_refused(rt: &impl Abort, alloc: Global, trace: &str, row: &Refused) {
     assert!(rt; fault == Some(SceneFault::PickNotAllowed(row.first)));
 }
 
-/// A fault as the program tells it.
-fn is_told(rt: &impl Abort, alloc: Global, fault: SceneFault, wanted: &str) {
-    let told = fault.to_string(alloc).expect(rt, "memory");
-    assert!(rt; told.as_str() == wanted, "{told}");
+/// A fault as the program prints it.
+fn is_printed(rt: &impl Abort, alloc: Global, fault: SceneFault, wanted: &str) {
+    let text = fault.to_string(alloc).expect(rt, "memory");
+    assert!(rt; text.as_str() == wanted, "{text}");
 }
 
 /// The pick `[4]` is `pick 0 not allowed`; of several picks the first that isn't allowed is named.
@@ -94,7 +94,7 @@ fn a_pick_that_lacks_what_it_needs_is_not_allowed(rt: HostRuntime) {
         is_refused(&rt, rt.alloc(), trace.as_str(), row);
     }
     let fault = SceneFault::PickNotAllowed(0);
-    is_told(&rt, rt.alloc(), fault, "pick 0 not allowed");
+    is_printed(&rt, rt.alloc(), fault, "pick 0 not allowed");
 }
 
 const MADE_A: &str = r#"{"op":"creat","path":"/a","owner":"ann","group":"ann","mode":"644"}"#;
@@ -105,7 +105,7 @@ const MOVED_TO_C: &str = r#"{"op":"rename","from":"/b","to":"/c"}"#;
 
 const SAID: &str = r#"{"op":"say","text":"done"}"#;
 
-/// A file is made, moved twice, and told of.
+/// A file is made and moved twice, and a line is acknowledged.
 const TWO_MOVES: [&str; 5] = [HEADER, MADE_A, MOVED_TO_B, MOVED_TO_C, SAID];
 
 const THREE_HOLES: &str = "\
@@ -125,8 +125,8 @@ state 8 pick - says 0
 state 9 pick 0,3 says 1
 ";
 
-/// A file is made, moved twice and told of: states 5 to 7 are the holes that end with the text, and
-/// no other hole is listed; states that have the text say 1.
+/// A file is made and moved twice, and a line is acknowledged: states 5 to 7 are the holes that end
+/// with the line, and no other hole is listed. States that have the line say 1.
 #[test]
 fn a_hole_is_listed_where_its_last_place_stays(rt: HostRuntime) {
     let scene = scene_of(&rt, rt.alloc(), &TWO_MOVES, true, &[&[], &[0, 3]]);
@@ -136,7 +136,7 @@ fn a_hole_is_listed_where_its_last_place_stays(rt: HostRuntime) {
     assert!(rt; scene.says(10).is_none());
 }
 
-/// The same with a sync before it is told of.
+/// The same with a sync before the line.
 const SYNCED_MOVES: [&str; 6] = [
     HEADER,
     MADE_A,
@@ -146,7 +146,7 @@ const SYNCED_MOVES: [&str; 6] = [
     SAID,
 ];
 
-/// With a sync before the text there are five prefixes and no hole.
+/// With a sync before the line there are five prefixes and no hole.
 #[test]
 fn what_a_sync_waits_for_has_no_hole(rt: HostRuntime) {
     let scene = scene_of(&rt, rt.alloc(), &SYNCED_MOVES, true, &[]);
@@ -205,7 +205,7 @@ fn is_fault(rt: &impl Abort, alloc: Global, trace: Trace, wanted: SceneFault) {
     assert!(rt; Scene::of(alloc, trace, true, picks).err() == Some(wanted));
 }
 
-/// A plan that is too large is told before a pick that isn't allowed; and too many micro-operations
+/// A plan that is too large is reported before a pick that isn't allowed; and too many micro-operations
 /// before both.
 #[test]
 fn a_plan_that_is_too_large_is_told_before_a_pick(rt: HostRuntime) {
@@ -216,7 +216,7 @@ fn a_plan_that_is_too_large_is_told_before_a_pick(rt: HostRuntime) {
     is_fault(&rt, alloc, too_large, SceneFault::PlanTooLarge);
 }
 
-/// A plan that is too large is told before a pick that isn't allowed; and too many micro-operations
+/// A plan that is too large is reported before a pick that isn't allowed; and too many micro-operations
 /// before both.
 #[test]
 fn more_than_1024_micro_operations_make_no_scene(rt: HostRuntime) {
@@ -230,11 +230,11 @@ const CREAT_T: &str = r#"{"op":"creat","path":"/t","owner":"ann","group":"staff"
 #[test]
 fn faults_are_told_as_the_program_tells_them(rt: HostRuntime) {
     let alloc = rt.alloc();
-    is_told(&rt, alloc, SceneFault::TooMany, "too many micro-operations");
-    is_told(&rt, alloc, SceneFault::PlanTooLarge, "plan too large");
+    is_printed(&rt, alloc, SceneFault::TooMany, "too many micro-operations");
+    is_printed(&rt, alloc, SceneFault::PlanTooLarge, "plan too large");
     let pick = SceneFault::PickNotAllowed(12);
-    is_told(&rt, alloc, pick, "pick 12 not allowed");
-    is_told(&rt, alloc, SceneFault::Memory, "out of memory");
+    is_printed(&rt, alloc, pick, "pick 12 not allowed");
+    is_printed(&rt, alloc, SceneFault::Memory, "out of memory");
     let missing = MakeFault::NoSuchState
         .to_string(alloc)
         .expect(&rt, "memory");

@@ -43,7 +43,7 @@ pub fn has_bytes(
     assert!(rt; bytes.as_slice() == wanted, "{path} in state {number}");
 }
 
-/// So many files stand in the state of that number, the root among them.
+/// The state of that number has so many files and directories, including the root.
 pub fn has_files(rt: &impl Abort, alloc: Global, scene: &Arc<Scene>, number: u32, count: usize) {
     let state = made(rt, alloc, scene, number);
     assert!(rt; state.into_store().count() == count);
@@ -101,7 +101,7 @@ const TWO_MOVES: [&str; 5] = [
     r#"{"op":"say","text":"done"}"#,
 ];
 
-/// A state's number, and where the file stands.
+/// A state's number, and the file's path there.
 struct Place {
     number: u32,
     path: &'static str,
@@ -141,7 +141,7 @@ fn stands_alone(rt: &impl Abort, alloc: Global, scene: &Arc<Scene>, place: &Plac
     assert!(rt; state.store().count() == 2);
 }
 
-/// Its states have the file at `/a`, `/b` or `/c`, and without its making nowhere.
+/// Its states have the file at `/a`, `/b` or `/c`, and nowhere without its creation.
 #[test]
 fn a_hole_leaves_a_file_where_it_was_moved_from(rt: HostRuntime) {
     let alloc = rt.alloc();
@@ -222,7 +222,7 @@ fn grown(rt: &impl Abort, alloc: Global, length: usize) -> Vec<u8> {
     bytes
 }
 
-/// The same, and these bytes behind it.
+/// The same, and these bytes after it.
 fn grown_before(rt: &impl Abort, alloc: Global, length: usize, last: &[u8]) -> Vec<u8> {
     let mut bytes = grown(rt, alloc, length);
     bytes.extend_from_slice(last).expect(rt, "memory");
@@ -266,7 +266,7 @@ fn is_of_ann(rt: &impl Abort, tree: &Built) {
     assert!(rt; record.mode == 0o664);
 }
 
-/// A path, and the number that stands there.
+/// A path, and the number that is there.
 struct At {
     path: &'static str,
     number: Option<u64>,
@@ -301,7 +301,7 @@ fn a_file_that_is_moved_keeps_its_owner_and_takes_the_next_number(rt: HostRuntim
     assert!(rt; tree.count() == 6);
 }
 
-/// A file of the largest size, with one byte behind zeros, is cut to five bytes.
+/// A file of the largest size, with one byte after zeros, is cut to five bytes.
 const LARGEST_FILE: [&str; 5] = [
     HEADER,
     r#"{"op":"creat","path":"/f","owner":"ann","group":"ann","mode":"644"}"#,

@@ -51,14 +51,14 @@ fn a_file_that_is_given_away_and_moved_has_nine_states(rt: HostRuntime) {
     is_listed(&rt, rt.alloc(), &scene, NINE_STATES);
 }
 
-/// The first of the rights of a file are there for the second.
+/// The second change of a file's rights needs the first.
 #[test]
 fn rights_that_are_set_need_those_before_them(rt: HostRuntime) {
     let fault = fault_of(&rt, rt.alloc(), &SET_AND_MOVED, &[&[0, 2]]);
     assert!(rt; fault == Some(SceneFault::PickNotAllowed(0)));
 }
 
-/// Waited for, they are there before the file is moved.
+/// If an fsync waits for them, the rights are on the disk before the file is moved.
 #[test]
 fn rights_are_waited_for_with_their_file(rt: HostRuntime) {
     let all = [BLOCKS, MADE_A, CLOSED, GIVEN, WAITED_FOR, MOVED];
@@ -68,13 +68,13 @@ fn rights_are_waited_for_with_their_file(rt: HostRuntime) {
 
 const ROOT: &str = "0 / 0 cat staff 775 0 0 cat d\n";
 
-/// A set, and all lines of its state but the root's.
+/// A set, and all lines of its state without the root's.
 struct Left {
     places: &'static [u32],
     lines: &'static str,
 }
 
-/// Looks at a state of these operations on a root alone.
+/// Checks a state of these operations, which start with only the root.
 fn leaves(rt: &impl Abort, alloc: Global, operations: &[&str], left: &Left) {
     let tree = state_of(rt, alloc, BLOCKS, operations, left.places);
     let shown = lines(rt, alloc, &tree);
@@ -104,9 +104,9 @@ const GIVEN_AWAY: [Left; 5] = [
     },
 ];
 
-/// All four leave `/b` of bob, 600, changed last by bob; the first two and the last `/b` of ann,
-/// 600; the first and the last `/b` of ann, 644; the first alone `/a` of ann, 644; the two changes
-/// alone no file.
+/// All four leave `/b` of bob, 600, changed last by bob; the first two and the last leave `/b` of
+/// ann, 600; the first and the last leave `/b` of ann, 644; only the first leaves `/a` of ann, 644;
+/// only the two changes leave no file.
 #[test]
 fn a_file_has_the_rights_that_were_set_last(rt: HostRuntime) {
     for left in &GIVEN_AWAY {
@@ -165,7 +165,7 @@ state 2 prefix 2 says 0
 state 3 hole 0 2 says 0
 ";
 
-/// Where each entry comes by itself the second may stand alone.
+/// If entries are not kept in order, a state may have only the second.
 #[test]
 fn entries_of_one_directory_may_come_in_any_order(rt: HostRuntime) {
     let alloc = rt.alloc();
@@ -187,7 +187,7 @@ fn entries_may_be_kept_in_order(rt: HostRuntime) {
     assert!(rt; fault == Some(SceneFault::PickNotAllowed(0)));
 }
 
-/// The same operations where entries are kept in order are another scene, with the same plan too.
+/// The same operations with entries kept in order are another scene, even with the same plan.
 #[test]
 fn a_scene_of_the_other_profile_is_another(rt: HostRuntime) {
     let alloc = rt.alloc();
@@ -226,7 +226,7 @@ const STORE: &str =
 {"op":"fsync","path":"/"}
 {"op":"say","text":"a=2 may be read"}"#;
 
-/// Its client was told, and the readers may not read: the last hole.
+/// The client has its acknowledged line, and the readers may not read: the last hole.
 #[test]
 fn a_table_may_be_told_of_before_its_readers_may_read_it(rt: HostRuntime) {
     let alloc = rt.alloc();

@@ -9,7 +9,7 @@ use std::alloc::Global;
 use std::process::Abort;
 use std::sync::Arc;
 
-/// A store that takes a change into its log and then into a new table.
+/// A store that writes a change into its log and then into a new table.
 const STORE: &str = r#"{"trace":1,"owner":"kv","group":"kv","mode":"750"}
 {"start":"file","path":"/table","owner":"kv","group":"kv","mode":"640","bytes":"613d310a"}
 
@@ -29,14 +29,14 @@ const STORE: &str = r#"{"trace":1,"owner":"kv","group":"kv","mode":"750"}
 {"op":"sync"}
 "#;
 
-/// Found by a second reading of the formats, which keeps whole trees.
+/// Computed by a second implementation of the formats, which compares whole trees.
 const FIRSTS: [u32; 26] = [
     0, 1, 2, 3, 3, 5, 6, 7, 8, 9, 10, 11, 1, 5, 6, 7, 3, 5, 8, 3, 5, 6, 9, 10, 11, 25,
 ];
 
-/// Each way in which what was done comes to nothing: bytes that stand there already, or that are
-/// written back, a file that is cut and filled again, one that is put in the place of its like, one
-/// that goes, and permissions that are set back.
+/// Each way in which operations leave the tree as it was: bytes that are there already, or are
+/// written back, a file that is cut and filled again, one that replaces an equal one, one that is
+/// removed, and permissions that are set back.
 const BACK: &str = r#"{"trace":2,"profile":"blocks","owner":"kv","group":"kv","mode":"750"}
 {"start":"file","path":"/data","owner":"kv","group":"kv","mode":"640","bytes":"616263"}
 
@@ -56,11 +56,11 @@ const BACK: &str = r#"{"trace":2,"profile":"blocks","owner":"kv","group":"kv","m
 {"op":"write","path":"/data","offset":2,"bytes":"63"}
 "#;
 
-/// By hand: what is new is the letter that is wrong, the file that is cut or has zeros, the mode,
-/// and the file that stands beside.
+/// By hand. New states are those with the wrong letter, the file that is cut or has zeros, the
+/// mode, and the second file.
 const BACK_FIRSTS: [u32; 18] = [0, 0, 2, 0, 4, 5, 0, 7, 0, 9, 10, 11, 0, 13, 14, 15, 0, 0];
 
-/// The first state with the tree of this one, by comparing whole trees.
+/// The first state with an equal tree, found by comparing whole trees.
 fn first_by_trees(rt: &impl Abort, alloc: Global, scene: &Arc<Scene>, number: u32) -> u32
     requires { number < length (arc_value scene.now).plan }
 {
@@ -72,7 +72,7 @@ fn first_by_trees(rt: &impl Abort, alloc: Global, scene: &Arc<Scene>, number: u3
     number
 }
 
-/// Whether the state is seen to have the tree of another, if that is there.
+/// Whether the state is seen to have the tree of another; false if there is no other.
 fn is_seen(rt: &impl Abort, alloc: Global, scene: &Arc<Scene>, other: u32, number: u32) -> bool
     requires { number < length (arc_value scene.now).plan }
 {
@@ -83,7 +83,7 @@ fn is_seen(rt: &impl Abort, alloc: Global, scene: &Arc<Scene>, other: u32, numbe
     are_seen_same(alloc, scene, &parts, other, number).expect(rt, "memory")
 }
 
-/// Adds so many zeros, as a trace spells them.
+/// Adds `count` zeros, as a trace spells them.
 fn push_zeros(rt: &impl Abort, text: &mut String, count: u32) {
     for _ in 0..count {
         text.push_str("00").expect(rt, "memory");
@@ -146,8 +146,8 @@ fn finds_the_first_states_with_equal_trees(rt: HostRuntime) {
     expect_firsts(&rt, rt.alloc(), &scene, &FIRSTS);
 }
 
-/// Bytes that are written back, a file that is cut and filled again, one that is put in the place
-/// of its like, one that goes, permissions that are set back: the first states with equal trees, by
+/// Bytes that are written back, a file that is cut and filled again, one that replaces an equal
+/// one, one that is removed, permissions that are set back: the first states with equal trees, by
 /// hand, found in each of these ways.
 #[test]
 fn equal_states_are_found_in_each_way(rt: HostRuntime) {

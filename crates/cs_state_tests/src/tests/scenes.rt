@@ -51,7 +51,7 @@ pub fn scene_of(
     made_of(rt, alloc, lines, holes, picks).expect(rt, "a scene")
 }
 
-/// Why there is no such scene, if there is none.
+/// Why the trace that has these lines has no scene; None if it has one.
 pub fn fault_of(
     rt: &impl Abort,
     alloc: Global,
@@ -77,7 +77,7 @@ const MOVED: &str = r#""}
 {"op":"rename","from":"/t","to":"/a"}
 "#;
 
-/// Its trace.
+/// The trace of the worked example.
 pub fn written_and_moved(rt: &impl Abort, alloc: Global) -> String {
     let bytes = "61".repeat(alloc, 5_000).expect(rt, "memory");
     [MADE, bytes.as_str(), MOVED]

@@ -11,7 +11,7 @@ use cs_trace::read_trace;
 use std::alloc::Global;
 use std::process::Abort;
 
-/// A root, and the files 0 and 1 in it, of which `/f` holds `hello`.
+/// A root, and the files 0 and 1 in it, of which `/f` has the bytes `hello`.
 const START: &str = r#"{"trace":1,"owner":"cat","group":"staff","mode":"775"}
 {"start":"file","path":"/z","owner":"ann","group":"ann","mode":"644","bytes":""}
 {"start":"file","path":"/f","owner":"ann","group":"staff","mode":"664","bytes":"68656c6c6f"}
@@ -32,7 +32,7 @@ fn order_of(rt: &impl Abort, alloc: Global, operations: &[&str]) -> Order {
     Order::of(alloc, &micros).expect(rt, "memory")
 }
 
-/// A micro-operation needs just these.
+/// A micro-operation needs exactly these.
 fn needs_these(rt: &impl Abort, order: &Order, place: usize, wanted: &[usize])
     requires { place < length order.now }
 {
@@ -109,13 +109,13 @@ fn are_below(places: &[u32], count: usize) -> bool
     places.iter().all(|place| (*place as usize) < count)
 }
 
-/// What a set leaves of the file 1, which holds `hello` at the start.
+/// The bytes of file 1 after a set's members; it has `hello` at the start.
 fn bytes_left(rt: &impl Abort, alloc: Global, ops: &[MicroOp], places: &[u32]) -> Vec<u8> {
     let start = Vec::from_slice(alloc, b"hello").expect(rt, "memory");
     let mut content = FileContent::of(start);
     assert!(rt; are_small(ops));
     assert!(rt; are_below(places, ops.len()));
-    content.take(1, ops, places).expect(rt, "memory");
+    content.apply_members(1, ops, places).expect(rt, "memory");
     content.into_visible().expect(rt, "memory")
 }
 
@@ -196,10 +196,11 @@ fn a_move_behind_an_fsync_needs_the_file_whole(rt: HostRuntime) {
     assert!(rt; !order.is_allowed(&[4]));
 }
 
-/// A file is made and moved twice, and then told of, behind this line. The text needs these.
-fn is_chain(rt: &impl Abort, alloc: Global, before: &str, told: &[usize]) {
+/// A file is made and moved twice, and a line is acknowledged, after this line of the trace. The
+/// acknowledged line needs these.
+fn is_chain(rt: &impl Abort, alloc: Global, before: &str, needed: &[usize]) {
     let order = order_of(rt, alloc, &[MAKE_T, MOVE_TWICE, before, SAY_THERE]);
-    needs_just(rt, &order, &[&[], &[0], &[1], told]);
+    needs_just(rt, &order, &[&[], &[0], &[1], needed]);
     assert!(rt; order.len() == 4);
     assert!(rt; order.needs_by_chain(0, 2) && !order.needs_by_chain(2, 0));
 }
@@ -209,8 +210,8 @@ const MOVE_TWICE: &str = r#"{"op":"rename","from":"/t","to":"/b"}
 
 const SAY_THERE: &str = r#"{"op":"say","text":"there"}"#;
 
-/// Two renames and a text: the second rename needs the first alone, and by a chain the making too;
-/// behind a sync the text needs all three.
+/// Two renames and an acknowledged line: the second rename needs only the first, and by a chain
+/// also the creation; after a sync the line needs all three.
 #[test]
 fn a_chain_is_no_need(rt: HostRuntime) {
     is_chain(&rt, rt.alloc(), "", &[]);

@@ -32,13 +32,13 @@ const ONE_FILE: [&str; 4] = [
     r#"{"op":"rename","from":"/f","to":"/n"}"#,
 ];
 
-/// So many of a byte, with a dot for a zero.
+/// A run of one byte and its length, with a dot for a zero.
 fn show_run(rt: &impl Abort, text: &mut String, byte: u8, count: usize) {
     let letter = if byte == 0 { '.' } else { char::from(byte) };
     write!(text, " {count}{letter}").expect(rt, "memory");
 }
 
-/// How many of the bytes at the front are the same.
+/// How many bytes equal to the first one there are before another.
 fn run_length(bytes: &[u8], first: u8) -> usize
     ensures { result ≤ length bytes.now }
 {
@@ -99,8 +99,8 @@ fn show_content<T: TreeRead>(
     }
 }
 
-/// A line of what stands at a number: number, path, version, owner, group, permissions, times, who
-/// changed it last, and what is in it.
+/// A line of what is at a number: number, path, version, owner, group, permissions, times, the user
+/// who changed it last, and its content.
 fn show_line<T: TreeRead>(
     rt: &impl Abort,
     alloc: Global,
@@ -127,7 +127,7 @@ pub fn lines<T: TreeRead>(rt: &impl Abort, alloc: Global, tree: &T) -> String {
     text
 }
 
-/// The line of a path; nothing where no file is.
+/// The line of a path; empty if there is no file.
 fn line_at(rt: &impl Abort, alloc: Global, tree: &StateTree, path: &str) -> String {
     let path = Path::read(alloc, path).expect(rt, "a path");
     let mut text = String::new(alloc);
@@ -137,7 +137,7 @@ fn line_at(rt: &impl Abort, alloc: Global, tree: &StateTree, path: &str) -> Stri
     text
 }
 
-/// The state of a set, which is to be allowed, as a plain store.
+/// The state of a set, which must be allowed, as a plain store.
 fn plain(rt: &impl Abort, alloc: Global, trace: &Trace, places: &[u32]) -> PlainTree {
     let micros = break_up(alloc, trace).expect(rt, "micro-operations");
     let order = Order::of(alloc, &micros).expect(rt, "memory");
@@ -151,7 +151,7 @@ fn atlas_of(rt: &impl Abort, alloc: Global, trace: Trace) -> Atlas {
     Atlas::of(alloc, trace, micros).expect(rt, "memory")
 }
 
-/// The state of a set, which is to be allowed, from an atlas.
+/// The state of a set, which must be allowed, from an atlas.
 fn built(rt: &impl Abort, alloc: Global, atlas: &Atlas, places: &[u32]) -> StateTree {
     let micros = atlas.micros();
     let order = Order::of(alloc, micros).expect(rt, "memory");
@@ -169,7 +169,7 @@ fn trace_of(rt: &impl Abort, alloc: Global, start: &str, operations: &[&str]) ->
     read_trace(alloc, text.as_str()).expect(rt, "a trace")
 }
 
-/// The state of a set, which is to be allowed. A plain store of it is the same.
+/// The state of a set, which must be allowed. It is equal to a plain store of the set.
 pub fn state_of(
     rt: &impl Abort,
     alloc: Global,
@@ -185,7 +185,7 @@ pub fn state_of(
     tree
 }
 
-/// A set, how many files stand in its state, and the line of a path there.
+/// A set, how many files and directories its state has, and the line of a path there.
 struct State {
     places: &'static [u32],
     count: usize,
@@ -193,7 +193,7 @@ struct State {
     line: &'static str,
 }
 
-/// Looks at a state of these operations on the start tree.
+/// Checks a state of these operations on the start tree.
 fn has_line(rt: &impl Abort, alloc: Global, operations: &[&str], state: &State) {
     let tree = state_of(rt, alloc, START, operations, state.places);
     assert!(rt; tree.count() == state.count);
@@ -251,8 +251,7 @@ const MOVED: &str = "0 / 0 cat staff 775 0 0 cat d
 5 /p 0 ann staff 750 0 0 ann d
 ";
 
-/// The file keeps its owner where it comes to another's place, and the numbers are those of the
-/// paths.
+/// A file that replaces another keeps its owner, and the numbers are those of the paths.
 #[test]
 fn a_moved_file_has_the_number_of_its_new_path(rt: HostRuntime) {
     let all = [0, 1, 2, 3, 4, 5];
@@ -268,7 +267,7 @@ const MOVED_T: &str = r#""}
 {"op":"fsync","path":"/t"}
 {"op":"rename","from":"/t","to":"/a"}"#;
 
-/// A set, and all lines of its state but the root's.
+/// A set, and all lines of its state without the root's.
 struct Whole {
     places: &'static [u32],
     lines: &'static str,
@@ -323,7 +322,8 @@ fn a_file_before_its_move_may_be_half_there(rt: HostRuntime) {
     }
 }
 
-/// A directory is made, filled, emptied and removed, and a file is made where another was.
+/// A directory is made, filled, emptied and removed, and a file is made at the path of a removed
+/// one.
 const DIRECTORIES: [&str; 6] = [
     r#"{"op":"mkdir","path":"/d/e","owner":"bob","group":"bob","mode":"711"}"#,
     r#"{"op":"creat","path":"/d/e/x","owner":"ann","group":"ann","mode":"600"}"#,
@@ -372,8 +372,9 @@ const DIRECTORIES_MADE: [State; 6] = [
     },
 ];
 
-/// A directory is made between others, filled, emptied and removed, and a file is made where
-/// another was: numbers go by path, owner and mode are those of the making.
+/// A directory is made between others, filled, emptied and removed, and a file is made at the path
+/// of a removed one: numbers follow the order of paths, and owner and mode are those of the new
+/// file.
 #[test]
 fn directories_have_the_owners_of_their_making(rt: HostRuntime) {
     for state in &DIRECTORIES_MADE {

@@ -8,7 +8,7 @@ pub struct Faulty {
     pub lines: &'static [&'static str],
 }
 
-/// Start lines, behind a file `/f`.
+/// Start lines, after a file `/f`.
 pub const START_FAULTS: [Faulty; 6] = [
     Faulty {
         kind: TraceFaultKind::Syntax,
@@ -53,7 +53,7 @@ pub const START_FAULTS: [Faulty; 6] = [
     },
 ];
 
-/// Operations, behind a directory `/d`, a file in it and a file `/q` beside it.
+/// Operations, after a directory `/d`, a file in it and a file `/q` next to it.
 pub const OPERATION_FAULTS: [Faulty; 10] = [
     Faulty {
         kind: TraceFaultKind::Syntax,

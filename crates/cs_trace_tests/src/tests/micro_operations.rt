@@ -6,7 +6,7 @@ use cs_trace::{Covers, Profile, Rights, Version, read_trace};
 use std::alloc::{AllocError, Global};
 use std::process::Abort;
 
-/// What these operations break into, behind that start.
+/// The micro-operations of these operations, after that start.
 pub fn broken(rt: &impl Abort, alloc: Global, start: &str, operations: &str) -> Micros {
     let text = [start, operations].join(alloc, "\n").expect(rt, "memory");
     let trace = read_trace(alloc, text.as_str()).expect(rt, "a trace");
@@ -32,8 +32,8 @@ fn show_rights(text: &mut String, rights: &Rights) -> Result<(), AllocError> {
     write!(text, " {owner} {group} {:o}", rights.permissions)
 }
 
-/// What no line says of a micro-operation.
-fn show_beside(text: &mut String, op: &MicroOp) -> Result<(), AllocError> {
+/// The bytes, rights and node of a micro-operation, which its line doesn't print.
+fn show_details(text: &mut String, op: &MicroOp) -> Result<(), AllocError> {
     match op {
         MicroOp::CreateDirEntry { node, rights, .. } => {
             write!(text, "{node:?}")?;
@@ -45,11 +45,11 @@ fn show_beside(text: &mut String, op: &MicroOp) -> Result<(), AllocError> {
     }
 }
 
-/// Looks at that of all, a line each.
-fn are_beside(rt: &impl Abort, alloc: Global, ops: &[MicroOp], wanted: &str) {
+/// All micro-operations have these details, a line each.
+fn have_details(rt: &impl Abort, alloc: Global, ops: &[MicroOp], wanted: &str) {
     let mut text = String::new(alloc);
     for op in ops {
-        show_beside(&mut text, op).expect(rt, "memory");
+        show_details(&mut text, op).expect(rt, "memory");
         text.push('\n').expect(rt, "memory");
     }
     assert_eq!(rt; text.as_str(), wanted);
@@ -114,7 +114,7 @@ write_block 1 0 0 1
 move_dir_entry /f /n
 ";
 
-const BESIDE_SIX: &str = "\n\
+const DETAILS_SIX: &str = "\n\
 Some(72) to Some(72)
 Some(73) to Some(73)
 
@@ -129,7 +129,7 @@ Some(120) to Some(120)
 fn seven_operations_are_six_micro_operations(rt: HostRuntime) {
     let micros = broken(&rt, rt.alloc(), START, SEVEN);
     are_shown(&rt, rt.alloc(), micros.ops(), SIX);
-    are_beside(&rt, rt.alloc(), micros.ops(), BESIDE_SIX);
+    have_details(&rt, rt.alloc(), micros.ops(), DETAILS_SIX);
     assert_eq!(rt; micros.syncs().len(), 0);
     are_starts(&rt, rt.alloc(), &micros, "file /d/s/z\nfile /f\nfile /n\n");
 }
@@ -156,7 +156,7 @@ write_block 0 1 0 904
 move_dir_entry /t /a
 ";
 
-const BESIDE_WRITTEN: &str = "\
+const DETAILS_WRITTEN: &str = "\
 File(0) ann staff 644
 
 Some(97) to Some(97)
@@ -165,13 +165,13 @@ Some(97) to Some(97)
 ";
 
 /// A write of 5,000 bytes is a change of size and two blocks, `write_block 0 1 0 904` the second;
-/// the fsync's sync point comes behind four micro-operations.
+/// the fsync's sync point comes after four micro-operations.
 #[test]
 fn a_write_of_5000_bytes_is_two_blocks_before_its_fsync(rt: HostRuntime) {
     let operations = written(rt.alloc()).expect(&rt, "memory");
     let micros = broken(&rt, rt.alloc(), HEADER, operations.as_str());
     are_shown(&rt, rt.alloc(), micros.ops(), WRITTEN);
-    are_beside(&rt, rt.alloc(), micros.ops(), BESIDE_WRITTEN);
+    have_details(&rt, rt.alloc(), micros.ops(), DETAILS_WRITTEN);
     are_syncs(&rt, rt.alloc(), micros.syncs(), "4 file 0\n");
     are_starts(&rt, rt.alloc(), &micros, "");
 }
@@ -224,7 +224,7 @@ delete_dir_entry /q
 say
 ";
 
-const BESIDE_ENTRIES: &str = "\
+const DETAILS_ENTRIES: &str = "\
 Directory bob staff 750
 File(3) ann ann 600
 File
@@ -245,7 +245,7 @@ const ENTRIES_COVERED: &str = "\
 fn entries_are_made_and_deleted_and_syncs_cover_what_they_name(rt: HostRuntime) {
     let micros = broken(&rt, rt.alloc(), START, ENTRIES);
     are_shown(&rt, rt.alloc(), micros.ops(), ENTRIES_MADE);
-    are_beside(&rt, rt.alloc(), micros.ops(), BESIDE_ENTRIES);
+    have_details(&rt, rt.alloc(), micros.ops(), DETAILS_ENTRIES);
     are_syncs(&rt, rt.alloc(), micros.syncs(), ENTRIES_COVERED);
 }
 

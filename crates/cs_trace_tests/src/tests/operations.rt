@@ -27,7 +27,7 @@ fn fault_of(rt: &impl Abort, alloc: Global, lines: &[&str]) -> Option<TraceFault
     read_trace(alloc, text.as_str()).err()
 }
 
-/// A header alone is a trace: a root, no file, no operation.
+/// A header is a trace by itself: a root, no file, no operation.
 #[test]
 fn a_header_alone_is_a_trace(rt: HostRuntime) {
     let trace = read_trace(rt.alloc(), HEADER).expect(&rt, "a trace");
@@ -51,8 +51,8 @@ const THREE_NODES: [Node; 4] = [
     Node::File(0),
 ];
 
-/// `/z`, `/d` and `/b` stand at the start in this order of lines: `/z` is the file 0 and `/b` the
-/// file 1, while the records go by path.
+/// The start has `/z`, `/d` and `/b` in this order of lines: `/z` is the file 0 and `/b` the file
+/// 1, while the records are in the order of paths.
 #[test]
 fn files_have_the_numbers_of_their_lines(rt: HostRuntime) {
     let trace = trace_after(&rt, rt.alloc(), HEADER, &THREE_FILES);
@@ -86,7 +86,7 @@ rename /f /n
 write 1 1 0 [240]
 ";
 
-/// On the start tree of the first exchange, writes and truncates of `/f` tell the file 1 and its
+/// On the start tree of the first exchange, writes and truncates of `/f` name the file 1 and its
 /// size before each: 5, 4097, 4097, 1, 1; after `rename /f /n` a write of `/n` is one of the file
 /// 1.
 #[test]
@@ -160,7 +160,7 @@ fn a_store_that_logs_and_renames(rt: HostRuntime) {
     has_operations(&rt, rt.alloc(), STORE, &[], STORE_SHOWN);
 }
 
-/// A line is at fault behind a directory, a file in it and a file beside it.
+/// The line has this fault after a directory, a file in it and a file next to it.
 fn is_fault(rt: &impl Abort, alloc: Global, line: &str, kind: TraceFaultKind) {
     let found = fault_of(rt, alloc, &[MKDIR_D, CREAT_X, CREAT_Q, line]);
     assert!(rt;
@@ -176,7 +176,7 @@ fn are_faults(rt: &impl Abort, alloc: Global, faulty: &Faulty) {
 }
 
 /// Each fault of each operation, below a directory with a file and a file: Syntax and UnknownOp
-/// with known and unknown names, BadName before what stands, then the faults of what stands, in
+/// with known and unknown names, BadName before the faults that need the tree, then those, in
 /// their order, and TooLarge last.
 #[test]
 fn each_fault_of_an_operation(rt: HostRuntime) {
@@ -185,7 +185,7 @@ fn each_fault_of_an_operation(rt: HostRuntime) {
     }
 }
 
-/// These lines are at fault in that line.
+/// These lines have a fault in that line.
 fn is_fault_at(rt: &impl Abort, alloc: Global, lines: &[&str], line: usize, kind: TraceFaultKind) {
     let found = fault_of(rt, alloc, lines);
     assert!(rt; found == Some(TraceFault { line, kind }), "{found:?}");
@@ -245,7 +245,7 @@ fn a_rename_leaves_nothing_at_the_old_name(rt: HostRuntime) {
     is_no_fault(&rt, rt.alloc(), &MADE_ANEW);
 }
 
-/// A file beside `/d`, and one in another directory.
+/// A file next to `/d`, and one in another directory.
 const ENTRIES_ELSEWHERE: [&str; 5] = [
     MKDIR_D,
     r#"{"op":"creat","path":"/d-","owner":"ann","group":"ann","mode":"644"}"#,
@@ -254,13 +254,13 @@ const ENTRIES_ELSEWHERE: [&str; 5] = [
     RMDIR_D,
 ];
 
-/// `/d` is empty though `/d-`, `/dd` and `/dd/x` stand.
+/// `/d` is empty although there are `/d-`, `/dd` and `/dd/x`.
 #[test]
 fn an_entry_of_another_directory_leaves_one_empty(rt: HostRuntime) {
     is_no_fault(&rt, rt.alloc(), &ENTRIES_ELSEWHERE);
 }
 
-/// A line with so many names in its path, what stands before them and behind them, and its fault.
+/// A line with so many names in its path, the texts before and after them, and its fault.
 struct LongPath {
     head: &'static str,
     count: usize,
@@ -285,7 +285,7 @@ fn deep(rt: &impl Abort, alloc: Global) -> String {
     text
 }
 
-/// Looks at the fault of a line below 64 directories in one another, and a file beside them.
+/// The line has this fault below 64 directories in one another, with a file next to them.
 fn is_long_path(rt: &impl Abort, alloc: Global, deep: &str, row: &LongPath) {
     let line = long_line(alloc, row.head, row.count, row.tail).expect(rt, "memory");
     let text = text_after(alloc, deep, &[CREAT_Q, line.as_str()]).expect(rt, "memory");

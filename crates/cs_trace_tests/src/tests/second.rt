@@ -12,7 +12,7 @@ const ORDERED: &str =
 
 const FIRST: &str = r#"{"trace":1,"owner":"cat","group":"staff","mode":"775"}"#;
 
-/// The profile of a header alone.
+/// The profile of a trace of only a header.
 fn profile_of(rt: &impl Abort, alloc: Global, header: &str) -> Profile {
     read_trace(alloc, header)
         .expect(rt, "a trace")
@@ -40,7 +40,7 @@ const BAD_HEADERS: [&str; 7] = [
     r#"{"trace":1,"profile":"blocks","owner":"cat","group":"staff"}"#,
 ];
 
-/// The last of these lines behind a text is at fault.
+/// The last of these lines, after a text, has this fault.
 fn is_fault(
     rt: &impl Abort,
     alloc: Global,
@@ -70,7 +70,7 @@ const CHMOD: &str = r#"{"op":"chmod","path":"/q","mode":"600"}"#;
 
 const CHOWN: &str = r#"{"op":"chown","path":"/q","owner":"bob","group":"staff"}"#;
 
-/// Lines that the second version alone knows, also with keys that are odd.
+/// Lines that only the second version knows, also with wrong keys.
 const UNKNOWN: [&str; 4] = [
     CHMOD,
     CHOWN,
@@ -78,7 +78,7 @@ const UNKNOWN: [&str; 4] = [
     r#"{"op":"chown","path":7}"#,
 ];
 
-/// In version 1 a chmod and a chown are UnknownOp, also with keys that are odd.
+/// In version 1 a chmod and a chown are UnknownOp, also with wrong keys.
 #[test]
 fn the_first_version_knows_neither(rt: HostRuntime) {
     let unknown = at(3, TraceFaultKind::UnknownOp);
@@ -108,7 +108,7 @@ const MISSING: [&str; 2] = [
     r#"{"op":"chown","path":"/q/r","owner":"bob","group":"staff"}"#,
 ];
 
-/// Each line behind a file is at fault so.
+/// Each of these lines has this fault after a file.
 fn are_faults(rt: &impl Abort, alloc: Global, lines: &[&str], kind: TraceFaultKind) {
     for line in lines {
         is_fault(rt, alloc, BLOCKS, &[CREAT_Q, line], at(3, kind));
@@ -116,7 +116,7 @@ fn are_faults(rt: &impl Abort, alloc: Global, lines: &[&str], kind: TraceFaultKi
 }
 
 /// A chmod and a chown with keys too few and too many and odd modes (Syntax), bad paths and names
-/// (BadName), where nothing stands (Missing).
+/// (BadName), and nothing at the path (Missing).
 #[test]
 fn each_fault_of_a_chmod_and_of_a_chown(rt: HostRuntime) {
     are_faults(&rt, rt.alloc(), &SYNTAX, TraceFaultKind::Syntax);

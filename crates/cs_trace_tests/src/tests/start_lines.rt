@@ -64,7 +64,7 @@ const SHUFFLED_SHOWN: &str = "\
 6 /p ann staff ann 0 0 0 800001e8 None
 ";
 
-/// The start tree from lines that stand in another order, with keys in another order and
+/// The start tree from lines in another order, with keys in another order and
 /// hexadecimal digits of both cases: the numbers are those of the paths. Version and times are 0,
 /// muid is the owner, and directories have DMDIR.
 #[test]
@@ -78,16 +78,16 @@ fn fault_of(rt: &impl Abort, alloc: Global, lines: &[&str]) -> Option<TraceFault
     read_trace(alloc, text.as_str()).err()
 }
 
-/// These lines are at fault in that line.
+/// These lines have a fault in that line.
 fn is_fault_at(rt: &impl Abort, alloc: Global, lines: &[&str], line: usize, kind: TraceFaultKind) {
     let found = fault_of(rt, alloc, lines);
     assert!(rt; found == Some(TraceFault { line, kind }), "{found:?}");
 }
 
-/// A fault as it is told.
-fn is_told(rt: &impl Abort, alloc: Global, fault: TraceFault, wanted: &str) {
-    let told = fault.to_string(alloc).expect(rt, "memory");
-    assert_eq!(rt; told.as_str(), wanted);
+/// The fault prints this text.
+fn prints(rt: &impl Abort, alloc: Global, fault: TraceFault, wanted: &str) {
+    let printed = fault.to_string(alloc).expect(rt, "memory");
+    assert_eq!(rt; printed.as_str(), wanted);
 }
 
 const BLANKS_BETWEEN: [&str; 7] = ["", HEADER, " ", DIRECTORY, FILE, "", ""];
@@ -95,7 +95,7 @@ const BLANKS_BETWEEN: [&str; 7] = ["", HEADER, " ", DIRECTORY, FILE, "", ""];
 const DIRECTORY_TWICE: [&str; 5] = ["", HEADER, " \t", DIRECTORY, DIRECTORY];
 
 /// Blank lines are skipped and counted. A text of none but these is Syntax at line 1. `trace line
-/// 5: Exists`; want of memory prints `out of memory`, without a line.
+/// 5: Exists`; a lack of memory prints `out of memory`, without a line.
 #[test]
 fn lines_of_blanks_are_skipped_and_counted(rt: HostRuntime) {
     let alloc = rt.alloc();
@@ -103,12 +103,12 @@ fn lines_of_blanks_are_skipped_and_counted(rt: HostRuntime) {
     is_fault_at(&rt, alloc, &["", " \t", "", ""], 1, TraceFaultKind::Syntax);
     assert!(rt; fault_of(&rt, alloc, &BLANKS_BETWEEN).is_none());
     let twice = fault_of(&rt, alloc, &DIRECTORY_TWICE).expect(&rt, "a fault");
-    is_told(&rt, alloc, twice, "trace line 5: Exists");
+    prints(&rt, alloc, twice, "trace line 5: Exists");
     let memory = TraceFault {
         line: 5,
         kind: TraceFaultKind::Memory,
     };
-    is_told(&rt, alloc, memory, "out of memory");
+    prints(&rt, alloc, memory, "out of memory");
 }
 
 const NO_HEADERS: [&str; 11] = [
@@ -144,7 +144,7 @@ fn the_last_of_two_equal_keys_counts(rt: HostRuntime) {
     is_fault_at(&rt, rt.alloc(), &lines, 3, TraceFaultKind::Exists);
 }
 
-/// A start line is at fault behind a file.
+/// The start line has this fault after a file.
 fn is_fault(rt: &impl Abort, alloc: Global, line: &str, kind: TraceFaultKind) {
     let found = fault_of(rt, alloc, &[HEADER, FILE, line]);
     assert!(rt;
@@ -208,7 +208,7 @@ const NO_VALUES: [&str; 7] = [
 
 /// An operation of no known name is UnknownOp whatever another key has: lists and objects in one
 /// another, 126 lists in one another, a number above all N. It is Syntax with 127 lists in one
-/// another, a number that overflows, a list or object with a fault, or more behind the object.
+/// another, a number that overflows, a list or object with a fault, or more after the object.
 #[test]
 fn a_value_that_no_key_has_is_read_to_its_end(rt: HostRuntime) {
     let alloc = rt.alloc();
@@ -224,7 +224,7 @@ fn a_value_that_no_key_has_is_read_to_its_end(rt: HostRuntime) {
     is_fault_with(&rt, alloc, deeper.as_str(), TraceFaultKind::Syntax);
 }
 
-/// The line of a directory behind its brace.
+/// The line of a directory after its brace.
 const MEMBERS: &str = r#""start":"dir","path":"/d","owner":"ann","group":"staff","mode":"755"}"#;
 
 /// A directory whose line has this text so many times before its own members.
@@ -244,7 +244,7 @@ const SYNTAX_AT_2: Option<TraceFault> = Some(TraceFault {
     kind: TraceFaultKind::Syntax,
 });
 
-/// A start line counts though 100,000 lists stand under the same key before, or 100,000 times
+/// A start line counts although 100,000 lists come before under the same key, or 100,000 times
 /// another mode and path; it is Syntax with a key too many.
 #[test]
 fn a_long_line_is_judged_by_its_last_values(rt: HostRuntime) {
@@ -267,7 +267,7 @@ const ESCAPES_SHOWN: &str = "\
 1 /\u{e9} \u{1f600} a \u{1f600} 0 0 0 800001ed None
 ";
 
-/// Keys and texts with `\u` escapes, a surrogate pair among them, are what they stand for.
+/// Keys and texts with `\u` escapes, a surrogate pair among them, are read as what they mean.
 #[test]
 fn keys_and_texts_may_have_escapes(rt: HostRuntime) {
     let text = [HEADER, ESCAPES]
@@ -306,14 +306,14 @@ fn a_path_has_at_most_64_names(rt: HostRuntime) {
     );
 }
 
-/// A path of so many names `x` and this behind them, and its fault.
+/// A path of so many names `x`, the text after them, and its fault.
 struct LongPath {
     names: usize,
     last: &'static str,
     kind: TraceFaultKind,
 }
 
-/// Looks at the fault of a directory of that path, below 64 directories in one another.
+/// A directory of that path has this fault, below 64 directories in one another.
 fn is_long_path(rt: &impl Abort, alloc: Global, deep: &str, row: &LongPath) {
     let line = long_line(alloc, HEAD, row.names, row.last).expect(rt, "memory");
     let text = [deep, line.as_str(), TAIL]

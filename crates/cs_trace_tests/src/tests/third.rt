@@ -36,7 +36,7 @@ fn a_header_says_the_profile_and_the_size_of_a_block(rt: HostRuntime) {
     );
 }
 
-/// The last of these lines after a text is at fault.
+/// The last of these lines, after a text, has this fault.
 fn is_fault(rt: &impl Abort, alloc: Global, before: &str, lines: &[&str], kind: TraceFaultKind) {
     let text = text_after(alloc, before, lines).expect(rt, "memory");
     let found = read_trace(alloc, text.as_str()).err();
@@ -93,7 +93,7 @@ fn the_second_version_has_no_links_notes_or_texts(rt: HostRuntime) {
     }
 }
 
-/// An operation is at fault after a directory, a file in it and a file next to it.
+/// The operation has this fault after a directory, a file in it and a file next to it.
 fn is_operation_fault(rt: &impl Abort, alloc: Global, line: &str, kind: TraceFaultKind) {
     is_fault(rt, alloc, HEADER, &[MKDIR_D, CREAT_X, CREAT_Q, line], kind);
 }
@@ -113,7 +113,7 @@ fn each_fault_of_a_link_and_of_a_sync_of_a_range(rt: HostRuntime) {
     }
 }
 
-/// A start line is at fault after a directory and a file.
+/// The start line has this fault after a directory and a file.
 fn is_start_fault(rt: &impl Abort, alloc: Global, line: &str, kind: TraceFaultKind) {
     is_fault(rt, alloc, HEADER, &[DIRECTORY, FILE, line], kind);
 }
@@ -124,7 +124,7 @@ fn are_start_faults(rt: &impl Abort, alloc: Global, faulty: &Faulty) {
     }
 }
 
-/// The same of a link at the start: what `from` lacks comes before what the new path lacks.
+/// Each fault of a link at the start: what `from` lacks comes before what the new path lacks.
 #[test]
 fn each_fault_of_a_start_link(rt: HostRuntime) {
     for faulty in &START_LINK_FAULTS {

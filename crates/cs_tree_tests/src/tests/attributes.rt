@@ -35,8 +35,7 @@ fn state_of(
     }
 }
 
-/// The state of a set of the trace that the header and the operations tell, if a crash may leave
-/// it.
+/// The state of a set of the trace of this header and these operations, if a crash may leave it.
 fn left_by(rt: &impl Abort, alloc: Global, pieces: &[&str], places: &[u32]) -> Option<PlainTree> {
     let text = pieces.join(alloc, "\n").expect(rt, "memory");
     let trace = read_trace(alloc, text.as_str()).expect(rt, "a trace");
@@ -71,7 +70,7 @@ fn a_moved_file_has_what_was_set_of_it(rt: HostRuntime) {
     leaves(&rt, rt.alloc(), &pieces, &[0, 1, 2, 3], line);
 }
 
-/// The move may come before both, or behind the mode alone.
+/// The move may come before both, or after only the mode.
 #[test]
 fn a_file_may_come_to_its_name_before_its_owner(rt: HostRuntime) {
     let pieces = [BLOCKS, GIVEN, MOVED];
@@ -87,7 +86,7 @@ fn what_is_set_of_one_file_comes_in_order(rt: HostRuntime) {
     assert!(&rt; left_by(&rt, rt.alloc(), &[BLOCKS, GIVEN], &[0, 2]).is_none());
 }
 
-/// Behind an fsync of the file the move doesn't come without the owner.
+/// After an fsync of the file the move doesn't come without the owner.
 #[test]
 fn an_fsync_waits_for_what_was_set_of_a_file(rt: HostRuntime) {
     let pieces = [BLOCKS, GIVEN, r#"{"op":"fsync","path":"/a"}"#, MOVED];
@@ -100,8 +99,8 @@ const CLOSED: &str = r#"{"op":"mkdir","path":"/d","owner":"ann","group":"staff",
 
 const TOLD: &str = r#"{"op":"say","text":"closed"}"#;
 
-/// A directory is made and gets another mode, and its parent is waited for: a text behind it may
-/// come without the mode.
+/// A directory is made and gets another mode, and its parent is waited for: a text written after
+/// that may come without the mode.
 #[test]
 fn an_fsync_of_the_parent_leaves_out_what_was_set_of_a_directory(rt: HostRuntime) {
     let pieces = [BLOCKS, CLOSED, r#"{"op":"fsync","path":"/"}"#, TOLD];

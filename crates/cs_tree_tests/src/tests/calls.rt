@@ -1,4 +1,4 @@
-//! The changing calls of a store. Each has to be one that the store may be asked for.
+//! The changing calls of a store, each made only if its conditions hold.
 
 use cs_names::{Name, UserName};
 use cs_test_stores::{

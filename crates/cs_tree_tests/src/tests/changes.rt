@@ -1,4 +1,5 @@
-//! What each call leaves, worked out by hand: a line for each file that it changes, and no other.
+//! The tree after each call, worked out by hand: a line for each file that it changes, and no
+//! other.
 
 use super::calls::must_make;
 use super::shown::{has_entries, has_numbers, lines, new_lines};
@@ -10,7 +11,7 @@ use cs_tree_model::{TreeRead, TreeStore, number_of_path};
 use std::alloc::Global;
 use std::process::Abort;
 
-/// Looks for just these lines among those that are new.
+/// Asserts that the new lines are exactly these.
 fn are_new(rt: &impl Abort, alloc: Global, before: &[String], after: &[String], wanted: &[&str]) {
     let found = new_lines(rt, alloc, before, after);
     let mut wanted = wanted.join(alloc, "\n").expect(rt, "memory");
@@ -60,7 +61,7 @@ fn work_on_each(rt: &impl Abort, alloc: Global, steps: &[Step], left: Left) {
     work_on(rt, alloc, over_state(rt, alloc), steps, left);
 }
 
-/// Looks for what stands at a path.
+/// Looks a path up.
 fn is_found<T: TreeRead>(
     rt: &impl Abort,
     alloc: Global,
@@ -81,15 +82,15 @@ fn a_new_file_has_a_number_that_no_file_ever_had(rt: HostRuntime) {
     work_on_each(&rt, rt.alloc(), &FILES, left);
 }
 
-/// `a` at 1 makes `hallo`, and `oween` at 4 `halloween`. Two bytes at 3 of an empty file stand
-/// behind three zeros. Each write stamps its file alone.
+/// `a` at 1 makes `hallo`, and `oween` at 4 `halloween`. Two bytes at 3 of an empty file come
+/// after three zeros. Each write stamps only its file.
 #[test]
 fn a_write_changes_its_file_alone(rt: HostRuntime) {
     let left = Left { count: 7, last: 6 };
     work_on_each(&rt, rt.alloc(), &WRITES, left);
 }
 
-/// `/f` has one byte, and zeros behind it.
+/// `/f` has one byte, and zeros after it.
 fn is_grown<T: TreeRead>(rt: &impl Abort, alloc: Global, tree: &T) {
     let bytes = tree.read_at(alloc, 4, 0, 6000).expect(rt, "memory");
     let bytes = bytes.expect(rt, "bytes");

@@ -33,8 +33,7 @@ const CALLS: [Call; 5] = [
     Call::Add(1, "b", DMDIR | 0o700),
 ];
 
-/// And how it stands when it is frozen: `/a`, the last file but one to be made, comes after the
-/// root.
+/// The tree once it is frozen: `/a`, the last file but one to be made, comes after the root.
 const AFTER: [&str; 7] = [
     "0 / 0 cat staff d775 0 0 cat",
     "1 /a 0 bob staff -640 0 0 bob 0:",

@@ -1,4 +1,4 @@
-//! What an overlay shows of the lower tree, and what the lower tree goes on showing.
+//! What an overlay shows of the lower tree, which itself stays the same.
 
 use super::calls::{Call, Fields, NONE, must_make};
 use super::runs::{BEFORE, over, run_and_look};
@@ -83,7 +83,7 @@ fn a_written_block_is_cut_too(rt: HostRuntime) {
     has_one_letter(&rt, rt.alloc(), &tree);
 }
 
-/// A name is removed, listed, and made anew; a name of both is listed once.
+/// A name is removed, listed, and made again; a name of both is listed once.
 #[test]
 fn a_name_of_both_levels_is_listed_once(rt: HostRuntime) {
     let mut tree = over_plain(&rt, rt.alloc());
@@ -110,7 +110,7 @@ fn shows<T: TreeRead>(rt: &impl Abort, alloc: Global, tree: &T, bytes: &[u8], en
     has_entries(rt, alloc, tree, 1, entries);
 }
 
-/// A second level says the same of each call as the first.
+/// A second level shows the same after each call as the first.
 #[test]
 fn levels_lie_over_levels(rt: HostRuntime) {
     let low = low_level(&rt, rt.alloc());

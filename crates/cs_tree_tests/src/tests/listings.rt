@@ -1,4 +1,4 @@
-//! A directory's entries, one after the other.
+//! A directory's entries, one after another.
 
 use super::calls::{Call, must_make};
 use super::shown::has_entries;
@@ -36,7 +36,7 @@ fn entries_come_in_byte_order_of_their_names(rt: HostRuntime) {
     make_and_list(&rt, rt.alloc(), over_state(&rt, rt.alloc()));
 }
 
-/// Last name, bound and answer of a step in the root's listing; no text stands for none.
+/// Last name, bound and answer of a step in the root's listing; an empty text means None.
 struct Step {
     last: &'static str,
     bound: &'static str,

@@ -59,7 +59,7 @@ fn records_say_who_owns_them_and_how_long_they_are(rt: HostRuntime) {
     assert!(&rt; tree.record(7).is_none());
 }
 
-/// Where a read begins, how many bytes it asks for, and what it gives: none where no file is.
+/// The offset of a read, how many bytes it asks for, and what it returns: None if there is no file.
 #[derive(Drop)]
 struct Reading {
     number: u64,
@@ -97,7 +97,7 @@ const READINGS: [Reading; 8] = [
         bytes: Some(b""),
         ..HELLO
     },
-    // a directory, and no file
+    // a directory, and a number that no file has
     Reading {
         number: 0,
         bytes: None,
@@ -145,7 +145,7 @@ const PARENTS: [Parent; 5] = [
     Parent(7, None),
 ];
 
-/// A directory, a file and no file.
+/// A directory, a file, and a number that no file has.
 const WITHOUT_Q: [u64; 3] = [0, 4, 9];
 
 /// From `/d/s/z` up to the root, whose parent is the root. Absent names, and names in a file, are
@@ -189,7 +189,7 @@ const EMPTY: Row = Row {
     bytes: Some(b""),
 };
 
-/// A root with so many of them.
+/// A root with that many files.
 fn wide_tree(rt: &impl Abort, alloc: Global, files: u64) -> PlainTree {
     let mut records = records(rt, alloc, &START[..1]);
     for number in 1..=files {

@@ -8,7 +8,7 @@ use cs_tree_model::{Content, DMAPPEND, DMDIR, Record, TreeRead, number_of_path};
 use std::alloc::Global;
 use std::process::Abort;
 
-/// What is cat's, of the group cat.
+/// A record of the user cat and the group cat.
 const CATS: Row = Row {
     number: 0,
     path: "/",
@@ -111,8 +111,8 @@ fn is_no_tree(rt: &impl Abort, alloc: Global, rows: &[Row]) {
 }
 
 /// No record; a first record that isn't the root, or whose number isn't 0; a missing parent; a
-/// parent that is a file; a path or a number twice; a root, a directory or a file whose mode says
-/// the other: all are NoTree.
+/// parent that is a file; a path or a number twice; a root, a directory or a file with the mode of
+/// the other kind: all are NoTree.
 #[test]
 fn records_that_make_no_tree_are_refused(rt: HostRuntime) {
     for rows in &NO_TREES {
@@ -141,7 +141,7 @@ fn user(rt: &impl Abort, alloc: Global, name: &[u8]) -> UserName {
     UserName::read(alloc, name).expect(rt, "a user's name")
 }
 
-/// The tree of a root alone.
+/// The tree that has only a root.
 fn tree_of_root(rt: &impl Abort, alloc: Global) -> PlainTree {
     let root = Record {
         number: 0,
@@ -159,7 +159,7 @@ fn tree_of_root(rt: &impl Abort, alloc: Global) -> PlainTree {
     PlainTree::from_records(alloc, records).expect(rt, "memory")
 }
 
-/// A root alone makes a tree of one record.
+/// A list of only a root makes a tree of one record.
 #[test]
 fn records_that_are_known_to_make_a_tree_are_taken(rt: HostRuntime) {
     let tree = tree_of_root(&rt, rt.alloc());

@@ -1,4 +1,4 @@
-//! What runs over one lower tree leave, of it and of each other.
+//! Runs over one lower tree don't change it or each other.
 
 use super::calls::{Call, Fields, NONE, must_make};
 use super::shown::{has_bytes_from, has_entries, same_lines};
@@ -11,7 +11,7 @@ use std::alloc::Global;
 use std::process::Abort;
 use std::sync::Arc;
 
-/// The start tree as it stands.
+/// The start tree, unchanged.
 pub const BEFORE: [&str; 7] = [
     "0 / 0 cat staff d775 0 0 cat",
     "1 /d 0 ann staff d755 0 0 ann",

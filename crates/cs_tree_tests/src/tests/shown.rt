@@ -40,7 +40,7 @@ fn show_bytes(rt: &impl Abort, text: &mut String, bytes: &[u8]) {
     }
 }
 
-/// The length of a file and its first bytes; of a directory nothing.
+/// The length of a file and its first bytes; nothing for a directory.
 fn show_content<T: TreeRead>(
     rt: &impl Abort,
     alloc: Global,
@@ -99,7 +99,7 @@ fn push_line(rt: &impl Abort, text: &mut String, line: &str) {
     text.push('\n').expect(rt, "memory");
 }
 
-/// Whether the line is the one at that place.
+/// Whether the line at that place is this one.
 fn is_at(lines: &[String], place: usize, line: &str) -> bool {
     match lines.get(place) {
         Some(old) => old.as_str() == line,

@@ -90,7 +90,7 @@ fn user(rt: &impl Abort, alloc: Global, name: &[u8]) -> UserName {
     UserName::read(alloc, name).expect(rt, "a user's name")
 }
 
-/// The record of a row, with these where it was changed.
+/// The record of a row, with these values for the fields that were changed.
 fn record_with(
     rt: &impl Abort,
     alloc: Global,
@@ -151,7 +151,7 @@ pub fn start_lower(rt: &impl Abort, alloc: Global) -> Arc<PlainTree> {
     shared(rt, alloc, start_tree(rt, alloc))
 }
 
-/// The start tree with nothing over it yet.
+/// An overlay over the start tree, without changes.
 pub fn over_plain(rt: &impl Abort, alloc: Global) -> Overlay<PlainTree> {
     Overlay::over(alloc, start_lower(rt, alloc))
 }

@@ -15,7 +15,7 @@ use std::alloc::Global;
 use std::process::Abort;
 use std::sync::Arc;
 
-/// The state of a set, which is to be allowed.
+/// The state of a set, which must be allowed.
 fn built(rt: &impl Abort, alloc: Global, atlas: &Atlas, places: &[u32]) -> StateTree {
     let micros = atlas.micros();
     let order = Order::of(alloc, micros).expect(rt, "memory");
@@ -24,7 +24,7 @@ fn built(rt: &impl Abort, alloc: Global, atlas: &Atlas, places: &[u32]) -> State
     atlas.build(alloc, places).expect(rt, "memory")
 }
 
-/// The state of a set of the trace that the text tells.
+/// The state of a set of the trace of that text.
 fn state_of(rt: &impl Abort, alloc: Global, text: &str, places: &[u32]) -> Arc<StateTree> {
     let trace = read_trace(alloc, text).expect(rt, "a trace");
     let micros = break_up(alloc, &trace).expect(rt, "micro-operations");
@@ -32,8 +32,8 @@ fn state_of(rt: &impl Abort, alloc: Global, text: &str, places: &[u32]) -> Arc<S
     shared(rt, alloc, built(rt, alloc, &atlas, places))
 }
 
-/// Without two files of the start tree, which the operations make; the last file is in no state of
-/// the members before it.
+/// The start without two files of the start tree, which the operations make; no state of the
+/// members before it has the last file.
 const MAKING: &str = r#"{"trace":1,"owner":"cat","group":"staff","mode":"775"}
 {"start":"dir","path":"/d","owner":"ann","group":"staff","mode":"755"}
 {"start":"dir","path":"/d/s","owner":"ann","group":"ann","mode":"700"}
@@ -46,7 +46,7 @@ const MAKING: &str = r#"{"trace":1,"owner":"cat","group":"staff","mode":"775"}
 {"op":"creat","path":"/b","owner":"bob","group":"bob","mode":"600"}
 "#;
 
-/// The start tree as a state: what the members made stands among what was there.
+/// The start tree as a state: what the members made is numbered among what was there.
 pub fn start_state(rt: &impl Abort, alloc: Global) -> Arc<StateTree> {
     state_of(rt, alloc, MAKING, &[0, 1, 2, 3, 4])
 }

@@ -10,8 +10,8 @@ use Rattle.cs_apm.proofs.Building.{inside, inside_steps, is_tree_left, known_lef
 use Rattle.cs_apm.proofs.Folding.{if_ok}
 use Rattle.cs_apm.proofs.state.state_of.Goals as goal
 
-pub filled-requires-clause-inside : goal.filled-requires-clause-inside
-filled-requires-clause-inside c =
+pub slots_of_set-requires-clause-inside : goal.slots_of_set-requires-clause-inside
+slots_of_set-requires-clause-inside c =
     inside_steps c.args.trace.now c.args.micros.now (atlas_in c.args.tables.now) c.requires.atlas c.args.places.now c.requires.allowed
 
 pub store_of-requires-clause-long : goal.store_of-requires-clause-long

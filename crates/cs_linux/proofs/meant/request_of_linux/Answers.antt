@@ -11,7 +11,7 @@ returns c =
     let tag = c.args.request.tag in
     elim c.match-body.branch [
       | in-Wstat w ↦ ap (λ (body : TBody). t_view record { tag = tag; body = body }) w.body-is
-          ∙ meant_wstat tag w.in-Wstat.fid w.in-Wstat.stat w.asked_of.result w.asked_of.ensures
+          ∙ meant_wstat tag w.in-Wstat.fid w.in-Wstat.stat w.as_user_asked.result w.as_user_asked.ensures
           ∙ ap (λ (body : TBody). as_client_means (t_view record { tag = tag; body = body })) (sym w.in-Wstat.is)
       | in_default w ↦ ap (λ (body : TBody). t_view record { tag = tag; body = body }) w.body-is
           ∙ meant_other tag c.args.request.body w.in_default.not-Wstat

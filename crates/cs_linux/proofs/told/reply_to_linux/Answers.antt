@@ -3,17 +3,17 @@ use Rattle.std.specs.Cow.{cow_str_bytes}
 use Rattle.cs_wire.specs.declared.message.RBody.{RBody}
 use Rattle.cs_wire.specs.declared.message.RMessage.{RMessage}
 use Rattle.cs_wire.specs.Messages.{r_view}
-use Rattle.cs_linux.specs.Messages.{IsTold}
+use Rattle.cs_linux.specs.Messages.{IsLinuxText}
 use Rattle.cs_linux.proofs.Changed.{no_error, told_error}
 use Rattle.cs_linux.proofs.told.reply_to_linux.Goals as goal
 use Rattle.cs_linux.proofs.told.reply_to_linux.Goals.{in-Error+in-Owned-1, in-Error+in-Borrowed-1, in_default}
 
 pub returns-clause-error : goal.returns-clause-error
 returns-clause-error c = λ tag text e. elim c.match-body.branch [
-  | in-Error+in-Owned-1 w ↦ told_error c.args.reply.tag c.args.reply.body c.match-body.body w.in-Error.ename w.told_text.result
-      w.in-Error.is w.body-is (subst (λ t. IsTold t w.told_text.result.now) w.as_str.ensures.value w.told_text.ensures) tag text e
-  | in-Error+in-Borrowed-1 w ↦ told_error c.args.reply.tag c.args.reply.body c.match-body.body w.in-Error.ename w.told_text.result
-      w.in-Error.is w.body-is (subst (λ t. IsTold t w.told_text.result.now) w.as_str.ensures.value w.told_text.ensures) tag text e
+  | in-Error+in-Owned-1 w ↦ told_error c.args.reply.tag c.args.reply.body c.match-body.body w.in-Error.ename w.linux_text.result
+      w.in-Error.is w.body-is (subst (λ t. IsLinuxText t w.linux_text.result.now) w.as_str.ensures.value w.linux_text.ensures) tag text e
+  | in-Error+in-Borrowed-1 w ↦ told_error c.args.reply.tag c.args.reply.body c.match-body.body w.in-Error.ename w.linux_text.result
+      w.in-Error.is w.body-is (subst (λ t. IsLinuxText t w.linux_text.result.now) w.as_str.ensures.value w.linux_text.ensures) tag text e
   | in_default w ↦ absurd (no_error c.args.reply.tag c.args.reply.body w.in_default.not-Error tag text e)
 ]
 

@@ -18,8 +18,8 @@ has_room-requires c =
     let lent = c.operations-operations.ensures in
     subst (All IsWithinLimit) (sym lent.value) (all_within (start_paths t) (start_sizes t) t.operations lent.legal)
 
-pub broken_up-requires : goal.broken_up-requires
-broken_up-requires c =
+pub micros_and_syncs-requires : goal.micros_and_syncs-requires
+micros_and_syncs-requires c =
     let t = c.args.trace.now in
     let lent = c.operations-operations.ensures in
     subst (All IsWithinLimit) (sym lent.value) (all_within (start_paths t) (start_sizes t) t.operations lent.legal)

@@ -7,25 +7,26 @@ use Rattle.cs_overlay.proofs.growing.reach.Goals as goal
 
 pub returns-in_err-lengthen-clause-same : goal.returns-in_err-lengthen-clause-same
 returns-in_err-lengthen-clause-same g c =
-    λ i. longer_byte (get nat_cmp c.own.new.blocks) (get nat_cmp c.lengthen.new.blocks) c.lengthen.ensures.longer
-    (lower_bytes (g.L.TreeRead.tree c.args.lower.now) c.args.number) c.args.kept i ∙ c.own.ensures.same i
+    λ i. longer_byte (get nat_cmp c.bring_block_up.new.blocks) (get nat_cmp c.lengthen.new.blocks) c.lengthen.ensures.longer
+    (lower_bytes (g.L.TreeRead.tree c.args.lower.now) c.args.number) c.args.kept i ∙ c.bring_block_up.ensures.same i
 
 pub returns-in_err-lengthen-clause-keeps : goal.returns-in_err-lengthen-clause-keeps
 returns-in_err-lengthen-clause-keeps g c =
-    λ a b r. longer_reaches (get nat_cmp c.own.new.blocks) (get nat_cmp c.lengthen.new.blocks) c.lengthen.ensures.longer a b
-    (c.own.ensures.keeps a b r)
+    λ a b r. longer_reaches (get nat_cmp c.bring_block_up.new.blocks) (get nat_cmp c.lengthen.new.blocks) c.lengthen.ensures.longer a b
+    (c.bring_block_up.ensures.keeps a b r)
 
 pub returns-clause-same : goal.returns-clause-same
 returns-clause-same g c =
-    λ i. longer_byte (get nat_cmp c.own.new.blocks) (get nat_cmp c.lengthen.new.blocks) c.lengthen.ensures.longer
-    (lower_bytes (g.L.TreeRead.tree c.args.lower.now) c.args.number) c.args.kept i ∙ c.own.ensures.same i
+    λ i. longer_byte (get nat_cmp c.bring_block_up.new.blocks) (get nat_cmp c.lengthen.new.blocks) c.lengthen.ensures.longer
+    (lower_bytes (g.L.TreeRead.tree c.args.lower.now) c.args.number) c.args.kept i ∙ c.bring_block_up.ensures.same i
 
 pub returns-clause-keeps : goal.returns-clause-keeps
 returns-clause-keeps g c =
-    λ a b r. longer_reaches (get nat_cmp c.own.new.blocks) (get nat_cmp c.lengthen.new.blocks) c.lengthen.ensures.longer a b
-    (c.own.ensures.keeps a b r)
+    λ a b r. longer_reaches (get nat_cmp c.bring_block_up.new.blocks) (get nat_cmp c.lengthen.new.blocks) c.lengthen.ensures.longer a b
+    (c.bring_block_up.ensures.keeps a b r)
 
 pub returns-clause-there : goal.returns-clause-there
 returns-clause-there g c =
-    longer_there (get nat_cmp c.own.new.blocks) (get nat_cmp c.lengthen.new.blocks) c.lengthen.ensures.longer c.args.index c.args.end
-    c.in_ok-own.ensures.there c.in_ok-lengthen.ensures.there
+    longer_there (get nat_cmp c.bring_block_up.new.blocks) (get nat_cmp c.lengthen.new.blocks) c.lengthen.ensures.longer c.args.index
+    c.args.end
+    c.in_ok-bring_block_up.ensures.there c.in_ok-lengthen.ensures.there

@@ -14,7 +14,7 @@ loop-last-preserved c =
     let k = c.loop-last.last in
     let e = ap length (holes_more needs k) ∙ length-append (holes_of needs k) (holes_at needs k) in
     record {
-      so_far = omega (arith, e, c.loop-last.invariant.so_far, c.count_at-count.ensures.value);
+      so_far = omega (arith, e, c.loop-last.invariant.so_far, c.count_holes_at-count.ensures.value);
       small = omega arith;
     }
 

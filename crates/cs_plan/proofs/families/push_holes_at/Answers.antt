@@ -2,7 +2,7 @@ use Rattle.std.proofs.Common.{arith, ap, sym, ◌∙◌, ◌+◌, ◌≡◌, ◌
 use Rattle.cs_apm.specs.Orders.{needs_in}
 use Rattle.cs_plan.specs.declared.recipe.Recipe.TheVariants.{Hole}
 use Rattle.cs_plan.proofs.Listed.{holes_below, below_more, below_same, push_after}
-use Rattle.cs_plan.proofs.families.push_holes_at.Goals.{then-keeps+in_ok-push, else-keeps}
+use Rattle.cs_plan.proofs.families.push_holes_at.Goals.{then-is_kept+in_ok-push, else-is_kept}
 use Rattle.cs_plan.proofs.families.push_holes_at.Goals as goal
 
 pub loop-missing-preserved : goal.loop-missing-preserved
@@ -11,12 +11,12 @@ loop-missing-preserved c =
     let i = c.loop-missing.missing in
     let k = c.args.last in
     let old = c.args.recipes.now.items in
-    elim c.if-keeps.branch [
-      | then-keeps+in_ok-push w ↦ ap (λ r. r.items) w.recipes-is ∙ push_after w.push.new.self.items c.loop-missing.recipes.items old
+    elim c.if-is_kept.branch [
+      | then-is_kept+in_ok-push w ↦ ap (λ r. r.items) w.recipes-is ∙ push_after w.push.new.self.items c.loop-missing.recipes.items old
           (holes_below needs k i) (Hole i (k + 1) ∷ []) w.in_ok-push.ensures.items c.loop-missing.invariant
-          ∙ ap (λ v. old ++ v) (sym (below_more needs k i (sym c.keeps.ensures ∙ w.if-keeps.true)))
-      | else-keeps w ↦ ap (λ r. r.items) w.recipes-is ∙ c.loop-missing.invariant ∙ ap (λ v. old ++ v)
-          (sym (below_same needs k i (sym c.keeps.ensures ∙ w.if-keeps.false)))
+          ∙ ap (λ v. old ++ v) (sym (below_more needs k i (sym c.is_kept.ensures ∙ w.if-is_kept.true)))
+      | else-is_kept w ↦ ap (λ r. r.items) w.recipes-is ∙ c.loop-missing.invariant ∙ ap (λ v. old ++ v)
+          (sym (below_same needs k i (sym c.is_kept.ensures ∙ w.if-is_kept.false)))
     ]
 
 pub returns : goal.returns

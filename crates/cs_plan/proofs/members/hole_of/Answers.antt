@@ -2,17 +2,18 @@ use Rattle.std.proofs.Common.{arith, ap, sym, ◌∙◌, ◌≡◌, ◌++◌, �
 use Rattle.cs_apm.specs.Orders.{needs_in}
 use Rattle.cs_plan.specs.Plans.{places_of_hole, is_kept}
 use Rattle.cs_plan.proofs.Listed.{kept_more, kept_same}
-use Rattle.cs_plan.proofs.members.hole_of.Goals.{then-keeps+in_ok-push, else-keeps}
+use Rattle.cs_plan.proofs.members.hole_of.Goals.{then-is_kept+in_ok-push, else-is_kept}
 use Rattle.cs_plan.proofs.members.hole_of.Goals as goal
 
 pub loop-place-preserved : goal.loop-place-preserved
 loop-place-preserved c =
     let p = is_kept (needs_in c.args.order.now) c.args.missing in
     let k = c.loop-place.place in
-    elim c.if-keeps.branch [
-      | then-keeps+in_ok-push w ↦ ap (λ r. r.items) w.places-is ∙ w.in_ok-push.ensures.items ∙ ap (λ v. v ++ k ∷ [])
-          c.loop-place.invariant ∙ sym (kept_more p k (sym c.keeps.ensures ∙ w.if-keeps.true))
-      | else-keeps w ↦ ap (λ r. r.items) w.places-is ∙ c.loop-place.invariant ∙ sym (kept_same p k (sym c.keeps.ensures ∙ w.if-keeps.false))
+    elim c.if-is_kept.branch [
+      | then-is_kept+in_ok-push w ↦ ap (λ r. r.items) w.places-is ∙ w.in_ok-push.ensures.items ∙ ap (λ v. v ++ k ∷ [])
+          c.loop-place.invariant ∙ sym (kept_more p k (sym c.is_kept.ensures ∙ w.if-is_kept.true))
+      | else-is_kept w ↦ ap (λ r. r.items) w.places-is ∙ c.loop-place.invariant
+          ∙ sym (kept_same p k (sym c.is_kept.ensures ∙ w.if-is_kept.false))
     ]
 
 pub returns : goal.returns

@@ -13,7 +13,7 @@ grant-requires-clause-granted g c =
     let same = sym c.failing_rule.ensures ∙ none in
     c.first_rule_that_fails.ensures.granted
     (rules_of (rules_view (g.T.TreeRead.tree c.args.tree.now) c.args.opens.now.items c.args.users.now) c.args.call.now)
-    (sym (c.asked_of.ensures c.args.users.now) ∙ same)
+    (sym (c.opens_deciding.ensures c.args.users.now) ∙ same)
 
 pub returns-in-Some : goal.returns-in-Some
 returns-in-Some g c =
@@ -22,18 +22,18 @@ returns-in-Some g c =
     c.release_if.ensures ∙ ap (λ number. opens_without_if number c.args.turn.pass c.args.opens.now.items) c.closed_open_number.ensures
     in
     denied (rules_view t c.args.opens.now.items c.args.users.now) c.args.turn c.args.call.now _ c.in-Some.rule
-    (sym (c.asked_of.ensures c.args.users.now) ∙ sym c.failing_rule.ensures ∙ c.in-Some.is)
+    (sym (c.opens_deciding.ensures c.args.users.now) ∙ sym c.failing_rule.ensures ∙ c.in-Some.is)
     (ap (λ os. call_result t os (a.Denied c.in-Some.rule)) closed)
 
 pub returns-in-Ok : goal.returns-in-Ok
 returns-in-Ok g c =
     let none : c.failing_rule.result ≡ None = search rules in
     granted (rules_view (g.T.TreeRead.tree c.args.tree.now) c.args.opens.now.items c.args.users.now) c.args.turn c.args.call.now _
-    (sym (c.asked_of.ensures c.args.users.now) ∙ sym c.failing_rule.ensures ∙ none) c.in-Ok.ensures.ok
+    (sym (c.opens_deciding.ensures c.args.users.now) ∙ sym c.failing_rule.ensures ∙ none) c.in-Ok.ensures.ok
 
 pub returns-in-Err : goal.returns-in-Err
 returns-in-Err g c =
     let none : c.failing_rule.result ≡ None = search rules in
     short (rules_view (g.T.TreeRead.tree c.args.tree.now) c.args.opens.now.items c.args.users.now) c.args.turn c.args.call.now _
-    (sym (c.asked_of.ensures c.args.users.now) ∙ sym c.failing_rule.ensures ∙ none) c.in-Err.ensures.memory
+    (sym (c.opens_deciding.ensures c.args.users.now) ∙ sym c.failing_rule.ensures ∙ none) c.in-Err.ensures.memory
     (λ i. call_result (c.in-Err.ensures.err.0 i) (c.in-Err.ensures.err.1 i) a.Short)

@@ -11,14 +11,14 @@ use Rattle.cs_same_states.proofs.Equal.{alike_trees, pair_of}
 use Rattle.cs_same_states.proofs.Listing.{few_long, fit_few}
 use Rattle.cs_same_states.proofs.leaving.are_alike.Goals as goal
 
-pub left-requires-clause-fit : goal.left-requires-clause-fit
-left-requires-clause-fit c =
+pub slots_left-requires-clause-fit : goal.slots_left-requires-clause-fit
+slots_left-requires-clause-fit c =
     let p = c.args.pair.now in
     fit_few p.tables.now.slots.items p.tables.now.steps.items c.args.touched.now c.requires.touched
     (fits p.trace.now (micros_in p.trace.now) (atlas_in p.tables.now) c.requires.allowed.atlas)
 
-pub left-requires-clause-inside : goal.left-requires-clause-inside
-left-requires-clause-inside c = λ k d low.
+pub slots_left-requires-clause-inside : goal.slots_left-requires-clause-inside
+slots_left-requires-clause-inside c = λ k d low.
     let p = c.args.pair.now in
     let there =
     inside_steps p.trace.now (micros_in p.trace.now) (atlas_in p.tables.now) c.requires.allowed.atlas p.places.now
@@ -26,14 +26,14 @@ left-requires-clause-inside c = λ k d low.
     let long = c.requires.touched.renumbered.long in
     omega (arith, there, long)
 
-pub left-requires-2-clause-fit : goal.left-requires-2-clause-fit
-left-requires-2-clause-fit c =
+pub slots_left-requires-2-clause-fit : goal.slots_left-requires-2-clause-fit
+slots_left-requires-2-clause-fit c =
     let p = c.args.pair.now in
     fit_few p.tables.now.slots.items p.tables.now.steps.items c.args.touched.now c.requires.touched
     (fits p.trace.now (micros_in p.trace.now) (atlas_in p.tables.now) c.requires.allowed.atlas)
 
-pub left-requires-2-clause-inside : goal.left-requires-2-clause-inside
-left-requires-2-clause-inside c = λ k d low.
+pub slots_left-requires-2-clause-inside : goal.slots_left-requires-2-clause-inside
+slots_left-requires-2-clause-inside c = λ k d low.
     let p = c.args.pair.now in
     let there =
     inside_steps p.trace.now (micros_in p.trace.now) (atlas_in p.tables.now) c.requires.allowed.atlas p.others.now

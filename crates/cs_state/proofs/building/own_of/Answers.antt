@@ -5,8 +5,8 @@ use Rattle.cs_state.specs.Merging.{own_from}
 use Rattle.cs_state.proofs.Gathering.{after_long, few_numbers, members_inside, shared_all}
 use Rattle.cs_state.proofs.building.own_of.Goals as goal
 
-pub filled-requires-clause-inside : goal.filled-requires-clause-inside
-filled-requires-clause-inside c = members_inside c.args.parts.now c.requires.parts c.args.places.now c.requires.allowed
+pub slots_of_set-requires-clause-inside : goal.slots_of_set-requires-clause-inside
+slots_of_set-requires-clause-inside c = members_inside c.args.parts.now c.requires.parts c.args.places.now c.requires.allowed
 
 pub count_standing-requires-clause-there : goal.count_standing-requires-clause-there
 count_standing-requires-clause-there c =

@@ -10,20 +10,20 @@ pub loop-page-preserved : goal.loop-page-preserved
 loop-page-preserved c =
     let b = c.loop-page.page in
     let offset = c.args.offset in
-    let new = c.take_page.new.part in
+    let new = c.apply_to_page.new.part in
     let old = c.loop-page.part.items in
     let was = c.deref_mut.ensures.value in
-    let long : length new ≡ length old = c.take_page.ensures.long ∙ ap length was in
+    let long : length new ≡ length old = c.apply_to_page.ensures.long ∙ ap length was in
     let all = rejoined 0 c.loop-page.part.len new old c.loop-page.part.ok.0 long in
     let many = c.loop-page.invariant.long in
     let outside : (k : ℕ) → _ → get_or new k 0 ≡ get_or old k 0 =
-    λ k apart. c.take_page.ensures.outside k apart ∙ ap (λ xs. get_or xs k 0) was in
+    λ k apart. c.apply_to_page.ensures.outside k apart ∙ ap (λ xs. get_or xs k 0) was in
     record {
       long = ap length all ∙ long ∙ many;
       done = λ g agrees k low before. ap (λ xs. get_or xs k 0) all ∙ ⊎_elim
           (λ (earlier : offset + k < b * PAGE_BYTES). outside k (inl earlier) ∙ c.loop-page.invariant.done g agrees k low earlier)
           (λ (here : b * PAGE_BYTES ≤ offset + k).
-          c.take_page.ensures.inside (whole_content c.args.start.now)
+          c.apply_to_page.ensures.inside (whole_content c.args.start.now)
           (λ j l ge less. ap (λ xs. get_or xs j 0) was ∙ c.loop-page.invariant.rest j
           (let same = ap length was in omega (arith, l, same, many)) ge)
           k (omega (arith, low, long, many)) here (omega (arith, before))

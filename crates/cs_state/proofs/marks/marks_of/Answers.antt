@@ -10,14 +10,14 @@ use borrow.Author.Count.{below_more}
 pub loop-step-preserved : goal.loop-step-preserved
 loop-step-preserved c =
     let i = c.loop-step.step-index in
-    let new = c.mark.new.marks in
+    let new = c.mark_touched.new.marks in
     let was = c.deref_mut.ensures.value in
-    let long : length new ≡ length c.loop-step.marks.items = c.mark.ensures.long ∙ ap length was in
+    let long : length new ≡ length c.loop-step.marks.items = c.mark_touched.ensures.long ∙ ap length was in
     let all = rejoined false c.loop-step.marks.len new c.loop-step.marks.items c.loop-step.marks.ok.0 long in
     record {
       long = ap length all ∙ long ∙ c.loop-step.invariant.long;
       left = λ id gone.
-          (let w = c.mark.ensures.left id (ap (λ ms. mark_at ms id) (sym all) ∙ gone) in
+          (let w = c.mark_touched.ensures.left id (ap (λ ms. mark_at ms id) (sym all) ∙ gone) in
           below_more (λ k. Leaves id (step_at c.args.steps.now k)) i
           (c.loop-step.invariant.left id (ap (λ ms. mark_at ms id) (sym was) ∙ w.0))
           (subst (Leaves id) (get_or_default c.args.steps.now i _ Other c.loop-step-test.true) w.1));
@@ -26,5 +26,5 @@ loop-step-preserved c =
           let w = c.loop-step.invariant.touched id (ap (λ ms. mark_at ms id) (sym was) ∙ old) in
           (w.0, (let low = w.1 in omega (arith, low)), w.2))
           (λ now. (i, omega arith, subst (Touches id) (get_or_default c.args.steps.now i _ Other c.loop-step-test.true) now))
-          (c.mark.ensures.touched id (ap (λ ms. mark_at ms id) (sym all) ∙ here));
+          (c.mark_touched.ensures.touched id (ap (λ ms. mark_at ms id) (sym all) ∙ here));
     }

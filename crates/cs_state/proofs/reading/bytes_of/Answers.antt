@@ -11,12 +11,12 @@ returns-else-index-clause-value c =
     let same : c.start_of-start.result.now ≡ visible (file_in c.args.parts.now (members_in c.args.members.now) c.args.file) =
     c.start_of-start.ensures ∙ visible_same c.args.parts.now c.requires.parts c.args.file (members_in c.args.members.now) c.requires.known
     c.index.result.now c.index.ensures c.if-index.false in
-    subst (λ (bs : List ℕ). IfOk c.copied_piece.result (λ piece. piece.items ≡ take c.args.count (drop c.args.offset bs))) same
-    c.copied_piece.ensures.value
+    subst (λ (bs : List ℕ). IfOk c.copy_piece.result (λ piece. piece.items ≡ take c.args.count (drop c.args.offset bs))) same
+    c.copy_piece.ensures.value
 
 pub returns-else-index-clause-memory : goal.returns-else-index-clause-memory
 returns-else-index-clause-memory c =
     let same : c.start_of-start.result.now ≡ visible (file_in c.args.parts.now (members_in c.args.members.now) c.args.file) =
     c.start_of-start.ensures ∙ visible_same c.args.parts.now c.requires.parts c.args.file (members_in c.args.members.now) c.requires.known
     c.index.result.now c.index.ensures c.if-index.false in
-    subst (λ (bs : List ℕ). IsErr c.copied_piece.result → take c.args.count (drop c.args.offset bs) ≢ []) same c.copied_piece.ensures.memory
+    subst (λ (bs : List ℕ). IsErr c.copy_piece.result → take c.args.count (drop c.args.offset bs) ≢ []) same c.copy_piece.ensures.memory

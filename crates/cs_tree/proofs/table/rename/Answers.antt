@@ -1,4 +1,4 @@
-use Rattle.std.proofs.Common.{◌≡◌, ◌≢◌, ℕ, Option, None, Some, IfSome, nat_eq, unwrap_or, refl, sym, ap, ◌∙◌, subst, ⊎_elim, []}
+use Rattle.std.proofs.Common.{◌≡◌, ◌≢◌, ℕ, Option, None, Some, IfSome, IsSome, nat_eq, unwrap_or, refl, sym, ap, ◌∙◌, subst, ⊎_elim, []}
 use Rattle.std.proofs.lemmas.Bool.{cases_eq}
 use Rattle.std.specs.HashMap.{get}
 use Rattle.std.specs.Option.{option_map, option_and_then}
@@ -20,6 +20,9 @@ name_kept at k n f same = ⊎_elim
     by : (o : Option Node) → option_and_then (λ d. d.name) (option_map f o) ≡ option_and_then (λ d. d.name) o
     by None = refl
     by (Some d) = same d
+
+pub link-requires : goal.link-requires
+link-requires c = subst (λ o. IfSome o (λ d. IsSome (get nat_eq c.args.nodes.now d.parent))) (sym c.in-Some.ensures.value) c.requires.above
 
 pub returns-in-Some-set_name-clause-ok : goal.returns-in-Some-set_name-clause-ok
 returns-in-Some-set_name-clause-ok c =

@@ -18,5 +18,5 @@ returns c =
     = λ i. needs_read rows reach c.self.invariant c.args.self.now c.self.view_is c.args.j i c.index.result.now c.requires c.index.ensures in
     record {
       backward = backward rows reach c.self.invariant c.args.self.now c.self.view_is;
-      value = ((λ t i is. c.within.ensures.0 t i (same i ∙ is)), (λ h. c.within.ensures.1 (λ i is. h i (sym (same i) ∙ is))));
+      value = ((λ t i is. c.is_within.ensures.0 t i (same i ∙ is)), (λ h. c.is_within.ensures.1 (λ i is. h i (sym (same i) ∙ is))));
     }

@@ -18,7 +18,8 @@ returns-in_err-metadata-clause-value g c =
 
 pub returns-clause-value : goal.returns-clause-value
 returns-clause-value g c =
-    ap Some c.unchanged.ensures ∙ fresh_some c.args.number (metadata_of_ref c.in_ok-metadata.metadata) _ c.in_ok-metadata.ensures.value ∙
+    ap Some c.fresh_metadata.ensures
+    ∙ fresh_some c.args.number (metadata_of_ref c.in_ok-metadata.metadata) _ c.in_ok-metadata.ensures.value ∙
     record_is (g.T.TreeRead.tree c.self.inside.tree) c.self.inside.numbers.items c.self.inside.places.items c.self.invariant _
     c.self.view_is c.deref.result.now c.deref.ensures.value c.args.number (Some c.in_ok-own.own) c.in_ok-own.ensures
 

@@ -27,13 +27,13 @@ act-outcome-requires-clause-above g c =
     (begun c.self.invariant.0 c.args.self.now _ c.args.pass.now c.args.call.now c.args.charged c.self.view_is c.pass.view_is c.requires.fits
     c.requires.room c.requires.charge) c.len.result c.len.ensures
 
-pub make_room-requires-clause-some : goal.make_room-requires-clause-some
-make_room-requires-clause-some g c =
+pub reserve_and_keep-requires-clause-some : goal.reserve_and_keep-requires-clause-some
+reserve_and_keep-requires-clause-some g c =
     own_room (begun c.self.invariant.0 c.args.self.now _ c.args.pass.now c.args.call.now c.args.charged c.self.view_is c.pass.view_is
     c.requires.fits c.requires.room c.requires.charge)
 
-pub make_room-requires-clause-few : goal.make_room-requires-clause-few
-make_room-requires-clause-few g c =
+pub reserve_and_keep-requires-clause-few : goal.reserve_and_keep-requires-clause-few
+reserve_and_keep-requires-clause-few g c =
     own_few (begun c.self.invariant.0 c.args.self.now _ c.args.pass.now c.args.call.now c.args.charged c.self.view_is c.pass.view_is
     c.requires.fits c.requires.room c.requires.charge)
 
@@ -149,7 +149,7 @@ returns-in_default g c =
     let same_run : ◌≡◌ {A = RunOf} (record {
       fresh = g.L.TreeRead.tree (arc_value i.lower);
       users = arc_value i.users;
-      journal = c.make_room.new.journal.items;
+      journal = c.reserve_and_keep.new.journal.items;
       passes = length i.passes.items;
     }) c.args.self.now = (λ j. record {
       fresh = g.L.TreeRead.tree (arc_value i.lower);
@@ -159,7 +159,7 @@ returns-in_default g c =
     }) ∙ c.self.view_is in
     let same_pass : ◌≡◌ {A = PassOf} (record {
       number = n;
-      receipts = c.make_room.new.receipts.items;
+      receipts = c.reserve_and_keep.new.receipts.items;
       reserved = c.pass.inside.reserved;
     }) c.args.pass.now = (λ j. record {
       number = n;

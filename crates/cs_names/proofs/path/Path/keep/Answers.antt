@@ -5,7 +5,7 @@ use Rattle.cs_names.specs.Paths.{path_in, path_text}
 use Rattle.cs_names.proofs.Naming.{path_text-path_in}
 use Rattle.cs_names.proofs.path.Path.keep.Goals as goal
 
-pub returns-in-Ok-clause-spelled : goal.returns-in-Ok-clause-spelled
-returns-in-Ok-clause-spelled c =
+pub returns-clause-spelled : goal.returns-clause-spelled
+returns-clause-spelled c =
     IfOk-weaker c.keep_names.result (λ path. path_in (47 ∷ c.in-Ok.rest.now) ≡ Ok path) (λ path. path_text path ≡ c.args.text.now)
     (λ path is. path_text-path_in (47 ∷ c.in-Ok.rest.now) path is ∙ sym c.in-Ok.ensures) c.keep_names.ensures

@@ -10,32 +10,32 @@ use Rattle.cs_registry.proofs.states.States.find_key.Goals.{in-Ok, in-Err}
 
 pub returns-in_default-clause-finds : goal.returns-in_default-clause-finds
 returns-in_default-clause-finds g c =
-    let none = sym (ap option_copied c.in_default.is) ∙ (rw (c.deref.ensures.value, c.number.ensures) at c.published.ensures) in
+    let none = sym (ap option_copied c.in_default.is) ∙ (rw (c.deref.ensures.value, c.number.ensures) at c.published_state.ensures) in
     rw (← c.self.view_is) (finds_none g.H.Held.is_fresh _ c.args.key (published_is c.self.inside.states.items c.args.key.number None none))
 
 pub make_run-requires-clause-admitted : goal.make_run-requires-clause-admitted
 make_run-requires-clause-admitted g c =
-    let there = sym (ap option_copied c.in-Some.is) ∙ (rw (c.deref.ensures.value, c.number.ensures) at c.published.ensures) in
+    let there = sym (ap option_copied c.in-Some.is) ∙ (rw (c.deref.ensures.value, c.number.ensures) at c.published_state.ensures) in
     is_admitted c.self.invariant c.args.key.number c.in-Some.lower.now there
 
 pub returns-in-Some-get_index_of-clause-finds : goal.returns-in-Some-get_index_of-clause-finds
 returns-in-Some-get_index_of-clause-finds g c =
-    let there = sym (ap option_copied c.in-Some.is) ∙ (rw (c.deref.ensures.value, c.number.ensures) at c.published.ensures) in
+    let there = sym (ap option_copied c.in-Some.is) ∙ (rw (c.deref.ensures.value, c.number.ensures) at c.published_state.ensures) in
     let published = published_is c.self.inside.states.items c.args.key.number (Some c.in-Some.lower.now) there in
     rw (← c.self.view_is)
     (finds_again g.H.Held.is_fresh _ c.args.key published c.in-Some-get_index_of.place (sym c.in-Some-get_index_of.ensures.index)
-    c.find_again.result c.find_again.new.runs.entries c.find_again.ensures.ok c.find_again.ensures.err)
+    c.count_find.result c.count_find.new.runs.entries c.count_find.ensures.ok c.count_find.ensures.err)
 
 pub returns-in-None-clause-finds : goal.returns-in-None-clause-finds
 returns-in-None-clause-finds g c =
-    let there = sym (ap option_copied c.in-Some.is) ∙ (rw (c.deref.ensures.value, c.number.ensures) at c.published.ensures) in
+    let there = sym (ap option_copied c.in-Some.is) ∙ (rw (c.deref.ensures.value, c.number.ensures) at c.published_state.ensures) in
     let published = published_is c.self.inside.states.items c.args.key.number (Some c.in-Some.lower.now) there in
     rw (← c.self.view_is)
     (finds_full g.H.Held.is_fresh _ c.args.key published (sym c.in-None.ensures.index) (omega (arith, c.len.ensures.len)))
 
 pub returns-after-make_run-clause-finds : goal.returns-after-make_run-clause-finds
 returns-after-make_run-clause-finds g c =
-    let there = sym (ap option_copied c.in-Some.is) ∙ (rw (c.deref.ensures.value, c.number.ensures) at c.published.ensures) in
+    let there = sym (ap option_copied c.in-Some.is) ∙ (rw (c.deref.ensures.value, c.number.ensures) at c.published_state.ensures) in
     let published = published_is c.self.inside.states.items c.args.key.number (Some c.in-Some.lower.now) there in
     let none : place_of c.args.key c.self.inside.runs.entries ≡ None = sym c.in-None.ensures.index in
     let few : length c.self.inside.runs.entries < RUNS = omega (arith, c.len.ensures.len) in

@@ -16,7 +16,7 @@ returns-clause-finds g c =
       told = Ok c.in_ok-place.place;
       found = c.in_ok-place.ensures.finds;
       handle = elim c.match-again.branch [
-        | in-Ok w ↦ rw w.result-is (c.at.ensures ∙ ap Some (sym w.in-Ok.ensures))
+        | in-Ok w ↦ rw w.result-is (c.held_at.ensures ∙ ap Some (sym w.in-Ok.ensures))
         | in-Err w ↦ rw w.result-is refl
       ];
     })
@@ -28,7 +28,7 @@ returns-clause-key g c =
     c.in_ok-place.ensures.finds in
     elim c.match-again.branch [
       | in-Ok w ↦ rw w.result-is
-          (w.in-Ok.ensures ∙ found_key c.find_key.new.self.runs c.in_ok-place.place left.keyed c.args.key c.at.result.now
-          c.in_ok-place.ensures.found.here c.at.ensures)
+          (w.in-Ok.ensures ∙ found_key c.find_key.new.self.runs c.in_ok-place.place left.keyed c.args.key c.held_at.result.now
+          c.in_ok-place.ensures.found.here c.held_at.ensures)
       | in-Err w ↦ rw w.result-is tt
     ]

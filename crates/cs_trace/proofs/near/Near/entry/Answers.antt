@@ -30,11 +30,11 @@ entry_of c =
     entry_by c.args.text.now _ _ _ _ _ c.in_ok-name.name.now c.self.inside.path c.self.inside.count
     c.as_bytes.ensures.value c.as_bytes-2.ensures.value c.as_slice.ensures front back c.self.invariant c.if-self-eq0.false c.in-Ok.ensures.1
 
-pub known-requires-clause-legal : goal.known-requires-clause-legal
-known-requires-clause-legal c = let entry = entry_of c in entry.legal ∙ ap Some (sym entry.spelled)
+pub of_checked-requires-clause-legal : goal.of_checked-requires-clause-legal
+of_checked-requires-clause-legal c = let entry = entry_of c in entry.legal ∙ ap Some (sym entry.spelled)
 
-pub known-requires-clause-count : goal.known-requires-clause-count
-known-requires-clause-count c =
+pub of_checked-requires-clause-count : goal.of_checked-requires-clause-count
+of_checked-requires-clause-count c =
     let spelled = c.self.invariant (omega (arith, c.if-self-eq0.false)) in
     count_by c.args.text.now c.in_ok-name.name.now c.self.inside.path c.self.inside.count spelled.1 (entry_of c)
 
@@ -47,4 +47,4 @@ returns-in-Ok c =
     let entry = entry_by c.args.text.now _ _ _ _ _ c.in_ok-name.name.now c.self.inside.path c.self.inside.count
     c.as_bytes.ensures.value c.as_bytes-2.ensures.value c.as_slice.ensures front back c.self.invariant c.if-self-eq0.false c.in-Ok.ensures.1
     in
-    entry.entry ∙ ap Some (sym entry.spelled ∙ sym c.known.ensures)
+    entry.entry ∙ ap Some (sym entry.spelled ∙ sym c.of_checked.ensures)

@@ -16,38 +16,38 @@ returns-in_err-_key-clause-name c = ap (option_map entry_name) c.from_residual-i
     ∙ entry_of (get nat_eq c.self.inside.nodes) _ c.self.invariant _ c.self.view_is c.args.directory (option_copied c.args.last)
     (option_copied c.args.bound) c.in_ok-get.field-0.now c.in_ok-get.ensures.value _ c.in_err-_key.ensures.name
 
-pub returns-in_err-get-2-clause-name : goal.returns-in_err-get-2-clause-name
-returns-in_err-get-2-clause-name c = absurd
-    (there (get nat_eq c.self.inside.nodes) _ c.self.invariant _ c.self.view_is c.args.directory (option_copied c.args.last)
+pub unreachable-requires : goal.unreachable-requires
+unreachable-requires c =
+    there (get nat_eq c.self.inside.nodes) _ c.self.invariant _ c.self.view_is c.args.directory (option_copied c.args.last)
     (option_copied c.args.bound) c.in_ok-get.field-0.now c.in_ok-get.ensures.value
-    (string_bytes c.in_ok-_key._key.now) c.in_ok-_key.number c.in_ok-_key.ensures.number c.in_err-get-2.ensures.value)
+    (string_bytes c.in_ok-_key._key.now) c.in_ok-_key.number c.in_ok-_key.ensures.number c.in_default.ensures.value
 
-pub returns-in_err-name-clause-name : goal.returns-in_err-name-clause-name
-returns-in_err-name-clause-name c = absurd
-    (named (get nat_eq c.self.inside.nodes) _ c.self.invariant _ c.self.view_is c.args.directory (option_copied c.args.last)
+pub unreachable-requires-in_default-as_ref : goal.unreachable-requires-in_default-as_ref
+unreachable-requires-in_default-as_ref c =
+    named (get nat_eq c.self.inside.nodes) _ c.self.invariant _ c.self.view_is c.args.directory (option_copied c.args.last)
     (option_copied c.args.bound) c.in_ok-get.field-0.now c.in_ok-get.ensures.value
-    (string_bytes c.in_ok-_key._key.now) c.in_ok-_key.number c.in_ok-_key.ensures.number c.in_ok-get-2.field-0.now
-    c.in_ok-get-2.ensures.value c.in_err-name.ensures.value)
+    (string_bytes c.in_ok-_key._key.now) c.in_ok-_key.number c.in_ok-_key.ensures.number c.in-Some.node.now
+    c.in-Some.ensures.value c.in_default-as_ref.ensures.value
 
 pub returns-clause-name : goal.returns-clause-name
 returns-clause-name c =
     let at = get nat_eq c.self.inside.nodes in
-    c.in_ok-name.ensures.value
+    c.in-Some-as_ref.ensures.value
     ∙ own_name at _ c.self.invariant _ c.self.view_is c.args.directory (option_copied c.args.last) (option_copied c.args.bound)
     c.in_ok-get.field-0.now c.in_ok-get.ensures.value
-    (string_bytes c.in_ok-_key._key.now) c.in_ok-_key.number c.in_ok-_key.ensures.number c.in_ok-get-2.field-0.now
-    c.in_ok-get-2.ensures.value
+    (string_bytes c.in_ok-_key._key.now) c.in_ok-_key.number c.in_ok-_key.ensures.number c.in-Some.node.now
+    c.in-Some.ensures.value
     ∙ entry_of at _ c.self.invariant _ c.self.view_is c.args.directory (option_copied c.args.last) (option_copied c.args.bound)
     c.in_ok-get.field-0.now c.in_ok-get.ensures.value _ c.in_ok-_key.ensures.name
 
 pub returns-clause-number : goal.returns-clause-number
 returns-clause-number c =
     let at = get nat_eq c.self.inside.nodes in
-    let same = ap (λ o. unwrap_or o []) (c.in_ok-name.ensures.value
+    let same = ap (λ o. unwrap_or o []) (c.in-Some-as_ref.ensures.value
     ∙ own_name at _ c.self.invariant _ c.self.view_is c.args.directory (option_copied c.args.last) (option_copied c.args.bound)
     c.in_ok-get.field-0.now c.in_ok-get.ensures.value
-    (string_bytes c.in_ok-_key._key.now) c.in_ok-_key.number c.in_ok-_key.ensures.number c.in_ok-get-2.field-0.now
-    c.in_ok-get-2.ensures.value) in
+    (string_bytes c.in_ok-_key._key.now) c.in_ok-_key.number c.in_ok-_key.ensures.number c.in-Some.node.now
+    c.in-Some.ensures.value) in
     number_of at _ c.self.invariant _ c.self.view_is c.args.directory (option_copied c.args.last) (option_copied c.args.bound)
     c.in_ok-get.field-0.now c.in_ok-get.ensures.value
-    (string_bytes c.in_ok-_key._key.now) c.in_ok-_key.number c.in_ok-_key.ensures.number c.in_ok-name.name.now same
+    (string_bytes c.in_ok-_key._key.now) c.in_ok-_key.number c.in_ok-_key.ensures.number c.in-Some-as_ref.name.now same

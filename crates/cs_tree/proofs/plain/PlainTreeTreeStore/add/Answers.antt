@@ -1,4 +1,4 @@
-use Rattle.std.proofs.Common.{◌+◌, ap, sym, ◌∙◌, nat_eq, subst, arith}
+use Rattle.std.proofs.Common.{◌+◌, IsSome, ap, refl, sym, ◌∙◌, nat_eq, subst, arith}
 use Rattle.std.proofs.lemmas.Bool.{false≢true}
 use Rattle.std.proofs.lemmas.Result.{err_from_is_err_and}
 use Rattle.std.specs.HashMap.{get}
@@ -22,6 +22,9 @@ unreachable-requires c =
     (ap is_some
     (c.in_default.ensures.value ∙
     (directory_there (get nat_eq c.self.inside.nodes) _ c.self.invariant _ c.self.view_is c.args.directory c.requires.directory).1)))
+
+pub grow-requires : goal.grow-requires
+grow-requires c = subst IsSome c.in-Some.ensures.value refl
 
 pub invariant_of-self : goal.invariant_of-self
 invariant_of-self c =

@@ -2,7 +2,8 @@ use Rattle.std.proofs.Common.{◌+◌, IsSome, nat_eq, refl, sym, subst}
 use Rattle.std.specs.HashMap.{get}
 use Rattle.cs_tree.specs.Held.{IsHeld}
 use Rattle.cs_tree.proofs.Changing.{held_with_fields, tree_with_fields}
-use Rattle.cs_tree.proofs.Lookups.{can_stamp, has_name, parent_can_stamp}
+use Rattle.cs_tree.proofs.Lookups.{can_stamp, has_name, is_there, parent_can_stamp}
+use Rattle.cs_tree.proofs.Removing.{parent_there}
 use Rattle.cs_tree.proofs.Renaming.{can_stamp_renamed, held_after_rename, tree_after_rename}
 use Rattle.cs_tree.proofs.Tables.{one_table}
 use Rattle.cs_tree.proofs.plain.PlainTreeTreeStore.change.Goals as goal
@@ -21,6 +22,15 @@ returns-in_default-clause-ok c =
     tree_with_fields (get nat_eq c.self.inside.nodes) _ c.self.invariant _ c.self.view_is c.args.number c.requires.there c.args.fields.now
     c.args.stamp c.requires.file c.in_ok-bytes.bytes c.in_ok-bytes.ensures c.in_ok-group.group c.in_ok-group.ensures c.in_default.is
     (get nat_eq c.change.new.nodes) c.change.ensures
+
+pub rename-requires-clause-there : goal.rename-requires-clause-there
+rename-requires-clause-there c =
+    is_there (get nat_eq c.self.inside.nodes) _ c.self.invariant _ c.self.view_is c.args.number c.requires.there
+
+pub rename-requires-clause-above : goal.rename-requires-clause-above
+rename-requires-clause-above c =
+    parent_there (get nat_eq c.self.inside.nodes) _ c.self.invariant _ c.self.view_is c.args.number
+    (c.requires.not_root (subst IsSome (sym c.in-Some.is) refl)) c.requires.there c.args.stamp
 
 pub rename-requires-clause-named : goal.rename-requires-clause-named
 rename-requires-clause-named c =

@@ -1,8 +1,12 @@
 use Rattle.std.proofs.Common.{nat_eq}
 use Rattle.std.specs.HashMap.{get}
-use Rattle.cs_tree.proofs.Lookups.{has_name, parent_can_stamp}
+use Rattle.cs_tree.proofs.Lookups.{has_name, is_there, parent_can_stamp}
 use Rattle.cs_tree.proofs.Removing.{held_after_remove, tree_after_remove}
 use Rattle.cs_tree.proofs.plain.PlainTreeTreeStore.remove.Goals as goal
+
+pub take_out-requires-clause-there : goal.take_out-requires-clause-there
+take_out-requires-clause-there c =
+    is_there (get nat_eq c.self.inside.nodes) _ c.self.invariant _ c.self.view_is c.args.number c.requires.there
 
 pub take_out-requires-clause-named : goal.take_out-requires-clause-named
 take_out-requires-clause-named c =

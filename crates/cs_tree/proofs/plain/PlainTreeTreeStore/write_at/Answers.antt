@@ -2,9 +2,14 @@ use Rattle.std.proofs.Common.{◌+◌, nat_eq, subst}
 use Rattle.std.specs.HashMap.{get}
 use Rattle.cs_tree.specs.Held.{IsHeld}
 use Rattle.cs_tree.proofs.Changing.{held_written, tree_written}
-use Rattle.cs_tree.proofs.Lookups.{can_stamp}
+use Rattle.cs_tree.proofs.Lookups.{can_stamp, file_there, is_there}
 use Rattle.cs_tree.proofs.Tables.{one_table}
 use Rattle.cs_tree.proofs.plain.PlainTreeTreeStore.write_at.Goals as goal
+
+pub write-requires-clause-there : goal.write-requires-clause-there
+write-requires-clause-there c = let at = get nat_eq c.self.inside.nodes in
+    is_there at _ c.self.invariant _ c.self.view_is c.args.number
+    (file_there at _ c.self.invariant _ c.self.view_is c.args.number c.requires.file)
 
 pub write-requires-clause-vers : goal.write-requires-clause-vers
 write-requires-clause-vers c = can_stamp (get nat_eq c.self.inside.nodes) _ c.self.invariant _ c.self.view_is c.args.number c.requires.vers

@@ -1,5 +1,0 @@
-use Rattle.cs_permit.proofs.Showing.{shown-user}
-use Rattle.cs_permit.proofs.shown.shown.Goals as goal
-
-pub returns-clause-shown : goal.returns-clause-shown
-returns-clause-shown c = rw c.as_str.ensures.value (shown-user _ c.as_str.ensures.legal)

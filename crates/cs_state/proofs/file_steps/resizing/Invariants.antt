@@ -1,8 +1,0 @@
-use Rattle.std.proofs.Common.{◌≡◌}
-use Rattle.cs_apm.specs.Rules.{op_at}
-use Rattle.cs_state.specs.Shares.{numbers_that_pass}
-use Rattle.cs_state.specs.Steps.{resizes}
-use Rattle.cs_state.proofs.file_steps.resizing.Given as goal
-
-abbrev pub invariant-loop-place : goal.invariant-loop-place
-invariant-loop-place l = l.places.items ≡ numbers_that_pass (λ k. resizes l.file (op_at l.ops k)) l.place
